@@ -1,0 +1,2 @@
+//! The tree of a GraphQL document.
+#![tactic(auto)]
