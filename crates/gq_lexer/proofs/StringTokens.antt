@@ -1,5 +1,5 @@
 -- String tokens: where their quotes stand, and what their values are.
-use Rattle.std.proofs.Common.{◌≡◌, ℕ, suc, ◌+◌, ◌-◌, ◌<◌, ◌≤◌, Bool, true, false, cond, ◌&&◌, eqb, List, [], ◌∷◌, ◌++◌, length, get_or, take, drop, IsUtf8, slice_range, refl, sym, ap, subst, ◌∙◌, arith, append_assoc, inl, inr}
+use Rattle.std.proofs.Common.{◌≡◌, ℕ, ◌-◌, ◌≤◌, Bool, true, false, cond, ◌&&◌, eqb, List, [], ◌∷◌, ◌++◌, length, get_or, take, drop, IsUtf8, refl, sym, ap, subst, ◌∙◌, arith, append_assoc, inl, inr}
 use Rattle.std.specs.Prelude.{nat_eq}
 use Rattle.std.specs.List.{flat_map, concat, starts_with, AllByRecursion}
 use Rattle.std.proofs.lemmas.Bool.{and_parts, cases_Bool, eqb-true, true≢false}
@@ -10,13 +10,10 @@ use Rattle.std.proofs.lemmas.List.{take_at}
 use Rattle.std.proofs.Math.Seq.{get_or-append_seam}
 use Rattle.gq_lexer.specs.declared.token.Kind.{Kind}
 use Rattle.gq_lexer.specs.declared.token.Kind.TheVariants as kind
-use Rattle.gq_lexer.specs.declared.token.Token.{Token}
 use Rattle.gq_lexer.specs.declared.scan.Shape.TheVariants as shape
-use Rattle.gq_lexer.specs.declared.quoted.Quotes.{Quotes}
 use Rattle.gq_lexer.specs.declared.quoted.Quotes.TheVariants as quotes
-use Rattle.gq_lexer.specs.Element.{Element, plain, escape, unit, pair, spelled, unicode, unit_of, IsElement}
+use Rattle.gq_lexer.specs.Element.{Element, plain, escape, unit, pair, spelled, unicode, IsElement}
 use Rattle.gq_lexer.specs.Grammar.{IsPart, ReadsPieces, IsQuoted, IsBlockPiece, quotes_of}
-use Rattle.gq_lexer.specs.Tokens.{IsToken, bytes_of}
 use Rattle.gq_lexer.specs.Value.{value_of, IsSpelled, HasValue}
 use Rattle.gq_lexer.specs.Unescape.{is_plain, unescaped}
 use Rattle.gq_lexer.specs.Block.{raw_of, raw_piece, block_value}
