@@ -18,7 +18,7 @@ use Rattle.gq_lexer.specs.Value.{value_of, IsSpelled, HasValue}
 use Rattle.gq_lexer.specs.Unescape.{is_plain, unescaped}
 use Rattle.gq_lexer.specs.Block.{raw_of, raw_piece, block_value}
 use Rattle.gq_lexer.specs.StringOf.{IsString, string_of, between}
-use Rattle.gq_lexer.proofs.Runs.{begins_with, begun_with}
+use Rattle.gq_lexer.proofs.Runs.{starts_more}
 use Rattle.gq_lexer.proofs.PieceLaws.{hex_found}
 use Rattle.gq_lexer.proofs.StringLaws.{reads_concat}
 use Rattle.gq_lexer.proofs.Inside.{IsBetween, quoted_between}
@@ -137,11 +137,6 @@ str_has_value bs rest h =
       spelled_so = spelled.spelled_so;
       value_is = ap (unescaped 0) (single_body bs (quoted_between quotes.Single bs rest h) ∙ spelled.spelled_so) ∙ all_values spelled.elements spelled.are;
     }
-
-starts_more : (needle bs more : List ℕ) → starts_with nat_eq bs needle ≡ true → starts_with nat_eq (bs ++ more) needle ≡ true
-starts_more needle bs more h =
-    let e : bs ++ more ≡ needle ++ (drop (length needle) bs ++ more) = ap (λ (x : List ℕ). x ++ more) (begins_with needle bs h) ∙ append_assoc needle (drop (length needle) bs) more in
-    rw e (begun_with needle (drop (length needle) bs ++ more))
 
 pieces_raw : (pieces : List (List ℕ)) (text tail : List ℕ) → ReadsPieces quotes.Triple pieces text tail → raw_of (concat pieces) ≡ flat_map raw_piece pieces
 unfolding raw_of
