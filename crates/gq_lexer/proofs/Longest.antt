@@ -1,15 +1,14 @@
 -- A part is the longest front of the text that is one.
-use Rattle.std.proofs.Common.{◌≡◌, ℕ, ◌+◌, ◌<◌, ◌≤◌, true, false, List, [], ◌∷◌, ◌++◌, length, take, drop, refl, sym, ap, subst, ◌∙◌, arith, append_assoc, inl, inr}
+use Rattle.std.proofs.Common.{◌≡◌, ℕ, ◌<◌, List, [], ◌∷◌, ◌++◌, length, take, drop, refl, sym, ap, subst, ◌∙◌, arith, append_assoc, inl, inr}
 use Rattle.std.specs.Prelude.{Bool, nat_eq}
 use Rattle.std.specs.List.{concat, starts_with}
 use Rattle.std.proofs.lemmas.Bool.{cases_Bool, true≢false}
-use Rattle.std.proofs.lemmas.List.{append-nil, take_at, drop_at, take-append-le, drop-append-le, take-append-drop, length-append, length-drop}
+use Rattle.std.proofs.lemmas.List.{append-nil, take_at, drop_at, take-append-le, drop-append-le, take-append-drop}
 use Rattle.gq_lexer.specs.declared.token.Kind.TheVariants as kind
 use Rattle.gq_lexer.specs.declared.scan.Shape.{Shape}
 use Rattle.gq_lexer.specs.declared.scan.Shape.TheVariants as shape
 use Rattle.gq_lexer.specs.declared.quoted.Quotes.{Quotes}
 use Rattle.gq_lexer.specs.declared.quoted.Quotes.TheVariants as quotes
-use Rattle.gq_lexer.specs.Characters.{begins}
 use Rattle.gq_lexer.specs.Grammar.{IsPart, IsPiece, ReadsPieces, IsQuoted, IsLineEnd, NoneNext, NotFirst, quotes_of}
 use Rattle.gq_lexer.proofs.StringLaws.{reads_concat}
 use Rattle.gq_lexer.proofs.Runs.{starts_more}
