@@ -1,5 +1,5 @@
 //! The memory: a finite map from a loader's number and a cache key to an outcome.
-ghost use Rattle.std.specs.Prelude.{◌≡◌, ◌<◌, ◌+◌, [], length, Some, None, IfOk, OnOk, OnErr, is_none, option_map, option_copied, slice_get, if◌then◌else◌, ℕ};
+ghost use Rattle.std.specs.Prelude.{IsTrue, ◌↔◌, ◌≡◌, ◌<◌, ◌+◌, [], length, Some, None, IfOk, OnOk, OnErr, is_none, option_map, option_copied, slice_get, if◌then◌else◌, ℕ};
 ghost use Rattle.std.specs.HashMap.{IsUnchanged};
 ghost use Rattle.load_memory.specs.Keys.{KeyOf, cache_of, same_key};
 ghost use Rattle.load_memory.specs.Outcomes.{outcome_of, item_of};
@@ -82,6 +82,13 @@ impl Memory {
         ensures apart { AreApart self.now.pairs }
     {
         self.count
+    }
+
+    /// Whether nothing is known of any key.
+    pub fn is_empty(&self) -> bool
+        ensures { IsTrue result ↔ (self.now.pairs ≡ []) }
+    {
+        self.count == 0
     }
 
     /// Adds what is known of a loader's key. Gives true where the key was absent. Where it was
