@@ -88,7 +88,7 @@ impl Memory {
     pub fn is_empty(&self) -> bool
         ensures { IsTrue result ↔ (self.now.pairs ≡ []) }
     {
-        self.count == 0
+        self.len() == 0
     }
 
     /// Adds what is known of a loader's key. Gives true where the key was absent. Where it was
