@@ -1,9 +1,9 @@
 -- Pieces of one width.
-use Rattle.std.proofs.Common.{◌≡◌, ◌≤◌, ◌<◌, ◌-◌, ◌+◌, ◌*◌, ◌^◌, ℕ, zero, suc, get_or, List, [], ◌∷◌, ◌++◌, take, drop, length, refl, sym, ap, ◌∙◌, arith, length-append, length-drop}
-use Rattle.std.proofs.lemmas.List.{drop-append-le, take-append-le, length-take-le, get_or-take, get_or-drop, drop_all, take_all, length_push, append-nil}
+use Rattle.std.proofs.Common.{◌≡◌, ◌≤◌, ◌<◌, ◌+◌, ◌*◌, ◌^◌, ℕ, zero, suc, get_or, List, [], ◌∷◌, ◌++◌, take, drop, length, refl, sym, ap, ◌∙◌, arith, length-append, length-drop}
+use Rattle.std.proofs.lemmas.List.{drop-append-le, take-append-le, length-take-le, get_or-take, get_or-drop, drop_all, take_all, length_push}
 use Rattle.std.proofs.lemmas.List.Elements.{All-nil, All-cons}
 use Rattle.std.specs.Prelude.{All}
-use Rattle.load_memory.specs.Cells.{pieces, beyond, HasPieces, HasSheet, draft_of, sheet_of}
+use Rattle.load_memory.specs.Cells.{pieces, beyond, HasPieces, HasSheet, draft_of}
 
 module _ (width : ℕ) where
   pub length-pieces : (n : ℕ) (cells : List (List ℕ)) → length (pieces width n cells) ≡ n

@@ -1,5 +1,4 @@
-use Rattle.std.proofs.Common.{◌≡◌, ◌<◌, ◌-◌, suc, length, sym, ◌∙◌, arith}
-use Rattle.load_memory.specs.Cells.{start_at}
+use Rattle.std.proofs.Common.{◌≡◌, ◌-◌, suc, sym, arith}
 use Rattle.load_memory.proofs.CellLaws.{start_at-first, start_at-next}
 use Rattle.load_memory.proofs.sheet.start_of.Goals as goal
 

@@ -1,7 +1,6 @@
-use Rattle.std.proofs.Common.{◌≡◌, ◌<◌, ◌∙◌, length, string_bytes, get_or, [], sym, ap, arith, refl}
+use Rattle.std.proofs.Common.{◌≡◌, ◌<◌, length, string_bytes, ap, arith}
 use Rattle.std.proofs.lemmas.List.{get_or_read}
-use Rattle.load_memory.proofs.CellLaws.{IsCellAt, cell-at, length-cut}
-use Rattle.load_memory.specs.Cells.{cut, start_at}
+use Rattle.load_memory.proofs.CellLaws.{cell-at, length-cut}
 use Rattle.load_memory.proofs.sheet.Cells.get.Goals as goal
 
 pub start_of-start-requires : goal.start_of-start-requires

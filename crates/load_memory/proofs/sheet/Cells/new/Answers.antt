@@ -1,4 +1,4 @@
-use Rattle.std.proofs.Common.{refl, arith, ap, length}
+use Rattle.std.proofs.Common.{refl}
 use Rattle.load_memory.specs.Cells.{cut, IsCut}
 use Rattle.load_memory.proofs.sheet.Cells.new.Goals as goal
 

@@ -1,4 +1,4 @@
-use Rattle.std.proofs.Common.{◌≡◌, ◌∙◌, ◌++◌, length, string_bytes, ap}
+use Rattle.std.proofs.Common.{◌∙◌, length, ap}
 use Rattle.load_memory.proofs.CellLaws.{cut-push, IsCut-push}
 use Rattle.load_memory.proofs.sheet.Cells.push.Goals as goal
 

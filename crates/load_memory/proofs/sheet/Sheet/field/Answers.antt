@@ -1,6 +1,6 @@
-use Rattle.std.proofs.Common.{◌≡◌, ◌<◌, ◌*◌, ◌+◌, length, arith, sym, ◌∙◌, take}
+use Rattle.std.proofs.Common.{arith, ◌∙◌}
 use Rattle.std.proofs.lemmas.List.{length-take-le}
-use Rattle.load_memory.proofs.PieceLaws.{IsFieldAt, field-at, length-pieces}
+use Rattle.load_memory.proofs.PieceLaws.{field-at, length-pieces}
 use Rattle.load_memory.proofs.sheet.Sheet.field.Goals as goal
 
 pub overflow_mul-row : goal.overflow_mul-row

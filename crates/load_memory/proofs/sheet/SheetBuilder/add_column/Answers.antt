@@ -1,5 +1,5 @@
 use Rattle.std.proofs.Common.{◌∙◌, ap, length}
-use Rattle.load_memory.proofs.PieceLaws.{AddsColumn, adds-column}
+use Rattle.load_memory.proofs.PieceLaws.{adds-column}
 use Rattle.load_memory.proofs.sheet.SheetBuilder.add_column.Goals as goal
 
 pub invariant_of-self-2 : goal.invariant_of-self-2

@@ -1,4 +1,4 @@
-use Rattle.std.proofs.Common.{◌≡◌, ◌+◌, ◌<◌, ◌^◌, arith, sym}
+use Rattle.std.proofs.Common.{arith}
 use Rattle.load_memory.proofs.PieceLaws.{length-pieces, HasSheet-row, draft_of-row}
 use Rattle.load_memory.proofs.sheet.SheetBuilder.end_row.Goals as goal
 
