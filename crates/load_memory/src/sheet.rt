@@ -6,7 +6,8 @@ ghost use Rattle.std.specs.Prelude.{◌≡◌, ◌<◌, ◌-◌, ◌+◌, ◌++�
 ghost use Rattle.load_memory.specs.Cells.{start_at};
 ghost use Rattle.load_memory.specs.Rows.{SheetOf, DraftOf, IsRectangular};
 
-use std::alloc::{AllocError, Global};
+use crate::no_memory::NoMemory;
+use std::alloc::Global;
 use std::marker::Model;
 
 // Where the text that ends at the place of this index starts.
@@ -67,7 +68,7 @@ impl Cells {
         &self.text.as_str()[start..end]
     }
 
-    fn push(&mut self, text: &str) -> Result<(), AllocError>
+    fn push(&mut self, text: &str) -> Result<(), NoMemory>
         ensures ok { OnOk result (self.new ≡ self.old ++ text.now ∷ []) }
         ensures err { OnErr result (self.new ≡ self.old) }
     {
@@ -114,7 +115,7 @@ impl SheetBuilder {
     }
 
     /// Adds a column at the right. All columns come before the first field.
-    pub fn add_column(&mut self, name: &str) -> Result<(), AllocError>
+    pub fn add_column(&mut self, name: &str) -> Result<(), NoMemory>
         requires no_row { self.old.rows ≡ [] }
         requires no_field { self.old.begun ≡ [] }
         ensures ok { OnOk result (self.new ≡ record self.old { names = self.old.names ++ name.now ∷ [] }) }
@@ -126,7 +127,7 @@ impl SheetBuilder {
     }
 
     /// Adds a field to the row that was begun, or begins one.
-    pub fn add_field(&mut self, text: &str) -> Result<(), AllocError>
+    pub fn add_field(&mut self, text: &str) -> Result<(), NoMemory>
         ensures ok { OnOk result (self.new ≡ record self.old { begun = self.old.begun ++ text.now ∷ [] }) }
         ensures err { OnErr result (self.new ≡ self.old) }
     {
