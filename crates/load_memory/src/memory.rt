@@ -2,7 +2,7 @@
 ghost use Rattle.std.specs.Prelude.{IsTrue, ◌↔◌, ◌≡◌, ◌<◌, ◌+◌, [], length, Some, None, IfOk, OnOk, OnErr, is_none, option_map, option_copied, slice_get, if◌then◌else◌, ℕ};
 ghost use Rattle.std.specs.HashMap.{IsUnchanged};
 ghost use Rattle.load_memory.specs.Keys.{KeyOf, cache_of, same_key};
-ghost use Rattle.load_memory.specs.Outcomes.{outcome_of, item_of};
+ghost use Rattle.load_memory.specs.Outcomes.{known, outcome_of, item_of};
 ghost use Rattle.load_memory.specs.Pairs.{look, primed, IsSameMap, AreApart};
 ghost use Rattle.load_memory.specs.Parts.{look_in, HasOwnKeys};
 
@@ -96,7 +96,7 @@ impl Memory {
     pub fn prime(&mut self, loader: usize, key: CacheKey, item: Item) -> Result<bool, NoMemory>
         requires { loader < length self.old.modes }
         ensures told { IfOk result (λ added. added ≡ is_none (look self.old.pairs loader (cache_of key))) }
-        ensures pairs { OnOk result (IsSameMap self.new.pairs (primed self.old.pairs (record { loader = loader; key = cache_of key; outcome = item_of item }))) }
+        ensures pairs { OnOk result (IsSameMap self.new.pairs (primed self.old.pairs (record { loader = loader; key = cache_of key; outcome = known (item_of item) }))) }
         ensures modes { self.new.modes ≡ self.old.modes }
         ensures kept { OnErr result (self.new ≡ self.old) }
     {
