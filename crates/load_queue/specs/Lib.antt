@@ -1,3 +1,6 @@
 pub mod Answers
 pub mod Batches
 pub mod Fetched
+pub mod Loaders
+pub mod Logs
+pub mod Orders

@@ -6,16 +6,13 @@
 //! the reply has, place by place, an answer that the source may give for the order's keys.
 #![tactic(auto)]
 
-
-
+mod cut;
+pub mod loader;
+pub mod order;
 pub mod per_key;
 pub mod source;
 
-
-
-
-
-
+pub use loader::{Asked, Loader, QueueFault};
+pub use order::Order;
 pub use per_key::PerKey;
 pub use source::{Asks, FetchFault, Source};
-
