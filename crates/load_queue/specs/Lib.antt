@@ -4,3 +4,4 @@ pub mod Fetched
 pub mod Loaders
 pub mod Logs
 pub mod Orders
+pub mod Runs

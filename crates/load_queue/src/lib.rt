@@ -9,6 +9,7 @@
 mod cut;
 pub mod loader;
 pub mod order;
+mod outcomes;
 pub mod per_key;
 pub mod source;
 
