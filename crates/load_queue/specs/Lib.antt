@@ -5,3 +5,4 @@ pub mod Loaders
 pub mod Logs
 pub mod Orders
 pub mod Runs
+pub mod Wanted

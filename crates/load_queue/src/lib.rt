@@ -12,8 +12,10 @@ pub mod order;
 mod outcomes;
 pub mod per_key;
 pub mod source;
+pub mod wants;
 
 pub use loader::{Asked, Loader, QueueFault};
 pub use order::Order;
 pub use per_key::PerKey;
 pub use source::{Asks, FetchFault, Source};
+pub use wants::Wants;
