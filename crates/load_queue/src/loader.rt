@@ -1,7 +1,7 @@
 //! A loader: a source with its name, its mode, its limit and its log.
 ghost use Rattle.std.specs.Prelude.{◌≡◌, ◌↔◌, ◌++◌, [], IfOk, OnOk, OnErr, IsErrOf, map};
 ghost use Rattle.load_memory.specs.Keys.{key_of};
-ghost use Rattle.load_queue.specs.Batches.{batches};
+ghost use Rattle.load_queue.specs.Batches.{batches, AreBatches};
 ghost use Rattle.load_queue.specs.Orders.{order_of};
 
 use crate::cut::{cut_keys, piece_length};
@@ -112,6 +112,7 @@ impl<S> Loader<S> {
     /// loader, its log included, is as it was.
     pub fn cut(&mut self, loader: usize, round: u32, keys: &[Key]) -> Result<Vec<Order>, NoMemory>
         ensures orders { IfOk result (λ orders. orders.items ≡ map (order_of loader) (batches self.old.limit (map key_of keys.now))) }
+        ensures pieces { IfOk result (λ orders. AreBatches self.old.limit (map key_of keys.now) (map (λ o. o.keys) orders.items)) }
         ensures entered { OnOk result (self.new ≡ record self.old { log = self.old.log ++ map (entered round) (batches self.old.limit (map key_of keys.now)) }) }
         ensures kept { OnErr result (self.new ≡ self.old) }
     {
