@@ -114,6 +114,13 @@ impl SheetBuilder {
         }
     }
 
+    /// How many columns there are.
+    pub fn width(&self) -> usize
+        ensures { result ≡ length self.now.names }
+    {
+        self.width
+    }
+
     /// Adds a column at the right. All columns come before the first field.
     pub fn add_column(&mut self, name: &str) -> Result<(), NoMemory>
         requires no_row { self.old.rows ≡ [] }
@@ -176,6 +183,11 @@ impl Model for Sheet {
 }
 
 impl Sheet {
+    /// The allocator of its memory.
+    pub fn allocator(&self) -> Global {
+        *self.cells.ends.allocator()
+    }
+
     /// How many columns there are.
     pub fn width(&self) -> usize
         ensures { result ≡ length self.now.names }

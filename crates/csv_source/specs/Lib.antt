@@ -1,0 +1,5 @@
+pub mod Chains
+pub mod Faults
+pub mod Hashes
+pub mod Reading
+pub mod Tables
