@@ -17,6 +17,12 @@ cell_is mode folded (Some field) = not (length field == 0) && bytes_eq folded (f
 abbrev pub has_text : KeyMode → List ℕ → List ℕ → RowOf → Bool
 has_text mode column folded row = cell_is mode folded (cell_of row column)
 
+-- what an index answers from: rows, and the column and the mode by which it finds them
+pub record IndexOf : Type 0 where
+  pub rows : List RowOf
+  pub column : List ℕ
+  pub mode : KeyMode
+
 -- what a source answers from: its rows, and the column by which it finds them, or no column where it has all rows for one key
 pub record SourceOf : Type 0 where
   pub rows : List RowOf

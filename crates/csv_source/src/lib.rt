@@ -12,6 +12,6 @@ pub mod source;
 pub mod table;
 
 pub use fault::TableFault;
-// pub use index::ColumnIndex;
+pub use index::ColumnIndex;
 // pub use source::CsvSource;
 pub use table::Table;

@@ -54,11 +54,11 @@ fn text_of(raw: ByteRecord) -> Result<StringRecord, TableFault>
 }
 
 // A field that is there.
-fn field(record: &StringRecord, i: usize) -> &str
-    requires { i < length (fields_of record.now) }
-    ensures { result.now ≡ get_or (fields_of record.now) i [] }
+fn field(fields: &StringRecord, i: usize) -> &str
+    requires { i < length (fields_of fields.now) }
+    ensures { result.now ≡ get_or (fields_of fields.now) i [] }
 {
-    match record.get(i) {
+    match fields.get(i) {
         Some(text) => text,
         None => unreachable!(),
     }
