@@ -2,4 +2,5 @@ pub mod Chains
 pub mod Faults
 pub mod Hashes
 pub mod Reading
+pub mod Sources
 pub mod Tables

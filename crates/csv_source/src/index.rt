@@ -69,6 +69,27 @@ fn link(
     }
 }
 
+// For each bucket its first row, and for each row the next one of its bucket.
+fn links(
+    alloc: Global,
+    sheet: &Sheet,
+    column: usize,
+    mode: KeyMode,
+) -> Result<(Vec<u32>, Vec<u32>), NoMemory>
+    requires { IsColumn sheet.now column }
+    ensures rectangular { IsRectangular sheet.now }
+    ensures buckets { IfOk result (λ p. 0 < length p.0.items) }
+    ensures linked { IfOk result (λ p. IsLinked mode (get_or sheet.now.names column []) (rows_of sheet.now) p.0.items p.1.items 0) }
+{
+    let rows = sheet.len();
+    let mut first = vec![in alloc; rows; (rows as usize).max(1)]?;
+    let mut next = vec![in alloc; rows; rows as usize]?;
+    for done in 0..rows {
+        link(sheet, column, mode, rows - 1 - done, &mut first, &mut next);
+    }
+    Ok((first, next))
+}
+
 // Whether a field equals a text under the mode.
 fn is_same(mode: KeyMode, field: &str, text: &str) -> bool
     ensures { result ≡ bytes_eq (fold_text mode text.now) (fold_text mode field.now) }
@@ -98,12 +119,7 @@ impl ColumnIndex {
             return Err(TableFault::NoSuchColumn);
         };
         let sheet = Arc::try_clone(&table.sheet)?;
-        let rows = sheet.len();
-        let mut first = vec![in alloc; rows; (rows as usize).max(1)]?;
-        let mut next = vec![in alloc; rows; rows as usize]?;
-        for done in 0..rows {
-            link(&sheet, column, mode, rows - 1 - done, &mut first, &mut next);
-        }
+        let (first, next) = links(alloc, &sheet, column, mode)?;
         Ok(ColumnIndex {
             sheet,
             column,
@@ -111,6 +127,11 @@ impl ColumnIndex {
             first,
             next,
         })
+    }
+
+    /// The allocator of its memory.
+    pub fn allocator(&self) -> Global {
+        *self.first.allocator()
     }
 
     /// The mode by which texts are compared.

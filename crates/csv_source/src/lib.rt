@@ -13,5 +13,5 @@ pub mod table;
 
 pub use fault::TableFault;
 pub use index::ColumnIndex;
-// pub use source::CsvSource;
+pub use source::CsvSource;
 pub use table::Table;
