@@ -74,6 +74,7 @@ module _ (mode : KeyMode) (column : List ℕ) (rows : List RowOf) (first next : 
         head other false e lt =
             let differs : other ≢ bucket = λ same. absurd (cc (sym e ∙ eq-eqb bucket other (sym same))) in
             rw (get_or-set_other first bucket other row 0 differs) (next-back (in_bucket mode column (length first) other) rows row _ (of other ∙ e) (linked.heads other lt))
+
         follow : (place other : ℕ) → row ≤ place → place < length rows → in_bucket mode column (length first) other (get_or rows place []) ≡ true
             → IsNext (in_bucket mode column (length first) other) rows (place + 1) (get_or (set next row (get_or first bucket 0)) place 0)
         follow place other from lt is = elim (either row place from) [

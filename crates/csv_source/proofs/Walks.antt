@@ -47,7 +47,7 @@ module _ (p : RowOf → Bool) (rows : List RowOf) where
   skips from (suc d) none =
       let one : from + suc d ≡ (from + d) + 1 = omega arith in
       rw one (step (from + d) refl ∙ skips from d (λ k low below within. none k low (omega arith) within))
-      where
+    where
       step : (i : ℕ) → i ≡ from + d → filter p (take (i + 1) rows) ≡ filter p (take i rows)
       step i at = elim (cases i) [
         | inl lt ↦ rw (filter_more p rows i [] lt, none i (omega arith) (omega arith) lt) (append-nil (filter p (take i rows)))
@@ -96,6 +96,7 @@ module _ (mode : KeyMode) (column : List ℕ) (rows : List RowOf) (first next : 
     where
       following : IsNext (in_bucket mode column (length first) (bucket_of mode (length first) folded)) rows (place + 1) (get_or next place 0)
       following = linked.follows place (bucket_of mode (length first) folded) (omega arith) lt (walk.reached lt)
+
       here : (b : Bool) → has_text mode column folded (get_or rows place []) ≡ b
           → (if has_text mode column folded (get_or rows place []) then found ++ get_or rows place [] ∷ [] else found) ≡ filter (has_text mode column folded) (take (place + 1) rows)
       here true e = rw (filter-here (has_text mode column folded) rows place lt e, e, walk.rows_before) refl

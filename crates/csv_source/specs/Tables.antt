@@ -1,6 +1,7 @@
 -- Tables, and *Rows of a key*.
 use Rattle.std.specs.Prelude.{ℕ, Bool, false, List, [], Option, Some, None, bytes_eq, not, ◌&&◌, ◌==◌, length, map, filter}
 use Rattle.load_memory.specs.Keys.{KeyOf, all, text, fold_text}
+use Rattle.load_memory.specs.Outcomes.{ItemOf, rows}
 use Rattle.load_memory.specs.Rows.{RowOf, SheetOf, paired, cell_of}
 use Rattle.load_memory.specs.declared.key.KeyMode.{KeyMode}
 
@@ -30,11 +31,15 @@ pub record SourceOf : Type 0 where
   pub mode : KeyMode
 
 abbrev pub rows_by : KeyMode → List RowOf → Option (List ℕ) → KeyOf → List RowOf
-rows_by mode rows None all = rows
-rows_by mode rows None (text t) = []
-rows_by mode rows (Some column) all = []
-rows_by mode rows (Some column) (text t) = filter (has_text mode column (fold_text mode t)) rows
+rows_by mode table None all = table
+rows_by mode table None (text t) = []
+rows_by mode table (Some column) all = []
+rows_by mode table (Some column) (text t) = filter (has_text mode column (fold_text mode t)) table
 
 -- the rows of a key, in file order
 abbrev pub rows_of_key : SourceOf → KeyOf → List RowOf
 rows_of_key s key = rows_by s.mode s.rows s.column key
+
+-- the item of a key: its rows
+abbrev pub item_of_key : SourceOf → KeyOf → ItemOf
+item_of_key s key = rows (rows_of_key s key)

@@ -129,11 +129,6 @@ impl ColumnIndex {
         })
     }
 
-    /// The allocator of its memory.
-    pub fn allocator(&self) -> Global {
-        *self.first.allocator()
-    }
-
     /// The mode by which texts are compared.
     pub fn mode(&self) -> KeyMode
         ensures { result ≡ self.now.mode }
@@ -142,10 +137,10 @@ impl ColumnIndex {
     }
 
     /// The rows whose column equals the text, in file order. An empty field equals no text.
-    pub fn rows(&self, text: &str) -> Result<Vec<Row>, NoMemory>
+    pub fn rows(&self, alloc: Global, text: &str) -> Result<Vec<Row>, NoMemory>
         ensures { IfOk result (λ v. v.items ≡ filter (has_text self.now.mode self.now.column (fold_text self.now.mode text.now)) self.now.rows) }
     {
-        let mut found = Vec::new(self.sheet.allocator());
+        let mut found = Vec::new(alloc);
         let mut place = self.first[bucket(self.mode, self.first.len(), text)];
         while (place as usize) < self.next.len() {
             if is_same(self.mode, self.sheet.field(place, self.column), text) {

@@ -1,15 +1,18 @@
 //! A source that answers each key with the rows of that key.
 ghost use Rattle.std.specs.Prelude.{◌≡◌, IfOk, IfErr, Some, None, map, Contains};
 ghost use Rattle.load_memory.specs.Keys.{key_of};
-ghost use Rattle.load_memory.specs.Outcomes.{item_of, rows};
+ghost use Rattle.load_memory.specs.Outcomes.{item_of};
 ghost use Rattle.load_memory.specs.declared.key.KeyMode.TheVariants as modes;
 ghost use Rattle.csv_source.specs.Faults.{ColumnFault};
-ghost use Rattle.csv_source.specs.Tables.{rows_of, rows_of_key};
+ghost use Rattle.load_queue.specs.Answers.{given};
+ghost use Rattle.csv_source.specs.Tables.{rows_of, rows_of_key, item_of_key};
+ghost use Rattle.csv_source.specs.KeyLaws.{item_of_key-folded};
 
 use crate::fault::TableFault;
 use crate::index::ColumnIndex;
 use crate::table::Table;
 use load_memory::{Item, Key, KeyMode, NoMemory, Row};
+use load_queue::{FetchFault, PerKey, Source};
 use std::alloc::Global;
 use std::marker::Model;
 
@@ -41,11 +44,11 @@ impl<'t> Model for CsvSource<'t> {
 }
 
 // All rows of a table, in file order.
-fn all_rows(table: &Table) -> Result<Vec<Row>, NoMemory>
+fn all_rows(alloc: Global, table: &Table) -> Result<Vec<Row>, NoMemory>
     ensures { IfOk result (λ v. v.items ≡ rows_of table.now) }
 {
     let sheet = table.sheet();
-    let mut rows = Vec::with_capacity(sheet.allocator(), sheet.len() as usize)?;
+    let mut rows = Vec::with_capacity(alloc, sheet.len() as usize)?;
     for place in 0..sheet.len() {
         rows.push(Row::of_sheet(sheet, place)?)?;
     }
@@ -91,47 +94,58 @@ impl<'t> CsvSource<'t> {
         }
     }
 
-    /// The mode by which keys are compared: `Exact` for the source of all rows.
-    pub fn mode(&self) -> KeyMode
-        ensures { result ≡ self.now.mode }
+    /// The rows of a key, in file order.
+    pub fn rows(&self, alloc: Global, key: &Key) -> Result<Vec<Row>, NoMemory>
+        ensures { IfOk result (λ v. v.items ≡ rows_of_key self.now (key_of key.now)) }
     {
+        match (&self.finder, key) {
+            (Finder::All(table), Key::All) => all_rows(alloc, table),
+            (Finder::Owned(index), Key::Text(text)) => index.rows(alloc, text),
+            (Finder::Shared(index), Key::Text(text)) => index.rows(alloc, text),
+            (Finder::All(_), Key::Text(_)) => Ok(Vec::new(alloc)),
+            (Finder::Owned(_), Key::All) => Ok(Vec::new(alloc)),
+            (Finder::Shared(_), Key::All) => Ok(Vec::new(alloc)),
+        }
+    }
+
+    // An item for each key, in order: its rows.
+    fn items(&self, alloc: Global, keys: &[Key]) -> Result<Vec<Item>, NoMemory>
+        ensures { IfOk result (λ v. map item_of v.items ≡ map (item_of_key self.now) (map key_of keys.now)) }
+    {
+        let mut items = Vec::with_capacity(alloc, keys.len())?;
+        for key in keys {
+            items.push(Item::Rows(self.rows(alloc, key)?))?;
+        }
+        Ok(items)
+    }
+}
+
+impl<'t> Source for CsvSource<'t> {
+    ghost may_answer = { λ s keys answer. answer ≡ given (map (item_of_key s) keys) };
+
+    fn fetch(&self, alloc: Global, keys: &[Key]) -> Result<Vec<Item>, FetchFault> {
+        match self.items(alloc, keys) {
+            Ok(items) => Ok(items),
+            Err(NoMemory) => Err(FetchFault::NoMemory),
+        }
+    }
+}
+
+impl<'t> PerKey for CsvSource<'t> {
+    ghost mode_of = { λ s. s.mode };
+
+    ghost item_at = { item_of_key };
+
+    ghost key_by_key = { λ s keys answer is. is };
+
+    ghost respects = { item_of_key-folded };
+
+    /// The mode by which keys are compared: `Exact` for the source of all rows.
+    fn mode(&self) -> KeyMode {
         match &self.finder {
             Finder::All(_) => KeyMode::Exact,
             Finder::Owned(index) => index.mode(),
             Finder::Shared(index) => index.mode(),
-        }
-    }
-
-    /// The rows of a key, in file order.
-    pub fn rows(&self, key: &Key) -> Result<Vec<Row>, NoMemory>
-        ensures { IfOk result (λ v. v.items ≡ rows_of_key self.now (key_of key.now)) }
-    {
-        match (&self.finder, key) {
-            (Finder::All(table), Key::All) => all_rows(table),
-            (Finder::All(table), Key::Text(_)) => Ok(Vec::new(table.sheet().allocator())),
-            (Finder::Owned(index), Key::All) => Ok(Vec::new(index.allocator())),
-            (Finder::Owned(index), Key::Text(text)) => index.rows(text),
-            (Finder::Shared(index), Key::All) => Ok(Vec::new(index.allocator())),
-            (Finder::Shared(index), Key::Text(text)) => index.rows(text),
-        }
-    }
-
-    /// An item for each key, in order: its rows.
-    pub fn fetch(&self, keys: &[Key]) -> Result<Vec<Item>, NoMemory>
-        ensures { IfOk result (λ v. map item_of v.items ≡ map (λ k. rows (rows_of_key self.now (key_of k))) keys.now) }
-    {
-        let mut items = Vec::with_capacity(self.allocator(), keys.len())?;
-        for key in keys {
-            items.push(Item::Rows(self.rows(key)?))?;
-        }
-        Ok(items)
-    }
-
-    fn allocator(&self) -> Global {
-        match &self.finder {
-            Finder::All(table) => table.sheet().allocator(),
-            Finder::Owned(index) => index.allocator(),
-            Finder::Shared(index) => index.allocator(),
         }
     }
 }

@@ -183,11 +183,6 @@ impl Model for Sheet {
 }
 
 impl Sheet {
-    /// The allocator of its memory.
-    pub fn allocator(&self) -> Global {
-        *self.cells.ends.allocator()
-    }
-
     /// How many columns there are.
     pub fn width(&self) -> usize
         ensures { result ≡ length self.now.names }

@@ -11,6 +11,6 @@ loop-place-preserved c =
     let s = c.args.table.now in
     let place = c.loop-place.place in
     let value : arc_value c.sheet-sheet.result.now ≡ s = c.sheet-sheet.ensures.value in
-    let lt : place < length s.rows = omega (arith, c.loop-place-test.true, rw (c.deref-3.ensures, value) at c.len-place-end.ensures.count) in
+    let lt : place < length s.rows = omega (arith, c.loop-place-test.true, rw (c.deref-2.ensures, value) at c.len-place-end.ensures.count) in
     let row : get_or (rows_of s) place [] ≡ paired s.names (get_or s.rows place []) = get_or-map (paired s.names) s.rows place [] [] lt in
     rw (take_more (rows_of s) place [] (omega (arith, lt, length-rows_of s)), row, c.in_ok-push.ensures.items, c.loop-place.invariant, c.in_ok-of_sheet.ensures, value) refl

@@ -32,7 +32,7 @@ loop-place-preserved c =
     let within : place < length s.rows = omega (arith, lt, length-rows_of s) in
     let linked : place < length c.self.inside.next.items = omega (arith, lt, c.self.invariant.linked.links) in
     let has = has_text-in_bucket s c.self.inside.column place mode (length first) (bucket_of mode (length first) folded) folded c.self.invariant.rectangular c.self.invariant.named within (walk.reached lt) in
-    let tested : c.is_same.result ≡ has_text mode name folded (get_or (rows_of s) place []) = rw (c.field.ensures, c.deref-in-loop-place.ensures) at c.is_same.ensures ∙ sym has in
+    let tested : c.is_same.result ≡ has_text mode name folded (get_or (rows_of s) place []) = rw (c.field.ensures, c.deref.ensures) at c.is_same.ensures ∙ sym has in
     let next = get_or_read _ _ _ linked c.index-place-in-loop-place.ensures 0 in
     let row : get_or (rows_of s) place [] ≡ paired s.names (get_or s.rows place []) = get_or-map (paired s.names) s.rows place [] [] within in
     rw (← c.self.view_is, next) (walk-step mode name (rows_of s) first c.self.inside.next.items c.self.invariant.linked folded place c.loop-place.found.items c.if-is_same.found.items lt walk

@@ -1,0 +1,47 @@
+-- A set of cache keys beside the list of keys, in the same order.
+use Rattle.std.proofs.Common.{◌≡◌, ℕ, zero, suc, ◌<◌, Bool, true, false, List, [], ◌∷◌, ◌++◌, map, length, get_or, refl, ap, ◌∙◌, sym, arith}
+use Rattle.std.specs.Prelude.{◌||◌, slice_set}
+use Rattle.std.specs.List.{list_any}
+use Rattle.load_memory.specs.Keys.{KeyOf, key_of, cache_of, folded, same_key}
+use Rattle.load_memory.specs.declared.key.CacheKey.{CacheKey}
+use Rattle.load_memory.specs.declared.key.Key.{Key}
+use Rattle.load_memory.specs.declared.key.KeyMode.{KeyMode}
+use Rattle.load_memory.specs.contracts.key.CacheKeyPartialEq.TheImpl as cache_eq
+use Rattle.load_memory.proofs.PartLaws.{cache-eq}
+use Rattle.load_queue.specs.Wanted.{WantedOf, is_wanted, with_key, keys_wanted, is_key_wanted, with_wanted}
+
+any-map : {A B : Type 0} (f : A → Bool) (g : B → Bool) (h : A → B) → ((x : A) → f x ≡ g (h x)) → (xs : List A) → list_any f xs ≡ list_any g (map h xs)
+any-map f g h same [] = refl
+any-map f g h same (x ∷ xs) = rw (same x, any-map f g h same xs) refl
+
+-- the set has a cache key where a key with an equal cache key is in the list
+pub seen-wanted : (mode : KeyMode) (seen : List CacheKey) (keys : List Key) (cached : CacheKey) (key : Key) → map cache_of seen ≡ map (λ k. folded mode (key_of k)) keys → cache_of cached ≡ folded mode (key_of key)
+    → list_any ((cache_eq.eq-value).it cached) seen ≡ is_wanted (record { mode = mode; keys = map key_of keys }) (key_of key)
+seen-wanted mode seen keys cached key lined is =
+    let test : KeyOf → Bool = same_key (folded mode (key_of key)) in
+    any-map ((cache_eq.eq-value).it cached) test cache_of (λ x. cache-eq cached x ∙ ap (λ k. same_key k (cache_of x)) is) seen
+    ∙ ap (list_any test) lined
+    ∙ sym (any-map (λ (k : Key). test (folded mode (key_of k))) test (λ k. folded mode (key_of k)) (λ x. refl) keys)
+    ∙ any-map (λ (k : Key). test (folded mode (key_of k))) (λ k. test (folded mode k)) key_of (λ x. refl) keys
+
+pub with-new : (w : WantedOf) (key : KeyOf) → is_wanted w key ≡ false → with_key w key ≡ record { mode = w.mode; keys = w.keys ++ key ∷ [] }
+with-new w key e = rw e refl
+
+pub with-old : (w : WantedOf) (key : KeyOf) → is_wanted w key ≡ true → with_key w key ≡ w
+with-old w key e = rw e refl
+
+-- one loader's part
+pub keys-at : (ws : List WantedOf) (i : ℕ) (w : WantedOf) → i < length ws → w ≡ get_or ws i w → keys_wanted ws i ≡ w.keys
+keys-at [] i w lt e = absurd (omega arith)
+keys-at (x ∷ ws) zero w lt e = ap (λ (v : WantedOf). v.keys) (sym e)
+keys-at (x ∷ ws) (suc i) w lt e = keys-at ws i w (omega arith) e
+
+pub wanted-at : (ws : List WantedOf) (i : ℕ) (w : WantedOf) (key : KeyOf) → i < length ws → w ≡ get_or ws i w → is_key_wanted ws i key ≡ is_wanted w key
+wanted-at [] i w key lt e = absurd (omega arith)
+wanted-at (x ∷ ws) zero w key lt e = ap (λ (v : WantedOf). is_wanted v key) (sym e)
+wanted-at (x ∷ ws) (suc i) w key lt e = wanted-at ws i w key (omega arith) e
+
+pub with-at : (ws : List WantedOf) (i : ℕ) (w : WantedOf) (key : KeyOf) → i < length ws → w ≡ get_or ws i w → with_wanted ws i key ≡ slice_set ws i (with_key w key)
+with-at [] i w key lt e = absurd (omega arith)
+with-at (x ∷ ws) zero w key lt e = ap (λ (v : WantedOf). with_key v key ∷ ws) (sym e)
+with-at (x ∷ ws) (suc i) w key lt e = ap (λ vs. x ∷ vs) (with-at ws i w key (omega arith) e)

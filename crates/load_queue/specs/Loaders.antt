@@ -1,0 +1,26 @@
+-- What contracts see of a loader and of the entries of its log.
+use Rattle.std.specs.Prelude.{◌≡◌, ◌<◌, ◌⊎◌, ℕ, Bool, false, List, Option, Some, None}
+use Rattle.load_memory.specs.Keys.{KeyOf}
+use Rattle.load_memory.specs.declared.key.KeyMode.{KeyMode}
+
+-- what was asked together in a round, and whether its outcomes were stored
+pub record AskedOf : Type 0 where
+  pub round : ℕ
+  pub keys : List KeyOf
+  pub stored : Bool
+
+-- the entry of an order that is out
+abbrev pub entered : ℕ → List KeyOf → AskedOf
+entered round keys = record { round = round; keys = keys; stored = false }
+
+pub record LoaderOf (S : Type 0) : Type 0 where
+  pub name : List ℕ
+  pub source : S
+  pub mode : KeyMode
+  pub limit : Option ℕ
+  pub log : List AskedOf
+
+-- a limit that no loader may have
+abbrev pub IsBadLimit : Option ℕ → Type 0
+IsBadLimit None = ⊥
+IsBadLimit (Some n) = (n ≡ 0) ⊎ (65535 < n)

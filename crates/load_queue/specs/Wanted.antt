@@ -1,0 +1,36 @@
+-- The keys that are wanted of each loader: in order, of equal cache keys only the first.
+use Rattle.std.specs.Prelude.{ℕ, zero, suc, Bool, false, List, [], ◌∷◌, ◌++◌, if◌then◌else◌}
+use Rattle.std.specs.List.{list_any}
+use Rattle.load_memory.specs.Keys.{KeyOf, folded, same_key}
+use Rattle.load_memory.specs.declared.key.KeyMode.{KeyMode}
+
+-- what is wanted of one loader, whose keys are compared by its mode
+pub record WantedOf : Type 0 where
+  pub mode : KeyMode
+  pub keys : List KeyOf
+
+abbrev pub nothing_wanted : KeyMode → WantedOf
+nothing_wanted mode = record { mode = mode; keys = [] }
+
+-- whether a key with an equal cache key is wanted
+abbrev pub is_wanted : WantedOf → KeyOf → Bool
+is_wanted w key = list_any (λ k. same_key (folded w.mode key) (folded w.mode k)) w.keys
+
+abbrev pub with_key : WantedOf → KeyOf → WantedOf
+with_key w key = if is_wanted w key then w else record { mode = w.mode; keys = w.keys ++ key ∷ [] }
+
+-- the same of all loaders, by the loader's number
+abbrev pub keys_wanted : List WantedOf → ℕ → List KeyOf
+keys_wanted [] loader = []
+keys_wanted (w ∷ ws) zero = w.keys
+keys_wanted (w ∷ ws) (suc loader) = keys_wanted ws loader
+
+abbrev pub is_key_wanted : List WantedOf → ℕ → KeyOf → Bool
+is_key_wanted [] loader key = false
+is_key_wanted (w ∷ ws) zero key = is_wanted w key
+is_key_wanted (w ∷ ws) (suc loader) key = is_key_wanted ws loader key
+
+abbrev pub with_wanted : List WantedOf → ℕ → KeyOf → List WantedOf
+with_wanted [] loader key = []
+with_wanted (w ∷ ws) zero key = with_key w key ∷ ws
+with_wanted (w ∷ ws) (suc loader) key = w ∷ with_wanted ws loader key

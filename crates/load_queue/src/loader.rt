@@ -1,0 +1,154 @@
+//! A loader: a source with its name, its mode, its limit and its log.
+ghost use Rattle.std.specs.Prelude.{◌≡◌, ◌↔◌, ◌++◌, [], IfOk, OnOk, OnErr, IsErrOf, map};
+ghost use Rattle.load_memory.specs.Keys.{key_of};
+ghost use Rattle.load_queue.specs.Batches.{batches};
+ghost use Rattle.load_queue.specs.Orders.{order_of};
+
+use crate::cut::{cut_keys, piece_length};
+use crate::order::Order;
+use load_memory::{Key, KeyMode, NoMemory};
+use std::alloc::{AllocError, Global};
+use std::marker::Model;
+use thiserror::Error;
+
+/// Why there is no such loader.
+#[derive(Clone, Copy, Debug, PartialEq, Eq, Error)]
+pub enum QueueFault {
+    /// The limit is 0 or over 65,535.
+    #[error("bad limit")]
+    BadLimit,
+    /// A growth was refused.
+    #[error("out of memory")]
+    NoMemory,
+}
+
+impl From<AllocError> for QueueFault {
+    ghost use Rattle.load_queue.specs.declared.loader.QueueFault.TheVariants.{NoMemory};
+    ghost use Rattle.std.specs.Prelude.{◌≡◌};
+
+    ghost from_gives = { λ _ e. e ≡ NoMemory };
+
+    fn from(_e: AllocError) -> QueueFault {
+        QueueFault::NoMemory
+    }
+}
+
+/// No loader may ask its source for more keys at once.
+const LARGEST_LIMIT: u32 = 65_535;
+
+/// What was asked of a loader's source in one batch.
+#[derive(Debug, Drop)]
+pub struct Asked {
+    /// The round, from 1.
+    pub round: u32,
+    /// The keys, in the order in which they were asked.
+    pub keys: Vec<Key>,
+    /// Whether the outcomes were stored. It is false while the order is out, and stays so where its
+    /// round was lost.
+    pub stored: bool,
+}
+
+/// A source with its name, how its keys are compared, how many of them it is asked at most at once,
+/// and the log of what was asked.
+///
+/// A contract sees these five.
+#[derive(Drop)]
+pub struct Loader<S> {
+    name: String,
+    source: S,
+    mode: KeyMode,
+    limit: Option<u32>,
+    log: Vec<Asked>,
+}
+
+impl<S> Model for Loader<S> {
+    ghost use Rattle.std.specs.Prelude.{map, string_bytes, ◌≢◌, Some, ◌<◌, ℕ, ◌≡◌};
+    ghost use Rattle.load_queue.specs.Loaders.{LoaderOf};
+    ghost use Rattle.load_queue.specs.Logs.{asked_of};
+
+    ghost Value = { LoaderOf S };
+
+    ghost view = { λ l. record { name = string_bytes l.name; source = l.source; mode = l.mode; limit = l.limit; log = map asked_of l.log.items } };
+
+    ghost invariant = { λ l. (n : ℕ) → l.limit ≡ Some n → 0 < n };
+}
+
+impl<S> Loader<S> {
+    ghost use Rattle.load_queue.specs.Logs.{asked_of};
+    ghost use Rattle.load_queue.specs.Loaders.{entered};
+
+    /// The name, as its source's table is called.
+    pub fn name(&self) -> &str
+        ensures { result.now ≡ self.now.name }
+    {
+        self.name.as_str()
+    }
+
+    /// How the loader's keys are compared.
+    pub fn mode(&self) -> KeyMode
+        ensures { result ≡ self.now.mode }
+    {
+        self.mode
+    }
+
+    /// What was asked, oldest first.
+    pub fn log(&self) -> &[Asked]
+        ensures { map asked_of result.now ≡ self.now.log }
+    {
+        self.log.as_slice()
+    }
+
+    pub(crate) fn source(&self) -> &S
+        ensures { result.now ≡ self.now.source }
+    {
+        &self.source
+    }
+
+    /// Cuts keys in order into pieces of at most the limit, makes an order of each, and enters each in
+    /// the log as asked in this round and not stored. Without a limit all keys are one piece; no keys
+    /// give no order.
+    ///
+    /// `loader` is the number that the orders and their replies bear. After a refused growth the
+    /// loader, its log included, is as it was.
+    pub fn cut(&mut self, loader: usize, round: u32, keys: &[Key]) -> Result<Vec<Order>, NoMemory>
+        ensures orders { IfOk result (λ orders. orders.items ≡ map (order_of loader) (batches self.old.limit (map key_of keys.now))) }
+        ensures entered { OnOk result (self.new ≡ record self.old { log = self.old.log ++ map (entered round) (batches self.old.limit (map key_of keys.now)) }) }
+        ensures kept { OnErr result (self.new ≡ self.old) }
+    {
+        let most = piece_length(self.limit, keys);
+        let (orders, mut entries) = cut_keys(*self.log.allocator(), loader, round, keys, most)?;
+        self.log.append(&mut entries)?;
+        Ok(orders)
+    }
+}
+
+impl<S: Drop> Loader<S> {
+    ghost use Rattle.load_queue.specs.Loaders.{IsBadLimit};
+
+    /// A loader that has asked nothing. It asks its source for at most `max` keys at once, which is 1
+    /// to 65,535; `None` is no bound.
+    pub fn new(
+        alloc: Global,
+        name: &str,
+        source: S,
+        mode: KeyMode,
+        max: Option<u32>,
+    ) -> Result<Loader<S>, QueueFault>
+        ensures made { IfOk result (λ l. l ≡ record { name = name.now; source = source; mode = mode; limit = max; log = [] }) }
+        ensures refused { IsErrOf result QueueFault.BadLimit ↔ IsBadLimit max }
+    {
+        if let Some(limit) = max
+            && (limit == 0 || limit > LARGEST_LIMIT)
+        {
+            return Err(QueueFault::BadLimit);
+        }
+        let name = String::from_str(alloc, name)?;
+        Ok(Loader {
+            name,
+            source,
+            mode,
+            limit: max,
+            log: Vec::new(alloc),
+        })
+    }
+}

@@ -1,0 +1,62 @@
+//! An order: keys that are to be asked together of one loader.
+ghost use Rattle.std.specs.Prelude.{◌≡◌, ◌<◌, IfOk, length, map};
+ghost use Rattle.load_memory.specs.Keys.{key_of};
+
+use crate::loader::Loader;
+use crate::outcomes::outcomes_of_answer;
+use crate::source::Asks;
+use load_memory::{Key, NoMemory, Reply};
+use std::alloc::Global;
+use std::marker::Model;
+
+/// Keys that a loader is to be asked together. Only [`Loader::cut`](crate::Loader::cut) makes one,
+/// and [`run`](Order::run) spends it.
+///
+/// A contract sees its loader's number and its keys.
+#[derive(Drop)]
+pub struct Order {
+    loader: usize,
+    keys: Vec<Key>,
+}
+
+impl Model for Order {
+    ghost use Rattle.std.specs.Prelude.{map};
+    ghost use Rattle.load_memory.specs.Keys.{key_of};
+    ghost use Rattle.load_queue.specs.Orders.{OrderOf, order_of};
+
+    ghost Value = { OrderOf };
+
+    ghost view = { λ o. order_of o.loader (map key_of o.keys.items) };
+}
+
+impl Order {
+    ghost use Rattle.load_queue.specs.Orders.{order_of};
+    ghost use Rattle.load_queue.specs.Runs.{IsReplyTo};
+    ghost use Rattle.load_memory.specs.Replies.{reply_of};
+
+    pub(crate) fn new(loader: usize, keys: Vec<Key>) -> Order
+        ensures { result ≡ order_of loader (map key_of keys.items) }
+    {
+        Order { loader, keys }
+    }
+
+    /// Asks the source of the loader of the order's number, once, and gives the outcomes of its keys
+    /// place by place. A list of one item for each key gives its items. Where the source failed, each
+    /// key has a batch fault with the source's words; where it answered N items for M keys, each has
+    /// one with the text `the source answered N results for M keys`.
+    ///
+    /// After a refused growth, here or in the source, the order is spent and there is no reply.
+    pub fn run<S: Asks>(self, alloc: Global, loaders: &[Loader<S>]) -> Result<Reply, NoMemory>
+        requires { self.loader < length loaders.now }
+        ensures { IfOk result (λ reply. IsReplyTo S.may_tell loaders.now self (reply_of reply)) }
+    {
+        let Order { loader, keys } = self;
+        let answer = loaders[loader].source().ask(alloc, keys.as_slice());
+        let outcomes = outcomes_of_answer(alloc, answer, keys.len())?;
+        Ok(Reply {
+            loader,
+            keys,
+            outcomes,
+        })
+    }
+}

@@ -1,0 +1,112 @@
+//! The keys that are wanted of each loader, in order, of equal cache keys only the first.
+ghost use Rattle.std.specs.Prelude.{◌≡◌, ◌<◌, IfOk, OnOk, OnErr, length, map, not};
+ghost use Rattle.load_memory.specs.Keys.{key_of};
+ghost use Rattle.load_queue.specs.Wanted.{nothing_wanted, is_wanted, with_key, keys_wanted, is_key_wanted, with_wanted};
+
+use indexmap::IndexSet;
+use load_memory::{CacheKey, Key, KeyMode, Memory, NoMemory, cache_key};
+use std::alloc::Global;
+use std::marker::Model;
+
+/// What is wanted of one loader.
+#[derive(Drop)]
+struct Wanted {
+    mode: KeyMode,
+    keys: Vec<Key>,
+    // the keys' cache keys, in the same order
+    seen: IndexSet<CacheKey>,
+}
+
+impl Model for Wanted {
+    ghost use Rattle.std.specs.Prelude.{map, ◌≡◌};
+    ghost use Rattle.load_memory.specs.Keys.{key_of, cache_of, folded};
+    ghost use Rattle.load_queue.specs.Wanted.{WantedOf};
+
+    ghost Value = { WantedOf };
+
+    ghost view = { λ w. record { mode = w.mode; keys = map key_of w.keys.items } };
+
+    ghost invariant = { λ w. map cache_of w.seen.keys ≡ map (λ k. folded w.mode (key_of k)) w.keys.items };
+}
+
+impl Wanted {
+    fn new(alloc: Global, mode: KeyMode) -> Wanted
+        ensures { result ≡ nothing_wanted mode }
+    {
+        Wanted {
+            mode,
+            keys: Vec::new(alloc),
+            seen: IndexSet::new(alloc),
+        }
+    }
+
+    fn keys(&self) -> &[Key]
+        ensures { map key_of result.now ≡ self.now.keys }
+    {
+        self.keys.as_slice()
+    }
+
+    fn add(&mut self, key: Key) -> Result<bool, NoMemory>
+        ensures told { IfOk result (λ added. added ≡ not (is_wanted self.old (key_of key))) }
+        ensures after { OnOk result (self.new ≡ with_key self.old (key_of key)) }
+        ensures kept { OnErr result (self.new ≡ self.old) }
+    {
+        let cached = cache_key(*self.keys.allocator(), &key, self.mode)?;
+        self.keys.reserve(1)?;
+        let added = self.seen.insert(cached)?;
+        if !added {
+            return Ok(false);
+        }
+        self.keys.push(key)?;
+        Ok(true)
+    }
+}
+
+/// The keys that are wanted of each loader. A contract sees for each loader its mode and its keys.
+#[derive(Drop)]
+pub struct Wants {
+    parts: Vec<Wanted>,
+}
+
+impl Model for Wants {
+    ghost use Rattle.std.specs.Prelude.{List};
+    ghost use Rattle.load_queue.specs.Wanted.{WantedOf};
+
+    ghost Value = { List WantedOf };
+
+    ghost view = { λ w. w.parts.items };
+}
+
+impl Wants {
+    /// Nothing is wanted of the memory's loaders, whose modes say when two keys are the same.
+    pub fn new(alloc: Global, memory: &Memory) -> Result<Wants, NoMemory>
+        ensures { IfOk result (λ w. w ≡ map nothing_wanted memory.now.modes) }
+    {
+        let modes = memory.modes();
+        let mut parts = Vec::with_capacity(alloc, modes.len())?;
+        for mode in modes {
+            parts.push(Wanted::new(alloc, *mode))?;
+        }
+        Ok(Wants { parts })
+    }
+
+    /// The keys that are wanted of a loader, in the order in which they were added.
+    pub fn keys(&self, loader: usize) -> &[Key]
+        requires { loader < length self.now }
+        ensures { map key_of result.now ≡ keys_wanted self.now loader }
+    {
+        self.parts[loader].keys()
+    }
+
+    /// Adds a key to those that are wanted of a loader. Gives true where no equal cache key was there.
+    /// Where one was, the first key stays and nothing changes. After a refused growth the wants are as
+    /// they were.
+    pub fn add(&mut self, loader: usize, key: Key) -> Result<bool, NoMemory>
+        requires { loader < length self.old }
+        ensures told { IfOk result (λ added. added ≡ not (is_key_wanted self.old loader (key_of key))) }
+        ensures after { OnOk result (self.new ≡ with_wanted self.old loader (key_of key)) }
+        ensures kept { OnErr result (self.new ≡ self.old) }
+    {
+        self.parts[loader].add(key)
+    }
+}
