@@ -10,6 +10,8 @@ pub mod index;
 mod read;
 pub mod source;
 pub mod table;
+#[cfg(test)]
+mod tests;
 
 pub use fault::TableFault;
 pub use index::ColumnIndex;
