@@ -1,5 +1,5 @@
 //! The index of a column, by which the rows of a text are found.
-ghost use Rattle.std.specs.Prelude.{◌≡◌, ◌<◌, ◌+◌, ◌≤◌, [], IfOk, IfErr, IsTrue, ◌↔◌, Some, bytes_eq, get_or, length, Contains, filter, position};
+ghost use Rattle.std.specs.Prelude.{◌≡◌, ◌<◌, ◌+◌, ◌≤◌, ◌++◌, ◌∷◌, [], IfOk, IfErr, OnOk, IsTrue, ◌↔◌, Some, bytes_eq, get_or, length, Contains, filter, position};
 ghost use Rattle.std.specs.Arc.{arc_value};
 ghost use Rattle.load_memory.specs.Keys.{fold_text};
 ghost use Rattle.load_memory.specs.Rows.{SheetOf, IsRectangular};
@@ -100,6 +100,18 @@ fn is_same(mode: KeyMode, field: &str, text: &str) -> bool
     }
 }
 
+// Adds a row to those that were found. Most texts have one row, so the first takes room for itself
+// alone.
+fn add(found: &mut Vec<Row>, row: Row) -> Result<(), NoMemory>
+    ensures { OnOk result (found.new.items ≡ found.old.items ++ row ∷ []) }
+{
+    if found.is_empty() {
+        found.reserve_exact(1)?;
+    }
+    found.push(row)?;
+    Ok(())
+}
+
 impl ColumnIndex {
     /// The index of the first column of that name.
     ///
@@ -144,7 +156,7 @@ impl ColumnIndex {
         let mut place = self.first[bucket(self.mode, self.first.len(), text)];
         while (place as usize) < self.next.len() {
             if is_same(self.mode, self.sheet.field(place, self.column), text) {
-                found.push(Row::of_sheet(&self.sheet, place)?)?;
+                add(&mut found, Row::of_sheet(&self.sheet, place)?)?;
             }
             place = self.next[place as usize];
         }

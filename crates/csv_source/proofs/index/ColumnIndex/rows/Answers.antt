@@ -8,7 +8,7 @@ use Rattle.csv_source.specs.Hashes.{bucket_of}
 use Rattle.csv_source.specs.Tables.{rows_of, has_text}
 use Rattle.csv_source.proofs.Links.{length-rows_of, has_text-in_bucket}
 use Rattle.csv_source.proofs.Walks.{IsWalk, walk-start, walk-step}
-use Rattle.csv_source.proofs.index.ColumnIndex.rows.Goals.{then-is_same+in_ok-of_sheet+in_ok-push, else-is_same}
+use Rattle.csv_source.proofs.index.ColumnIndex.rows.Goals.{then-is_same+in_ok-of_sheet+in_ok-add, else-is_same}
 use Rattle.csv_source.proofs.index.ColumnIndex.rows.Goals as goal
 
 pub loop-place-init : goal.loop-place-init
@@ -37,8 +37,8 @@ loop-place-preserved c =
     let row : get_or (rows_of s) place [] ≡ paired s.names (get_or s.rows place []) = get_or-map (paired s.names) s.rows place [] [] within in
     rw (← c.self.view_is, next) (walk-step mode name (rows_of s) first c.self.inside.next.items c.self.invariant.linked folded place c.loop-place.found.items c.if-is_same.found.items lt walk
     (elim c.if-is_same.branch [
-      | then-is_same+in_ok-of_sheet+in_ok-push w ↦
-          rw (sym tested ∙ w.if-is_same.true, w.found-is, w.in_ok-push.ensures.items, w.in_ok-of_sheet.ensures, row) refl
+      | then-is_same+in_ok-of_sheet+in_ok-add w ↦
+          rw (sym tested ∙ w.if-is_same.true, w.found-is, w.in_ok-add.ensures, w.in_ok-of_sheet.ensures, row) refl
       | else-is_same w ↦
           rw (sym tested ∙ w.if-is_same.false, w.found-is) refl
     ]))
