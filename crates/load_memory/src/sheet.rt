@@ -114,6 +114,13 @@ impl SheetBuilder {
         }
     }
 
+    /// How many columns there are.
+    pub fn width(&self) -> usize
+        ensures { result ≡ length self.now.names }
+    {
+        self.width
+    }
+
     /// Adds a column at the right. All columns come before the first field.
     pub fn add_column(&mut self, name: &str) -> Result<(), NoMemory>
         requires no_row { self.old.rows ≡ [] }

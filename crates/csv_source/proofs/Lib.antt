@@ -1,0 +1,5 @@
+pub mod Behind
+pub mod Columns
+pub mod Links
+pub mod Names
+pub mod Walks

@@ -1,0 +1,34 @@
+use Rattle.std.proofs.Common.{◌∙◌, ◌≡◌, refl}
+use Rattle.std.specs.Arc.{arc_value}
+use Rattle.std.proofs.lemmas.Result.{err_from_is_err_and}
+use Rattle.csv_source.proofs.Columns.{absent, found, found-name, IsColumn-found}
+use Rattle.csv_source.proofs.index.ColumnIndex.new.Goals as goal
+
+pub returns-in_default-clause-err : goal.returns-in_default-clause-err
+returns-in_default-clause-err c = rw (← c.table.view_is) (absent _ _ (rw c.deref.ensures at c.in_default.ensures))
+
+pub returns-in_err-sheet-clause-err : goal.returns-in_err-sheet-clause-err
+returns-in_err-sheet-clause-err c =
+    let p = err_from_is_err_and c.from_residual.result c.from_residual.ensures.1 in
+    rw (p.1, p.2, ← c.table.view_is) (found _ _ c.in-Some.column (rw c.deref.ensures at c.in-Some.ensures))
+
+pub links-requires : goal.links-requires
+links-requires c = rw (c.deref-2.ensures, c.in_ok-sheet.ensures) (IsColumn-found (arc_value c.table.inside.sheet) _ c.in-Some.column (rw c.deref.ensures at c.in-Some.ensures))
+
+pub returns-in_err-first-clause-err : goal.returns-in_err-first-clause-err
+returns-in_err-first-clause-err c =
+    let p = err_from_is_err_and c.from_residual-in_err-first.result c.from_residual-in_err-first.ensures.1 in
+    rw (p.1, p.2, ← c.table.view_is) (found _ _ c.in-Some.column (rw c.deref.ensures at c.in-Some.ensures))
+
+pub invariant_of-result : goal.invariant_of-result
+invariant_of-result c = record {
+  rectangular = rw c.deref-2.ensures at c.in_ok-first.ensures.rectangular;
+  named = rw c.in_ok-sheet.ensures (IsColumn-found (arc_value c.table.inside.sheet) _ c.in-Some.column (rw c.deref.ensures at c.in-Some.ensures));
+  buckets = c.in_ok-first.ensures.buckets;
+  linked = rw c.deref-2.ensures at c.in_ok-first.ensures.linked;
+}
+
+pub returns-clause-ok : goal.returns-clause-ok
+returns-clause-ok c =
+    let at = rw c.deref.ensures at c.in-Some.ensures in
+    rw (← c.table.view_is) (rw (c.in_ok-sheet.ensures, found-name _ _ c.in-Some.column at) refl, found _ _ c.in-Some.column at)

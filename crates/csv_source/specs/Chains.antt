@@ -1,0 +1,30 @@
+-- The index of a column: for each bucket its first row, and for each row the next one of its bucket.
+use Rattle.std.specs.Prelude.{◌≡◌, ◌≤◌, ◌<◌, ◌+◌, ℕ, Bool, true, false, List, [], Some, length, get_or, position, bytes_eq}
+use Rattle.load_memory.specs.Rows.{RowOf, SheetOf, IsRectangular}
+use Rattle.load_memory.specs.declared.key.KeyMode.{KeyMode}
+use Rattle.csv_source.specs.Hashes.{in_bucket}
+use Rattle.csv_source.specs.Tables.{rows_of}
+
+-- the first place from a place on at which a row passes; past the rows where none does
+pub record IsNext (test : RowOf → Bool) (rows : List RowOf) (from to : ℕ) : Type 0 where
+  pub later : from ≤ to
+  pub between : (k : ℕ) → from ≤ k → k < to → k < length rows → test (get_or rows k []) ≡ false
+  pub passes : to < length rows → test (get_or rows to []) ≡ true
+
+-- the links of the rows from a place on
+pub record IsLinked (mode : KeyMode) (column : List ℕ) (rows : List RowOf) (first next : List ℕ) (from : ℕ) : Type 0 where
+  pub links : length next ≡ length rows
+  pub heads : (bucket : ℕ) → bucket < length first → IsNext (in_bucket mode column (length first) bucket) rows from (get_or first bucket 0)
+  pub follows : (place bucket : ℕ) → from ≤ place → place < length rows → in_bucket mode column (length first) bucket (get_or rows place []) ≡ true
+      → IsNext (in_bucket mode column (length first) bucket) rows (place + 1) (get_or next place 0)
+
+-- a column of a sheet, by its place and its name, of equal names the first
+abbrev pub IsColumn : SheetOf → ℕ → Type 0
+IsColumn s column = Some column ≡ position (λ n. bytes_eq n (get_or s.names column [])) s.names
+
+-- the index of a column of a sheet
+pub record IsIndex (s : SheetOf) (column : ℕ) (mode : KeyMode) (first next : List ℕ) : Type 0 where
+  pub rectangular : IsRectangular s
+  pub named : IsColumn s column
+  pub buckets : 0 < length first
+  pub linked : IsLinked mode (get_or s.names column []) (rows_of s) first next 0

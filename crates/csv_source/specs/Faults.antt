@@ -1,0 +1,19 @@
+-- Which faults a call may answer.
+use Rattle.std.specs.Prelude.{◌≡◌, ℕ, List, Contains, ⊤}
+use Rattle.csv_source.specs.declared.fault.TableFault.{TableFault}
+use Rattle.csv_source.specs.declared.fault.TableFault.TheVariants as fault
+
+-- the one fault of a refused growth
+abbrev pub IsWant : TableFault → Type 0
+IsWant e = e ≡ fault.NoMemory
+
+-- no column of that name, or want of memory with one
+abbrev pub ColumnFault : List (List ℕ) → List ℕ → TableFault → Type 0
+ColumnFault names column fault.NoSuchColumn = ¬ (Contains names column)
+ColumnFault names column fault.NoMemory = Contains names column
+ColumnFault names column fault.NoHeader = ⊥
+ColumnFault names column fault.DuplicateColumn = ⊥
+ColumnFault names column fault.NotText = ⊥
+ColumnFault names column fault.BadRecord = ⊥
+ColumnFault names column fault.TooManyRows = ⊥
+ColumnFault names column fault.ReadFault = ⊥

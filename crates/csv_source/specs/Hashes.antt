@@ -1,0 +1,24 @@
+-- The number by which an index finds the bucket of a text.
+use Rattle.std.specs.Prelude.{ℕ, ◌%◌, Bool, false, List, [], ◌∷◌, Option, Some, None, not, ◌&&◌, ◌==◌, length, fold}
+use Rattle.std.specs.Hash.FoldHasher as folding
+use Rattle.load_memory.specs.Keys.{fold_text}
+use Rattle.load_memory.specs.Rows.{RowOf, cell_of}
+use Rattle.load_memory.specs.declared.key.KeyMode.{KeyMode}
+use Rattle.load_memory.specs.declared.key.KeyMode.TheVariants.{Exact, FoldAscii}
+
+-- the hash of a text as its mode compares it: of the whole text, or of byte after byte
+unfoldable pub text_hash : KeyMode → List ℕ → ℕ
+text_hash Exact folded = folding.finish (folding.write folding.initial folded)
+text_hash FoldAscii folded = folding.finish (fold (λ state byte. folding.write state (byte ∷ [])) folding.initial folded)
+
+-- the bucket of a text, of so many
+abbrev pub bucket_of : KeyMode → ℕ → List ℕ → ℕ
+bucket_of mode buckets folded = text_hash mode folded % buckets
+
+abbrev pub cell_in : KeyMode → ℕ → ℕ → Option (List ℕ) → Bool
+cell_in mode buckets bucket None = false
+cell_in mode buckets bucket (Some field) = not (length field == 0) && (bucket_of mode buckets (fold_text mode field) == bucket)
+
+-- the row's column isn't null and its text is of this bucket
+abbrev pub in_bucket : KeyMode → List ℕ → ℕ → ℕ → RowOf → Bool
+in_bucket mode column buckets bucket row = cell_in mode buckets bucket (cell_of row column)

@@ -1,0 +1,45 @@
+-- Tables, and *Rows of a key*.
+use Rattle.std.specs.Prelude.{ℕ, Bool, false, List, [], Option, Some, None, bytes_eq, not, ◌&&◌, ◌==◌, length, map, filter}
+use Rattle.load_memory.specs.Keys.{KeyOf, all, text, fold_text}
+use Rattle.load_memory.specs.Outcomes.{ItemOf, rows}
+use Rattle.load_memory.specs.Rows.{RowOf, SheetOf, paired, cell_of}
+use Rattle.load_memory.specs.declared.key.KeyMode.{KeyMode}
+
+-- the rows of a sheet, each under its columns
+abbrev pub rows_of : SheetOf → List RowOf
+rows_of s = map (paired s.names) s.rows
+
+-- a field equals a folded text; an empty field is null, and equals none
+abbrev pub cell_is : KeyMode → List ℕ → Option (List ℕ) → Bool
+cell_is mode folded None = false
+cell_is mode folded (Some field) = not (length field == 0) && bytes_eq folded (fold_text mode field)
+
+-- the row's column equals a folded text
+abbrev pub has_text : KeyMode → List ℕ → List ℕ → RowOf → Bool
+has_text mode column folded row = cell_is mode folded (cell_of row column)
+
+-- what an index answers from: rows, and the column and the mode by which it finds them
+pub record IndexOf : Type 0 where
+  pub rows : List RowOf
+  pub column : List ℕ
+  pub mode : KeyMode
+
+-- what a source answers from: its rows, and the column by which it finds them, or no column where it has all rows for one key
+pub record SourceOf : Type 0 where
+  pub rows : List RowOf
+  pub column : Option (List ℕ)
+  pub mode : KeyMode
+
+abbrev pub rows_by : KeyMode → List RowOf → Option (List ℕ) → KeyOf → List RowOf
+rows_by mode table None all = table
+rows_by mode table None (text t) = []
+rows_by mode table (Some column) all = []
+rows_by mode table (Some column) (text t) = filter (has_text mode column (fold_text mode t)) table
+
+-- the rows of a key, in file order
+abbrev pub rows_of_key : SourceOf → KeyOf → List RowOf
+rows_of_key s key = rows_by s.mode s.rows s.column key
+
+-- the item of a key: its rows
+abbrev pub item_of_key : SourceOf → KeyOf → ItemOf
+item_of_key s key = rows (rows_of_key s key)

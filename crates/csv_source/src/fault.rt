@@ -1,0 +1,51 @@
+//! Why a table is refused.
+ghost use Rattle.csv_source.specs.Faults.{IsWant};
+
+use load_memory::NoMemory;
+use std::alloc::AllocError;
+use thiserror::Error;
+
+/// Why a text is no table, or a table has no source of a kind.
+#[derive(Clone, Copy, PartialEq, Eq, Debug, Error)]
+pub enum TableFault {
+    /// The text has no record.
+    #[error("NoHeader")]
+    NoHeader,
+    /// Two columns of the header have the same name.
+    #[error("DuplicateColumn")]
+    DuplicateColumn,
+    /// A field isn't UTF-8.
+    #[error("NotText")]
+    NotText,
+    /// A record has another number of fields than the header.
+    #[error("BadRecord")]
+    BadRecord,
+    /// More than 1,000,000 records follow the header.
+    #[error("TooManyRows")]
+    TooManyRows,
+    /// The table has no column of that name.
+    #[error("NoSuchColumn")]
+    NoSuchColumn,
+    /// The reader failed.
+    #[error("ReadFault")]
+    ReadFault,
+    /// A growth was refused.
+    #[error("NoMemory")]
+    NoMemory,
+}
+
+impl From<NoMemory> for TableFault {
+    ghost from_gives = { λ _ e. IsWant e };
+
+    fn from(_: NoMemory) -> TableFault {
+        TableFault::NoMemory
+    }
+}
+
+impl From<AllocError> for TableFault {
+    ghost from_gives = { λ _ e. IsWant e };
+
+    fn from(_: AllocError) -> TableFault {
+        TableFault::NoMemory
+    }
+}

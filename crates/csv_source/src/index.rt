@@ -1,0 +1,165 @@
+//! The index of a column, by which the rows of a text are found.
+ghost use Rattle.std.specs.Prelude.{◌≡◌, ◌<◌, ◌+◌, ◌≤◌, ◌++◌, ◌∷◌, [], IfOk, IfErr, OnOk, IsTrue, ◌↔◌, Some, bytes_eq, get_or, length, Contains, filter, position};
+ghost use Rattle.std.specs.Arc.{arc_value};
+ghost use Rattle.load_memory.specs.Keys.{fold_text};
+ghost use Rattle.load_memory.specs.Rows.{SheetOf, IsRectangular};
+ghost use Rattle.csv_source.specs.Chains.{IsLinked, IsColumn};
+ghost use Rattle.csv_source.specs.Faults.{ColumnFault};
+ghost use Rattle.csv_source.specs.Tables.{rows_of, has_text, IndexOf};
+
+use crate::fault::TableFault;
+use crate::hash::bucket;
+use crate::table::Table;
+use load_memory::{KeyMode, NoMemory, Row, Sheet};
+use std::alloc::{AllocError, Global};
+use std::marker::Model;
+use std::sync::Arc;
+
+/// The rows of a table by the text that they have in a column.
+///
+/// The texts are spread over as many buckets as there are rows. Of each bucket the index knows the
+/// first row, and of each row the next one of its bucket, so that a text's rows are found in file order
+/// and the index takes eight bytes a row. A place past the last row ends a bucket.
+///
+/// A contract sees it as the rows, the column's name, and the mode by which texts are compared.
+#[derive(Drop)]
+pub struct ColumnIndex {
+    sheet: Arc<Sheet>,
+    column: usize,
+    mode: KeyMode,
+    first: Vec<u32>,
+    next: Vec<u32>,
+}
+
+impl Model for ColumnIndex {
+    ghost use Rattle.std.specs.Prelude.{get_or, []};
+    ghost use Rattle.std.specs.Arc.{arc_value};
+    ghost use Rattle.csv_source.specs.Tables.{rows_of, IndexOf};
+    ghost use Rattle.csv_source.specs.Chains.{IsIndex};
+
+    ghost Value = { IndexOf };
+
+    ghost view = { λ x. record { rows = rows_of (arc_value x.sheet); column = get_or (arc_value x.sheet).names x.column []; mode = x.mode } };
+
+    ghost invariant = { λ x. IsIndex (arc_value x.sheet) x.column x.mode x.first.items x.next.items };
+}
+
+// Puts a row before the rows that come after it.
+fn link(
+    sheet: &Sheet,
+    column: usize,
+    mode: KeyMode,
+    row: u32,
+    first: &mut Vec<u32>,
+    next: &mut Vec<u32>,
+)
+    requires row { row < length sheet.now.rows }
+    requires rectangular { IsRectangular sheet.now }
+    requires column { IsColumn sheet.now column }
+    requires buckets { 0 < length first.old.items }
+    requires linked { IsLinked mode (get_or sheet.now.names column []) (rows_of sheet.now) first.old.items next.old.items (row + 1) }
+    ensures linked { IsLinked mode (get_or sheet.now.names column []) (rows_of sheet.now) first.new.items next.new.items row }
+    ensures buckets { length first.new.items ≡ length first.old.items }
+{
+    let text = sheet.field(row, column);
+    if !text.is_empty() {
+        let bucket = bucket(mode, first.len(), text);
+        next[row as usize] = first[bucket];
+        first[bucket] = row;
+    }
+}
+
+// For each bucket its first row, and for each row the next one of its bucket.
+fn links(
+    alloc: Global,
+    sheet: &Sheet,
+    column: usize,
+    mode: KeyMode,
+) -> Result<(Vec<u32>, Vec<u32>), NoMemory>
+    requires { IsColumn sheet.now column }
+    ensures rectangular { IsRectangular sheet.now }
+    ensures buckets { IfOk result (λ p. 0 < length p.0.items) }
+    ensures linked { IfOk result (λ p. IsLinked mode (get_or sheet.now.names column []) (rows_of sheet.now) p.0.items p.1.items 0) }
+{
+    let rows = sheet.len();
+    let mut first = vec![in alloc; rows; (rows as usize).max(1)]?;
+    let mut next = vec![in alloc; rows; rows as usize]?;
+    for done in 0..rows {
+        link(sheet, column, mode, rows - 1 - done, &mut first, &mut next);
+    }
+    Ok((first, next))
+}
+
+// Whether a field equals a text under the mode.
+fn is_same(mode: KeyMode, field: &str, text: &str) -> bool
+    ensures { result ≡ bytes_eq (fold_text mode text.now) (fold_text mode field.now) }
+{
+    match mode {
+        KeyMode::Exact => text == field,
+        KeyMode::FoldAscii => text.eq_ignore_ascii_case(field),
+    }
+}
+
+// Adds a row to those that were found. Most texts have one row, so the first takes room for itself
+// alone.
+fn add(found: &mut Vec<Row>, row: Row) -> Result<(), NoMemory>
+    ensures { OnOk result (found.new.items ≡ found.old.items ++ row ∷ []) }
+{
+    if found.is_empty() {
+        found.reserve_exact(1)?;
+    }
+    found.push(row)?;
+    Ok(())
+}
+
+impl ColumnIndex {
+    /// The index of the first column of that name.
+    ///
+    /// # Errors
+    ///
+    /// `NoSuchColumn` where the table has no column of that name, and `NoMemory`.
+    pub fn new(
+        alloc: Global,
+        table: &Table,
+        column: &str,
+        mode: KeyMode,
+    ) -> Result<ColumnIndex, TableFault>
+        ensures ok { IfOk result (λ x. (x ≡ record { rows = rows_of table.now; column = column.now; mode = mode }) × Contains table.now.names column.now) }
+        ensures err { IfErr result (ColumnFault table.now.names column.now) }
+    {
+        let Some(column) = table.sheet.column(column) else {
+            return Err(TableFault::NoSuchColumn);
+        };
+        let sheet = Arc::try_clone(&table.sheet)?;
+        let (first, next) = links(alloc, &sheet, column, mode)?;
+        Ok(ColumnIndex {
+            sheet,
+            column,
+            mode,
+            first,
+            next,
+        })
+    }
+
+    /// The mode by which texts are compared.
+    pub fn mode(&self) -> KeyMode
+        ensures { result ≡ self.now.mode }
+    {
+        self.mode
+    }
+
+    /// The rows whose column equals the text, in file order. An empty field equals no text.
+    pub fn rows(&self, alloc: Global, text: &str) -> Result<Vec<Row>, NoMemory>
+        ensures { IfOk result (λ v. v.items ≡ filter (has_text self.now.mode self.now.column (fold_text self.now.mode text.now)) self.now.rows) }
+    {
+        let mut found = Vec::new(alloc);
+        let mut place = self.first[bucket(self.mode, self.first.len(), text)];
+        while (place as usize) < self.next.len() {
+            if is_same(self.mode, self.sheet.field(place, self.column), text) {
+                add(&mut found, Row::of_sheet(&self.sheet, place)?)?;
+            }
+            place = self.next[place as usize];
+        }
+        Ok(found)
+    }
+}

@@ -1,0 +1,183 @@
+//! The reading of a table.
+ghost use Rattle.std.specs.Prelude.{◌≡◌, ◌<◌, ◌+◌, ◌^◌, ◌∷◌, ◌++◌, [], IfOk, IfErr, List, MatchResult, IsTrue, ◌↔◌, OnOk, Some, get_or, length, ℕ, true, false};
+ghost use Rattle.std.specs.Arc.{arc_value};
+ghost use Rattle.csv.specs.Reading.{AreRecords, default_config, strip_bom};
+ghost use Rattle.csv.specs.Records.{AllText, fields_of};
+ghost use Rattle.csv.specs.declared.parser.State.TheVariants as st;
+ghost use Rattle.load_memory.specs.Rows.{DraftOf};
+ghost use Rattle.csv_source.specs.Reading.{Record, IsPlain, StandsBehind, IsDevice, IsHeader, HeaderFault, RowFault, ReadIs, Repeats};
+
+use crate::fault::TableFault;
+use crate::table::Table;
+use csv::{ByteRecord, Error, ErrorKind, Reader, ReaderBuilder, StringRecord};
+use load_memory::{NoMemory, Sheet, SheetBuilder};
+use std::alloc::{AllocError, Global};
+use std::collections::HashSet;
+use std::io::Read;
+use std::sync::Arc;
+
+/// The most rows that a table may have.
+const MAX_ROWS: u32 = 1_000_000;
+
+// What a failed read means.
+fn device(error: Error) -> TableFault
+    ensures { IsDevice result }
+{
+    match error.into_kind() {
+        ErrorKind::OutOfMemory => TableFault::NoMemory,
+        _ => TableFault::ReadFault,
+    }
+}
+
+// The next record, if there is one.
+fn next<R: Read>(reader: &mut Reader<R>, raw: &mut ByteRecord) -> Result<bool, TableFault>
+    requires { IsPlain reader.old }
+    ensures fault { IfErr result IsDevice }
+    ensures plain { IfOk result (λ _. IsPlain reader.new) }
+    ensures more { IfOk result (λ found. found ≡ true → (text : List ℕ) (seen : List Record) → StandsBehind R.remaining reader.old text seen → StandsBehind R.remaining reader.new text (seen ++ fields_of raw.new ∷ [])) }
+    ensures ended { IfOk result (λ found. found ≡ false → (text : List ℕ) (seen : List Record) → StandsBehind R.remaining reader.old text seen → AreRecords default_config st.StartRecord text seen) }
+{
+    match reader.read_byte_record(raw) {
+        Ok(found) => Ok(found),
+        Err(error) => Err(device(error)),
+    }
+}
+
+// The record as text, in the same memory.
+fn text_of(raw: ByteRecord) -> Result<StringRecord, TableFault>
+    ensures { MatchResult result (λ t. (fields_of t ≡ fields_of raw) × AllText (fields_of raw)) (λ e. (e ≡ TableFault.NotText) × ¬ (AllText (fields_of raw))) }
+{
+    match StringRecord::from_byte_record(raw) {
+        Ok(text) => Ok(text),
+        Err(_) => Err(TableFault::NotText),
+    }
+}
+
+// A field that is there.
+fn field(fields: &StringRecord, i: usize) -> &str
+    requires { i < length (fields_of fields.now) }
+    ensures { result.now ≡ get_or (fields_of fields.now) i [] }
+{
+    match fields.get(i) {
+        Some(text) => text,
+        None => unreachable!(),
+    }
+}
+
+// Whether a name stands twice.
+fn repeats(alloc: Global, names: &StringRecord) -> Result<bool, NoMemory>
+    ensures { IfOk result (λ b. IsTrue b ↔ Repeats (fields_of names.now)) }
+{
+    let mut seen = HashSet::new(alloc);
+    for i in 0..names.len() {
+        if !seen.insert(field(names, i))? {
+            return Ok(true);
+        }
+    }
+    Ok(false)
+}
+
+// A sheet with these columns and no row.
+fn columns(alloc: Global, names: &StringRecord) -> Result<SheetBuilder, NoMemory>
+    ensures { IfOk result (λ b. b ≡ record { names = fields_of names.now; rows = []; begun = [] }) }
+{
+    let mut sheet = SheetBuilder::new(alloc);
+    for i in 0..names.len() {
+        sheet.add_column(field(names, i))?;
+    }
+    Ok(sheet)
+}
+
+// A sheet with the header that is the table's first record, and the record's memory.
+fn header(alloc: Global, raw: ByteRecord) -> Result<(SheetBuilder, ByteRecord), TableFault>
+    ensures ok { IfOk result (λ p. (p.0 ≡ record { names = fields_of raw; rows = []; begun = [] }) × IsHeader (fields_of raw)) }
+    ensures err { IfErr result (HeaderFault (fields_of raw)) }
+{
+    let names = text_of(raw)?;
+    if repeats(alloc, &names)? {
+        return Err(TableFault::DuplicateColumn);
+    }
+    let sheet = columns(alloc, &names)?;
+    Ok((sheet, names.into_byte_record()))
+}
+
+// Adds a row of these fields.
+fn add_fields(sheet: &mut SheetBuilder, fields: &StringRecord) -> Result<(), NoMemory>
+    requires none { sheet.old.begun ≡ [] }
+    requires same { length (fields_of fields.now) ≡ length sheet.old.names }
+    requires room { length sheet.old.rows + 1 < 2 ^ 32 }
+    ensures { OnOk result (sheet.new ≡ record { names = sheet.old.names; rows = sheet.old.rows ++ fields_of fields.now ∷ []; begun = [] }) }
+{
+    for i in 0..fields.len() {
+        sheet.add_field(field(fields, i))?;
+    }
+    sheet.end_row();
+    Ok(())
+}
+
+// Adds a record as a row, and gives the record's memory back.
+fn add_row(sheet: &mut SheetBuilder, raw: ByteRecord) -> Result<ByteRecord, TableFault>
+    requires none { sheet.old.begun ≡ [] }
+    requires room { length sheet.old.rows + 1 < 2 ^ 32 }
+    ensures ok { IfOk result (λ _. (sheet.new ≡ record { names = sheet.old.names; rows = sheet.old.rows ++ fields_of raw ∷ []; begun = [] }) × (length (fields_of raw) ≡ length sheet.old.names) × AllText (fields_of raw)) }
+    ensures err { IfErr result (RowFault sheet.old.names (fields_of raw)) }
+{
+    if raw.len() != sheet.width() {
+        return Err(TableFault::BadRecord);
+    }
+    let fields = text_of(raw)?;
+    add_fields(sheet, &fields)?;
+    Ok(fields.into_byte_record())
+}
+
+// The sheet, shared.
+fn shared(alloc: Global, sheet: Sheet) -> Result<Arc<Sheet>, AllocError>
+    ensures { IfOk result (λ a. arc_value a ≡ sheet) }
+{
+    Ok(Arc::new(alloc, sheet)?)
+}
+
+// The table of what is left for the reader.
+fn read_all<R: Read>(alloc: Global, reader: &mut Reader<R>) -> Result<Table, TableFault>
+    requires { IsPlain reader.old }
+    ensures { (text : List ℕ) → StandsBehind R.remaining reader.old text [] → ReadIs text result }
+{
+    let mut record = ByteRecord::new(alloc);
+    if !next(reader, &mut record)? {
+        return Err(TableFault::NoHeader);
+    }
+    let (mut builder, mut record) = header(alloc, record)?;
+    for rows in 0..MAX_ROWS + 1 {
+        if !next(reader, &mut record)? {
+            let sheet = shared(alloc, builder.finish())?;
+            return Ok(Table { sheet });
+        }
+        record = add_row(&mut builder, record)?;
+        if rows == MAX_ROWS {
+            return Err(TableFault::TooManyRows);
+        }
+    }
+    unreachable!()
+}
+
+impl Table {
+    /// Reads a table to the reader's end, as the crate `csv` reads with its default settings: RFC 4180,
+    /// nothing trimmed. The first record is the header.
+    ///
+    /// # Errors
+    ///
+    /// The faults of the header come first, in the order `NoHeader`, `NotText`, `DuplicateColumn`, then
+    /// those of each record in turn, in the order `BadRecord`, `NotText`, `TooManyRows`. A reader that
+    /// fails is `ReadFault`, and a growth that is refused is `NoMemory`, each when it comes.
+    ///
+    /// The result is that of the reader's text where the reader tells its bytes.
+    pub fn read<R: Read + Drop>(alloc: Global, reader: R) -> Result<Table, TableFault>
+        ensures { (bytes : List ℕ) → R.remaining reader ≡ Some bytes → ReadIs (strip_bom bytes) result }
+    {
+        let mut reader = ReaderBuilder::new()
+            .has_headers(false)
+            .flexible(true)
+            .from_reader(alloc, reader);
+        read_all(alloc, &mut reader)
+    }
+}
