@@ -3,9 +3,11 @@
 
 mod fault;
 mod keyword;
+mod law;
 mod tree;
 
 pub use fault::ParseFault;
+pub use law::one_tree;
 pub use tree::{
     Argument, Directive, Document, Field, Fragment, Inline, Literal, Operation, OperationKind,
     Selection, SelectionSet, Spread, TypeCondition, TypeRef, Value, VariableDefinition,
