@@ -3,3 +3,6 @@ pub mod Back
 pub mod Stops
 pub mod Whole
 pub mod Unique
+pub mod Views
+pub mod Front
+pub mod Steps
