@@ -6,3 +6,4 @@ pub mod Unique
 pub mod Views
 pub mod Front
 pub mod Steps
+pub mod Lists
