@@ -209,3 +209,6 @@ not_words Other a b c = tt
 -- an argument is a field of an object
 pub member_then : {c : Bool} {a : tree.Argument} {ms : tree.Members} {before mid after : List Token} → IsArgument c a before mid → AreMembers c ms mid after → AreMembers c (tree.and_member a.place a.name a.value ms) before after
 member_then (argument v) rest = next_member v rest
+
+pub condition_comes : {p : Place} {k : Keyword} {n : List ℕ} {before mid : List Token} (room : ℕ) (stack : List Symbol) → k ≡ On → before ≡ at p (Name k n) ∷ mid → read room (AfterDots ∷ stack) before ≡ read room (AName ∷ MaybeDirectives false ∷ ASet ∷ stack) mid
+condition_comes room stack is e = rw (e, is) refl
