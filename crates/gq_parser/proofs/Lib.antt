@@ -7,3 +7,4 @@ pub mod Views
 pub mod Front
 pub mod Steps
 pub mod Lists
+pub mod Documents

@@ -8,7 +8,8 @@ use Rattle.gq_parser.specs.declared.keyword.Keyword.TheVariants.{Query, Mutation
 use Rattle.gq_parser.specs.Keywords.{IsFragmentName, IsEnumName}
 use Rattle.gq_parser.specs.Word.{Word, Punct, Name, Int, Float, Text, Token, at, place_of_next}
 use Rattle.gq_parser.specs.Tree as tree
-use Rattle.gq_parser.specs.Grammar.{IsBang, bang, no_bang, IsArgument, argument, AreMembers, next_member, IsKind, query, mutation, subscription}
+use Rattle.gq_parser.specs.Grammar.{IsBang, bang, no_bang, IsArgument, argument, AreMembers, next_member, IsKind, query, mutation, subscription, IsSelectionSet, selection_set, IsOperation, shorthand}
+use Rattle.gq_parser.specs.declared.tree.OperationKind.TheVariants as kind
 use Rattle.gq_parser.specs.declared.tree.OperationKind.{OperationKind}
 use Rattle.gq_parser.specs.Machine.{Symbol, AName, AColon, AValue, MoreValues, MoreMembers, AType, ABracket, MaybeBang, MaybeArguments, MoreArguments, MaybeDirectives, AfterName, AfterDots, MaybeSet, ASet, FirstSelection, MoreSelections, MaybeDefault, FirstVariable, MoreVariables, MaybeVariables, MaybeName, ADefinition, an_argument, an_operation_then, Stopped, read}
 use Rattle.gq_parser.specs.Parsing.{Eats, IsNotNext, IsNoName, IsNoKind}
@@ -212,3 +213,8 @@ member_then (argument v) rest = next_member v rest
 
 pub condition_comes : {p : Place} {k : Keyword} {n : List ℕ} {before mid : List Token} (room : ℕ) (stack : List Symbol) → k ≡ On → before ≡ at p (Name k n) ∷ mid → read room (AfterDots ∷ stack) before ≡ read room (AName ∷ MaybeDirectives false ∷ ASet ∷ stack) mid
 condition_comes room stack is e = rw (e, is) refl
+
+-- a selection set is an operation
+pub is_shorthand : {p : Place} {s : tree.SelectionSet} {mid after : List Token} → IsSelectionSet s (at p (Punct BraceLeft) ∷ mid) after
+    → IsOperation (record { place = p; kind = kind.Query; name = None; variables = []; directives = []; selection_set = s }) (at p (Punct BraceLeft) ∷ mid) after
+is_shorthand (selection_set s ss) = shorthand (selection_set s ss)

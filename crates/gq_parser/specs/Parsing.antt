@@ -5,6 +5,10 @@ use Rattle.std.specs.declared.alloc.Global.{Global}
 use Rattle.gq_lexer.specs.declared.place.Place.{Place}
 use Rattle.gq_parser.specs.declared.fault.Fault as rust
 use Rattle.gq_parser.specs.declared.fault.Fault.TheVariants.{Unexpected, TooDeep, NoMemory}
+use Rattle.gq_parser.specs.declared.fault.ParseFault.{ParseFault}
+use Rattle.gq_parser.specs.declared.fault.ParseFault.TheVariants as fault
+use Rattle.gq_parser.specs.declared.tree.Document as rust-document
+use Rattle.gq_lexer.specs.Place.{place_of}
 use Rattle.gq_parser.specs.declared.keyword.Keyword.{Keyword}
 use Rattle.gq_parser.specs.declared.lexeme.Lexeme as rust-lexeme
 use Rattle.gq_parser.specs.declared.lexeme.Lexeme.TheVariants as lexeme
@@ -103,3 +107,15 @@ pub record IsDocumentFront (room : ℕ) (operations : List Operation) (fragments
   pub joins : (os : List Operation) (fs : List Fragment) → AreDefinitions os fs now → AreDefinitions (operations ++ os) (fragments ++ fs) before
   pub reads : read room (one ADefinition) before ≡ read room (one ADefinition) now
   pub shrinks : length now ≤ length before
+
+-- a document with one definition more
+abbrev pub Adds : rust-definition.Definition → rust-document.Document → rust-document.Document → Type 0
+Adds (definition.Operation o) old new = (new.operations.items ≡ old.operations.items ++ o ∷ []) × (new.fragments.items ≡ old.fragments.items)
+Adds (definition.Fragment f) old new = (new.operations.items ≡ old.operations.items) × (new.fragments.items ≡ old.fragments.items ++ f ∷ [])
+
+-- the fault of a text, from that of its tokens
+abbrev pub parse_fault_of : rust.Fault → List ℕ → ParseFault
+parse_fault_of (Unexpected (Some p)) text = fault.Unexpected p
+parse_fault_of (Unexpected None) text = fault.UnexpectedEnd (place_of text (length text))
+parse_fault_of (TooDeep p) text = fault.TooDeep p
+parse_fault_of NoMemory text = fault.NoMemory
