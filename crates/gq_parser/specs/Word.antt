@@ -8,7 +8,7 @@ use Rattle.gq_lexer.specs.declared.token.Token as lexer-token
 use Rattle.gq_lexer.specs.Tokens.{bytes_of}
 use Rattle.gq_lexer.specs.StringOf.{string_of}
 use Rattle.gq_parser.specs.declared.keyword.Keyword.{Keyword}
-use Rattle.gq_parser.specs.Keywords.{keyword_of}
+pub use Rattle.gq_parser.specs.Keywords.{keyword_of, IsFragmentName, IsEnumName}
 
 -- A punctuator, a name with what it is where a word is wanted, a number with its text, or a string with its value.
 pub data Word : Type 0 where

@@ -146,7 +146,7 @@ impl Parser<'_> {
         ensures reads { Reads (λ s before. IsSelectionSet (set_of s) (at place (words.Punct Punct.BraceLeft) ∷ before)) room (one FirstSelection) (suc room) [] self.old self.new result }
         ensures shrinks { OnOk result (length self.new < length self.old) }
     {
-        let mut selections = Vec::new(self.alloc);
+        let mut selections = Vec::with_capacity(self.alloc, 1)?;
         selections.push(self.selection(room)?)?;
         while !self.eat(Punct::BraceRight) {
             selections.push(self.selection(room)?)?;

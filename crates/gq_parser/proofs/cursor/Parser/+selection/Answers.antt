@@ -108,7 +108,7 @@ selection-returns-in-Some-clause-reads t c =
     (rw (selection_field, e, ← c.in_ok-first.ensures.ok) (c.in_ok-field.ensures.reads _).0, λ stack. rw e ((c.in_ok-field.ensures.reads On).1 (MoreSelections ∷ stack)))
 
 pub selections-loop-selections-init : goal.selections-loop-selections-init
-selections-loop-selections-init t c = first_selection _ _ _ _ c.in_ok-selection.field-0 _ c.in_ok-selection.ensures.reads.0 c.in_ok-selection.ensures.reads.1 c.in_ok-selection.ensures.shrinks (c.in_ok-push.ensures.items ∙ rw c.new-selections.ensures.items refl)
+selections-loop-selections-init t c = first_selection _ _ _ _ c.in_ok-selection.field-0 _ c.in_ok-selection.ensures.reads.0 c.in_ok-selection.ensures.reads.1 c.in_ok-selection.ensures.shrinks (c.in_ok-push.ensures.items ∙ rw c.in_ok-selections.ensures.items refl)
 
 pub selections-returns-in_err-selection-2-clause-reads : goal.selections-returns-in_err-selection-2-clause-reads
 selections-returns-in_err-selection-2-clause-reads t c =
