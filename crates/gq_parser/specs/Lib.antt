@@ -1,3 +1,5 @@
+-- Definitions. Public are those of the standard and of its faults: Keywords, Tree, Word, Grammar and Fault.
+-- Machine and Parsing say how the code finds what these name, and no public clause cites them.
 pub mod Keywords
 pub mod Tree
 pub mod Word
