@@ -1,5 +1,5 @@
 -- A document, definition by definition.
-use Rattle.std.proofs.Common.{◌≡◌, ◌≢◌, ℕ, ◌<◌, ◌≤◌, List, [], ◌∷◌, ◌++◌, length, map, refl, sym, ap, subst, ◌∙◌, arith}
+use Rattle.std.proofs.Common.{◌≡◌, ◌≢◌, ◌<◌, List, [], ◌∷◌, ◌++◌, length, map, refl, ap, subst, ◌∙◌, arith}
 use Rattle.std.proofs.lemmas.List.{append-nil}
 use Rattle.gq_lexer.specs.declared.token.Punct.TheVariants.{BraceLeft}
 use Rattle.gq_parser.specs.declared.keyword.Keyword.TheVariants.{Query, Mutation, Subscription, Fragment}
@@ -11,7 +11,7 @@ use Rattle.gq_parser.specs.Tree.{Operation, operation_of, fragment_of, document_
 use Rattle.gq_parser.specs.Tree as tree
 use Rattle.gq_parser.specs.Grammar.{AreDefinitions, no_more_definitions, next_operation, next_fragment, IsDocument}
 use Rattle.gq_parser.specs.Fault.{IsShallow, most_brackets}
-use Rattle.gq_parser.specs.Machine.{ADefinition, one, Done, read}
+use Rattle.gq_parser.specs.Machine.{ADefinition, one, read}
 use Rattle.gq_parser.specs.Parsing.{IsDefinition, Adds, IsDocumentFront}
 use Rattle.gq_parser.proofs.Views.{map_push}
 use Rattle.gq_parser.proofs.Whole.{shallow_from}
@@ -53,8 +53,8 @@ whole d old new before now after adds is goes shorter none front = (
   record {
     some = λ e. some_left before (omega (arith, front.shrinks)) e;
     are = subst (λ os. AreDefinitions os (map fragment_of new.fragments.items) before) (append-nil (map operation_of new.operations.items))
-      (subst (λ fs. AreDefinitions (map operation_of new.operations.items ++ []) fs before) (append-nil (map fragment_of new.fragments.items))
-      (joined d old new before now after adds is front [] [] (rw none no_more_definitions)));
+        (subst (λ fs. AreDefinitions (map operation_of new.operations.items ++ []) fs before) (append-nil (map fragment_of new.fragments.items))
+        (joined d old new before now after adds is front [] [] (rw none no_more_definitions)));
   },
   shallow_from before (front.reads ∙ goes ∙ ap (read most_brackets []) none),
 )

@@ -1,24 +1,20 @@
 -- What may come where a list of symbols is expected, and that a word changes it as the machine says.
-use Rattle.std.specs.Prelude.{codes}
-use Rattle.std.proofs.Common.{◌≡◌, ◌≢◌, ℕ, zero, Bool, true, false, List, [], ◌∷◌, ◌++◌, Option, Some, None, refl}
+use Rattle.std.proofs.Common.{ℕ, Bool, true, false, List, [], ◌∷◌, ◌++◌, Option, Some, None, refl}
 use Rattle.gq_lexer.specs.declared.place.Place.{Place}
-use Rattle.gq_lexer.specs.declared.token.Punct.TheVariants.{Bang, Dollar, ParenLeft, ParenRight, Colon, Equals, At, BracketLeft, BracketRight, BraceLeft, BraceRight}
-use Rattle.gq_lexer.specs.declared.token.Punct.TheVariants as punct
+use Rattle.gq_lexer.specs.declared.token.Punct.TheVariants.{Bang, ParenLeft, Colon, Equals, At, BracketLeft, BracketRight, BraceLeft}
 use Rattle.gq_parser.specs.declared.keyword.Keyword.{Keyword}
-use Rattle.gq_parser.specs.declared.keyword.Keyword.TheVariants.{Query, Mutation, Subscription, Fragment, On, True, False, Null, Other}
-use Rattle.gq_parser.specs.declared.tree.OperationKind.{OperationKind}
-use Rattle.gq_parser.specs.declared.tree.OperationKind.TheVariants as kind
-use Rattle.gq_parser.specs.Keywords.{keyword_of, IsFragmentName, IsEnumName}
-use Rattle.gq_parser.specs.Word.{Word, Punct, Name, Int, Float, Text, Token, at, AreSpelled}
+use Rattle.gq_parser.specs.declared.keyword.Keyword.TheVariants.{On}
+use Rattle.gq_parser.specs.Keywords.{IsFragmentName}
+use Rattle.gq_parser.specs.Word.{Word, Punct, Name, Token, at}
 use Rattle.gq_parser.specs.Tree as tree
 use Rattle.gq_parser.specs.Grammar.{IsValue, variable, int, float, text, yes, no, null, enum, array, object, AreValues, no_more_values, next_value, AreMembers, no_more_members, next_member}
 use Rattle.gq_parser.specs.Grammar.{IsBang, no_bang, bang, IsType, named, list_of, IsArgument, argument, AreArguments, no_more_arguments, next_argument, AreOptionalArguments, no_arguments, arguments}
-use Rattle.gq_parser.specs.Grammar.{IsDirective, directive, AreDirectives, no_directives, next_directive, IsFieldName, unaliased, aliased, IsCondition, no_condition, condition}
+use Rattle.gq_parser.specs.Grammar.{directive, AreDirectives, no_directives, next_directive, unaliased, aliased, IsCondition, no_condition, condition}
 use Rattle.gq_parser.specs.Grammar.{IsSelection, field, spread, inline, IsOptionalSet, no_set, a_set, IsSelectionSet, selection_set, AreSelections, no_more_selections, next_selection}
 use Rattle.gq_parser.specs.Grammar.{IsDefault, no_default, default, IsVariable, variable_definition, AreVariables, no_more_variables, next_variable, AreOptionalVariables, no_variables, variables}
-use Rattle.gq_parser.specs.Grammar.{IsOptionalName, no_name, a_name, IsKind, query, mutation, subscription, IsOperation, shorthand, operation, IsFragment, fragment, AreDefinitions, no_more_definitions, next_operation, next_fragment}
+use Rattle.gq_parser.specs.Grammar.{IsOptionalName, no_name, a_name, query, mutation, subscription, IsOperation, shorthand, operation, IsFragment, fragment, AreDefinitions, next_operation, next_fragment}
 use Rattle.gq_parser.specs.Machine.{Symbol, AName, AFragmentName, AnOn, AColon, AValue, MoreValues, MoreMembers, AType, ABracket, MaybeBang, MaybeArguments, MoreArguments, MaybeDirectives, AfterName, AfterDots, MaybeSet, ASet, FirstSelection, MoreSelections, MaybeDefault, FirstVariable, MoreVariables, MaybeVariables, MaybeName, ADefinition}
-use Rattle.gq_parser.specs.Machine.{Takes, moved, shift, Done, at_end, an_operation_then, a_fragment_then}
+use Rattle.gq_parser.specs.Machine.{shift, an_operation_then}
 use Rattle.gq_parser.specs.Parsing.{IsNotNext, IsNoName}
 
 -- a symbol's tokens, and then what comes after. What may be left out is left out only where it isn't next.

@@ -1,17 +1,17 @@
 -- What a step of a method gives.
-use Rattle.std.proofs.Common.{◌≡◌, ℕ, zero, suc, ◌<◌, List, [], ◌∷◌, ◌++◌, length, map, Bool, true, false, Result, Ok, Err, Option, Some, None, refl, sym, ap, subst, ◌∙◌, arith}
+use Rattle.std.proofs.Common.{◌≡◌, ℕ, zero, suc, List, [], ◌∷◌, ◌++◌, Bool, true, false, Some, None, refl, sym, ap, ◌∙◌}
 use Rattle.gq_lexer.specs.declared.place.Place.{Place}
 use Rattle.gq_lexer.specs.declared.token.Punct.TheVariants.{Bang, Dollar, ParenLeft, ParenRight, Colon, Equals, At, BracketLeft, BracketRight, BraceLeft, BraceRight}
 use Rattle.gq_lexer.specs.declared.token.Punct.TheVariants as punct
 use Rattle.gq_parser.specs.declared.keyword.Keyword.{Keyword}
 use Rattle.gq_parser.specs.declared.keyword.Keyword.TheVariants.{Query, Mutation, Subscription, Fragment, On, True, False, Null, Other}
 use Rattle.gq_parser.specs.Keywords.{IsFragmentName, IsEnumName}
-use Rattle.gq_parser.specs.Word.{Word, Punct, Name, Int, Float, Text, Token, at, place_of_next}
+use Rattle.gq_parser.specs.Word.{Word, Punct, Name, Token, at, place_of_next}
 use Rattle.gq_parser.specs.Tree as tree
 use Rattle.gq_parser.specs.Grammar.{IsBang, bang, no_bang, IsArgument, argument, AreMembers, next_member, IsKind, query, mutation, subscription, IsSelectionSet, selection_set, IsOperation, shorthand}
 use Rattle.gq_parser.specs.declared.tree.OperationKind.TheVariants as kind
 use Rattle.gq_parser.specs.declared.tree.OperationKind.{OperationKind}
-use Rattle.gq_parser.specs.Machine.{Symbol, AName, AColon, AValue, MoreValues, MoreMembers, AType, ABracket, MaybeBang, MaybeArguments, MoreArguments, MaybeDirectives, AfterName, AfterDots, MaybeSet, ASet, FirstSelection, MoreSelections, MaybeDefault, FirstVariable, MoreVariables, MaybeVariables, MaybeName, ADefinition, an_argument, an_operation_then, Stopped, read}
+use Rattle.gq_parser.specs.Machine.{Symbol, AName, AValue, MoreValues, MoreMembers, AType, ABracket, MaybeBang, MaybeArguments, MoreArguments, MaybeDirectives, AfterName, AfterDots, MaybeSet, ASet, FirstSelection, MoreSelections, MaybeDefault, FirstVariable, MoreVariables, MaybeVariables, MaybeName, ADefinition, an_argument, an_operation_then, Stopped, read}
 use Rattle.gq_parser.specs.Parsing.{Eats, IsNotNext, IsNoName, IsNoKind}
 
 -- what was taken says this

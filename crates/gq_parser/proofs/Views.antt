@@ -1,5 +1,5 @@
 -- The views of trees, case by case.
-use Rattle.std.proofs.Common.{◌≡◌, ℕ, Bool, List, [], ◌∷◌, ◌++◌, map, Option, Some, None, refl, sym, ap, ◌∙◌}
+use Rattle.std.proofs.Common.{◌≡◌, Bool, List, [], ◌∷◌, ◌++◌, map, Option, Some, None, refl, sym, ap, ◌∙◌}
 use Rattle.std.specs.Global.{Vec, Global}
 use Rattle.std.specs.Prelude.{string_bytes}
 use Rattle.std.specs.declared.string.String.{String}
@@ -18,7 +18,6 @@ use Rattle.gq_parser.specs.declared.tree.TypeRef.TheOpen as open-type
 use Rattle.gq_parser.specs.declared.tree.TypeRef.TheFolds.{fold-roll-TypeRef}
 use Rattle.gq_parser.specs.declared.tree.Directive as rust-directive
 use Rattle.gq_parser.specs.declared.tree.TypeCondition as rust-condition
-use Rattle.gq_parser.specs.declared.tree.VariableDefinition as rust-variable
 use Rattle.gq_parser.specs.declared.tree.Spread as rust-spread
 use Rattle.gq_parser.specs.declared.tree.Selection as rust-selection
 use Rattle.gq_parser.specs.declared.tree.Selection.TheVariants as selection
@@ -28,11 +27,9 @@ use Rattle.gq_parser.specs.declared.tree.Selection.TheFolds.{fold-roll-Selection
 use Rattle.gq_parser.specs.declared.tree.SelectionSet as rust-set
 use Rattle.gq_parser.specs.declared.tree.Field as rust-field
 use Rattle.gq_parser.specs.declared.tree.Inline as rust-inline
-use Rattle.gq_parser.specs.declared.tree.Operation as rust-operation
-use Rattle.gq_parser.specs.declared.tree.Fragment as rust-fragment
-use Rattle.gq_parser.specs.Tree.{Value, Variable, Int, Float, Text, Boolean, Null, Enum, Array, Object, Values, and_value, Members, and_member, values_then, members_then, TypeTree, Named, ListOf, Argument, Directive, VariableDefinition, Operation, Fragment}
-use Rattle.gq_parser.specs.Tree.{Selection, Field, Spread, Inline, SelectionSet, set_at, Selections, and_selection, selections_then, text_if, condition_if, below_of, literal_of, map_literals, argument_of, arguments_of, map_members, type_of, directive_of, directives_of, selection_of, field_of, inline_of, set_of, map_selections}
-use Rattle.gq_parser.specs.Tree.{value_step, argument_step, literal_step, type_step, selection_step, field_step, inline_step, set_step, variable_of, variables_of, operation_of, fragment_of}
+use Rattle.gq_parser.specs.Tree.{Value, Variable, Int, Float, Text, Boolean, Null, Enum, Array, Object, Values, and_value, Members, and_member, values_then, members_then, TypeTree, Named, ListOf, Argument}
+use Rattle.gq_parser.specs.Tree.{Selection, Field, Spread, Inline, SelectionSet, set_at, Selections, and_selection, selections_then, text_if, condition_if, below_of, literal_of, map_literals, argument_of, arguments_of, map_members, type_of, directives_of, selection_of, field_of, inline_of, set_of, map_selections}
+use Rattle.gq_parser.specs.Tree.{value_step, argument_step, literal_step, type_step, selection_step, field_step, inline_step, set_step}
 
 -- a literal at a place
 abbrev pub the_literal : Place → rust-value.Value → rust-literal.Literal

@@ -7,7 +7,7 @@ use Rattle.gq_parser.specs.Word.{Token, at, tokens_of, AreSpelled}
 use Rattle.gq_parser.specs.declared.fault.Fault.{Fault}
 use Rattle.gq_parser.specs.declared.fault.Fault.TheVariants.{Unexpected, TooDeep, NoMemory}
 use Rattle.gq_parser.specs.Tree.{Operation, Fragment, Document}
-use Rattle.gq_parser.specs.Grammar.{AreDefinitions, no_more_definitions, next_operation, next_fragment, IsDocument, IsOperation, shorthand, operation, IsFragment, fragment}
+use Rattle.gq_parser.specs.Grammar.{AreDefinitions, no_more_definitions, next_operation, next_fragment, IsDocument, IsOperation, shorthand, IsFragment}
 use Rattle.gq_parser.specs.Fault.{IsViable, IsShallow, IsUnexpected, IsUnexpectedAt, IsTooDeepAt, IsFault, most_brackets, most_bytes}
 use Rattle.gq_parser.specs.Machine.{ADefinition, one, Done, read}
 use Rattle.gq_parser.specs.Parsing.{Fails, parse_fault_of}

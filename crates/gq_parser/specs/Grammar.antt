@@ -169,7 +169,7 @@ pub data IsFragment : tree.Fragment → List Token → List Token → Type 0 whe
   fragment : {p q r u : Place} {k k' : Keyword} {w w' n t : List ℕ} {ds : List tree.Directive} {s : tree.SelectionSet} {mid mid' after : List Token}
       → IsFragmentName k → AreDirectives false ds mid mid' → IsSelectionSet s mid' after
       → IsFragment (record { place = p; name = n; condition = record { place = u; name = t }; directives = ds; selection_set = s })
-        (at p (Name Fragment w) ∷ at q (Name k n) ∷ at r (Name On w') ∷ at u (Name k' t) ∷ mid) after
+      (at p (Name Fragment w) ∷ at q (Name k n) ∷ at r (Name On w') ∷ at u (Name k' t) ∷ mid) after
 
 -- (Operation or Fragment)*, and the end
 pub data AreDefinitions : List tree.Operation → List tree.Fragment → List Token → Type 0 where

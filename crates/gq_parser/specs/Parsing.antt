@@ -1,7 +1,5 @@
 -- What a method of the parser does with the tokens that are left.
 use Rattle.std.specs.Prelude.{◌≡◌, ◌≢◌, ◌≤◌, ℕ, Bool, true, false, List, [], ◌∷◌, ◌++◌, length, Result, Ok, Err, Option, Some, None, string_bytes}
-use Rattle.std.specs.declared.string.String.{String}
-use Rattle.std.specs.declared.alloc.Global.{Global}
 use Rattle.gq_lexer.specs.declared.place.Place.{Place}
 use Rattle.gq_parser.specs.declared.fault.Fault as rust
 use Rattle.gq_parser.specs.declared.fault.Fault.TheVariants.{Unexpected, TooDeep, NoMemory}

@@ -85,7 +85,12 @@ impl Parser<'_> {
     }
 
     /// An operation, whose kind was read.
-    fn operation(&mut self, place: Place, kind: OperationKind, room: u32) -> Result<Operation, Fault>
+    fn operation(
+        &mut self,
+        place: Place,
+        kind: OperationKind,
+        room: u32,
+    ) -> Result<Operation, Fault>
         ensures reads { Reads (λ o before after. (k : keywords.Keyword) (w : List ℕ) → IsKind kind k → IsOperation (operation_of o) (at place (words.Name k w) ∷ before) after) room an_operation_then room [] self.old self.new result }
         ensures shrinks { OnOk result (length self.new ≤ length self.old) }
     {

@@ -96,7 +96,12 @@ impl Parser<'_> {
 
     /// An inline fragment, whose condition was read.
     #[cycle(selection)]
-    fn inline(&mut self, place: Place, condition: Option<TypeCondition>, room: u32) -> Result<Inline, Fault>
+    fn inline(
+        &mut self,
+        place: Place,
+        condition: Option<TypeCondition>,
+        room: u32,
+    ) -> Result<Inline, Fault>
         ensures reads { Reads (λ i before after. (mid : List Token) → IsCondition (condition_if condition) mid before → IsSelection (inline_of i) (at place (words.Punct Punct.Spread) ∷ mid) after) room an_inline_then room [] self.old self.new result }
         ensures shrinks { OnOk result (length self.new ≤ length self.old) }
     {

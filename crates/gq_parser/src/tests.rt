@@ -9,18 +9,39 @@ mod slow;
 
 /// Documents of words, with each production of the grammar.
 const DOCUMENTS: &[&[&str]] = &[
-    &["{", "a", ":", "a", "(", "a", ":", "1", "a", ":", "$", "a", ")", "@", "a", "(", "a", ":", "\"s\"", ")", "{", "a", "}", "}"],
-    &["query", "a", "(", "$", "a", ":", "[", "a", "!", "]", "!", "=", "[", "1", "]", "@", "a", "$", "a", ":", "a", ")", "@", "a", "{", "a", "}"],
-    &["query", "(", "$", "a", ":", "a", "=", "{", "a", ":", "[", "]", "}", "@", "a", "(", "a", ":", "true", ")", ")", "{", "a", "}"],
-    &["fragment", "a", "on", "a", "@", "a", "{", "...", "a", "@", "a", "}"],
-    &["{", "...", "on", "a", "@", "a", "{", "...", "{", "a", "}", "}", "...", "@", "a", "{", "a", "}", "}"],
-    &["query", "on", "{", "a", "(", "a", ":", "{", "a", ":", "{", "}", "a", ":", "[", "1.5", "]", "}", ")", "}"],
-    &["{", "a", "}", "fragment", "query", "on", "on", "{", "fragment", "}", "query", "{", "on", ":", "query", "}"],
+    &[
+        "{", "a", ":", "a", "(", "a", ":", "1", "a", ":", "$", "a", ")", "@", "a", "(", "a", ":",
+        "\"s\"", ")", "{", "a", "}", "}",
+    ],
+    &[
+        "query", "a", "(", "$", "a", ":", "[", "a", "!", "]", "!", "=", "[", "1", "]", "@", "a",
+        "$", "a", ":", "a", ")", "@", "a", "{", "a", "}",
+    ],
+    &[
+        "query", "(", "$", "a", ":", "a", "=", "{", "a", ":", "[", "]", "}", "@", "a", "(", "a",
+        ":", "true", ")", ")", "{", "a", "}",
+    ],
+    &[
+        "fragment", "a", "on", "a", "@", "a", "{", "...", "a", "@", "a", "}",
+    ],
+    &[
+        "{", "...", "on", "a", "@", "a", "{", "...", "{", "a", "}", "}", "...", "@", "a", "{", "a",
+        "}", "}",
+    ],
+    &[
+        "query", "on", "{", "a", "(", "a", ":", "{", "a", ":", "{", "}", "a", ":", "[", "1.5", "]",
+        "}", ")", "}",
+    ],
+    &[
+        "{", "a", "}", "fragment", "query", "on", "on", "{", "fragment", "}", "query", "{", "on",
+        ":", "query", "}",
+    ],
 ];
 
 /// Words that stand in place of another.
 const WORDS: &[&str] = &[
-    "{", "}", "(", ")", "[", "]", ":", "!", "$", "=", "@", "...", "&", "|", "a", "on", "query", "fragment", "true", "1", "\"s\"",
+    "{", "}", "(", ")", "[", "]", ":", "!", "$", "=", "@", "...", "&", "|", "a", "on", "query",
+    "fragment", "true", "1", "\"s\"",
 ];
 
 /// The words with a space after each are the document, or have the fault, that the slow recogniser says.
@@ -45,7 +66,11 @@ fn compare(rt: &impl Abort, alloc: Global, words: &[&str]) -> Result<(), Fail> {
         Err(ParseFault::UnexpectedEnd(place)) => {
             assert!(rt; !is_document, "{text}");
             assert_eq!(rt; slow.furthest, words.len(), "{text}");
-            assert_eq!(rt; place.column as usize, text.len().saturating_add(1), "{text}");
+            assert_eq!(rt;
+                place.column as usize,
+                text.len().saturating_add(1),
+                "{text}"
+            );
         }
         Err(_) => assert!(rt; false, "{text}"),
     }
@@ -84,14 +109,24 @@ fn faults(rt: HostRuntime) -> Result<(), Fail> {
     ];
     for (text, message, line, column) in cases {
         let fault = parse(rt.alloc(), text).err().ok_or("a document")?;
-        assert_eq!(rt; format!(in rt.alloc(); "{fault}")?.as_str(), message, "{text}");
+        assert_eq!(rt;
+            format!(in rt.alloc(); "{fault}")?.as_str(),
+            message,
+            "{text}"
+        );
         assert_eq!(rt; fault.place(), Some(Place { line, column }), "{text}");
     }
     Ok(())
 }
 
 /// So many times the one, and then so many times the other.
-fn nested(alloc: Global, open: &str, middle: &str, close: &str, depth: u32) -> Result<String, Fail> {
+fn nested(
+    alloc: Global,
+    open: &str,
+    middle: &str,
+    close: &str,
+    depth: u32,
+) -> Result<String, Fail> {
     let mut text = String::new(alloc);
     for _ in 0..depth {
         text.push_str(open)?;
@@ -127,7 +162,8 @@ fn depth(rt: HostRuntime) -> Result<(), Fail> {
 }
 
 /// A document with each production of the grammar, and more than one definition.
-const WHOLE: &str = "query Q($a: [Int!]! = [1, {k: \"x\", l: [true, false, null, E, 1.5]}] @d, $b: on) @x(y: $a) \
+const WHOLE: &str =
+    "query Q($a: [Int!]! = [1, {k: \"x\", l: [true, false, null, E, 1.5]}] @d, $b: on) @x(y: $a) \
 { a: b(c: $b) @if { ...F @s ...on T @i { d } ... { e } query type on } } \
 fragment F on on { fragment(fragment: fragment) } mutation { m } subscription on { s } { true }";
 
@@ -143,7 +179,13 @@ fn prefixes(rt: HostRuntime) -> Result<(), Fail> {
                 assert!(rt; ends && open == 0, "{text}");
                 accepted = accepted.saturating_add(1);
             }
-            Err(ParseFault::Lex(LexFault::UnterminatedString(_) | LexFault::BadCharacter(_) | LexFault::BadNumber(_))) => {}
+            Err(
+                ParseFault::Lex(
+                    LexFault::UnterminatedString(_)
+                    | LexFault::BadCharacter(_)
+                    | LexFault::BadNumber(_),
+                ),
+            ) => {}
             Err(ParseFault::Unexpected(_) | ParseFault::UnexpectedEnd(_)) => {}
             Err(_) => assert!(rt; false, "{text}"),
         }
@@ -183,11 +225,21 @@ fn places(rt: HostRuntime) -> Result<(), Fail> {
     let document = parse(rt.alloc(), PLACES)?;
     let operation = first(&document.operations)?;
     let variable = first(&operation.variables)?;
-    let TypeRef::List { place: list, item, non_null } = &variable.of_type else {
+    let TypeRef::List {
+        place: list,
+        item,
+        non_null,
+    } = &variable.of_type
+    else {
         return Err("a list")?;
     };
     assert!(rt; !*non_null);
-    let TypeRef::Named { place: named, non_null, .. } = &**item else {
+    let TypeRef::Named {
+        place: named,
+        non_null,
+        ..
+    } = &**item
+    else {
         return Err("a name")?;
     };
     assert!(rt; *non_null);
@@ -227,7 +279,12 @@ fn places(rt: HostRuntime) -> Result<(), Fail> {
         ("value", argument.value.place, 5, 8),
         ("set below", below.place, 5, 12),
         ("spread", spread.place, 6, 5),
-        ("spread's directive", first(&spread.directives)?.place, 6, 11),
+        (
+            "spread's directive",
+            first(&spread.directives)?.place,
+            6,
+            11,
+        ),
         ("inline", inline.place, 7, 5),
         ("condition", condition.place, 8, 10),
         ("inline set", inline.selection_set.place, 8, 12),

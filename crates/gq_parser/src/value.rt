@@ -24,10 +24,22 @@ fn named_value(alloc: Global, place: Place, name: &str) -> Result<Literal, Fault
     ensures fault { IfErr result (λ f. f ≡ Fault.NoMemory) }
 {
     match keyword_of(name) {
-        Keyword::True => Ok(Literal { place, value: Value::Boolean(true) }),
-        Keyword::False => Ok(Literal { place, value: Value::Boolean(false) }),
-        Keyword::Null => Ok(Literal { place, value: Value::Null }),
-        _ => Ok(Literal { place, value: Value::Enum(String::from_str(alloc, name)?) }),
+        Keyword::True => Ok(Literal {
+            place,
+            value: Value::Boolean(true),
+        }),
+        Keyword::False => Ok(Literal {
+            place,
+            value: Value::Boolean(false),
+        }),
+        Keyword::Null => Ok(Literal {
+            place,
+            value: Value::Null,
+        }),
+        _ => Ok(Literal {
+            place,
+            value: Value::Enum(String::from_str(alloc, name)?),
+        }),
     }
 }
 
@@ -42,34 +54,52 @@ impl Parser<'_> {
         match lexeme {
             Lexeme::Int(number) => {
                 let text = String::from_str(self.alloc, number)?;
-                Ok(Literal { place, value: Value::Int(text) })
+                Ok(Literal {
+                    place,
+                    value: Value::Int(text),
+                })
             }
             Lexeme::Float(number) => {
                 let text = String::from_str(self.alloc, number)?;
-                Ok(Literal { place, value: Value::Float(text) })
+                Ok(Literal {
+                    place,
+                    value: Value::Float(text),
+                })
             }
-            Lexeme::Text(text) => Ok(Literal { place, value: Value::Text(text) }),
+            Lexeme::Text(text) => Ok(Literal {
+                place,
+                value: Value::Text(text),
+            }),
             Lexeme::Name(name) => named_value(self.alloc, place, name),
             Lexeme::Punct(Punct::Dollar) => {
                 if constant {
                     return Err(Fault::Unexpected(Some(place)));
                 }
                 let (_, name) = self.name()?;
-                Ok(Literal { place, value: Value::Variable(name) })
+                Ok(Literal {
+                    place,
+                    value: Value::Variable(name),
+                })
             }
             Lexeme::Punct(Punct::BracketLeft) => {
                 if room == 0 {
                     return Err(Fault::TooDeep(place));
                 }
                 let items = self.values(constant, room - 1)?;
-                Ok(Literal { place, value: Value::List(items) })
+                Ok(Literal {
+                    place,
+                    value: Value::List(items),
+                })
             }
             Lexeme::Punct(Punct::BraceLeft) => {
                 if room == 0 {
                     return Err(Fault::TooDeep(place));
                 }
                 let members = self.members(constant, room - 1)?;
-                Ok(Literal { place, value: Value::Object(members) })
+                Ok(Literal {
+                    place,
+                    value: Value::Object(members),
+                })
             }
             _ => Err(Fault::Unexpected(Some(place))),
         }
@@ -141,7 +171,11 @@ impl Parser<'_> {
         while let Some(place) = self.take(Punct::At) {
             let (_, name) = self.name()?;
             let arguments = self.arguments(constant, room)?;
-            directives.push(Directive { place, name, arguments })?;
+            directives.push(Directive {
+                place,
+                name,
+                arguments,
+            })?;
         }
         Ok(directives)
     }

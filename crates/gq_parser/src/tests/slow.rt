@@ -8,8 +8,27 @@ const PRODUCTIONS: &[(&str, &[&str])] = &[
     ("Definitions", &[]),
     ("Definitions", &["Definition", "Definitions"]),
     ("Definition", &["Set"]),
-    ("Definition", &["Kind", "OptionalName", "OptionalVariables", "Directives", "Set"]),
-    ("Definition", &["fragment", "FragmentName", "on", "Name", "Directives", "Set"]),
+    (
+        "Definition",
+        &[
+            "Kind",
+            "OptionalName",
+            "OptionalVariables",
+            "Directives",
+            "Set",
+        ],
+    ),
+    (
+        "Definition",
+        &[
+            "fragment",
+            "FragmentName",
+            "on",
+            "Name",
+            "Directives",
+            "Set",
+        ],
+    ),
     ("Kind", &["query"]),
     ("OptionalName", &[]),
     ("OptionalName", &["Name"]),
@@ -17,7 +36,10 @@ const PRODUCTIONS: &[(&str, &[&str])] = &[
     ("OptionalVariables", &["(", "Variable", "Variables", ")"]),
     ("Variables", &[]),
     ("Variables", &["Variable", "Variables"]),
-    ("Variable", &["$", "Name", ":", "Type", "Default", "ConstantDirectives"]),
+    (
+        "Variable",
+        &["$", "Name", ":", "Type", "Default", "ConstantDirectives"],
+    ),
     ("Default", &[]),
     ("Default", &["=", "ConstantValue"]),
     ("Type", &["Name"]),
@@ -27,8 +49,21 @@ const PRODUCTIONS: &[(&str, &[&str])] = &[
     ("Set", &["{", "Selection", "Selections", "}"]),
     ("Selections", &[]),
     ("Selections", &["Selection", "Selections"]),
-    ("Selection", &["Name", "OptionalArguments", "Directives", "OptionalSet"]),
-    ("Selection", &["Name", ":", "Name", "OptionalArguments", "Directives", "OptionalSet"]),
+    (
+        "Selection",
+        &["Name", "OptionalArguments", "Directives", "OptionalSet"],
+    ),
+    (
+        "Selection",
+        &[
+            "Name",
+            ":",
+            "Name",
+            "OptionalArguments",
+            "Directives",
+            "OptionalSet",
+        ],
+    ),
     ("Selection", &["...", "FragmentName", "Directives"]),
     ("Selection", &["...", "Directives", "Set"]),
     ("Selection", &["...", "on", "Name", "Directives", "Set"]),
@@ -40,7 +75,10 @@ const PRODUCTIONS: &[(&str, &[&str])] = &[
     ("Arguments", &["Argument", "Arguments"]),
     ("Argument", &["Name", ":", "Value"]),
     ("Directives", &[]),
-    ("Directives", &["@", "Name", "OptionalArguments", "Directives"]),
+    (
+        "Directives",
+        &["@", "Name", "OptionalArguments", "Directives"],
+    ),
     ("Value", &["$", "Name"]),
     ("Value", &["Scalar"]),
     ("Value", &["[", "Values", "]"]),
@@ -48,10 +86,26 @@ const PRODUCTIONS: &[(&str, &[&str])] = &[
     ("Values", &[]),
     ("Values", &["Value", "Values"]),
     ("ConstantArguments", &[]),
-    ("ConstantArguments", &["Name", ":", "ConstantValue", "ConstantArguments"]),
+    (
+        "ConstantArguments",
+        &["Name", ":", "ConstantValue", "ConstantArguments"],
+    ),
     ("ConstantDirectives", &[]),
     ("ConstantDirectives", &["@", "Name", "ConstantDirectives"]),
-    ("ConstantDirectives", &["@", "Name", "(", "Name", ":", "ConstantValue", "ConstantArguments", ")", "ConstantDirectives"]),
+    (
+        "ConstantDirectives",
+        &[
+            "@",
+            "Name",
+            "(",
+            "Name",
+            ":",
+            "ConstantValue",
+            "ConstantArguments",
+            ")",
+            "ConstantDirectives",
+        ],
+    ),
     ("ConstantValue", &["Scalar"]),
     ("ConstantValue", &["[", "ConstantValues", "]"]),
     ("ConstantValue", &["{", "ConstantArguments", "}"]),
@@ -87,7 +141,13 @@ impl<'a> Slow<'a> {
 
     /// Where this production or token may end that begins at a token. No way is more than so many productions deep.
     #[cycle(slow)]
-    pub fn ends(&mut self, alloc: Global, symbol: &str, from: usize, depth: u32) -> Result<Vec<usize>, AllocFailed<usize>> {
+    pub fn ends(
+        &mut self,
+        alloc: Global,
+        symbol: &str,
+        from: usize,
+        depth: u32,
+    ) -> Result<Vec<usize>, AllocFailed<usize>> {
         let mut ends = Vec::new(alloc);
         if depth == 0 {
             return Ok(ends);
@@ -110,7 +170,14 @@ impl<'a> Slow<'a> {
 
     /// Where these parts may end, one after the other.
     #[cycle(slow)]
-    fn ends_of_all(&mut self, alloc: Global, parts: &[&str], from: usize, depth: u32, ends: &mut Vec<usize>) -> Result<(), AllocFailed<usize>> {
+    fn ends_of_all(
+        &mut self,
+        alloc: Global,
+        parts: &[&str],
+        from: usize,
+        depth: u32,
+        ends: &mut Vec<usize>,
+    ) -> Result<(), AllocFailed<usize>> {
         let mut fronts = Vec::new(alloc);
         fronts.push(from)?;
         for part in parts {

@@ -13,8 +13,7 @@ use Rattle.gq_parser.proofs.cursor.Parser.+type_ref.Goals as goal
 pub list_type-returns-clause-reads : goal.list_type-returns-clause-reads
 list_type-returns-clause-reads t c =
     let item = c.in_ok-item.ensures.reads in
-    let closed = c.in_ok-bracket.ensures.reads c.args.room in
-    (
+    let closed = c.in_ok-bracket.ensures.reads c.args.room in (
       rw (type_list, c.in_ok-item-2.ensures.ok) (list_of (rw closed.0.1 at item.0) (is_bang _ _ _ c.eat-non_null.ensures)),
       λ stack. item.1 (ABracket ∷ MaybeBang ∷ stack) ∙ closed.1 (MaybeBang ∷ stack) ∙ bang_comes _ (suc c.args.room) _ _ stack c.eat-non_null.ensures,
     )

@@ -3,7 +3,7 @@ use Rattle.std.proofs.lemmas.Result.{err_from_is_err_and}
 use Rattle.gq_parser.specs.Word.{Punct}
 use Rattle.gq_parser.specs.Tree.{and_value, no_value, and_member, no_member, literal_of, argument_of}
 use Rattle.gq_parser.specs.Machine.{AColon, AValue, MoreValues, MoreMembers}
-use Rattle.gq_parser.specs.Grammar.{AreValues, AreMembers, variable, int, float, text, array, object, no_more_values, next_value, no_more_members, next_member, argument}
+use Rattle.gq_parser.specs.Grammar.{AreValues, AreMembers, variable, int, float, text, array, object, no_more_values, next_value, no_more_members, argument}
 use Rattle.gq_parser.specs.Parsing.{says}
 use Rattle.gq_parser.proofs.Front.{fails_earlier, front_more, front_fails}
 use Rattle.gq_parser.proofs.Views.{literal_int, literal_float, literal_text, literal_variable, literal_list, literal_object, of_argument, values_push, members_push}

@@ -1,4 +1,3 @@
-use Rattle.std.proofs.Common.{refl, ap}
 use Rattle.std.proofs.lemmas.Result.{err_from_is_err_and}
 use Rattle.gq_parser.specs.Grammar.{no_default, default}
 use Rattle.gq_parser.proofs.Steps.{no_default_comes}
