@@ -1,5 +1,5 @@
 -- The pieces of keys that are cut off the front, one after another.
-use Rattle.std.proofs.Common.{◌≡◌, ℕ, zero, suc, ◌<◌, ◌≤◌, min, List, [], ◌∷◌, ◌++◌, map, length, take, drop, refl, ap, arith, length-drop, append_assoc, None, ◌∙◌, sym, Option, Some, inl, inr}
+use Rattle.std.proofs.Common.{◌≡◌, ℕ, zero, suc, ◌<◌, ◌≤◌, min, List, [], ◌∷◌, ◌++◌, map, length, take, drop, refl, ap, arith, length-drop, append_assoc, None, ◌∙◌, Option, Some, inl, inr}
 use Rattle.std.proofs.Math.ListN.{drop_of_length-le}
 use Rattle.std.proofs.Math.Nat.{le_refl}
 use Rattle.std.proofs.lemmas.List.{append-nil, take-append-drop, length-take, take-map, drop-map, length-map}

@@ -1,4 +1,7 @@
-ghost use Rattle.std.specs.Prelude.{⊤};
+ghost use Rattle.std.specs.Prelude.{◌≡◌, ⊤, [], map, refl};
+ghost use Rattle.load_memory.specs.Outcomes.{rows};
+ghost use Rattle.load_memory.specs.declared.key.KeyMode.TheVariants.{Exact};
+ghost use Rattle.load_queue.specs.Answers.{given};
 
 use super::*;
 use load_memory::{Item, Key, KeyMode, Memory, Outcome, Reply};
@@ -27,6 +30,36 @@ impl Source for Scripted {
             items.push(Item::KeyFault(text))?;
         }
         Ok(items)
+    }
+}
+
+/// A source that has rows of no key.
+#[derive(Drop)]
+struct Empty;
+
+impl Source for Empty {
+    ghost may_answer = { λ _ keys answer. answer ≡ given (map (λ _. rows []) keys) };
+
+    fn fetch(&self, alloc: Global, keys: &[Key]) -> Result<Vec<Item>, FetchFault> {
+        let mut items = Vec::with_capacity(alloc, keys.len())?;
+        for _key in keys {
+            items.push(Item::Rows(Vec::new(alloc)))?;
+        }
+        Ok(items)
+    }
+}
+
+impl PerKey for Empty {
+    ghost mode_of = { λ _. Exact };
+
+    ghost item_at = { λ _ _. rows [] };
+
+    ghost key_by_key = { λ s keys answer h. h };
+
+    ghost respects = { λ s j k h. refl };
+
+    fn mode(&self) -> KeyMode {
+        KeyMode::Exact
     }
 }
 
@@ -188,5 +221,14 @@ fn wants_the_first_of_equals(rt: HostRuntime) -> Result<(), Fail> {
     let exact = [text(alloc, "1")?, text(alloc, "Ada")?, text(alloc, "ada")?];
     assert_eq!(rt; wants.keys(0), exact.as_slice());
     assert_eq!(rt; wants.keys(1), [text(alloc, "Ada")?, Key::All].as_slice());
+    Ok(())
+}
+
+#[test]
+fn answers_key_by_key(rt: HostRuntime) -> Result<(), Fail> {
+    let alloc = rt.alloc();
+    assert_eq!(rt; Empty.mode(), KeyMode::Exact);
+    let items = Empty.fetch(alloc, numbered(alloc, 2)?.as_slice())?;
+    assert_eq!(rt; items.len(), 2);
     Ok(())
 }

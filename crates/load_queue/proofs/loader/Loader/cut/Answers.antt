@@ -1,6 +1,6 @@
 use Rattle.std.proofs.Common.{map, ap, ◌∙◌}
 use Rattle.load_memory.specs.Keys.{key_of}
-use Rattle.load_queue.specs.Orders.{OrderOf, order_of}
+use Rattle.load_queue.specs.Orders.{order_of}
 use Rattle.load_queue.proofs.PieceLaws.{are-batches, keys-of-orders}
 use Rattle.load_queue.proofs.loader.Loader.cut.Goals as goal
 
