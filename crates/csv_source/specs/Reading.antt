@@ -99,13 +99,24 @@ pub record IsTableOf (text : List ℕ) (t : SheetOf) : Type 0 where
   pub records : AreRecords default_config st.StartRecord text (t.names ∷ t.rows)
   pub lawful : Lawful (t.names ∷ t.rows)
 
+-- the first fault of a text
+abbrev pub FirstFault : List ℕ → TableFault → Type 0
+FirstFault text fault.NoHeader = next_record default_config st.StartRecord [] [] text ≡ None
+FirstFault text fault.NotText = FailsAt text fault.NotText
+FirstFault text fault.DuplicateColumn = FailsAt text fault.DuplicateColumn
+FirstFault text fault.BadRecord = FailsAt text fault.BadRecord
+FirstFault text fault.TooManyRows = FailsAt text fault.TooManyRows
+FirstFault text fault.ReadFault = ⊥
+FirstFault text fault.NoMemory = ⊥
+FirstFault text fault.NoSuchColumn = ⊥
+
 -- a fault of the reader or of memory says nothing of the text
 abbrev pub FaultIs : List ℕ → TableFault → Type 0
-FaultIs text fault.NoHeader = next_record default_config st.StartRecord [] [] text ≡ None
-FaultIs text fault.NotText = FailsAt text fault.NotText
-FaultIs text fault.DuplicateColumn = FailsAt text fault.DuplicateColumn
-FaultIs text fault.BadRecord = FailsAt text fault.BadRecord
-FaultIs text fault.TooManyRows = FailsAt text fault.TooManyRows
+FaultIs text fault.NoHeader = FirstFault text fault.NoHeader
+FaultIs text fault.NotText = FirstFault text fault.NotText
+FaultIs text fault.DuplicateColumn = FirstFault text fault.DuplicateColumn
+FaultIs text fault.BadRecord = FirstFault text fault.BadRecord
+FaultIs text fault.TooManyRows = FirstFault text fault.TooManyRows
 FaultIs text fault.ReadFault = ⊤
 FaultIs text fault.NoMemory = ⊤
 FaultIs text fault.NoSuchColumn = ⊥

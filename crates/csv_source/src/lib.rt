@@ -7,6 +7,7 @@
 pub mod fault;
 mod hash;
 pub mod index;
+pub mod law;
 mod read;
 pub mod source;
 pub mod table;
