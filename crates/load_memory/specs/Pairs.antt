@@ -10,6 +10,9 @@ pub record PairOf : Type 0 where
   pub key : KeyOf
   pub outcome : OutcomeOf
 
+abbrev pub pair_of : ℕ → KeyOf → OutcomeOf → PairOf
+pair_of loader key outcome = record { loader = loader; key = key; outcome = outcome }
+
 -- what contracts see of a memory: the mode of each loader, and the pairs in no order that means anything
 pub record MemoryOf : Type 0 where
   pub modes : List KeyMode

@@ -3,7 +3,7 @@ ghost use Rattle.std.specs.Prelude.{IsTrue, ◌↔◌, ◌≡◌, ◌<◌, ◌+�
 ghost use Rattle.std.specs.HashMap.{IsUnchanged};
 ghost use Rattle.load_memory.specs.Keys.{KeyOf, cache_of, same_key};
 ghost use Rattle.load_memory.specs.Outcomes.{known, outcome_of, item_of};
-ghost use Rattle.load_memory.specs.Pairs.{look, primed, IsSameMap, AreApart};
+ghost use Rattle.load_memory.specs.Pairs.{pair_of, look, primed, IsSameMap, AreApart};
 ghost use Rattle.load_memory.specs.Parts.{look_in, HasOwnKeys};
 
 use crate::key::{CacheKey, KeyMode};
@@ -71,7 +71,8 @@ impl Memory {
     /// What is known of a loader's key.
     pub fn get(&self, loader: usize, key: &CacheKey) -> Option<&Outcome>
         requires { loader < length self.now.modes }
-        ensures { option_map outcome_of (option_copied result) ≡ look self.now.pairs loader (cache_of key.now) }
+        ensures { option_map outcome_of (option_copied result)
+            ≡ look self.now.pairs loader (cache_of key.now) }
     {
         self.parts[loader].get(key)
     }
@@ -96,7 +97,8 @@ impl Memory {
     pub fn prime(&mut self, loader: usize, key: CacheKey, item: Item) -> Result<bool, NoMemory>
         requires { loader < length self.old.modes }
         ensures told { IfOk result (λ added. added ≡ is_none (look self.old.pairs loader (cache_of key))) }
-        ensures pairs { OnOk result (IsSameMap self.new.pairs (primed self.old.pairs (record { loader = loader; key = cache_of key; outcome = known (item_of item) }))) }
+        ensures pairs { OnOk result (IsSameMap self.new.pairs
+            (primed self.old.pairs (pair_of loader (cache_of key) (known (item_of item))))) }
         ensures modes { self.new.modes ≡ self.old.modes }
         ensures kept { OnErr result (self.new ≡ self.old) }
     {
@@ -106,7 +108,8 @@ impl Memory {
     fn add(&mut self, loader: usize, key: CacheKey, outcome: Outcome) -> Result<bool, NoMemory>
         requires { loader < length self.old.modes }
         ensures told { IfOk result (λ added. added ≡ is_none (look self.old.pairs loader (cache_of key))) }
-        ensures pairs { OnOk result (IsSameMap self.new.pairs (primed self.old.pairs (record { loader = loader; key = cache_of key; outcome = outcome_of outcome }))) }
+        ensures pairs { OnOk result (IsSameMap self.new.pairs
+            (primed self.old.pairs (pair_of loader (cache_of key) (outcome_of outcome)))) }
         ensures modes { self.new.modes ≡ self.old.modes }
         ensures kept { OnErr result (self.new ≡ self.old) }
     {
@@ -123,7 +126,9 @@ impl Memory {
 /// Puts a pair whose key is absent.
 fn put_absent(part: &mut Part, key: CacheKey, outcome: Outcome) -> Result<(), NoMemory>
     requires { look_in part.old.entries (cache_of key) ≡ None }
-    ensures pairs { OnOk result ((q : KeyOf) → look_in part.new.entries q ≡ (if same_key q (cache_of key) then Some (outcome_of outcome) else look_in part.old.entries q)) }
+    ensures pairs { OnOk result ((q : KeyOf) → look_in part.new.entries q
+        ≡ (if same_key q (cache_of key) then Some (outcome_of outcome)
+        else look_in part.old.entries q)) }
     ensures count { OnOk result (length part.new.entries ≡ length part.old.entries + 1) }
     ensures own_keys { OnOk result (HasOwnKeys part.new) }
     ensures kept { OnErr result (IsUnchanged part.old part.new) }

@@ -1,8 +1,12 @@
 -- The pieces of keys that are cut off the front, one after another.
-use Rattle.std.proofs.Common.{◌≡◌, ℕ, zero, suc, ◌<◌, ◌≤◌, min, List, [], ◌∷◌, ◌++◌, map, length, take, drop, refl, ap, ◌∙◌, sym, arith, length-drop, append_assoc, Option, Some, None}
+use Rattle.std.proofs.Common.{◌≡◌, ℕ, zero, suc, ◌<◌, ◌≤◌, min, List, [], ◌∷◌, ◌++◌, map, length, take, drop, refl, ap, arith, length-drop, append_assoc, None, ◌∙◌, Option, Some, inl, inr}
 use Rattle.std.proofs.Math.ListN.{drop_of_length-le}
-use Rattle.std.proofs.lemmas.List.{take-map, drop-map, length-map}
-use Rattle.load_queue.specs.Batches.{pieces, batches}
+use Rattle.std.proofs.Math.Nat.{le_refl}
+use Rattle.std.proofs.lemmas.List.{append-nil, take-append-drop, length-take, take-map, drop-map, length-map}
+use Rattle.std.proofs.lemmas.Bool.{cases_lt}
+use Rattle.load_memory.specs.Keys.{KeyOf}
+use Rattle.load_queue.specs.Orders.{OrderOf, order_of}
+use Rattle.load_queue.specs.Batches.{pieces, batches, joined, AreFull, AreBatches}
 
 pub pieces-enough : {K : Type 0} (n f g : ℕ) (keys : List K) → length keys ≤ f → length keys ≤ g → 0 < n → pieces f n keys ≡ pieces g n keys
 pieces-enough n zero zero keys a b p = refl
@@ -65,3 +69,44 @@ batches-unlimited v n [] le = refl
 batches-unlimited v n (x ∷ xs) le =
     let many : length (map v (x ∷ xs)) ≤ n = omega (arith, length-map (x ∷ xs) v, le) in
     rw (take-all n (map v (x ∷ xs)) many, drop_of_length-le (map v (x ∷ xs)) many) (ap (λ ps. map v (x ∷ xs) ∷ ps) (pieces-empty (length xs) n))
+
+-- the batches of keys are the keys, cut in order
+module _ {K : Type 0} (n : ℕ) (positive : 0 < n) where
+  joined-pieces : (most : ℕ) (keys : List K) → length keys ≤ most → joined (pieces most n keys) ≡ keys
+  joined-pieces zero [] le = refl
+  joined-pieces zero (k ∷ keys) le = absurd (omega arith)
+  joined-pieces (suc most) [] le = refl
+  joined-pieces (suc most) (k ∷ keys) le =
+      let falls = length-drop n (k ∷ keys) in
+      ap (λ ks. take n (k ∷ keys) ++ ks) (joined-pieces most (drop n (k ∷ keys)) (omega (arith, falls, le, positive))) ∙ take-append-drop n (k ∷ keys)
+
+  full-before : (p : List K) (ps : List (List K)) → length p ≡ n → AreFull (Some n) ps → AreFull (Some n) (p ∷ ps)
+  full-before p [] e full = (omega (arith, e, positive), omega (arith, e))
+  full-before p (q ∷ ps) e full = (e, full)
+
+  full-last : (p : List K) (ps : List (List K)) → ps ≡ [] → 0 < length p → length p ≤ n → AreFull (Some n) (p ∷ ps)
+  full-last p [] e some le = (some, le)
+  full-last p (q ∷ ps) e some le = absurd (cc e)
+
+  full-pieces : (most : ℕ) (keys : List K) → length keys ≤ most → AreFull (Some n) (pieces most n keys)
+  full-pieces zero keys le = tt
+  full-pieces (suc most) [] le = tt
+  full-pieces (suc most) (k ∷ keys) le =
+      let falls = length-drop n (k ∷ keys) in
+      let taken = length-take n (k ∷ keys) in
+      elim (cases_lt n (length (k ∷ keys))) [
+        | inl more ↦ full-before (take n (k ∷ keys)) (pieces most n (drop n (k ∷ keys))) (omega (arith, taken, more)) (full-pieces most (drop n (k ∷ keys)) (omega (arith, falls, le, positive)))
+        | inr fits ↦
+            full-last (take n (k ∷ keys)) (pieces most n (drop n (k ∷ keys))) (ap (pieces most n) (drop_of_length-le (k ∷ keys) fits) ∙ pieces-empty most n) (omega (arith, taken, positive)) (omega (arith, taken))
+      ]
+
+pub are-batches : {K : Type 0} (limit : Option ℕ) (keys : List K) → ((n : ℕ) → limit ≡ Some n → 0 < n) → AreBatches limit keys (batches limit keys)
+are-batches None [] positive = record { in_order = refl; full = tt }
+are-batches (Some n) [] positive = record { in_order = refl; full = tt }
+are-batches None (k ∷ keys) positive = record { in_order = append-nil (k ∷ keys); full = omega arith }
+are-batches (Some n) (k ∷ keys) positive =
+    record { in_order = joined-pieces n (positive n refl) (length (k ∷ keys)) (k ∷ keys) (le_refl _); full = full-pieces n (positive n refl) (length (k ∷ keys)) (k ∷ keys) (le_refl _) }
+
+pub keys-of-orders : (loader : ℕ) (cut : List (List KeyOf)) → map (λ (o : OrderOf). o.keys) (map (order_of loader) cut) ≡ cut
+keys-of-orders loader [] = refl
+keys-of-orders loader (p ∷ ps) = ap (λ qs. p ∷ qs) (keys-of-orders loader ps)

@@ -1,6 +1,6 @@
 -- A set of cache keys beside the list of keys, in the same order.
 use Rattle.std.proofs.Common.{◌≡◌, ℕ, zero, suc, ◌<◌, Bool, true, false, List, [], ◌∷◌, ◌++◌, map, length, get_or, refl, ap, ◌∙◌, sym, arith}
-use Rattle.std.specs.Prelude.{◌||◌, slice_set}
+use Rattle.std.specs.Prelude.{slice_set}
 use Rattle.std.specs.List.{list_any}
 use Rattle.load_memory.specs.Keys.{KeyOf, key_of, cache_of, folded, same_key}
 use Rattle.load_memory.specs.declared.key.CacheKey.{CacheKey}

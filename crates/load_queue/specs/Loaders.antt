@@ -1,7 +1,8 @@
 -- What contracts see of a loader and of the entries of its log.
-use Rattle.std.specs.Prelude.{◌≡◌, ◌<◌, ◌⊎◌, ℕ, Bool, false, List, Option, Some, None}
+use Rattle.std.specs.Prelude.{◌≡◌, ◌<◌, ◌⊎◌, ◌++◌, ℕ, Bool, false, List, Option, Some, None, map}
 use Rattle.load_memory.specs.Keys.{KeyOf}
 use Rattle.load_memory.specs.declared.key.KeyMode.{KeyMode}
+use Rattle.load_queue.specs.Batches.{batches}
 
 -- what was asked together in a round, and whether its outcomes were stored
 pub record AskedOf : Type 0 where
@@ -19,6 +20,10 @@ pub record LoaderOf (S : Type 0) : Type 0 where
   pub mode : KeyMode
   pub limit : Option ℕ
   pub log : List AskedOf
+
+-- the loader once these keys are asked in this round: its log has gained an entry for each batch
+abbrev pub asked_in : {S : Type 0} → LoaderOf S → ℕ → List KeyOf → LoaderOf S
+asked_in l round keys = record l { log = l.log ++ map (entered round) (batches l.limit keys) }
 
 -- a limit that no loader may have
 abbrev pub IsBadLimit : Option ℕ → Type 0

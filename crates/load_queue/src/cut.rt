@@ -32,8 +32,10 @@ pub(crate) fn cut_keys(
     most: usize,
 ) -> Result<(Vec<Order>, Vec<Asked>), NoMemory>
     requires { 0 < most }
-    ensures orders { IfOk result (λ r. r.0.items ≡ map (order_of loader) (pieces (length keys.now) most (map key_of keys.now))) }
-    ensures entries { IfOk result (λ r. map asked_of r.1.items ≡ map (entered round) (pieces (length keys.now) most (map key_of keys.now))) }
+    ensures orders { IfOk result (λ r. r.0.items
+        ≡ map (order_of loader) (pieces (length keys.now) most (map key_of keys.now))) }
+    ensures entries { IfOk result (λ r. map asked_of r.1.items
+        ≡ map (entered round) (pieces (length keys.now) most (map key_of keys.now))) }
 {
     let mut orders = Vec::new(alloc);
     let mut entries = Vec::new(alloc);

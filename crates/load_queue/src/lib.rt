@@ -12,6 +12,8 @@ pub mod order;
 mod outcomes;
 pub mod per_key;
 pub mod source;
+#[cfg(test)]
+mod tests;
 pub mod wants;
 
 pub use loader::{Asked, Loader, QueueFault};

@@ -1,8 +1,8 @@
 //! A loader: a source with its name, its mode, its limit and its log.
-ghost use Rattle.std.specs.Prelude.{◌≡◌, ◌↔◌, ◌++◌, [], IfOk, OnOk, OnErr, IsErrOf, map};
+ghost use Rattle.std.specs.Prelude.{◌≡◌, ◌↔◌, [], IfOk, OnOk, OnErr, IsErrOf, map};
 ghost use Rattle.load_memory.specs.Keys.{key_of};
-ghost use Rattle.load_queue.specs.Batches.{batches};
-ghost use Rattle.load_queue.specs.Orders.{order_of};
+ghost use Rattle.load_queue.specs.Batches.{AreBatches};
+ghost use Rattle.load_queue.specs.Orders.{orders_of};
 
 use crate::cut::{cut_keys, piece_length};
 use crate::order::Order;
@@ -68,14 +68,20 @@ impl<S> Model for Loader<S> {
 
     ghost Value = { LoaderOf S };
 
-    ghost view = { λ l. record { name = string_bytes l.name; source = l.source; mode = l.mode; limit = l.limit; log = map asked_of l.log.items } };
+    ghost view = { λ l. record {
+      name = string_bytes l.name;
+      source = l.source;
+      mode = l.mode;
+      limit = l.limit;
+      log = map asked_of l.log.items;
+    } };
 
     ghost invariant = { λ l. (n : ℕ) → l.limit ≡ Some n → 0 < n };
 }
 
 impl<S> Loader<S> {
     ghost use Rattle.load_queue.specs.Logs.{asked_of};
-    ghost use Rattle.load_queue.specs.Loaders.{entered};
+    ghost use Rattle.load_queue.specs.Loaders.{asked_in};
 
     /// The name, as its source's table is called.
     pub fn name(&self) -> &str
@@ -111,8 +117,11 @@ impl<S> Loader<S> {
     /// `loader` is the number that the orders and their replies bear. After a refused growth the
     /// loader, its log included, is as it was.
     pub fn cut(&mut self, loader: usize, round: u32, keys: &[Key]) -> Result<Vec<Order>, NoMemory>
-        ensures orders { IfOk result (λ orders. orders.items ≡ map (order_of loader) (batches self.old.limit (map key_of keys.now))) }
-        ensures entered { OnOk result (self.new ≡ record self.old { log = self.old.log ++ map (entered round) (batches self.old.limit (map key_of keys.now)) }) }
+        ensures orders { IfOk result (λ orders. orders.items
+            ≡ orders_of loader self.old.limit (map key_of keys.now)) }
+        ensures pieces { IfOk result (λ orders.
+            AreBatches self.old.limit (map key_of keys.now) (map (λ o. o.keys) orders.items)) }
+        ensures entered { OnOk result (self.new ≡ asked_in self.old round (map key_of keys.now)) }
         ensures kept { OnErr result (self.new ≡ self.old) }
     {
         let most = piece_length(self.limit, keys);
@@ -134,7 +143,8 @@ impl<S: Drop> Loader<S> {
         mode: KeyMode,
         max: Option<u32>,
     ) -> Result<Loader<S>, QueueFault>
-        ensures made { IfOk result (λ l. l ≡ record { name = name.now; source = source; mode = mode; limit = max; log = [] }) }
+        ensures made { IfOk result (λ l. l
+            ≡ record { name = name.now; source = source; mode = mode; limit = max; log = [] }) }
         ensures refused { IsErrOf result QueueFault.BadLimit ↔ IsBadLimit max }
     {
         if let Some(limit) = max

@@ -40,6 +40,20 @@ impl Order {
         Order { loader, keys }
     }
 
+    /// The number of its loader.
+    pub fn loader(&self) -> usize
+        ensures { result ≡ self.now.loader }
+    {
+        self.loader
+    }
+
+    /// Its keys, in the order in which they are to be asked.
+    pub fn keys(&self) -> &[Key]
+        ensures { map key_of result.now ≡ self.now.keys }
+    {
+        self.keys.as_slice()
+    }
+
     /// Asks the source of the loader of the order's number, once, and gives the outcomes of its keys
     /// place by place. A list of one item for each key gives its items. Where the source failed, each
     /// key has a batch fault with the source's words; where it answered N items for M keys, each has

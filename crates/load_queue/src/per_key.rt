@@ -23,7 +23,9 @@ pub trait PerKey: Source {
     fn mode(&self) -> KeyMode
         ensures { result ≡ mode_of self.now };
 
-    ghost key_by_key: { (s : Self) (keys : List KeyOf) (answer : AnswerOf) → Self.may_answer s keys answer → answer ≡ given (map (item_at s) keys) };
+    ghost key_by_key: { (s : Self) (keys : List KeyOf) (answer : AnswerOf) → Self.may_answer s keys answer
+        → answer ≡ given (map (item_at s) keys) };
 
-    ghost respects: { (s : Self) (j k : KeyOf) → folded (mode_of s) j ≡ folded (mode_of s) k → item_at s j ≡ item_at s k };
+    ghost respects: { (s : Self) (j k : KeyOf) → folded (mode_of s) j ≡ folded (mode_of s) k
+        → item_at s j ≡ item_at s k };
 }

@@ -19,18 +19,33 @@ pub enum FetchFault {
 }
 
 impl From<NoMemory> for FetchFault {
+    ghost use Rattle.std.specs.Prelude.{◌≡◌};
+    ghost use Rattle.load_queue.specs.declared.source.FetchFault.TheVariants.{NoMemory};
+
+    ghost from_gives = { λ _ fault. fault ≡ NoMemory };
+
     fn from(_e: NoMemory) -> FetchFault {
         FetchFault::NoMemory
     }
 }
 
 impl From<AllocError> for FetchFault {
+    ghost use Rattle.std.specs.Prelude.{◌≡◌};
+    ghost use Rattle.load_queue.specs.declared.source.FetchFault.TheVariants.{NoMemory};
+
+    ghost from_gives = { λ _ fault. fault ≡ NoMemory };
+
     fn from(_e: AllocError) -> FetchFault {
         FetchFault::NoMemory
     }
 }
 
 impl<T: Drop> From<AllocFailed<T>> for FetchFault {
+    ghost use Rattle.std.specs.Prelude.{◌≡◌};
+    ghost use Rattle.load_queue.specs.declared.source.FetchFault.TheVariants.{NoMemory};
+
+    ghost from_gives = { λ _ fault. fault ≡ NoMemory };
+
     fn from(_e: AllocFailed<T>) -> FetchFault {
         FetchFault::NoMemory
     }

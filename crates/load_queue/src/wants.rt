@@ -105,6 +105,7 @@ impl Wants {
         requires { loader < length self.old }
         ensures told { IfOk result (λ added. added ≡ not (is_key_wanted self.old loader (key_of key))) }
         ensures after { OnOk result (self.new ≡ with_wanted self.old loader (key_of key)) }
+        ensures loaders { length self.new ≡ length self.old }
         ensures kept { OnErr result (self.new ≡ self.old) }
     {
         self.parts[loader].add(key)

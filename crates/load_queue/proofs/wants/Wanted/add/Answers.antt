@@ -1,8 +1,8 @@
-use Rattle.std.proofs.Common.{◌≡◌, ◌∷◌, ◌++◌, [], List, true, false, map, ap, ◌∙◌, sym}
+use Rattle.std.proofs.Common.{◌≡◌, ◌∷◌, ◌++◌, [], true, false, map, ap, ◌∙◌, sym}
 use Rattle.std.specs.Prelude.{not}
 use Rattle.std.proofs.lemmas.Bool.{not-true, not-false}
 use Rattle.std.proofs.lemmas.List.{map-append}
-use Rattle.load_memory.specs.Keys.{KeyOf, key_of}
+use Rattle.load_memory.specs.Keys.{key_of}
 use Rattle.load_queue.specs.Wanted.{WantedOf, is_wanted}
 use Rattle.load_queue.proofs.WantLaws.{seen-wanted, with-new, with-old}
 use Rattle.load_queue.proofs.wants.Wanted.add.Goals as goal
