@@ -23,6 +23,14 @@ pub record IsPlain {R : Type 0} (s : Reader R) : Type 0 where
 abbrev pub StandsBehind : {R : Type 0} → (R → Option (List ℕ)) → Reader R → List ℕ → List Record → Type 0
 StandsBehind rem s text records = (y : List ℕ) × (source_of rem s ≡ Some y) × Reached default_config st.StartRecord text records (reader_state s) y
 
+-- one record more was read
+abbrev pub ReadsMore : {R : Type 0} → (R → Option (List ℕ)) → Reader R → Reader R → Record → Type 0
+ReadsMore rem old new fields = (text : List ℕ) (seen : List Record) → StandsBehind rem old text seen → StandsBehind rem new text (seen ++ fields ∷ [])
+
+-- there is no record more
+abbrev pub HasEnded : {R : Type 0} → (R → Option (List ℕ)) → Reader R → Type 0
+HasEnded rem s = (text : List ℕ) (seen : List Record) → StandsBehind rem s text seen → AreRecords default_config st.StartRecord text seen
+
 -- a text begins with these records
 abbrev pub Begins : List ℕ → List Record → Type 0
 Begins text records = (s : _) × (y : List ℕ) × Reached default_config st.StartRecord text records s y

@@ -8,6 +8,7 @@ use std::hash::{FoldHasher, Hasher};
 
 // The start and the multiplier of the hash FNV-1a, which takes byte after byte.
 const FNV_OFFSET: u64 = 0xcbf2_9ce4_8422_2325;
+
 const FNV_PRIME: u64 = 0x0000_0100_0000_01b3;
 
 // The hash with one byte more.
