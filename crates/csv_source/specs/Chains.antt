@@ -22,9 +22,13 @@ pub record IsLinked (mode : KeyMode) (column : List ℕ) (rows : List RowOf) (fi
 abbrev pub IsColumn : SheetOf → ℕ → Type 0
 IsColumn s column = Some column ≡ position (λ n. bytes_eq n (get_or s.names column [])) s.names
 
+-- the links of a sheet's rows by a column
+abbrev pub IsLinkedIn : SheetOf → ℕ → KeyMode → List ℕ → List ℕ → ℕ → Type 0
+IsLinkedIn s column mode first next from = IsLinked mode (get_or s.names column []) (rows_of s) first next from
+
 -- the index of a column of a sheet
 pub record IsIndex (s : SheetOf) (column : ℕ) (mode : KeyMode) (first next : List ℕ) : Type 0 where
   pub rectangular : IsRectangular s
   pub named : IsColumn s column
   pub buckets : 0 < length first
-  pub linked : IsLinked mode (get_or s.names column []) (rows_of s) first next 0
+  pub linked : IsLinkedIn s column mode first next 0

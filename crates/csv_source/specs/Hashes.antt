@@ -1,15 +1,19 @@
 -- The number by which an index finds the bucket of a text.
-use Rattle.std.specs.Prelude.{ℕ, ◌%◌, Bool, false, List, [], ◌∷◌, Option, Some, None, not, ◌&&◌, ◌==◌, length, fold}
+use Rattle.std.specs.Prelude.{ℕ, ◌*◌, ◌%◌, ◌^◌, Bool, false, List, Option, Some, None, not, ◌&&◌, ◌==◌, length, fold, bit_xor}
 use Rattle.std.specs.Hash.FoldHasher as folding
 use Rattle.load_memory.specs.Keys.{fold_text}
 use Rattle.load_memory.specs.Rows.{RowOf, cell_of}
 use Rattle.load_memory.specs.declared.key.KeyMode.{KeyMode}
 use Rattle.load_memory.specs.declared.key.KeyMode.TheVariants.{Exact, FoldAscii}
 
+-- one byte more of the hash FNV-1a
+abbrev pub mix : ℕ → ℕ → ℕ
+mix hash byte = (bit_xor hash byte * 0x0000_0100_0000_01b3) % 2 ^ 64
+
 -- the hash of a text as its mode compares it: of the whole text, or of byte after byte
 unfoldable pub text_hash : KeyMode → List ℕ → ℕ
 text_hash Exact folded = folding.finish (folding.write folding.initial folded)
-text_hash FoldAscii folded = folding.finish (fold (λ state byte. folding.write state (byte ∷ [])) folding.initial folded)
+text_hash FoldAscii folded = fold mix 0xcbf2_9ce4_8422_2325 folded
 
 -- the bucket of a text, of so many
 abbrev pub bucket_of : KeyMode → ℕ → List ℕ → ℕ

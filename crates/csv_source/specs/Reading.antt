@@ -23,6 +23,14 @@ pub record IsPlain {R : Type 0} (s : Reader R) : Type 0 where
 abbrev pub StandsBehind : {R : Type 0} → (R → Option (List ℕ)) → Reader R → List ℕ → List Record → Type 0
 StandsBehind rem s text records = (y : List ℕ) × (source_of rem s ≡ Some y) × Reached default_config st.StartRecord text records (reader_state s) y
 
+-- one record more was read
+abbrev pub ReadsMore : {R : Type 0} → (R → Option (List ℕ)) → Reader R → Reader R → Record → Type 0
+ReadsMore rem old new fields = (text : List ℕ) (seen : List Record) → StandsBehind rem old text seen → StandsBehind rem new text (seen ++ fields ∷ [])
+
+-- there is no record more
+abbrev pub HasEnded : {R : Type 0} → (R → Option (List ℕ)) → Reader R → Type 0
+HasEnded rem s = (text : List ℕ) (seen : List Record) → StandsBehind rem s text seen → AreRecords default_config st.StartRecord text seen
+
 -- a text begins with these records
 abbrev pub Begins : List ℕ → List Record → Type 0
 Begins text records = (s : _) × (y : List ℕ) × Reached default_config st.StartRecord text records s y
@@ -99,13 +107,24 @@ pub record IsTableOf (text : List ℕ) (t : SheetOf) : Type 0 where
   pub records : AreRecords default_config st.StartRecord text (t.names ∷ t.rows)
   pub lawful : Lawful (t.names ∷ t.rows)
 
+-- the first fault of a text
+abbrev pub FirstFault : List ℕ → TableFault → Type 0
+FirstFault text fault.NoHeader = next_record default_config st.StartRecord [] [] text ≡ None
+FirstFault text fault.NotText = FailsAt text fault.NotText
+FirstFault text fault.DuplicateColumn = FailsAt text fault.DuplicateColumn
+FirstFault text fault.BadRecord = FailsAt text fault.BadRecord
+FirstFault text fault.TooManyRows = FailsAt text fault.TooManyRows
+FirstFault text fault.ReadFault = ⊥
+FirstFault text fault.NoMemory = ⊥
+FirstFault text fault.NoSuchColumn = ⊥
+
 -- a fault of the reader or of memory says nothing of the text
 abbrev pub FaultIs : List ℕ → TableFault → Type 0
-FaultIs text fault.NoHeader = next_record default_config st.StartRecord [] [] text ≡ None
-FaultIs text fault.NotText = FailsAt text fault.NotText
-FaultIs text fault.DuplicateColumn = FailsAt text fault.DuplicateColumn
-FaultIs text fault.BadRecord = FailsAt text fault.BadRecord
-FaultIs text fault.TooManyRows = FailsAt text fault.TooManyRows
+FaultIs text fault.NoHeader = FirstFault text fault.NoHeader
+FaultIs text fault.NotText = FirstFault text fault.NotText
+FaultIs text fault.DuplicateColumn = FirstFault text fault.DuplicateColumn
+FaultIs text fault.BadRecord = FirstFault text fault.BadRecord
+FaultIs text fault.TooManyRows = FirstFault text fault.TooManyRows
 FaultIs text fault.ReadFault = ⊤
 FaultIs text fault.NoMemory = ⊤
 FaultIs text fault.NoSuchColumn = ⊥

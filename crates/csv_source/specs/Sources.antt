@@ -1,14 +1,9 @@
 -- What a source answers from.
-use Rattle.std.specs.Prelude.{Some, None}
-use Rattle.load_memory.specs.declared.key.KeyMode.TheVariants as modes
-use Rattle.csv_source.specs.Tables.{IndexOf, SourceOf, rows_of}
+use Rattle.csv_source.specs.Tables.{SourceOf, rows_of, source_of_all, source_by}
 use Rattle.csv_source.specs.declared.source.Finder.{Finder}
 use Rattle.csv_source.specs.declared.source.Finder.TheVariants.{All, Owned, Shared}
 
-abbrev pub of_index : IndexOf → SourceOf
-of_index x = record { rows = x.rows; column = Some x.column; mode = x.mode }
-
 abbrev pub source_of : Finder → SourceOf
-source_of (All table) = record { rows = rows_of table.now; column = None; mode = modes.Exact }
-source_of (Owned index) = of_index index
-source_of (Shared index) = of_index index.now
+source_of (All table) = source_of_all (rows_of table.now)
+source_of (Owned index) = source_by index.rows index.column index.mode
+source_of (Shared index) = source_by index.now.rows index.now.column index.now.mode

@@ -1,9 +1,10 @@
 -- Tables, and *Rows of a key*.
-use Rattle.std.specs.Prelude.{ℕ, Bool, false, List, [], Option, Some, None, bytes_eq, not, ◌&&◌, ◌==◌, length, map, filter}
+use Rattle.std.specs.Prelude.{ℕ, Bool, false, List, [], Option, Some, None, bytes_eq, not, ◌&&◌, ◌==◌, length, map, filter, get_or}
 use Rattle.load_memory.specs.Keys.{KeyOf, all, text, fold_text}
 use Rattle.load_memory.specs.Outcomes.{ItemOf, rows}
 use Rattle.load_memory.specs.Rows.{RowOf, SheetOf, paired, cell_of}
 use Rattle.load_memory.specs.declared.key.KeyMode.{KeyMode}
+use Rattle.load_memory.specs.declared.key.KeyMode.TheVariants.{Exact}
 
 -- the rows of a sheet, each under its columns
 abbrev pub rows_of : SheetOf → List RowOf
@@ -24,11 +25,22 @@ pub record IndexOf : Type 0 where
   pub column : List ℕ
   pub mode : KeyMode
 
+abbrev pub index_of : SheetOf → ℕ → KeyMode → IndexOf
+index_of s column mode = record { rows = rows_of s; column = get_or s.names column []; mode = mode }
+
 -- what a source answers from: its rows, and the column by which it finds them, or no column where it has all rows for one key
 pub record SourceOf : Type 0 where
   pub rows : List RowOf
   pub column : Option (List ℕ)
   pub mode : KeyMode
+
+-- the source of all rows
+abbrev pub source_of_all : List RowOf → SourceOf
+source_of_all table = record { rows = table; column = None; mode = Exact }
+
+-- the source by a column
+abbrev pub source_by : List RowOf → List ℕ → KeyMode → SourceOf
+source_by table column mode = record { rows = table; column = Some column; mode = mode }
 
 abbrev pub rows_by : KeyMode → List RowOf → Option (List ℕ) → KeyOf → List RowOf
 rows_by mode table None all = table

@@ -1,26 +1,42 @@
 //! The number by which an index finds the bucket of a text.
 ghost use Rattle.std.specs.Prelude.{◌≡◌, ◌<◌};
 ghost use Rattle.load_memory.specs.Keys.{fold_text};
-ghost use Rattle.csv_source.specs.Hashes.{text_hash, bucket_of};
+ghost use Rattle.csv_source.specs.Hashes.{mix, text_hash, bucket_of};
 
 use load_memory::KeyMode;
 use std::hash::{FoldHasher, Hasher};
 
-// A number that texts have in common where they are one key. The hasher has a fixed seed, so whoever
-// picks the keys can make them collide.
+// The start and the multiplier of the hash FNV-1a, which takes byte after byte.
+const FNV_OFFSET: u64 = 0xcbf2_9ce4_8422_2325;
+
+const FNV_PRIME: u64 = 0x0000_0100_0000_01b3;
+
+// The hash with one byte more.
+fn mixed(hash: u64, byte: u8) -> u64
+    ensures { result ≡ mix hash byte }
+{
+    (hash ^ u64::from(byte)).wrapping_mul(FNV_PRIME)
+}
+
+// A number that texts have in common where they are one key. It hangs on nothing but the text, so
+// whoever picks the keys can make them collide.
 fn hash(mode: KeyMode, text: &str) -> u64
     ensures { result ≡ text_hash mode (fold_text mode text.now) }
 {
-    let mut hasher = FoldHasher::default();
     match mode {
-        KeyMode::Exact => hasher.write(text.as_bytes()),
+        KeyMode::Exact => {
+            let mut hasher = FoldHasher::default();
+            hasher.write(text.as_bytes());
+            hasher.finish()
+        }
         KeyMode::FoldAscii => {
+            let mut hash = FNV_OFFSET;
             for byte in text.as_bytes() {
-                hasher.write_u8(byte.to_ascii_lowercase());
+                hash = mixed(hash, byte.to_ascii_lowercase());
             }
+            hash
         }
     }
-    hasher.finish()
 }
 
 /// The bucket of a text, of so many.

@@ -3,9 +3,9 @@ ghost use Rattle.std.specs.Prelude.{◌≡◌, ◌<◌, ◌+◌, ◌≤◌, ◌+
 ghost use Rattle.std.specs.Arc.{arc_value};
 ghost use Rattle.load_memory.specs.Keys.{fold_text};
 ghost use Rattle.load_memory.specs.Rows.{SheetOf, IsRectangular};
-ghost use Rattle.csv_source.specs.Chains.{IsLinked, IsColumn};
+ghost use Rattle.csv_source.specs.Chains.{IsLinkedIn, IsColumn};
 ghost use Rattle.csv_source.specs.Faults.{ColumnFault};
-ghost use Rattle.csv_source.specs.Tables.{rows_of, has_text, IndexOf};
+ghost use Rattle.csv_source.specs.Tables.{rows_of, has_text};
 
 use crate::fault::TableFault;
 use crate::hash::bucket;
@@ -18,8 +18,8 @@ use std::sync::Arc;
 /// The rows of a table by the text that they have in a column.
 ///
 /// The texts are spread over as many buckets as there are rows. Of each bucket the index knows the
-/// first row, and of each row the next one of its bucket, so that a text's rows are found in file order
-/// and the index takes eight bytes a row. A place past the last row ends a bucket.
+/// first row, and of each row the next one of its bucket, so that a text's rows are found in file
+/// order and the index takes eight bytes a row. A place past the last row ends a bucket.
 ///
 /// A contract sees it as the rows, the column's name, and the mode by which texts are compared.
 #[derive(Drop)]
@@ -32,14 +32,13 @@ pub struct ColumnIndex {
 }
 
 impl Model for ColumnIndex {
-    ghost use Rattle.std.specs.Prelude.{get_or, []};
     ghost use Rattle.std.specs.Arc.{arc_value};
-    ghost use Rattle.csv_source.specs.Tables.{rows_of, IndexOf};
+    ghost use Rattle.csv_source.specs.Tables.{IndexOf, index_of};
     ghost use Rattle.csv_source.specs.Chains.{IsIndex};
 
     ghost Value = { IndexOf };
 
-    ghost view = { λ x. record { rows = rows_of (arc_value x.sheet); column = get_or (arc_value x.sheet).names x.column []; mode = x.mode } };
+    ghost view = { λ x. index_of (arc_value x.sheet) x.column x.mode };
 
     ghost invariant = { λ x. IsIndex (arc_value x.sheet) x.column x.mode x.first.items x.next.items };
 }
@@ -57,8 +56,8 @@ fn link(
     requires rectangular { IsRectangular sheet.now }
     requires column { IsColumn sheet.now column }
     requires buckets { 0 < length first.old.items }
-    requires linked { IsLinked mode (get_or sheet.now.names column []) (rows_of sheet.now) first.old.items next.old.items (row + 1) }
-    ensures linked { IsLinked mode (get_or sheet.now.names column []) (rows_of sheet.now) first.new.items next.new.items row }
+    requires linked { IsLinkedIn sheet.now column mode first.old.items next.old.items (row + 1) }
+    ensures linked { IsLinkedIn sheet.now column mode first.new.items next.new.items row }
     ensures buckets { length first.new.items ≡ length first.old.items }
 {
     let text = sheet.field(row, column);
@@ -79,7 +78,7 @@ fn links(
     requires { IsColumn sheet.now column }
     ensures rectangular { IsRectangular sheet.now }
     ensures buckets { IfOk result (λ p. 0 < length p.0.items) }
-    ensures linked { IfOk result (λ p. IsLinked mode (get_or sheet.now.names column []) (rows_of sheet.now) p.0.items p.1.items 0) }
+    ensures linked { IfOk result (λ p. IsLinkedIn sheet.now column mode p.0.items p.1.items 0) }
 {
     let rows = sheet.len();
     let mut first = vec![in alloc; rows; (rows as usize).max(1)]?;
@@ -96,7 +95,8 @@ fn is_same(mode: KeyMode, field: &str, text: &str) -> bool
 {
     match mode {
         KeyMode::Exact => text == field,
-        KeyMode::FoldAscii => text.eq_ignore_ascii_case(field),
+        // Most equal texts are equal byte for byte, which is seen sooner.
+        KeyMode::FoldAscii => text == field || text.eq_ignore_ascii_case(field),
     }
 }
 
@@ -124,7 +124,8 @@ impl ColumnIndex {
         column: &str,
         mode: KeyMode,
     ) -> Result<ColumnIndex, TableFault>
-        ensures ok { IfOk result (λ x. (x ≡ record { rows = rows_of table.now; column = column.now; mode = mode }) × Contains table.now.names column.now) }
+        ensures ok { IfOk result (λ x. x ≡ record { rows = rows_of table.now; column = column.now; mode = mode }) }
+        ensures there { OnOk result (Contains table.now.names column.now) }
         ensures err { IfErr result (ColumnFault table.now.names column.now) }
     {
         let Some(column) = table.sheet.column(column) else {
@@ -150,7 +151,8 @@ impl ColumnIndex {
 
     /// The rows whose column equals the text, in file order. An empty field equals no text.
     pub fn rows(&self, alloc: Global, text: &str) -> Result<Vec<Row>, NoMemory>
-        ensures { IfOk result (λ v. v.items ≡ filter (has_text self.now.mode self.now.column (fold_text self.now.mode text.now)) self.now.rows) }
+        ensures { IfOk result (λ v. v.items
+            ≡ filter (has_text self.now.mode self.now.column (fold_text self.now.mode text.now)) self.now.rows) }
     {
         let mut found = Vec::new(alloc);
         let mut place = self.first[bucket(self.mode, self.first.len(), text)];

@@ -1,12 +1,13 @@
 //! Tables of comma-separated values, and sources that answer from them.
 //!
-//! The layer above may rely on this: a [`Table`] holds the records of its text, or the reading names
-//! the first fault; a [`CsvSource`] answers each key with the rows of that key, in file order.
+//! The layer above may rely on this: a [`Table`] holds the records of its text, or the reading
+//! names the first fault; a [`CsvSource`] answers each key with the rows of that key, in file order.
 #![tactic(auto)]
 
 pub mod fault;
 mod hash;
 pub mod index;
+pub mod law;
 mod read;
 pub mod source;
 pub mod table;

@@ -4,8 +4,9 @@ ghost use Rattle.std.specs.Arc.{arc_value};
 ghost use Rattle.csv.specs.Reading.{AreRecords, default_config, strip_bom};
 ghost use Rattle.csv.specs.Records.{AllText, fields_of};
 ghost use Rattle.csv.specs.declared.parser.State.TheVariants as st;
-ghost use Rattle.load_memory.specs.Rows.{DraftOf};
-ghost use Rattle.csv_source.specs.Reading.{Record, IsPlain, StandsBehind, IsDevice, IsHeader, HeaderFault, RowFault, ReadIs, Repeats};
+ghost use Rattle.load_memory.specs.Rows.{draft_with_names, draft_with_row};
+ghost use Rattle.csv_source.specs.Reading.{IsPlain, StandsBehind, ReadsMore, HasEnded, IsDevice};
+ghost use Rattle.csv_source.specs.Reading.{IsHeader, HeaderFault, RowFault, ReadIs, Repeats};
 
 use crate::fault::TableFault;
 use crate::table::Table;
@@ -34,8 +35,9 @@ fn next<R: Read>(reader: &mut Reader<R>, raw: &mut ByteRecord) -> Result<bool, T
     requires { IsPlain reader.old }
     ensures fault { IfErr result IsDevice }
     ensures plain { IfOk result (λ _. IsPlain reader.new) }
-    ensures more { IfOk result (λ found. found ≡ true → (text : List ℕ) (seen : List Record) → StandsBehind R.remaining reader.old text seen → StandsBehind R.remaining reader.new text (seen ++ fields_of raw.new ∷ [])) }
-    ensures ended { IfOk result (λ found. found ≡ false → (text : List ℕ) (seen : List Record) → StandsBehind R.remaining reader.old text seen → AreRecords default_config st.StartRecord text seen) }
+    ensures more { IfOk result (λ found. found ≡ true
+        → ReadsMore R.remaining reader.old reader.new (fields_of raw.new)) }
+    ensures ended { IfOk result (λ found. found ≡ false → HasEnded R.remaining reader.old) }
 {
     match reader.read_byte_record(raw) {
         Ok(found) => Ok(found),
@@ -45,7 +47,8 @@ fn next<R: Read>(reader: &mut Reader<R>, raw: &mut ByteRecord) -> Result<bool, T
 
 // The record as text, in the same memory.
 fn text_of(raw: ByteRecord) -> Result<StringRecord, TableFault>
-    ensures { MatchResult result (λ t. (fields_of t ≡ fields_of raw) × AllText (fields_of raw)) (λ e. (e ≡ TableFault.NotText) × ¬ (AllText (fields_of raw))) }
+    ensures ok { IfOk result (λ t. (fields_of t ≡ fields_of raw) × AllText (fields_of raw)) }
+    ensures err { IfErr result (λ e. (e ≡ TableFault.NotText) × ¬ (AllText (fields_of raw))) }
 {
     match StringRecord::from_byte_record(raw) {
         Ok(text) => Ok(text),
@@ -79,7 +82,7 @@ fn repeats(alloc: Global, names: &StringRecord) -> Result<bool, NoMemory>
 
 // A sheet with these columns and no row.
 fn columns(alloc: Global, names: &StringRecord) -> Result<SheetBuilder, NoMemory>
-    ensures { IfOk result (λ b. b ≡ record { names = fields_of names.now; rows = []; begun = [] }) }
+    ensures { IfOk result (λ b. b ≡ draft_with_names (fields_of names.now)) }
 {
     let mut sheet = SheetBuilder::new(alloc);
     for i in 0..names.len() {
@@ -90,7 +93,8 @@ fn columns(alloc: Global, names: &StringRecord) -> Result<SheetBuilder, NoMemory
 
 // A sheet with the header that is the table's first record, and the record's memory.
 fn header(alloc: Global, raw: ByteRecord) -> Result<(SheetBuilder, ByteRecord), TableFault>
-    ensures ok { IfOk result (λ p. (p.0 ≡ record { names = fields_of raw; rows = []; begun = [] }) × IsHeader (fields_of raw)) }
+    ensures ok { IfOk result (λ p. (p.0 ≡ draft_with_names (fields_of raw))
+        × IsHeader (fields_of raw)) }
     ensures err { IfErr result (HeaderFault (fields_of raw)) }
 {
     let names = text_of(raw)?;
@@ -106,7 +110,7 @@ fn add_fields(sheet: &mut SheetBuilder, fields: &StringRecord) -> Result<(), NoM
     requires none { sheet.old.begun ≡ [] }
     requires same { length (fields_of fields.now) ≡ length sheet.old.names }
     requires room { length sheet.old.rows + 1 < 2 ^ 32 }
-    ensures { OnOk result (sheet.new ≡ record { names = sheet.old.names; rows = sheet.old.rows ++ fields_of fields.now ∷ []; begun = [] }) }
+    ensures { OnOk result (sheet.new ≡ draft_with_row sheet.old (fields_of fields.now)) }
 {
     for i in 0..fields.len() {
         sheet.add_field(field(fields, i))?;
@@ -119,7 +123,8 @@ fn add_fields(sheet: &mut SheetBuilder, fields: &StringRecord) -> Result<(), NoM
 fn add_row(sheet: &mut SheetBuilder, raw: ByteRecord) -> Result<ByteRecord, TableFault>
     requires none { sheet.old.begun ≡ [] }
     requires room { length sheet.old.rows + 1 < 2 ^ 32 }
-    ensures ok { IfOk result (λ _. (sheet.new ≡ record { names = sheet.old.names; rows = sheet.old.rows ++ fields_of raw ∷ []; begun = [] }) × (length (fields_of raw) ≡ length sheet.old.names) × AllText (fields_of raw)) }
+    ensures ok { OnOk result ((sheet.new ≡ draft_with_row sheet.old (fields_of raw))
+        × (length (fields_of raw) ≡ length sheet.old.names) × AllText (fields_of raw)) }
     ensures err { IfErr result (RowFault sheet.old.names (fields_of raw)) }
 {
     if raw.len() != sheet.width() {
@@ -161,18 +166,20 @@ fn read_all<R: Read>(alloc: Global, reader: &mut Reader<R>) -> Result<Table, Tab
 }
 
 impl Table {
-    /// Reads a table to the reader's end, as the crate `csv` reads with its default settings: RFC 4180,
-    /// nothing trimmed. The first record is the header.
+    /// Reads a table to the reader's end, as the crate `csv` reads with its default settings: RFC
+    /// 4180, nothing trimmed. The first record is the header.
     ///
     /// # Errors
     ///
-    /// The faults of the header come first, in the order `NoHeader`, `NotText`, `DuplicateColumn`, then
-    /// those of each record in turn, in the order `BadRecord`, `NotText`, `TooManyRows`. A reader that
-    /// fails is `ReadFault`, and a growth that is refused is `NoMemory`, each when it comes.
+    /// The faults of the header come first, in the order `NoHeader`, `NotText`, `DuplicateColumn`,
+    /// then those of each record in turn, in the order `BadRecord`, `NotText`, `TooManyRows`. A
+    /// reader that fails is `ReadFault`, and a growth that is refused is `NoMemory`, each when it
+    /// comes.
     ///
     /// The result is that of the reader's text where the reader tells its bytes.
     pub fn read<R: Read + Drop>(alloc: Global, reader: R) -> Result<Table, TableFault>
-        ensures { (bytes : List ℕ) → R.remaining reader ≡ Some bytes → ReadIs (strip_bom bytes) result }
+        ensures { (bytes : List ℕ) → R.remaining reader ≡ Some bytes
+            → ReadIs (strip_bom bytes) result }
     {
         let mut reader = ReaderBuilder::new()
             .has_headers(false)

@@ -1,11 +1,10 @@
 //! A source that answers each key with the rows of that key.
-ghost use Rattle.std.specs.Prelude.{◌≡◌, IfOk, IfErr, Some, None, map, Contains};
+ghost use Rattle.std.specs.Prelude.{◌≡◌, IfOk, IfErr, OnOk, map, Contains};
 ghost use Rattle.load_memory.specs.Keys.{key_of};
 ghost use Rattle.load_memory.specs.Outcomes.{item_of};
-ghost use Rattle.load_memory.specs.declared.key.KeyMode.TheVariants as modes;
 ghost use Rattle.csv_source.specs.Faults.{ColumnFault};
 ghost use Rattle.load_queue.specs.Answers.{given};
-ghost use Rattle.csv_source.specs.Tables.{rows_of, rows_of_key, item_of_key};
+ghost use Rattle.csv_source.specs.Tables.{rows_of, rows_of_key, item_of_key, source_of_all, source_by};
 ghost use Rattle.csv_source.specs.KeyLaws.{item_of_key-folded};
 
 use crate::fault::TableFault;
@@ -24,8 +23,8 @@ enum Finder<'t> {
     Shared(&'t ColumnIndex),
 }
 
-/// A source over a table: by a column, it has for a text the rows whose column equals the text; without
-/// one, it has all rows for `All`. It never fails but for want of memory.
+/// A source over a table: by a column, it has for a text the rows whose column equals the text;
+/// without one, it has all rows for `All`. It never fails but for want of memory.
 ///
 /// A contract sees it as its rows, its column, if it has one, and its mode.
 #[derive(Drop)]
@@ -58,7 +57,7 @@ fn all_rows(alloc: Global, table: &Table) -> Result<Vec<Row>, NoMemory>
 impl<'t> CsvSource<'t> {
     /// The source of all rows of a table.
     pub fn all(table: &'t Table) -> CsvSource<'t>
-        ensures { result ≡ record { rows = rows_of table.now; column = None; mode = modes.Exact } }
+        ensures { result ≡ source_of_all (rows_of table.now) }
     {
         CsvSource {
             finder: Finder::All(table),
@@ -76,7 +75,8 @@ impl<'t> CsvSource<'t> {
         column: &str,
         mode: KeyMode,
     ) -> Result<CsvSource<'t>, TableFault>
-        ensures ok { IfOk result (λ s. (s ≡ record { rows = rows_of table.now; column = Some column.now; mode = mode }) × Contains table.now.names column.now) }
+        ensures ok { IfOk result (λ s. s ≡ source_by (rows_of table.now) column.now mode) }
+        ensures there { OnOk result (Contains table.now.names column.now) }
         ensures err { IfErr result (ColumnFault table.now.names column.now) }
     {
         let index = ColumnIndex::new(alloc, table, column, mode)?;
@@ -87,7 +87,7 @@ impl<'t> CsvSource<'t> {
 
     /// The source by an index that is there.
     pub fn of_index(index: &'t ColumnIndex) -> CsvSource<'t>
-        ensures { result ≡ record { rows = index.now.rows; column = Some index.now.column; mode = index.now.mode } }
+        ensures { result ≡ source_by index.now.rows index.now.column index.now.mode }
     {
         CsvSource {
             finder: Finder::Shared(index),

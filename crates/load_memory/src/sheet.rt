@@ -1,10 +1,10 @@
 //! The cells of a table in little memory: one text for all of them, and the place where each ends.
 //!
-//! A [`SheetBuilder`] takes the names of the columns and then the cells row by row. The [`Sheet`] that
-//! it becomes is shared by the rows that are taken from it.
+//! A [`SheetBuilder`] takes the names of the columns and then the cells row by row. The [`Sheet`]
+//! that it becomes is shared by the rows that are taken from it.
 ghost use Rattle.std.specs.Prelude.{◌≡◌, ◌<◌, ◌-◌, ◌+◌, ◌++◌, ◌∷◌, ◌^◌, [], OnOk, OnErr, get_or, ◌==◌, length, position, bytes_eq, ℕ};
 ghost use Rattle.load_memory.specs.Cells.{start_at};
-ghost use Rattle.load_memory.specs.Rows.{SheetOf, DraftOf, IsRectangular};
+ghost use Rattle.load_memory.specs.Rows.{IsRectangular, draft_with_names, draft_with_row};
 
 use crate::no_memory::NoMemory;
 use std::alloc::Global;
@@ -82,8 +82,8 @@ impl Cells {
 
 /// A sheet that is being filled.
 ///
-/// A contract sees it as its columns, its whole rows, and the fields of the row that was begun. After a
-/// want of memory it is as it was.
+/// A contract sees it as its columns, its whole rows, and the fields of the row that was begun.
+/// After a want of memory it is as it was.
 #[derive(Drop)]
 pub struct SheetBuilder {
     cells: Cells,
@@ -105,7 +105,7 @@ impl Model for SheetBuilder {
 impl SheetBuilder {
     /// A sheet with no column and no row.
     pub fn new(alloc: Global) -> SheetBuilder
-        ensures { result ≡ record { names = []; rows = []; begun = [] } }
+        ensures { result ≡ draft_with_names [] }
     {
         SheetBuilder {
             cells: Cells::new(alloc),
@@ -146,7 +146,7 @@ impl SheetBuilder {
     pub fn end_row(&mut self)
         requires filled { length self.old.begun ≡ length self.old.names }
         requires room { length self.old.rows + 1 < 2 ^ 32 }
-        ensures { self.new ≡ record { names = self.old.names; rows = self.old.rows ++ self.old.begun ∷ []; begun = [] } }
+        ensures { self.new ≡ draft_with_row self.old self.old.begun }
     {
         self.rows += 1;
     }

@@ -31,4 +31,7 @@ invariant_of-result c = record {
 pub returns-clause-ok : goal.returns-clause-ok
 returns-clause-ok c =
     let at = rw c.deref.ensures at c.in-Some.ensures in
-    rw (← c.table.view_is) (rw (c.in_ok-sheet.ensures, found-name _ _ c.in-Some.column at) refl, found _ _ c.in-Some.column at)
+    rw (← c.table.view_is, c.in_ok-sheet.ensures, found-name _ _ c.in-Some.column at) refl
+
+pub returns-clause-there : goal.returns-clause-there
+returns-clause-there c = rw (← c.table.view_is) (found _ _ c.in-Some.column (rw c.deref.ensures at c.in-Some.ensures))
