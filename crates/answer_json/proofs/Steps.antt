@@ -1,5 +1,5 @@
 -- Runs of tokens, one after another, and reading them back.
-use Rattle.std.proofs.Common.{◌≡◌, ◌≤◌, ℕ, List, [], ◌∷◌, ◌++◌, sym, ap, ◌∙◌, append_assoc, append-nil, Result, Ok, Err, OnOk, Some, option_and_then}
+use Rattle.std.proofs.Common.{◌≡◌, ◌≤◌, ℕ, List, [], ◌++◌, sym, ap, ◌∙◌, append_assoc, append-nil, Result, Ok, Err, OnOk, Some, option_and_then}
 use Rattle.json.specs.Token.{Token}
 use Rattle.json.specs.Json.{Json, if_last, value}
 use Rattle.json.specs.Lex.{tokens}

@@ -1,5 +1,4 @@
 use Rattle.std.proofs.Common.{◌++◌, ap, ◌∙◌, string_bytes}
-use Rattle.json.specs.Lex.{tokens}
 use Rattle.json.specs.Tree.{json_tokens}
 use Rattle.answer_json.specs.Answer.{answer_json}
 use Rattle.answer_json.proofs.Steps.{reads}
