@@ -1,2 +1,10 @@
-//! The tree of a GraphQL document.
+//! The tree of a GraphQL document (October 2021, section 2), from its text.
 #![tactic(auto)]
+
+mod keyword;
+mod tree;
+
+pub use tree::{
+    Argument, Directive, Document, Field, Fragment, Inline, Literal, Operation, OperationKind,
+    Selection, SelectionSet, Spread, TypeCondition, TypeRef, Value, VariableDefinition,
+};
