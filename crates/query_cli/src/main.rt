@@ -1,0 +1,17 @@
+//! Answers the first line of standard input, a request, by one line on standard output.
+#![tactic(auto)]
+
+mod fault;
+mod input;
+mod output;
+
+fn main(rt: HostRuntime) -> std::process::ExitCode {
+    let mut block = [0u8; 64];
+    let mut reader = rt.reader();
+    let line = input::read_line(rt.alloc(), &mut reader, &mut block);
+    let mut writer = std::io::writer(&rt);
+    if let Ok(Some(line)) = line {
+        let _ = output::write_out(&mut writer, &line);
+    }
+    std::process::ExitCode::from(fault::Fault::NoMemory.status())
+}
