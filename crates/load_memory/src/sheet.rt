@@ -1,0 +1,230 @@
+//! The cells of a table in little memory: one text for all of them, and the place where each ends.
+//!
+//! A [`SheetBuilder`] takes the names of the columns and then the cells row by row. The [`Sheet`] that
+//! it becomes is shared by the rows that are taken from it.
+ghost use Rattle.std.specs.Prelude.{◌≡◌, ◌<◌, ◌-◌, ◌+◌, ◌++◌, ◌∷◌, ◌^◌, [], OnOk, OnErr, get_or, ◌==◌, length, position, bytes_eq, ℕ};
+ghost use Rattle.load_memory.specs.Cells.{start_at};
+ghost use Rattle.load_memory.specs.Rows.{SheetOf, DraftOf, IsRectangular};
+
+use crate::no_memory::NoMemory;
+use std::alloc::Global;
+use std::marker::Model;
+
+// Where the text that ends at the place of this index starts.
+fn start_of(ends: &[usize], i: usize) -> usize
+    requires { i < length ends.now }
+    ensures { result ≡ start_at 0 ends.now i }
+{
+    if i == 0 { 0 } else { ends[i - 1] }
+}
+
+/// Texts in order, kept as one text and the places where they end.
+#[derive(Drop)]
+struct Cells {
+    text: String,
+    ends: Vec<usize>,
+}
+
+impl Model for Cells {
+    ghost use Rattle.std.specs.Prelude.{List, ℕ, string_bytes};
+    ghost use Rattle.load_memory.specs.Cells.{cut, IsCut};
+
+    ghost Value = { List (List ℕ) };
+
+    ghost view = { λ c. cut (string_bytes c.text) 0 c.ends.items };
+
+    ghost invariant = { λ c. IsCut (string_bytes c.text) 0 c.ends.items };
+}
+
+impl Cells {
+    fn new(alloc: Global) -> Cells
+        ensures { result ≡ [] }
+    {
+        Cells {
+            text: String::new(alloc),
+            ends: Vec::new(alloc),
+        }
+    }
+
+    fn len(&self) -> usize
+        ensures { result ≡ length self.now }
+    {
+        self.ends.len()
+    }
+
+    // There are fewer texts than `usize` counts, as the places show.
+    fn count_fits(&self)
+        ensures { length self.now < 2 ^ 64 }
+    {
+        let _count = self.ends.len();
+    }
+
+    fn get(&self, i: usize) -> &str
+        requires { i < length self.now }
+        ensures { result.now ≡ get_or self.now i [] }
+    {
+        let start = start_of(&self.ends, i);
+        let end = self.ends[i];
+        &self.text.as_str()[start..end]
+    }
+
+    fn push(&mut self, text: &str) -> Result<(), NoMemory>
+        ensures ok { OnOk result (self.new ≡ self.old ++ text.now ∷ []) }
+        ensures err { OnErr result (self.new ≡ self.old) }
+    {
+        self.ends.reserve(1)?;
+        self.text.push_str(text)?;
+        let end = self.text.len();
+        self.ends.push(end)?;
+        Ok(())
+    }
+}
+
+/// A sheet that is being filled.
+///
+/// A contract sees it as its columns, its whole rows, and the fields of the row that was begun. After a
+/// want of memory it is as it was.
+#[derive(Drop)]
+pub struct SheetBuilder {
+    cells: Cells,
+    width: usize,
+    rows: u32,
+}
+
+impl Model for SheetBuilder {
+    ghost use Rattle.load_memory.specs.Rows.{DraftOf};
+    ghost use Rattle.load_memory.specs.Cells.{draft_of, HasSheet};
+
+    ghost Value = { DraftOf };
+
+    ghost view = { λ b. draft_of b.width b.rows b.cells };
+
+    ghost invariant = { λ b. HasSheet b.width b.rows b.cells };
+}
+
+impl SheetBuilder {
+    /// A sheet with no column and no row.
+    pub fn new(alloc: Global) -> SheetBuilder
+        ensures { result ≡ record { names = []; rows = []; begun = [] } }
+    {
+        SheetBuilder {
+            cells: Cells::new(alloc),
+            width: 0,
+            rows: 0,
+        }
+    }
+
+    /// Adds a column at the right. All columns come before the first field.
+    pub fn add_column(&mut self, name: &str) -> Result<(), NoMemory>
+        requires no_row { self.old.rows ≡ [] }
+        requires no_field { self.old.begun ≡ [] }
+        ensures ok { OnOk result (self.new ≡ record self.old { names = self.old.names ++ name.now ∷ [] }) }
+        ensures err { OnErr result (self.new ≡ self.old) }
+    {
+        self.cells.push(name)?;
+        self.width = self.cells.len();
+        Ok(())
+    }
+
+    /// Adds a field to the row that was begun, or begins one.
+    pub fn add_field(&mut self, text: &str) -> Result<(), NoMemory>
+        ensures ok { OnOk result (self.new ≡ record self.old { begun = self.old.begun ++ text.now ∷ [] }) }
+        ensures err { OnErr result (self.new ≡ self.old) }
+    {
+        self.cells.push(text)?;
+        Ok(())
+    }
+
+    /// Ends the row that was begun, which has a field for each column.
+    pub fn end_row(&mut self)
+        requires filled { length self.old.begun ≡ length self.old.names }
+        requires room { length self.old.rows + 1 < 2 ^ 32 }
+        ensures { self.new ≡ record { names = self.old.names; rows = self.old.rows ++ self.old.begun ∷ []; begun = [] } }
+    {
+        self.rows += 1;
+    }
+
+    /// The sheet, once each row that was begun has ended.
+    pub fn finish(self) -> Sheet
+        requires { self.begun ≡ [] }
+        ensures { result ≡ record { names = self.names; rows = self.rows } }
+    {
+        let SheetBuilder { cells, width, rows } = self;
+        Sheet { cells, width, rows }
+    }
+}
+
+/// A header and rows of fields, each row as wide as the header.
+///
+/// A contract sees it as the list of its column names and the list of its rows.
+#[derive(Drop)]
+pub struct Sheet {
+    cells: Cells,
+    width: usize,
+    rows: u32,
+}
+
+impl Model for Sheet {
+    ghost use Rattle.load_memory.specs.Rows.{SheetOf};
+    ghost use Rattle.load_memory.specs.Cells.{sheet_of, HasSheet};
+
+    ghost Value = { SheetOf };
+
+    ghost view = { λ s. sheet_of s.width s.rows s.cells };
+
+    ghost invariant = { λ s. HasSheet s.width s.rows s.cells };
+}
+
+impl Sheet {
+    /// How many columns there are.
+    pub fn width(&self) -> usize
+        ensures { result ≡ length self.now.names }
+    {
+        self.width
+    }
+
+    /// How many rows there are.
+    pub fn len(&self) -> u32
+        ensures count { result ≡ length self.now.rows }
+        ensures rectangular { IsRectangular self.now }
+    {
+        self.rows
+    }
+
+    /// Whether there is no row.
+    pub fn is_empty(&self) -> bool
+        ensures { result ≡ (length self.now.rows == 0) }
+    {
+        self.rows == 0
+    }
+
+    /// The name of a column, counted from 0.
+    pub fn name(&self, column: usize) -> &str
+        requires { column < length self.now.names }
+        ensures { result.now ≡ get_or self.now.names column [] }
+    {
+        self.cells.get(column)
+    }
+
+    /// The first column of that name, counted from 0.
+    pub fn column(&self, name: &str) -> Option<usize>
+        ensures { result ≡ position (λ n. bytes_eq n name.now) self.now.names }
+    {
+        for column in 0..self.width {
+            if self.name(column) == name {
+                return Some(column);
+            }
+        }
+        None
+    }
+
+    /// A field, by its row and its column, each counted from 0.
+    pub fn field(&self, row: u32, column: usize) -> &str
+        requires row { row < length self.now.rows }
+        requires column { column < length self.now.names }
+        ensures { result.now ≡ get_or (get_or self.now.rows row []) column [] }
+    {
+        self.cells.count_fits();
+        self.cells.get((row as usize + 1) * self.width + column)
+    }
+}

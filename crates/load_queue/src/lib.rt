@@ -1,0 +1,21 @@
+//! Sources, the loaders that ask them, the orders that alone call them, and the keys that are
+//! wanted of each loader.
+//!
+//! The layer above may rely on this: only [`Loader::cut`] makes an [`Order`], and enters it in the
+//! loader's log as it does; only an order that is spent by [`Order::run`] calls a source, once; and
+//! the reply has, place by place, an answer that the source may give for the order's keys.
+#![tactic(auto)]
+
+
+
+pub mod per_key;
+pub mod source;
+
+
+
+
+
+
+pub use per_key::PerKey;
+pub use source::{Asks, FetchFault, Source};
+
