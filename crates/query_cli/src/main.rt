@@ -4,6 +4,7 @@
 mod fault;
 mod input;
 mod output;
+mod request;
 
 fn main(rt: HostRuntime) -> std::process::ExitCode {
     let mut block = [0u8; 64];
