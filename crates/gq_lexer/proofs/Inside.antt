@@ -125,7 +125,7 @@ pub record IsBetween (q : Quotes) (bs : List ℕ) : Type 0 where
   pub whole : bs ≡ quotes_of q ++ (body ++ quotes_of q)
   pub len : length bs ≡ length (quotes_of q) + length body + length (quotes_of q)
 
-pub quoted_between : (q : Quotes) (bs rest : List ℕ) → IsQuoted q bs rest → IsBetween q bs
+abbrev pub quoted_between : (q : Quotes) (bs rest : List ℕ) → IsQuoted q bs rest → IsBetween q bs
 quoted_between q bs rest h =
     let body = concat h.pieces in
     record { body = body; whole = h.whole; len = omega (arith, ap length h.whole, length-append (quotes_of q) (body ++ quotes_of q), length-append body (quotes_of q)) }
