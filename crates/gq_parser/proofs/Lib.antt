@@ -1,0 +1,5 @@
+pub mod Means
+pub mod Back
+pub mod Stops
+pub mod Whole
+pub mod Unique

@@ -1,9 +1,13 @@
 //! The tree of a GraphQL document (October 2021, section 2), from its text.
 #![tactic(auto)]
 
+mod fault;
 mod keyword;
+mod law;
 mod tree;
 
+pub use fault::ParseFault;
+pub use law::one_tree;
 pub use tree::{
     Argument, Directive, Document, Field, Fragment, Inline, Literal, Operation, OperationKind,
     Selection, SelectionSet, Spread, TypeCondition, TypeRef, Value, VariableDefinition,
