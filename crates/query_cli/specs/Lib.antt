@@ -1,3 +1,5 @@
 pub mod Fault
+pub mod Form
 pub mod Line
 pub mod Request
+pub mod Seen
