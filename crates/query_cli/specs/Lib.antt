@@ -3,3 +3,4 @@ pub mod Form
 pub mod Line
 pub mod Request
 pub mod Seen
+pub mod World

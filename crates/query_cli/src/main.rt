@@ -6,6 +6,7 @@ mod form;
 mod input;
 mod output;
 mod request;
+mod world;
 
 fn main(rt: HostRuntime) -> std::process::ExitCode {
     let mut block = [0u8; 64];
