@@ -6,6 +6,7 @@ mod form;
 mod input;
 mod output;
 mod request;
+mod rules;
 mod world;
 
 fn main(rt: HostRuntime) -> std::process::ExitCode {
