@@ -1,5 +1,5 @@
 -- The answer of a document of the form that is served.
-use Rattle.std.specs.Prelude.{ℕ, Bool, not, ◌||◌, List, [], ◌∷◌, ◌++◌, map, find, filter, Option, Some, None, codes, bytes_eq, slice_get, if◌then◌else◌}
+use Rattle.std.specs.Prelude.{ℕ, Bool, not, ◌||◌, ◌==◌, length, List, [], ◌∷◌, ◌++◌, map, find, filter, Option, Some, None, codes, bytes_eq, slice_get, if◌then◌else◌}
 use Rattle.json.specs.Json.{Json, null, string, object, Members, no_members, member}
 use Rattle.gq_lexer.specs.declared.place.Place.{Place}
 use Rattle.load_memory.specs.Rows.{RowOf, cell_of}
@@ -46,8 +46,7 @@ each_once (n ∷ ns) = n ∷ filter (λ m. not (bytes_eq m n)) (each_once ns)
 -- a field that is empty is null
 abbrev pub cell_json : Option (List ℕ) → Json
 cell_json None = null
-cell_json (Some []) = null
-cell_json (Some (b ∷ bs)) = string (b ∷ bs)
+cell_json (Some text) = if length text == 0 then null else string text
 
 abbrev pub cells_json : RowOf → List (List ℕ) → Members
 cells_json row [] = no_members
@@ -58,8 +57,12 @@ abbrev pub user_json : List (List ℕ) → Option RowOf → Json
 user_json names None = null
 user_json names (Some row) = object (cells_json row (each_once names))
 
+-- the object of the root, whose one field is asked
+abbrev pub root_json : Json → Json
+root_json user = object (member (codes "user") user no_members)
+
 abbrev pub data_json : Json → Json
-data_json user = object (member (codes "data") (object (member (codes "user") user no_members)) no_members)
+data_json root = object (member (codes "data") root no_members)
 
 -- ---- the answer
 
@@ -68,7 +71,7 @@ names_of ns = map (λ n. n.text) ns
 
 abbrev pub answer_unless : AskedOf → Option Broken → Json
 answer_unless a (Some b) = refusal_json (message_of b) (Some (place_of b))
-answer_unless a None = data_json (user_json (names_of a.fields) (slice_get (rows_of_key users a.key) 0))
+answer_unless a None = data_json (root_json (user_json (names_of a.fields) (slice_get (rows_of_key users a.key) 0)))
 
 abbrev pub answer_of : AskedOf → Json
 answer_of a = answer_unless a (broken_rule a)
