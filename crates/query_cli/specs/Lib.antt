@@ -1,6 +1,7 @@
 pub mod Answer
 pub mod Fault
 pub mod Form
+pub mod IsAnswer
 pub mod Line
 pub mod Request
 pub mod Seen

@@ -1,6 +1,7 @@
 //! Answers the first line of standard input, a request, by one line on standard output.
 #![tactic(auto)]
 
+mod answer;
 mod data;
 mod fault;
 mod form;
