@@ -1,19 +1,24 @@
 //! The answer of a line.
 
-ghost use Rattle.std.specs.Prelude.{◌≡◌, Some, None, IfOk, codes, string_bytes, option_map, option_copied};
+ghost use Rattle.std.specs.Prelude.{◌≡◌, ◌↔◌, IsTrue, Some, None, IfOk, codes, string_bytes, option_map, option_copied};
+ghost use Rattle.gq_parser.specs.Tree as trees;
+ghost use Rattle.gq_parser.specs.Tree.{document_of};
+ghost use Rattle.gq_parser.specs.Fault.{IsDocumentOf};
 ghost use Rattle.answer_json.specs.Answer.{json_text, refusal_json};
 ghost use Rattle.answer_json.specs.Response.{response_json};
 ghost use Rattle.query_cli.specs.Answer.{answer_of, data_json};
-ghost use Rattle.query_cli.specs.IsAnswer.{token_message, fault_message};
+ghost use Rattle.query_cli.specs.IsAnswer.{token_message, fault_message, BeginsAt, AnswersQuery, IsAnswer};
 ghost use Rattle.query_cli.specs.Seen.{asked_seen};
 
 use crate::data::data;
-use crate::form::Asked;
+use crate::form::{Asked, asked_document};
+use crate::request::query_of;
 use crate::rules::broken_rule;
+use crate::stub::parse;
 use crate::world::user_of;
 use answer_json::{Response, write_answer, write_refusal};
-use gq_lexer::{LexFault, Place};
-use gq_parser::ParseFault;
+use gq_lexer::{LexFault, Place, lex};
+use gq_parser::{Document, ParseFault};
 use load_memory::NoMemory;
 use std::alloc::Global;
 
@@ -78,5 +83,73 @@ fn fault_message(fault: &ParseFault) -> &'static str
         ParseFault::UnexpectedEnd(_) => "unexpected end",
         ParseFault::TooDeep(_) => "too deep",
         ParseFault::NoMemory => "out of memory",
+    }
+}
+
+/// Whether memory was refused.
+fn is_want_of_memory(fault: &ParseFault) -> bool
+    ensures { IsTrue result ↔ (fault.now ≡ ParseFault.NoMemory) }
+{
+    matches!(fault, ParseFault::NoMemory)
+}
+
+/// The place of the first token of a query that is a document.
+fn first_place(alloc: Global, query: &str) -> Result<Place, NoMemory>
+    requires { (d : trees.Document) × IsDocumentOf query.now d }
+    ensures { IfOk result (BeginsAt query.now) }
+{
+    let Ok(tokens) = lex(alloc, query) else {
+        return Err(NoMemory);
+    };
+    match tokens.first() {
+        Some(token) => Ok(Place {
+            line: token.line,
+            column: token.column,
+        }),
+        None => unreachable!(),
+    }
+}
+
+/// The answer of a query that is a document.
+fn answer_document(alloc: Global, query: &str, document: &Document) -> Result<String, NoMemory>
+    requires { IsDocumentOf query.now (document_of document.now) }
+    ensures { IfOk result (λ text. AnswersQuery query.now (string_bytes text)) }
+{
+    match asked_document(alloc, document)? {
+        Some(asked) => answer_asked(alloc, &asked),
+        None => {
+            let place = first_place(alloc, query)?;
+            refusal(alloc, "not served: document", Some(place))
+        }
+    }
+}
+
+/// The answer of a query.
+fn answer_query(alloc: Global, query: &str) -> Result<String, NoMemory>
+    ensures { IfOk result (λ text. AnswersQuery query.now (string_bytes text)) }
+{
+    match parse(alloc, query) {
+        Ok(document) => answer_document(alloc, query, &document),
+        Err(fault) => {
+            if is_want_of_memory(&fault) {
+                return Err(NoMemory);
+            }
+            refusal(alloc, fault_message(&fault), fault.place())
+        }
+    }
+}
+
+/// The answer of a line, one line without its line feed. The line is a JSON object with a string `query`; other members
+/// are ignored. What it asks is looked up in the built-in world.
+///
+/// # Errors
+///
+/// Only where a growth was refused.
+pub fn answer_line(alloc: Global, line: &[u8]) -> Result<String, NoMemory>
+    ensures { IfOk result (λ text. IsAnswer line.now (string_bytes text)) }
+{
+    match query_of(alloc, line)? {
+        Some(query) => answer_query(alloc, query.as_str()),
+        None => refusal(alloc, "not a request", None),
     }
 }

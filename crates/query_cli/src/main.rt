@@ -9,6 +9,7 @@ mod input;
 mod output;
 mod request;
 mod rules;
+mod stub;
 mod world;
 
 fn main(rt: HostRuntime) -> std::process::ExitCode {
