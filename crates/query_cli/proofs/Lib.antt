@@ -2,3 +2,4 @@ pub mod Known
 pub mod Lines
 pub mod Names
 pub mod Answering
+pub mod Runs

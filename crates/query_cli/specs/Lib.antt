@@ -4,5 +4,6 @@ pub mod Form
 pub mod IsAnswer
 pub mod Line
 pub mod Request
+pub mod Run
 pub mod Seen
 pub mod World

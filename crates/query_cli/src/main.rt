@@ -1,4 +1,7 @@
 //! Answers the first line of standard input, a request, by one line on standard output.
+//!
+//! A request is a JSON object with a string `query`, which asks for a user of a built-in table. The exit status is 0; 4 where
+//! the line is too long or standard input or output fails, and 5 where memory is refused, with one line on standard error.
 #![tactic(auto)]
 
 mod answer;
@@ -9,16 +12,24 @@ mod input;
 mod output;
 mod request;
 mod rules;
+mod run;
 mod stub;
 mod world;
 
-fn main(rt: HostRuntime) -> std::process::ExitCode {
-    let mut block = [0u8; 64];
-    let mut reader = rt.reader();
-    let line = input::read_line(rt.alloc(), &mut reader, &mut block);
-    let mut writer = std::io::writer(&rt);
-    if let Ok(Some(line)) = line {
-        let _ = output::write_out(&mut writer, &line);
+use run::run;
+use std::io;
+use std::process::ExitCode;
+
+#[cfg(test)]
+mod tests;
+
+fn main(rt: HostRuntime) -> ExitCode {
+    match run(rt.alloc(), &mut rt.reader(), &mut io::writer(&rt)) {
+        Ok(()) => ExitCode::from(0),
+        Err(fault) => {
+            let line = fault.line();
+            let _ = eprintln!(rt; "{line}");
+            ExitCode::from(fault.status())
+        }
     }
-    std::process::ExitCode::from(fault::Fault::NoMemory.status())
 }
