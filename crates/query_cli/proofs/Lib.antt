@@ -3,3 +3,5 @@ pub mod Lines
 pub mod Names
 pub mod Answering
 pub mod Runs
+pub mod OneFault
+pub mod OneAnswer

@@ -9,6 +9,7 @@ mod data;
 mod fault;
 mod form;
 mod input;
+mod law;
 mod output;
 mod request;
 mod rules;
