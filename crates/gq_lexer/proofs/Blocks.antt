@@ -1,17 +1,17 @@
 -- Block strings: raw values, lines and indents.
 use Rattle.std.proofs.Common.{◌≡◌, ℕ, suc, zero, ◌+◌, ◌-◌, ◌<◌, ◌≤◌, Bool, true, false, cond, not, ◌&&◌, List, [], ◌∷◌, ◌++◌, length, get_or, set, take, drop, map, reverse, min, Option, Some, None, Result, Ok, Err, IfOk, IsUtf8, refl, sym, ap, subst, ◌∙◌, arith, append_assoc, eqb, ltb, inl, inr}
 use Rattle.std.specs.Prelude.{nat_eq}
-use Rattle.std.specs.List.{list_all, prefix_len, starts_with, join_with_byte, AllByRecursion}
+use Rattle.std.specs.List.{prefix_len, starts_with, join_with_byte, AllByRecursion}
 use Rattle.std.specs.Str.{IsCharBoundary}
 use Rattle.std.proofs.iter.FirstChar.{cut, beside_ascii, at_start}
 use Rattle.std.proofs.lemmas.Bool.{cases_Bool, and_parts, eqb-true, ne_eqb, ltb-true, ltb-false, true≢false}
-use Rattle.std.proofs.lemmas.List.{append-nil, take_at, take_all, drop_at, drop_all, take_rest, take_more, take-append-drop, drop-map, take-map, length-map, length-append, length-drop, length-reverse, reverse-append, reverse-reverse, map-set, map-append}
+use Rattle.std.proofs.lemmas.List.{append-nil, take_all, drop_at, drop_all, take_more, take-append-drop, drop-map, take-map, length-map, length-drop, length-reverse, reverse-append, reverse-reverse, map-set, map-append}
 use Rattle.std.proofs.lemmas.List.Sums.{prefix_len-le-length, prefix_len_passes, prefix_len_stops}
 use Rattle.std.proofs.Math.ListN.{get_or-map}
 use borrow.Rule.Slice.PartMut.{put_mid}
 use Rattle.std.proofs.lemmas.Bool.Decides.{nat_tests}
-use Rattle.gq_lexer.specs.Place.{ends_line, ends_no_line}
-use Rattle.gq_lexer.specs.Block.{raw_of, is_blank, is_blank_line, lines_of, on_first, indent_of, least, common_indent, without_indent, unindented, drop_blank, trimmed, block_value}
+use Rattle.gq_lexer.specs.Place.{ends_no_line}
+use Rattle.gq_lexer.specs.Block.{raw_of, is_blank, is_blank_line, lines_of, least, common_indent, without_indent, unindented, drop_blank, trimmed, block_value}
 use Rattle.gq_lexer.specs.Lines.{line_end_len}
 use Rattle.gq_lexer.specs.Unescape.{is_plain}
 use Rattle.gq_lexer.specs.Grammar.{NoneNext}
@@ -47,16 +47,6 @@ no_elements [] h = refl
 no_elements (x ∷ xs) h = absurd (omega arith)
 
 -- ---- the common indent
-
-pub least_assoc : (a b c : Option ℕ) → least (least a b) c ≡ least a (least b c)
-least_assoc None b c = refl
-least_assoc (Some a) None c = refl
-least_assoc (Some a) (Some b) None = refl
-least_assoc (Some a) (Some b) (Some c) = ap (λ (n : ℕ). Some n) (let e : min (min a b) c ≡ min a (min b c) = omega arith in e)
-
-pub least_none : (a : Option ℕ) → least a None ≡ a
-least_none None = refl
-least_none (Some a) = refl
 
 -- a line has at least so many tabs and spaces at its front, or nothing else
 abbrev IsIndented : ℕ → List ℕ → Type 0

@@ -1,5 +1,5 @@
 -- String tokens: where their quotes stand, and what their values are.
-use Rattle.std.proofs.Common.{◌≡◌, ℕ, suc, ◌+◌, ◌-◌, ◌<◌, ◌≤◌, Bool, true, false, cond, ◌&&◌, eqb, List, [], ◌∷◌, ◌++◌, length, get_or, take, drop, IsUtf8, slice_range, refl, sym, ap, subst, ◌∙◌, arith, append_assoc, inl, inr}
+use Rattle.std.proofs.Common.{◌≡◌, ℕ, ◌-◌, ◌≤◌, Bool, true, false, cond, ◌&&◌, eqb, List, [], ◌∷◌, ◌++◌, length, get_or, take, drop, IsUtf8, refl, sym, ap, subst, ◌∙◌, arith, inl, inr}
 use Rattle.std.specs.Prelude.{nat_eq}
 use Rattle.std.specs.List.{flat_map, concat, starts_with, AllByRecursion}
 use Rattle.std.proofs.lemmas.Bool.{and_parts, cases_Bool, eqb-true, true≢false}
@@ -10,18 +10,15 @@ use Rattle.std.proofs.lemmas.List.{take_at}
 use Rattle.std.proofs.Math.Seq.{get_or-append_seam}
 use Rattle.gq_lexer.specs.declared.token.Kind.{Kind}
 use Rattle.gq_lexer.specs.declared.token.Kind.TheVariants as kind
-use Rattle.gq_lexer.specs.declared.token.Token.{Token}
 use Rattle.gq_lexer.specs.declared.scan.Shape.TheVariants as shape
-use Rattle.gq_lexer.specs.declared.quoted.Quotes.{Quotes}
 use Rattle.gq_lexer.specs.declared.quoted.Quotes.TheVariants as quotes
-use Rattle.gq_lexer.specs.Element.{Element, plain, escape, unit, pair, spelled, unicode, unit_of, IsElement}
+use Rattle.gq_lexer.specs.Element.{Element, plain, escape, unit, pair, spelled, unicode, IsElement}
 use Rattle.gq_lexer.specs.Grammar.{IsPart, ReadsPieces, IsQuoted, IsBlockPiece, quotes_of}
-use Rattle.gq_lexer.specs.Tokens.{IsToken, bytes_of}
 use Rattle.gq_lexer.specs.Value.{value_of, IsSpelled, HasValue}
 use Rattle.gq_lexer.specs.Unescape.{is_plain, unescaped}
 use Rattle.gq_lexer.specs.Block.{raw_of, raw_piece, block_value}
 use Rattle.gq_lexer.specs.StringOf.{IsString, string_of, between}
-use Rattle.gq_lexer.proofs.Runs.{begins_with, begun_with}
+use Rattle.gq_lexer.proofs.Runs.{starts_more}
 use Rattle.gq_lexer.proofs.PieceLaws.{hex_found}
 use Rattle.gq_lexer.proofs.StringLaws.{reads_concat}
 use Rattle.gq_lexer.proofs.Inside.{IsBetween, quoted_between}
@@ -140,11 +137,6 @@ str_has_value bs rest h =
       spelled_so = spelled.spelled_so;
       value_is = ap (unescaped 0) (single_body bs (quoted_between quotes.Single bs rest h) ∙ spelled.spelled_so) ∙ all_values spelled.elements spelled.are;
     }
-
-starts_more : (needle bs more : List ℕ) → starts_with nat_eq bs needle ≡ true → starts_with nat_eq (bs ++ more) needle ≡ true
-starts_more needle bs more h =
-    let e : bs ++ more ≡ needle ++ (drop (length needle) bs ++ more) = ap (λ (x : List ℕ). x ++ more) (begins_with needle bs h) ∙ append_assoc needle (drop (length needle) bs) more in
-    rw e (begun_with needle (drop (length needle) bs ++ more))
 
 pieces_raw : (pieces : List (List ℕ)) (text tail : List ℕ) → ReadsPieces quotes.Triple pieces text tail → raw_of (concat pieces) ≡ flat_map raw_piece pieces
 unfolding raw_of

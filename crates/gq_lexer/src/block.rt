@@ -1,6 +1,6 @@
 //! The value of a block string.
 
-ghost use Rattle.std.specs.Prelude.{◌≡◌, ◌≤◌, ◌==◌, length, map, drop, reverse, min, nat_eq, IfOk};
+ghost use Rattle.std.specs.Prelude.{◌≡◌, ◌≤◌, length, map, drop, reverse, min, IfOk};
 ghost use Rattle.std.specs.List.{prefix_len, join_with_byte};
 ghost use Rattle.std.specs.String.{string_bytes};
 ghost use Rattle.gq_lexer.specs.Place.{ends_no_line};

@@ -3,3 +3,8 @@ pub mod Back
 pub mod Stops
 pub mod Whole
 pub mod Unique
+pub mod Views
+pub mod Front
+pub mod Steps
+pub mod Lists
+pub mod Documents

@@ -5,7 +5,8 @@ use Rattle.gq_lexer.specs.declared.token.Punct.TheVariants.{Bang, ParenLeft, Col
 use Rattle.gq_parser.specs.declared.keyword.Keyword.{Keyword}
 use Rattle.gq_parser.specs.declared.tree.OperationKind.{OperationKind}
 use Rattle.gq_parser.specs.declared.tree.OperationKind.TheVariants as kind
-use Rattle.gq_parser.specs.Word.{Punct, Token, at, IsEnumName}
+use Rattle.gq_parser.specs.Keywords.{IsEnumName}
+use Rattle.gq_parser.specs.Word.{Punct, Token, at}
 use Rattle.gq_parser.specs.Tree as tree
 use Rattle.gq_parser.specs.Grammar.{IsValue, variable, int, float, text, yes, no, null, enum, array, object, AreValues, no_more_values, next_value, AreMembers, no_more_members, next_member}
 use Rattle.gq_parser.specs.Grammar.{IsBang, no_bang, bang, IsType, named, list_of, IsArgument, argument, AreArguments, no_more_arguments, next_argument, AreOptionalArguments, no_arguments, arguments}
@@ -13,8 +14,8 @@ use Rattle.gq_parser.specs.Grammar.{IsDirective, directive, AreDirectives, no_di
 use Rattle.gq_parser.specs.Grammar.{IsSelection, field, spread, inline, IsOptionalSet, no_set, a_set, IsSelectionSet, selection_set, AreSelections, no_more_selections, next_selection}
 use Rattle.gq_parser.specs.Grammar.{IsDefault, no_default, default, IsVariable, variable_definition, AreVariables, no_more_variables, next_variable, AreOptionalVariables, no_variables, variables}
 use Rattle.gq_parser.specs.Grammar.{IsOptionalName, no_name, a_name, IsKind, query, mutation, subscription, IsOperation, shorthand, operation, IsFragment, fragment, IsDocument, AreDefinitions, no_more_definitions, next_operation, next_fragment}
-use Rattle.gq_parser.specs.Parsing.{IsNotNext}
-use Rattle.gq_parser.proofs.Means.{IsNoName, IsAfterField, after_field, field_ends, IsAfterDirectives, set_follows, after_directives, IsAfterArguments, after_arguments, after_name, IsAfterVariable, after_variable, after_default, after_type, directives_first, nameless, nameless_variables}
+use Rattle.gq_parser.specs.Parsing.{IsNotNext, IsNoName}
+use Rattle.gq_parser.proofs.Means.{IsAfterField, after_field, field_ends, IsAfterDirectives, set_follows, after_directives, IsAfterArguments, after_arguments, after_name, IsAfterVariable, after_variable, after_default, after_type, directives_first, nameless, nameless_variables}
 
 both : {A B C : Type 0} (f : A → B → C) {a a' : A} {b b' : B} → a ≡ a' → b ≡ b' → f a b ≡ f a' b'
 both f {a' = a'} {b = b} p q = ap (λ x. f x b) p ∙ ap (λ y. f a' y) q

@@ -1,14 +1,16 @@
 -- Documents and their faults.
-use Rattle.std.proofs.Common.{◌≡◌, ◌≢◌, ℕ, List, [], ◌∷◌, ◌++◌, Option, refl, sym, subst, append_assoc}
+use Rattle.std.proofs.Common.{◌≡◌, ◌≢◌, ◌<◌, ◌≤◌, ℕ, List, [], ◌∷◌, ◌++◌, length, Option, Some, None, refl, sym, subst, append_assoc, arith}
 use Rattle.gq_lexer.specs.declared.place.Place.{Place}
-use Rattle.gq_parser.specs.Word.{Token, at, AreSpelled}
+use Rattle.gq_lexer.specs.declared.token.Token as lexer
+use Rattle.gq_lexer.specs.Tokens.{AreTokens}
+use Rattle.gq_parser.specs.Word.{Token, at, tokens_of, AreSpelled}
 use Rattle.gq_parser.specs.declared.fault.Fault.{Fault}
 use Rattle.gq_parser.specs.declared.fault.Fault.TheVariants.{Unexpected, TooDeep, NoMemory}
 use Rattle.gq_parser.specs.Tree.{Operation, Fragment, Document}
 use Rattle.gq_parser.specs.Grammar.{AreDefinitions, no_more_definitions, next_operation, next_fragment, IsDocument, IsOperation, shorthand, operation, IsFragment, fragment}
-use Rattle.gq_parser.specs.Fault.{IsViable, IsShallow, IsUnexpected, IsUnexpectedAt, IsTooDeepAt, most_brackets}
+use Rattle.gq_parser.specs.Fault.{IsViable, IsShallow, IsUnexpected, IsUnexpectedAt, IsTooDeepAt, IsFault, most_brackets, most_bytes}
 use Rattle.gq_parser.specs.Machine.{ADefinition, one, Done, read}
-use Rattle.gq_parser.specs.Parsing.{Fails}
+use Rattle.gq_parser.specs.Parsing.{Fails, parse_fault_of}
 use Rattle.gq_parser.proofs.Means.{Means, ends, then', d_operation, d_fragment}
 use Rattle.gq_parser.proofs.Stops as stops
 use Rattle.gq_parser.proofs.Stops.{Ends, StopsAt, SinksAt, read_ends, read_done}
@@ -75,3 +77,13 @@ finds_err tokens NoMemory d e h shallow = refl
 
 pub shallow_from : (tokens : List Token) → read most_brackets (one ADefinition) tokens ≡ Done → IsShallow most_brackets tokens
 shallow_from tokens e = subst (Ends most_brackets (one ADefinition) tokens) e (read_ends most_brackets (one ADefinition) tokens)
+
+-- the fault of a text
+pub text_fault : (text : List ℕ) (tokens : List lexer.Token) (f : Fault) → length text ≤ most_bytes → AreTokens text tokens → IsTokenFault (tokens_of text tokens) f → IsFault text (parse_fault_of f text)
+text_fault text tokens (Unexpected None) short reads h = (record { tokens = tokens; short = short; reads = reads; holds = h }, refl)
+text_fault text tokens (Unexpected (Some p)) short reads h = record { tokens = tokens; short = short; reads = reads; holds = h }
+text_fault text tokens (TooDeep p) short reads h = record { tokens = tokens; short = short; reads = reads; holds = h }
+text_fault text tokens NoMemory short reads h = tt
+
+pub not_long : (m n : ℕ) → (m < n → ⊥) → n ≤ m
+not_long m n h = omega arith

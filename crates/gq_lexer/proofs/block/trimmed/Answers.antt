@@ -1,4 +1,4 @@
-use Rattle.std.proofs.Common.{List, ℕ, Bor, ◌-◌, length, drop}
+use Rattle.std.proofs.Common.{List, ℕ, Bor}
 use Rattle.std.proofs.lemmas.List.{take_rest}
 use Rattle.gq_lexer.proofs.Blocks.{trimmed_is}
 use Rattle.gq_lexer.proofs.block.trimmed.Goals as goal
