@@ -14,11 +14,10 @@ use crate::data::data;
 use crate::form::{Asked, asked_document};
 use crate::request::query_of;
 use crate::rules::broken_rule;
-use crate::stub::parse;
 use crate::world::user_of;
 use answer_json::{Response, write_answer, write_refusal};
 use gq_lexer::{LexFault, Place, lex};
-use gq_parser::{Document, ParseFault};
+use gq_parser::{Document, ParseFault, parse};
 use load_memory::NoMemory;
 use std::alloc::Global;
 

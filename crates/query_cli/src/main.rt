@@ -14,7 +14,6 @@ mod output;
 mod request;
 mod rules;
 mod run;
-mod stub;
 mod world;
 
 use run::run;
