@@ -1,0 +1,68 @@
+-- Response text: the JSON value of an answer, and its bytes.
+use Rattle.std.specs.Prelude.{ℕ, List, [], ◌∷◌, Option, Some, None, option_and_then, decimal, codes, string_bytes}
+use Rattle.json.specs.Json.{Json, number, string, array, object, Items, no_items, item, Members, no_members, member, value, if_last}
+use Rattle.json.specs.Lex.{tokens}
+use Rattle.json.specs.Print.{print}
+use Rattle.json.specs.Tree.{json_tokens}
+use Rattle.gq_lexer.specs.declared.place.Place.{Place}
+use Rattle.answer_json.specs.declared.response.FieldError.{FieldError}
+use Rattle.answer_json.specs.declared.response.PathPart.{PathPart}
+use Rattle.answer_json.specs.declared.response.PathPart.TheVariants.{Key, Item}
+use Rattle.answer_json.specs.declared.response.Response.{Response}
+use Rattle.answer_json.specs.Response.{response_json}
+
+abbrev pub place_json : Place → Json
+place_json p = object (member (codes "line") (number (decimal p.line)) (member (codes "column") (number (decimal p.column)) no_members))
+
+-- the list of one place
+abbrev pub places_json : Place → Json
+places_json p = array (item (place_json p) no_items)
+
+abbrev pub part_json : PathPart → Json
+part_json (Key k) = string (string_bytes k)
+part_json (Item i) = number (decimal i)
+
+abbrev pub path_items : List PathPart → Items
+path_items [] = no_items
+path_items (p ∷ ps) = item (part_json p) (path_items ps)
+
+-- a field error: its message, the place of its field, and the path to it
+abbrev pub error_json : FieldError → Json
+error_json e =
+    object (member (codes "message") (string (string_bytes e.message))
+    (member (codes "locations") (places_json e.place)
+    (member (codes "path") (array (path_items e.path.items)) no_members)))
+
+abbrev pub errors_items : List FieldError → Items
+errors_items [] = no_items
+errors_items (e ∷ es) = item (error_json e) (errors_items es)
+
+-- the member of the errors, where there are any, and then what follows
+abbrev pub errors_before : List FieldError → Members → Members
+errors_before [] rest = rest
+errors_before (e ∷ es) rest = member (codes "errors") (array (errors_items (e ∷ es))) rest
+
+-- an answer: its errors first, and then its data
+abbrev pub answer_json : Response → List FieldError → Json
+answer_json r es = object (errors_before es (member (codes "data") (response_json r) no_members))
+
+-- the member of a place, where there is one
+abbrev pub places_member : Option Place → Members
+places_member None = no_members
+places_member (Some p) = member (codes "locations") (places_json p) no_members
+
+abbrev pub request_error_json : List ℕ → Option Place → Json
+request_error_json message place = object (member (codes "message") (string message) (places_member place))
+
+-- the refusal of a request: one error, and no data
+abbrev pub refusal_json : List ℕ → Option Place → Json
+refusal_json message place = object (member (codes "errors") (array (item (request_error_json message place) no_items)) no_members)
+
+-- The bytes of a value: its tokens with no space between them. In strings `"` and `\` have a backslash before them, U+0008,
+-- U+0009, U+000A, U+000C and U+000D are `\b \t \n \f \r`, and any other character below U+0020 is `\u00xx`, in lower case.
+abbrev pub json_text : Json → List ℕ
+json_text j = print (json_tokens j)
+
+-- the value that a text is, for a reader that goes no deeper than this limit
+abbrev pub read_within : ℕ → List ℕ → Option Json
+read_within limit text = option_and_then (λ p. if_last p.0 p.1) (value limit (tokens text))

@@ -1,0 +1,117 @@
+//! The texts of answers.
+
+ghost use Rattle.std.specs.Prelude.{◌≡◌, ◌≤◌, ◌++◌, ℕ, [], IfOk, OnOk, Some, string_bytes};
+ghost use Rattle.json.specs.Lex.{tokens};
+ghost use Rattle.json.specs.Print.{print};
+ghost use Rattle.json.specs.Tree.{depth, json_tokens};
+ghost use Rattle.answer_json.specs.Answer.{answer_json, request_error_json, refusal_json, json_text, read_within};
+
+use crate::memory::NoMemory;
+use crate::put::{put_errors, put_places, put_response, put_text};
+use crate::response::{FieldError, Response};
+use gq_lexer::Place;
+use json::Writer;
+use std::alloc::{AllocError, Global};
+
+/// The room that a text has from the start.
+const FIRST_ROOM: usize = 128;
+
+/// Writes an answer.
+fn put_answer(
+    writer: &mut Writer,
+    response: &Response,
+    errors: &[FieldError],
+) -> Result<(), AllocError>
+    ensures ok { OnOk result (writer.new.tokens ≡ writer.old.tokens ++ json_tokens (answer_json response.now errors.now)) }
+    ensures before { writer.new.before ≡ writer.old.before }
+{
+    writer.begin_object()?;
+    if !errors.is_empty() {
+        writer.key("errors")?;
+        writer.begin_array()?;
+        put_errors(writer, errors)?;
+    }
+    writer.key("data")?;
+    put_response(writer, response)?;
+    writer.end_object()
+}
+
+/// Writes the error of a request.
+fn put_request_error(
+    writer: &mut Writer,
+    message: &str,
+    place: Option<Place>,
+) -> Result<(), AllocError>
+    ensures ok { OnOk result (writer.new.tokens ≡ writer.old.tokens ++ json_tokens (request_error_json message.now place)) }
+    ensures before { writer.new.before ≡ writer.old.before }
+{
+    writer.begin_object()?;
+    put_text(writer, "message", message)?;
+    if let Some(place) = place {
+        put_places(writer, place)?;
+    }
+    writer.end_object()
+}
+
+/// Writes a refusal.
+fn put_refusal(writer: &mut Writer, message: &str, place: Option<Place>) -> Result<(), AllocError>
+    ensures ok { OnOk result (writer.new.tokens ≡ writer.old.tokens ++ json_tokens (refusal_json message.now place)) }
+    ensures before { writer.new.before ≡ writer.old.before }
+{
+    writer.begin_object()?;
+    writer.key("errors")?;
+    writer.begin_array()?;
+    put_request_error(writer, message, place)?;
+    writer.end_array()?;
+    writer.end_object()
+}
+
+/// What was written, as text.
+fn into_text(writer: Writer) -> String
+    requires { writer.before ≡ [] }
+    ensures text { string_bytes result ≡ print writer.tokens }
+    ensures tokens { tokens (string_bytes result) ≡ writer.tokens }
+{
+    let bytes = writer.into_inner();
+    // SAFETY: a writer's text is UTF-8.
+    unsafe { String::from_utf8_unchecked(bytes) }
+}
+
+/// The text of a response (section 7.1 of the GraphQL specification): an object whose member `errors` comes first and
+/// stands only where there are errors, and whose member `data` is the response. It is one line without its end.
+///
+/// The stack it takes grows with the nesting of the response.
+///
+/// # Errors
+///
+/// Only where a growth of the text was refused.
+pub fn write_answer(
+    alloc: Global,
+    response: &Response,
+    errors: &[FieldError],
+) -> Result<String, NoMemory>
+    ensures text { IfOk result (λ s. string_bytes s ≡ json_text (answer_json response.now errors.now)) }
+    // A reader of JSON finds the same value, where its limit of nesting is not below the depth of the answer.
+    ensures reads_back { IfOk result (λ s. (limit : ℕ) → depth (answer_json response.now errors.now) ≤ limit
+        → read_within limit (string_bytes s) ≡ Some (answer_json response.now errors.now)) }
+{
+    let mut writer = Writer::new(Vec::with_capacity(alloc, FIRST_ROOM)?);
+    put_answer(&mut writer, response, errors)?;
+    Ok(into_text(writer))
+}
+
+/// The text of a request that is refused (section 7.1.2, request errors): an object whose only member `errors` has one
+/// error, without `path`, and without `locations` where there is no place.
+///
+/// # Errors
+///
+/// Only where a growth of the text was refused.
+pub fn write_refusal(alloc: Global, message: &str, place: Option<Place>) -> Result<String, NoMemory>
+    ensures text { IfOk result (λ s. string_bytes s ≡ json_text (refusal_json message.now place)) }
+    ensures reads_back { IfOk result (λ s. (limit : ℕ) → depth (refusal_json message.now place) ≤ limit
+        → read_within limit (string_bytes s) ≡ Some (refusal_json message.now place)) }
+{
+    let mut writer = Writer::new(Vec::with_capacity(alloc, FIRST_ROOM)?);
+    put_refusal(&mut writer, message, place)?;
+    Ok(into_text(writer))
+}

@@ -1,0 +1,18 @@
+//! Want of memory.
+
+ghost use Rattle.std.specs.Prelude.{◌≡◌};
+ghost use Rattle.answer_json.specs.declared.memory.NoMemory.{NoMemory};
+
+use std::alloc::AllocError;
+use thiserror::Error;
+
+/// A growth of the text was refused.
+#[derive(Clone, Copy, Debug, PartialEq, Eq, Error)]
+#[error("out of memory")]
+pub struct NoMemory;
+
+impl From<AllocError> for NoMemory {
+    fn from(_error: AllocError) -> NoMemory {
+        NoMemory
+    }
+}

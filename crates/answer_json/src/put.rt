@@ -1,0 +1,138 @@
+//! The tokens of responses and errors, one after another.
+
+ghost use Rattle.std.specs.Prelude.{◌≡◌, [], ◌∷◌, ◌++◌, OnOk, codes, decimal};
+ghost use Rattle.json.specs.Token.{key, number, string};
+ghost use Rattle.json.specs.Tree.{json_tokens, items_tokens, members_tokens};
+ghost use Rattle.answer_json.specs.Response.{response_json, items_json, members_json};
+ghost use Rattle.answer_json.specs.Answer.{place_json, places_json, error_json, errors_items, path_items};
+
+use crate::response::{FieldError, PathPart, Response};
+use gq_lexer::Place;
+use json::Writer;
+use std::alloc::AllocError;
+
+/// Writes a response.
+#[cycle(response)]
+pub fn put_response(writer: &mut Writer, response: &Response) -> Result<(), AllocError>
+    ensures ok { OnOk result (writer.new.tokens ≡ writer.old.tokens ++ json_tokens (response_json response.now)) }
+    ensures before { writer.new.before ≡ writer.old.before }
+{
+    match response {
+        Response::Null => writer.null(),
+        Response::Text(text) => writer.string(text.as_str()),
+        Response::Int(number) => writer.i64(i64::from(*number)),
+        Response::Bool(value) => writer.boolean(*value),
+        Response::List(items) => {
+            writer.begin_array()?;
+            put_items(writer, items)
+        }
+        Response::Object(members) => {
+            writer.begin_object()?;
+            put_members(writer, members)
+        }
+    }
+}
+
+/// Writes the items of a list and its end.
+#[cycle(response)]
+fn put_items(writer: &mut Writer, items: &Vec<Response>) -> Result<(), AllocError>
+    ensures ok { OnOk result (writer.new.tokens ≡ writer.old.tokens ++ items_tokens (items_json items.now.items)) }
+    ensures before { writer.new.before ≡ writer.old.before }
+{
+    for item in items {
+        put_response(writer, item)?;
+    }
+    writer.end_array()
+}
+
+/// Writes the members of an object and its end.
+#[cycle(response)]
+fn put_members(writer: &mut Writer, members: &Vec<(String, Response)>) -> Result<(), AllocError>
+    ensures ok { OnOk result (writer.new.tokens ≡ writer.old.tokens ++ members_tokens (members_json members.now.items)) }
+    ensures before { writer.new.before ≡ writer.old.before }
+{
+    for (name, member) in members {
+        writer.key(name.as_str())?;
+        put_response(writer, member)?;
+    }
+    writer.end_object()
+}
+
+/// Writes a member that is a number.
+fn put_number(writer: &mut Writer, name: &str, value: u32) -> Result<(), AllocError>
+    ensures ok { OnOk result (writer.new.tokens ≡ writer.old.tokens ++ key name.now ∷ number (decimal value) ∷ []) }
+    ensures before { writer.new.before ≡ writer.old.before }
+{
+    writer.key(name)?;
+    writer.u64(u64::from(value))
+}
+
+/// Writes a member that is a string.
+pub fn put_text(writer: &mut Writer, name: &str, text: &str) -> Result<(), AllocError>
+    ensures ok { OnOk result (writer.new.tokens ≡ writer.old.tokens ++ key name.now ∷ string text.now ∷ []) }
+    ensures before { writer.new.before ≡ writer.old.before }
+{
+    writer.key(name)?;
+    writer.string(text)
+}
+
+/// Writes a place.
+fn put_place(writer: &mut Writer, place: Place) -> Result<(), AllocError>
+    ensures ok { OnOk result (writer.new.tokens ≡ writer.old.tokens ++ json_tokens (place_json place)) }
+    ensures before { writer.new.before ≡ writer.old.before }
+{
+    writer.begin_object()?;
+    put_number(writer, "line", place.line)?;
+    put_number(writer, "column", place.column)?;
+    writer.end_object()
+}
+
+/// Writes the member of a place.
+pub fn put_places(writer: &mut Writer, place: Place) -> Result<(), AllocError>
+    ensures ok { OnOk result (writer.new.tokens ≡ writer.old.tokens ++ key (codes "locations") ∷ json_tokens (places_json place)) }
+    ensures before { writer.new.before ≡ writer.old.before }
+{
+    writer.key("locations")?;
+    writer.begin_array()?;
+    put_place(writer, place)?;
+    writer.end_array()
+}
+
+/// Writes the parts of a path and its end.
+fn put_path(writer: &mut Writer, path: &Vec<PathPart>) -> Result<(), AllocError>
+    ensures ok { OnOk result (writer.new.tokens ≡ writer.old.tokens ++ items_tokens (path_items path.now.items)) }
+    ensures before { writer.new.before ≡ writer.old.before }
+{
+    for part in path {
+        match part {
+            PathPart::Key(key) => writer.string(key.as_str())?,
+            PathPart::Item(index) => writer.u64(*index as u64)?,
+        }
+    }
+    writer.end_array()
+}
+
+/// Writes a field error.
+fn put_error(writer: &mut Writer, error: &FieldError) -> Result<(), AllocError>
+    ensures ok { OnOk result (writer.new.tokens ≡ writer.old.tokens ++ json_tokens (error_json error.now)) }
+    ensures before { writer.new.before ≡ writer.old.before }
+{
+    writer.begin_object()?;
+    put_text(writer, "message", error.message.as_str())?;
+    put_places(writer, error.place)?;
+    writer.key("path")?;
+    writer.begin_array()?;
+    put_path(writer, &error.path)?;
+    writer.end_object()
+}
+
+/// Writes field errors and the end of their list.
+pub fn put_errors(writer: &mut Writer, errors: &[FieldError]) -> Result<(), AllocError>
+    ensures ok { OnOk result (writer.new.tokens ≡ writer.old.tokens ++ items_tokens (errors_items errors.now)) }
+    ensures before { writer.new.before ≡ writer.old.before }
+{
+    for error in errors {
+        put_error(writer, error)?;
+    }
+    writer.end_array()
+}

@@ -1,0 +1,33 @@
+//! What an answer is written from.
+
+use gq_lexer::Place;
+
+/// A completed value (section 6.4.3 of the GraphQL specification). Members stand in the order in which they are written.
+#[derive(Debug, Drop)]
+pub enum Response {
+    Null,
+    Text(String),
+    Int(i32),
+    Bool(bool),
+    List(Vec<Response>),
+    Object(Vec<(String, Response)>),
+}
+
+/// A field that couldn't be completed (section 7.1.2 of the GraphQL specification).
+#[derive(Debug, Drop)]
+pub struct FieldError {
+    pub message: String,
+    /// The place of the first field of its group in the document.
+    pub place: Place,
+    /// The response keys and the places in lists from `data` down to the field.
+    pub path: Vec<PathPart>,
+}
+
+/// One step of a path.
+#[derive(Debug, Drop)]
+pub enum PathPart {
+    /// A response key.
+    Key(String),
+    /// A place in a list, from 0.
+    Item(usize),
+}
