@@ -1,5 +1,5 @@
 -- Steps from what the parts of an answer promise to the answer.
-use Rattle.std.proofs.Common.{◌≡◌, Bool, true, false, IsTrue, List, [], ◌∷◌, map, None, Some, Result, Ok, Err, IfOk, refl, sym, ap, ◌∙◌, subst}
+use Rattle.std.proofs.Common.{◌≡◌, Bool, true, false, IsTrue, List, [], ◌∷◌, map, None, Result, Ok, Err, IfOk, refl, sym, ◌∙◌}
 use Rattle.std.specs.Prelude.{slice_get}
 
 -- what holds of a result, from what is known of it

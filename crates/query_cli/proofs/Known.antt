@@ -1,10 +1,10 @@
 -- Steps on the known bytes of readers and writers.
 use Rattle.std.proofs.lemmas.List.{take_rest, take-append-drop}
-use Rattle.std.proofs.Common.{◌≡◌, ◌-◌, ℕ, List, [], ◌∷◌, ◌++◌, length, take, drop, refl, sym, ap, ◌∙◌, append_assoc, append-nil, Some, None}
+use Rattle.std.proofs.Common.{◌≡◌, ◌-◌, ℕ, List, [], ◌++◌, length, take, drop, refl, sym, ap, ◌∙◌, append_assoc, append-nil, Some, None}
 use Rattle.std.specs.Prelude.{Option}
 use Rattle.std.specs.Io.KnownBytes.{Appends, Consumes, Keeps}
 use Rattle.std.proofs.KnownBytes.{Appends-trans}
-use Rattle.query_cli.specs.Line.{Cuts, IsCut}
+use Rattle.query_cli.specs.Line.{IsCut}
 
 -- a front, and then a front of what is left
 pub cut_after : (a b c : Option (List ℕ)) (xs ys : List ℕ) → Appends a b xs → IsCut b c ys → IsCut a c (xs ++ ys)

@@ -1,5 +1,5 @@
 -- Names in order of first meeting, and the cells of a row under them.
-use Rattle.std.proofs.Common.{◌≡◌, ◌+◌, ◌<◌, ℕ, length, take, get_or, Bool, true, false, cond, List, [], ◌∷◌, ◌++◌, map, refl, sym, ap, ◌∙◌, append-nil, string_bytes}
+use Rattle.std.proofs.Common.{◌≡◌, ◌+◌, ◌<◌, ℕ, length, take, get_or, Bool, true, false, cond, List, [], ◌∷◌, ◌++◌, refl, sym, ap, ◌∙◌, append-nil, string_bytes}
 use Rattle.std.proofs.lemmas.List.{take_more, map-append}
 use Rattle.std.proofs.lemmas.List.Elements.{filter-append}
 use Rattle.std.proofs.lemmas.Slice.Eq.{bytes_eq-Decides}
@@ -9,9 +9,8 @@ use Rattle.std.specs.declared.alloc.Global.{Global}
 use Rattle.json.specs.Json.{member}
 use Rattle.load_memory.specs.Rows.{RowOf, cell_of}
 use Rattle.answer_json.specs.declared.response.Response.{Response}
-use Rattle.answer_json.specs.Response.{response_json, members_json}
+use Rattle.answer_json.specs.Response.{members_json}
 use Rattle.query_cli.specs.declared.form.Name.{Name}
-use Rattle.query_cli.specs.Form.{NameOf}
 use Rattle.query_cli.specs.Answer.{cell_json, cells_json, each_once, names_of}
 use Rattle.query_cli.specs.Seen.{name_seen, names_seen, keys_seen, AreCells, met_with}
 

@@ -1,11 +1,9 @@
 -- A line has at most one answer.
 use Rattle.std.proofs.Common.{◌≡◌, ℕ, List, Option, Some, None, codes, sym, ap, subst, ◌∙◌}
-use Rattle.gq_lexer.specs.declared.place.Place.{Place}
-use Rattle.gq_parser.specs.Fault.{IsDocumentOf, place_of_parse_fault}
-use Rattle.gq_parser.specs.Tree.{Document}
+use Rattle.gq_parser.specs.Fault.{place_of_parse_fault}
 use Rattle.answer_json.specs.Answer.{json_text, refusal_json}
 use Rattle.query_cli.specs.Answer.{answer_of}
-use Rattle.query_cli.specs.Form.{AskedOf, asked_document}
+use Rattle.query_cli.specs.Form.{asked_document}
 use Rattle.query_cli.specs.IsAnswer.{fault_message, AnswersQuery, faulty, other_form, asked, IsAnswer, no_request, request}
 use Rattle.query_cli.specs.Request.{IsRequest}
 use Rattle.query_cli.proofs.OneFault.{one_fault, document_or_fault, one_document, one_beginning}

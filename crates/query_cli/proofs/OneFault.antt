@@ -1,5 +1,5 @@
 -- A query is one document or has one first fault.
-use Rattle.std.proofs.Common.{◌≡◌, ◌≢◌, ◌<◌, ◌≤◌, ℕ, zero, suc, List, [], ◌∷◌, ◌++◌, map, length, Option, Some, None, refl, sym, ap, subst, ◌∙◌, ◌⊎◌, inl, inr, append_assoc, append-nil, arith}
+use Rattle.std.proofs.Common.{◌≡◌, ◌≢◌, ◌<◌, ◌≤◌, ℕ, zero, suc, List, [], ◌∷◌, ◌++◌, length, Option, Some, None, refl, sym, ap, subst, ◌∙◌, append_assoc, append-nil, arith}
 use Rattle.gq_lexer.specs.declared.place.Place.{Place}
 use Rattle.gq_lexer.specs.declared.token.Token as lexer
 use Rattle.gq_lexer.specs.declared.token.Kind.{Kind}
@@ -10,11 +10,11 @@ use Rattle.gq_lexer.specs.declared.fault.LexFault.{LexFault}
 use Rattle.gq_lexer.specs.declared.fault.LexFault.TheVariants as lex
 use Rattle.gq_lexer.specs.Tokens.{AreTokens, StopsAt, bytes_of}
 use Rattle.gq_lexer.specs.Place.{place_of}
-use Rattle.gq_lexer.specs.Faults.{IsFirstFault, fault_of}
+use Rattle.gq_lexer.specs.Faults.{fault_of}
 use Rattle.gq_lexer.proofs.Unique.{same_tokens, tokens_or_fault, same_fault}
 use Rattle.gq_parser.specs.declared.fault.ParseFault.{ParseFault}
 use Rattle.gq_parser.specs.declared.fault.ParseFault.TheVariants as fault
-use Rattle.gq_parser.specs.Word.{Word, Token, at, word, token_of, tokens_of, IsSpelled, AreSpelled, place_of_next}
+use Rattle.gq_parser.specs.Word.{Token, at, word, tokens_of, IsSpelled, AreSpelled, place_of_next}
 use Rattle.gq_parser.specs.Tree.{Document}
 use Rattle.gq_parser.specs.Grammar.{IsDocument}
 use Rattle.gq_parser.specs.Fault.{most_bytes, Bracket, Opening, Closing, Neither, bracket, RoomAfter, IsShallow, most_brackets, IsViable, IsUnexpected, IsUnexpectedAt, IsTooDeepAt, IsDocumentOf, IsLexFault, OfTokens, IsFault}

@@ -10,7 +10,7 @@ ghost use Rattle.query_cli.specs.Answer.{answer_of, data_json};
 ghost use Rattle.query_cli.specs.IsAnswer.{token_message, fault_message, BeginsAt, AnswersQuery, IsAnswer};
 ghost use Rattle.query_cli.specs.Seen.{asked_seen};
 
-use crate::data::data;
+use crate::data::root_response;
 use crate::form::{Asked, asked_document};
 use crate::request::query_of;
 use crate::rules::broken_rule;
@@ -32,10 +32,10 @@ fn refusal(alloc: Global, message: &str, place: Option<Place>) -> Result<String,
 }
 
 /// The text of an answer without errors.
-fn success(alloc: Global, data: &Response) -> Result<String, NoMemory>
-    ensures { IfOk result (λ text. string_bytes text ≡ json_text (data_json (response_json data.now))) }
+fn success(alloc: Global, response: &Response) -> Result<String, NoMemory>
+    ensures { IfOk result (λ text. string_bytes text ≡ json_text (data_json (response_json response.now))) }
 {
-    match write_answer(alloc, data, &[]) {
+    match write_answer(alloc, response, &[]) {
         Ok(text) => Ok(text),
         Err(_) => Err(NoMemory),
     }
@@ -52,8 +52,8 @@ fn answer_asked(alloc: Global, asked: &Asked<'_>) -> Result<String, NoMemory>
         }
         None => {
             let user = user_of(alloc, asked.key)?;
-            let data = data(alloc, user.as_ref(), &asked.fields)?;
-            success(alloc, &data)
+            let response = root_response(alloc, user.as_ref(), &asked.fields)?;
+            success(alloc, &response)
         }
     }
 }

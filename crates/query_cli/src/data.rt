@@ -85,7 +85,11 @@ fn user_response(
 }
 
 /// The response under the field `user`.
-pub fn data(alloc: Global, user: Option<&Row>, names: &[Name<'_>]) -> Result<Response, NoMemory>
+pub fn root_response(
+    alloc: Global,
+    user: Option<&Row>,
+    names: &[Name<'_>],
+) -> Result<Response, NoMemory>
     ensures { IfOk result (λ r. response_json r ≡ root_json (user_json (names_of (names_seen names.now)) (option_copied user.entry))) }
 {
     let field = String::from_str(alloc, "user")?;

@@ -2,11 +2,13 @@
 
 ghost use Rattle.std.specs.Prelude.{◌≡◌, [], ◌∷◌, ◌==◌, ◌&&◌, Some, None, IfOk, map, length, option_map, option_copied, option_and_then, is_none};
 ghost use Rattle.gq_parser.specs.Tree.{below, document_of, operation_of, selection_of, field_of, set_of, map_selections, arguments_of, argument_of, directives_of, literal_of};
-ghost use Rattle.query_cli.specs.Form.{only, is_shorthand, plain_name, plain_names, int_text, key_of, names_below, asked_field, asked_selections, asked_operation, asked_document, };
+ghost use Rattle.query_cli.specs.Form.{only, is_shorthand, plain_name, plain_names, int_text, key_of, names_below, asked_field, asked_selections, asked_operation, asked_document};
 ghost use Rattle.query_cli.specs.Seen.{name_seen, key_seen, names_seen, asked_seen};
 
 use gq_lexer::Place;
-use gq_parser::{Argument, Document, Field, Operation, OperationKind, Selection, SelectionSet, Value};
+use gq_parser::{
+    Argument, Document, Field, Operation, OperationKind, Selection, SelectionSet, Value,
+};
 use load_memory::NoMemory;
 use std::alloc::Global;
 
@@ -39,7 +41,11 @@ struct KeyArgument<'d> {
 fn only<T>(items: &[T]) -> Option<&T>
     ensures { option_copied result ≡ only items.now }
 {
-    if items.len() == 1 { items.first() } else { None }
+    if items.len() == 1 {
+        items.first()
+    } else {
+        None
+    }
 }
 
 /// The name of a field that is its name alone.

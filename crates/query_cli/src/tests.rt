@@ -4,10 +4,10 @@ use crate::input::LIMIT;
 use crate::run::run;
 use std::alloc::{AllocError, Global};
 use std::io::{self, Error, ErrorKind, Read, Write};
-use std::process::Abort;
 use std::test::Fail;
 
 const ADA: &str = "{\"data\":{\"user\":{\"name\":\"Ada\"}}}";
+
 const NO_REQUEST: &str = "{\"errors\":[{\"message\":\"not a request\"}]}";
 
 /// The request line of a query.
@@ -16,8 +16,10 @@ fn line_of(alloc: Global, query: &str) -> Result<String, AllocError> {
 }
 
 /// The text of a refusal on the first line of a query.
-fn refused(alloc: Global, message: &str, column: u32) -> Result<String, AllocError> {
-    format!(in alloc; "{{\"errors\":[{{\"message\":\"{message}\",\"locations\":[{{\"line\":1,\"column\":{column}}}]}}]}}")
+fn refused(alloc: Global, message: &str, column: usize) -> Result<String, AllocError> {
+    format!(in alloc;
+        "{{\"errors\":[{{\"message\":\"{message}\",\"locations\":[{{\"line\":1,\"column\":{column}}}]}}]}}"
+    )
 }
 
 #[test]
@@ -26,13 +28,140 @@ fn users(rt: HostRuntime) -> Result<(), Fail> {
     for (query, want) in [
         ("{user(id:1){name}}", ADA),
         ("{user(id:9){name name}}", "{\"data\":{\"user\":null}}"),
-        ("{user(id:2){name id}}", "{\"data\":{\"user\":{\"name\":\"Bob\",\"id\":\"2\"}}}"),
-        ("{user(id:3){id name id name}}", "{\"data\":{\"user\":{\"id\":\"3\",\"name\":\"Cy\"}}}"),
+        (
+            "{user(id:2){name id}}",
+            "{\"data\":{\"user\":{\"name\":\"Bob\",\"id\":\"2\"}}}",
+        ),
+        (
+            "{user(id:3){id name id name}}",
+            "{\"data\":{\"user\":{\"id\":\"3\",\"name\":\"Cy\"}}}",
+        ),
         ("{user(id:-0){id}}", "{\"data\":{\"user\":null}}"),
         (" \\n{ user ( id : 1 ) , { name } } #", ADA),
     ] {
         let line = line_of(alloc, query)?;
-        assert_eq!(rt; answer_line(alloc, line.as_bytes())?.as_str(), want, "{query}");
+        assert_eq!(rt;
+            answer_line(alloc, line.as_bytes())?.as_str(),
+            want,
+            "{query}"
+        );
+    }
+    Ok(())
+}
+
+/// A query of the served form, and its answer by a plain program that goes over the query from left to right.
+#[derive(Drop)]
+struct Plain {
+    query: String,
+    broken: Option<String>,
+}
+
+impl Plain {
+    /// Adds a name, with the refusal of a name that isn't there.
+    fn name(
+        &mut self,
+        alloc: Global,
+        name: &str,
+        there: bool,
+        rule: &str,
+    ) -> Result<(), AllocError> {
+        if !there && self.broken.is_none() {
+            let message = format!(in alloc; "{rule}: {name}")?;
+            let column = self.query.len().saturating_add(1);
+            self.broken = Some(refused(alloc, message.as_str(), column)?);
+        }
+        self.query.push_str(name)
+    }
+
+    fn new(
+        alloc: Global,
+        root: &str,
+        argument: &str,
+        id: &str,
+        fields: &[&str],
+    ) -> Result<Plain, AllocError> {
+        let mut plain = Plain {
+            query: String::from_str(alloc, "{")?,
+            broken: None,
+        };
+        plain.name(alloc, root, root == "user", "5.3.1 Field Selections")?;
+        plain.query.push_str("(")?;
+        let mut other_argument = Plain {
+            query: plain.query.clone()?,
+            broken: None,
+        };
+        other_argument.name(alloc, argument, argument == "id", "5.4.1 Argument Names")?;
+        let Plain { query, broken } = other_argument;
+        plain.query = format!(in alloc; "{query}:{id}){{")?;
+        for field in fields {
+            plain.query.push_str(" ")?;
+            plain.name(
+                alloc,
+                field,
+                *field == "id" || *field == "name",
+                "5.3.1 Field Selections",
+            )?;
+        }
+        plain.query.push_str("}}")?;
+        if plain.broken.is_none() {
+            plain.broken = broken;
+        }
+        Ok(plain)
+    }
+
+    /// The answer, by the rows of the table.
+    fn answer(self, alloc: Global, id: &str, fields: &[&str]) -> Result<String, AllocError> {
+        let Plain { query, broken } = self;
+        drop(query);
+        if let Some(text) = broken {
+            return Ok(text);
+        }
+        for (user, name) in [("1", "Ada"), ("2", "Bob"), ("3", "Cy")] {
+            if user == id {
+                let mut members = String::new(alloc);
+                for field in fields {
+                    let value = if *field == "id" { user } else { name };
+                    let member = format!(in alloc; "\"{field}\":\"{value}\"")?;
+                    if !members.contains(member.as_str()) {
+                        let comma = if members.is_empty() { "" } else { "," };
+                        members = format!(in alloc; "{members}{comma}{member}")?;
+                    }
+                }
+                return format!(in alloc; "{{\"data\":{{\"user\":{{{members}}}}}}}");
+            }
+        }
+        String::from_str(alloc, "{\"data\":{\"user\":null}}")
+    }
+}
+
+#[test]
+fn a_plain_program(rt: HostRuntime) -> Result<(), Fail> {
+    let alloc = rt.alloc();
+    let lists: [&[&str]; 8] = [
+        &["name"],
+        &["id", "id"],
+        &["name", "id", "name", "id"],
+        &["id", "name", "name"],
+        &["age"],
+        &["name", "Id", "age"],
+        &["id", "id", "__typename"],
+        &["name", "names", "name"],
+    ];
+    for root in ["user", "users"] {
+        for argument in ["id", "ID"] {
+            for id in ["1", "2", "3", "4", "0", "-1"] {
+                for fields in lists {
+                    let plain = Plain::new(alloc, root, argument, id, fields)?;
+                    let line = line_of(alloc, plain.query.as_str())?;
+                    let want = plain.answer(alloc, id, fields)?;
+                    assert_eq!(rt;
+                        answer_line(alloc, line.as_bytes())?.as_str(),
+                        want.as_str(),
+                        "{line}"
+                    );
+                }
+            }
+        }
     }
     Ok(())
 }
@@ -53,16 +182,36 @@ fn refusals(rt: HostRuntime) -> Result<(), Fail> {
         ("{user(id:1){name(id:1)}}", "not served: document", 1),
         ("{user(id:1){name{id}}}", "not served: document", 1),
         ("{user(id:1){n:name}}", "not served: document", 1),
-        ("{user(id:1){name} user(id:2){name}}", "not served: document", 1),
-        (" fragment F on User{id} {user(id:1){name}}", "not served: document", 2),
+        (
+            "{user(id:1){name} user(id:2){name}}",
+            "not served: document",
+            1,
+        ),
+        (
+            " fragment F on User{id} {user(id:1){name}}",
+            "not served: document",
+            2,
+        ),
         ("{users(no:1){age}}", "5.3.1 Field Selections: users", 2),
-        ("{user(no:1){name age __typename}}", "5.3.1 Field Selections: age", 18),
-        ("{user(id:1){__typename}}", "5.3.1 Field Selections: __typename", 13),
+        (
+            "{user(no:1){name age __typename}}",
+            "5.3.1 Field Selections: age",
+            18,
+        ),
+        (
+            "{user(id:1){__typename}}",
+            "5.3.1 Field Selections: __typename",
+            13,
+        ),
         ("{user(no:1){name}}", "5.4.1 Argument Names: no", 7),
     ] {
         let line = line_of(alloc, query)?;
         let want = refused(alloc, message, column)?;
-        assert_eq!(rt; answer_line(alloc, line.as_bytes())?.as_str(), want.as_str(), "{query}");
+        assert_eq!(rt;
+            answer_line(alloc, line.as_bytes())?.as_str(),
+            want.as_str(),
+            "{query}"
+        );
     }
     Ok(())
 }
@@ -72,7 +221,11 @@ fn no_requests(rt: HostRuntime) -> Result<(), Fail> {
     let alloc = rt.alloc();
     let request = b"{\"query\":\"{user(id:1){name}}\"}";
     for n in 0..request.len() {
-        assert_eq!(rt; answer_line(alloc, &request[..n])?.as_str(), NO_REQUEST, "{n}");
+        assert_eq!(rt;
+            answer_line(alloc, &request[..n])?.as_str(),
+            NO_REQUEST,
+            "{n}"
+        );
     }
     for line in [
         b"[]".as_slice(),
@@ -97,8 +250,14 @@ fn no_requests(rt: HostRuntime) -> Result<(), Fail> {
 fn long_queries(rt: HostRuntime) -> Result<(), Fail> {
     let alloc = rt.alloc();
     for (len, want) in [
-        (1_048_576, "{\"errors\":[{\"message\":\"unexpected end\",\"locations\":[{\"line\":1,\"column\":1048577}]}]}"),
-        (1_048_577, "{\"errors\":[{\"message\":\"document too long\"}]}"),
+        (
+            1_048_576,
+            "{\"errors\":[{\"message\":\"unexpected end\",\"locations\":[{\"line\":1,\"column\":1048577}]}]}",
+        ),
+        (
+            1_048_577,
+            "{\"errors\":[{\"message\":\"document too long\"}]}",
+        ),
     ] {
         let spaces = vec![in alloc; b' '; len]?;
         let line = line_of(alloc, std::str::from_utf8(&spaces).ok().ok_or("ASCII")?)?;
@@ -171,7 +330,12 @@ impl Write for Narrow {
 }
 
 /// What a run over an input of one byte per call does, where the reader fails at one call.
-fn read_failing(rt: &impl AllocGlobal, input: &[u8], fails: u32, kind: ErrorKind) -> (Result<(), Fault>, Vec<u8>) {
+fn read_failing(
+    rt: &impl AllocGlobal,
+    input: &[u8],
+    fails: u32,
+    kind: ErrorKind,
+) -> (Result<(), Fault>, Vec<u8>) {
     let mut reader = Slow {
         rest: input,
         calls: 0,
@@ -243,7 +407,12 @@ fn a_writer_fails(rt: HostRuntime) {
 #[test]
 fn long_lines(rt: HostRuntime) -> Result<(), Fail> {
     let alloc = rt.alloc();
-    for (spaces, ends, long) in [(LIMIT, false, false), (LIMIT, true, false), (LIMIT + 1, false, true), (LIMIT + 1, true, true)] {
+    for (spaces, ends, long) in [
+        (LIMIT, false, false),
+        (LIMIT, true, false),
+        (LIMIT + 1, false, true),
+        (LIMIT + 1, true, true),
+    ] {
         let mut input = vec![in alloc; b' '; spaces]?;
         if ends {
             input.push(b'\n')?;

@@ -1,6 +1,6 @@
 use Rattle.std.proofs.Common.{subst, string_bytes}
 use Rattle.std.specs.Prelude.{MatchOption}
-use Rattle.query_cli.specs.IsAnswer.{IsAnswer, no_request, request, AnswersQuery}
+use Rattle.query_cli.specs.IsAnswer.{no_request, request, AnswersQuery}
 use Rattle.query_cli.specs.Request.{IsRequest, IsNoRequest}
 use Rattle.query_cli.proofs.Answering.{on_ok}
 use Rattle.query_cli.proofs.answer.answer_line.Goals as goal

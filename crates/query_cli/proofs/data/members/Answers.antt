@@ -1,4 +1,4 @@
-use Rattle.std.proofs.Common.{◌≡◌, ap, ◌∙◌, take, arith}
+use Rattle.std.proofs.Common.{ap, ◌∙◌}
 use Rattle.std.proofs.lemmas.List.{take_all}
 use Rattle.query_cli.specs.Answer.{cells_json, each_once, names_of}
 use Rattle.query_cli.specs.Seen.{names_seen}

@@ -1,5 +1,5 @@
 use Rattle.std.proofs.lemmas.List.Elements.{All-append}
-use Rattle.std.proofs.Common.{rules, ◌<◌, ◌++◌, ◌≡◌, ◌≤◌, ◌≢◌, ◌==◌, ◌∙◌, append-nil, sym, ap, subst, take, length, [], List, ℕ, arith}
+use Rattle.std.proofs.Common.{rules, ◌<◌, ◌++◌, ◌≡◌, ◌≤◌, ◌≢◌, ◌==◌, ◌∙◌, append-nil, sym, ap, subst, take, length, []}
 use Rattle.query_cli.specs.Line.{line_feed, limit, first_line}
 use Rattle.query_cli.proofs.Lines.{reads_more, reads_all, reads_line, reads_long, first_line-whole, not_held, not_empty}
 use Rattle.query_cli.proofs.input.read_line.Goals as goal
@@ -19,7 +19,7 @@ returns-in-Ok-hold g c input known =
     let line = c.loop.line.items in
     let now = reads_more input line _ _ _ (c.loop.invariant.reads input known) c.in-Ok.ensures.bytes.0 in
     let found = reads_line input line (take c.in-Ok.n c.read_some.new.block) c.in-Some.last.now c.in-Some.ensures.1.0 _ c.loop.invariant.one c.in-Some.ensures.0 c.in-Some.ensures.1.1 now in
-    let first = c.in-Ok-hold.ensures.ok.0 ∙ found.1 in
+    let first : c.hold.new.line.items ≡ first_line input = c.in-Ok-hold.ensures.ok.0 ∙ found.1 in
     (found.0, first, subst (λ l. length l ≤ limit) first c.in-Ok-hold.ensures.ok.1)
 
 pub returns-in-Err-hold : goal.returns-in-Err-hold

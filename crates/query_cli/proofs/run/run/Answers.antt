@@ -1,4 +1,4 @@
-use Rattle.std.proofs.Common.{Ok, sym, subst}
+use Rattle.std.proofs.Common.{Ok, subst}
 use Rattle.query_cli.specs.Line.{IsFirstLine}
 use Rattle.query_cli.specs.Run.{IsAnswered}
 use Rattle.query_cli.proofs.Runs.{line_answered}
