@@ -1,16 +1,15 @@
 -- The links of an index, from the last row up.
-use Rattle.std.proofs.Common.{◌≡◌, ◌<◌, ◌≤◌, ◌≢◌, ◌+◌, ℕ, zero, suc, List, [], ◌∷◌, length, get_or, set, map, Bool, true, false, Some, sym, refl, ap, ◌∙◌, arith, inl, inr, ◌⊎◌}
-use Rattle.std.proofs.lemmas.Bool.{eqb-true, eq-eqb, false≢true}
-use Rattle.std.proofs.lemmas.Bool.Decides.{nat_tests}
+use Rattle.std.proofs.Common.{◌≡◌, ◌<◌, ◌≤◌, ◌≢◌, ◌+◌, ℕ, List, [], length, get_or, set, Bool, true, false, Some, sym, refl, ◌∙◌, arith, inl, inr, ◌⊎◌}
+use Rattle.std.proofs.lemmas.Bool.{eqb-true, eq-eqb}
 use Rattle.std.proofs.lemmas.List.{get_or-map, get_or-set_same, get_or-set_other, length-set, length-map}
-use Rattle.std.specs.Prelude.{◌==◌, not, bytes_eq, position}
+use Rattle.std.specs.Prelude.{◌==◌, bytes_eq}
 use Rattle.load_memory.specs.Keys.{fold_text}
 use Rattle.load_memory.specs.Rows.{RowOf, SheetOf, IsRectangular, paired, cell_of}
 use Rattle.load_memory.specs.declared.key.KeyMode.{KeyMode}
 use Rattle.load_memory.proofs.RowLaws.{cell_of-at}
 use Rattle.csv_source.specs.Chains.{IsNext, IsLinked, IsColumn}
-use Rattle.csv_source.specs.Hashes.{bucket_of, in_bucket, cell_in}
-use Rattle.csv_source.specs.Tables.{rows_of, has_text, cell_is}
+use Rattle.csv_source.specs.Hashes.{bucket_of, in_bucket}
+use Rattle.csv_source.specs.Tables.{rows_of, has_text}
 
 pub length-rows_of : (s : SheetOf) → length (rows_of s) ≡ length s.rows
 length-rows_of s = length-map s.rows (paired s.names)

@@ -1,13 +1,13 @@
 -- A text has one reading.
-use Rattle.std.proofs.Common.{◌≡◌, ◌≤◌, ◌<◌, ℕ, suc, List, [], ◌∷◌, ◌++◌, length, Option, Some, None, refl, sym, ap, subst, ◌∙◌, arith, inl, inr, ◌⊎◌, length-append, append_assoc}
+use Rattle.std.proofs.Common.{◌≡◌, ℕ, List, [], ◌∷◌, ◌++◌, length, Some, None, refl, sym, ap, subst, ◌∙◌, arith, inl, inr, ◌⊎◌, length-append}
 use Rattle.std.proofs.lemmas.List.{append-nil, same_from_push}
 use Rattle.csv.specs.Machine.{Read, next_record}
-use Rattle.csv.specs.Reading.{AreRecords, Reached, default_config}
+use Rattle.csv.specs.Reading.{Reached, default_config}
 use Rattle.csv.specs.Records.{AllText}
 use Rattle.csv.specs.declared.parser.State.{State}
 use Rattle.csv.specs.declared.parser.State.TheVariants as st
 use Rattle.load_memory.specs.Rows.{SheetOf}
-use Rattle.csv_source.specs.Reading.{Record, Begins, Repeats, Fit, Lawful, Faulty, FailsAt, IsTableOf, FirstFault}
+use Rattle.csv_source.specs.Reading.{Record, Repeats, Fit, Lawful, Faulty, FailsAt, IsTableOf, FirstFault}
 use Rattle.csv_source.specs.declared.fault.TableFault.{TableFault}
 use Rattle.csv_source.specs.declared.fault.TableFault.TheVariants as fault
 

@@ -1,5 +1,5 @@
 -- Which faults a call may answer.
-use Rattle.std.specs.Prelude.{◌≡◌, ℕ, List, Contains, ⊤}
+use Rattle.std.specs.Prelude.{◌≡◌, ℕ, List, Contains}
 use Rattle.csv_source.specs.declared.fault.TableFault.{TableFault}
 use Rattle.csv_source.specs.declared.fault.TableFault.TheVariants as fault
 

@@ -1,4 +1,4 @@
-use Rattle.std.proofs.Common.{◌≡◌, ◌≤◌, ◌∙◌, ap, take, length, refl, arith}
+use Rattle.std.proofs.Common.{◌≤◌, ◌∙◌, ap, take, length, refl, arith}
 use Rattle.std.proofs.lemmas.List.{map-append, take_all, take_more}
 use Rattle.std.proofs.lemmas.List.Sums.{fold_push}
 use Rattle.std.specs.Char.{to_ascii_lowercase}

@@ -1,8 +1,6 @@
-use Rattle.std.proofs.Common.{◌≡◌, ◌<◌, ◌∙◌, length, get_or, [], ap, sym, arith, ℕ}
+use Rattle.std.proofs.Common.{◌≡◌, ◌<◌, ◌∙◌, length, get_or, [], ap, sym, arith}
 use Rattle.std.proofs.lemmas.List.{get_or_read}
 use Rattle.std.specs.Prelude.{◌==◌, false, true}
-use Rattle.load_memory.specs.Keys.{fold_text}
-use Rattle.csv_source.specs.Hashes.{bucket_of, in_bucket}
 use Rattle.csv_source.specs.Tables.{rows_of}
 use Rattle.csv_source.proofs.Links.{links-past, links-more, in_bucket-text, in_bucket-null, length-rows_of}
 use Rattle.csv_source.proofs.index.link.Goals as goal

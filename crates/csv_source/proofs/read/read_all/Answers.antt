@@ -1,4 +1,4 @@
-use Rattle.std.proofs.Common.{◌≡◌, ◌<◌, ◌+◌, ◌∙◌, ◌∷◌, ◌++◌, [], sym, ap, refl, arith, length, length-append}
+use Rattle.std.proofs.Common.{◌<◌, ◌∙◌, ◌∷◌, [], refl, arith, length, length-append}
 use Rattle.std.proofs.lemmas.Result.{err_from_is_err_and}
 use Rattle.csv.specs.Records.{fields_of}
 use Rattle.csv_source.proofs.Behind.{begins_with, no_records, fits_none, lawful_more, header-fault, row-fault}

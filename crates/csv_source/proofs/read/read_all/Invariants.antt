@@ -1,5 +1,5 @@
-use Rattle.std.proofs.Common.{◌≡◌, ◌≤◌, ◌∷◌, [], length, List, ℕ}
-use Rattle.csv_source.specs.Reading.{Record, IsPlain, StandsBehind, Lawful}
+use Rattle.std.proofs.Common.{◌≡◌, ◌∷◌, [], length, List, ℕ}
+use Rattle.csv_source.specs.Reading.{IsPlain, StandsBehind, Lawful}
 use Rattle.csv_source.proofs.read.read_all.Given as goal
 
 abbrev pub invariant-loop-rows : goal.invariant-loop-rows

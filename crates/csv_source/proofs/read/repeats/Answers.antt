@@ -1,4 +1,4 @@
-use Rattle.std.proofs.Common.{◌≡◌, ◌<◌, ◌∙◌, length, take, get_or, [], true, false, not, sym, refl, ap, arith, Bool}
+use Rattle.std.proofs.Common.{◌≡◌, ◌<◌, ◌∙◌, length, take, true, false, not, sym, refl, ap, arith, Bool}
 use Rattle.std.specs.Prelude.{bytes_eq}
 use Rattle.std.specs.List.{list_any}
 use Rattle.csv.specs.Records.{fields_of}

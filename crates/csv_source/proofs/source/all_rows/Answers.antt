@@ -1,4 +1,4 @@
-use Rattle.std.proofs.Common.{◌≡◌, ◌<◌, ◌∙◌, ◌∷◌, [], ap, length, get_or, sym, refl, arith}
+use Rattle.std.proofs.Common.{◌≡◌, ◌<◌, [], length, get_or, refl, arith}
 use Rattle.std.proofs.lemmas.List.{get_or-map, take_more}
 use Rattle.std.specs.Arc.{arc_value}
 use Rattle.load_memory.specs.Rows.{paired}

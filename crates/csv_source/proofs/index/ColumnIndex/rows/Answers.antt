@@ -1,13 +1,12 @@
-use Rattle.std.proofs.Common.{◌≡◌, ◌<◌, ◌∙◌, ◌∷◌, ◌++◌, length, get_or, [], ap, sym, refl, arith, true, false}
+use Rattle.std.proofs.Common.{◌≡◌, ◌<◌, ◌∙◌, length, get_or, [], sym, refl, arith}
 use Rattle.std.proofs.lemmas.List.{get_or-map, get_or_read}
 use Rattle.std.specs.Arc.{arc_value}
-use Rattle.std.specs.Prelude.{if◌then◌else◌}
 use Rattle.load_memory.specs.Keys.{fold_text}
 use Rattle.load_memory.specs.Rows.{paired}
 use Rattle.csv_source.specs.Hashes.{bucket_of}
 use Rattle.csv_source.specs.Tables.{rows_of, has_text}
 use Rattle.csv_source.proofs.Links.{length-rows_of, has_text-in_bucket}
-use Rattle.csv_source.proofs.Walks.{IsWalk, walk-start, walk-step}
+use Rattle.csv_source.proofs.Walks.{walk-start, walk-step}
 use Rattle.csv_source.proofs.index.ColumnIndex.rows.Goals.{then-is_same+in_ok-of_sheet+in_ok-add, else-is_same}
 use Rattle.csv_source.proofs.index.ColumnIndex.rows.Goals as goal
 
