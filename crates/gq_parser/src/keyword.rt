@@ -2,7 +2,7 @@
 
 /// What a name is where a word is wanted. Elsewhere each of them is a plain name.
 #[derive(Clone, Copy, Debug, PartialEq, Eq)]
-pub(crate) enum Keyword {
+pub enum Keyword {
     Query,
     Mutation,
     Subscription,

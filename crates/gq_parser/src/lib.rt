@@ -4,6 +4,7 @@
 mod keyword;
 mod tree;
 
+pub use keyword::Keyword;
 pub use tree::{
     Argument, Directive, Document, Field, Fragment, Inline, Literal, Operation, OperationKind,
     Selection, SelectionSet, Spread, TypeCondition, TypeRef, Value, VariableDefinition,
