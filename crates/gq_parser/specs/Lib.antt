@@ -1,3 +1,6 @@
 pub mod Tree
 pub mod Word
 pub mod Grammar
+pub mod Fault
+pub mod Machine
+pub mod Parsing

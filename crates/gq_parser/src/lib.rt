@@ -1,9 +1,11 @@
 //! The tree of a GraphQL document (October 2021, section 2), from its text.
 #![tactic(auto)]
 
+mod fault;
 mod keyword;
 mod tree;
 
+pub use fault::ParseFault;
 pub use keyword::Keyword;
 pub use tree::{
     Argument, Directive, Document, Field, Fragment, Inline, Literal, Operation, OperationKind,
