@@ -2,6 +2,7 @@
 //! October 2021, section 3).
 #![tactic(auto)]
 
+mod fault;
 mod tree;
 mod word;
 
