@@ -19,7 +19,7 @@ use Rattle.schema_syntax.specs.Grammar.{IsDescription, no_description, descripti
 use Rattle.schema_syntax.specs.Grammar.{IsField, field, AreFields, no_more_fields, next_field, IsEnumValue, enum_value, AreEnumValues, no_more_values, next_value, IsAmpersand, no_ampersand, ampersand, AreMoreInterfaces, no_more_interfaces, next_interface, AreInterfaces, no_interfaces, interfaces}
 use Rattle.schema_syntax.specs.Grammar.{IsPipe, no_pipe, pipe, AreMoreMembers, no_more_members, next_member, IsBody, schema, object, interface, union, enum, IsDefinition, definition, IsDocument, no_more_definitions, next_definition}
 use Rattle.schema_syntax.specs.Machine.{Terminal, AColon, AnEquals, ABracket, AParenthesis, AName, ATypeName, AnItem, AnEnumName, AText, ADeprecated, AReason, AQuery, ARootEnd}
-use Rattle.schema_syntax.specs.Machine.{Symbol, A, ADefinition, RootBody, ObjectBody, MaybeAmpersand, MoreInterfaces, InterfaceBody, EnumBody, Fields, MaybeArguments, Arguments, MaybeDefault, AType, MaybeBang, MaybeDeprecated, MaybeReason, EnumValues, MaybePipe, MoreMembers, AValue, MoreValues, MoreObjectFields}
+use Rattle.schema_syntax.specs.Machine.{Symbol, A, ADefinition, RootBody, ObjectBody, FirstInterface, MoreInterfaces, InterfaceBody, EnumBody, Fields, MaybeArguments, Arguments, MaybeDefault, AType, MaybeBang, MaybeDeprecated, MaybeReason, EnumValues, MaybePipe, MoreMembers, AValue, MoreValues, MoreObjectFields}
 use Rattle.schema_syntax.specs.Machine.{Verdict, Accepts, Rejects, Bars, verdict, on_verdict, type_name_verdict, enum_name_verdict, deprecated_verdict, reason_verdict, query_verdict, implements_verdict, end_verdict, body_move, moved, Shift, Shifts, Refused, Denied, shift, at_end, a_field_then, an_argument_then, a_value_then}
 
 -- the word is not next
@@ -27,14 +27,18 @@ abbrev pub IsNotNext : Word → List Token → Type 0
 IsNotNext w [] = Unit {0}
 IsNotNext w (at p first ∷ rest) = first ≢ w
 
+-- behind a union no further member comes
+abbrev pub EndsUnion : SchemaWord → List Token → Type 0
+EndsUnion s after = s ≡ word.Union → IsNotNext (Punct Pipe) after
+
 -- a symbol's tokens, and then what comes after. What may be left out is left out only where it isn't next.
 pub data Derives : Symbol → List Token → List Token → Type 0 where
   d_terminal : {x : Terminal} {p : Place} {w : Word} {after : List Token} → verdict x w ≡ Accepts → Derives (A x) (at p w ∷ after) after
-  d_definition : {p : Place} {k : Keyword} {n : List ℕ} {d : Definition} {mid after : List Token} → IsBody (word_of n) p d mid after → IsNotNext (Punct Pipe) after → Derives ADefinition (at p (Name k n) ∷ mid) after
+  d_definition : {p : Place} {k : Keyword} {n : List ℕ} {d : Definition} {mid after : List Token} → IsBody (word_of n) p d mid after → EndsUnion (word_of n) after → Derives ADefinition (at p (Name k n) ∷ mid) after
   d_root : {q r u v : Place} {w : List ℕ} {n : tree.Name} {mid after : List Token} → IsTypeName n mid (at v (Punct BraceRight) ∷ after) → Derives RootBody (at q (Punct BraceLeft) ∷ at r (Name Query w) ∷ at u (Punct Colon) ∷ mid) after
   d_object : {q : Place} {is : List tree.Name} {fs : List tree.Field} {before mid after : List Token} → AreInterfaces is before (at q (Punct BraceLeft) ∷ mid) → AreFields false fs mid after → Derives ObjectBody before after
-  d_no_ampersand : {after : List Token} → IsNotNext (Punct Amp) after → Derives MaybeAmpersand after after
-  d_ampersand : {p : Place} {after : List Token} → Derives MaybeAmpersand (at p (Punct Amp) ∷ after) after
+  d_first_interface : {q : Place} {i : tree.Name} {is : List tree.Name} {fs : List tree.Field} {before mid mid' mid'' after : List Token}
+      → IsAmpersand before mid → IsTypeName i mid mid' → AreMoreInterfaces is mid' (at q (Punct BraceLeft) ∷ mid'') → AreFields false fs mid'' after → Derives FirstInterface before after
   d_interfaces : {q : Place} {is : List tree.Name} {fs : List tree.Field} {before mid after : List Token} → AreMoreInterfaces is before (at q (Punct BraceLeft) ∷ mid) → AreFields false fs mid after → Derives MoreInterfaces before after
   d_interface : {q : Place} {fs : List tree.Field} {mid after : List Token} → AreFields false fs mid after → Derives InterfaceBody (at q (Punct BraceLeft) ∷ mid) after
   d_enum : {q : Place} {vs : List tree.Name} {mid after : List Token} → AreEnumValues false vs mid after → Derives EnumBody (at q (Punct BraceLeft) ∷ mid) after
@@ -44,7 +48,9 @@ pub data Derives : Symbol → List Token → List Token → Type 0 where
   d_arguments : {none : Bool} {as' : List tree.Argument} {before after : List Token} → AreArguments none as' before after → Derives (Arguments none) before after
   d_no_default : {after : List Token} → IsNotNext (Punct Equals) after → Derives MaybeDefault after after
   d_default : {p : Place} {v : Value} {mid after : List Token} → IsValue true v mid after → Derives MaybeDefault (at p (Punct Equals) ∷ mid) after
-  d_type : {t : TypeTree} {before after : List Token} → IsType t before after → IsServedType t → IsNotNext (Punct Bang) after → Derives AType before after
+  d_type : {p : Place} {k : Keyword} {n : List ℕ} {mid after : List Token} → IsServedName n → Derives MaybeBang mid after → Derives AType (at p (Name k n) ∷ mid) after
+  d_list_type : {p q r : Place} {k : Keyword} {n : List ℕ} {mid mid' after : List Token} → IsServedName n → Derives MaybeBang mid (at r (Punct BracketRight) ∷ mid') → Derives MaybeBang mid' after
+      → Derives AType (at p (Punct BracketLeft) ∷ at q (Name k n) ∷ mid) after
   d_no_bang : {after : List Token} → IsNotNext (Punct Bang) after → Derives MaybeBang after after
   d_bang : {p : Place} {after : List Token} → Derives MaybeBang (at p (Punct Bang) ∷ after) after
   d_not_deprecated : {after : List Token} → IsNotNext (Punct At) after → Derives MaybeDeprecated after after
@@ -150,6 +156,11 @@ bang_derives : {b : Bool} {before after : List Token} → IsBang b before after 
 bang_derives no_bang h = d_no_bang h
 bang_derives bang h = d_bang
 
+a_type_derives : {t : TypeTree} {before after : List Token} → IsType t before after → IsServedType t → IsNotNext (Punct Bang) after → Derives AType before after
+a_type_derives (named b) served h = d_type served (bang_derives b h)
+a_type_derives (list_of (named b') b) served h = d_list_type served (bang_derives b' (λ e. cc)) (bang_derives b h)
+a_type_derives (list_of (list_of t b') b) served h = absurd served
+
 reason_derives : {before after : List Token} → IsReason before after → IsNotNext (Punct ParenLeft) after → Derives MaybeReason before after
 reason_derives no_reason h = d_no_reason h
 reason_derives (reason e) h = d_reason e
@@ -166,10 +177,6 @@ arguments_derive : {as' : List tree.Argument} {p : Place} {before after : List T
 arguments_derive no_arguments = d_no_arguments (λ e. cc)
 arguments_derive (arguments others) = d_some_arguments others
 
-ampersand_derives : {n : tree.Name} {before mid after : List Token} → IsAmpersand before mid → IsTypeName n mid after → Derives MaybeAmpersand before mid
-ampersand_derives no_ampersand (type_name h) = d_no_ampersand (λ e. cc)
-ampersand_derives ampersand n = d_ampersand
-
 pipe_derives : {n : tree.Name} {before mid after : List Token} → IsPipe before mid → IsTypeName n mid after → Derives MaybePipe before mid
 pipe_derives no_pipe (type_name h) = d_no_pipe (λ e. cc)
 pipe_derives pipe n = d_pipe
@@ -178,37 +185,36 @@ field_means : {as' : List tree.Argument} {t : TypeTree} {fs : List tree.Field} {
     → AreOptionalArguments as' before (at p (Punct Colon) ∷ mid) → IsType t mid mid' → IsServedType t → IsDeprecated mid' mid'' → AreFields true fs mid'' after → Means stack after → Means (a_field_then ++ stack) before
 field_means args ty served dep fs rest =
     let h = after_fields fs in
-    then' (arguments_derive args) (then' (d_terminal refl) (then' (d_type ty served (deprecated_no_bang dep h)) (then' (deprecated_derives dep h) (then' (d_fields fs) rest))))
+    then' (arguments_derive args) (then' (d_terminal refl) (then' (a_type_derives ty served (deprecated_no_bang dep h)) (then' (deprecated_derives dep h) (then' (d_fields fs) rest))))
 
 argument_means : {t : TypeTree} {v : Option Value} {as' : List tree.Argument} {p : Place} {mid mid' mid'' after : List Token} {stack : List Symbol}
     → IsType t mid mid' → IsServedType t → IsDefault v mid' mid'' → AreArguments true as' mid'' after → Means stack after → Means (an_argument_then ++ stack) (at p (Punct Colon) ∷ mid)
 argument_means ty served v others rest =
     let h = after_arguments others in
-    then' (d_terminal refl) (then' (d_type ty served (default_no_bang v h)) (then' (default_derives v h) (then' (d_arguments others) rest)))
+    then' (d_terminal refl) (then' (a_type_derives ty served (default_no_bang v h)) (then' (default_derives v h) (then' (d_arguments others) rest)))
 
 value_means : {vs : List tree.Name} {mid mid' after : List Token} {stack : List Symbol} → IsDeprecated mid mid' → AreEnumValues true vs mid' after → Means stack after → Means (a_value_then ++ stack) mid
 value_means dep others rest = then' (deprecated_derives dep (after_values others)) (then' (d_values others) rest)
 
-body_shifts : {s : SchemaWord} {p : Place} {d : Definition} {mid after : List Token} {stack : List Symbol} (skipped : Shift) → IsBody s p d mid after → IsNotNext (Punct Pipe) after → Means stack after → Shifted (moved (body_move s) stack skipped) mid
+body_shifts : {s : SchemaWord} {p : Place} {d : Definition} {mid after : List Token} {stack : List Symbol} (skipped : Shift) → IsBody s p d mid after → EndsUnion s after → Means stack after → Shifted (moved (body_move s) stack skipped) mid
 body_shifts skipped (schema n) h rest = then' (d_root n) rest
 body_shifts skipped (object n is fs) h rest = then' (type_derives n) (then' (d_object is fs) rest)
 body_shifts skipped (interface n fs) h rest = then' (type_derives n) (then' (d_interface fs) rest)
-body_shifts skipped (union n b m others) h rest = then' (type_derives n) (then' (d_terminal refl) (then' (pipe_derives b m) (then' (type_derives m) (then' (d_members others h) rest))))
+body_shifts skipped (union n b m others) h rest = then' (type_derives n) (then' (d_terminal refl) (then' (pipe_derives b m) (then' (type_derives m) (then' (d_members others (h refl)) rest))))
 body_shifts skipped (enum n vs) h rest = then' (type_derives n) (then' (d_enum vs) rest)
 
 -- ---- from the tokens to the machine
 
 pub shifts : {stack : List Symbol} {p : Place} {w : Word} {tokens : List Token} → Means stack (at p w ∷ tokens) → Shifted (shift stack w) tokens
-shifts (ends (next_definition (definition no_description b) others)) = body_shifts _ b (document_no_pipe others) (ends others)
-shifts (ends (next_definition (definition description b) others)) = then' (d_definition b (document_no_pipe others)) (ends others)
+shifts (ends (next_definition (definition no_description b) others)) = body_shifts _ b (λ e. document_no_pipe others) (ends others)
+shifts (ends (next_definition (definition description b) others)) = then' (d_definition b (λ e. document_no_pipe others)) (ends others)
 shifts (then' (d_terminal e) rest) = rw e rest
 shifts (then' (d_definition b h) rest) = body_shifts _ b h rest
 shifts (then' (d_root (type_name {n = n} h)) rest) = then' (d_terminal refl) (then' (d_terminal refl) (then' (d_terminal (served_accepts (word_of n) h)) (then' (d_terminal refl) rest)))
 shifts (then' (d_object no_interfaces fs) rest) = then' (d_fields fs) rest
-shifts (then' (d_object (interfaces e a n others) fs) rest) = rw e (then' (ampersand_derives a n) (then' (type_derives n) (then' (d_interfaces others fs) rest)))
-shifts {w = Punct Amp} (then' (d_no_ampersand h) rest) = absurd (h refl)
-shifts {w = _} (then' (d_no_ampersand h) rest) = shifts rest
-shifts (then' d_ampersand rest) = rest
+shifts (then' (d_object (interfaces e a n others) fs) rest) = rw e (then' (d_first_interface a n others fs) rest)
+shifts (then' (d_first_interface no_ampersand (type_name {n = n} h) others fs) rest) = rw (served_accepts (word_of n) h) (then' (d_interfaces others fs) rest)
+shifts (then' (d_first_interface ampersand n others fs) rest) = then' (type_derives n) (then' (d_interfaces others fs) rest)
 shifts (then' (d_interfaces no_more_interfaces fs) rest) = then' (d_fields fs) rest
 shifts (then' (d_interfaces (next_interface n others) fs) rest) = then' (type_derives n) (then' (d_interfaces others fs) rest)
 shifts (then' (d_interface fs) rest) = then' (d_fields fs) rest
@@ -225,9 +231,8 @@ shifts (then' (d_arguments (next_argument (argument description a_name ty served
 shifts {w = Punct Equals} (then' (d_no_default h) rest) = absurd (h refl)
 shifts {w = _} (then' (d_no_default h) rest) = shifts rest
 shifts (then' (d_default v) rest) = then' (d_value v) rest
-shifts (then' (d_type (named {n = n} b) served h) rest) = rw (served_accepts (word_of n) served) (then' (bang_derives b h) rest)
-shifts (then' (d_type (list_of (named {n = n} b') b) served h) rest) = then' (d_terminal (served_accepts (word_of n) served)) (then' (bang_derives b' (λ e. cc)) (then' (d_terminal refl) (then' (bang_derives b h) rest)))
-shifts (then' (d_type (list_of (list_of t b') b) served h) rest) = absurd served
+shifts (then' (d_type {n = n} served b) rest) = rw (served_accepts (word_of n) served) (then' b rest)
+shifts (then' (d_list_type {n = n} served b' b) rest) = then' (d_terminal (served_accepts (word_of n) served)) (then' b' (then' (d_terminal refl) (then' b rest)))
 shifts {w = Punct Bang} (then' (d_no_bang h) rest) = absurd (h refl)
 shifts {w = _} (then' (d_no_bang h) rest) = shifts rest
 shifts (then' d_bang rest) = rest

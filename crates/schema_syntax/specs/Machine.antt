@@ -37,7 +37,7 @@ pub data Symbol : Type 0 where
   ADefinition : Symbol
   RootBody : Symbol
   ObjectBody : Symbol
-  MaybeAmpersand : Symbol
+  FirstInterface : Symbol
   MoreInterfaces : Symbol
   InterfaceBody : Symbol
   EnumBody : Symbol
@@ -191,11 +191,12 @@ move (A x) w = on_verdict (verdict x w) []
 move ADefinition w = definition_move w
 move RootBody (Punct BraceLeft) = Takes a_root
 move RootBody _ = Refuses
-move ObjectBody (Name k n) = on_verdict (implements_verdict (word_of n)) (MaybeAmpersand ∷ A ATypeName ∷ one MoreInterfaces)
+move ObjectBody (Name k n) = on_verdict (implements_verdict (word_of n)) (one FirstInterface)
 move ObjectBody (Punct BraceLeft) = Takes (one (Fields false))
 move ObjectBody _ = Refuses
-move MaybeAmpersand (Punct Amp) = Takes []
-move MaybeAmpersand _ = Skips
+move FirstInterface (Punct Amp) = Takes (A ATypeName ∷ one MoreInterfaces)
+move FirstInterface (Name k n) = on_verdict (type_name_verdict (word_of n)) (one MoreInterfaces)
+move FirstInterface _ = Refuses
 move MoreInterfaces (Punct Amp) = Takes (A ATypeName ∷ one MoreInterfaces)
 move MoreInterfaces (Punct BraceLeft) = Takes (one (Fields false))
 move MoreInterfaces _ = Refuses
@@ -304,7 +305,6 @@ step room stack w tokens =
 -- nothing is left, and this is expected
 abbrev pub at_end : List Symbol → Option Stop
 at_end [] = None
-at_end (MaybeAmpersand ∷ stack) = at_end stack
 at_end (MaybeArguments ∷ stack) = at_end stack
 at_end (MaybeDefault ∷ stack) = at_end stack
 at_end (MaybeBang ∷ stack) = at_end stack
