@@ -1,3 +1,4 @@
 pub mod Means
 pub mod Back
 pub mod Served
+pub mod Refused

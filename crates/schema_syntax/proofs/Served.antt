@@ -66,12 +66,6 @@ word_before s stack t h (operation {p = p} e c) = operation e (either (comes_bef
 word_before s stack t h (implements {p = p} e c d) = implements e (comes_before s stack p (Punct BraceLeft) _ h.opens c) (λ x. d (comes_behind s stack p (Punct Amp) [] h.ampersand x))
 word_before s stack t h (float {p = p} {k = k} e c) = float e (comes_before s stack p (Name k a) [] (h.names k a) c)
 
-word_behind : (s : Symbol) (stack : List Symbol) (t : Token) → IsPassed s → IsUnservedWord (Comes (s ∷ stack) []) t → IsUnservedWord (Comes stack []) t
-word_behind s stack t h (definition {p = p} {k = k} e c) = definition e (comes_behind s stack p (Name k (codes "type")) [] (h.names k (codes "type")) c)
-word_behind s stack t h (operation {p = p} e c) = operation e (either (comes_behind s stack p (Name Query (codes "query")) [] (h.names Query (codes "query"))) (comes_behind s stack p (Punct BraceRight) [] h.closes) c)
-word_behind s stack t h (implements {p = p} e c d) = implements e (comes_behind s stack p (Punct BraceLeft) _ h.opens c) (λ x. d (comes_before s stack p (Punct Amp) [] h.ampersand x))
-word_behind s stack t h (float {p = p} {k = k} e c) = float e (comes_behind s stack p (Name k a) [] (h.names k a) c)
-
 passes_arguments : IsPassed MaybeArguments
 passes_arguments = record { names = λ k n. refl; opens = refl; closes = refl; ampersand = refl }
 
