@@ -2,3 +2,4 @@ pub mod Means
 pub mod Back
 pub mod Served
 pub mod Refused
+pub mod Faults
