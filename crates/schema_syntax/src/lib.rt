@@ -3,6 +3,7 @@
 #![tactic(auto)]
 
 mod fault;
+mod parser;
 mod tree;
 mod word;
 
