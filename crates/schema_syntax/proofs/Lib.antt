@@ -3,3 +3,4 @@ pub mod Back
 pub mod Served
 pub mod Refused
 pub mod Faults
+pub mod Reading

@@ -1,7 +1,14 @@
 //! The names that mean something where the grammar has them as words.
 
-ghost use Rattle.std.specs.Prelude.{◌≡◌};
-ghost use Rattle.schema_syntax.specs.Word.{word_of};
+ghost use Rattle.std.specs.Prelude.{◌≡◌, MatchBool, MatchResult};
+ghost use Rattle.gq_parser.specs.Word.{keyword_of, IsEnumName};
+ghost use Rattle.schema_syntax.specs.Parsing.{IsNameValue};
+ghost use Rattle.schema_syntax.specs.Word.{word_of, IsServedName, operation_of};
+ghost use Rattle.schema_syntax.specs.declared.word.SchemaWord.TheVariants as words;
+
+use crate::fault::Stop;
+use gq_parser::Value;
+use std::alloc::Global;
 
 /// What a name is where a word is wanted. Elsewhere each of them is a plain name.
 #[derive(Clone, Copy, Debug, PartialEq, Eq)]
@@ -41,5 +48,54 @@ pub(crate) fn word_of(name: &str) -> SchemaWord
         "extend" => SchemaWord::Unserved,
         "Float" => SchemaWord::Float,
         _ => SchemaWord::Other,
+    }
+}
+
+/// Whether a type may have this name.
+pub(crate) fn is_served_name(name: &str) -> bool
+    ensures { MatchBool result (IsServedName name.now) (word_of name.now ≡ words.Float) }
+{
+    match word_of(name) {
+        SchemaWord::Float => false,
+        _ => true,
+    }
+}
+
+/// Whether an enum's value may have this name.
+#[tactic(auto, unfolding(gq_parser::specs::Word::keyword_of))]
+pub(crate) fn is_enum_name(name: &str) -> bool
+    ensures { MatchBool result (IsEnumName (keyword_of name.now)) (IsEnumName (keyword_of name.now) → ⊥) }
+{
+    match name {
+        "true" => false,
+        "false" => false,
+        "null" => false,
+        _ => true,
+    }
+}
+
+/// Of an operation type, whether it is served.
+#[tactic(auto, unfolding(gq_parser::specs::Word::keyword_of))]
+pub(crate) fn operation(name: &str) -> Option<bool>
+    ensures { result ≡ operation_of (keyword_of name.now) }
+{
+    match name {
+        "query" => Some(true),
+        "mutation" => Some(false),
+        "subscription" => Some(false),
+        _ => None,
+    }
+}
+
+/// The value that a name is.
+#[tactic(auto, unfolding(gq_parser::specs::Word::keyword_of))]
+pub(crate) fn name_value(alloc: Global, name: &str) -> Result<Value, Stop>
+    ensures { MatchResult result (IsNameValue name.now) (λ e. e ≡ Stop.NoMemory) }
+{
+    match name {
+        "true" => Ok(Value::Boolean(true)),
+        "false" => Ok(Value::Boolean(false)),
+        "null" => Ok(Value::Null),
+        _ => Ok(Value::Enum(String::from_str(alloc, name)?)),
     }
 }
