@@ -7,7 +7,7 @@ ghost use Rattle.schema_syntax.specs.Word.{word_of, IsServedName, operation_of};
 ghost use Rattle.schema_syntax.specs.declared.word.SchemaWord.TheVariants as words;
 
 use crate::fault::Stop;
-use gq_parser::Value;
+use gq_parser::{Keyword, Value};
 use std::alloc::Global;
 
 /// What a name is where a word is wanted. Elsewhere each of them is a plain name.
@@ -61,41 +61,56 @@ pub(crate) fn is_served_name(name: &str) -> bool
     }
 }
 
-/// Whether an enum's value may have this name.
+/// What a name is in the documents' language.
 #[tactic(auto, unfolding(gq_parser::specs::Word::keyword_of))]
+fn keyword_of(name: &str) -> Keyword
+    ensures { result ≡ keyword_of name.now }
+{
+    match name {
+        "query" => Keyword::Query,
+        "mutation" => Keyword::Mutation,
+        "subscription" => Keyword::Subscription,
+        "fragment" => Keyword::Fragment,
+        "on" => Keyword::On,
+        "true" => Keyword::True,
+        "false" => Keyword::False,
+        "null" => Keyword::Null,
+        _ => Keyword::Other,
+    }
+}
+
+/// Whether an enum's value may have this name.
 pub(crate) fn is_enum_name(name: &str) -> bool
     ensures { MatchBool result (IsEnumName (keyword_of name.now)) (IsEnumName (keyword_of name.now) → ⊥) }
 {
-    match name {
-        "true" => false,
-        "false" => false,
-        "null" => false,
+    match keyword_of(name) {
+        Keyword::True => false,
+        Keyword::False => false,
+        Keyword::Null => false,
         _ => true,
     }
 }
 
 /// Of an operation type, whether it is served.
-#[tactic(auto, unfolding(gq_parser::specs::Word::keyword_of))]
 pub(crate) fn operation(name: &str) -> Option<bool>
     ensures { result ≡ operation_of (keyword_of name.now) }
 {
-    match name {
-        "query" => Some(true),
-        "mutation" => Some(false),
-        "subscription" => Some(false),
+    match keyword_of(name) {
+        Keyword::Query => Some(true),
+        Keyword::Mutation => Some(false),
+        Keyword::Subscription => Some(false),
         _ => None,
     }
 }
 
 /// The value that a name is.
-#[tactic(auto, unfolding(gq_parser::specs::Word::keyword_of))]
 pub(crate) fn name_value(alloc: Global, name: &str) -> Result<Value, Stop>
     ensures { MatchResult result (IsNameValue name.now) (λ e. e ≡ Stop.NoMemory) }
 {
-    match name {
-        "true" => Ok(Value::Boolean(true)),
-        "false" => Ok(Value::Boolean(false)),
-        "null" => Ok(Value::Null),
+    match keyword_of(name) {
+        Keyword::True => Ok(Value::Boolean(true)),
+        Keyword::False => Ok(Value::Boolean(false)),
+        Keyword::Null => Ok(Value::Null),
         _ => Ok(Value::Enum(String::from_str(alloc, name)?)),
     }
 }
