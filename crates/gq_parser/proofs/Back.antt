@@ -8,7 +8,8 @@ use Rattle.gq_parser.specs.declared.keyword.Keyword.{Keyword}
 use Rattle.gq_parser.specs.declared.keyword.Keyword.TheVariants.{Query, Mutation, Subscription, Fragment, On, True, False, Null, Other}
 use Rattle.gq_parser.specs.declared.tree.OperationKind.{OperationKind}
 use Rattle.gq_parser.specs.declared.tree.OperationKind.TheVariants as kind
-use Rattle.gq_parser.specs.Word.{Word, Punct, Name, Int, Float, Text, Token, at, keyword_of, IsFragmentName, IsEnumName, AreSpelled}
+use Rattle.gq_parser.specs.Keywords.{keyword_of, IsFragmentName, IsEnumName}
+use Rattle.gq_parser.specs.Word.{Word, Punct, Name, Int, Float, Text, Token, at, AreSpelled}
 use Rattle.gq_parser.specs.Tree as tree
 use Rattle.gq_parser.specs.Grammar.{IsValue, variable, int, float, text, yes, no, null, enum, array, object, AreValues, no_more_values, next_value, AreMembers, no_more_members, next_member}
 use Rattle.gq_parser.specs.Grammar.{IsBang, no_bang, bang, IsType, named, list_of, IsArgument, argument, AreArguments, no_more_arguments, next_argument, AreOptionalArguments, no_arguments, arguments}
@@ -18,8 +19,8 @@ use Rattle.gq_parser.specs.Grammar.{IsDefault, no_default, default, IsVariable, 
 use Rattle.gq_parser.specs.Grammar.{IsOptionalName, no_name, a_name, IsKind, query, mutation, subscription, IsOperation, shorthand, operation, IsFragment, fragment, AreDefinitions, no_more_definitions, next_operation, next_fragment}
 use Rattle.gq_parser.specs.Machine.{Symbol, AName, AFragmentName, AnOn, AColon, AValue, MoreValues, MoreMembers, AType, ABracket, MaybeBang, MaybeArguments, MoreArguments, MaybeDirectives, AfterName, AfterDots, MaybeSet, ASet, FirstSelection, MoreSelections, MaybeDefault, FirstVariable, MoreVariables, MaybeVariables, MaybeName, ADefinition}
 use Rattle.gq_parser.specs.Machine.{Takes, moved, shift, Done, at_end, an_operation_then, a_fragment_then}
-use Rattle.gq_parser.specs.Parsing.{IsNotNext}
-use Rattle.gq_parser.proofs.Means.{IsNoName, Derives, d_name, d_fragment_name, d_on, d_colon, d_value, d_values, d_members, d_type, d_list_type, d_bracket, d_no_bang, d_bang, d_no_arguments, d_arguments, d_more_arguments, d_no_directives, d_directive, d_no_alias, d_alias}
+use Rattle.gq_parser.specs.Parsing.{IsNotNext, IsNoName}
+use Rattle.gq_parser.proofs.Means.{Derives, d_name, d_fragment_name, d_on, d_colon, d_value, d_values, d_members, d_type, d_list_type, d_bracket, d_no_bang, d_bang, d_no_arguments, d_arguments, d_more_arguments, d_no_directives, d_directive, d_no_alias, d_alias}
 use Rattle.gq_parser.proofs.Means.{d_spread, d_inline, d_no_set, d_maybe_set, d_set, d_first, d_more, d_no_default, d_default, d_first_variable, d_more_variables, d_no_variables, d_variables, d_no_name, d_maybe_name, d_operation, d_fragment, Means, ends, then', Shifted}
 
 -- ---- from the symbols to the grammar

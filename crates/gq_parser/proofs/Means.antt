@@ -8,7 +8,8 @@ use Rattle.gq_parser.specs.declared.keyword.Keyword.{Keyword}
 use Rattle.gq_parser.specs.declared.keyword.Keyword.TheVariants.{Query, Mutation, Subscription, Fragment, On, True, False, Null, Other}
 use Rattle.gq_parser.specs.declared.tree.OperationKind.{OperationKind}
 use Rattle.gq_parser.specs.declared.tree.OperationKind.TheVariants as kind
-use Rattle.gq_parser.specs.Word.{Word, Punct, Name, Int, Float, Text, Token, at, keyword_of, IsFragmentName, IsEnumName, AreSpelled}
+use Rattle.gq_parser.specs.Keywords.{keyword_of, IsFragmentName, IsEnumName}
+use Rattle.gq_parser.specs.Word.{Word, Punct, Name, Int, Float, Text, Token, at, AreSpelled}
 use Rattle.gq_parser.specs.Tree as tree
 use Rattle.gq_parser.specs.Grammar.{IsValue, variable, int, float, text, yes, no, null, enum, array, object, AreValues, no_more_values, next_value, AreMembers, no_more_members, next_member}
 use Rattle.gq_parser.specs.Grammar.{IsBang, no_bang, bang, IsType, named, list_of, IsArgument, argument, AreArguments, no_more_arguments, next_argument, AreOptionalArguments, no_arguments, arguments}
@@ -18,13 +19,7 @@ use Rattle.gq_parser.specs.Grammar.{IsDefault, no_default, default, IsVariable, 
 use Rattle.gq_parser.specs.Grammar.{IsOptionalName, no_name, a_name, IsKind, query, mutation, subscription, IsOperation, shorthand, operation, IsFragment, fragment, AreDefinitions, no_more_definitions, next_operation, next_fragment}
 use Rattle.gq_parser.specs.Machine.{Symbol, AName, AFragmentName, AnOn, AColon, AValue, MoreValues, MoreMembers, AType, ABracket, MaybeBang, MaybeArguments, MoreArguments, MaybeDirectives, AfterName, AfterDots, MaybeSet, ASet, FirstSelection, MoreSelections, MaybeDefault, FirstVariable, MoreVariables, MaybeVariables, MaybeName, ADefinition}
 use Rattle.gq_parser.specs.Machine.{Takes, moved, shift, Done, at_end, an_operation_then, a_fragment_then}
-use Rattle.gq_parser.specs.Parsing.{IsNotNext}
-
--- what no name is next of
-abbrev pub IsNoName : List Token → Type 0
-IsNoName [] = Unit {0}
-IsNoName (at p (Name k n) ∷ rest) = ⊥
-IsNoName (at p _ ∷ rest) = Unit {0}
+use Rattle.gq_parser.specs.Parsing.{IsNotNext, IsNoName}
 
 -- a symbol's tokens, and then what comes after. What may be left out is left out only where it isn't next.
 pub data Derives : Symbol → List Token → List Token → Type 0 where

@@ -122,3 +122,8 @@ place_of_parse_fault fault.NoMemory = None
 abbrev pub Finds : Document → Result rust.Document ParseFault → Type 0
 Finds d (Ok found) = document_of found ≡ d
 Finds d (Err f) = f ≡ fault.NoMemory
+
+-- the fault of a text that is no list of tokens
+abbrev pub lexed : LexFault → ParseFault
+lexed lex.NoMemory = fault.NoMemory
+lexed f = fault.Lex f

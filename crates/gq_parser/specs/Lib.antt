@@ -1,3 +1,4 @@
+pub mod Keywords
 pub mod Tree
 pub mod Word
 pub mod Grammar

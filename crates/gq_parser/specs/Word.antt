@@ -1,6 +1,5 @@
 -- What the grammar speaks of: words, and tokens, which are words with their places.
-use Rattle.std.specs.Prelude.{◌≡◌, ℕ, List, [], ◌∷◌, map, codes, Option, Some, None, if◌then◌else◌}
-use Rattle.std.specs.Str.{bytes_eq}
+use Rattle.std.specs.Prelude.{◌≡◌, ℕ, List, [], ◌∷◌, map, Option, Some, None}
 use Rattle.gq_lexer.specs.declared.place.Place.{Place}
 use Rattle.gq_lexer.specs.declared.token.Punct as lexer
 use Rattle.gq_lexer.specs.declared.token.Kind as lexer-kind
@@ -9,7 +8,7 @@ use Rattle.gq_lexer.specs.declared.token.Token as lexer-token
 use Rattle.gq_lexer.specs.Tokens.{bytes_of}
 use Rattle.gq_lexer.specs.StringOf.{string_of}
 use Rattle.gq_parser.specs.declared.keyword.Keyword.{Keyword}
-use Rattle.gq_parser.specs.declared.keyword.Keyword.TheVariants.{Query, Mutation, Subscription, Fragment, On, True, False, Null, Other}
+use Rattle.gq_parser.specs.Keywords.{keyword_of}
 
 -- A punctuator, a name with what it is where a word is wanted, a number with its text, or a string with its value.
 pub data Word : Type 0 where
@@ -21,31 +20,6 @@ pub data Word : Type 0 where
 
 pub data Token : Type 0 where
   at : Place → Word → Token
-
--- what a name is where a word is wanted
-unfoldable pub keyword_of : List ℕ → Keyword
-keyword_of name =
-    if bytes_eq name (codes "query") then Query
-    else if bytes_eq name (codes "mutation") then Mutation
-    else if bytes_eq name (codes "subscription") then Subscription
-    else if bytes_eq name (codes "fragment") then Fragment
-    else if bytes_eq name (codes "on") then On
-    else if bytes_eq name (codes "true") then True
-    else if bytes_eq name (codes "false") then False
-    else if bytes_eq name (codes "null") then Null
-    else Other
-
--- a name that a fragment may have: any but `on`
-abbrev pub IsFragmentName : Keyword → Type 0
-IsFragmentName On = ⊥
-IsFragmentName _ = Unit {0}
-
--- a name that an enum's value may have: any but `true`, `false` and `null`
-abbrev pub IsEnumName : Keyword → Type 0
-IsEnumName True = ⊥
-IsEnumName False = ⊥
-IsEnumName Null = ⊥
-IsEnumName _ = Unit {0}
 
 -- ---- the tokens of a text
 

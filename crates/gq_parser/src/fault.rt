@@ -1,7 +1,7 @@
 //! Why a text is no document.
 
 ghost use Rattle.std.specs.Prelude.{◌≡◌};
-ghost use Rattle.gq_parser.specs.Fault.{place_of_parse_fault};
+ghost use Rattle.gq_parser.specs.Fault.{place_of_parse_fault, lexed};
 ghost use Rattle.gq_parser.specs.declared.fault.Fault.TheVariants.{NoMemory};
 
 use gq_lexer::{LexFault, Place};
@@ -42,6 +42,17 @@ impl ParseFault {
             | ParseFault::UnexpectedEnd(place)
             | ParseFault::TooDeep(place) => Some(*place),
             ParseFault::NoMemory => None,
+        }
+    }
+}
+
+impl From<LexFault> for ParseFault {
+    ghost from_gives = { λ f e. e ≡ lexed f };
+
+    fn from(fault: LexFault) -> ParseFault {
+        match fault {
+            LexFault::NoMemory => ParseFault::NoMemory,
+            fault => ParseFault::Lex(fault),
         }
     }
 }
