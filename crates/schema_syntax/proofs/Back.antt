@@ -6,7 +6,8 @@ use Rattle.gq_lexer.specs.declared.token.Punct as lexer
 use Rattle.gq_lexer.specs.declared.token.Punct.TheVariants.{Bang, Amp, ParenLeft, ParenRight, Colon, Equals, At, BracketLeft, BracketRight, BraceLeft, BraceRight, Pipe}
 use Rattle.gq_parser.specs.declared.keyword.Keyword.{Keyword}
 use Rattle.gq_parser.specs.declared.keyword.Keyword.TheVariants.{Query, True, False, Null}
-use Rattle.gq_parser.specs.Word.{Word, Punct, Name, Text, Token, at, IsEnumName}
+use Rattle.gq_parser.specs.Word.{Word, Punct, Name, Text, Token, at}
+use Rattle.gq_parser.specs.Keywords.{IsEnumName}
 use Rattle.gq_parser.specs.Word as words
 use Rattle.gq_parser.specs.Tree.{Value, Values, Members, TypeTree, Named}
 use Rattle.gq_parser.specs.Grammar as value
@@ -24,7 +25,8 @@ use Rattle.schema_syntax.specs.Machine.{Symbol, A, ADefinition, RootBody, Object
 use Rattle.schema_syntax.specs.Machine.{Verdict, Move, Takes, Skips, Refuses, Denies, Accepts, Rejects, Bars, verdict, on_verdict, type_name_verdict, enum_name_verdict, deprecated_verdict, reason_verdict, query_verdict, implements_verdict, no_implements_verdict, end_verdict, body_move, moved, Shift, Shifts, Refused, Denied, shift, at_end, a_root, a_field_then, an_argument_then, a_value_then}
 
 use Rattle.gq_parser.specs.declared.keyword.Keyword.TheVariants.{Mutation, Subscription, Fragment, On, Other}
-use Rattle.gq_parser.specs.Word.{AreSpelled, keyword_of}
+use Rattle.gq_parser.specs.Word.{AreSpelled}
+use Rattle.gq_parser.specs.Keywords.{keyword_of}
 use Rattle.schema_syntax.specs.declared.fault.Stop.{Stop}
 use Rattle.schema_syntax.proofs.Means.{IsNotNext, EndsUnion, Derives, Means, ends, then', Shifted}
 use Rattle.schema_syntax.proofs.Means.{d_terminal, d_definition, d_root, d_object, d_first_interface, d_interfaces, d_interface, d_enum, d_fields, d_no_arguments, d_some_arguments, d_arguments, d_no_default, d_default, d_type, d_list_type, d_no_bang, d_bang, d_not_deprecated, d_deprecated, d_no_reason, d_reason, d_values, d_no_pipe, d_pipe, d_members, d_value, d_more_values, d_object_fields}

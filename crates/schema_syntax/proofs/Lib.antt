@@ -4,3 +4,6 @@ pub mod Served
 pub mod Refused
 pub mod Faults
 pub mod Reading
+pub mod Views
+pub mod Values
+pub mod Front

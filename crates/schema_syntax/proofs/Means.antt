@@ -5,7 +5,8 @@ use Rattle.gq_lexer.specs.declared.place.Place.{Place}
 use Rattle.gq_lexer.specs.declared.token.Punct.TheVariants.{Bang, Amp, ParenLeft, ParenRight, Colon, Equals, At, BracketLeft, BracketRight, BraceLeft, BraceRight, Pipe}
 use Rattle.gq_parser.specs.declared.keyword.Keyword.{Keyword}
 use Rattle.gq_parser.specs.declared.keyword.Keyword.TheVariants.{Query, True, False, Null}
-use Rattle.gq_parser.specs.Word.{Word, Punct, Name, Text, Token, at, IsEnumName}
+use Rattle.gq_parser.specs.Word.{Word, Punct, Name, Text, Token, at}
+use Rattle.gq_parser.specs.Keywords.{IsEnumName}
 use Rattle.gq_parser.specs.Word as words
 use Rattle.gq_parser.specs.Tree.{Value, Values, Members, TypeTree}
 use Rattle.gq_parser.specs.Grammar as value

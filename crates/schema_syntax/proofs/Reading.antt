@@ -11,7 +11,8 @@ use Rattle.gq_parser.specs.declared.tree.TypeRef as rust-type
 use Rattle.gq_parser.specs.declared.tree.TypeRef.TheVariants as typeref
 use Rattle.gq_parser.specs.declared.tree.TypeRef.TheFolds.{fold-roll-TypeRef}
 use Rattle.gq_parser.specs.declared.tree.TypeRef.TheOpen as open-type
-use Rattle.gq_parser.specs.Word.{Word, Punct, Name, Text, Token, at, keyword_of, IsEnumName}
+use Rattle.gq_parser.specs.Word.{Word, Punct, Name, Text, Token, at}
+use Rattle.gq_parser.specs.Keywords.{keyword_of, IsEnumName}
 use Rattle.gq_parser.specs.Word as words
 use Rattle.gq_parser.specs.Tree.{TypeTree, Named, ListOf, type_of, type_step}
 use Rattle.gq_parser.specs.Grammar.{IsBang, no_bang, bang, IsType, named, list_of}
@@ -294,3 +295,11 @@ deprecated_is e e1 h r = rw (e, e1) (deprecated h r)
 pub deprecated_read : (room : ℕ) (p q : Place) (k : Keyword) (n : List ℕ) (before b1 b2 after : List Token) (res : Result (Unit {0}) Stop) → before ≡ at p (Punct At) ∷ b1 → b1 ≡ at q (Name k n) ∷ b2 → word_of n ≡ word.Deprecated
     → Reads (λ _. IsReason) room (one MaybeReason) room [] b2 after res → Reads (λ _. IsDeprecated) room (one MaybeDeprecated) room [] before after res
 deprecated_read room p q k n before b1 b2 after res o e h = reads_from (λ _. IsReason) (λ _. IsDeprecated) room room room (one MaybeDeprecated) (one MaybeReason) [] before b2 after res (λ stack. deprecated_opens room p q k n before b1 b2 stack o e h) (λ t r. deprecated_is o e h r)
+
+-- ---- punctuators that come
+
+pub colon_comes : (room : ℕ) (before after : List Token) (stack : List Symbol) → IsTaken (Punct Colon) before after → read room (A AColon ∷ stack) before ≡ read room stack after
+colon_comes room before after stack h = rw h.is refl
+
+pub equals_comes : (room : ℕ) (before after : List Token) (stack : List Symbol) → IsTaken (Punct Equals) before after → read room (A AnEquals ∷ stack) before ≡ read room stack after
+equals_comes room before after stack h = rw h.is refl

@@ -4,7 +4,8 @@ use Rattle.gq_lexer.specs.declared.place.Place.{Place}
 use Rattle.gq_lexer.specs.declared.token.Punct as lexer
 use Rattle.gq_lexer.specs.declared.token.Punct.TheVariants.{BraceLeft, Colon}
 use Rattle.gq_parser.specs.declared.keyword.Keyword.{Keyword}
-use Rattle.gq_parser.specs.Word.{Word, Punct, Name, Int, Float, Text, Token, at, keyword_of, IsEnumName}
+use Rattle.gq_parser.specs.Word.{Word, Punct, Name, Int, Float, Text, Token, at}
+use Rattle.gq_parser.specs.Keywords.{keyword_of, IsEnumName}
 use Rattle.gq_parser.specs.declared.keyword.Keyword.TheVariants.{Query}
 use Rattle.gq_parser.specs.Tree as values
 use Rattle.gq_parser.specs.Tree.{TypeTree, Named, ListOf, literal_of}
@@ -87,11 +88,15 @@ TakesText old new (Some t) = old ≡ at t.0 (Text (string_bytes t.1)) ∷ new
 TakesText old new None = (new ≡ old) × IsNoText old
 
 -- no number is next
-abbrev pub IsNoNumber : List Token → Type 0
-IsNoNumber [] = Unit {0}
-IsNoNumber (at p (Int n) ∷ rest) = ⊥
-IsNoNumber (at p (Float n) ∷ rest) = ⊥
-IsNoNumber (at p _ ∷ rest) = Unit {0}
+abbrev pub IsNoInt : List Token → Type 0
+IsNoInt [] = Unit {0}
+IsNoInt (at p (Int n) ∷ rest) = ⊥
+IsNoInt (at p _ ∷ rest) = Unit {0}
+
+abbrev pub IsNoFloat : List Token → Type 0
+IsNoFloat [] = Unit {0}
+IsNoFloat (at p (Float n) ∷ rest) = ⊥
+IsNoFloat (at p _ ∷ rest) = Unit {0}
 
 -- a name is this value
 abbrev pub IsNameValue : List ℕ → Value → Type 0
@@ -106,7 +111,7 @@ pub record IsNumberRead (l : Literal) (old new : List Token) : Type 0 where
 abbrev pub NumberReads : List Token → List Token → Result Literal rust.Stop → Type 0
 NumberReads old new (Ok l) = IsNumberRead l old new
 NumberReads old new (Err NoMemory) = Unit {0}
-NumberReads old new (Err stop) = (stop ≡ refused old) × IsNoNumber old
+NumberReads old new (Err stop) = (stop ≡ refused old) × IsNoInt old × IsNoFloat old
 
 -- a type that is served
 pub record IsTypeRead (t : TypeTree) (before after : List Token) : Type 0 where

@@ -1,16 +1,16 @@
 //! From the tokens of a schema text to its tree.
 
-ghost use Rattle.std.specs.Prelude.{◌≡◌, ◌<◌, ◌≤◌, ◌∷◌, [], suc, length, MatchOption, MatchResult, OnOk, IfOk, map, List, false, true};
+ghost use Rattle.std.specs.Prelude.{◌≡◌, ◌<◌, ◌≤◌, ◌∷◌, [], suc, length, MatchOption, MatchResult, OnOk, IfOk, true, false};
 ghost use Rattle.gq_lexer.specs.declared.token.Punct.TheVariants as punct;
-ghost use Rattle.gq_parser.specs.Word.{at, Punct as a_mark, Name as a_word};
-ghost use Rattle.gq_parser.specs.Tree.{literal_of, type_of, values_of, members_of, default_of, arguments_of as map_members, argument_of as member_of};
+ghost use Rattle.gq_parser.specs.Word.{at, Punct as a_mark, Int as an_int, Float as a_float};
+ghost use Rattle.gq_parser.specs.Tree.{literal_of, type_of, map_literals, map_members, default_of, argument_of as member_of};
 ghost use Rattle.gq_parser.specs.Grammar.{IsValue, AreValues, AreMembers, IsDefault};
 ghost use Rattle.schema_syntax.specs.declared.word.SchemaWord.TheVariants as words;
 ghost use Rattle.schema_syntax.specs.declared.tree.Definition.TheVariants as declared;
 ghost use Rattle.schema_syntax.specs.Tree.{name_of, names_of, argument_of, arguments_of, field_of, fields_of, definition_of};
 ghost use Rattle.schema_syntax.specs.Grammar.{IsBody, IsName, IsTypeName, IsReason, IsDeprecated, IsArgument, AreArguments, AreOptionalArguments, IsField, AreFields, IsEnumValue, AreEnumValues};
 ghost use Rattle.schema_syntax.specs.Machine.{one, a_union_then, A, AName, AColon, ATypeName, AnItem, AnEnumName, AQuery, ARootEnd, ADefinition, RootBody, ObjectBody, FirstInterface, InterfaceBody, EnumBody, Fields, MaybeArguments, Arguments, MaybeDefault, AType, MaybeBang, MaybeDeprecated, MaybeReason, EnumValues, MaybePipe, MoreMembers, AValue, MoreValues, MoreObjectFields, refused};
-ghost use Rattle.schema_syntax.specs.Parsing.{Reads, Eats, Expects, Describes, TakesMark, TakesText, NumberReads, IsNoName, IsNameTaken, IsTaken, IsMemberRead, IsEnumNameRead, IsQueryTaken, AreSomeInterfaces, AreMembersRead, IsTypeRead, IsNamed, AreInterfacesRead, IsDefinitionRead};
+ghost use Rattle.schema_syntax.specs.Parsing.{Reads, Eats, Expects, Describes, TakesMark, TakesText, NumberReads, IsNoName, IsNoInt, IsNoFloat, IsNameTaken, IsTaken, IsMemberRead, IsEnumNameRead, IsQueryTaken, AreSomeInterfaces, AreMembersRead, IsTypeRead, IsNamed, AreInterfacesRead, IsDefinitionRead};
 
 use crate::fault::Stop;
 use crate::tree::{
@@ -239,30 +239,48 @@ impl<'a> Parser<'a> {
         }
     }
 
-    fn number(&mut self) -> Result<Literal, Stop>
-        ensures { NumberReads self.old self.new result }
+    /// The integer that is next, if one is.
+    fn int(&mut self) -> Option<(Place, &'a str)>
+        ensures { MatchOption result ((self.new ≡ self.old) × IsNoInt self.old) (λ t. self.old ≡ at t.0 (an_int t.1.now) ∷ self.new) }
     {
         match self.rest.split_first() {
             Some((first, rest)) if first.kind == Kind::Int => {
                 let text = self.text;
                 self.rest = rest;
-                let number = String::from_str(self.alloc, first.text(text))?;
-                Ok(Literal {
-                    place: first.place(),
-                    value: Value::Int(number),
-                })
+                Some((first.place(), first.text(text)))
             }
+            _ => None,
+        }
+    }
+
+    /// The number with a fraction or an exponent that is next, if one is.
+    fn float(&mut self) -> Option<(Place, &'a str)>
+        ensures { MatchOption result ((self.new ≡ self.old) × IsNoFloat self.old) (λ t. self.old ≡ at t.0 (a_float t.1.now) ∷ self.new) }
+    {
+        match self.rest.split_first() {
             Some((first, rest)) if first.kind == Kind::Float => {
                 let text = self.text;
                 self.rest = rest;
-                let number = String::from_str(self.alloc, first.text(text))?;
-                Ok(Literal {
-                    place: first.place(),
-                    value: Value::Float(number),
-                })
+                Some((first.place(), first.text(text)))
             }
-            _ => Err(self.stop()),
+            _ => None,
         }
+    }
+
+    fn number(&mut self) -> Result<Literal, Stop>
+        ensures { NumberReads self.old self.new result }
+    {
+        if let Some((place, text)) = self.int() {
+            let number = String::from_str(self.alloc, text)?;
+            let value = Value::Int(number);
+            return Ok(Literal { place, value });
+        }
+        if let Some((place, text)) = self.float() {
+            let number = String::from_str(self.alloc, text)?;
+            let value = Value::Float(number);
+            return Ok(Literal { place, value });
+        }
+        Err(self.stop())
     }
 
     #[cycle(value)]
@@ -298,7 +316,7 @@ impl<'a> Parser<'a> {
     /// The values up to the bracket that closes them.
     #[cycle(value)]
     fn values(&mut self, room: u32) -> Result<Vec<Literal>, Stop>
-        ensures reads { Reads (λ vs. AreValues true (values_of (map literal_of vs.items))) room (one MoreValues) (suc room) [] self.old self.new result }
+        ensures reads { Reads (λ vs. AreValues true (map_literals vs.items)) room (one MoreValues) (suc room) [] self.old self.new result }
         ensures shrinks { OnOk result (length self.new < length self.old) }
     {
         let mut values = Vec::new(self.alloc);
@@ -326,7 +344,7 @@ impl<'a> Parser<'a> {
     /// The fields of an object value up to the brace that closes them.
     #[cycle(value)]
     fn object_fields(&mut self, room: u32) -> Result<Vec<Argument>, Stop>
-        ensures reads { Reads (λ ms. AreMembers true (members_of (map_members ms.items))) room (one MoreObjectFields) (suc room) [] self.old self.new result }
+        ensures reads { Reads (λ ms. AreMembers true (map_members ms.items)) room (one MoreObjectFields) (suc room) [] self.old self.new result }
         ensures shrinks { OnOk result (length self.new < length self.old) }
     {
         let mut fields = Vec::new(self.alloc);
