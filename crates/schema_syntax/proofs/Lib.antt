@@ -7,3 +7,4 @@ pub mod Reading
 pub mod Views
 pub mod Values
 pub mod Front
+pub mod Lists
