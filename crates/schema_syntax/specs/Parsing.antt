@@ -143,17 +143,16 @@ pub record IsQueryTaken (before after : List Token) : Type 0 where
   pub name : List ℕ
   pub begins : before ≡ at place (Name Query name) ∷ after
 
--- the interfaces behind `implements`, and the brace behind them
+-- the interfaces behind `implements`
 pub record AreSomeInterfaces (names : List tree.Name) (before after : List Token) : Type 0 where
   pub first : tree.Name
   pub others : List tree.Name
   pub mid : List Token
   pub mid' : List Token
-  pub place : Place
   pub all : names ≡ first ∷ others
   pub ampersand : IsAmpersand before mid
   pub is : IsTypeName first mid mid'
-  pub are : AreMoreInterfaces others mid' (at place (Punct BraceLeft) ∷ after)
+  pub are : AreMoreInterfaces others mid' after
 
 -- the interfaces that a type implements, and the brace behind them
 pub record AreInterfacesRead (is : List tree.Name) (before after : List Token) : Type 0 where

@@ -9,8 +9,8 @@ ghost use Rattle.schema_syntax.specs.declared.word.SchemaWord.TheVariants as wor
 ghost use Rattle.schema_syntax.specs.declared.tree.Definition.TheVariants as declared;
 ghost use Rattle.schema_syntax.specs.Tree.{name_of, names_of, argument_of, arguments_of, field_of, fields_of, definition_of};
 ghost use Rattle.schema_syntax.specs.Grammar.{IsBody, IsName, IsTypeName, IsReason, IsDeprecated, IsArgument, AreArguments, AreOptionalArguments, IsField, AreFields, IsEnumValue, AreEnumValues};
-ghost use Rattle.schema_syntax.specs.Machine.{one, a_union_then, A, AName, AColon, ATypeName, AnItem, AnEnumName, AQuery, ARootEnd, ADefinition, RootBody, ObjectBody, FirstInterface, InterfaceBody, EnumBody, Fields, MaybeArguments, Arguments, MaybeDefault, AType, MaybeBang, MaybeDeprecated, MaybeReason, EnumValues, MaybePipe, MoreMembers, AValue, MoreValues, MoreObjectFields, refused};
-ghost use Rattle.schema_syntax.specs.Parsing.{Reads, Eats, Expects, Describes, TakesMark, TakesText, NumberReads, IsNoName, IsNoInt, IsNoFloat, IsNameTaken, IsTaken, IsMemberRead, IsEnumNameRead, IsQueryTaken, AreSomeInterfaces, AreMembersRead, IsTypeRead, IsNamed, AreInterfacesRead, IsDefinitionRead};
+ghost use Rattle.schema_syntax.specs.Machine.{one, a_union_then, A, AName, AColon, ATypeName, AnItem, AnEnumName, AQuery, ARootEnd, ADefinition, RootBody, ObjectBody, FirstInterface, MoreInterfaces, InterfaceBody, EnumBody, Fields, MaybeArguments, Arguments, MaybeDefault, AType, MaybeBang, MaybeDeprecated, MaybeReason, EnumValues, MaybePipe, MoreMembers, AValue, MoreValues, MoreObjectFields, refused};
+ghost use Rattle.schema_syntax.specs.Parsing.{Reads, Eats, Expects, Describes, TakesMark, TakesText, NumberReads, IsNotNext, IsNoName, IsNoInt, IsNoFloat, IsNameTaken, IsTaken, IsMemberRead, IsEnumNameRead, IsQueryTaken, AreSomeInterfaces, AreMembersRead, IsTypeRead, IsNamed, AreInterfacesRead, IsDefinitionRead};
 
 use crate::fault::Stop;
 use crate::tree::{
@@ -477,12 +477,15 @@ impl<'a> Parser<'a> {
         let SchemaWord::Implements = word_of(name) else {
             return Err(Stop::Unexpected(Some(place)));
         };
-        self.some_interfaces()
+        let interfaces = self.some_interfaces()?;
+        self.expect(Punct::BraceLeft)?;
+        Ok(interfaces)
     }
 
-    /// The interfaces behind `implements`, and the brace behind them.
+    /// The interfaces behind `implements`.
     fn some_interfaces(&mut self) -> Result<Vec<Name>, Stop>
-        ensures reads { Reads (λ is. AreSomeInterfaces (names_of is.items)) 128 (one FirstInterface) 127 (one (Fields false)) self.old self.new result }
+        ensures reads { Reads (λ is. AreSomeInterfaces (names_of is.items)) 128 (one FirstInterface) 128 (one MoreInterfaces) self.old self.new result }
+        ensures ends { OnOk result (IsNotNext (a_mark punct.Amp) self.new) }
         ensures shrinks { OnOk result (length self.new < length self.old) }
     {
         let mut interfaces = Vec::new(self.alloc);
@@ -491,7 +494,6 @@ impl<'a> Parser<'a> {
         while self.eat(Punct::Amp) {
             interfaces.push(self.type_name()?)?;
         }
-        self.expect(Punct::BraceLeft)?;
         Ok(interfaces)
     }
 
@@ -553,7 +555,7 @@ impl<'a> Parser<'a> {
     }
 
     fn schema(&mut self, place: Place) -> Result<SchemaDefinition, Stop>
-        ensures reads { Reads (λ d. IsBody words.Schema place (definition_of (declared.Schema d))) 128 (one RootBody) 128 [] self.old self.new result }
+        ensures { Reads (λ d. IsBody words.Schema place (definition_of (declared.Schema d))) 128 (one RootBody) 128 [] self.old self.new result }
     {
         self.expect(Punct::BraceLeft)?;
         self.query()?;
@@ -564,7 +566,7 @@ impl<'a> Parser<'a> {
     }
 
     fn object(&mut self) -> Result<ObjectDefinition, Stop>
-        ensures reads { Reads (λ d before after. (place : _) → IsBody words.Object place (definition_of (declared.Object d)) before after) 128 (A ATypeName ∷ one ObjectBody) 128 [] self.old self.new result }
+        ensures { Reads (λ d before after. (place : _) → IsBody words.Object place (definition_of (declared.Object d)) before after) 128 (A ATypeName ∷ one ObjectBody) 128 [] self.old self.new result }
     {
         let name = self.type_name()?;
         let interfaces = self.interfaces()?;
@@ -577,7 +579,7 @@ impl<'a> Parser<'a> {
     }
 
     fn interface(&mut self) -> Result<InterfaceDefinition, Stop>
-        ensures reads { Reads (λ d before after. (place : _) → IsBody words.Interface place (definition_of (declared.Interface d)) before after) 128 (A ATypeName ∷ one InterfaceBody) 128 [] self.old self.new result }
+        ensures { Reads (λ d before after. (place : _) → IsBody words.Interface place (definition_of (declared.Interface d)) before after) 128 (A ATypeName ∷ one InterfaceBody) 128 [] self.old self.new result }
     {
         let name = self.type_name()?;
         self.interface_brace()?;
@@ -586,7 +588,7 @@ impl<'a> Parser<'a> {
     }
 
     fn union_type(&mut self) -> Result<UnionDefinition, Stop>
-        ensures reads { Reads (λ d before after. (place : _) → IsBody words.Union place (definition_of (declared.Union d)) before after) 128 (A ATypeName ∷ a_union_then) 128 [] self.old self.new result }
+        ensures { Reads (λ d before after. (place : _) → IsBody words.Union place (definition_of (declared.Union d)) before after) 128 (A ATypeName ∷ a_union_then) 128 [] self.old self.new result }
     {
         let name = self.type_name()?;
         self.expect(Punct::Equals)?;
@@ -595,7 +597,7 @@ impl<'a> Parser<'a> {
     }
 
     fn enum_type(&mut self) -> Result<EnumDefinition, Stop>
-        ensures reads { Reads (λ d before after. (place : _) → IsBody words.Enum place (definition_of (declared.Enum d)) before after) 128 (A ATypeName ∷ one EnumBody) 128 [] self.old self.new result }
+        ensures { Reads (λ d before after. (place : _) → IsBody words.Enum place (definition_of (declared.Enum d)) before after) 128 (A ATypeName ∷ one EnumBody) 128 [] self.old self.new result }
     {
         let name = self.type_name()?;
         self.expect(Punct::BraceLeft)?;
@@ -605,7 +607,7 @@ impl<'a> Parser<'a> {
 
     /// A definition, whose description was skipped.
     fn definition(&mut self) -> Result<Definition, Stop>
-        ensures reads { Reads (λ d. IsDefinitionRead (definition_of d)) 128 (one ADefinition) 128 [] self.old self.new result }
+        ensures { Reads (λ d. IsDefinitionRead (definition_of d)) 128 (one ADefinition) 128 [] self.old self.new result }
     {
         let Some((place, name)) = self.word() else {
             return Err(self.stop());
