@@ -8,3 +8,4 @@ pub mod Views
 pub mod Values
 pub mod Front
 pub mod Lists
+pub mod Bodies

@@ -53,7 +53,7 @@ pub argument_described : (room : ℕ) (before after : List Token) (b : Bool) (st
 argument_described room before after true stack h = rw h.is refl
 argument_described room before after false stack h = arguments_named room before stack h.1 ∙ ap (read room (A AName ∷ an_argument_then ++ stack)) (sym h.0)
 
-verdict_moves : (v : Verdict) (symbols stack : List Symbol) (skipped skipped' : Shift) → moved (on_verdict v symbols) stack skipped ≡ moved (on_verdict v []) (symbols ++ stack) skipped'
+pub verdict_moves : (v : Verdict) (symbols stack : List Symbol) (skipped skipped' : Shift) → moved (on_verdict v symbols) stack skipped ≡ moved (on_verdict v []) (symbols ++ stack) skipped'
 verdict_moves Accepts symbols stack skipped skipped' = refl
 verdict_moves Rejects symbols stack skipped skipped' = refl
 verdict_moves Bars symbols stack skipped skipped' = refl

@@ -42,7 +42,7 @@ pub reads_at : {T : Type 0} (P : T → List Token → List Token → Type 0) (ro
 reads_at P room r1 r2 s0 s1 s2 before mid after res e f h = reads_from P P room r1 r2 s0 s1 s2 before mid after res (λ stack. f stack ∙ ap (read r1 (s1 ++ stack)) (sym e)) (λ t x. subst (λ b. P t b after) e x) h
 
 -- a name that is taken
-read_name : (room : ℕ) (p : Place) (k : Keyword) (n : List ℕ) (stack next : List Symbol) (tokens : List Token) → shift stack (Name k n) ≡ Shifts next → read room stack (at p (Name k n) ∷ tokens) ≡ read room next tokens
+pub read_name : (room : ℕ) (p : Place) (k : Keyword) (n : List ℕ) (stack next : List Symbol) (tokens : List Token) → shift stack (Name k n) ≡ Shifts next → read room stack (at p (Name k n) ∷ tokens) ≡ read room next tokens
 read_name room p k n stack next tokens e = rw (e, read) refl
 
 -- ---- names

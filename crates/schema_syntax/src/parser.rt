@@ -468,7 +468,7 @@ impl<'a> Parser<'a> {
     /// The interfaces that an object type implements, and the brace behind them.
     fn interfaces(&mut self) -> Result<Vec<Name>, Stop>
         ensures reads { Reads (λ is. AreInterfacesRead (names_of is.items)) 128 (one ObjectBody) 127 (one (Fields false)) self.old self.new result }
-        ensures shrinks { OnOk result (length self.new < length self.old) }
+        ensures shrinks { OnOk result (length self.new ≤ length self.old) }
     {
         let Some((place, name)) = self.word() else {
             self.expect(Punct::BraceLeft)?;
@@ -486,7 +486,7 @@ impl<'a> Parser<'a> {
     fn some_interfaces(&mut self) -> Result<Vec<Name>, Stop>
         ensures reads { Reads (λ is. AreSomeInterfaces (names_of is.items)) 128 (one FirstInterface) 128 (one MoreInterfaces) self.old self.new result }
         ensures ends { OnOk result (IsNotNext (a_mark punct.Amp) self.new) }
-        ensures shrinks { OnOk result (length self.new < length self.old) }
+        ensures shrinks { OnOk result (length self.new ≤ length self.old) }
     {
         let mut interfaces = Vec::new(self.alloc);
         self.eat(Punct::Amp);
@@ -514,7 +514,7 @@ impl<'a> Parser<'a> {
     /// The members of a union, behind its `=`.
     fn members(&mut self) -> Result<Vec<Name>, Stop>
         ensures reads { Reads (λ ms. AreMembersRead (names_of ms.items)) 128 (MaybePipe ∷ A ATypeName ∷ one MoreMembers) 128 [] self.old self.new result }
-        ensures shrinks { OnOk result (length self.new < length self.old) }
+        ensures shrinks { OnOk result (length self.new ≤ length self.old) }
     {
         let mut members = Vec::new(self.alloc);
         self.eat(Punct::Pipe);
@@ -555,7 +555,8 @@ impl<'a> Parser<'a> {
     }
 
     fn schema(&mut self, place: Place) -> Result<SchemaDefinition, Stop>
-        ensures { Reads (λ d. IsBody words.Schema place (definition_of (declared.Schema d))) 128 (one RootBody) 128 [] self.old self.new result }
+        ensures reads { Reads (λ d. IsBody words.Schema place (definition_of (declared.Schema d))) 128 (one RootBody) 128 [] self.old self.new result }
+        ensures shrinks { OnOk result (length self.new ≤ length self.old) }
     {
         self.expect(Punct::BraceLeft)?;
         self.query()?;
@@ -566,7 +567,8 @@ impl<'a> Parser<'a> {
     }
 
     fn object(&mut self) -> Result<ObjectDefinition, Stop>
-        ensures { Reads (λ d before after. (place : _) → IsBody words.Object place (definition_of (declared.Object d)) before after) 128 (A ATypeName ∷ one ObjectBody) 128 [] self.old self.new result }
+        ensures reads { Reads (λ d before after. (place : _) → IsBody words.Object place (definition_of (declared.Object d)) before after) 128 (A ATypeName ∷ one ObjectBody) 128 [] self.old self.new result }
+        ensures shrinks { OnOk result (length self.new ≤ length self.old) }
     {
         let name = self.type_name()?;
         let interfaces = self.interfaces()?;
@@ -579,7 +581,8 @@ impl<'a> Parser<'a> {
     }
 
     fn interface(&mut self) -> Result<InterfaceDefinition, Stop>
-        ensures { Reads (λ d before after. (place : _) → IsBody words.Interface place (definition_of (declared.Interface d)) before after) 128 (A ATypeName ∷ one InterfaceBody) 128 [] self.old self.new result }
+        ensures reads { Reads (λ d before after. (place : _) → IsBody words.Interface place (definition_of (declared.Interface d)) before after) 128 (A ATypeName ∷ one InterfaceBody) 128 [] self.old self.new result }
+        ensures shrinks { OnOk result (length self.new ≤ length self.old) }
     {
         let name = self.type_name()?;
         self.interface_brace()?;
@@ -588,7 +591,8 @@ impl<'a> Parser<'a> {
     }
 
     fn union_type(&mut self) -> Result<UnionDefinition, Stop>
-        ensures { Reads (λ d before after. (place : _) → IsBody words.Union place (definition_of (declared.Union d)) before after) 128 (A ATypeName ∷ a_union_then) 128 [] self.old self.new result }
+        ensures reads { Reads (λ d before after. (place : _) → IsBody words.Union place (definition_of (declared.Union d)) before after) 128 (A ATypeName ∷ a_union_then) 128 [] self.old self.new result }
+        ensures shrinks { OnOk result (length self.new ≤ length self.old) }
     {
         let name = self.type_name()?;
         self.expect(Punct::Equals)?;
@@ -597,7 +601,8 @@ impl<'a> Parser<'a> {
     }
 
     fn enum_type(&mut self) -> Result<EnumDefinition, Stop>
-        ensures { Reads (λ d before after. (place : _) → IsBody words.Enum place (definition_of (declared.Enum d)) before after) 128 (A ATypeName ∷ one EnumBody) 128 [] self.old self.new result }
+        ensures reads { Reads (λ d before after. (place : _) → IsBody words.Enum place (definition_of (declared.Enum d)) before after) 128 (A ATypeName ∷ one EnumBody) 128 [] self.old self.new result }
+        ensures shrinks { OnOk result (length self.new ≤ length self.old) }
     {
         let name = self.type_name()?;
         self.expect(Punct::BraceLeft)?;
@@ -607,7 +612,8 @@ impl<'a> Parser<'a> {
 
     /// A definition, whose description was skipped.
     fn definition(&mut self) -> Result<Definition, Stop>
-        ensures { Reads (λ d. IsDefinitionRead (definition_of d)) 128 (one ADefinition) 128 [] self.old self.new result }
+        ensures reads { Reads (λ d. IsDefinitionRead (definition_of d)) 128 (one ADefinition) 128 [] self.old self.new result }
+        ensures shrinks { OnOk result (length self.new < length self.old) }
     {
         let Some((place, name)) = self.word() else {
             return Err(self.stop());
