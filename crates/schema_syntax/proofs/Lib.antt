@@ -9,3 +9,5 @@ pub mod Values
 pub mod Front
 pub mod Lists
 pub mod Bodies
+pub mod Unique
+pub mod Whole

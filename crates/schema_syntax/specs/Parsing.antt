@@ -18,7 +18,8 @@ use Rattle.schema_syntax.specs.declared.fault.Stop as rust
 use Rattle.schema_syntax.specs.declared.fault.Stop.TheVariants.{Unexpected, NotServed, NoMemory}
 use Rattle.schema_syntax.specs.Word.{word_of}
 use Rattle.schema_syntax.specs.Tree as tree
-use Rattle.schema_syntax.specs.Tree.{Definition}
+use Rattle.schema_syntax.specs.Tree.{Definition, definitions_of}
+use Rattle.schema_syntax.specs.declared.tree.SchemaDocument as rust-document
 use Rattle.schema_syntax.specs.Grammar.{IsServedType, IsTypeName, IsAmpersand, AreMoreInterfaces, AreInterfaces, IsPipe, AreMoreMembers, IsBody, IsDocument}
 use Rattle.schema_syntax.specs.Machine.{Symbol, AValue, read, refused}
 
@@ -191,3 +192,8 @@ pub record IsFront {T W : Type 0} (AreRest : T → List Token → List Token →
 pub record IsDocumentFront (room : ℕ) (definitions : List Definition) (before now : List Token) : Type 0 where
   pub joins : (others : List Definition) → IsDocument others now → IsDocument (definitions ++ others) before
   pub reads : read room [] before ≡ read room [] now
+
+-- this tree was found, unless memory ran out
+abbrev pub Finds : List Definition → Result rust-document.SchemaDocument rust.Stop → Type 0
+Finds ds (Ok d) = definitions_of d ≡ ds
+Finds ds (Err stop) = stop ≡ NoMemory

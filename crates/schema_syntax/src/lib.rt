@@ -3,10 +3,12 @@
 #![tactic(auto)]
 
 mod fault;
+mod law;
 mod parser;
 mod tree;
 mod word;
 
+pub use law::one_tree;
 pub use tree::{
     ArgumentDefinition, Definition, EnumDefinition, FieldDefinition, InterfaceDefinition, Name,
     ObjectDefinition, SchemaDefinition, SchemaDocument, UnionDefinition,

@@ -1,21 +1,24 @@
 //! From the tokens of a schema text to its tree.
 
-ghost use Rattle.std.specs.Prelude.{◌≡◌, ◌<◌, ◌≤◌, ◌∷◌, [], suc, length, MatchOption, MatchResult, OnOk, IfOk, true, false};
+ghost use Rattle.std.specs.Prelude.{◌≡◌, ◌<◌, ◌≤◌, ◌∷◌, [], suc, length, MatchOption, MatchResult, OnOk, IfOk, IfErr, All, List, true, false};
 ghost use Rattle.gq_lexer.specs.declared.token.Punct.TheVariants as punct;
-ghost use Rattle.gq_parser.specs.Word.{at, Punct as a_mark, Int as an_int, Float as a_float};
+ghost use Rattle.gq_lexer.specs.Tokens.{IsToken};
+ghost use Rattle.gq_parser.specs.Fault.{IsShallow, most_brackets};
+ghost use Rattle.gq_parser.specs.Word.{tokens_of, at, Punct as a_mark, Int as an_int, Float as a_float};
 ghost use Rattle.gq_parser.specs.Tree.{literal_of, type_of, map_literals, map_members, default_of, argument_of as member_of};
 ghost use Rattle.gq_parser.specs.Grammar.{IsValue, AreValues, AreMembers, IsDefault};
 ghost use Rattle.schema_syntax.specs.declared.word.SchemaWord.TheVariants as words;
 ghost use Rattle.schema_syntax.specs.declared.tree.Definition.TheVariants as declared;
-ghost use Rattle.schema_syntax.specs.Tree.{name_of, names_of, argument_of, arguments_of, field_of, fields_of, definition_of};
-ghost use Rattle.schema_syntax.specs.Grammar.{IsBody, IsName, IsTypeName, IsReason, IsDeprecated, IsArgument, AreArguments, AreOptionalArguments, IsField, AreFields, IsEnumValue, AreEnumValues};
+ghost use Rattle.schema_syntax.specs.Tree.{name_of, names_of, argument_of, arguments_of, field_of, fields_of, definition_of, definitions_of, Definition as tree_definition};
+ghost use Rattle.schema_syntax.specs.Fault.{IsStop};
+ghost use Rattle.schema_syntax.specs.Grammar.{IsDocument, IsBody, IsName, IsTypeName, IsReason, IsDeprecated, IsArgument, AreArguments, AreOptionalArguments, IsField, AreFields, IsEnumValue, AreEnumValues};
 ghost use Rattle.schema_syntax.specs.Machine.{one, a_union_then, A, AName, AColon, ATypeName, AnItem, AnEnumName, AQuery, ARootEnd, ADefinition, RootBody, ObjectBody, FirstInterface, MoreInterfaces, InterfaceBody, EnumBody, Fields, MaybeArguments, Arguments, MaybeDefault, AType, MaybeBang, MaybeDeprecated, MaybeReason, EnumValues, MaybePipe, MoreMembers, AValue, MoreValues, MoreObjectFields, refused};
-ghost use Rattle.schema_syntax.specs.Parsing.{Reads, Eats, Expects, Describes, TakesMark, TakesText, NumberReads, IsNotNext, IsNoName, IsNoInt, IsNoFloat, IsNameTaken, IsTaken, IsMemberRead, IsEnumNameRead, IsQueryTaken, AreSomeInterfaces, AreMembersRead, IsTypeRead, IsNamed, AreInterfacesRead, IsDefinitionRead};
+ghost use Rattle.schema_syntax.specs.Parsing.{Reads, Eats, Expects, Describes, TakesMark, TakesText, NumberReads, IsNotNext, IsNoName, IsNoInt, IsNoFloat, IsNameTaken, IsTaken, IsMemberRead, IsEnumNameRead, IsQueryTaken, AreSomeInterfaces, AreMembersRead, IsTypeRead, IsNamed, AreInterfacesRead, IsDefinitionRead, Finds};
 
 use crate::fault::Stop;
 use crate::tree::{
     ArgumentDefinition, Definition, EnumDefinition, FieldDefinition, InterfaceDefinition, Name,
-    ObjectDefinition, SchemaDefinition, UnionDefinition,
+    ObjectDefinition, SchemaDefinition, SchemaDocument, UnionDefinition,
 };
 use crate::word::{SchemaWord, is_enum_name, is_served_name, name_value, operation, word_of};
 use gq_lexer::{Kind, Place, Punct, Token, string_value};
@@ -44,6 +47,12 @@ impl<'a> Model for Parser<'a> {
 }
 
 impl<'a> Parser<'a> {
+    fn left(&self) -> usize
+        ensures { result ≡ length self.now }
+    {
+        self.rest.len()
+    }
+
     /// The fault, if what is next can't come.
     fn stop(&self) -> Stop
         ensures { result ≡ refused self.now }
@@ -628,4 +637,29 @@ impl<'a> Parser<'a> {
             _ => Err(Stop::Unexpected(Some(place))),
         }
     }
+}
+
+/// The definitions that the tokens are.
+pub(crate) fn definitions(alloc: Global, text: &str, tokens: &[Token]) -> Result<SchemaDocument, Stop>
+    requires { All (IsToken text.now) tokens.now }
+    // What is found is what the grammar says, and no bracket in it is opened while 128 are open.
+    ensures found { IfOk result (λ d. IsDocument (definitions_of d) (tokens_of text.now tokens.now) × IsShallow most_brackets (tokens_of text.now tokens.now)) }
+
+    // Such a tree is found, and there is no other.
+    ensures only { (ds : List tree_definition) → IsDocument ds (tokens_of text.now tokens.now) → IsShallow most_brackets (tokens_of text.now tokens.now) → Finds ds result }
+
+    // Otherwise the first fault is named.
+    ensures stop { IfErr result (IsStop (tokens_of text.now tokens.now)) }
+{
+    let mut parser = Parser {
+        alloc,
+        text,
+        rest: tokens,
+    };
+    let mut definitions = Vec::new(alloc);
+    while parser.left() != 0 {
+        parser.description();
+        definitions.push(parser.definition()?)?;
+    }
+    Ok(SchemaDocument { definitions })
 }
