@@ -23,7 +23,6 @@ use Rattle.schema_syntax.specs.Grammar.{IsPipe, no_pipe, pipe, AreMoreMembers, n
 use Rattle.schema_syntax.specs.Machine.{Terminal, AColon, AnEquals, ABracket, AParenthesis, AName, ATypeName, AnItem, AnEnumName, AText, ADeprecated, AReason, AQuery, ARootEnd}
 use Rattle.schema_syntax.specs.Machine.{Symbol, A, ADefinition, RootBody, ObjectBody, FirstInterface, MoreInterfaces, InterfaceBody, EnumBody, Fields, MaybeArguments, Arguments, MaybeDefault, AType, MaybeBang, MaybeDeprecated, MaybeReason, EnumValues, MaybePipe, MoreMembers, AValue, MoreValues, MoreObjectFields}
 use Rattle.schema_syntax.specs.Machine.{Verdict, Move, Takes, Skips, Refuses, Denies, Accepts, Rejects, Bars, verdict, on_verdict, type_name_verdict, enum_name_verdict, deprecated_verdict, reason_verdict, query_verdict, implements_verdict, no_implements_verdict, end_verdict, body_move, moved, Shift, Shifts, Refused, Denied, shift, at_end, a_root, a_field_then, an_argument_then, a_value_then}
-
 use Rattle.gq_parser.specs.declared.keyword.Keyword.TheVariants.{Mutation, Subscription, Fragment, On, Other}
 use Rattle.gq_parser.specs.Word.{AreSpelled}
 use Rattle.gq_parser.specs.Keywords.{keyword_of}

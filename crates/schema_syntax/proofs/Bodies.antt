@@ -17,7 +17,7 @@ use Rattle.schema_syntax.specs.Grammar.{IsTypeName, AreFields, AreEnumValues, Is
 use Rattle.schema_syntax.specs.Grammar.{IsPipe, no_pipe, pipe, AreMoreMembers, no_more_members, next_member, IsBody, schema, object, interface, union, enum}
 use Rattle.schema_syntax.specs.Machine.{Symbol, A, ATypeName, ADefinition, RootBody, ObjectBody, FirstInterface, MoreInterfaces, InterfaceBody, EnumBody, Fields, EnumValues, MaybePipe, MoreMembers, one, a_root, Shift, Shifts, Refused, moved, body_move, shift, read, type_name_verdict, implements_verdict, on_verdict}
 use Rattle.schema_syntax.specs.Parsing.{Reads, Fails, Eats, IsTaken, IsNotNext, IsNoName, AreSomeInterfaces, AreInterfacesRead, AreMembersRead, IsQueryTaken, IsDefinitionRead, IsFront}
-use Rattle.schema_syntax.proofs.Reading.{fails_earlier, reads_from, read_name}
+use Rattle.schema_syntax.proofs.Steps.{fails_earlier, reads_from, read_name}
 use Rattle.schema_syntax.proofs.Lists.{same_shift, verdict_moves}
 
 -- ---- one more behind a mark

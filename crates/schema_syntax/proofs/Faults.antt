@@ -211,8 +211,8 @@ module _ (stack next : List Symbol) (p : Place) (w : Word) (e : shift stack w �
   item_later good bad lawful f = elim (keeps stack next w lawful e) [
     | inl plain ↦ absurd (f.not_plain plain)
     | inr x ↦
-      let u : IsUnserved (Comes stack (at p w ∷ [])) (at p w ∷ []) (at f.place (Punct BracketLeft) ∷ f.rest) = list (λ c. f.never (on [] _ c)) x.0 in
-      rw (f.none, f.is) u
+        let u : IsUnserved (Comes stack (at p w ∷ [])) (at p w ∷ []) (at f.place (Punct BracketLeft) ∷ f.rest) = list (λ c. f.never (on [] _ c)) x.0 in
+        rw (f.none, f.is) u
   ]
 
   why_later : (room r : ℕ) (good bad : List Token) (stop : Stop) → Lawful stack → ((more : List Token) → IsShallow room (at p w ∷ more) → IsShallow r more) → Why r next good bad stop → Why room stack (at p w ∷ good) bad stop

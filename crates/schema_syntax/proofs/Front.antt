@@ -4,7 +4,7 @@ use Rattle.gq_parser.specs.Word.{Word, Token}
 use Rattle.schema_syntax.specs.declared.fault.Stop as rust
 use Rattle.schema_syntax.specs.Machine.{Symbol, read}
 use Rattle.schema_syntax.specs.Parsing.{Fails, Eats, IsNotNext, IsFront}
-use Rattle.schema_syntax.proofs.Reading.{fails_earlier}
+use Rattle.schema_syntax.proofs.Steps.{fails_earlier}
 
 module _ {T W : Type 0} (AreRest : T → List Token → List Token → Type 0) (AreWhole : W → List Token → List Token → Type 0)
     (room : ℕ) (symbols : List Symbol) (room_now : ℕ) (more : List Symbol) (before now : List Token) (join : T → W) where

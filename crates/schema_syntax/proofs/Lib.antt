@@ -3,7 +3,7 @@ pub mod Back
 pub mod Served
 pub mod Refused
 pub mod Faults
-pub mod Reading
+pub mod Steps
 pub mod Views
 pub mod Values
 pub mod Front

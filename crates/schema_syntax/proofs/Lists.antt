@@ -23,7 +23,7 @@ use Rattle.schema_syntax.specs.Grammar.{IsField, field, AreFields, no_more_field
 use Rattle.schema_syntax.specs.Machine.{Symbol, A, AName, AColon, AnEnumName, AValue, MaybeDefault, MaybeArguments, Arguments, Fields, EnumValues, ADefinition, one, a_field_then, an_argument_then, a_value_then, Shift, moved, body_move, shift, read}
 use Rattle.schema_syntax.specs.Machine.{Verdict, Accepts, Rejects, Bars, on_verdict, enum_name_verdict}
 use Rattle.schema_syntax.specs.Parsing.{Reads, Fails, Eats, Describes, IsTaken, IsTextTaken, IsNoText, IsNotNext, IsTypeRead, IsEnumNameRead, IsFront}
-use Rattle.schema_syntax.proofs.Reading.{fails_earlier}
+use Rattle.schema_syntax.proofs.Steps.{fails_earlier}
 
 -- ---- descriptions
 

@@ -16,7 +16,6 @@ use Rattle.schema_syntax.specs.Machine.{Symbol, A, ADefinition, RootBody, Object
 use Rattle.schema_syntax.specs.Machine.{Verdict, Move, Takes, Skips, Refuses, Denies, Accepts, Rejects, Bars, verdict, on_verdict, type_name_verdict, enum_name_verdict, deprecated_verdict, reason_verdict, query_verdict, root_end_verdict, implements_verdict, no_implements_verdict, end_verdict, body_move, top_move, move, moved, Shift, Shifts, Refused, Denied, shift}
 use Rattle.schema_syntax.proofs.Means.{Means, Shifted, shifts}
 use Rattle.schema_syntax.proofs.Back.{Met, a, meets, shifts_back}
-
 use Rattle.schema_syntax.proofs.Served.{Comes, goes_comes, comes_behind, comes_before}
 
 verdict_refused : (v v' : Verdict) (symbols stack : List Symbol) (skipped : Shift) → v ≡ v' → moved (on_verdict v symbols) stack skipped ≡ Refused → moved (on_verdict v' symbols) stack skipped ≡ Refused

@@ -70,7 +70,6 @@ type_one (list_of {p = p} t b) (list_of {non_null = non_null} {after = k} u b') 
     tails : {p q : Place} {xs ys : List Token} → at p (Punct BracketRight) ∷ xs ≡ at q (Punct BracketRight) ∷ ys → xs ≡ ys
     tails e = cc
 
-
 -- what stands behind a token
 tail_is : {p q : Place} {w v : words.Word} {xs ys : List Token} → at p w ∷ xs ≡ at q v ∷ ys → xs ≡ ys
 tail_is e = cc
@@ -104,7 +103,6 @@ deprecated_one not_deprecated not_deprecated h h' = refl
 deprecated_one not_deprecated (deprecated e r) h h' = absurd (h.no_at refl)
 deprecated_one (deprecated e r) not_deprecated h h' = absurd (h'.no_at refl)
 deprecated_one (deprecated e r) (deprecated e' r') h h' = reason_one r r' h.no_parenthesis h'.no_parenthesis
-
 
 three : {A B C D : Type 0} (f : A → B → C → D) {a a' : A} {b b' : B} {c c' : C} → a ≡ a' → b ≡ b' → c ≡ c' → f a b c ≡ f a' b' c'
 three f {a' = a'} {b = b} {b' = b'} {c = c} p q r = ap (λ x. f x b c) p ∙ ap (λ y. f a' y c) q ∙ ap (λ z. f a' b' z) r

@@ -25,7 +25,7 @@ use Rattle.schema_syntax.specs.declared.fault.Stop.{Stop}
 use Rattle.schema_syntax.specs.declared.fault.Stop.TheVariants.{Unexpected, NotServed, NoMemory}
 use Rattle.schema_syntax.specs.Machine.{Symbol, A, AColon, AName, AValue, MoreValues, MoreObjectFields, one, shift, Refused, refused, read}
 use Rattle.schema_syntax.specs.Parsing.{Reads, Fails, IsTaken, IsNotNext, IsNoName, IsNoText, IsNoInt, IsNoFloat, IsNameValue, IsNumberRead, NumberReads, IsMemberRead, TakesText}
-use Rattle.schema_syntax.proofs.Reading.{fails_earlier, fails_here, reads_from}
+use Rattle.schema_syntax.proofs.Steps.{fails_earlier, fails_here, reads_from}
 use Rattle.schema_syntax.proofs.Views.{the_literal, literal_int, literal_float, literal_text, literal_boolean, literal_null, literal_enum, literal_list, literal_object, of_argument}
 
 -- ---- names

@@ -60,7 +60,6 @@ literal_object p ms = said p (value.Object ms) _ _ (value.rolls-Object ms) (fold
 pub of_argument : (p : Place) (n : String Global) (v : rust-literal.Literal) → argument_of (roll-Argument (record { place = p; name = n; value = v })) ≡ record { place = p; name = string_bytes n; value = literal_of v }
 of_argument p n v = fold-roll-Argument (Place → Value) Argument Value value_step argument_step literal_step (record { place = p; name = n; value = v })
 
-
 pub values_push : (xs : List rust-literal.Literal) (x : rust-literal.Literal) (others : Values) → values_then (map literal_of (xs ++ x ∷ [])) others ≡ values_then (map literal_of xs) (and_value (literal_of x) others)
 values_push [] x others = refl
 values_push (y ∷ xs) x others = ap (and_value (literal_of y)) (values_push xs x others)

@@ -640,7 +640,11 @@ impl<'a> Parser<'a> {
 }
 
 /// The definitions that the tokens are.
-pub(crate) fn definitions(alloc: Global, text: &str, tokens: &[Token]) -> Result<SchemaDocument, Stop>
+pub(crate) fn definitions(
+    alloc: Global,
+    text: &str,
+    tokens: &[Token],
+) -> Result<SchemaDocument, Stop>
     requires { All (IsToken text.now) tokens.now }
     // What is found is what the grammar says, and no bracket in it is opened while 128 are open.
     ensures found { IfOk result (λ d. IsDocument (definitions_of d) (tokens_of text.now tokens.now) × IsShallow most_brackets (tokens_of text.now tokens.now)) }

@@ -4,7 +4,7 @@ use Rattle.gq_parser.specs.Tree.{and_value, no_value, and_member, no_member, lit
 use Rattle.gq_parser.specs.Grammar.{AreValues, AreMembers, next_value, no_more_values, no_more_members}
 use Rattle.schema_syntax.specs.Machine.{A, AColon, AValue, MoreValues, MoreObjectFields}
 use Rattle.schema_syntax.proofs.Front.{front_more, front_fails}
-use Rattle.schema_syntax.proofs.Reading.{fails_earlier, colon_fails, colon_comes}
+use Rattle.schema_syntax.proofs.Steps.{fails_earlier, colon_fails, colon_comes}
 use Rattle.schema_syntax.proofs.Views.{values_push, members_push}
 use Rattle.schema_syntax.proofs.Values.{text_read, list_opens, list_value, object_opens, object_value, value_comes, member_comes, member_read, next_member}
 use Rattle.schema_syntax.proofs.parser.Parser.+value.Goals as goal

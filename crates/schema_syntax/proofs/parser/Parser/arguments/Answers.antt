@@ -3,7 +3,7 @@ use Rattle.std.proofs.lemmas.Result.{err_from_is_err_and}
 use Rattle.schema_syntax.specs.Tree.{argument_of}
 use Rattle.schema_syntax.specs.Grammar.{AreArguments, AreOptionalArguments, next_argument}
 use Rattle.schema_syntax.proofs.Front.{front_more, front_fails}
-use Rattle.schema_syntax.proofs.Reading.{fails_earlier}
+use Rattle.schema_syntax.proofs.Steps.{fails_earlier}
 use Rattle.schema_syntax.proofs.Views.{view_push}
 use Rattle.schema_syntax.proofs.Lists.{argument_comes, no_arguments_read, arguments_open, first_argument, arguments_end}
 use Rattle.schema_syntax.proofs.parser.Parser.arguments.Goals as goal

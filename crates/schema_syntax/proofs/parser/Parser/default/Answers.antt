@@ -1,5 +1,5 @@
 use Rattle.std.proofs.lemmas.Result.{err_from_is_err_and}
-use Rattle.schema_syntax.proofs.Reading.{fails_earlier}
+use Rattle.schema_syntax.proofs.Steps.{fails_earlier}
 use Rattle.schema_syntax.proofs.Lists.{no_default_read, default_opens, default_read}
 use Rattle.schema_syntax.proofs.parser.Parser.default.Goals as goal
 

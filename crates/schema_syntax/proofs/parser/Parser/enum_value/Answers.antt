@@ -1,7 +1,7 @@
 use Rattle.std.proofs.Common.{◌∷◌, ◌∙◌, true}
 use Rattle.std.proofs.lemmas.Result.{err_from_is_err_and}
 use Rattle.schema_syntax.specs.Machine.{MaybeDeprecated, EnumValues}
-use Rattle.schema_syntax.proofs.Reading.{fails_earlier}
+use Rattle.schema_syntax.proofs.Steps.{fails_earlier}
 use Rattle.schema_syntax.proofs.Lists.{value_described, value_is}
 use Rattle.schema_syntax.proofs.parser.Parser.enum_value.Goals as goal
 

@@ -3,7 +3,7 @@ use Rattle.std.proofs.lemmas.Result.{err_from_is_err_and}
 use Rattle.schema_syntax.specs.Tree.{name_of}
 use Rattle.schema_syntax.specs.Grammar.{AreEnumValues, next_value}
 use Rattle.schema_syntax.proofs.Front.{front_more, front_fails}
-use Rattle.schema_syntax.proofs.Reading.{fails_earlier}
+use Rattle.schema_syntax.proofs.Steps.{fails_earlier}
 use Rattle.schema_syntax.proofs.Views.{view_push}
 use Rattle.schema_syntax.proofs.Lists.{value_comes, first_value, values_end}
 use Rattle.schema_syntax.proofs.parser.Parser.enum_values.Goals as goal

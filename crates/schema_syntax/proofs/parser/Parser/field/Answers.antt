@@ -1,7 +1,7 @@
 use Rattle.std.proofs.Common.{◌∷◌, ◌∙◌, true}
 use Rattle.std.proofs.lemmas.Result.{err_from_is_err_and}
 use Rattle.schema_syntax.specs.Machine.{A, AColon, AType, MaybeArguments, MaybeDeprecated, Fields}
-use Rattle.schema_syntax.proofs.Reading.{fails_earlier, colon_fails, colon_comes}
+use Rattle.schema_syntax.proofs.Steps.{fails_earlier, colon_fails, colon_comes}
 use Rattle.schema_syntax.proofs.Lists.{field_described, field_is}
 use Rattle.schema_syntax.proofs.parser.Parser.field.Goals as goal
 

@@ -1,4 +1,4 @@
-use Rattle.schema_syntax.proofs.Reading.{name_read}
+use Rattle.schema_syntax.proofs.Steps.{name_read}
 use Rattle.schema_syntax.proofs.parser.Parser.name.Goals as goal
 
 pub returns-clause-reads : goal.returns-clause-reads

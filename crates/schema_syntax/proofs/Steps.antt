@@ -231,8 +231,7 @@ pub list_type_read : (room : ℕ) (p : Place) (t : Box rust-type.TypeRef Global)
 list_type_read room p t item b before b1 b2 b3 after e h is_named boxed closes eaten =
     let tree_is : type_of (typeref.List p t b) ≡ ListOf p (type_of item) b = type_of_list p t b ∙ ap (λ x. ListOf p (type_of x) b) boxed in
     let whole : IsType (ListOf p (type_of item) b) (at p (Punct BracketLeft) ∷ b1) after = list_of (subst (λ x. IsType (type_of item) b1 x) closes.is h.0.is) (bang_read b3 after b eaten) in
-    let both : IsTypeRead (ListOf p (type_of item) b) (at p (Punct BracketLeft) ∷ b1) after = record { is = whole; served = list_served p (type_of item) b is_named h.0.served } in
-    (
+    let both : IsTypeRead (ListOf p (type_of item) b) (at p (Punct BracketLeft) ∷ b1) after = record { is = whole; served = list_served p (type_of item) b is_named h.0.served } in (
       subst (λ t. IsTypeRead t before after) (sym tree_is) (subst (λ x. IsTypeRead (ListOf p (type_of item) b) x after) (sym e) both),
       λ stack. list_opens room p before b1 stack e ∙ h.1 (A ABracket ∷ MaybeBang ∷ stack) ∙ ap (read room (A ABracket ∷ MaybeBang ∷ stack)) closes.is ∙ bang_comes (suc room) b3 after b stack eaten,
     )
