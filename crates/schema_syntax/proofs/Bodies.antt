@@ -1,23 +1,22 @@
 -- What each step of reading a definition gives.
-use Rattle.std.proofs.Common.{◌≡◌, ◌≢◌, ℕ, zero, suc, ◌<◌, ◌≤◌, Bool, true, false, List, [], ◌∷◌, ◌++◌, length, map, Result, Ok, Err, Option, Some, None, refl, sym, ap, subst, ◌∙◌, arith}
+use Rattle.std.proofs.Common.{◌≡◌, ℕ, ◌<◌, ◌≤◌, Bool, true, false, List, [], ◌∷◌, ◌++◌, length, Ok, refl, sym, ap, subst, ◌∙◌, arith}
 use Rattle.std.proofs.lemmas.List.{append-nil}
 use Rattle.gq_lexer.specs.declared.place.Place.{Place}
 use Rattle.gq_lexer.specs.declared.token.Punct.TheVariants.{Amp, Colon, Equals, BraceLeft, BraceRight, Pipe}
 use Rattle.gq_parser.specs.declared.keyword.Keyword.{Keyword}
 use Rattle.gq_parser.specs.declared.keyword.Keyword.TheVariants.{Query}
-use Rattle.gq_parser.specs.Word.{Word, Punct, Name, Text, Token, at}
+use Rattle.gq_parser.specs.Word.{Word, Punct, Name, Token, at}
 use Rattle.schema_syntax.specs.declared.word.SchemaWord.{SchemaWord}
 use Rattle.schema_syntax.specs.declared.word.SchemaWord.TheVariants as word
-use Rattle.schema_syntax.specs.declared.fault.Stop.{Stop}
 use Rattle.schema_syntax.specs.declared.tree.Name as rust-name
 use Rattle.schema_syntax.specs.Word.{word_of}
 use Rattle.schema_syntax.specs.Tree as tree
 use Rattle.schema_syntax.specs.Tree.{Definition, name_of, names_of}
 use Rattle.schema_syntax.specs.Grammar.{IsTypeName, AreFields, AreEnumValues, IsAmpersand, no_ampersand, ampersand, AreMoreInterfaces, no_more_interfaces, next_interface, AreInterfaces, no_interfaces, interfaces}
-use Rattle.schema_syntax.specs.Grammar.{IsPipe, no_pipe, pipe, AreMoreMembers, no_more_members, next_member, IsBody, schema, object, interface, union, enum}
-use Rattle.schema_syntax.specs.Machine.{Symbol, A, ATypeName, ADefinition, RootBody, ObjectBody, FirstInterface, MoreInterfaces, InterfaceBody, EnumBody, Fields, EnumValues, MaybePipe, MoreMembers, one, a_root, Shift, Shifts, Refused, moved, body_move, shift, read, type_name_verdict, implements_verdict, on_verdict}
-use Rattle.schema_syntax.specs.Parsing.{Reads, Fails, Eats, IsTaken, IsNotNext, IsNoName, AreSomeInterfaces, AreInterfacesRead, AreMembersRead, IsQueryTaken, IsDefinitionRead, IsFront}
-use Rattle.schema_syntax.proofs.Steps.{fails_earlier, reads_from, read_name}
+use Rattle.schema_syntax.specs.Grammar.{IsPipe, no_pipe, pipe, AreMoreMembers, no_more_members, next_member, IsBody, schema, interface, union, enum}
+use Rattle.schema_syntax.specs.Machine.{Symbol, A, ATypeName, ADefinition, RootBody, ObjectBody, FirstInterface, MoreInterfaces, EnumBody, Fields, EnumValues, MaybePipe, MoreMembers, one, a_root, Shift, Shifts, moved, body_move, shift, read, type_name_verdict, implements_verdict, on_verdict}
+use Rattle.schema_syntax.specs.Parsing.{Reads, Eats, IsTaken, IsNotNext, AreSomeInterfaces, AreInterfacesRead, AreMembersRead, IsDefinitionRead, IsFront}
+use Rattle.schema_syntax.proofs.Steps.{read_name}
 use Rattle.schema_syntax.proofs.Lists.{same_shift, verdict_moves}
 
 -- ---- one more behind a mark

@@ -1,29 +1,24 @@
 -- What each step of reading fields, arguments and values of enums gives.
-use Rattle.std.proofs.Common.{◌≡◌, ◌≢◌, ℕ, zero, suc, ◌<◌, ◌≤◌, Bool, true, false, List, [], ◌∷◌, ◌++◌, length, map, Result, Ok, Err, Option, Some, None, refl, sym, ap, subst, ◌∙◌, arith}
+use Rattle.std.proofs.Common.{◌≡◌, ℕ, ◌<◌, Bool, true, false, List, [], ◌∷◌, ◌++◌, length, Ok, Option, Some, None, refl, sym, ap, subst, ◌∙◌, arith}
 use Rattle.std.proofs.lemmas.List.{append-nil}
 use Rattle.gq_lexer.specs.declared.place.Place.{Place}
-use Rattle.gq_lexer.specs.declared.token.Punct.TheVariants.{Amp, ParenLeft, ParenRight, Colon, Equals, At, BracketLeft, BracketRight, BraceLeft, BraceRight, Pipe}
+use Rattle.gq_lexer.specs.declared.token.Punct.TheVariants.{ParenLeft, ParenRight, Colon, Equals, BraceRight}
 use Rattle.gq_parser.specs.declared.keyword.Keyword.{Keyword}
 use Rattle.gq_parser.specs.declared.tree.Literal.{Literal}
-use Rattle.gq_parser.specs.declared.tree.TypeRef as rust-type
 use Rattle.gq_parser.specs.Keywords.{IsEnumName}
-use Rattle.gq_parser.specs.Word.{Word, Punct, Name, Text, Token, at}
-use Rattle.gq_parser.specs.Word as words
-use Rattle.gq_parser.specs.Tree.{TypeTree, Value, type_of, literal_of, default_of}
+use Rattle.gq_parser.specs.Word.{Punct, Name, Text, Token, at}
+use Rattle.gq_parser.specs.Tree.{TypeTree, Value, literal_of}
 use Rattle.gq_parser.specs.Grammar.{IsValue, IsDefault, no_default, default}
-use Rattle.schema_syntax.specs.declared.fault.Stop.{Stop}
-use Rattle.schema_syntax.specs.declared.fault.Stop.TheVariants.{Unexpected, NotServed, NoMemory}
 use Rattle.schema_syntax.specs.declared.tree.ArgumentDefinition as rust-argument
 use Rattle.schema_syntax.specs.declared.tree.FieldDefinition as rust-field
 use Rattle.schema_syntax.specs.declared.tree.Name as rust-name
 use Rattle.schema_syntax.specs.Tree as tree
 use Rattle.schema_syntax.specs.Tree.{name_of, names_of, argument_of, arguments_of, field_of, fields_of}
-use Rattle.schema_syntax.specs.Grammar.{IsDescription, no_description, description, IsName, a_name, IsServedType, IsDeprecated, IsArgument, argument, AreArguments, no_more_arguments, next_argument, AreOptionalArguments, no_arguments, arguments}
+use Rattle.schema_syntax.specs.Grammar.{IsDescription, no_description, description, IsName, IsDeprecated, IsArgument, argument, AreArguments, no_more_arguments, next_argument, AreOptionalArguments, no_arguments, arguments}
 use Rattle.schema_syntax.specs.Grammar.{IsField, field, AreFields, no_more_fields, next_field, IsEnumValue, enum_value, AreEnumValues, no_more_values, next_value}
-use Rattle.schema_syntax.specs.Machine.{Symbol, A, AName, AColon, AnEnumName, AValue, MaybeDefault, MaybeArguments, Arguments, Fields, EnumValues, ADefinition, one, a_field_then, an_argument_then, a_value_then, Shift, moved, body_move, shift, read}
+use Rattle.schema_syntax.specs.Machine.{Symbol, A, AName, AnEnumName, AValue, MaybeDefault, MaybeArguments, Arguments, Fields, EnumValues, one, a_field_then, an_argument_then, a_value_then, Shift, moved, shift, read}
 use Rattle.schema_syntax.specs.Machine.{Verdict, Accepts, Rejects, Bars, on_verdict, enum_name_verdict}
-use Rattle.schema_syntax.specs.Parsing.{Reads, Fails, Eats, Describes, IsTaken, IsTextTaken, IsNoText, IsNotNext, IsTypeRead, IsEnumNameRead, IsFront}
-use Rattle.schema_syntax.proofs.Steps.{fails_earlier}
+use Rattle.schema_syntax.specs.Parsing.{Reads, Describes, IsTaken, IsNoText, IsNotNext, IsTypeRead, IsEnumNameRead, IsFront}
 
 -- ---- descriptions
 

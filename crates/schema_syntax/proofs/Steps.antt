@@ -1,30 +1,28 @@
 -- What each step of a method gives.
-use Rattle.std.proofs.Common.{◌≡◌, ◌≢◌, ℕ, zero, suc, ◌<◌, ◌≤◌, Bool, true, false, List, [], ◌∷◌, ◌++◌, length, map, Result, Ok, Err, Option, Some, None, refl, sym, ap, subst, ◌∙◌, arith}
-use Rattle.std.specs.Global.{Vec, Global}
+use Rattle.std.proofs.Common.{◌≡◌, ◌≢◌, ℕ, suc, Bool, true, false, List, [], ◌∷◌, ◌++◌, Result, Ok, Err, Option, Some, None, refl, sym, ap, subst, ◌∙◌}
+use Rattle.std.specs.Global.{Global}
 use Rattle.std.specs.Prelude.{string_bytes, not, if◌then◌else◌}
 use Rattle.std.specs.declared.string.String.{String}
 use Rattle.std.specs.declared.boxed.Box.{Box}
 use Rattle.gq_lexer.specs.declared.place.Place.{Place}
-use Rattle.gq_lexer.specs.declared.token.Punct.TheVariants.{Bang, Amp, ParenLeft, ParenRight, Colon, Equals, At, BracketLeft, BracketRight, BraceLeft, BraceRight, Pipe}
+use Rattle.gq_lexer.specs.declared.token.Punct.TheVariants.{Bang, Amp, ParenLeft, ParenRight, Colon, Equals, At, BracketLeft, BracketRight, BraceLeft, BraceRight}
 use Rattle.gq_parser.specs.declared.keyword.Keyword.{Keyword}
 use Rattle.gq_parser.specs.declared.tree.TypeRef as rust-type
 use Rattle.gq_parser.specs.declared.tree.TypeRef.TheVariants as typeref
 use Rattle.gq_parser.specs.declared.tree.TypeRef.TheFolds.{fold-roll-TypeRef}
 use Rattle.gq_parser.specs.declared.tree.TypeRef.TheOpen as open-type
 use Rattle.gq_parser.specs.Word.{Word, Punct, Name, Text, Token, at}
-use Rattle.gq_parser.specs.Keywords.{keyword_of, IsEnumName}
-use Rattle.gq_parser.specs.Word as words
 use Rattle.gq_parser.specs.Tree.{TypeTree, Named, ListOf, type_of, type_step}
 use Rattle.gq_parser.specs.Grammar.{IsBang, no_bang, bang, IsType, named, list_of}
 use Rattle.schema_syntax.specs.declared.fault.Stop.{Stop}
-use Rattle.schema_syntax.specs.declared.fault.Stop.TheVariants.{Unexpected, NotServed, NoMemory}
+use Rattle.schema_syntax.specs.declared.fault.Stop.TheVariants.{Unexpected, NotServed}
 use Rattle.schema_syntax.specs.declared.word.SchemaWord.{SchemaWord}
 use Rattle.schema_syntax.specs.declared.word.SchemaWord.TheVariants as word
 use Rattle.schema_syntax.specs.Word.{word_of, IsServedName}
 use Rattle.schema_syntax.specs.Tree as tree
 use Rattle.schema_syntax.specs.Grammar.{IsName, a_name, IsTypeName, type_name, IsServedType, IsReason, no_reason, reason, IsDeprecated, not_deprecated, deprecated}
-use Rattle.schema_syntax.specs.Machine.{Symbol, RootBody, ObjectBody, InterfaceBody, EnumBody, MoreInterfaces, ARootEnd, at_end, A, AColon, AnEquals, ABracket, AParenthesis, AName, ATypeName, AnItem, AType, MaybeBang, MaybeDeprecated, MaybeReason, ADeprecated, AReason, AText, Verdict, Accepts, Rejects, Bars, on_verdict, type_name_verdict, deprecated_verdict, reason_verdict, moved, Shift, Shifts, shift, one, refused, read, is_deprecated, Step, Goes, Stops, Forbids, Sinks, Refused, Denied, is_other_directive}
-use Rattle.schema_syntax.specs.Parsing.{Reads, Fails, Eats, Expects, Describes, TakesMark, IsNotNext, IsTaken, IsTextTaken, IsNoName, IsTypeRead, IsNamed}
+use Rattle.schema_syntax.specs.Machine.{Symbol, RootBody, ObjectBody, InterfaceBody, EnumBody, MoreInterfaces, ARootEnd, at_end, A, AColon, AnEquals, ABracket, AParenthesis, AName, ATypeName, AnItem, AType, MaybeBang, MaybeDeprecated, MaybeReason, ADeprecated, AReason, AText, Verdict, Accepts, Rejects, Bars, on_verdict, type_name_verdict, deprecated_verdict, reason_verdict, moved, Shift, Shifts, shift, one, refused, read, is_deprecated, Goes, Stops, Forbids, Sinks, Refused}
+use Rattle.schema_syntax.specs.Parsing.{Reads, Fails, Eats, Expects, IsNotNext, IsTaken, IsTextTaken, IsNoName, IsTypeRead, IsNamed}
 
 -- a fault is the same fault earlier, where the reading is the same
 pub fails_earlier : (e : Stop) (o o' : Option Stop) → o ≡ o' → Fails e o' → Fails e o

@@ -1,15 +1,13 @@
 -- A list of tokens has at most one tree.
-use Rattle.std.proofs.Common.{◌≡◌, ℕ, Bool, true, false, List, [], ◌∷◌, Option, Some, None, refl, sym, ap, subst, ◌∙◌}
+use Rattle.std.proofs.Common.{◌≡◌, Bool, true, false, List, ◌∷◌, Option, Some, refl, sym, ap, subst, ◌∙◌}
 use Rattle.gq_lexer.specs.declared.place.Place.{Place}
-use Rattle.gq_lexer.specs.declared.token.Punct.TheVariants.{Bang, Amp, ParenLeft, Colon, Equals, At, BracketRight, BraceLeft, Pipe}
-use Rattle.gq_parser.specs.declared.keyword.Keyword.{Keyword}
+use Rattle.gq_lexer.specs.declared.token.Punct.TheVariants.{Bang, ParenLeft, Colon, Equals, BracketRight, BraceLeft, Pipe}
 use Rattle.gq_parser.specs.Word.{Punct, Token, at}
 use Rattle.gq_parser.specs.Word as words
 use Rattle.gq_parser.specs.Tree as gq
 use Rattle.gq_parser.specs.Grammar as value
 use Rattle.gq_parser.specs.Grammar.{IsValue, AreValues, AreMembers, IsBang, no_bang, bang, IsType, named, list_of, IsDefault, no_default, default}
 use Rattle.schema_syntax.specs.declared.word.SchemaWord.{SchemaWord}
-use Rattle.schema_syntax.specs.Word.{word_of}
 use Rattle.schema_syntax.specs.Tree as tree
 use Rattle.schema_syntax.specs.Tree.{Definition}
 use Rattle.schema_syntax.specs.Grammar.{IsDescription, no_description, description, IsName, a_name, IsTypeName, type_name, IsReason, no_reason, reason, IsDeprecated, not_deprecated, deprecated, IsArgument, argument, AreArguments, no_more_arguments, next_argument, AreOptionalArguments, no_arguments, arguments}

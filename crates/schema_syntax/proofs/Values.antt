@@ -1,10 +1,10 @@
 -- What each step of reading a value gives.
-use Rattle.std.proofs.Common.{◌≡◌, ◌≢◌, ℕ, zero, suc, ◌<◌, ◌≤◌, Bool, true, false, List, [], ◌∷◌, ◌++◌, length, map, Result, Ok, Err, Option, Some, None, refl, sym, ap, subst, ◌∙◌, arith}
+use Rattle.std.proofs.Common.{◌≡◌, ℕ, zero, suc, true, false, List, [], ◌∷◌, Result, Ok, Err, Some, refl, sym, ap, subst, ◌∙◌, arith}
 use Rattle.std.specs.Global.{Vec, Global}
 use Rattle.std.specs.Prelude.{string_bytes}
 use Rattle.std.specs.declared.string.String.{String}
 use Rattle.gq_lexer.specs.declared.place.Place.{Place}
-use Rattle.gq_lexer.specs.declared.token.Punct.TheVariants.{Colon, At, BracketLeft, BracketRight, BraceLeft, BraceRight}
+use Rattle.gq_lexer.specs.declared.token.Punct.TheVariants.{Colon, BracketLeft, BracketRight, BraceLeft, BraceRight}
 use Rattle.gq_parser.specs.declared.keyword.Keyword.{Keyword}
 use Rattle.gq_parser.specs.declared.keyword.Keyword.TheVariants.{True, False, Null}
 use Rattle.gq_parser.specs.declared.tree.Literal.{Literal}
@@ -24,8 +24,8 @@ use Rattle.schema_syntax.specs.Grammar.{IsName, a_name}
 use Rattle.schema_syntax.specs.declared.fault.Stop.{Stop}
 use Rattle.schema_syntax.specs.declared.fault.Stop.TheVariants.{Unexpected, NotServed, NoMemory}
 use Rattle.schema_syntax.specs.Machine.{Symbol, A, AColon, AName, AValue, MoreValues, MoreObjectFields, one, shift, Refused, refused, read}
-use Rattle.schema_syntax.specs.Parsing.{Reads, Fails, IsTaken, IsNotNext, IsNoName, IsNoText, IsNoInt, IsNoFloat, IsNameValue, IsNumberRead, NumberReads, IsMemberRead, TakesText}
-use Rattle.schema_syntax.proofs.Steps.{fails_earlier, fails_here, reads_from}
+use Rattle.schema_syntax.specs.Parsing.{Reads, Fails, IsTaken, IsNotNext, IsNoName, IsNoText, IsNoInt, IsNoFloat, IsNameValue, IsNumberRead, NumberReads, IsMemberRead}
+use Rattle.schema_syntax.proofs.Steps.{fails_here}
 use Rattle.schema_syntax.proofs.Views.{the_literal, literal_int, literal_float, literal_text, literal_boolean, literal_null, literal_enum, literal_list, literal_object, of_argument}
 
 -- ---- names

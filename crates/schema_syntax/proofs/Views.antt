@@ -1,5 +1,5 @@
 -- The views of values, case by case, and of lists that grow.
-use Rattle.std.proofs.Common.{◌≡◌, ℕ, Bool, List, [], ◌∷◌, ◌++◌, map, refl, sym, ap, ◌∙◌}
+use Rattle.std.proofs.Common.{◌≡◌, Bool, List, [], ◌∷◌, ◌++◌, map, refl, sym, ap, ◌∙◌}
 use Rattle.std.specs.Global.{Vec, Global}
 use Rattle.std.specs.Prelude.{string_bytes}
 use Rattle.std.specs.declared.string.String.{String}
@@ -13,11 +13,6 @@ use Rattle.gq_parser.specs.declared.tree.Value.TheViews.{roll-Literal, roll-Argu
 use Rattle.gq_parser.specs.declared.tree.Value.TheFolds.{fold-Value, fold-roll-Value, fold-roll-Literal, fold-roll-Argument}
 use Rattle.gq_parser.specs.Tree.{Value, Int, Float, Text, Boolean, Null, Enum, Array, Object, Values, and_value, Members, and_member, values_then, members_then, Argument}
 use Rattle.gq_parser.specs.Tree.{literal_of, map_literals, argument_of, map_members, value_step, argument_step, literal_step}
-use Rattle.schema_syntax.specs.Tree as tree
-use Rattle.schema_syntax.specs.declared.tree.Name as rust-name
-use Rattle.schema_syntax.specs.declared.tree.ArgumentDefinition as rust-definition
-use Rattle.schema_syntax.specs.declared.tree.FieldDefinition as rust-field
-use Rattle.schema_syntax.specs.declared.tree.Definition as rust
 
 -- a literal at a place
 abbrev pub the_literal : Place → rust-value.Value → rust-literal.Literal

@@ -1,9 +1,7 @@
 -- Documents and their faults.
-use Rattle.std.proofs.Common.{◌≡◌, ◌<◌, ℕ, zero, suc, Bool, true, false, List, [], ◌∷◌, ◌++◌, length, map, Option, Some, None, Ok, refl, sym, ap, subst, ◌∙◌, ◌⊎◌, inl, inr, arith}
+use Rattle.std.proofs.Common.{◌≡◌, ◌<◌, Bool, true, false, List, [], ◌∷◌, ◌++◌, length, map, Option, Some, None, Ok, refl, sym, ap, subst, ◌∙◌, inl, inr, arith}
 use Rattle.std.proofs.lemmas.List.{append-nil}
-use Rattle.gq_lexer.specs.declared.place.Place.{Place}
-use Rattle.gq_parser.specs.Word.{Word, Punct, Name, Text, Token, at}
-use Rattle.gq_parser.specs.Word as words
+use Rattle.gq_parser.specs.Word.{Name, Text, Token, at}
 use Rattle.gq_parser.specs.Fault.{IsShallow}
 use Rattle.schema_syntax.specs.declared.word.SchemaWord.{SchemaWord}
 use Rattle.schema_syntax.specs.declared.word.SchemaWord.TheVariants as word
@@ -12,14 +10,14 @@ use Rattle.schema_syntax.specs.declared.fault.Stop.TheVariants.{Unexpected, NotS
 use Rattle.schema_syntax.specs.declared.tree.Definition as rust
 use Rattle.schema_syntax.specs.Word.{word_of}
 use Rattle.schema_syntax.specs.Tree.{Definition, definition_of}
-use Rattle.schema_syntax.specs.Grammar.{IsDescription, IsBody, IsDefinition, definition, IsDocument, no_more_definitions, next_definition}
+use Rattle.schema_syntax.specs.Grammar.{IsDescription, IsDefinition, definition, IsDocument, no_more_definitions, next_definition}
 use Rattle.schema_syntax.specs.Fault.{CanCome, IsUnservedWord, IsUnserved, directive, a_word, list, IsRefused, IsCut, IsUnexpectedAt, IsNotServedAt, IsStop}
 use Rattle.schema_syntax.specs.Fault as fault
-use Rattle.schema_syntax.specs.Machine.{Symbol, ADefinition, Shift, Shifts, Refused, Denied, moved, body_move, shift, one, read}
+use Rattle.schema_syntax.specs.Machine.{Symbol, ADefinition, Shift, moved, body_move, one, read}
 use Rattle.schema_syntax.specs.Parsing.{Fails, Reads, Describes, IsNoText, IsDefinitionRead, IsDocumentFront}
 use Rattle.schema_syntax.proofs.Means.{Means, ends}
 use Rattle.schema_syntax.proofs.Served.{Comes}
-use Rattle.schema_syntax.proofs.Faults.{RefusedAt, ServedAt, FirstItem, Why, StopsAt, Ends, read_ends, read_done}
+use Rattle.schema_syntax.proofs.Faults.{RefusedAt, StopsAt, Ends, read_ends, read_done}
 use Rattle.schema_syntax.proofs.Lists.{is_description, same_shift}
 use Rattle.schema_syntax.proofs.Unique.{document_one}
 

@@ -1,4 +1,3 @@
-use Rattle.std.proofs.Common.{sym, ap, subst, ◌∷◌}
 use Rattle.schema_syntax.proofs.Values.{true_value, false_value, null_value, enum_value}
 use Rattle.schema_syntax.proofs.word.name_value.Goals as goal
 

@@ -1,6 +1,6 @@
-use Rattle.std.proofs.Common.{◌∷◌, ◌∙◌, [], refl, true, false, sym}
+use Rattle.std.proofs.Common.{◌∷◌, ◌∙◌, [], refl}
 use Rattle.std.proofs.lemmas.Result.{err_from_is_err_and}
-use Rattle.schema_syntax.proofs.Steps.{fails_earlier, reads_from}
+use Rattle.schema_syntax.proofs.Steps.{fails_earlier}
 use Rattle.schema_syntax.specs.declared.word.SchemaWord.TheVariants as word
 use Rattle.schema_syntax.specs.Machine.{A, ATypeName, RootBody, ObjectBody, InterfaceBody, EnumBody, a_union_then}
 use Rattle.schema_syntax.proofs.Bodies.{definition_opens, definition_is}

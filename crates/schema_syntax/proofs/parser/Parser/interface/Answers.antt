@@ -1,6 +1,6 @@
-use Rattle.std.proofs.Common.{◌∷◌, ◌∙◌, [], refl, true, false, sym}
+use Rattle.std.proofs.Common.{◌∷◌, ◌∙◌}
 use Rattle.std.proofs.lemmas.Result.{err_from_is_err_and}
-use Rattle.schema_syntax.proofs.Steps.{fails_earlier, reads_from}
+use Rattle.schema_syntax.proofs.Steps.{fails_earlier}
 use Rattle.schema_syntax.specs.Machine.{InterfaceBody}
 use Rattle.schema_syntax.proofs.Bodies.{interface_is}
 use Rattle.schema_syntax.proofs.parser.Parser.interface.Goals as goal

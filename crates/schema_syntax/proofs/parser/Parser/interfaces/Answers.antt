@@ -1,6 +1,4 @@
-use Rattle.std.proofs.Common.{◌∷◌, ◌∙◌, [], refl, true, false, sym}
-use Rattle.std.proofs.lemmas.Result.{err_from_is_err_and}
-use Rattle.schema_syntax.proofs.Steps.{fails_earlier, reads_from}
+use Rattle.std.proofs.Common.{sym}
 use Rattle.schema_syntax.proofs.Bodies.{interfaces_read, no_interfaces_read}
 use Rattle.schema_syntax.proofs.parser.Parser.interfaces.Goals as goal
 

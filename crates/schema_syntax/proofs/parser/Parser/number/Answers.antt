@@ -1,6 +1,5 @@
 use Rattle.schema_syntax.proofs.Values.{int_read, float_read}
-use Rattle.std.proofs.Common.{◌∙◌, sym, subst}
-use Rattle.schema_syntax.specs.Parsing.{IsNumberRead}
+use Rattle.std.proofs.Common.{◌∙◌, sym}
 use Rattle.schema_syntax.proofs.parser.Parser.number.Goals as goal
 
 pub returns-in-Some : goal.returns-in-Some

@@ -1,8 +1,8 @@
-use Rattle.std.proofs.Common.{◌∷◌, ◌∙◌, [], refl, true, false, sym}
+use Rattle.std.proofs.Common.{◌∷◌, ◌∙◌}
 use Rattle.std.proofs.lemmas.Result.{err_from_is_err_and}
-use Rattle.schema_syntax.proofs.Steps.{fails_earlier, reads_from}
+use Rattle.schema_syntax.proofs.Steps.{fails_earlier}
 use Rattle.schema_syntax.specs.Grammar.{object}
-use Rattle.schema_syntax.specs.Machine.{ObjectBody, Fields}
+use Rattle.schema_syntax.specs.Machine.{ObjectBody}
 use Rattle.schema_syntax.proofs.parser.Parser.object.Goals as goal
 
 pub returns-in_err-interfaces-clause-reads : goal.returns-in_err-interfaces-clause-reads

@@ -1,7 +1,7 @@
-use Rattle.std.proofs.Common.{◌∷◌, ◌∙◌, [], refl, true, false, sym}
+use Rattle.std.proofs.Common.{◌∷◌, ◌∙◌}
 use Rattle.std.proofs.lemmas.Result.{err_from_is_err_and}
-use Rattle.schema_syntax.proofs.Steps.{fails_earlier, reads_from}
-use Rattle.schema_syntax.specs.Machine.{A, AColon, AQuery, ATypeName, ARootEnd}
+use Rattle.schema_syntax.proofs.Steps.{fails_earlier}
+use Rattle.schema_syntax.specs.Machine.{A, AColon, ATypeName, ARootEnd}
 use Rattle.schema_syntax.proofs.Steps.{colon_fails, colon_comes}
 use Rattle.schema_syntax.proofs.Bodies.{brace_comes, schema_is}
 use Rattle.schema_syntax.proofs.parser.Parser.schema.Goals as goal

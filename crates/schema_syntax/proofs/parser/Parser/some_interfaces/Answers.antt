@@ -1,6 +1,6 @@
-use Rattle.std.proofs.Common.{◌∷◌, ◌∙◌, [], refl, true, false, sym}
+use Rattle.std.proofs.Common.{◌∷◌, ◌∙◌, [], refl}
 use Rattle.std.proofs.lemmas.Result.{err_from_is_err_and}
-use Rattle.schema_syntax.proofs.Steps.{fails_earlier, reads_from}
+use Rattle.schema_syntax.proofs.Steps.{fails_earlier}
 use Rattle.gq_lexer.specs.declared.token.Punct.TheVariants.{Amp}
 use Rattle.gq_parser.specs.Word.{Punct}
 use Rattle.schema_syntax.specs.Tree.{name_of}
