@@ -1,0 +1,2 @@
+//! The rules.
+mod uses;
