@@ -29,17 +29,25 @@ is_root _ = false
 abbrev pub repeated_type : List Definition → Name → Option Place
 repeated_type earlier n = if is_built_in n.text || list_any (defines n.text) earlier then Some n.place else None
 
--- what a definition repeats: its own name, after these definitions, or a name in it
-abbrev pub repeats : List Definition → Definition → Option Place
-repeats earlier (Schema p n) = if list_any is_root earlier then Some p else None
-repeats earlier (Object n is fs) = or_else (repeated_type earlier n) (or_else (repeated_name [] is) (repeated_field [] fs))
-repeats earlier (Interface n fs) = or_else (repeated_type earlier n) (repeated_field [] fs)
-repeats earlier (Union n ms) = or_else (repeated_type earlier n) (repeated_name [] ms)
-repeats earlier (Enum n vs) = or_else (repeated_type earlier n) (repeated_name [] vs)
+-- the name of a definition, or its word `schema`, where these stood earlier
+abbrev pub repeated_self : List Definition → Definition → Option Place
+repeated_self earlier (Schema p n) = if list_any is_root earlier then Some p else None
+repeated_self earlier (Object n is fs) = repeated_type earlier n
+repeated_self earlier (Interface n fs) = repeated_type earlier n
+repeated_self earlier (Union n ms) = repeated_type earlier n
+repeated_self earlier (Enum n vs) = repeated_type earlier n
+
+-- a name within a definition
+abbrev pub repeated_within : Definition → Option Place
+repeated_within (Schema p n) = None
+repeated_within (Object n is fs) = or_else (repeated_name [] is) (repeated_field [] fs)
+repeated_within (Interface n fs) = repeated_field [] fs
+repeated_within (Union n ms) = repeated_name [] ms
+repeated_within (Enum n vs) = repeated_name [] vs
 
 abbrev pub repeated_from : List Definition → List Definition → Option Place
 repeated_from earlier [] = None
-repeated_from earlier (d ∷ ds) = or_else (repeats earlier d) (repeated_from (earlier ++ d ∷ []) ds)
+repeated_from earlier (d ∷ ds) = or_else (repeated_self earlier d) (or_else (repeated_within d) (repeated_from (earlier ++ d ∷ []) ds))
 
 -- the first name of the text that is defined a second time
 abbrev pub first_repeated : List Definition → Option Place

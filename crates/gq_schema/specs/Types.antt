@@ -4,11 +4,16 @@ use Rattle.std.specs.Prelude.{ℕ, Bool, true, false, ◌&&◌, ◌||◌, not, i
 use Rattle.std.specs.List.{list_any}
 use Rattle.std.specs.Option.{option_and_then, option_map_or}
 use Rattle.gq_parser.specs.Tree.{TypeTree, Named, ListOf}
-use Rattle.schema_syntax.specs.Tree.{Name, Argument, Field, Definition, Schema, Object, Interface, Union, Enum}
+use Rattle.schema_syntax.specs.declared.tree.Definition as rust
+use Rattle.schema_syntax.specs.Tree.{Name, Argument, Field, Definition, definition_of, Schema, Object, Interface, Union, Enum}
 use Rattle.gq_schema.specs.declared.kind.TypeKind.{TypeKind}
 use Rattle.gq_schema.specs.declared.kind.TypeKind.TheVariants as kind
 use Rattle.gq_schema.specs.Kinds.{is_leaf}
 use Rattle.gq_schema.specs.Scan.{first_in}
+
+-- what the program's definitions say
+abbrev pub tree_of : List rust.Definition → List Definition
+tree_of ds = map definition_of ds
 
 -- the name has this text
 abbrev pub is_called : List ℕ → Name → Bool

@@ -3,6 +3,7 @@
 
 mod fault;
 mod kind;
+mod names;
 mod rules;
 
 pub use fault::SchemaFault;
