@@ -7,3 +7,4 @@ pub mod Repeated
 pub mod Uses
 pub mod Implements
 pub mod Earlier
+pub mod Places
