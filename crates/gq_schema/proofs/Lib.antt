@@ -1,1 +1,4 @@
 pub mod Bools
+pub mod TypeNameLists
+pub mod Walks
+pub mod UnionLaws

@@ -8,3 +8,4 @@ pub mod Uses
 pub mod Implements
 pub mod Earlier
 pub mod Places
+pub mod Possible

@@ -5,6 +5,7 @@ mod fault;
 mod index;
 mod kind;
 mod names;
+mod possible;
 mod rules;
 mod type_names;
 

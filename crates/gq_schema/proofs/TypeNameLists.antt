@@ -1,0 +1,64 @@
+-- Lists of names in which each stands once.
+use Rattle.std.proofs.Common.{◌≡◌, ◌∙◌, sym, ap, ℕ, Bool, true, false, ◌||◌, ◌&&◌, if◌then◌else◌, List, [], ◌∷◌, ◌++◌, bytes_eq, refl}
+use Rattle.std.specs.List.{list_any}
+use Rattle.std.proofs.lemmas.Cmp.{nat_list_eq_equiv}
+use Rattle.gq_schema.specs.Types.{with_name}
+use Rattle.gq_schema.specs.Possible.{with_name_if}
+
+any-last : (n : List ℕ) (xs : List (List ℕ)) → list_any (bytes_eq n) (xs ++ n ∷ []) ≡ true
+any-last n [] = ap (λ b. b || false) (nat_list_eq_equiv.refl n)
+any-last n (x ∷ xs) = or-true (bytes_eq n x) _ (any-last n xs) where
+  or-true : (b c : Bool) → c ≡ true → (b || c) ≡ true
+  or-true true c h = refl
+  or-true false c h = h
+
+pub with_name-present : (xs : List (List ℕ)) (n : List ℕ) → list_any (bytes_eq n) xs ≡ true → with_name xs n ≡ xs
+with_name-present xs n h = rw h refl
+
+pub with_name-twice : (xs : List (List ℕ)) (n : List ℕ) → with_name (with_name xs n) n ≡ with_name xs n
+with_name-twice xs n = cases (list_any (bytes_eq n) xs) refl where
+  cases : (b : Bool) → list_any (bytes_eq n) xs ≡ b → with_name (with_name xs n) n ≡ with_name xs n
+  cases true h = ap (λ ys. with_name ys n) (with_name-present xs n h)
+  cases false h = let e : with_name xs n ≡ xs ++ n ∷ [] = rw h refl in rw e (with_name-present (xs ++ n ∷ []) n (any-last n xs))
+
+pub with_name_if-both : (b c : Bool) (xs : List (List ℕ)) (n : List ℕ) → with_name_if c (with_name_if b xs n) n ≡ with_name_if (b || c) xs n
+with_name_if-both true true xs n = with_name-twice xs n
+with_name_if-both true false xs n = refl
+with_name_if-both false c xs n = refl
+
+-- one more name of a list was added
+pub with_name_if-step : (b rest all : Bool) (new old start : List (List ℕ)) (n : List ℕ) → new ≡ with_name_if b old n → with_name_if (b || rest) old n ≡ with_name_if all start n → with_name_if rest new n ≡ with_name_if all start n
+with_name_if-step b rest all new old start n added before = rw added (with_name_if-both b rest old n ∙ before)
+
+any-push : (q n : List ℕ) (xs : List (List ℕ)) → list_any (bytes_eq q) (xs ++ n ∷ []) ≡ (bytes_eq q n || list_any (bytes_eq q) xs)
+any-push q n [] = refl
+any-push q n (x ∷ xs) = ap (λ b. bytes_eq q x || b) (any-push q n xs) ∙ swap (bytes_eq q x) (bytes_eq q n) (list_any (bytes_eq q) xs) where
+  swap : (a b c : Bool) → (a || (b || c)) ≡ (b || (a || c))
+  swap true true c = refl
+  swap true false c = refl
+  swap false true c = refl
+  swap false false c = refl
+
+-- one more union was noted
+pub has_union-push : (b : Bool) (q n : List ℕ) (new old : List (List ℕ)) → new ≡ (if b then old ++ n ∷ [] else old) → list_any (bytes_eq q) new ≡ ((bytes_eq q n && b) || list_any (bytes_eq q) old)
+has_union-push true q n new old e = rw e (any-push q n old ∙ ap (λ c. c || list_any (bytes_eq q) old) (sym (and-true (bytes_eq q n)))) where
+  and-true : (b : Bool) → (b && true) ≡ b
+  and-true true = refl
+  and-true false = refl
+has_union-push false q n new old e = rw e (ap (λ c. c || list_any (bytes_eq q) old) (sym (and-false (bytes_eq q n)))) where
+  and-false : (b : Bool) → (b && false) ≡ false
+  and-false true = refl
+  and-false false = refl
+
+-- one more member of a union was noted
+pub has_union-step : (u m rest all new old start : Bool) → new ≡ ((u && m) || old) → ((u && (m || rest)) || old) ≡ ((u && all) || start) → ((u && rest) || new) ≡ ((u && all) || start)
+has_union-step true true true all new old start e h = h
+has_union-step true true false all new old start e h = e ∙ h
+has_union-step true false true all new old start e h = h
+has_union-step true false false all new old start e h = e ∙ h
+has_union-step false m rest all new old start e h = e ∙ h
+
+-- the three steps that an object type is noted in
+pub with_name_if-three : (a b c : Bool) (one two three old : List (List ℕ)) (n : List ℕ) → one ≡ with_name_if a old n → two ≡ with_name_if b one n → three ≡ with_name_if c two n → three ≡ with_name_if (a || (b || c)) old n
+with_name_if-three a b c one two three old n e f g =
+    g ∙ (ap (λ xs. with_name_if c xs n) f ∙ (with_name_if-both b c one n ∙ (ap (λ xs. with_name_if (b || c) xs n) e ∙ with_name_if-both a (b || c) old n)))
