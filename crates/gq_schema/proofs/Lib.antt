@@ -2,3 +2,4 @@ pub mod Bools
 pub mod TypeNameLists
 pub mod Walks
 pub mod UnionLaws
+pub mod PlaceLaws

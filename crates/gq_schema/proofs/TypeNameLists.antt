@@ -1,9 +1,10 @@
 -- Lists of names in which each stands once.
-use Rattle.std.proofs.Common.{◌≡◌, ◌∙◌, sym, ap, ℕ, Bool, true, false, ◌||◌, ◌&&◌, if◌then◌else◌, List, [], ◌∷◌, ◌++◌, bytes_eq, refl}
-use Rattle.std.specs.List.{list_any}
+use Rattle.std.proofs.Common.{◌≡◌, ◌∙◌, sym, ap, ℕ, Bool, true, false, ◌||◌, ◌&&◌, if◌then◌else◌, List, [], ◌∷◌, ◌++◌, bytes_eq, cond, fold, refl}
+use Rattle.std.specs.List.{list_any, filter}
 use Rattle.std.proofs.lemmas.Cmp.{nat_list_eq_equiv}
-use Rattle.gq_schema.specs.Types.{with_name}
-use Rattle.gq_schema.specs.Possible.{with_name_if}
+use Rattle.schema_syntax.specs.Tree.{Definition}
+use Rattle.gq_schema.specs.Types.{with_name, with_type, is_possible}
+use Rattle.gq_schema.specs.Possible.{with_name_if, with_possible}
 
 any-last : (n : List ℕ) (xs : List (List ℕ)) → list_any (bytes_eq n) (xs ++ n ∷ []) ≡ true
 any-last n [] = ap (λ b. b || false) (nat_list_eq_equiv.refl n)
@@ -62,3 +63,11 @@ has_union-step false m rest all new old start e h = e ∙ h
 pub with_name_if-three : (a b c : Bool) (one two three old : List (List ℕ)) (n : List ℕ) → one ≡ with_name_if a old n → two ≡ with_name_if b one n → three ≡ with_name_if c two n → three ≡ with_name_if (a || (b || c)) old n
 with_name_if-three a b c one two three old n e f g =
     g ∙ (ap (λ xs. with_name_if c xs n) f ∙ (with_name_if-both b c one n ∙ (ap (λ xs. with_name_if (b || c) xs n) e ∙ with_name_if-both a (b || c) old n)))
+
+-- the names of the possible types, after one more definition
+pub fold-with_possible : (b : Bool) (names : List (List ℕ)) (d : Definition) (others : List Definition) → fold with_type names (cond b (d ∷ others) others) ≡ fold with_type (if b then with_type names d else names) others
+fold-with_possible true names d others = refl
+fold-with_possible false names d others = refl
+
+pub possible_names-step : (defs : List Definition) (q : List ℕ) (d : Definition) (others : List Definition) (new old all : List (List ℕ)) → new ≡ with_possible defs q old d → fold with_type old (filter (is_possible defs q) (d ∷ others)) ≡ all → fold with_type new (filter (is_possible defs q) others) ≡ all
+possible_names-step defs q d others new old all e h = rw e (sym (fold-with_possible (is_possible defs q d) old d (filter (is_possible defs q) others)) ∙ h)

@@ -9,3 +9,5 @@ pub mod Implements
 pub mod Earlier
 pub mod Places
 pub mod Possible
+pub mod Indexes
+pub mod Schemas

@@ -7,7 +7,10 @@ mod kind;
 mod names;
 mod possible;
 mod rules;
+mod schema;
 mod type_names;
+mod types;
 
 pub use fault::SchemaFault;
 pub use kind::TypeKind;
+pub use schema::Schema;

@@ -2,12 +2,14 @@
 
 ghost use Rattle.std.specs.Prelude.{◌≡◌, ◌||◌, ◌&&◌, ◌++◌, ◌∷◌, [], ℕ, List, if◌then◌else◌, OnOk, IfOk, bytes_eq, string_bytes};
 ghost use Rattle.std.specs.List.{list_any};
-ghost use Rattle.schema_syntax.specs.Tree.{names_of};
-ghost use Rattle.gq_schema.specs.Types.{is_called};
-ghost use Rattle.gq_schema.specs.Possible.{names_at, with_name_if, is_among, unions_at, has_union};
+ghost use Rattle.schema_syntax.specs.Tree.{names_of, definition_of};
+ghost use Rattle.gq_schema.specs.Indexes.{tree_in};
+ghost use Rattle.gq_schema.specs.Types.{is_called, possible_names};
+ghost use Rattle.gq_schema.specs.Possible.{names_at, with_name_if, is_among, unions_at, has_union, AreUnions, with_possible};
 
+use crate::index::Indexed;
 use crate::type_names::TypeNames;
-use schema_syntax::{Name, ObjectDefinition, UnionDefinition};
+use schema_syntax::{Definition, Name, ObjectDefinition, UnionDefinition};
 use std::alloc::{AllocError, Global};
 use std::collections::HashMap;
 
@@ -106,4 +108,50 @@ fn note_members<'a>(
         note_union(alloc, unions, member, &union.name)?;
     }
     Ok(())
+}
+
+// Notes what a definition is a possible type of.
+fn add_definition(
+    alloc: Global,
+    possible: &mut Possible,
+    definition: &Definition,
+    unions: &Unions,
+) -> Result<(), AllocError>
+    ensures { (defs : _) (q : List ℕ) → AreUnions unions.now defs → OnOk result (names_at possible.new q ≡ with_possible defs q (names_at possible.old q) (definition_of definition.now)) }
+{
+    match definition {
+        Definition::Object(object) => {
+            add_object(alloc, possible, object, unions)?;
+            Ok(())
+        }
+        Definition::Schema(_) => Ok(()),
+        Definition::Interface(_) => Ok(()),
+        Definition::Union(_) => Ok(()),
+        Definition::Enum(_) => Ok(()),
+    }
+}
+
+// The unions that each type is a member of.
+fn unions_in<'a>(alloc: Global, definitions: &'a [Indexed]) -> Result<Unions<'a>, AllocError>
+    ensures { IfOk result (λ unions. AreUnions unions (tree_in definitions.now)) }
+{
+    let mut unions: Unions = HashMap::new(alloc);
+    for indexed in definitions {
+        if let Definition::Union(union) = &indexed.definition {
+            note_members(alloc, &mut unions, union)?;
+        }
+    }
+    Ok(unions)
+}
+
+/// The object types that each type can be.
+pub fn possible_in(alloc: Global, definitions: &[Indexed]) -> Result<Possible, AllocError>
+    ensures { (q : List ℕ) → IfOk result (λ possible. names_at possible q ≡ possible_names (tree_in definitions.now) q) }
+{
+    let unions = unions_in(alloc, definitions)?;
+    let mut possible: Possible = HashMap::new(alloc);
+    for indexed in definitions {
+        add_definition(alloc, &mut possible, &indexed.definition, &unions)?;
+    }
+    Ok(possible)
 }

@@ -1,0 +1,13 @@
+-- What stands beside a schema's definitions.
+use Rattle.std.specs.Prelude.{◌≡◌, ℕ, List, String}
+use Rattle.std.specs.Global.{Global}
+use Rattle.std.specs.HashMap.{HashMap}
+use Rattle.gq_schema.specs.declared.index.Indexed as rust
+use Rattle.gq_schema.specs.Indexes.{tree_in}
+use Rattle.gq_schema.specs.Places.{ArePlaces}
+use Rattle.gq_schema.specs.Possible.{names_at}
+use Rattle.gq_schema.specs.Types.{defines, possible_names}
+
+pub record IsIndexed {S : Type 0} (definitions : List rust.Indexed) (types : HashMap (String Global) ℕ S) (possible : HashMap (String Global) (List (List ℕ)) S) : Type 0 where
+  pub placed : ArePlaces defines (tree_in definitions) types
+  pub found : (q : List ℕ) → names_at possible q ≡ possible_names (tree_in definitions) q
