@@ -1,11 +1,12 @@
 //! Where definitions and what they define stand, by name.
 
-ghost use Rattle.std.specs.Prelude.{◌≡◌, ℕ, List, Some, None, IfOk, OnOk, map, bytes_eq, string_bytes, if◌then◌else◌};
+ghost use Rattle.std.specs.Prelude.{◌≡◌, ℕ, List, Some, None, IfOk, OnOk, find, map, bytes_eq, string_bytes, if◌then◌else◌};
+ghost use Rattle.std.specs.Option.{option_map, option_copied};
 ghost use Rattle.std.specs.HashMap.{get_by_text};
-ghost use Rattle.schema_syntax.specs.Tree.{names_of, fields_of, definition_of};
+ghost use Rattle.schema_syntax.specs.Tree.{names_of, field_of, fields_of, definition_of};
 ghost use Rattle.gq_schema.specs.Scan.{or_else};
 ghost use Rattle.gq_schema.specs.Places.{ArePlaces, part_place};
-ghost use Rattle.gq_schema.specs.Types.{is_called, is_field};
+ghost use Rattle.gq_schema.specs.Types.{is_called, is_field, own_fields};
 
 use schema_syntax::{Definition, FieldDefinition, Name};
 use std::alloc::{AllocError, Global};
@@ -62,6 +63,25 @@ impl Indexed {
             Definition::Union(_) => HashMap::new(alloc),
         };
         Ok(Indexed { definition, parts })
+    }
+
+    /// The field of this name.
+    pub fn field(&self, name: &str) -> Option<&FieldDefinition>
+        ensures { option_map field_of (option_copied result) ≡ find (is_field name.now) (own_fields (definition_of self.now.definition)) }
+    {
+        match &self.definition {
+            Definition::Object(object) => {
+                let place = self.place_of(name)?;
+                Some(&object.fields[place])
+            }
+            Definition::Interface(interface) => {
+                let place = self.place_of(name)?;
+                Some(&interface.fields[place])
+            }
+            Definition::Schema(_) => None,
+            Definition::Union(_) => None,
+            Definition::Enum(_) => None,
+        }
     }
 
     /// The place of the field or of the enum's value of this name.

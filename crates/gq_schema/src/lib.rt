@@ -6,6 +6,7 @@ mod index;
 mod kind;
 mod names;
 mod possible;
+mod references;
 mod rules;
 mod schema;
 mod type_names;
