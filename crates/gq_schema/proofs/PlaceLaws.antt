@@ -59,8 +59,11 @@ seen_first f g test xs i x h is =
 pub found_within : {A B : Type 0} (f : B → A) (test : A → Bool) (xs : List B) (i : ℕ) → place_from 0 test (map f xs) ≡ Some i → i < length xs
 found_within f test xs i h = let below = place_within f test 0 xs i h in omega arith
 
-pub found_first : {A B : Type 0} (f : B → A) (test : A → Bool) (xs : List B) (i : ℕ) (x : B) → place_from 0 test (map f xs) ≡ Some i → x ≡ get_or xs i x → find test (map f xs) ≡ Some (f x)
-found_first f test xs i x h is =
-    let r = first_at f test 0 xs i x h in
+pub found_element : {A B : Type 0} (f : B → A) (test : A → Bool) (xs : List B) (i : ℕ) (d : B) → place_from 0 test (map f xs) ≡ Some i → find test (map f xs) ≡ Some (f (get_or xs i d))
+found_element f test xs i d h =
+    let r = first_at f test 0 xs i d h in
     let zero-less : i - 0 ≡ i = omega arith in
-    r.first ∙ ap (λ y. Some (f y)) (ap (λ j. get_or xs j x) zero-less ∙ sym is)
+    r.first ∙ ap (λ j. Some (f (get_or xs j d))) zero-less
+
+pub found_first : {A B : Type 0} (f : B → A) (test : A → Bool) (xs : List B) (i : ℕ) (x : B) → place_from 0 test (map f xs) ≡ Some i → x ≡ get_or xs i x → find test (map f xs) ≡ Some (f x)
+found_first f test xs i x h is = found_element f test xs i x h ∙ ap (λ y. Some (f y)) (sym is)
