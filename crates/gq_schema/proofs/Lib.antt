@@ -3,3 +3,4 @@ pub mod TypeNameLists
 pub mod Walks
 pub mod UnionLaws
 pub mod PlaceLaws
+pub mod IntTexts

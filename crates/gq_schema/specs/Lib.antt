@@ -11,3 +11,6 @@ pub mod Places
 pub mod Possible
 pub mod Indexes
 pub mod Schemas
+pub mod Inputs
+pub mod Coercion
+pub mod Defaults

@@ -1,8 +1,10 @@
 //! Schemas.
 #![tactic(auto)]
 
+mod coercion;
 mod fault;
 mod index;
+mod input;
 mod kind;
 mod names;
 mod possible;
@@ -13,5 +15,6 @@ mod type_names;
 mod types;
 
 pub use fault::SchemaFault;
+pub use input::Input;
 pub use kind::TypeKind;
 pub use schema::Schema;

@@ -5,7 +5,7 @@ ghost use Rattle.gq_schema.specs.Indexes.{definition_in};
 ghost use Rattle.std.specs.Option.{option_map, option_copied};
 ghost use Rattle.schema_syntax.specs.Tree.{field_of, fields_of, definition_of};
 ghost use Rattle.gq_parser.specs.Tree.{type_of};
-ghost use Rattle.gq_schema.specs.Types.{tree_of, declared_root, root_in, type_in, kind_of, kind_in, fields_in, field_in, can_be, possible_in, is_covariant};
+ghost use Rattle.gq_schema.specs.Types.{tree_of, declared_root, root_in, type_in, kind_of, kind_in, fields_in, field_in, has_value, can_be, possible_in, is_covariant};
 
 use crate::index::{Indexed, Places, index};
 use crate::kind::TypeKind;
@@ -120,6 +120,16 @@ impl Schema {
         ensures { option_map field_of (option_copied result) ≡ field_in (tree_of self.now) ty.now name.now }
     {
         self.definition(ty)?.field(name)
+    }
+
+    /// Whether a type is an enum that has this value (section 3.9).
+    pub fn has_value(&self, ty: &str, value: &str) -> bool
+        ensures { result ≡ has_value (tree_of self.now) ty.now value.now }
+    {
+        match self.definition(ty) {
+            Some(indexed) => indexed.has_value(value),
+            None => false,
+        }
     }
 
     /// Whether an object type is a possible type of a type: it is that type, implements it, or is a member of it.
