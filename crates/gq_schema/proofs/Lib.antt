@@ -4,3 +4,4 @@ pub mod Walks
 pub mod UnionLaws
 pub mod PlaceLaws
 pub mod IntTexts
+pub mod Faults

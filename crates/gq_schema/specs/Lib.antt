@@ -14,3 +14,4 @@ pub mod Schemas
 pub mod Inputs
 pub mod Coercion
 pub mod Defaults
+pub mod Fault

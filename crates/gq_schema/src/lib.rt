@@ -1,6 +1,7 @@
 //! Schemas.
 #![tactic(auto)]
 
+mod check;
 mod coercion;
 mod fault;
 mod index;

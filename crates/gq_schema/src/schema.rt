@@ -95,6 +95,13 @@ impl Schema {
         Some(&self.definitions[place])
     }
 
+    /// Whether the text defines a type of this name.
+    pub(crate) fn defines(&self, name: &str) -> bool
+        ensures { result ≡ is_some (type_in (tree_of self.now) name.now) }
+    {
+        self.definition(name).is_some()
+    }
+
     /// What a type is; nothing where there is no type of this name.
     pub fn kind_of(&self, name: &str) -> Option<TypeKind>
         ensures { result ≡ kind_in (tree_of self.now) name.now }
