@@ -5,3 +5,4 @@ pub mod UnionLaws
 pub mod PlaceLaws
 pub mod IntTexts
 pub mod Faults
+pub mod InputLaws

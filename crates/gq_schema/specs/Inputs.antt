@@ -1,5 +1,5 @@
 -- Coerced values, without where they lie in memory.
-use Rattle.std.specs.Prelude.{ℕ, ℤ, Bool, List, [], ◌∷◌, map, string_bytes}
+use Rattle.std.specs.Prelude.{ℕ, ℤ, Bool, List, [], ◌∷◌, Option, Some, None, string_bytes}
 use Rattle.gq_schema.specs.declared.input.Input as rust
 use Rattle.gq_schema.specs.declared.input.Input.TheOpen as open-input
 use Rattle.gq_schema.specs.declared.input.Input.TheFolds.{fold-Input}
@@ -33,3 +33,8 @@ input_step (open-input.List is) = Items (inputs_of is.items)
 
 abbrev pub input_of : rust.Input → Input
 input_of = fold-Input Input input_step
+
+-- these inputs before others, where there are such
+abbrev pub before : List Input → Option Inputs → Option Inputs
+before is None = None
+before is (Some others) = Some (inputs_then is others)

@@ -15,6 +15,7 @@ mod schema;
 mod type_names;
 mod types;
 
+pub use coercion::{accepts, coerce};
 pub use fault::SchemaFault;
 pub use input::Input;
 pub use kind::TypeKind;
