@@ -1,6 +1,6 @@
 -- Lists of coerced values.
 use Rattle.std.proofs.Common.{◌≡◌, ◌∙◌, sym, ap, List, [], ◌∷◌, ◌++◌, map, Option, Some, None, refl}
-use Rattle.std.specs.Global.{Vec, Global}
+use Rattle.std.specs.Global.{Vec}
 use Rattle.gq_parser.specs.Tree.{Value, Values, and_value}
 use Rattle.gq_schema.specs.declared.input.Input as rust
 use Rattle.gq_schema.specs.declared.input.Input.TheVariants as variant

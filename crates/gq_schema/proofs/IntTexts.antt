@@ -1,10 +1,10 @@
 -- The texts of numbers.
-use Rattle.std.proofs.Common.{◌≡◌, ◌∙◌, sym, ap, cond, eq-eqb, ◌≢◌, ◌<◌, ◌≤◌, ◌^◌, ℕ, Bool, true, false, ◌&&◌, if◌then◌else◌, List, length, drop, get_or, ltb, leb, eqb, refl, w32, Result, Ok, Err, Option, Some, None, Decides, arith}
+use Rattle.std.proofs.Common.{◌≡◌, ◌∙◌, sym, ap, cond, eq-eqb, ◌≤◌, ◌^◌, ℕ, Bool, true, false, ◌&&◌, if◌then◌else◌, List, length, drop, refl, w32, Result, Ok, Err, Option, Some, None, Decides, arith}
 use Rattle.std.specs.Prelude.{ℤ, pos, neg_ℤ, nat_le, nat_lt, slice_index, ◌==◌}
 use Rattle.std.specs.Result.{OkIff, result_ok}
 use Rattle.std.specs.Str.{all_ascii_digits}
 use Rattle.std.specs.Str.Parse.{digits_value, ParsesSigned}
-use Rattle.std.proofs.lemmas.Bool.Decides.{Decides-eqb, Decides-ltb, nat_tests}
+use Rattle.std.proofs.lemmas.Bool.Decides.{Decides-ltb, nat_tests}
 use Rattle.std.proofs.lemmas.Bool.{eqb-true}
 use Rattle.std.proofs.lemmas.Str.Parse.{IsNumeralModel, numerals_by_value, tells_all_ascii_digits, parse_signed_plain, parse_signed_plus, parse_signed_minus}
 use Rattle.gq_schema.specs.Coercion.{int_of}
@@ -50,6 +50,7 @@ parsed {E} text r h = minus (slice_index text 0 == 45) refl where
   plus false unsigned e =
       from_OkIff r _ _ (parse_signed_plain digits w32 text r h (λ same. absurd (let t = eq-eqb _ _ same in let f : false ≡ true = sym e ∙ t in cc)) (λ same. absurd (let t = eq-eqb _ _ same in let f : false ≡ true = sym unsigned ∙ t in cc))) (three (nat_lt 0 (length text)) (all_ascii_digits text) (nat_lt (digits_value 10 text) (2 ^ 31)) (Decides-ltb _ _) (is_true _) (Decides-ltb _ _))
       ∙ (sym (ap (λ m. int_by m false text) unsigned) ∙ (sym (ap (λ p. int_by (slice_index text 0 == 45) p text) e) ∙ by_signs text))
+
   minus : (b : Bool) → (slice_index text 0 == 45) ≡ b → result_ok r ≡ int_of text
   minus true e =
       from_OkIff r _ _ (parse_signed_minus digits w32 text r h (eqb-true _ _ e)) (three (nat_lt 0 (length (drop 1 text))) (all_ascii_digits (drop 1 text)) (nat_le (digits_value 10 (drop 1 text)) (2 ^ 31)) (Decides-ltb _ _) (is_true _) (Decides-le _ _))

@@ -1,14 +1,14 @@
 -- The coercion of literals to types (section 3.5 and 3.9 to 3.12, Input Coercion). An ID takes the text of an Int as it is
 -- written; a list takes another value as a list of one; `null` is right where a type may be null. Floats, objects, and
 -- values of an object type, an interface or a union are never right.
-use Rattle.std.specs.Prelude.{ℕ, ℤ, ◌^◌, Bool, true, false, ◌&&◌, ◌||◌, is_some, List, [], ◌∷◌, length, drop, Option, Some, None, codes, bytes_eq, nat_lt, nat_le, if◌then◌else◌}
+use Rattle.std.specs.Prelude.{ℕ, ℤ, ◌^◌, Bool, ◌&&◌, ◌||◌, is_some, List, length, Option, Some, None, codes, bytes_eq, nat_lt, nat_le, if◌then◌else◌}
 use Rattle.std.specs.Str.{all_ascii_digits}
 use Rattle.std.specs.Str.Parse.{digits_value, signed_digits_value, starts_with_minus, without_leading_sign}
 use Rattle.gq_lexer.specs.declared.place.Place.{Place}
 use Rattle.gq_parser.specs.Tree.{TypeTree, Named, ListOf, Value, Variable, Float, Enum, Array, Object, Values, no_value, and_value}
 use Rattle.gq_parser.specs.Tree as literal
 use Rattle.schema_syntax.specs.Tree.{Definition}
-use Rattle.gq_schema.specs.Types.{is_built_in, has_value}
+use Rattle.gq_schema.specs.Types.{has_value}
 use Rattle.gq_schema.specs.Inputs.{Input, Null, Int, Text, Boolean, Items, Inputs, no_input, and_input}
 
 -- one digit or more, and nothing else

@@ -29,7 +29,6 @@ pub struct Schema {
 impl Model for Schema {
     ghost use Rattle.std.specs.Prelude.{List, map};
     ghost use Rattle.schema_syntax.specs.declared.tree.Definition.{Definition};
-
     ghost use Rattle.gq_parser.specs.contracts.tree.TypeRef as type_ref;
     ghost use Rattle.gq_parser.specs.contracts.tree.Literal as literal;
     ghost use Rattle.std.specs.Coded.{codes};
@@ -172,7 +171,11 @@ impl Schema {
         match (own, wanted) {
             (
                 TypeRef::Named { name, non_null, .. },
-                TypeRef::Named { name: wanted_name, non_null: wanted_non_null, .. },
+                TypeRef::Named {
+                    name: wanted_name,
+                    non_null: wanted_non_null,
+                    ..
+                },
             ) => {
                 (*non_null || !*wanted_non_null)
                     && (name.as_str() == wanted_name.as_str()
@@ -180,7 +183,11 @@ impl Schema {
             }
             (
                 TypeRef::List { item, non_null, .. },
-                TypeRef::List { item: wanted_item, non_null: wanted_non_null, .. },
+                TypeRef::List {
+                    item: wanted_item,
+                    non_null: wanted_non_null,
+                    ..
+                },
             ) => (*non_null || !*wanted_non_null) && self.is_covariant(item, wanted_item),
             _ => false,
         }

@@ -1,4 +1,4 @@
-use Rattle.std.proofs.Common.{◌≡◌, ◌∙◌, ap, refl}
+use Rattle.std.proofs.Common.{◌≡◌, ◌∙◌, ap}
 use Rattle.gq_parser.specs.Tree.{Array, literal_of, map_literals}
 use Rattle.gq_parser.proofs.Views.{the_literal, type_list, literal_list}
 use Rattle.gq_parser.specs.declared.tree.Value.{Value}
