@@ -20,7 +20,6 @@ mod schema;
 mod type_names;
 mod types;
 
-
 pub use coercion::{accepts, coerce};
 pub use fault::SchemaFault;
 pub use input::Input;
