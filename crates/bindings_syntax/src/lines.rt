@@ -26,7 +26,7 @@ fn first_line(text: &str) -> Option<(&str, &str)>
 /// A line with its number, from 1.
 #[derive(Clone, Copy)]
 pub(crate) struct NumberedLine<'text> {
-    pub number: usize,
+    pub number: u64,
     pub text: &'text str,
 }
 
@@ -35,7 +35,7 @@ pub(crate) struct NumberedLine<'text> {
 pub(crate) struct Lines<'text> {
     rest: &'text str,
     /// The number of lines before them.
-    passed: usize,
+    passed: u64,
 }
 
 impl<'text> Model for Lines<'text> {
@@ -55,7 +55,7 @@ fn says_nothing(line: &str) -> bool
 
 /// The first line that counts, and what stands behind it. `passed` is the number of lines before the
 /// text.
-fn first_kept(text: &str, passed: usize) -> Option<(NumberedLine<'_>, &str)>
+fn first_kept(text: &str, passed: u64) -> Option<(NumberedLine<'_>, &str)>
     requires { passed + length text.now < 2 ^ 64 }
     ensures line { MatchOption result (kept_from (passed + 1) (lines_of text.now) ≡ [])
         (λ p. kept_from (passed + 1) (lines_of text.now)

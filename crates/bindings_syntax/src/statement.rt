@@ -70,7 +70,7 @@ pub enum Statement<'text> {
 /// A statement with its line's number, from 1.
 #[derive(Clone, Copy, Debug, PartialEq, Eq)]
 pub struct NumberedStatement<'text> {
-    pub line: usize,
+    pub line: u64,
     pub statement: Statement<'text>,
 }
 
@@ -83,5 +83,5 @@ pub struct BindingsText<'text> {
     pub statements: Vec<NumberedStatement<'text>>,
     /// The first line that counts and has no form, from 1. Where another line than `bindings 1` comes
     /// first, it is that line. A text with no line that counts has none, and isn't headed.
-    pub bad_line: Option<usize>,
+    pub bad_line: Option<u64>,
 }

@@ -99,7 +99,7 @@ fn every_form_is_read(rt: HostRuntime) -> Result<(), Fail> {
     assert_eq!(rt; text.statements.len(), sample().len());
     for (i, (found, wanted)) in text.statements.iter().zip(sample().iter()).enumerate() {
         assert_eq!(rt; found.statement, *wanted, "statement {i}");
-        assert_eq!(rt; found.line, i + 2);
+        assert_eq!(rt; found.line, i as u64 + 2);
     }
     Ok(())
 }
@@ -198,7 +198,7 @@ fn lines_and_words_are_those_of_a_plain_reader(rt: HostRuntime) -> Result<(), Fa
                 return Ok(());
             };
             assert_eq!(rt; found.text, line, "line {i} of {text:?}");
-            assert_eq!(rt; found.number, i.saturating_add(1), "in {text:?}");
+            assert_eq!(rt; found.number, (i as u64).saturating_add(1), "in {text:?}");
         }
         assert!(rt; lines.next().is_none(), "one more line in {text:?}");
         let mut words = Words::of(&text);
