@@ -1,0 +1,32 @@
+-- The faults of a text.
+use Rattle.std.specs.Prelude.{ℕ, List, Option, Some, None}
+use Rattle.gq_lexer.specs.declared.place.Place.{Place}
+use Rattle.gq_lexer.specs.declared.scan.Stop.{Stop}
+use Rattle.gq_lexer.specs.declared.scan.Stop.TheVariants as stop
+use Rattle.gq_lexer.specs.declared.fault.LexFault.{LexFault}
+use Rattle.gq_lexer.specs.declared.fault.LexFault.TheVariants as fault
+use Rattle.gq_lexer.specs.Tokens.{StopsAt}
+
+abbrev pub fault_of : Stop → Place → LexFault
+fault_of stop.BadCharacter place = fault.BadCharacter place
+fault_of stop.UnterminatedString place = fault.UnterminatedString place
+fault_of stop.BadEscape place = fault.BadEscape place
+fault_of stop.BadNumber place = fault.BadNumber place
+
+-- The fault is the first one of the text. Of the length and of memory this says nothing.
+abbrev pub IsFirstFault : LexFault → List ℕ → Type 0
+IsFirstFault fault.TooLong text = Unit {0}
+IsFirstFault (fault.BadCharacter place) text = StopsAt text stop.BadCharacter place
+IsFirstFault (fault.UnterminatedString place) text = StopsAt text stop.UnterminatedString place
+IsFirstFault (fault.BadEscape place) text = StopsAt text stop.BadEscape place
+IsFirstFault (fault.BadNumber place) text = StopsAt text stop.BadNumber place
+IsFirstFault fault.NoMemory text = Unit {0}
+
+-- the place that a fault has
+abbrev pub place_of_fault : LexFault → Option Place
+place_of_fault fault.TooLong = None
+place_of_fault (fault.BadCharacter place) = Some place
+place_of_fault (fault.UnterminatedString place) = Some place
+place_of_fault (fault.BadEscape place) = Some place
+place_of_fault (fault.BadNumber place) = Some place
+place_of_fault fault.NoMemory = None

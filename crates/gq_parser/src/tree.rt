@@ -1,0 +1,182 @@
+//! The tree of a document, with the place of each of its parts (October 2021, section 2).
+//!
+//! The tree holds all that the text says, so that nobody who has it needs the text again.
+
+use gq_lexer::Place;
+
+/// A document: its operations and its fragments, each in the order of the text (section 2.2).
+#[derive(Debug, Drop)]
+pub struct Document {
+    pub operations: Vec<Operation>,
+    pub fragments: Vec<Fragment>,
+}
+
+/// What an operation does (section 2.3).
+#[derive(Clone, Copy, Debug, PartialEq, Eq)]
+pub enum OperationKind {
+    Query,
+    Mutation,
+    Subscription,
+}
+
+/// An operation (section 2.3). A selection set that stands alone is a query without a name.
+#[derive(Debug, Drop)]
+pub struct Operation {
+    /// The place of its first token: its kind's word, or the `{` where it has none.
+    pub place: Place,
+    pub kind: OperationKind,
+    pub name: Option<String>,
+    pub variables: Vec<VariableDefinition>,
+    pub directives: Vec<Directive>,
+    pub selection_set: SelectionSet,
+}
+
+/// A fragment's definition (section 2.8). Its name is not `on`.
+#[derive(Debug, Drop)]
+pub struct Fragment {
+    /// The place of the word `fragment`.
+    pub place: Place,
+    pub name: String,
+    pub condition: TypeCondition,
+    pub directives: Vec<Directive>,
+    pub selection_set: SelectionSet,
+}
+
+/// The type that a fragment is for (section 2.8.1).
+#[derive(Debug, Drop)]
+pub struct TypeCondition {
+    /// The place of the type's name.
+    pub place: Place,
+    pub name: String,
+}
+
+/// The definition of a variable (section 2.10). Neither its default nor its directives use variables.
+#[derive(Debug, Drop)]
+pub struct VariableDefinition {
+    /// The place of its `$`.
+    pub place: Place,
+    /// The name without the `$`.
+    pub name: String,
+    pub of_type: TypeRef,
+    pub default: Option<Literal>,
+    pub directives: Vec<Directive>,
+}
+
+/// What is selected of an object, at least one selection (section 2.4).
+#[derive(Debug, Drop)]
+#[cycle(selection)]
+pub struct SelectionSet {
+    /// The place of its `{`.
+    pub place: Place,
+    pub selections: Vec<Selection>,
+}
+
+/// One selection of a set (section 2.4).
+#[derive(Debug, Drop)]
+#[cycle(selection)]
+pub enum Selection {
+    Field(Field),
+    Spread(Spread),
+    Inline(Inline),
+}
+
+/// A field, with what is selected below it (section 2.5).
+#[derive(Debug, Drop)]
+#[cycle(selection)]
+pub struct Field {
+    /// The place of its first token: its alias, or its name where it has none.
+    pub place: Place,
+    pub alias: Option<String>,
+    pub name: String,
+    pub arguments: Vec<Argument>,
+    pub directives: Vec<Directive>,
+    pub selection_set: Option<SelectionSet>,
+}
+
+/// A fragment's spread (section 2.8). Its name is not `on`.
+#[derive(Debug, Drop)]
+pub struct Spread {
+    /// The place of its `...`.
+    pub place: Place,
+    pub name: String,
+    pub directives: Vec<Directive>,
+}
+
+/// An inline fragment (section 2.8.2).
+#[derive(Debug, Drop)]
+#[cycle(selection)]
+pub struct Inline {
+    /// The place of its `...`.
+    pub place: Place,
+    pub condition: Option<TypeCondition>,
+    pub directives: Vec<Directive>,
+    pub selection_set: SelectionSet,
+}
+
+/// A directive (section 2.12).
+#[derive(Debug, Drop)]
+pub struct Directive {
+    /// The place of its `@`.
+    pub place: Place,
+    /// The name without the `@`.
+    pub name: String,
+    pub arguments: Vec<Argument>,
+}
+
+/// A name and its value: an argument (section 2.6), or a field of an object value (section 2.9.8).
+#[derive(Debug, Drop)]
+#[cycle(literal)]
+pub struct Argument {
+    /// The place of its name.
+    pub place: Place,
+    pub name: String,
+    pub value: Literal,
+}
+
+/// A value as it is written (section 2.9).
+#[derive(Debug, Drop)]
+#[cycle(literal)]
+pub struct Literal {
+    /// The place of its first token, as a variable's `$`.
+    pub place: Place,
+    pub value: Value,
+}
+
+/// What a literal says (section 2.9).
+#[derive(Debug, Drop)]
+#[cycle(literal)]
+pub enum Value {
+    /// The name without the `$`.
+    Variable(String),
+    /// The text of the number.
+    Int(String),
+    /// The text of the number.
+    Float(String),
+    /// The value of the string, without quotes and escapes.
+    Text(String),
+    Boolean(bool),
+    Null,
+    /// A name that is none of `true`, `false` and `null`.
+    Enum(String),
+    List(Vec<Literal>),
+    Object(Vec<Argument>),
+}
+
+/// A reference to a type (section 2.11).
+#[derive(Debug, Drop)]
+pub enum TypeRef {
+    Named {
+        /// The place of the name.
+        place: Place,
+        name: String,
+        /// Whether a `!` follows.
+        non_null: bool,
+    },
+    List {
+        /// The place of the `[`.
+        place: Place,
+        item: Box<TypeRef>,
+        /// Whether a `!` follows the `]`.
+        non_null: bool,
+    },
+}

@@ -1,0 +1,10 @@
+pub mod Scan
+pub mod Seen
+pub mod Kinds
+pub mod Types
+pub mod Reserved
+pub mod Repeated
+pub mod Uses
+pub mod Implements
+pub mod Earlier
+pub mod Places
