@@ -8,3 +8,9 @@ pub mod Uses
 pub mod Implements
 pub mod Earlier
 pub mod Places
+pub mod BindingsTree
+pub mod BindingsSeen
+pub mod BindingsPlaces
+pub mod BindingsTypes
+pub mod BindingsForms
+pub mod BindingsReading

@@ -1,6 +1,7 @@
 //! Schemas.
 #![tactic(auto)]
 
+mod bindings;
 mod fault;
 mod index;
 mod kind;
@@ -8,5 +9,6 @@ mod names;
 mod rules;
 mod type_names;
 
+pub use bindings::{Binding, By, KeySource, LoaderLine};
 pub use fault::SchemaFault;
 pub use kind::TypeKind;
