@@ -21,20 +21,33 @@ asked_loader loaders of_root field name (from_argument a) = if takes is_key_type
 asked_loader loaders of_root field name (from_column c) = if of_root then None else keyed_loader loaders name
 asked_loader loaders of_root field name from_all = whole_loader loaders name
 
--- What a form gives for a field: `column` for a leaf, and not on the root; `one` for a composite; the others for a list of composites.
+-- the numbers of the two loaders of `via`: the second has to find its rows by a column
+abbrev pub via_loaders : List LoaderOf → Bool → Field → List ℕ → KeyOf → List ℕ → Option (ℕ × ℕ)
+via_loaders loaders of_root field name key second =
+    option_and_then (λ (n : ℕ). option_map (λ (m : ℕ). (n, m)) (keyed_loader loaders second)) (asked_loader loaders of_root field name key)
+
+abbrev pub via_binding : List Definition → Field → Option (ℕ × ℕ) → KeyOf → List ℕ → Option BindingOf
+via_binding defs field numbers key column =
+    if is_composite_list defs field.of_type then option_map (λ (n : ℕ × ℕ). by_via n.0 key n.1 column) numbers else None
+
+-- `column` is for a leaf, and not on the root
+abbrev pub column_binding : List Definition → Bool → Field → List ℕ → Option BindingOf
+column_binding defs of_root field c = if not of_root && is_leaf_type defs field.of_type then Some (by_column c) else None
+
+-- `each` is for a list of composites, with an argument that is a list of keys
+abbrev pub each_binding : List Definition → List LoaderOf → Field → List ℕ → List ℕ → Option BindingOf
+each_binding defs loaders field l a =
+    if is_composite_list defs field.of_type && takes is_key_list field a then option_map (λ n. by_each n a) (keyed_loader loaders l) else None
+
+-- What a form gives for a field. `one` is for a composite, `many` and `via` are for a list of composites.
 abbrev pub form_binding : List Definition → List LoaderOf → Bool → Field → FormOf → Option BindingOf
-form_binding defs loaders of_root field (to_column c) =
-    if not of_root && is_leaf_type defs field.of_type then Some (by_column c) else None
+form_binding defs loaders of_root field (to_column c) = column_binding defs of_root field c
 form_binding defs loaders of_root field (to_one l key) =
     if is_composite_type defs field.of_type then option_map (λ n. by_one n key) (asked_loader loaders of_root field l key) else None
 form_binding defs loaders of_root field (to_many l key) =
     if is_composite_list defs field.of_type then option_map (λ n. by_many n key) (asked_loader loaders of_root field l key) else None
-form_binding defs loaders of_root field (to_each l a) =
-    if is_composite_list defs field.of_type && takes is_key_list field a then option_map (λ n. by_each n a) (keyed_loader loaders l) else None
-form_binding defs loaders of_root field (to_via l key second c) =
-    if is_composite_list defs field.of_type
-    then option_and_then (λ n. option_map (λ m. by_via n key m c) (keyed_loader loaders second)) (asked_loader loaders of_root field l key)
-    else None
+form_binding defs loaders of_root field (to_each l a) = each_binding defs loaders field l a
+form_binding defs loaders of_root field (to_via l key second c) = via_binding defs field (via_loaders loaders of_root field l key second) key c
 
 -- what a form gives for the field of this name of this type, which has to be an object type with such a field
 abbrev pub field_binding : List Definition → List LoaderOf → List ℕ → List ℕ → FormOf → Option BindingOf

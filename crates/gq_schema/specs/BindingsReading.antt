@@ -19,11 +19,14 @@ with_loader b l = record { loaders = b.loaders ++ l ∷ []; fields = b.fields }
 abbrev pub with_field : BindingsOf → List ℕ → List ℕ → BindingOf → BindingsOf
 with_field b ty name binding = record { loaders = b.loaders; fields = b.fields ++ record { type_name = ty; field_name = name; binding = binding } ∷ [] }
 
+-- a loader more, unless its name is defined
+abbrev pub after_loader : BindingsOf → LoaderOf → Option BindingsOf
+after_loader b l = if is_some (loader_in b.loaders l.name) then None else Some (with_loader b l)
+
 -- What is defined and bound after a line, where this is before it. There is none after a line that defines a loader's name or binds a field a
 -- second time, or gives a binding that does not fit.
 abbrev pub after_statement : List Definition → BindingsOf → StatementOf → Option BindingsOf
-after_statement defs b (loader_line name table by) =
-    if is_some (loader_in b.loaders name) then None else Some (with_loader b (record { name = name; table = table; by = by }))
+after_statement defs b (loader_line name table by) = after_loader b (record { name = name; table = table; by = by })
 after_statement defs b (field_line ty name form) =
     if is_some (binding_in b.fields ty name) then None else option_map (with_field b ty name) (field_binding defs b.loaders ty name form)
 

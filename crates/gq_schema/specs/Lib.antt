@@ -14,3 +14,4 @@ pub mod BindingsPlaces
 pub mod BindingsTypes
 pub mod BindingsForms
 pub mod BindingsReading
+pub mod BindingsFaults

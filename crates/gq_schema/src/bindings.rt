@@ -2,6 +2,10 @@
 
 mod binding;
 mod fields;
+mod forms;
 mod loaders;
+mod read;
+mod types;
 
 pub use binding::{Binding, By, KeySource, LoaderLine};
+pub use read::Bindings;

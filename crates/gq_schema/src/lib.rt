@@ -9,6 +9,6 @@ mod names;
 mod rules;
 mod type_names;
 
-pub use bindings::{Binding, By, KeySource, LoaderLine};
+pub use bindings::{Binding, Bindings, By, KeySource, LoaderLine};
 pub use fault::SchemaFault;
 pub use kind::TypeKind;
