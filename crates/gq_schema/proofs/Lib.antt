@@ -1,2 +1,6 @@
 pub mod Bools
+pub mod TypeNameLists
+pub mod Walks
+pub mod UnionLaws
+pub mod PlaceLaws
 pub mod BindingsPlaces

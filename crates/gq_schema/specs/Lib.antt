@@ -8,6 +8,9 @@ pub mod Uses
 pub mod Implements
 pub mod Earlier
 pub mod Places
+pub mod Possible
+pub mod Indexes
+pub mod Schemas
 pub mod BindingsTree
 pub mod BindingsSeen
 pub mod BindingsPlaces

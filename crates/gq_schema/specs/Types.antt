@@ -1,6 +1,6 @@
 -- What the definitions of a schema say of a name (sections 3.4 to 3.9). A schema is the list of its definitions, in the
 -- order of the text. Where several definitions have one name, the first counts; no schema that is accepted has such.
-use Rattle.std.specs.Prelude.{ℕ, Bool, true, false, ◌&&◌, ◌||◌, not, is_some, List, [], ◌∷◌, ◌++◌, map, filter, find, fold, Option, Some, None, codes, bytes_eq, if◌then◌else◌}
+use Rattle.std.specs.Prelude.{ℕ, Bool, true, false, ◌&&◌, ◌||◌, not, is_some, List, [], ◌∷◌, ◌++◌, map, filter, find, fold, Option, Some, None, codes, bytes_eq, unwrap_or, if◌then◌else◌}
 use Rattle.std.specs.List.{list_any}
 use Rattle.std.specs.Option.{option_and_then, option_map_or}
 use Rattle.gq_parser.specs.Tree.{TypeTree, Named, ListOf}
@@ -84,16 +84,20 @@ has_value defs q v = list_any (is_called v) (option_map_or own_values (type_in d
 
 -- ---- the root
 
-abbrev pub root_of : Definition → Option Name
-root_of (Schema p n) = Some n
+abbrev pub root_of : Definition → Option (List ℕ)
+root_of (Schema p n) = Some n.text
 root_of _ = None
+
+-- the type that `schema` names
+abbrev pub declared_root : List Definition → Option (List ℕ)
+declared_root = first_in root_of
 
 abbrev pub query : List ℕ
 query = codes "Query"
 
 -- the type that queries begin at: the one that `schema` names, else `Query`
 abbrev pub root_in : List Definition → List ℕ
-root_in defs = option_map_or (λ (n : Name). n.text) (first_in root_of defs) query
+root_in defs = unwrap_or (declared_root defs) query
 
 -- ---- possible types (section 5.5.2.3)
 

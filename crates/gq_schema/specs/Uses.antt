@@ -13,7 +13,7 @@ use Rattle.gq_schema.specs.declared.rules.uses.Rule.{Rule}
 use Rattle.gq_schema.specs.declared.rules.uses.Rule.TheVariants.{IsDefined, Fits}
 use Rattle.gq_schema.specs.Kinds.{is_input, is_object, is_interface}
 use Rattle.gq_schema.specs.Scan.{or_else, first_in}
-use Rattle.gq_schema.specs.Types.{kind_in, core_of, query, root_of}
+use Rattle.gq_schema.specs.Types.{kind_in, core_of, query, declared_root}
 
 -- what may stand in this role
 abbrev pub fits : Role → TypeKind → Bool
@@ -39,7 +39,7 @@ broken_field defs rule f = or_else (first_in (broken_argument defs rule) f.argum
 
 -- Without `schema` the definition of `Query` is the root, at its own name.
 abbrev pub is_own_root : List Definition → Name → Bool
-is_own_root defs n = is_none (first_in root_of defs) && bytes_eq n.text query
+is_own_root defs n = is_none (declared_root defs) && bytes_eq n.text query
 
 abbrev pub broken_root : List Definition → Rule → Name → Option Place
 broken_root defs rule n = if is_own_root defs n then broken_use defs rule Root n else None

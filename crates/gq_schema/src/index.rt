@@ -1,21 +1,22 @@
 //! Where definitions and what they define stand, by name.
 
-ghost use Rattle.std.specs.Prelude.{◌≡◌, ℕ, List, Some, None, IfOk, OnOk, bytes_eq, string_bytes, if◌then◌else◌};
+ghost use Rattle.std.specs.Prelude.{◌≡◌, ℕ, List, Some, None, IfOk, OnOk, find, map, bytes_eq, string_bytes, if◌then◌else◌};
+ghost use Rattle.std.specs.Option.{option_map, option_copied};
 ghost use Rattle.std.specs.HashMap.{get_by_text};
-ghost use Rattle.schema_syntax.specs.Tree.{names_of, fields_of};
+ghost use Rattle.schema_syntax.specs.Tree.{names_of, field_of, fields_of, definition_of};
 ghost use Rattle.gq_schema.specs.Scan.{or_else};
-ghost use Rattle.gq_schema.specs.Places.{ArePlaces};
-ghost use Rattle.gq_schema.specs.Types.{is_called, is_field};
+ghost use Rattle.gq_schema.specs.Places.{ArePlaces, part_place};
+ghost use Rattle.gq_schema.specs.Types.{is_called, is_field, own_fields};
 
-use schema_syntax::{FieldDefinition, Name};
+use schema_syntax::{Definition, FieldDefinition, Name};
 use std::alloc::{AllocError, Global};
 use std::collections::HashMap;
 
 /// The place of the first of each name in a list.
 pub type Places = HashMap<String, usize>;
 
-// Notes the place of a name, unless one of the name stands earlier.
-fn note(places: &mut Places, name: &Name, place: usize) -> Result<(), AllocError>
+/// Notes the place of a name, unless one of the name stands earlier.
+pub fn note(places: &mut Places, name: &Name, place: usize) -> Result<(), AllocError>
     ensures { (q : List ℕ) → OnOk result (get_by_text places.new q ≡ or_else (get_by_text places.old q) (if bytes_eq q (string_bytes name.now.text) then Some place else None)) }
 {
     places.entry(name.text.clone()?)?.or_insert(place);
@@ -40,4 +41,64 @@ fn name_places(alloc: Global, names: &[Name]) -> Result<Places, AllocError>
         note(&mut places, name, i)?;
     }
     Ok(places)
+}
+
+/// A definition, with the places of its fields or values.
+#[derive(Drop)]
+pub struct Indexed {
+    pub definition: Definition,
+    parts: Places,
+    ghost places: { (q : List ℕ) → get_by_text parts q ≡ part_place (definition_of definition) q },
+}
+
+impl Indexed {
+    fn new(alloc: Global, definition: Definition) -> Result<Indexed, AllocError>
+        ensures { IfOk result (λ indexed. indexed.definition ≡ definition) }
+    {
+        let parts = match &definition {
+            Definition::Object(object) => field_places(alloc, &object.fields)?,
+            Definition::Interface(interface) => field_places(alloc, &interface.fields)?,
+            Definition::Enum(values) => name_places(alloc, &values.values)?,
+            Definition::Schema(_) => HashMap::new(alloc),
+            Definition::Union(_) => HashMap::new(alloc),
+        };
+        Ok(Indexed { definition, parts })
+    }
+
+    /// The field of this name.
+    pub fn field(&self, name: &str) -> Option<&FieldDefinition>
+        ensures { option_map field_of (option_copied result) ≡ find (is_field name.now) (own_fields (definition_of self.now.definition)) }
+    {
+        match &self.definition {
+            Definition::Object(object) => {
+                let place = self.place_of(name)?;
+                Some(&object.fields[place])
+            }
+            Definition::Interface(interface) => {
+                let place = self.place_of(name)?;
+                Some(&interface.fields[place])
+            }
+            Definition::Schema(_) => None,
+            Definition::Union(_) => None,
+            Definition::Enum(_) => None,
+        }
+    }
+
+    /// The place of the field or of the enum's value of this name.
+    pub fn place_of(&self, name: &str) -> Option<usize>
+        ensures { result ≡ part_place (definition_of self.now.definition) name.now }
+    {
+        self.parts.get(name).copied()
+    }
+}
+
+/// The definitions, each with its places.
+pub fn index(alloc: Global, definitions: Vec<Definition>) -> Result<Vec<Indexed>, AllocError>
+    ensures { IfOk result (λ all. map (λ indexed. indexed.definition) all.items ≡ definitions.items) }
+{
+    let mut all = Vec::with_capacity(alloc, definitions.len())?;
+    for definition in definitions {
+        all.push(Indexed::new(alloc, definition)?)?;
+    }
+    Ok(all)
 }

@@ -2,10 +2,10 @@
 
 ghost use Rattle.std.specs.Prelude.{◌≡◌, string_bytes};
 ghost use Rattle.std.specs.Option.{option_map, option_copied};
-ghost use Rattle.schema_syntax.specs.Tree.{name_of, definition_of};
-ghost use Rattle.gq_schema.specs.Types.{type_name, is_built_in};
+ghost use Rattle.schema_syntax.specs.Tree.{name_of, fields_of, definition_of};
+ghost use Rattle.gq_schema.specs.Types.{type_name, is_built_in, own_fields};
 
-use schema_syntax::{Definition, Name};
+use schema_syntax::{Definition, FieldDefinition, Name};
 
 /// Whether it is one of the scalars that each schema has (section 3.5).
 pub fn is_built_in(name: &str) -> bool
@@ -24,5 +24,18 @@ pub fn type_name(definition: &Definition) -> Option<&Name>
         Definition::Interface(interface) => Some(&interface.name),
         Definition::Union(union) => Some(&union.name),
         Definition::Enum(values) => Some(&values.name),
+    }
+}
+
+/// The fields of an object type or of an interface.
+pub fn own_fields(definition: &Definition) -> &[FieldDefinition]
+    ensures { fields_of result.now ≡ own_fields (definition_of definition.now) }
+{
+    match definition {
+        Definition::Object(object) => &object.fields,
+        Definition::Interface(interface) => &interface.fields,
+        Definition::Schema(_) => &[],
+        Definition::Union(_) => &[],
+        Definition::Enum(_) => &[],
     }
 }
