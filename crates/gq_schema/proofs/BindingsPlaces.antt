@@ -83,9 +83,11 @@ loader-push f lines l old new was now none q = now q ∙ noted (is_loader q (f l
         ∙ number_places 0 (map f lines ++ f l ∷ []) q
         ∙ place_from-push 0 (is_loader q) (map f lines) (f l)
         ∙ (let len : 0 + length (map f lines) ≡ length lines = omega (arith, length-map lines f) in rw (← number_places 0 (map f lines) q, len) refl)
+
     kept : (o : Option ℕ) → o ≡ or_else o None
     kept None = refl
     kept (Some n) = refl
+
     noted : (b : Bool) → is_loader q (f l) ≡ b → cond b (Some (length lines)) (old q) ≡ or_else (number_of (loader_in (map f lines) q)) (cond b (Some (length lines)) None)
     noted true is =
         let here : q ≡ (f l).name = (bytes_decides q (f l).name).0 is in
@@ -127,14 +129,17 @@ field-push f entries e ty name old new was now same_type same_name none q r =
   where
     tests : (bytes_eq q ty && bytes_eq r name) ≡ binds q r (f e)
     tests = rw (same_type, same_name) refl
+
     after : place_from 0 (binds q r) (map f (entries ++ e ∷ [])) ≡ or_else (place_from 0 (binds q r) (map f entries)) (cond (binds q r (f e)) (Some (length entries)) None)
     after =
         ap (place_from 0 (binds q r)) (map-append f entries (e ∷ []))
         ∙ place_from-push 0 (binds q r) (map f entries) (f e)
         ∙ (let len : 0 + length (map f entries) ≡ length entries = omega (arith, length-map entries f) in rw len refl)
+
     kept : (o : Option ℕ) → o ≡ or_else o None
     kept None = refl
     kept (Some n) = refl
+
     noted : (b : Bool) → binds q r (f e) ≡ b → cond b (Some (length entries)) (old q r) ≡ or_else (place_from 0 (binds q r) (map f entries)) (cond b (Some (length entries)) None)
     noted true is =
         let parts = and_parts (bytes_eq q (f e).type_name) (bytes_eq r (f e).field_name) is in

@@ -34,11 +34,20 @@ pub enum Binding {
     /// `column COLUMN`: a column of the row that the field belongs to.
     Column(String),
     /// `one LOADER KEY`: the first row of the key, or null.
-    One { loader: usize, key: KeySource },
+    One {
+        loader: usize,
+        key: KeySource,
+    },
     /// `many LOADER KEY`: all rows of the key.
-    Many { loader: usize, key: KeySource },
+    Many {
+        loader: usize,
+        key: KeySource,
+    },
     /// `each LOADER arg NAME`: for each key in the argument's list its first row, or null.
-    Each { loader: usize, argument: String },
+    Each {
+        loader: usize,
+        argument: String,
+    },
     /// `via LOADER KEY LOADER2 COLUMN`: for each row of the key the second loader's first row of the
     /// key that stands in the column, or null.
     Via {

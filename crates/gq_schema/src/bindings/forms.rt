@@ -11,7 +11,10 @@ ghost use Rattle.gq_schema.specs.BindingsForms.{keyed_loader, whole_loader, aske
 
 use super::binding::{Binding, KeySource};
 use super::loaders::Loaders;
-use super::types::{is_composite_list, is_composite_type, is_leaf_type, is_object_type, is_root_type, takes_key, takes_keys};
+use super::types::{
+    is_composite_list, is_composite_type, is_leaf_type, is_object_type, is_root_type, takes_key,
+    takes_keys,
+};
 use crate::schema::Schema;
 use bindings_syntax::{Form, KeySource as KeyWords};
 use schema_syntax::FieldDefinition;
@@ -22,7 +25,11 @@ fn keyed_loader(loaders: &Loaders, name: &str) -> Option<usize>
     ensures { result ≡ keyed_loader loaders.now name.now }
 {
     let (number, line) = loaders.find(name)?;
-    if line.by.is_some() { Some(number) } else { None }
+    if line.by.is_some() {
+        Some(number)
+    } else {
+        None
+    }
 }
 
 /// The number of a loader that gives all rows.
@@ -30,7 +37,11 @@ fn whole_loader(loaders: &Loaders, name: &str) -> Option<usize>
     ensures { result ≡ whole_loader loaders.now name.now }
 {
     let (number, line) = loaders.find(name)?;
-    if line.by.is_some() { None } else { Some(number) }
+    if line.by.is_some() {
+        None
+    } else {
+        Some(number)
+    }
 }
 
 /// The number of a loader that the field can ask with this key.

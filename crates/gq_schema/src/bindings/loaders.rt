@@ -11,7 +11,11 @@ use std::collections::HashMap;
 use std::marker::Model;
 
 /// Notes the number of a loader.
-fn note(numbers: &mut HashMap<String, usize>, name: &String, number: usize) -> Result<(), AllocError>
+fn note(
+    numbers: &mut HashMap<String, usize>,
+    name: &String,
+    number: usize,
+) -> Result<(), AllocError>
     ensures ok { (q : List ℕ) → OnOk result (get_by_text numbers.new q ≡ (if bytes_eq q (string_bytes name.now) then Some number else get_by_text numbers.old q)) }
     ensures err { (q : List ℕ) → OnErr result (get_by_text numbers.new q ≡ get_by_text numbers.old q) }
 {
