@@ -1,5 +1,5 @@
 -- Each token stands in its text, between characters: its first and its last byte are ASCII.
-use Rattle.std.proofs.Common.{◌≡◌, ℕ, ◌+◌, ◌-◌, ◌<◌, ◌≤◌, Bool, true, List, [], ◌∷◌, ◌++◌, ◌||◌, eqb, length, get_or, take, drop, IsUtf8, All, slice_range, refl, sym, ap, subst, ◌∙◌, arith, inl, inr, append_assoc}
+use Rattle.std.proofs.Common.{◌≡◌, ℕ, ◌+◌, ◌-◌, ◌<◌, ◌≤◌, Bool, true, List, [], ◌∷◌, ◌++◌, ◌||◌, eqb, length, get_or, drop, IsUtf8, All, slice_range, refl, sym, ap, subst, ◌∙◌, arith, inl, inr, append_assoc}
 use Rattle.std.specs.List.{list_all, concat}
 use Rattle.std.specs.Str.{IsCharBoundary}
 use Rattle.std.proofs.iter.FirstChar.{beside_ascii}
@@ -19,7 +19,7 @@ use Rattle.gq_lexer.specs.declared.quoted.Quotes.{Quotes}
 use Rattle.gq_lexer.specs.declared.quoted.Quotes.TheVariants as quotes
 use Rattle.gq_lexer.specs.Characters.{is_digit, is_name_start, is_name_continue}
 use Rattle.gq_lexer.specs.Grammar.{IsPart, IsName, IsUnsigned, IsInt, IsDigits, IsFraction, IsSigned, IsExponent, IsFloat, IsQuoted, spelling, quotes_of}
-use Rattle.gq_lexer.specs.Tokens.{Part, Reads, tokens_from, token_of, AreTokens, IsToken, bytes_of}
+use Rattle.gq_lexer.specs.Tokens.{Part, Reads, tokens_from, token_of, AreTokens, IsToken}
 use Rattle.gq_lexer.proofs.Numbers.{OrNone}
 
 abbrev Ascii : List ℕ → Type 0
@@ -125,7 +125,7 @@ pub record IsBetween (q : Quotes) (bs : List ℕ) : Type 0 where
   pub whole : bs ≡ quotes_of q ++ (body ++ quotes_of q)
   pub len : length bs ≡ length (quotes_of q) + length body + length (quotes_of q)
 
-pub quoted_between : (q : Quotes) (bs rest : List ℕ) → IsQuoted q bs rest → IsBetween q bs
+abbrev pub quoted_between : (q : Quotes) (bs rest : List ℕ) → IsQuoted q bs rest → IsBetween q bs
 quoted_between q bs rest h =
     let body = concat h.pieces in
     record { body = body; whole = h.whole; len = omega (arith, ap length h.whole, length-append (quotes_of q) (body ++ quotes_of q), length-append body (quotes_of q)) }

@@ -1,4 +1,4 @@
--- The faults of a text.
+-- The faults of a text, as `lex` answers them.
 use Rattle.std.specs.Prelude.{ℕ, List, Option, Some, None}
 use Rattle.gq_lexer.specs.declared.place.Place.{Place}
 use Rattle.gq_lexer.specs.declared.scan.Stop.{Stop}
@@ -7,6 +7,7 @@ use Rattle.gq_lexer.specs.declared.fault.LexFault.{LexFault}
 use Rattle.gq_lexer.specs.declared.fault.LexFault.TheVariants as fault
 use Rattle.gq_lexer.specs.Tokens.{StopsAt}
 
+-- a fault of this kind, at this place
 abbrev pub fault_of : Stop → Place → LexFault
 fault_of stop.BadCharacter place = fault.BadCharacter place
 fault_of stop.UnterminatedString place = fault.UnterminatedString place

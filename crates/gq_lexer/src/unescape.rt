@@ -11,7 +11,8 @@ ghost use Rattle.gq_lexer.specs.Unescape.{is_plain, unit_value, escape_value};
 use crate::quoted::{code_unit, is_high_surrogate, is_low_surrogate};
 use std::alloc::{AllocError, Global};
 
-fn plain_len(bytes: &[u8]) -> usize
+/// How many bytes come before the next backslash.
+pub fn plain_len(bytes: &[u8]) -> usize
     ensures value { result ≡ prefix_len is_plain bytes.now }
     ensures within { result ≤ length bytes.now }
 {

@@ -1,0 +1,10 @@
+pub mod Means
+pub mod Back
+pub mod Stops
+pub mod Whole
+pub mod Unique
+pub mod Views
+pub mod Front
+pub mod Steps
+pub mod Lists
+pub mod Documents

@@ -8,7 +8,8 @@ use Rattle.gq_parser.specs.declared.keyword.Keyword.{Keyword}
 use Rattle.gq_parser.specs.declared.keyword.Keyword.TheVariants.{Query, Mutation, Subscription, Fragment, On, True, False, Null}
 use Rattle.gq_parser.specs.declared.tree.OperationKind.{OperationKind}
 use Rattle.gq_parser.specs.declared.tree.OperationKind.TheVariants as kind
-use Rattle.gq_parser.specs.Word.{Token, at, Punct, Name, Int, Float, Text, IsFragmentName, IsEnumName}
+use Rattle.gq_parser.specs.Keywords.{IsFragmentName, IsEnumName}
+use Rattle.gq_parser.specs.Word.{Token, at, Punct, Name, Int, Float, Text}
 use Rattle.gq_parser.specs.Tree as tree
 
 -- ---- values and types

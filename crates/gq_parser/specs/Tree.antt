@@ -158,11 +158,17 @@ value_step (open-literal.Object as') p = Object p (members_of as'.items)
 abbrev pub literal_of : rust-literal.Literal → Value
 literal_of = fold-Literal (Place → Value) Argument Value value_step argument_step literal_step
 
+abbrev pub map_literals : List rust-literal.Literal → Values
+map_literals ls = values_of (map literal_of ls)
+
 abbrev pub argument_of : rust-argument.Argument → Argument
 argument_of = fold-Argument (Place → Value) Argument Value value_step argument_step literal_step
 
 abbrev pub arguments_of : List rust-argument.Argument → List Argument
 arguments_of as' = map argument_of as'
+
+abbrev pub map_members : List rust-argument.Argument → Members
+map_members as' = members_of (map argument_of as')
 
 abbrev pub type_step : open-type.TypeRef-F TypeTree → TypeTree
 type_step (open-type.Named p n b) = Named p (string_bytes n) b
@@ -221,6 +227,10 @@ field_of = fold-Field Selection Selection Selection SelectionSet selection_step 
 
 abbrev pub inline_of : rust-inline.Inline → Selection
 inline_of = fold-Inline Selection Selection Selection SelectionSet selection_step field_step inline_step set_step
+
+abbrev pub below_of : Option rust-set.SelectionSet → Below
+below_of None = nothing_below
+below_of (Some s) = below (set_of s)
 
 abbrev pub map_selections : List rust-selection.Selection → Selections
 map_selections ss = selections_of (map selection_of ss)

@@ -1,6 +1,9 @@
+pub mod BindingsPlaces
 pub mod Bools
 pub mod TypeNameLists
 pub mod Walks
 pub mod UnionLaws
 pub mod PlaceLaws
-pub mod BindingsPlaces
+pub mod IntTexts
+pub mod Faults
+pub mod InputLaws

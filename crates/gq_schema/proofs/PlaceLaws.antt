@@ -1,6 +1,7 @@
 -- The first element that passes a test, by its place.
-use Rattle.std.proofs.Common.{◌≡◌, ◌∙◌, sym, ap, subst, ℕ, zero, suc, ◌+◌, ◌-◌, ◌<◌, ◌≤◌, Bool, true, false, cond, List, [], ◌∷◌, length, map, get_or, refl, arith, Option, Some, None}
-use Rattle.std.specs.Prelude.{find}
+use Rattle.std.proofs.Common.{◌≡◌, ◌∙◌, sym, ap, ℕ, suc, ◌+◌, ◌-◌, ◌<◌, ◌≤◌, Bool, true, false, cond, List, [], ◌∷◌, length, map, get_or, refl, arith, Some, None}
+use Rattle.std.specs.Prelude.{find, is_some, ◌||◌}
+use Rattle.std.specs.List.{list_any}
 use Rattle.std.proofs.lemmas.List.{length-map}
 use Rattle.std.proofs.Math.ListN.{get_or-map}
 use Rattle.gq_schema.specs.Places.{place_from}
@@ -67,3 +68,10 @@ found_element f test xs i d h =
 
 pub found_first : {A B : Type 0} (f : B → A) (test : A → Bool) (xs : List B) (i : ℕ) (x : B) → place_from 0 test (map f xs) ≡ Some i → x ≡ get_or xs i x → find test (map f xs) ≡ Some (f x)
 found_first f test xs i x h is = found_element f test xs i x h ∙ ap (λ y. Some (f y)) (sym is)
+
+pub is_some-place_from : {A : Type 0} (test : A → Bool) (n : ℕ) (xs : List A) → is_some (place_from n test xs) ≡ list_any test xs
+is_some-place_from test n [] = refl
+is_some-place_from test n (x ∷ xs) = step (test x) (is_some-place_from test (n + 1) xs) where
+  step : (b : Bool) → is_some (place_from (n + 1) test xs) ≡ list_any test xs → is_some (cond b (Some n) (place_from (n + 1) test xs)) ≡ (b || list_any test xs)
+  step true h = refl
+  step false h = h

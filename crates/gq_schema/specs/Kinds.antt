@@ -1,7 +1,7 @@
 -- The kinds of types (section 3.4).
 use Rattle.std.specs.Prelude.{Bool, true, false}
 use Rattle.gq_schema.specs.declared.kind.TypeKind.{TypeKind}
-use Rattle.gq_schema.specs.declared.kind.TypeKind.TheVariants.{Scalar, Object, Interface, Union, Enum}
+use Rattle.gq_schema.specs.declared.kind.TypeKind.TheVariants.{Scalar, Object, Interface, Enum}
 
 -- a scalar or an enum
 abbrev pub is_leaf : TypeKind → Bool

@@ -1,3 +1,10 @@
+pub mod BindingsTree
+pub mod BindingsSeen
+pub mod BindingsPlaces
+pub mod BindingsTypes
+pub mod BindingsForms
+pub mod BindingsReading
+pub mod BindingsFaults
 pub mod Scan
 pub mod Seen
 pub mod Kinds
@@ -11,10 +18,7 @@ pub mod Places
 pub mod Possible
 pub mod Indexes
 pub mod Schemas
-pub mod BindingsTree
-pub mod BindingsSeen
-pub mod BindingsPlaces
-pub mod BindingsTypes
-pub mod BindingsForms
-pub mod BindingsReading
-pub mod BindingsFaults
+pub mod Inputs
+pub mod Coercion
+pub mod Defaults
+pub mod Fault

@@ -1,6 +1,6 @@
 -- Names that are defined a second time: types (the built-in ones included), the fields of a type, the arguments of a field,
 -- the values of an enum, the members of a union, the interfaces that a type implements, and `schema` itself.
-use Rattle.std.specs.Prelude.{ℕ, Bool, true, false, ◌||◌, List, [], ◌∷◌, ◌++◌, Option, Some, None, bytes_eq, if◌then◌else◌}
+use Rattle.std.specs.Prelude.{Bool, true, false, ◌||◌, List, [], ◌∷◌, ◌++◌, Option, Some, None, if◌then◌else◌}
 use Rattle.std.specs.List.{list_any}
 use Rattle.gq_lexer.specs.declared.place.Place.{Place}
 use Rattle.schema_syntax.specs.Tree.{Name, Argument, Field, Definition, Schema, Object, Interface, Union, Enum}

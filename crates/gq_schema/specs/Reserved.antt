@@ -1,6 +1,6 @@
 -- Names that begin with two underscores belong to introspection (section 3): no definition may give one to a type, a field,
 -- an argument or an enum value.
-use Rattle.std.specs.Prelude.{ℕ, List, Option, Some, None, nat_eq, codes, if◌then◌else◌}
+use Rattle.std.specs.Prelude.{List, Option, Some, None, nat_eq, codes, if◌then◌else◌}
 use Rattle.std.specs.List.{starts_with}
 use Rattle.gq_lexer.specs.declared.place.Place.{Place}
 use Rattle.schema_syntax.specs.Tree.{Name, Argument, Field, Definition, Schema, Object, Interface, Union, Enum}

@@ -1,6 +1,6 @@
 -- What the definitions of a schema say of a name (sections 3.4 to 3.9). A schema is the list of its definitions, in the
 -- order of the text. Where several definitions have one name, the first counts; no schema that is accepted has such.
-use Rattle.std.specs.Prelude.{ℕ, Bool, true, false, ◌&&◌, ◌||◌, not, is_some, List, [], ◌∷◌, ◌++◌, map, filter, find, fold, Option, Some, None, codes, bytes_eq, unwrap_or, if◌then◌else◌}
+use Rattle.std.specs.Prelude.{ℕ, Bool, true, false, ◌&&◌, ◌||◌, not, List, [], ◌∷◌, ◌++◌, map, filter, find, fold, Option, Some, None, codes, bytes_eq, unwrap_or, if◌then◌else◌}
 use Rattle.std.specs.List.{list_any}
 use Rattle.std.specs.Option.{option_and_then, option_map_or}
 use Rattle.gq_parser.specs.Tree.{TypeTree, Named, ListOf}
@@ -51,7 +51,6 @@ kind_of (Enum n vs) = Some kind.Enum
 -- what the type q is, where there is such a type
 abbrev pub kind_in : List Definition → List ℕ → Option TypeKind
 kind_in defs q = if is_built_in q then Some kind.Scalar else option_and_then kind_of (type_in defs q)
-
 
 -- ---- fields, arguments and values
 

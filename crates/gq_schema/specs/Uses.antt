@@ -1,10 +1,9 @@
 -- Where the names of types are used, and what may stand there: a field may be of any type (section 3.6), an argument of a
 -- scalar, an enum or a list of these (section 3.6.1), the root (section 3.3.1) and a member of a union (section 3.8) are
 -- object types, and what a type implements is an interface (section 3.6).
-use Rattle.std.specs.Prelude.{ℕ, Bool, true, false, ◌&&◌, not, is_some, is_none, List, [], ◌∷◌, Option, Some, None, bytes_eq, if◌then◌else◌}
+use Rattle.std.specs.Prelude.{Bool, true, ◌&&◌, is_some, is_none, List, Option, Some, None, bytes_eq, if◌then◌else◌}
 use Rattle.std.specs.Option.{option_map_or}
 use Rattle.gq_lexer.specs.declared.place.Place.{Place}
-use Rattle.gq_parser.specs.Tree.{TypeTree}
 use Rattle.schema_syntax.specs.Tree.{Name, Argument, Field, Definition, Schema, Object, Interface, Union, Enum}
 use Rattle.gq_schema.specs.declared.kind.TypeKind.{TypeKind}
 use Rattle.gq_schema.specs.declared.rules.uses.Role.{Role}

@@ -7,40 +7,40 @@ use gq_lexer::Place;
 use std::alloc::{AllocError, AllocFailed};
 use thiserror::Error;
 
-/// Why a text gives no schema, or no bindings. A place is that in the text.
+/// Why a text gives no schema, or no bindings. A place is that in the text. It is printed as its code and its name.
 #[derive(Debug, Drop, Error)]
 pub enum SchemaFault {
     /// The first token that no production allows, or the end of the text.
-    #[error("Syntax")]
+    #[error("S1 Syntax")]
     Syntax(Place),
     /// A name that is defined a second time: the later one.
-    #[error("Duplicate")]
+    #[error("S2 Duplicate")]
     Duplicate(Place),
     /// A type's name that has no definition.
-    #[error("UnknownType")]
+    #[error("S3 UnknownType")]
     UnknownType(Place),
     /// The name, after `implements`, of an interface that is not implemented.
-    #[error("BadImplements")]
+    #[error("S4 BadImplements")]
     BadImplements(Place),
     /// There is neither a `schema` nor a type `Query`.
-    #[error("NoQueryRoot")]
+    #[error("S5 NoQueryRoot")]
     NoQueryRoot,
     /// A defined name that begins with two underscores.
-    #[error("ReservedName")]
+    #[error("S6 ReservedName")]
     ReservedName(Place),
     /// A word or an `@` that begins something which is not served.
-    #[error("NotServed")]
+    #[error("S7 NotServed")]
     NotServed(Place),
     /// The line of the bindings, from 1; 0 where a line is missing.
-    #[error("BadBinding")]
+    #[error("S8 BadBinding")]
     BadBinding(u64),
-    #[error("NoMemory")]
+    #[error("S9 NoMemory")]
     NoMemory,
     /// A type's name, where a type of another kind has to stand.
-    #[error("BadKind")]
+    #[error("S10 BadKind")]
     BadKind(Place),
     /// A default that is not of its argument's type.
-    #[error("BadDefault")]
+    #[error("S11 BadDefault")]
     BadDefault(Place),
 }
 

@@ -1,12 +1,13 @@
 //! Where definitions and what they define stand, by name.
 
 ghost use Rattle.std.specs.Prelude.{◌≡◌, ℕ, List, Some, None, IfOk, OnOk, find, map, bytes_eq, string_bytes, if◌then◌else◌};
+ghost use Rattle.std.specs.List.{list_any};
 ghost use Rattle.std.specs.Option.{option_map, option_copied};
 ghost use Rattle.std.specs.HashMap.{get_by_text};
 ghost use Rattle.schema_syntax.specs.Tree.{names_of, field_of, fields_of, definition_of};
 ghost use Rattle.gq_schema.specs.Scan.{or_else};
 ghost use Rattle.gq_schema.specs.Places.{ArePlaces, part_place};
-ghost use Rattle.gq_schema.specs.Types.{is_called, is_field, own_fields};
+ghost use Rattle.gq_schema.specs.Types.{is_called, is_field, own_fields, own_values};
 
 use schema_syntax::{Definition, FieldDefinition, Name};
 use std::alloc::{AllocError, Global};
@@ -81,6 +82,19 @@ impl Indexed {
             Definition::Schema(_) => None,
             Definition::Union(_) => None,
             Definition::Enum(_) => None,
+        }
+    }
+
+    /// Whether it is an enum that has this value.
+    pub fn has_value(&self, value: &str) -> bool
+        ensures { result ≡ list_any (is_called value.now) (own_values (definition_of self.now.definition)) }
+    {
+        match &self.definition {
+            Definition::Enum(_) => self.place_of(value).is_some(),
+            Definition::Schema(_) => false,
+            Definition::Object(_) => false,
+            Definition::Interface(_) => false,
+            Definition::Union(_) => false,
         }
     }
 

@@ -35,11 +35,19 @@ pub fn is_same_type(one: &TypeRef, other: &TypeRef) -> bool
     match (one, other) {
         (
             TypeRef::Named { name, non_null, .. },
-            TypeRef::Named { name: other_name, non_null: other_non_null, .. },
+            TypeRef::Named {
+                name: other_name,
+                non_null: other_non_null,
+                ..
+            },
         ) => non_null == other_non_null && name.as_str() == other_name.as_str(),
         (
             TypeRef::List { item, non_null, .. },
-            TypeRef::List { item: other_item, non_null: other_non_null, .. },
+            TypeRef::List {
+                item: other_item,
+                non_null: other_non_null,
+                ..
+            },
         ) => non_null == other_non_null && is_same_type(item, other_item),
         _ => false,
     }

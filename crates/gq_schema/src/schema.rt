@@ -5,7 +5,7 @@ ghost use Rattle.gq_schema.specs.Indexes.{definition_in};
 ghost use Rattle.std.specs.Option.{option_map, option_copied};
 ghost use Rattle.schema_syntax.specs.Tree.{field_of, fields_of, definition_of};
 ghost use Rattle.gq_parser.specs.Tree.{type_of};
-ghost use Rattle.gq_schema.specs.Types.{tree_of, declared_root, root_in, type_in, kind_of, kind_in, fields_in, field_in, can_be, possible_in, is_covariant};
+ghost use Rattle.gq_schema.specs.Types.{tree_of, declared_root, root_in, type_in, kind_of, kind_in, fields_in, field_in, has_value, can_be, possible_in, is_covariant};
 
 use crate::index::{Indexed, Places, index};
 use crate::kind::TypeKind;
@@ -29,7 +29,6 @@ pub struct Schema {
 impl Model for Schema {
     ghost use Rattle.std.specs.Prelude.{List, map};
     ghost use Rattle.schema_syntax.specs.declared.tree.Definition.{Definition};
-
     ghost use Rattle.gq_parser.specs.contracts.tree.TypeRef as type_ref;
     ghost use Rattle.gq_parser.specs.contracts.tree.Literal as literal;
     ghost use Rattle.std.specs.Coded.{codes};
@@ -95,6 +94,13 @@ impl Schema {
         Some(&self.definitions[place])
     }
 
+    /// Whether the text defines a type of this name.
+    pub(crate) fn defines(&self, name: &str) -> bool
+        ensures { result ≡ is_some (type_in (tree_of self.now) name.now) }
+    {
+        self.definition(name).is_some()
+    }
+
     /// What a type is; nothing where there is no type of this name.
     pub fn kind_of(&self, name: &str) -> Option<TypeKind>
         ensures { result ≡ kind_in (tree_of self.now) name.now }
@@ -120,6 +126,16 @@ impl Schema {
         ensures { option_map field_of (option_copied result) ≡ field_in (tree_of self.now) ty.now name.now }
     {
         self.definition(ty)?.field(name)
+    }
+
+    /// Whether a type is an enum that has this value (section 3.9).
+    pub fn has_value(&self, ty: &str, value: &str) -> bool
+        ensures { result ≡ has_value (tree_of self.now) ty.now value.now }
+    {
+        match self.definition(ty) {
+            Some(indexed) => indexed.has_value(value),
+            None => false,
+        }
     }
 
     /// Whether an object type is a possible type of a type: it is that type, implements it, or is a member of it.
@@ -155,7 +171,11 @@ impl Schema {
         match (own, wanted) {
             (
                 TypeRef::Named { name, non_null, .. },
-                TypeRef::Named { name: wanted_name, non_null: wanted_non_null, .. },
+                TypeRef::Named {
+                    name: wanted_name,
+                    non_null: wanted_non_null,
+                    ..
+                },
             ) => {
                 (*non_null || !*wanted_non_null)
                     && (name.as_str() == wanted_name.as_str()
@@ -163,7 +183,11 @@ impl Schema {
             }
             (
                 TypeRef::List { item, non_null, .. },
-                TypeRef::List { item: wanted_item, non_null: wanted_non_null, .. },
+                TypeRef::List {
+                    item: wanted_item,
+                    non_null: wanted_non_null,
+                    ..
+                },
             ) => (*non_null || !*wanted_non_null) && self.is_covariant(item, wanted_item),
             _ => false,
         }

@@ -26,9 +26,7 @@ pub fn type_places(alloc: Global, definitions: &[Indexed]) -> Result<Places, All
 }
 
 /// The type that `schema` names as the root, where there is a `schema`.
-pub fn declared_root(
-    definitions: &[Indexed],
-) -> Result<Option<String>, AllocError>
+pub fn declared_root(definitions: &[Indexed]) -> Result<Option<String>, AllocError>
     ensures { IfOk result (λ root. option_map string_bytes root ≡ declared_root (tree_in definitions.now)) }
 {
     for indexed in definitions {

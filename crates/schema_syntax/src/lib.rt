@@ -2,6 +2,8 @@
 //! October 2021, section 3).
 #![tactic(auto)]
 
+mod fault;
+mod parser;
 mod tree;
 mod word;
 

@@ -124,12 +124,7 @@ fn has_field(
     }
 }
 
-fn implements(
-    alloc: Global,
-    schema: &Schema,
-    ty: &str,
-    interface: &str,
-) -> Result<bool, AllocError>
+fn implements(alloc: Global, schema: &Schema, ty: &str, interface: &str) -> Result<bool, AllocError>
     ensures { IfOk result (λ good. good ≡ implements (tree_of schema.now) ty.now interface.now) }
 {
     for wanted in schema.fields(interface) {

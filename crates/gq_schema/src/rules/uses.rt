@@ -81,11 +81,7 @@ fn broken_names(schema: &Schema, rule: Rule, role: Role, names: &[Name]) -> Opti
     None
 }
 
-fn broken_arguments(
-    schema: &Schema,
-    rule: Rule,
-    arguments: &[ArgumentDefinition],
-) -> Option<Place>
+fn broken_arguments(schema: &Schema, rule: Rule, arguments: &[ArgumentDefinition]) -> Option<Place>
     ensures { result ≡ first_in (broken_argument (tree_of schema.now) rule) (arguments_of arguments.now) }
 {
     for argument in arguments {
@@ -131,10 +127,15 @@ fn broken_in(schema: &Schema, rule: Rule, definition: &Definition) -> Option<Pla
         Definition::Object(object) => broken_root(schema, rule, &object.name)
             .or_else(|| broken_names(schema, rule, Role::Implemented, &object.interfaces))
             .or_else(|| broken_fields(schema, rule, &object.fields)),
-        Definition::Interface(interface) => broken_root(schema, rule, &interface.name)
-            .or_else(|| broken_fields(schema, rule, &interface.fields)),
-        Definition::Union(union) => broken_root(schema, rule, &union.name)
-            .or_else(|| broken_names(schema, rule, Role::Member, &union.members)),
+        Definition::Interface(interface) => broken_root(schema, rule, &interface.name).or_else(
+            || broken_fields(schema, rule, &interface.fields),
+        ),
+        Definition::Union(union) => broken_root(schema, rule, &union.name).or_else(|| broken_names(
+            schema,
+            rule,
+            Role::Member,
+            &union.members,
+        )),
         Definition::Enum(values) => broken_root(schema, rule, &values.name),
     }
 }

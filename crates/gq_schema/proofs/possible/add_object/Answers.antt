@@ -1,8 +1,8 @@
-use Rattle.std.proofs.Common.{◌≡◌, ◌∙◌, sym, ap, Bool, ◌||◌, false, List, ℕ, refl, bytes_eq, string_bytes}
+use Rattle.std.proofs.Common.{◌≡◌, false, refl, bytes_eq, string_bytes}
 use Rattle.std.specs.List.{list_any}
 use Rattle.schema_syntax.specs.Tree.{names_of}
 use Rattle.gq_schema.specs.Types.{is_called}
-use Rattle.gq_schema.specs.Possible.{names_at, is_among, has_union, with_name_if}
+use Rattle.gq_schema.specs.Possible.{names_at, is_among, has_union}
 use Rattle.gq_schema.proofs.TypeNameLists.{with_name_if-three}
 use Rattle.gq_schema.proofs.UnionLaws.{has_union-found, has_union-missing}
 use Rattle.gq_schema.proofs.possible.add_object.Goals as goal

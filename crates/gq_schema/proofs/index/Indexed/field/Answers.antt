@@ -1,4 +1,4 @@
-use Rattle.std.proofs.Common.{◌≡◌, ◌<◌, sym, length, arith}
+use Rattle.std.proofs.Common.{◌<◌, sym, length, arith}
 use Rattle.schema_syntax.specs.Tree.{field_of}
 use Rattle.gq_schema.specs.Types.{is_field}
 use Rattle.gq_schema.proofs.PlaceLaws.{none_at, found_within, found_first}

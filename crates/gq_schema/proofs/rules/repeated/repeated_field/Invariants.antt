@@ -9,5 +9,5 @@ use Rattle.gq_schema.proofs.rules.repeated.repeated_field.Given as goal
 abbrev pub invariant-loop-field : goal.invariant-loop-field
 invariant-loop-field l = record {
   seen : (q : List ℕ) → has_text l.seen q ≡ list_any (is_field q) (fields_of (take l.field-index l.fields));
-  rest : repeated_field (fields_of (take l.field-index l.fields)) (fields_of (drop l.field-index l.fields)) ≡ repeated_field [] (fields_of l.fields)
+  rest : repeated_field (fields_of (take l.field-index l.fields)) (fields_of (drop l.field-index l.fields)) ≡ repeated_field [] (fields_of l.fields);
 }

@@ -9,5 +9,5 @@ use Rattle.gq_schema.proofs.rules.repeated.repeated_name.Given as goal
 abbrev pub invariant-loop-name : goal.invariant-loop-name
 invariant-loop-name l = record {
   seen : (q : List ℕ) → has_text l.seen q ≡ list_any (is_called q) (names_of (take l.name-index l.names));
-  rest : repeated_name (names_of (take l.name-index l.names)) (names_of (drop l.name-index l.names)) ≡ repeated_name [] (names_of l.names)
+  rest : repeated_name (names_of (take l.name-index l.names)) (names_of (drop l.name-index l.names)) ≡ repeated_name [] (names_of l.names);
 }

@@ -1,7 +1,7 @@
-use Rattle.std.proofs.Common.{◌≡◌, ◌∙◌, sym, ap, None, Some, ◌<◌, length, map, arith}
+use Rattle.std.proofs.Common.{◌∙◌, sym, ◌<◌, length, map, arith}
 use Rattle.schema_syntax.specs.Tree.{definition_of}
 use Rattle.gq_schema.specs.Indexes.{definition_in}
-use Rattle.gq_schema.specs.Types.{defines, tree_of}
+use Rattle.gq_schema.specs.Types.{defines}
 use Rattle.gq_schema.proofs.PlaceLaws.{none_at, seen_within, seen_first}
 use Rattle.gq_schema.proofs.schema.Schema.definition.Goals as goal
 

@@ -1,4 +1,4 @@
-use Rattle.std.proofs.Common.{◌≡◌, ◌∙◌, ◌<◌, sym, length, arith, rules}
+use Rattle.std.proofs.Common.{◌∙◌, ◌<◌, sym, length, rules}
 use Rattle.schema_syntax.specs.Tree.{argument_of}
 use Rattle.gq_schema.specs.Types.{is_argument}
 use Rattle.gq_schema.proofs.PlaceLaws.{none_at, found_within, found_element}

@@ -1,0 +1,218 @@
+//! The tokens that are left, and the steps that take one of them.
+
+ghost use Rattle.std.specs.Prelude.{◌≡◌, ◌<◌, ◌≤◌, ◌∷◌, ◌++◌, [], suc, length, List, MatchOption, MatchResult, OnOk, OnSome, IfOk, IfErr, All, string_bytes, IsTrue, ◌↔◌};
+ghost use Rattle.gq_lexer.specs.Tokens.{IsToken, bytes_of};
+ghost use Rattle.gq_parser.specs.Keywords.{keyword_of};
+ghost use Rattle.gq_parser.specs.Word.{Token, at, place_of_next};
+ghost use Rattle.gq_parser.specs.Word as words;
+ghost use Rattle.gq_parser.specs.Tree.{text_if};
+ghost use Rattle.gq_parser.specs.Grammar.{IsOptionalName};
+ghost use Rattle.gq_parser.specs.Machine.{AName, AFragmentName, AnOn, AColon, ABracket, MaybeName, FirstVariable, MoreVariables, a_variable_then, one};
+ghost use Rattle.gq_parser.specs.Parsing.{Reads, Takes, Eats, IsName, IsPunct, IsFragmentNameTaken, IsOnTaken, IsNoName, IsMissing, says};
+
+use crate::fault::Fault;
+use crate::keyword::{Keyword, keyword_of};
+use crate::lexeme::Lexeme;
+use gq_lexer::{Kind, LexFault, Place, Punct, Token, string_value};
+use std::alloc::Global;
+use std::marker::Model;
+
+/// Reads tokens from the left. A clause sees those that are left.
+#[derive(Drop)]
+pub(crate) struct Parser<'a> {
+    pub(crate) alloc: Global,
+    text: &'a str,
+    rest: &'a [Token],
+}
+
+impl<'a> Model for Parser<'a> {
+    ghost use Rattle.std.specs.Prelude.{List, All};
+    ghost use Rattle.gq_lexer.specs.Tokens.{IsToken};
+    ghost use Rattle.gq_parser.specs.Word.{Token, tokens_of};
+
+    ghost Value = { List Token };
+
+    ghost view = { λ p. tokens_of p.text.now p.rest.now };
+
+    ghost invariant = { λ p. All (IsToken p.text.now) p.rest.now };
+}
+
+impl<'a> Parser<'a> {
+    ghost use Rattle.gq_lexer.specs.Tokens.{IsToken};
+    ghost use Rattle.gq_parser.specs.Word.{tokens_of};
+
+    pub(crate) fn new(alloc: Global, text: &'a str, tokens: &'a [Token]) -> Self
+        requires { All (IsToken text.now) tokens.now }
+        ensures { result ≡ tokens_of text.now tokens.now }
+    {
+        Parser {
+            alloc,
+            text,
+            rest: tokens,
+        }
+    }
+
+    pub(crate) fn is_at_end(&self) -> bool
+        ensures { IsTrue result ↔ (self.now ≡ []) }
+    {
+        self.rest.is_empty()
+    }
+
+    /// The fault of a token that may not be next.
+    pub(crate) fn unexpected(&self) -> Fault
+        ensures { result ≡ Fault.Unexpected (place_of_next self.now) }
+    {
+        Fault::Unexpected(self.rest.first().map(|token| token.place()))
+    }
+
+    /// The next token, which there has to be.
+    pub(crate) fn next(&mut self) -> Result<(Place, Lexeme<'a>), Fault>
+        ensures { MatchResult result (λ t. self.old ≡ at t.0 (says t.1) ∷ self.new) (λ f. IsMissing f self.old) }
+    {
+        let Some((token, rest)) = self.rest.split_first() else {
+            return Err(Fault::Unexpected(None));
+        };
+        let lexeme = lexeme_of(self.alloc, self.text, token)?;
+        self.rest = rest;
+        Ok((token.place(), lexeme))
+    }
+
+    /// The place of the next token, which is taken if it is this one.
+    pub(crate) fn take(&mut self, punct: Punct) -> Option<Place>
+        ensures { Takes (words.Punct punct) self.old self.new result }
+    {
+        match self.rest.split_first() {
+            Some((token, rest)) if token.kind == Kind::Punct(punct) => {
+                self.rest = rest;
+                Some(token.place())
+            }
+            _ => None,
+        }
+    }
+
+    /// Whether the next token is this one, which is then taken.
+    pub(crate) fn eat(&mut self, punct: Punct) -> bool
+        ensures { Eats (words.Punct punct) self.old self.new result }
+    {
+        self.take(punct).is_some()
+    }
+
+    /// The name that is next, if one is.
+    pub(crate) fn take_name(&mut self) -> Option<(Place, &'a str)>
+        ensures { MatchOption result ((self.new ≡ self.old) × IsNoName self.old) (λ n. self.old ≡ at n.0 (words.Name (keyword_of n.1.now) n.1.now) ∷ self.new) }
+    {
+        match self.rest.split_first() {
+            Some((token, rest)) if token.kind == Kind::Name => {
+                let text = self.text;
+                self.rest = rest;
+                Some((token.place(), token.text(text)))
+            }
+            _ => None,
+        }
+    }
+}
+
+/// What a token of this text says.
+fn lexeme_of<'a>(alloc: Global, text: &'a str, token: &Token) -> Result<Lexeme<'a>, Fault>
+    requires { IsToken text.now token.now }
+    ensures { MatchResult result (λ l. words.word token.now.kind (bytes_of text.now token.now) ≡ says l) (λ f. f ≡ Fault.NoMemory) }
+{
+    match token.kind {
+        Kind::Punct(punct) => Ok(Lexeme::Punct(punct)),
+        Kind::Name => Ok(Lexeme::Name(token.text(text))),
+        Kind::Int => Ok(Lexeme::Int(token.text(text))),
+        Kind::Float => Ok(Lexeme::Float(token.text(text))),
+        Kind::Str | Kind::BlockStr => match string_value(alloc, text, token) {
+            Ok(value) => Ok(Lexeme::Text(value)),
+            Err(_) => Err(Fault::NoMemory),
+        },
+    }
+}
+
+impl<'a> Parser<'a> {
+    /// A name, and its place.
+    pub(crate) fn name(&mut self) -> Result<(Place, String), Fault>
+        ensures reads { (room : _) → Reads (λ n. IsName n.0 (string_bytes n.1)) room (one AName) room [] self.old self.new result }
+        ensures shrinks { OnOk result (length self.new < length self.old) }
+    {
+        match self.next()? {
+            (place, Lexeme::Name(name)) => Ok((place, String::from_str(self.alloc, name)?)),
+            (place, _) => Err(Fault::Unexpected(Some(place))),
+        }
+    }
+
+    /// A name that is not `on`.
+    pub(crate) fn fragment_name(&mut self) -> Result<String, Fault>
+        ensures reads { (room : _) → Reads (λ n. IsFragmentNameTaken (string_bytes n)) room (one AFragmentName) room [] self.old self.new result }
+        ensures shrinks { OnOk result (length self.new < length self.old) }
+    {
+        match self.next()? {
+            (place, Lexeme::Name(name)) => {
+                if keyword_of(name) == Keyword::On {
+                    return Err(Fault::Unexpected(Some(place)));
+                }
+                Ok(String::from_str(self.alloc, name)?)
+            }
+            (place, _) => Err(Fault::Unexpected(Some(place))),
+        }
+    }
+
+    /// The word `on`.
+    pub(crate) fn on(&mut self) -> Result<(), Fault>
+        ensures reads { (room : _) → Reads (λ _. IsOnTaken) room (one AnOn) room [] self.old self.new result }
+        ensures shrinks { OnOk result (length self.new < length self.old) }
+    {
+        match self.next()? {
+            (place, Lexeme::Name(name)) => {
+                if keyword_of(name) == Keyword::On {
+                    return Ok(());
+                }
+                Err(Fault::Unexpected(Some(place)))
+            }
+            (place, _) => Err(Fault::Unexpected(Some(place))),
+        }
+    }
+
+    pub(crate) fn colon(&mut self) -> Result<(), Fault>
+        ensures reads { (room : _) → Reads (λ _. IsPunct (words.Punct Punct.Colon)) room (one AColon) room [] self.old self.new result }
+        ensures shrinks { OnOk result (length self.new < length self.old) }
+    {
+        match self.next()? {
+            (_, Lexeme::Punct(Punct::Colon)) => Ok(()),
+            (place, _) => Err(Fault::Unexpected(Some(place))),
+        }
+    }
+
+    /// The dollar sign of a variable's definition, and its place.
+    pub(crate) fn dollar(&mut self) -> Result<Place, Fault>
+        ensures reads { (room : _) → Reads (λ p before after. before ≡ at p (words.Punct Punct.Dollar) ∷ after) room (one FirstVariable) room (a_variable_then ++ one MoreVariables) self.old self.new result }
+        ensures shrinks { OnOk result (length self.new < length self.old) }
+    {
+        match self.next()? {
+            (place, Lexeme::Punct(Punct::Dollar)) => Ok(place),
+            (place, _) => Err(Fault::Unexpected(Some(place))),
+        }
+    }
+
+    /// The bracket that closes a list's type.
+    pub(crate) fn bracket(&mut self) -> Result<(), Fault>
+        ensures reads { (room : _) → Reads (λ _. IsPunct (words.Punct Punct.BracketRight)) room (one ABracket) (suc room) [] self.old self.new result }
+        ensures shrinks { OnOk result (length self.new < length self.old) }
+    {
+        match self.next()? {
+            (_, Lexeme::Punct(Punct::BracketRight)) => Ok(()),
+            (place, _) => Err(Fault::Unexpected(Some(place))),
+        }
+    }
+
+    /// The name that is next, if one is.
+    pub(crate) fn name_if(&mut self) -> Result<Option<String>, Fault>
+        ensures reads { (room : _) → Reads (λ n. IsOptionalName (text_if n)) room (one MaybeName) room [] self.old self.new result }
+        ensures shrinks { OnOk result (length self.new ≤ length self.old) }
+    {
+        let Some((_, name)) = self.take_name() else {
+            return Ok(None);
+        };
+        Ok(Some(String::from_str(self.alloc, name)?))
+    }
+}

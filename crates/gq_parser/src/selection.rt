@@ -1,0 +1,156 @@
+//! Selections and selection sets.
+
+ghost use Rattle.std.specs.Prelude.{◌≡◌, ◌<◌, ◌≤◌, ◌∷◌, [], suc, length, List, OnOk, string_bytes};
+ghost use Rattle.gq_parser.specs.declared.keyword.Keyword as keywords;
+ghost use Rattle.gq_parser.specs.Word.{Token, at};
+ghost use Rattle.gq_parser.specs.Word as words;
+ghost use Rattle.gq_parser.specs.Tree.{text_if, condition_of, condition_if, selection_of, field_of, inline_of, set_of, below_of, set_at, map_selections};
+ghost use Rattle.gq_parser.specs.Grammar.{IsFieldName, IsCondition, IsSelection, IsOptionalSet, IsSelectionSet};
+ghost use Rattle.gq_parser.specs.Machine.{AName, AfterName, AfterDots, a_field_then, an_inline_then, MaybeSet, ASet, FirstSelection, MoreSelections, one};
+ghost use Rattle.gq_parser.specs.Parsing.{Reads, IsName};
+
+use crate::cursor::Parser;
+use crate::fault::Fault;
+use crate::keyword::{Keyword, keyword_of};
+use crate::tree::{Field, Inline, Selection, SelectionSet, Spread, TypeCondition};
+use gq_lexer::{Place, Punct};
+
+impl Parser<'_> {
+    /// What a field is called, whose first name was read.
+    fn field_name(&mut self, first: String) -> Result<(Option<String>, String), Fault>
+        ensures reads { (room : _) (place : _) (k : keywords.Keyword) → Reads (λ names before. IsFieldName place (text_if names.0) (string_bytes names.1) (at place (words.Name k (string_bytes first)) ∷ before)) room (one AfterName) room [] self.old self.new result }
+        ensures shrinks { OnOk result (length self.new ≤ length self.old) }
+    {
+        if !self.eat(Punct::Colon) {
+            return Ok((None, first));
+        }
+        let (_, name) = self.name()?;
+        Ok((Some(first), name))
+    }
+
+    #[cycle(selection)]
+    fn selection(&mut self, room: u32) -> Result<Selection, Fault>
+        ensures reads { Reads (λ s. IsSelection (selection_of s)) room (one FirstSelection) room (one MoreSelections) self.old self.new result }
+        ensures shrinks { OnOk result (length self.new < length self.old) }
+    {
+        if let Some((place, first)) = self.take_name() {
+            let first = String::from_str(self.alloc, first)?;
+            return Ok(Selection::Field(self.field(place, first, room)?));
+        }
+        let Some(place) = self.take(Punct::Spread) else {
+            return Err(self.unexpected());
+        };
+        self.dots(place, room)
+    }
+
+    /// A field, whose first name was read.
+    #[cycle(selection)]
+    fn field(&mut self, place: Place, first: String, room: u32) -> Result<Field, Fault>
+        ensures reads { (k : keywords.Keyword) → Reads (λ f before. IsSelection (field_of f) (at place (words.Name k (string_bytes first)) ∷ before)) room a_field_then room [] self.old self.new result }
+        ensures shrinks { OnOk result (length self.new ≤ length self.old) }
+    {
+        let (alias, name) = self.field_name(first)?;
+        let arguments = self.arguments(false, room)?;
+        let directives = self.directives(false, room)?;
+        let selection_set = self.maybe_set(room)?;
+        Ok(Field {
+            place,
+            alias,
+            name,
+            arguments,
+            directives,
+            selection_set,
+        })
+    }
+
+    /// A spread or an inline fragment, whose dots were read.
+    #[cycle(selection)]
+    fn dots(&mut self, place: Place, room: u32) -> Result<Selection, Fault>
+        ensures reads { Reads (λ s before. IsSelection (selection_of s) (at place (words.Punct Punct.Spread) ∷ before)) room (one AfterDots) room [] self.old self.new result }
+        ensures shrinks { OnOk result (length self.new ≤ length self.old) }
+    {
+        let Some((_, name)) = self.take_name() else {
+            return Ok(Selection::Inline(self.inline(place, None, room)?));
+        };
+        if keyword_of(name) == Keyword::On {
+            let condition = self.condition()?;
+            return Ok(Selection::Inline(self.inline(place, Some(condition), room)?));
+        }
+        let name = String::from_str(self.alloc, name)?;
+        let directives = self.directives(false, room)?;
+        Ok(Selection::Spread(Spread {
+            place,
+            name,
+            directives,
+        }))
+    }
+
+    /// The type that a fragment is for.
+    pub(crate) fn condition(&mut self) -> Result<TypeCondition, Fault>
+        ensures reads { (room : _) → Reads (λ c. IsName c.place (string_bytes c.name)) room (one AName) room [] self.old self.new result }
+        ensures shrinks { OnOk result (length self.new < length self.old) }
+    {
+        let (place, name) = self.name()?;
+        Ok(TypeCondition { place, name })
+    }
+
+    /// An inline fragment, whose condition was read.
+    #[cycle(selection)]
+    fn inline(&mut self, place: Place, condition: Option<TypeCondition>, room: u32) -> Result<Inline, Fault>
+        ensures reads { Reads (λ i before after. (mid : List Token) → IsCondition (condition_if condition) mid before → IsSelection (inline_of i) (at place (words.Punct Punct.Spread) ∷ mid) after) room an_inline_then room [] self.old self.new result }
+        ensures shrinks { OnOk result (length self.new ≤ length self.old) }
+    {
+        let directives = self.directives(false, room)?;
+        let selection_set = self.set(room)?;
+        Ok(Inline {
+            place,
+            condition,
+            directives,
+            selection_set,
+        })
+    }
+
+    /// A selection set, where a brace opens it.
+    #[cycle(selection)]
+    fn maybe_set(&mut self, room: u32) -> Result<Option<SelectionSet>, Fault>
+        ensures reads { Reads (λ s. IsOptionalSet (below_of s)) room (one MaybeSet) room [] self.old self.new result }
+        ensures shrinks { OnOk result (length self.new ≤ length self.old) }
+    {
+        let Some(place) = self.take(Punct::BraceLeft) else {
+            return Ok(None);
+        };
+        if room == 0 {
+            return Err(Fault::TooDeep(place));
+        }
+        Ok(Some(self.selections(place, room - 1)?))
+    }
+
+    /// A selection set.
+    #[cycle(selection)]
+    pub(crate) fn set(&mut self, room: u32) -> Result<SelectionSet, Fault>
+        ensures reads { Reads (λ s. IsSelectionSet (set_of s)) room (one ASet) room [] self.old self.new result }
+        ensures shrinks { OnOk result (length self.new < length self.old) }
+    {
+        let Some(place) = self.take(Punct::BraceLeft) else {
+            return Err(self.unexpected());
+        };
+        if room == 0 {
+            return Err(Fault::TooDeep(place));
+        }
+        self.selections(place, room - 1)
+    }
+
+    /// A selection set whose brace was read.
+    #[cycle(selection)]
+    pub(crate) fn selections(&mut self, place: Place, room: u32) -> Result<SelectionSet, Fault>
+        ensures reads { Reads (λ s before. IsSelectionSet (set_of s) (at place (words.Punct Punct.BraceLeft) ∷ before)) room (one FirstSelection) (suc room) [] self.old self.new result }
+        ensures shrinks { OnOk result (length self.new < length self.old) }
+    {
+        let mut selections = Vec::new(self.alloc);
+        selections.push(self.selection(room)?)?;
+        while !self.eat(Punct::BraceRight) {
+            selections.push(self.selection(room)?)?;
+        }
+        Ok(SelectionSet { place, selections })
+    }
+}

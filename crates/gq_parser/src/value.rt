@@ -1,0 +1,197 @@
+//! Values, types, arguments and directives.
+
+ghost use Rattle.std.specs.Prelude.{◌≡◌, ◌<◌, ◌≤◌, ◌∷◌, [], suc, length, List, OnOk, IfOk, IfErr, string_bytes};
+ghost use Rattle.gq_parser.specs.declared.keyword.Keyword as keywords;
+ghost use Rattle.gq_parser.specs.Keywords.{keyword_of};
+ghost use Rattle.gq_parser.specs.Word.{Token, at};
+ghost use Rattle.gq_parser.specs.Word as words;
+ghost use Rattle.gq_parser.specs.Tree.{literal_of, map_literals, map_members, argument_of, arguments_of, directives_of, type_of};
+ghost use Rattle.gq_parser.specs.Grammar.{IsValue, AreValues, AreMembers, IsType, IsArgument, AreOptionalArguments, AreDirectives};
+ghost use Rattle.gq_parser.specs.Machine.{AValue, MoreValues, MoreMembers, AType, ABracket, MaybeBang, an_argument, MaybeArguments, MaybeDirectives, one};
+ghost use Rattle.gq_parser.specs.Parsing.{Reads};
+
+use crate::cursor::Parser;
+use crate::fault::Fault;
+use crate::keyword::{Keyword, keyword_of};
+use crate::lexeme::Lexeme;
+use crate::tree::{Argument, Directive, Literal, TypeRef, Value};
+use gq_lexer::{Place, Punct};
+use std::alloc::Global;
+
+/// What a name says where a value is wanted.
+fn named_value(alloc: Global, place: Place, name: &str) -> Result<Literal, Fault>
+    ensures value { IfOk result (λ v. (constant : _) (after : List Token) → IsValue constant (literal_of v) (at place (words.Name (keyword_of name.now) name.now) ∷ after) after) }
+    ensures fault { IfErr result (λ f. f ≡ Fault.NoMemory) }
+{
+    match keyword_of(name) {
+        Keyword::True => Ok(Literal { place, value: Value::Boolean(true) }),
+        Keyword::False => Ok(Literal { place, value: Value::Boolean(false) }),
+        Keyword::Null => Ok(Literal { place, value: Value::Null }),
+        _ => Ok(Literal { place, value: Value::Enum(String::from_str(alloc, name)?) }),
+    }
+}
+
+impl Parser<'_> {
+    /// A value; a constant one has no variables.
+    #[cycle(value)]
+    pub(crate) fn value(&mut self, constant: bool, room: u32) -> Result<Literal, Fault>
+        ensures reads { Reads (λ v. IsValue constant (literal_of v)) room (one (AValue constant)) room [] self.old self.new result }
+        ensures shrinks { OnOk result (length self.new < length self.old) }
+    {
+        let (place, lexeme) = self.next()?;
+        match lexeme {
+            Lexeme::Int(number) => {
+                let text = String::from_str(self.alloc, number)?;
+                Ok(Literal { place, value: Value::Int(text) })
+            }
+            Lexeme::Float(number) => {
+                let text = String::from_str(self.alloc, number)?;
+                Ok(Literal { place, value: Value::Float(text) })
+            }
+            Lexeme::Text(text) => Ok(Literal { place, value: Value::Text(text) }),
+            Lexeme::Name(name) => named_value(self.alloc, place, name),
+            Lexeme::Punct(Punct::Dollar) => {
+                if constant {
+                    return Err(Fault::Unexpected(Some(place)));
+                }
+                let (_, name) = self.name()?;
+                Ok(Literal { place, value: Value::Variable(name) })
+            }
+            Lexeme::Punct(Punct::BracketLeft) => {
+                if room == 0 {
+                    return Err(Fault::TooDeep(place));
+                }
+                let items = self.values(constant, room - 1)?;
+                Ok(Literal { place, value: Value::List(items) })
+            }
+            Lexeme::Punct(Punct::BraceLeft) => {
+                if room == 0 {
+                    return Err(Fault::TooDeep(place));
+                }
+                let members = self.members(constant, room - 1)?;
+                Ok(Literal { place, value: Value::Object(members) })
+            }
+            _ => Err(Fault::Unexpected(Some(place))),
+        }
+    }
+
+    /// The values up to the bracket that closes them.
+    #[cycle(value)]
+    fn values(&mut self, constant: bool, room: u32) -> Result<Vec<Literal>, Fault>
+        ensures reads { Reads (λ vs. AreValues constant (map_literals vs.items)) room (one (MoreValues constant)) (suc room) [] self.old self.new result }
+        ensures shrinks { OnOk result (length self.new < length self.old) }
+    {
+        let mut values = Vec::new(self.alloc);
+        while !self.eat(Punct::BracketRight) {
+            values.push(self.value(constant, room)?)?;
+        }
+        Ok(values)
+    }
+
+    /// The fields of an object up to the brace that closes them.
+    #[cycle(value)]
+    fn members(&mut self, constant: bool, room: u32) -> Result<Vec<Argument>, Fault>
+        ensures reads { Reads (λ ms. AreMembers constant (map_members ms.items)) room (one (MoreMembers constant)) (suc room) [] self.old self.new result }
+        ensures shrinks { OnOk result (length self.new < length self.old) }
+    {
+        let mut members = Vec::new(self.alloc);
+        while !self.eat(Punct::BraceRight) {
+            members.push(self.argument(constant, room)?)?;
+        }
+        Ok(members)
+    }
+
+    /// A name and its value.
+    #[cycle(value)]
+    fn argument(&mut self, constant: bool, room: u32) -> Result<Argument, Fault>
+        ensures reads { Reads (λ a. IsArgument constant (argument_of a)) room (an_argument constant) room [] self.old self.new result }
+        ensures shrinks { OnOk result (length self.new < length self.old) }
+    {
+        let (place, name) = self.name()?;
+        self.colon()?;
+        let value = self.value(constant, room)?;
+        Ok(Argument { place, name, value })
+    }
+
+    /// The arguments, where a parenthesis opens them.
+    pub(crate) fn arguments(&mut self, constant: bool, room: u32) -> Result<Vec<Argument>, Fault>
+        ensures reads { Reads (λ args. AreOptionalArguments constant (arguments_of args.items)) room (one (MaybeArguments constant)) room [] self.old self.new result }
+        ensures shrinks { OnOk result (length self.new ≤ length self.old) }
+    {
+        let mut arguments = Vec::new(self.alloc);
+        let Some(place) = self.take(Punct::ParenLeft) else {
+            return Ok(arguments);
+        };
+        if room == 0 {
+            return Err(Fault::TooDeep(place));
+        }
+        arguments.push(self.argument(constant, room - 1)?)?;
+        while !self.eat(Punct::ParenRight) {
+            arguments.push(self.argument(constant, room - 1)?)?;
+        }
+        Ok(arguments)
+    }
+
+    /// The directives, as many as come.
+    pub(crate) fn directives(&mut self, constant: bool, room: u32) -> Result<Vec<Directive>, Fault>
+        ensures reads { Reads (λ ds. AreDirectives constant (directives_of ds.items)) room (one (MaybeDirectives constant)) room [] self.old self.new result }
+        ensures shrinks { OnOk result (length self.new ≤ length self.old) }
+    {
+        let mut directives = Vec::new(self.alloc);
+        while let Some(place) = self.take(Punct::At) {
+            let (_, name) = self.name()?;
+            let arguments = self.arguments(constant, room)?;
+            directives.push(Directive { place, name, arguments })?;
+        }
+        Ok(directives)
+    }
+
+    /// A type.
+    #[cycle(type_ref)]
+    pub(crate) fn type_ref(&mut self, room: u32) -> Result<TypeRef, Fault>
+        ensures reads { Reads (λ t. IsType (type_of t)) room (one AType) room [] self.old self.new result }
+        ensures shrinks { OnOk result (length self.new < length self.old) }
+    {
+        if let Some((place, name)) = self.take_name() {
+            return self.named_type(place, name);
+        }
+        let Some(place) = self.take(Punct::BracketLeft) else {
+            return Err(self.unexpected());
+        };
+        if room == 0 {
+            return Err(Fault::TooDeep(place));
+        }
+        self.list_type(place, room - 1)
+    }
+
+    /// A type whose name was read.
+    fn named_type(&mut self, place: Place, name: &str) -> Result<TypeRef, Fault>
+        ensures reads { (room : _) (k : keywords.Keyword) → Reads (λ t before. IsType (type_of t) (at place (words.Name k name.now) ∷ before)) room (one MaybeBang) room [] self.old self.new result }
+        ensures shrinks { OnOk result (length self.new ≤ length self.old) }
+    {
+        let name = String::from_str(self.alloc, name)?;
+        let non_null = self.eat(Punct::Bang);
+        Ok(TypeRef::Named {
+            place,
+            name,
+            non_null,
+        })
+    }
+
+    /// A list's type, whose bracket was read.
+    #[cycle(type_ref)]
+    fn list_type(&mut self, place: Place, room: u32) -> Result<TypeRef, Fault>
+        ensures reads { Reads (λ t before. IsType (type_of t) (at place (words.Punct Punct.BracketLeft) ∷ before)) room (AType ∷ ABracket ∷ one MaybeBang) (suc room) [] self.old self.new result }
+        ensures shrinks { OnOk result (length self.new ≤ length self.old) }
+    {
+        let item = self.type_ref(room)?;
+        self.bracket()?;
+        let item = Box::new(self.alloc, item)?;
+        let non_null = self.eat(Punct::Bang);
+        Ok(TypeRef::List {
+            place,
+            item,
+            non_null,
+        })
+    }
+}
