@@ -7,7 +7,7 @@ use Rattle.std.proofs.lemmas.List.{map-append, get_or-map}
 use lib.Pointwise.{bytes_decides}
 use Rattle.gq_schema.specs.Scan.{or_else}
 use Rattle.gq_schema.specs.Places.{place_from}
-use Rattle.gq_schema.specs.BindingsTree.{LoaderOf, BindingOf, by_column, BoundFieldOf, is_loader, binds, binding_in, loader_from, loader_in, number_of}
+use Rattle.gq_schema.specs.BindingsTree.{LoaderOf, by_column, BoundFieldOf, is_loader, binds, binding_in, loader_from, loader_in, number_of}
 
 -- ---- places
 

@@ -1,10 +1,9 @@
 -- What a bindings text says over a schema, or which line is the first bad one.
-use Rattle.std.specs.Prelude.{ℕ, Bool, not, is_some, ◌&&◌, ◌||◌, List, [], ◌∷◌, ◌++◌, Option, Some, None, option_map, option_and_then, if◌then◌else◌}
+use Rattle.std.specs.Prelude.{ℕ, Bool, not, is_some, ◌||◌, List, [], ◌∷◌, ◌++◌, Option, Some, None, option_map, option_and_then, if◌then◌else◌}
 use Rattle.bindings_syntax.specs.Statements.{StatementOf, loader_line, field_line}
 use Rattle.bindings_syntax.specs.Reading.{NumberedOf, BindingsTextOf, bindings_text}
-use Rattle.gq_parser.specs.Tree.{TypeTree}
-use Rattle.schema_syntax.specs.Tree.{Name, Field, Definition, Schema, Object, Interface, Union, Enum}
-use Rattle.gq_schema.specs.BindingsTree.{LoaderOf, BindingOf, by_column, BoundFieldOf, BindingsOf, binding_in, loader_in}
+use Rattle.schema_syntax.specs.Tree.{Field, Definition, Object}
+use Rattle.gq_schema.specs.BindingsTree.{LoaderOf, BindingOf, by_column, BindingsOf, binding_in, loader_in}
 use Rattle.gq_schema.specs.BindingsTypes.{is_root_type, is_leaf_type}
 use Rattle.gq_schema.specs.BindingsForms.{field_binding}
 

@@ -1,5 +1,5 @@
 -- Which types of fields and arguments a binding fits.
-use Rattle.std.specs.Prelude.{ℕ, Bool, true, false, not, ◌&&◌, ◌||◌, List, Option, codes, bytes_eq}
+use Rattle.std.specs.Prelude.{ℕ, Bool, false, not, ◌||◌, List, codes, bytes_eq}
 use Rattle.std.specs.Option.{option_map_or}
 use Rattle.gq_parser.specs.Tree.{TypeTree, Named, ListOf}
 use Rattle.schema_syntax.specs.Tree.{Argument, Field, Definition}

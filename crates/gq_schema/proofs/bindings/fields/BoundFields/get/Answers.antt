@@ -1,4 +1,4 @@
-use Rattle.std.proofs.Common.{◌∙◌, ap, sym, arith}
+use Rattle.std.proofs.Common.{◌∙◌, arith}
 use Rattle.gq_schema.specs.BindingsSeen.{bound_of}
 use Rattle.gq_schema.proofs.BindingsPlaces.{field_at, no_field}
 use Rattle.gq_schema.proofs.bindings.fields.BoundFields.get.Goals as goal

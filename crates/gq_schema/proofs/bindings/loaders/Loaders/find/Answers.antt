@@ -1,4 +1,4 @@
-use Rattle.std.proofs.Common.{◌∙◌, rules, arith}
+use Rattle.std.proofs.Common.{◌∙◌, arith}
 use Rattle.gq_schema.specs.BindingsSeen.{loader_of}
 use Rattle.gq_schema.proofs.BindingsPlaces.{loader_at}
 use Rattle.gq_schema.proofs.bindings.loaders.Loaders.find.Goals as goal
