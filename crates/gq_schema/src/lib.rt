@@ -6,6 +6,7 @@
 //! Look-ups go by hash and take no memory. [`accepts`] and [`coerce`] say what a literal is at a type.
 #![tactic(auto)]
 
+mod bindings;
 mod check;
 mod coercion;
 mod fault;
@@ -20,6 +21,7 @@ mod schema;
 mod type_names;
 mod types;
 
+pub use bindings::{Binding, Bindings, By, KeySource, LoaderLine};
 pub use coercion::{accepts, coerce};
 pub use fault::SchemaFault;
 pub use input::Input;
