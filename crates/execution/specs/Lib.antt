@@ -1,0 +1,6 @@
+pub mod Loads
+pub mod Program
+pub mod Completion
+pub mod Executed
+pub mod Front
+pub mod Rounds

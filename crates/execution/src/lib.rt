@@ -1,0 +1,4 @@
+//! Definitions.
+#![tactic(auto)]
+
+pub mod law;
