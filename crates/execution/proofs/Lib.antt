@@ -1,3 +1,5 @@
 pub mod Same
 pub mod Monotone
 pub mod NullLaws
+pub mod ChainLaws
+pub mod RoundLaws

@@ -1,10 +1,12 @@
 //! What holds of the definitions. Each function does nothing: its contract is the law.
-ghost use Rattle.std.specs.Prelude.{◌≡◌, ◌↔◌, IsSome, List, [], Some, true};
+ghost use Rattle.std.specs.Prelude.{◌≡◌, ◌↔◌, ◌≤◌, IsSome, List, [], Some, true, length};
 ghost use Rattle.load_memory.specs.declared.key.KeyMode.{KeyMode};
 ghost use Rattle.execution.specs.Loads.{Load, Memory, Reader, read, Extends, IsOneOf};
-ghost use Rattle.execution.specs.Program.{Program, Tree, needs, tree};
+ghost use Rattle.execution.specs.Program.{Program, Tree, needs, tree, chain};
 ghost use Rattle.execution.specs.Completion.{IsNullAt, IsCompletion, AnsweredOf};
 ghost use Rattle.execution.specs.Front.{front};
+ghost use Rattle.load_memory.specs.Replies.{ReplyOf};
+ghost use Rattle.execution.specs.Rounds.{RuleOf, modes_of, any_answer, IsLawful, IsSparing, AreLimited, HasLoaders};
 ghost use Rattle.execution.specs.Executed.{exec, nulls};
 
 /// *Completion* (sections 6.4.3 and 6.4.4 of the GraphQL specification of October 2021): what `exec` computes from below
@@ -21,4 +23,20 @@ pub fn monotone_execution()
     ensures defined { (modes : List KeyMode) (p : Program) (M : Memory) → IsSome (exec p (read modes M)) ↔ (front modes p M ≡ []) }
     ensures same { (modes : List KeyMode) (p : Program) (M N : Memory) → Extends M N → front modes p M ≡ [] → exec p (read modes N) ≡ exec p (read modes M) }
     ensures grows { (modes : List KeyMode) (p : Program) (M N : Memory) (load : Load) → Extends M N → IsOneOf load (needs p (read modes M)) → IsOneOf load (needs p (read modes N)) }
+{}
+
+/// *Rounds within the chain*: whatever the sources answer, a lawful log has at most as many rounds as the load chain over
+/// its last memory has loads.
+pub fn rounds_within_the_chain()
+    ensures { (rules : List RuleOf) (p : Program) (M : Memory) (rounds : List (List ReplyOf)) (end : Memory)
+        → AreLimited rules → HasLoaders (length rules) p → IsLawful any_answer rules p M rounds end
+        → length rounds ≤ chain p (read (modes_of rules) end) }
+{}
+
+/// *No sparing run is shorter*: whatever the sources answer, asking in each step any part of what is needed and missing
+/// takes no fewer steps than a lawful log has rounds.
+pub fn no_sparing_run_is_shorter()
+    ensures { (rules : List RuleOf) (p : Program) (M : Memory) (rounds : List (List ReplyOf)) (end : Memory) (steps : List Memory)
+        → AreLimited rules → HasLoaders (length rules) p → IsLawful any_answer rules p M rounds end
+        → IsSparing (modes_of rules) p end M steps → length rounds ≤ length steps }
 {}
