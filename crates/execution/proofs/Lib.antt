@@ -3,3 +3,4 @@ pub mod Monotone
 pub mod NullLaws
 pub mod ChainLaws
 pub mod RoundLaws
+pub mod OneLog

@@ -2,11 +2,11 @@
 use Rattle.std.specs.Prelude.{◌≡◌, ◌≢◌, ◌==◌, ◌<◌, ◌⊎◌, ℕ, suc, List, [], ◌∷◌, ◌++◌, map, length, Option, Some, None, slice_get, if◌then◌else◌}
 use Rattle.std.specs.Option.{option_or}
 use Rattle.load_memory.specs.Keys.{KeyOf, folded}
-use Rattle.load_memory.specs.Outcomes.{OutcomeOf, known, batch_fault}
+use Rattle.load_memory.specs.Outcomes.{ItemOf, OutcomeOf, known, batch_fault}
 use Rattle.load_memory.specs.Pairs.{PairOf, look}
 use Rattle.load_memory.specs.Replies.{ReplyOf}
 use Rattle.load_memory.specs.declared.key.KeyMode.{KeyMode}
-use Rattle.load_queue.specs.Answers.{AnswerOf, outcomes_of}
+use Rattle.load_queue.specs.Answers.{AnswerOf, given, outcomes_of}
 use Rattle.load_queue.specs.Batches.{batches}
 use Rattle.load_queue.specs.Loaders.{LoaderOf}
 use Rattle.load_queue.specs.Orders.{OrderOf, order_of}
@@ -35,6 +35,10 @@ may_at {S} may loaders loader keys answer = (asked : LoaderOf S) × (slice_get l
 -- whatever it is
 abbrev pub any_answer : MayAnswer
 any_answer loader keys answer = Unit {0}
+
+-- that of sources that answer key by key: the list of the items of the keys
+abbrev pub key_by_key : (ℕ → KeyOf → ItemOf) → ℕ → List KeyOf → AnswerOf → Type 0
+key_by_key item loader keys answer = answer ≡ given (map (item loader) keys)
 
 -- the keys that are asked of the loader of a number
 abbrev pub keys_for : ℕ → List Load → List KeyOf
@@ -124,3 +128,15 @@ AreLimited (rule ∷ rules) = ((n : ℕ) → rule.limit ≡ Some n → 0 < n) ×
 -- each load that the program may read has one of so many loaders
 abbrev pub HasLoaders : ℕ → Program → Type 0
 HasLoaders count p = (R : Reader) (load : Load) → IsOneOf load (needs p R) → load.loader < count
+
+-- *Direct execution*: each load is answered at once, by the item of its key
+abbrev pub direct : (ℕ → KeyOf → ItemOf) → Reader
+direct item load = Some (known (item load.loader load.key))
+
+-- keys that are one for their loader have one item
+abbrev pub RespectsCacheKeys : List KeyMode → (ℕ → KeyOf → ItemOf) → Type 0
+RespectsCacheKeys modes item = (loader : ℕ) (j k : KeyOf) → folded (mode_at modes loader) j ≡ folded (mode_at modes loader) k → item loader j ≡ item loader k
+
+-- the memory has no pair but those that asking key by key gives
+abbrev pub IsTold : List KeyMode → (ℕ → KeyOf → ItemOf) → Memory → Type 0
+IsTold modes item M = (loader : ℕ) (key : KeyOf) (outcome : OutcomeOf) → M loader (folded (mode_at modes loader) key) ≡ Some outcome → outcome ≡ known (item loader key)

@@ -1,12 +1,14 @@
 //! What holds of the definitions. Each function does nothing: its contract is the law.
-ghost use Rattle.std.specs.Prelude.{◌≡◌, ◌↔◌, ◌≤◌, IsSome, List, [], Some, true, length};
+ghost use Rattle.std.specs.Prelude.{◌≡◌, ◌↔◌, ◌≤◌, ℕ, IsSome, List, [], Some, true, length};
 ghost use Rattle.load_memory.specs.declared.key.KeyMode.{KeyMode};
 ghost use Rattle.execution.specs.Loads.{Load, Memory, Reader, read, Extends, IsOneOf};
 ghost use Rattle.execution.specs.Program.{Program, Tree, needs, tree, chain};
 ghost use Rattle.execution.specs.Completion.{IsNullAt, IsCompletion, AnsweredOf};
 ghost use Rattle.execution.specs.Front.{front};
 ghost use Rattle.load_memory.specs.Replies.{ReplyOf};
-ghost use Rattle.execution.specs.Rounds.{RuleOf, modes_of, any_answer, IsLawful, IsSparing, AreLimited, HasLoaders};
+ghost use Rattle.execution.specs.Rounds.{RuleOf, modes_of, any_answer, IsLawful, IsSparing, AreLimited, HasLoaders, key_by_key, direct, RespectsCacheKeys, IsTold, orders_of, AreReplies, after_round};
+ghost use Rattle.load_memory.specs.Keys.{KeyOf};
+ghost use Rattle.load_memory.specs.Outcomes.{ItemOf};
 ghost use Rattle.execution.specs.Executed.{exec, nulls};
 
 /// *Completion* (sections 6.4.3 and 6.4.4 of the GraphQL specification of October 2021): what `exec` computes from below
@@ -39,4 +41,18 @@ pub fn no_sparing_run_is_shorter()
     ensures { (rules : List RuleOf) (p : Program) (M : Memory) (rounds : List (List ReplyOf)) (end : Memory) (steps : List Memory)
         → AreLimited rules → HasLoaders (length rules) p → IsLawful any_answer rules p M rounds end
         → IsSparing (modes_of rules) p end M steps → length rounds ≤ length steps }
+{}
+
+/// *One lawful log*: over sources that answer key by key there is at most one lawful log from a memory, and one memory at
+/// its end. Where the sources answer keys alike that their loaders hold to be one, and what the memory has at first is
+/// what they would answer, as an empty one has, execution over the last memory is direct execution.
+pub fn one_lawful_log()
+    ensures rounds { (item : ℕ → KeyOf → ItemOf) (rules : List RuleOf) (p : Program) (M : Memory) (rounds others : List (List ReplyOf)) (end last : Memory)
+        → IsLawful (key_by_key item) rules p M rounds end → IsLawful (key_by_key item) rules p M others last → rounds ≡ others }
+    ensures memory { (item : ℕ → KeyOf → ItemOf) (rules : List RuleOf) (p : Program) (M : Memory) (rounds others : List (List ReplyOf)) (end last : Memory)
+        → IsLawful (key_by_key item) rules p M rounds end → IsLawful (key_by_key item) rules p M others last
+        → (loader : ℕ) (key : KeyOf) → end loader key ≡ last loader key }
+    ensures direct { (item : ℕ → KeyOf → ItemOf) (rules : List RuleOf) (p : Program) (M : Memory) (rounds : List (List ReplyOf)) (end : Memory)
+        → RespectsCacheKeys (modes_of rules) item → IsTold (modes_of rules) item M → IsLawful (key_by_key item) rules p M rounds end
+        → exec p (read (modes_of rules) end) ≡ exec p (direct item) }
 {}
