@@ -4,3 +4,4 @@ pub mod NullLaws
 pub mod ChainLaws
 pub mod RoundLaws
 pub mod OneLog
+pub mod ReplyLaws

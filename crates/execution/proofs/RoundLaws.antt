@@ -109,7 +109,7 @@ outcomes-length n (given items) = go (length items == n) refl
 outcomes-length n (failed text) = length-replicate n (batch_fault text)
 
 module _ (may : ℕ → List KeyOf → AnswerOf → Type 0) where
-  reply-length : (o : OrderOf) (r : ReplyOf) → IsReply may o r → length r.outcomes ≡ length r.keys
+  pub reply-length : (o : OrderOf) (r : ReplyOf) → IsReply may o r → length r.outcomes ≡ length r.keys
   reply-length o r h = ap length h.outcomes ∙ outcomes-length (length o.keys) h.answer ∙ sym (ap length h.keys)
 
   -- what is ordered is in the replies

@@ -1,5 +1,5 @@
 //! What holds of the definitions. Each function does nothing: its contract is the law.
-ghost use Rattle.std.specs.Prelude.{◌≡◌, ◌↔◌, ◌≤◌, ℕ, IsSome, List, [], Some, true, length};
+ghost use Rattle.std.specs.Prelude.{◌≡◌, ◌↔◌, ◌≤◌, ℕ, IsSome, List, [], Some, true, length, IsPermutation};
 ghost use Rattle.load_memory.specs.declared.key.KeyMode.{KeyMode};
 ghost use Rattle.execution.specs.Loads.{Load, Memory, Reader, read, Extends, IsOneOf};
 ghost use Rattle.execution.specs.Program.{Program, Tree, needs, tree, chain};
@@ -25,6 +25,14 @@ pub fn monotone_execution()
     ensures defined { (modes : List KeyMode) (p : Program) (M : Memory) → IsSome (exec p (read modes M)) ↔ (front modes p M ≡ []) }
     ensures same { (modes : List KeyMode) (p : Program) (M N : Memory) → Extends M N → front modes p M ≡ [] → exec p (read modes N) ≡ exec p (read modes M) }
     ensures grows { (modes : List KeyMode) (p : Program) (M N : Memory) (load : Load) → Extends M N → IsOneOf load (needs p (read modes M)) → IsOneOf load (needs p (read modes N)) }
+{}
+
+/// *Reply order is immaterial*: whatever the sources answer, the memory after a round is the same for every order of the
+/// round's replies.
+pub fn reply_order_is_immaterial()
+    ensures { (rules : List RuleOf) (p : Program) (M : Memory) (round other : List ReplyOf)
+        → AreLimited rules → AreReplies any_answer (orders_of rules (front (modes_of rules) p M)) round → IsPermutation round other
+        → (loader : ℕ) (key : KeyOf) → after_round rules M other loader key ≡ after_round rules M round loader key }
 {}
 
 /// *Rounds within the chain*: whatever the sources answer, a lawful log has at most as many rounds as the load chain over
