@@ -5,3 +5,4 @@ pub mod ChainLaws
 pub mod RoundLaws
 pub mod OneLog
 pub mod ReplyLaws
+pub mod Fitting

@@ -4,3 +4,5 @@ pub mod Completion
 pub mod Executed
 pub mod Front
 pub mod Rounds
+pub mod Residual
+pub mod Examples

@@ -1,7 +1,7 @@
 //! What holds of the definitions. Each function does nothing: its contract is the law.
 ghost use Rattle.std.specs.Prelude.{◌≡◌, ◌↔◌, ◌≤◌, ℕ, IsSome, List, [], Some, true, length, IsPermutation};
 ghost use Rattle.load_memory.specs.declared.key.KeyMode.{KeyMode};
-ghost use Rattle.execution.specs.Loads.{Load, Memory, Reader, read, Extends, IsOneOf};
+ghost use Rattle.execution.specs.Loads.{Load, Memory, Reader, read, Extends, AnswersMore, IsOneOf};
 ghost use Rattle.execution.specs.Program.{Program, Tree, needs, tree, chain};
 ghost use Rattle.execution.specs.Completion.{IsNullAt, IsCompletion, AnsweredOf};
 ghost use Rattle.execution.specs.Front.{front};
@@ -9,6 +9,7 @@ ghost use Rattle.load_memory.specs.Replies.{ReplyOf};
 ghost use Rattle.execution.specs.Rounds.{RuleOf, modes_of, any_answer, IsLawful, IsSparing, AreLimited, HasLoaders, key_by_key, direct, RespectsCacheKeys, IsTold, orders_of, AreReplies, after_round};
 ghost use Rattle.load_memory.specs.Keys.{KeyOf};
 ghost use Rattle.load_memory.specs.Outcomes.{ItemOf};
+ghost use Rattle.execution.specs.Residual.{rest, Fits, unanswered};
 ghost use Rattle.execution.specs.Executed.{exec, nulls};
 
 /// *Completion* (sections 6.4.3 and 6.4.4 of the GraphQL specification of October 2021): what `exec` computes from below
@@ -25,6 +26,17 @@ pub fn monotone_execution()
     ensures defined { (modes : List KeyMode) (p : Program) (M : Memory) → IsSome (exec p (read modes M)) ↔ (front modes p M ≡ []) }
     ensures same { (modes : List KeyMode) (p : Program) (M N : Memory) → Extends M N → front modes p M ≡ [] → exec p (read modes N) ≡ exec p (read modes M) }
     ensures grows { (modes : List KeyMode) (p : Program) (M N : Memory) (load : Load) → Extends M N → IsOneOf load (needs p (read modes M)) → IsOneOf load (needs p (read modes N)) }
+{}
+
+/// A suspended program fits a reader where it has done only what the reader answers. A program fits every reader at
+/// first. What fits goes on fitting as more is answered; it is executed as its program is, and waits for the same loads;
+/// what is left of it fits; and what is left of a program holds its tree as done.
+pub fn suspended_programs()
+    ensures goes_on { (suspended p : Program) (R Q : Reader) → Fits suspended p R → AnswersMore R Q → Fits suspended p Q }
+    ensures executed { (suspended p : Program) (R : Reader) → Fits suspended p R → exec suspended R ≡ exec p R }
+    ensures waits { (modes : List KeyMode) (suspended p : Program) (M : Memory) → Fits suspended p (read modes M) → front modes suspended M ≡ front modes p M }
+    ensures left { (suspended p : Program) (R : Reader) → Fits suspended p R → Fits (rest suspended R) p R }
+    ensures holds { (p : Program) (R : Reader) → tree (rest p R) unanswered ≡ tree p R }
 {}
 
 /// *Reply order is immaterial*: whatever the sources answer, the memory after a round is the same for every order of the

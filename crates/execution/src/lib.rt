@@ -1,4 +1,5 @@
 //! Definitions.
 #![tactic(auto)]
 
+pub mod examples;
 pub mod law;
