@@ -1,10 +1,10 @@
 -- A suspended program that fits a reader is executed over it, and over each that answers more, as its program is.
-use Rattle.std.proofs.Common.{◌≡◌, List, [], ◌∷◌, ◌++◌, sym, ◌∙◌, ap, refl, Option, Some, None, Bool, true, false, is_none, filter}
+use Rattle.std.proofs.Common.{◌≡◌, List, [], ◌∷◌, ◌++◌, sym, ◌∙◌, ap, refl, Option, Some, None, Bool, true, false, is_none}
 use Rattle.load_memory.specs.Outcomes.{OutcomeOf}
 use Rattle.load_memory.specs.declared.key.KeyMode.{KeyMode}
 use Rattle.execution.specs.Loads.{Load, Reader, Memory, read, AnswersMore}
 use Rattle.execution.specs.Program.{Program, Is, Read, Under, Programs, End, With, Over, tree, trees, needs, all_needs}
-use Rattle.execution.specs.Executed.{exec, completed}
+use Rattle.execution.specs.Executed.{exec}
 use Rattle.execution.specs.Front.{missing, front, firsts}
 use Rattle.execution.specs.Residual.{rest, all_rest, Fits, unanswered}
 

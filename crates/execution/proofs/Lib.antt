@@ -6,3 +6,4 @@ pub mod RoundLaws
 pub mod OneLog
 pub mod ReplyLaws
 pub mod Fitting
+pub mod TwiceLaws

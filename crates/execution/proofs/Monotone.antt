@@ -1,9 +1,9 @@
 -- Execution is defined exactly where the front is empty, and stays; what is needed only grows.
-use Rattle.std.proofs.Common.{◌≡◌, Bool, true, false, ◌||◌, ◌⊎◌, ◌↔◌, List, [], ◌∷◌, ◌++◌, is_none, IsSome, inl, inr, sym, ap, refl, Option, Some, None, if◌then◌else◌}
+use Rattle.std.proofs.Common.{◌≡◌, Bool, true, false, ◌||◌, ◌↔◌, List, [], ◌∷◌, ◌++◌, is_none, IsSome, inl, inr, sym, ap, refl, Option, Some, None, if◌then◌else◌}
 use Rattle.load_memory.specs.Outcomes.{OutcomeOf}
 use Rattle.load_memory.specs.declared.key.KeyMode.{KeyMode}
 use Rattle.execution.specs.Loads.{Load, Reader, Memory, read, IsOneOf, AnswersMore, Extends}
-use Rattle.execution.specs.Program.{given, Program, Is, Read, Under, Programs, End, With, Over, tree, trees, needs, all_needs}
+use Rattle.execution.specs.Program.{Program, Is, Read, Under, Programs, End, With, Over, tree, trees, needs, all_needs}
 use Rattle.execution.specs.Completion.{is_open, any_open, AnsweredOf}
 use Rattle.execution.specs.Executed.{completed, exec}
 use Rattle.execution.specs.Front.{firsts, missing, front}

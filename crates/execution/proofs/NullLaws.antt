@@ -1,5 +1,5 @@
 -- The answer from below is one that *Completion* allows, and the only one.
-use Rattle.std.proofs.Common.{◌≡◌, ℕ, Bool, true, false, ◌||◌, ◌&&◌, List, [], ◌∷◌, ◌++◌, ◌↔◌, ◌⊎◌, if◌then◌else◌, inl, inr, zero, suc, ap, refl, sym, ◌∙◌, append_assoc, Option, Some, None}
+use Rattle.std.proofs.Common.{◌≡◌, ℕ, Bool, true, false, ◌||◌, ◌&&◌, List, [], ◌∷◌, ◌++◌, ◌↔◌, ◌⊎◌, if◌then◌else◌, inl, inr, zero, suc, ap, refl, sym, ◌∙◌, append_assoc, Some, None}
 use Rattle.std.specs.List.{flat_map}
 use Rattle.gq_lexer.specs.declared.place.Place.{Place}
 use Rattle.execution.specs.Loads.{Reader}

@@ -1,17 +1,17 @@
 -- Sources that answer key by key leave no choice.
-use Rattle.std.proofs.Common.{◌≡◌, ◌==◌, ◌&&◌, ℕ, Bool, true, false, ◌⊎◌, List, [], ◌∷◌, ◌++◌, map, length, inl, inr, sym, ◌∙◌, ap, refl, Option, Some, None, if◌then◌else◌, eqb-true, eq-eqb, replicate}
+use Rattle.std.proofs.Common.{◌≡◌, ◌==◌, ◌&&◌, ℕ, Bool, true, false, ◌⊎◌, List, [], ◌∷◌, ◌++◌, map, length, inl, inr, sym, ◌∙◌, ap, refl, Option, Some, None, if◌then◌else◌, eqb-true, eq-eqb}
 use Rattle.std.proofs.Math.Path.{fun_ext}
 use Rattle.std.proofs.lemmas.List.{length-map}
 use Rattle.std.specs.Option.{option_or}
 use Rattle.load_memory.specs.Keys.{KeyOf, folded, same_key}
-use Rattle.load_memory.specs.Outcomes.{ItemOf, OutcomeOf, known, batch_fault}
+use Rattle.load_memory.specs.Outcomes.{ItemOf, OutcomeOf, known}
 use Rattle.load_memory.specs.Pairs.{PairOf, is_at, look}
 use Rattle.load_memory.specs.Replies.{ReplyOf}
 use Rattle.load_memory.specs.declared.key.KeyMode.{KeyMode}
 use Rattle.load_memory.proofs.Looks.{same_key-is}
-use Rattle.load_queue.specs.Answers.{AnswerOf, given, wrong_count, outcomes_of}
+use Rattle.load_queue.specs.Answers.{AnswerOf, given, outcomes_of}
 use Rattle.load_queue.specs.Orders.{OrderOf}
-use Rattle.execution.specs.Loads.{Load, Memory, mode_at, cache_key, read, IsOneOf, AnswersMore}
+use Rattle.execution.specs.Loads.{Memory, mode_at, read, AnswersMore}
 use Rattle.execution.specs.Program.{Program}
 use Rattle.execution.specs.Front.{front}
 use Rattle.execution.specs.Executed.{exec}

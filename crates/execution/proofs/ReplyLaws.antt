@@ -1,5 +1,5 @@
 -- No two pairs of a round's replies are of one loader and cache key, so their order is immaterial.
-use Rattle.std.proofs.Common.{◌≡◌, ◌≢◌, ◌==◌, ℕ, zero, suc, ◌≤◌, ◌<◌, Bool, true, false, not, ◌⊎◌, List, [], ◌∷◌, ◌++◌, map, length, get_or, filter, IsSome, inl, inr, sym, ◌∙◌, ap, refl, Option, Some, None, arith, if◌then◌else◌, eqb-true, Contains, IsPermutation}
+use Rattle.std.proofs.Common.{◌≡◌, ◌==◌, ℕ, zero, suc, ◌≤◌, ◌<◌, Bool, true, false, not, ◌⊎◌, List, [], ◌∷◌, ◌++◌, map, length, get_or, filter, IsSome, inl, inr, sym, ◌∙◌, ap, refl, Option, Some, None, arith, if◌then◌else◌, eqb-true, Contains, IsPermutation}
 use Rattle.std.proofs.lemmas.List.Sorted.{IsPermutation-sym, Contains-permutation}
 use Rattle.load_memory.specs.Keys.{KeyOf, folded}
 use Rattle.load_memory.specs.Outcomes.{OutcomeOf}
@@ -10,33 +10,19 @@ use Rattle.load_queue.specs.Answers.{AnswerOf}
 use Rattle.load_queue.specs.Batches.{batches, joined}
 use Rattle.load_queue.specs.Orders.{OrderOf, order_of}
 use Rattle.load_queue.proofs.PieceLaws.{are-batches}
-use Rattle.execution.specs.Loads.{Load, Memory, mode_at, cache_key, read, same, IsOneOf}
+use Rattle.execution.specs.Loads.{Load, Memory, mode_at, read, same, IsOneOf}
 use Rattle.execution.specs.Program.{Program, needs}
 use Rattle.execution.specs.Front.{firsts, missing, front}
-use Rattle.execution.specs.Rounds.{RuleOf, modes_of, keys_for, orders_from, orders_of, AreReplies, reply_pairs, pairs_of, stored, after_round, AreLimited}
+use Rattle.execution.specs.Sessions.{Cell, cell_of, key_cell, AreApart, order_cells}
+use Rattle.execution.specs.Rounds.{RuleOf, modes_of, keys_for, orders_from, orders_of, AreReplies, reply_pairs, pairs_of, after_round, AreLimited}
 use Rattle.execution.proofs.Same.{is-same, one-left, one-right, one-either, filter-one}
 use Rattle.execution.proofs.RoundLaws.{pair-at, reply-length}
 use Rattle.execution.proofs.OneLog.{at-pair}
 
--- a loader's number and a cache key
-abbrev pub Cell : Type 0
-Cell = ℕ × KeyOf
-
-abbrev pub cell_of : List KeyMode → Load → Cell
-cell_of modes load = (load.loader, cache_key modes load)
-
-abbrev pair_cell : PairOf → Cell
+abbrev pub pair_cell : PairOf → Cell
 pair_cell p = (p.loader, p.key)
 
-abbrev key_cell : List KeyMode → ℕ → KeyOf → Cell
-key_cell modes n key = (n, folded (mode_at modes n) key)
-
--- no two of these are equal
-abbrev pub AreApart : List Cell → Type 0
-AreApart [] = Unit {0}
-AreApart (c ∷ cs) = (IsOneOf c cs → ⊥) × AreApart cs
-
-one-map : {X Y : Type 0} (f : X → Y) (y : Y) (xs : List X) → IsOneOf y (map f xs) → (x : X) × IsOneOf x xs × (y ≡ f x)
+pub one-map : {X Y : Type 0} (f : X → Y) (y : Y) (xs : List X) → IsOneOf y (map f xs) → (x : X) × IsOneOf x xs × (y ≡ f x)
 one-map f y [] h = absurd h
 one-map f y (x ∷ xs) (inl e) = (x, inl refl, e)
 one-map f y (x ∷ xs) (inr h) = let r = one-map f y xs h in (r.0, inr r.1, r.2)
@@ -88,11 +74,6 @@ keys-apart modes n (l ∷ ls) h = go (l.loader == n) refl (keys-apart modes n ls
         ((λ i. h.0 (rw (← at) (keys-cells modes n (key_cell modes n l.key) ls i))), ih)
     go false e ih = ih
 
--- the cells that orders ask
-pub order_cells : List KeyMode → List OrderOf → List Cell
-order_cells modes [] = []
-order_cells modes (o ∷ os) = map (key_cell modes o.loader) o.keys ++ order_cells modes os
-
 append-assoc : {X : Type 0} (xs ys zs : List X) → (xs ++ ys) ++ zs ≡ xs ++ (ys ++ zs)
 append-assoc [] ys zs = refl
 append-assoc (x ∷ xs) ys zs = ap (λ ws. x ∷ ws) (append-assoc xs ys zs)
@@ -102,7 +83,6 @@ map-append f [] ys = refl
 map-append f (x ∷ xs) ys = ap (λ zs. f x ∷ zs) (map-append f xs ys)
 
 pieces-cells : (modes : List KeyMode) (n : ℕ) (ps : List (List KeyOf)) (os : List OrderOf) → order_cells modes (map (order_of n) ps ++ os) ≡ map (key_cell modes n) (joined ps) ++ order_cells modes os
-unfolding order_cells
 pieces-cells modes n [] os = refl
 pieces-cells modes n (p ∷ ps) os =
     ap (λ cs. map (key_cell modes n) p ++ cs) (pieces-cells modes n ps os)
@@ -118,13 +98,12 @@ batches-cells modes n rule rules ls positive =
 
 append-apart : (xs ys : List Cell) → AreApart xs → AreApart ys → ((c : Cell) → IsOneOf c xs → IsOneOf c ys → ⊥) → AreApart (xs ++ ys)
 append-apart [] ys h k d = k
-append-apart (x ∷ xs) ys h k d = ((λ i. elim (one-either x xs ys i) [ | inl a ↦ h.0 a | inr b ↦ d x (inl refl) b ]), append-apart xs ys h.1 k (λ c i j. d c (inr i) j))
+append-apart (x ∷ xs) ys h k d = ((λ i. elim (one-either x xs ys i) [ inl a ↦ h.0 a | inr b ↦ d x (inl refl) b ]), append-apart xs ys h.1 k (λ c i j. d c (inr i) j))
 
 key-loader : (modes : List KeyMode) (n : ℕ) (c : Cell) (keys : List KeyOf) → IsOneOf c (map (key_cell modes n) keys) → c.0 ≡ n
 key-loader modes n c keys h = ap (λ (d : Cell). d.0) (one-map (key_cell modes n) c keys h).2
 
 orders-above : (modes : List KeyMode) (n : ℕ) (rules : List RuleOf) (ls : List Load) (c : Cell) → AreLimited rules → IsOneOf c (order_cells modes (orders_from n rules ls)) → n ≤ c.0
-unfolding order_cells
 orders-above modes n [] ls c positive h = absurd h
 orders-above modes n (rule ∷ rules) ls c positive h =
     elim (one-either c (map (key_cell modes n) (keys_for n ls)) (order_cells modes (orders_from (suc n) rules ls)) (rw (batches-cells modes n rule rules ls positive) at h)) [
@@ -132,8 +111,16 @@ orders-above modes n (rule ∷ rules) ls c positive h =
       | inr b ↦ let more : suc n ≤ c.0 = orders-above modes (suc n) rules ls c positive.1 b in omega arith
     ]
 
+-- what is asked is one of the loads
+pub orders-loads : (modes : List KeyMode) (n : ℕ) (rules : List RuleOf) (ls : List Load) (c : Cell) → AreLimited rules → IsOneOf c (order_cells modes (orders_from n rules ls)) → IsOneOf c (map (cell_of modes) ls)
+orders-loads modes n [] ls c positive h = absurd h
+orders-loads modes n (rule ∷ rules) ls c positive h =
+    elim (one-either c (map (key_cell modes n) (keys_for n ls)) (order_cells modes (orders_from (suc n) rules ls)) (rw (batches-cells modes n rule rules ls positive) at h)) [
+      | inl a ↦ keys-cells modes n c ls a
+      | inr b ↦ orders-loads modes (suc n) rules ls c positive.1 b
+    ]
+
 pub orders-apart : (modes : List KeyMode) (n : ℕ) (rules : List RuleOf) (ls : List Load) → AreLimited rules → AreApart (map (cell_of modes) ls) → AreApart (order_cells modes (orders_from n rules ls))
-unfolding order_cells
 orders-apart modes n [] ls positive h = tt
 orders-apart modes n (rule ∷ rules) ls positive h =
     rw (batches-cells modes n rule rules ls positive)
@@ -146,8 +133,7 @@ reply-cells mode n (k ∷ ks) [] e = absurd (omega (arith, e))
 reply-cells mode n (k ∷ ks) (o ∷ os) e = ap (λ cs. (n, folded mode k) ∷ cs) (reply-cells mode n ks os (omega (arith, e)))
 
 -- the replies' pairs have the cells of the orders
-replies-cells : (may : ℕ → List KeyOf → AnswerOf → Type 0) (modes : List KeyMode) (os : List OrderOf) (rs : List ReplyOf) → AreReplies may os rs → map pair_cell (pairs_of modes rs) ≡ order_cells modes os
-unfolding order_cells
+pub replies-cells : (may : ℕ → List KeyOf → AnswerOf → Type 0) (modes : List KeyMode) (os : List OrderOf) (rs : List ReplyOf) → AreReplies may os rs → map pair_cell (pairs_of modes rs) ≡ order_cells modes os
 replies-cells may modes [] [] h = refl
 replies-cells may modes [] (r ∷ rs) h = absurd h
 replies-cells may modes (o ∷ os) [] h = absurd h
@@ -158,10 +144,10 @@ replies-cells may modes (o ∷ os) (r ∷ rs) h =
     ∙ ap (λ n. map (key_cell modes n) r.keys ++ order_cells modes os) h.0.loader
     ∙ ap (λ ks. map (key_cell modes o.loader) ks ++ order_cells modes os) h.0.keys
 
-abbrev make : ℕ → KeyOf → OutcomeOf → PairOf
+abbrev pub make : ℕ → KeyOf → OutcomeOf → PairOf
 make loader key outcome = record { loader = loader; key = key; outcome = outcome }
 
-look-member : (loader : ℕ) (key : KeyOf) (o : OutcomeOf) (ps : List PairOf) → look ps loader key ≡ Some o → IsOneOf (make loader key o) ps
+pub look-member : (loader : ℕ) (key : KeyOf) (o : OutcomeOf) (ps : List PairOf) → look ps loader key ≡ Some o → IsOneOf (make loader key o) ps
 look-member loader key o [] h = absurd (cc h)
 look-member loader key o (p ∷ ps) h = go (is_at loader key p) refl h (look-member loader key o ps)
   where
@@ -172,7 +158,7 @@ look-member loader key o (p ∷ ps) h = go (is_at loader key p) refl h (look-mem
         inl (ap (λ n. make n key o) at.0 ∙ ap (λ k. make p.loader k o) at.1 ∙ ap (λ x. make p.loader p.key x) is)
     go false e h ih = inr (ih h)
 
-member-some : (loader : ℕ) (key : KeyOf) (o : OutcomeOf) (ps : List PairOf) → IsOneOf (make loader key o) ps → IsSome (look ps loader key)
+pub member-some : (loader : ℕ) (key : KeyOf) (o : OutcomeOf) (ps : List PairOf) → IsOneOf (make loader key o) ps → IsSome (look ps loader key)
 member-some loader key o [] h = absurd h
 member-some loader key o (p ∷ ps) h = go (is_at loader key p) refl h (member-some loader key o ps)
   where
@@ -220,10 +206,10 @@ one-contains x (y ∷ ys) (suc k) lt e = inr (one-contains x ys k (omega arith) 
 pub one-permutation : {X : Type 0} (xs ys : List X) (x : X) → IsPermutation xs ys → IsOneOf x xs → IsOneOf x ys
 one-permutation xs ys x h i = let r = Contains-permutation xs ys x h (contains-one x xs i) in one-contains x ys r.0 r.1 r.2
 
-abbrev own_pairs : List KeyMode → ReplyOf → List PairOf
+abbrev pub own_pairs : List KeyMode → ReplyOf → List PairOf
 own_pairs modes r = reply_pairs (mode_at modes r.loader) r.loader r.keys r.outcomes
 
-pairs-from : (modes : List KeyMode) (p : PairOf) (rs : List ReplyOf) → IsOneOf p (pairs_of modes rs) → (r : ReplyOf) × IsOneOf r rs × IsOneOf p (own_pairs modes r)
+pub pairs-from : (modes : List KeyMode) (p : PairOf) (rs : List ReplyOf) → IsOneOf p (pairs_of modes rs) → (r : ReplyOf) × IsOneOf r rs × IsOneOf p (own_pairs modes r)
 pairs-from modes p [] h = absurd h
 pairs-from modes p (r ∷ rs) h = elim (one-either p (own_pairs modes r) (pairs_of modes rs) h) [
   | inl a ↦ (r, inl refl, a)

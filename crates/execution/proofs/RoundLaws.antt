@@ -1,14 +1,14 @@
 -- A round of replies fills the front; so lawful logs are within the chain, and no sparing run is shorter.
-use Rattle.std.proofs.Common.{◌≡◌, ◌≢◌, ◌==◌, ◌&&◌, ℕ, zero, suc, ◌≤◌, ◌<◌, ◌+◌, Bool, true, false, ◌⊎◌, List, [], ◌∷◌, ◌++◌, map, length, IsSome, inl, inr, sym, ◌∙◌, ap, refl, subst, Option, Some, None, arith, if◌then◌else◌, eqb-true, eq-eqb, replicate}
+use Rattle.std.proofs.Common.{◌≡◌, ◌≢◌, ◌==◌, ℕ, suc, ◌≤◌, ◌<◌, ◌+◌, Bool, true, false, ◌⊎◌, List, [], ◌∷◌, ◌++◌, map, length, IsSome, inl, inr, sym, ◌∙◌, ap, refl, subst, Option, Some, None, arith, if◌then◌else◌, eqb-true, eq-eqb, replicate}
 use Rattle.std.proofs.Math.Path.{fun_ext}
 use Rattle.std.proofs.lemmas.List.{length-map, length-replicate}
 use Rattle.std.specs.Option.{option_or}
 use Rattle.load_memory.specs.Keys.{KeyOf, folded, same_key}
-use Rattle.load_memory.specs.Outcomes.{ItemOf, OutcomeOf, known, batch_fault}
+use Rattle.load_memory.specs.Outcomes.{OutcomeOf, known, batch_fault}
 use Rattle.load_memory.specs.Pairs.{PairOf, is_at, look}
 use Rattle.load_memory.specs.Replies.{ReplyOf}
 use Rattle.load_memory.specs.declared.key.KeyMode.{KeyMode}
-use Rattle.load_memory.proofs.Looks.{same_key-is, same_key-refl}
+use Rattle.load_memory.proofs.Looks.{same_key-refl}
 use Rattle.load_queue.specs.Answers.{AnswerOf, given, failed, wrong_count, outcomes_of}
 use Rattle.load_queue.specs.Batches.{batches, joined}
 use Rattle.load_queue.specs.Orders.{OrderOf, order_of}
@@ -16,7 +16,7 @@ use Rattle.load_queue.proofs.PieceLaws.{are-batches}
 use Rattle.execution.specs.Loads.{Load, Memory, mode_at, cache_key, read, IsOneOf, Extends}
 use Rattle.execution.specs.Program.{Program, chain}
 use Rattle.execution.specs.Front.{front}
-use Rattle.execution.specs.Rounds.{RuleOf, modes_of, any_answer, keys_for, orders_from, orders_of, IsReply, AreReplies, reply_pairs, pairs_of, stored, after_round, AreRounds, IsLawful, IsSparing, AreLimited, HasLoaders}
+use Rattle.execution.specs.Rounds.{RuleOf, modes_of, any_answer, keys_for, orders_from, orders_of, IsReply, AreReplies, reply_pairs, pairs_of, stored, after_round, AreRounds, IsSparing, AreLimited, HasLoaders}
 use Rattle.execution.proofs.Same.{one-either}
 use Rattle.execution.proofs.ChainLaws.{Fills, IsFilling, front-needs, filling-chain, filling-below, filling-sparing}
 
@@ -47,7 +47,7 @@ keys-one l (x ∷ xs) h = go (x.loader == l.loader) refl h (keys-one l xs)
 
 one-joined : (n : ℕ) (key : KeyOf) (ps : List (List KeyOf)) → IsOneOf key (joined ps) → IsOrdered n key (map (order_of n) ps)
 one-joined n key [] h = absurd h
-one-joined n key (p ∷ ps) h = elim (one-either key p (joined ps) h) [ | inl a ↦ inl (refl, a) | inr b ↦ inr (one-joined n key ps b) ]
+one-joined n key (p ∷ ps) h = elim (one-either key p (joined ps) h) [ inl a ↦ inl (refl, a) | inr b ↦ inr (one-joined n key ps b) ]
 
 orders-ordered : (n : ℕ) (rules : List RuleOf) (ls : List Load) (l : Load) → AreLimited rules → n ≤ l.loader → l.loader < n + length rules → IsOneOf l ls → IsOrdered l.loader l.key (orders_from n rules ls)
 orders-ordered n [] ls l positive low high h = absurd (omega arith)

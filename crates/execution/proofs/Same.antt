@@ -1,10 +1,9 @@
 -- When two loads are one for a memory, and what is among loads.
-use Rattle.std.proofs.Common.{◌≡◌, ◌==◌, ◌&&◌, ◌||◌, ◌⊎◌, ℕ, Bool, true, false, not, List, [], ◌∷◌, ◌++◌, Option, Some, None, inl, inr, refl, sym, ◌∙◌, ap, eqb-true, eq-eqb, is_none, filter}
-use Rattle.load_memory.specs.Keys.{KeyOf, folded, same_key}
-use Rattle.load_memory.specs.Outcomes.{OutcomeOf}
+use Rattle.std.proofs.Common.{◌≡◌, ◌==◌, ◌&&◌, ◌⊎◌, Bool, true, false, not, List, [], ◌∷◌, ◌++◌, None, inl, inr, refl, sym, ◌∙◌, ap, eqb-true, eq-eqb, is_none, filter}
+use Rattle.load_memory.specs.Keys.{same_key}
 use Rattle.load_memory.specs.declared.key.KeyMode.{KeyMode}
 use Rattle.load_memory.proofs.Looks.{same_key-is, same_key-refl}
-use Rattle.execution.specs.Loads.{Load, Reader, Memory, mode_at, cache_key, read, same, IsOneOf, Extends, AnswersMore}
+use Rattle.execution.specs.Loads.{Load, Reader, Memory, cache_key, read, same, IsOneOf, Extends, AnswersMore}
 use Rattle.execution.specs.Front.{missing, firsts}
 
 both : (a b : Bool) → (a && b) ≡ true → (a ≡ true) × (b ≡ true)
@@ -53,7 +52,7 @@ module _ {X : Type 0} where
   pub one-either : (x : X) (xs ys : List X) → IsOneOf x (xs ++ ys) → IsOneOf x xs ⊎ IsOneOf x ys
   one-either x [] ys h = inr h
   one-either x (y ∷ xs) ys (inl e) = inl (inl e)
-  one-either x (y ∷ xs) ys (inr h) = elim (one-either x xs ys h) [ | inl a ↦ inl (inr a) | inr b ↦ inr b ]
+  one-either x (y ∷ xs) ys (inr h) = elim (one-either x xs ys h) [ inl a ↦ inl (inr a) | inr b ↦ inr b ]
 
   pub one-filter : (test : X → Bool) (x : X) (xs : List X) → test x ≡ true → IsOneOf x xs → IsOneOf x (filter test xs)
   one-filter test x [] e h = h

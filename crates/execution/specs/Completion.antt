@@ -1,10 +1,9 @@
 -- *Completion* (sections 6.4.3, "Value Completion", and 6.4.4, "Handling Field Errors", of the GraphQL specification of
 -- October 2021): which positions are null in the response, and which errors stand in it, in which order.
-use Rattle.std.specs.Prelude.{◌≡◌, ℕ, zero, suc, Bool, true, false, ◌||◌, List, [], ◌∷◌, ◌++◌, Option, Some, None, if◌then◌else◌, codes}
+use Rattle.std.specs.Prelude.{◌≡◌, ℕ, zero, suc, Bool, true, false, ◌||◌, List, [], ◌∷◌, ◌++◌, codes}
 use Rattle.std.specs.List.{flat_map}
 use Rattle.gq_lexer.specs.declared.place.Place.{Place}
-use Rattle.execution.specs.Loads.{Reader}
-use Rattle.execution.specs.Program.{Leaf, Own, Value, Null, Fault, Kind, Part, Spot, Program, Tree, Open, At, Over, Trees, NoMore, And, tree}
+use Rattle.execution.specs.Program.{Leaf, Value, Null, Fault, Kind, Part, Spot, Tree, Open, At, Over, Trees, NoMore, And}
 
 -- the own value is null or a fault
 abbrev pub HasOwnNull : Tree → Type 0

@@ -1,12 +1,11 @@
 -- Small programs with their answers, worked by hand from the rules of the GraphQL specification.
-use Rattle.std.specs.Prelude.{ℕ, Bool, true, false, List, [], ◌∷◌, Option, Some, None, codes, if◌then◌else◌, ◌==◌}
-use Rattle.load_memory.specs.Keys.{KeyOf, all, text}
+use Rattle.std.specs.Prelude.{ℕ, true, false, List, [], ◌∷◌, Some, None, codes, if◌then◌else◌, ◌==◌}
+use Rattle.load_memory.specs.Keys.{text}
 use Rattle.load_memory.specs.Outcomes.{OutcomeOf, known, batch_fault, rows, key_fault}
-use Rattle.load_memory.specs.Rows.{RowOf}
 use Rattle.gq_lexer.specs.declared.place.Place.{Place}
 use Rattle.execution.specs.Loads.{Load, Reader}
 use Rattle.execution.specs.Program.{Text, Own, Value, Null, Fault, ListOf, ObjectOf, Part, Key, Item, Spot, Program, Is, Read, Under, Programs, End, With}
-use Rattle.execution.specs.Completion.{ResponseOf, NullResponse, LeafResponse, Holding, ResponsesOf, NoResponses, Responding, ErrorOf, AnsweredOf, null_message}
+use Rattle.execution.specs.Completion.{ResponseOf, NullResponse, LeafResponse, Holding, NoResponses, Responding, ErrorOf, AnsweredOf, null_message}
 
 abbrev pub at_column : ℕ → Place
 at_column column = record { line = 1; column = column }
@@ -70,10 +69,10 @@ siblings_under_a_null =
 abbrev pub each_has_its_error : AnsweredOf
 each_has_its_error =
     answered (Holding ObjectOf (Responding (key (codes "user")) NullResponse NoResponses)) (
-      error null_message 13 (key (codes "user") ∷ key (codes "name") ∷ [])
-      ∷ error (codes "bad") 18 (key (codes "user") ∷ key (codes "id") ∷ [])
-      ∷ error (codes "worse") 26 (key (codes "user") ∷ key (codes "best") ∷ key (codes "id") ∷ [])
-      ∷ []
+    error null_message 13 (key (codes "user") ∷ key (codes "name") ∷ [])
+    ∷ error (codes "bad") 18 (key (codes "user") ∷ key (codes "id") ∷ [])
+    ∷ error (codes "worse") 26 (key (codes "user") ∷ key (codes "best") ∷ key (codes "id") ∷ [])
+    ∷ []
     )
 
 abbrev pub load_of : ℕ → List ℕ → Load

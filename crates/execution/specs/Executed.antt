@@ -2,7 +2,7 @@
 use Rattle.std.specs.Prelude.{Bool, true, false, ◌||◌, ◌&&◌, List, [], ◌∷◌, ◌++◌, Option, Some, None, if◌then◌else◌}
 use Rattle.gq_lexer.specs.declared.place.Place.{Place}
 use Rattle.execution.specs.Loads.{Reader}
-use Rattle.execution.specs.Program.{Leaf, Value, Null, Fault, Part, Program, Tree, Open, At, Over, Trees, NoMore, And, tree}
+use Rattle.execution.specs.Program.{Value, Null, Fault, Part, Program, Tree, Open, At, Over, Trees, NoMore, And, tree}
 use Rattle.execution.specs.Completion.{ResponseOf, NullResponse, LeafResponse, Holding, ResponsesOf, NoResponses, Responding, ErrorOf, own_errors, top_position, is_open, AnsweredOf}
 
 -- the position becomes null: it is null itself, or one of non-null type below it becomes null

@@ -6,3 +6,4 @@ pub mod Front
 pub mod Rounds
 pub mod Residual
 pub mod Examples
+pub mod Sessions

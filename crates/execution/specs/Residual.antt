@@ -1,5 +1,5 @@
 -- A suspended program is what is left of a program of which a part is done.
-use Rattle.std.specs.Prelude.{◌≡◌, Option, None}
+use Rattle.std.specs.Prelude.{◌≡◌, None}
 use Rattle.execution.specs.Loads.{Reader}
 use Rattle.execution.specs.Program.{given, Program, Is, Read, Under, Programs, End, With}
 

@@ -10,7 +10,7 @@ use Rattle.load_queue.specs.Answers.{AnswerOf, given, outcomes_of}
 use Rattle.load_queue.specs.Batches.{batches}
 use Rattle.load_queue.specs.Loaders.{LoaderOf}
 use Rattle.load_queue.specs.Orders.{OrderOf, order_of}
-use Rattle.execution.specs.Loads.{Load, Reader, Memory, mode_at, cache_key, read, IsOneOf}
+use Rattle.execution.specs.Loads.{Load, Reader, Memory, mode_at, cache_key, IsOneOf}
 use Rattle.execution.specs.Program.{Program, needs}
 use Rattle.execution.specs.Front.{front}
 

@@ -1,5 +1,5 @@
 //! What holds of the definitions. Each function does nothing: its contract is the law.
-ghost use Rattle.std.specs.Prelude.{◌≡◌, ◌↔◌, ◌≤◌, ℕ, IsSome, List, [], Some, true, length, IsPermutation};
+ghost use Rattle.std.specs.Prelude.{◌≡◌, ◌↔◌, ◌≤◌, ℕ, IsSome, List, [], ◌∷◌, ◌++◌, Some, true, length, IsPermutation};
 ghost use Rattle.load_memory.specs.declared.key.KeyMode.{KeyMode};
 ghost use Rattle.execution.specs.Loads.{Load, Memory, Reader, read, Extends, AnswersMore, IsOneOf};
 ghost use Rattle.execution.specs.Program.{Program, Tree, needs, tree, chain};
@@ -9,6 +9,7 @@ ghost use Rattle.load_memory.specs.Replies.{ReplyOf};
 ghost use Rattle.execution.specs.Rounds.{RuleOf, modes_of, any_answer, IsLawful, IsSparing, AreLimited, HasLoaders, key_by_key, direct, RespectsCacheKeys, IsTold, orders_of, AreReplies, after_round};
 ghost use Rattle.load_memory.specs.Keys.{KeyOf};
 ghost use Rattle.load_memory.specs.Outcomes.{ItemOf};
+ghost use Rattle.execution.specs.Sessions.{Cell, Step, Asked, AreSteps, AreMissing, AreApart, order_cells, IsAskedAgainRightly};
 ghost use Rattle.execution.specs.Residual.{rest, Fits, unanswered};
 ghost use Rattle.execution.specs.Executed.{exec, nulls};
 
@@ -75,4 +76,16 @@ pub fn one_lawful_log()
     ensures direct { (item : ℕ → KeyOf → ItemOf) (rules : List RuleOf) (p : Program) (M : Memory) (rounds : List (List ReplyOf)) (end : Memory)
         → RespectsCacheKeys (modes_of rules) item → IsTold (modes_of rules) item M → IsLawful (key_by_key item) rules p M rounds end
         → exec p (read (modes_of rules) end) ≡ exec p (direct item) }
+{}
+
+/// *No key twice*, over whatever steps of a session. No round asks two equal cache keys of one loader. Between two rounds
+/// that ask one, it was cleared, or the earlier batch that asked it failed as a whole. What was primed, lost or answered in
+/// between makes no difference.
+pub fn no_key_twice()
+    ensures together { (rules : List RuleOf) (M : Memory) (loads : List Load)
+        → AreLimited rules → AreMissing (modes_of rules) M loads → AreApart (order_cells (modes_of rules) (orders_of rules loads)) }
+    ensures again { (rules : List RuleOf) (M : Memory) (first later : List Load) (replies others : List ReplyOf) (between : List Step) (cell : Cell)
+        → AreLimited rules → AreSteps any_answer rules M (Asked first replies ∷ (between ++ Asked later others ∷ []))
+        → IsOneOf cell (order_cells (modes_of rules) (orders_of rules first)) → IsOneOf cell (order_cells (modes_of rules) (orders_of rules later))
+        → IsAskedAgainRightly (modes_of rules) cell replies between }
 {}

@@ -1,5 +1,5 @@
 use Rattle.std.proofs.Common.{sym, ◌∙◌}
-use Rattle.execution.proofs.NullLaws.{nulls-path, exec-completion, completed-is, completed-only}
+use Rattle.execution.proofs.NullLaws.{nulls-path, exec-completion, completed-only}
 use Rattle.execution.proofs.law.completion.Goals as goal
 
 pub returns-clause-paths : goal.returns-clause-paths

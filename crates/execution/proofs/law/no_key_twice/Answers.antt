@@ -1,0 +1,9 @@
+use Rattle.execution.specs.Rounds.{any_answer}
+use Rattle.execution.proofs.TwiceLaws.{together, again}
+use Rattle.execution.proofs.law.no_key_twice.Goals as goal
+
+pub returns-clause-together : goal.returns-clause-together
+returns-clause-together c = λ rules M loads positive lacking. together rules M loads positive lacking
+
+pub returns-clause-again : goal.returns-clause-again
+returns-clause-again c = λ rules M first later replies others between cell positive steps one two. again any_answer rules M first later replies others between cell positive steps one two
