@@ -7,3 +7,5 @@ pub mod OneLog
 pub mod ReplyLaws
 pub mod Fitting
 pub mod TwiceLaws
+pub mod Wanting
+pub mod StoreLaws

@@ -12,9 +12,9 @@ use Rattle.load_queue.specs.Orders.{OrderOf, order_of}
 use Rattle.load_queue.proofs.PieceLaws.{are-batches}
 use Rattle.execution.specs.Loads.{Load, Memory, mode_at, read, same, IsOneOf}
 use Rattle.execution.specs.Program.{Program, needs}
-use Rattle.execution.specs.Front.{firsts, missing, front}
+use Rattle.execution.specs.Front.{keys_for, firsts, missing, front}
 use Rattle.execution.specs.Sessions.{Cell, cell_of, key_cell, AreApart, order_cells}
-use Rattle.execution.specs.Rounds.{RuleOf, modes_of, keys_for, orders_from, orders_of, AreReplies, reply_pairs, pairs_of, after_round, AreLimited}
+use Rattle.execution.specs.Rounds.{RuleOf, modes_of, orders_from, orders_of, AreReplies, reply_pairs, pairs_of, after_round, AreLimited}
 use Rattle.execution.proofs.Same.{is-same, one-left, one-right, one-either, filter-one}
 use Rattle.execution.proofs.RoundLaws.{pair-at, reply-length}
 use Rattle.execution.proofs.OneLog.{at-pair}
@@ -27,7 +27,7 @@ one-map f y [] h = absurd h
 one-map f y (x ∷ xs) (inl e) = (x, inl refl, e)
 one-map f y (x ∷ xs) (inr h) = let r = one-map f y xs h in (r.0, inr r.1, r.2)
 
-map-one : {X Y : Type 0} (f : X → Y) (x : X) (xs : List X) → IsOneOf x xs → IsOneOf (f x) (map f xs)
+pub map-one : {X Y : Type 0} (f : X → Y) (x : X) (xs : List X) → IsOneOf x xs → IsOneOf (f x) (map f xs)
 map-one f x [] h = absurd h
 map-one f x (y ∷ xs) (inl e) = inl (ap f e)
 map-one f x (y ∷ xs) (inr h) = inr (map-one f x xs h)

@@ -15,8 +15,8 @@ use Rattle.load_queue.specs.Orders.{OrderOf, order_of}
 use Rattle.load_queue.proofs.PieceLaws.{are-batches}
 use Rattle.execution.specs.Loads.{Load, Memory, mode_at, cache_key, read, IsOneOf, Extends}
 use Rattle.execution.specs.Program.{Program, chain}
-use Rattle.execution.specs.Front.{front}
-use Rattle.execution.specs.Rounds.{RuleOf, modes_of, any_answer, keys_for, orders_from, orders_of, IsReply, AreReplies, reply_pairs, pairs_of, stored, after_round, AreRounds, IsSparing, AreLimited, HasLoaders}
+use Rattle.execution.specs.Front.{keys_for, front}
+use Rattle.execution.specs.Rounds.{RuleOf, modes_of, any_answer, orders_from, orders_of, IsReply, AreReplies, reply_pairs, pairs_of, stored, after_round, AreRounds, IsSparing, AreLimited, HasLoaders}
 use Rattle.execution.proofs.Same.{one-either}
 use Rattle.execution.proofs.ChainLaws.{Fills, IsFilling, front-needs, filling-chain, filling-below, filling-sparing}
 

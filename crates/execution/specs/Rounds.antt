@@ -3,7 +3,7 @@ use Rattle.std.specs.Prelude.{◌≡◌, ◌≢◌, ◌==◌, ◌<◌, ◌⊎◌
 use Rattle.std.specs.Option.{option_or}
 use Rattle.load_memory.specs.Keys.{KeyOf, folded}
 use Rattle.load_memory.specs.Outcomes.{ItemOf, OutcomeOf, known, batch_fault}
-use Rattle.load_memory.specs.Pairs.{PairOf, look}
+use Rattle.load_memory.specs.Pairs.{PairOf, look, primed}
 use Rattle.load_memory.specs.Replies.{ReplyOf}
 use Rattle.load_memory.specs.declared.key.KeyMode.{KeyMode}
 use Rattle.load_queue.specs.Answers.{AnswerOf, given, outcomes_of}
@@ -12,7 +12,7 @@ use Rattle.load_queue.specs.Loaders.{LoaderOf}
 use Rattle.load_queue.specs.Orders.{OrderOf, order_of}
 use Rattle.execution.specs.Loads.{Load, Reader, Memory, mode_at, cache_key, IsOneOf}
 use Rattle.execution.specs.Program.{Program, needs}
-use Rattle.execution.specs.Front.{front}
+use Rattle.execution.specs.Front.{front, keys_for}
 
 -- how a loader compares its keys, and how many of them it asks at most at once
 pub record RuleOf : Type 0 where
@@ -39,11 +39,6 @@ any_answer loader keys answer = Unit {0}
 -- that of sources that answer key by key: the list of the items of the keys
 abbrev pub key_by_key : (ℕ → KeyOf → ItemOf) → ℕ → List KeyOf → AnswerOf → Type 0
 key_by_key item loader keys answer = answer ≡ given (map (item loader) keys)
-
--- the keys that are asked of the loader of a number
-abbrev pub keys_for : ℕ → List Load → List KeyOf
-keys_for loader [] = []
-keys_for loader (l ∷ ls) = if l.loader == loader then l.key ∷ keys_for loader ls else keys_for loader ls
 
 -- *Batches*, for loaders numbered from n on
 abbrev pub orders_from : ℕ → List RuleOf → List Load → List OrderOf
@@ -140,3 +135,8 @@ RespectsCacheKeys modes item = (loader : ℕ) (j k : KeyOf) → folded (mode_at 
 -- the memory has no pair but those that asking key by key gives
 abbrev pub IsTold : List KeyMode → (ℕ → KeyOf → ItemOf) → Memory → Type 0
 IsTold modes item M = (loader : ℕ) (key : KeyOf) (outcome : OutcomeOf) → M loader (folded (mode_at modes loader) key) ≡ Some outcome → outcome ≡ known (item loader key)
+
+-- a list of pairs with those of another whose keys are absent, one after another
+abbrev pub all_primed : List PairOf → List PairOf → List PairOf
+all_primed pairs [] = pairs
+all_primed pairs (p ∷ ps) = all_primed (primed pairs p) ps

@@ -1,15 +1,17 @@
 //! What holds of the definitions. Each function does nothing: its contract is the law.
-ghost use Rattle.std.specs.Prelude.{◌≡◌, ◌↔◌, ◌≤◌, ℕ, IsSome, List, [], ◌∷◌, ◌++◌, Some, true, length, IsPermutation};
+ghost use Rattle.std.specs.Prelude.{◌≡◌, ◌↔◌, ◌≤◌, ◌<◌, map, ℕ, IsSome, List, [], ◌∷◌, ◌++◌, Some, true, length, IsPermutation};
 ghost use Rattle.load_memory.specs.declared.key.KeyMode.{KeyMode};
 ghost use Rattle.execution.specs.Loads.{Load, Memory, Reader, read, Extends, AnswersMore, IsOneOf};
 ghost use Rattle.execution.specs.Program.{Program, Tree, needs, tree, chain};
 ghost use Rattle.execution.specs.Completion.{IsNullAt, IsCompletion, AnsweredOf};
-ghost use Rattle.execution.specs.Front.{front};
+ghost use Rattle.execution.specs.Front.{front, firsts, wanting, modes_wanted, keys_for};
 ghost use Rattle.load_memory.specs.Replies.{ReplyOf};
-ghost use Rattle.execution.specs.Rounds.{RuleOf, modes_of, any_answer, IsLawful, IsSparing, AreLimited, HasLoaders, key_by_key, direct, RespectsCacheKeys, IsTold, orders_of, AreReplies, after_round};
+ghost use Rattle.execution.specs.Rounds.{RuleOf, modes_of, any_answer, IsLawful, IsSparing, AreLimited, HasLoaders, key_by_key, direct, RespectsCacheKeys, IsTold, orders_of, AreReplies, after_round, stored, all_primed};
 ghost use Rattle.load_memory.specs.Keys.{KeyOf};
 ghost use Rattle.load_memory.specs.Outcomes.{ItemOf};
 ghost use Rattle.execution.specs.Sessions.{Cell, Step, Asked, AreSteps, AreMissing, AreApart, order_cells, IsAskedAgainRightly};
+ghost use Rattle.load_queue.specs.Wanted.{WantedOf, nothing_wanted, keys_wanted};
+ghost use Rattle.load_memory.specs.Pairs.{PairOf, look};
 ghost use Rattle.execution.specs.Residual.{rest, Fits, unanswered};
 ghost use Rattle.execution.specs.Executed.{exec, nulls};
 
@@ -40,12 +42,25 @@ pub fn suspended_programs()
     ensures holds { (p : Program) (R : Reader) → tree (rest p R) unanswered ≡ tree p R }
 {}
 
+/// Wants are the front: to add the loads that are needed and missing, as an evaluation meets them, is to add of equal
+/// cache keys the first, and wants of nothing then hold the front's keys of each loader.
+pub fn wants_are_the_front()
+    ensures first { (wants : List WantedOf) (loads : List Load) → wanting wants (firsts (modes_wanted wants) loads) ≡ wanting wants loads }
+    ensures front { (modes : List KeyMode) (loads : List Load) (loader : ℕ) → loader < length modes
+        → keys_wanted (wanting (map nothing_wanted modes) loads) loader ≡ keys_for loader (firsts modes loads) }
+{}
+
 /// *Reply order is immaterial*: whatever the sources answer, the memory after a round is the same for every order of the
 /// round's replies.
 pub fn reply_order_is_immaterial()
     ensures { (rules : List RuleOf) (p : Program) (M : Memory) (round other : List ReplyOf)
         → AreLimited rules → AreReplies any_answer (orders_of rules (front (modes_of rules) p M)) round → IsPermutation round other
         → (loader : ℕ) (key : KeyOf) → after_round rules M other loader key ≡ after_round rules M round loader key }
+{}
+
+/// To prime pairs one after another, each where its key is absent, is to store them.
+pub fn stored_is_primed()
+    ensures { (pairs more : List PairOf) (loader : ℕ) (key : KeyOf) → look (all_primed pairs more) loader key ≡ stored (look pairs) more loader key }
 {}
 
 /// *Rounds within the chain*: whatever the sources answer, a lawful log has at most as many rounds as the load chain over
