@@ -141,28 +141,31 @@ front-opens modes p M ne = go (is_open (tree p (read modes M))) refl
     go true e = e
     go false e = absurd (ne ((front-open modes p M).1 e))
 
--- each round leaves one load fewer
-filling-left : (modes : List KeyMode) (p : Program) (M : Memory) (Ns : List Memory) (end : Memory) → IsFilling modes p M Ns end
-    → length Ns + left p (read modes end) (read modes end) ≤ left p (read modes M) (read modes end)
-filling-left modes p M [] end log =
-    let e : left p (read modes end) (read modes end) ≡ left p (read modes M) (read modes end) = ap (λ m. left p (read modes m) (read modes end)) log in
+-- each round leaves one load fewer, in the tree over a memory that extends the end
+filling-left : (modes : List KeyMode) (p : Program) (M : Memory) (Ns : List Memory) (end last : Memory) → IsFilling modes p M Ns end → Extends end last
+    → length Ns + left p (read modes end) (read modes last) ≤ left p (read modes M) (read modes last)
+filling-left modes p M [] end last log ext =
+    let e : left p (read modes end) (read modes last) ≡ left p (read modes M) (read modes last) = ap (λ m. left p (read modes m) (read modes last)) log in
     omega arith
-filling-left modes p M (N ∷ Ns) end log =
-    let after : Extends N end = filling-extends modes p N Ns end log.3 in
-    let rest : length Ns + left p (read modes end) (read modes end) ≤ left p (read modes N) (read modes end) = filling-left modes p N Ns end log.3 in
-    let less : left p (read modes N) (read modes end) ≤ left p (read modes M) (read modes end) - 1 = fewer-left p (read modes M) (read modes N) (read modes end) (reads-more modes M N log.1) (reads-more modes N end after) (covered modes p M N log.1 log.2) in
-    let some : 1 ≤ left p (read modes M) (read modes end) = left-some p (read modes M) (read modes end) (front-opens modes p M log.0) in
+filling-left modes p M (N ∷ Ns) end last log ext =
+    let after : Extends N last = extends-trans N end last (filling-extends modes p N Ns end log.3) ext in
+    let rest : length Ns + left p (read modes end) (read modes last) ≤ left p (read modes N) (read modes last) = filling-left modes p N Ns end last log.3 ext in
+    let less : left p (read modes N) (read modes last) ≤ left p (read modes M) (read modes last) - 1 = fewer-left p (read modes M) (read modes N) (read modes last) (reads-more modes M N log.1) (reads-more modes N last after) (covered modes p M N log.1 log.2) in
+    let some : 1 ≤ left p (read modes M) (read modes last) = left-some p (read modes M) (read modes last) (front-opens modes p M log.0) in
     omega arith
 
-pub filling-chain : (modes : List KeyMode) (p : Program) (M : Memory) (Ns : List Memory) (end : Memory) → IsFilling modes p M Ns end → length Ns ≤ chain p (read modes end)
-filling-chain modes p M Ns end log =
-    omega (arith, filling-left modes p M Ns end log, left-le p (read modes M) (read modes end) (reads-more modes M end (filling-extends modes p M Ns end log)))
+pub extends-self : (M : Memory) → Extends M M
+extends-self M = λ loader key o e. e
+
+pub filling-chain : (modes : List KeyMode) (p : Program) (M : Memory) (Ns : List Memory) (end last : Memory) → IsFilling modes p M Ns end → Extends end last → length Ns ≤ chain p (read modes last)
+filling-chain modes p M Ns end last log ext =
+    omega (arith, filling-left modes p M Ns end last log ext, left-le p (read modes M) (read modes last) (reads-more modes M last (extends-trans M end last (filling-extends modes p M Ns end log) ext)))
 
 -- and they are fewer where something is missing still
 pub filling-below : (modes : List KeyMode) (p : Program) (M : Memory) (Ns : List Memory) (end : Memory) → IsFilling modes p M Ns end → front modes p end ≢ [] → length Ns < chain p (read modes end)
 filling-below modes p M Ns end log ne =
     let some : 1 ≤ left p (read modes end) (read modes end) = left-some p (read modes end) (read modes end) (front-opens modes p end ne) in
-    omega (arith, filling-left modes p M Ns end log, left-le p (read modes M) (read modes end) (reads-more modes M end (filling-extends modes p M Ns end log)))
+    omega (arith, filling-left modes p M Ns end end log (extends-self end), left-le p (read modes M) (read modes end) (reads-more modes M end (filling-extends modes p M Ns end log)))
 
 -- what the sparing run has, the lawful one has after one round more
 sparing-step : (modes : List KeyMode) (p : Program) (N N' M M' end : Memory) → Extends N M → Extends M M' → Fills modes p M M' → Extends M' end
@@ -182,10 +185,11 @@ sparing-step modes p N N' M M' end ext step fills after added = λ loader key o 
         got (M' loader key) (end loader key) o (rw at at here) (λ x f. after loader key x f) (sym k.4 ∙ e)
 
 -- no sparing run has fewer steps
-pub filling-sparing : (modes : List KeyMode) (p : Program) (M N end : Memory) (Ms Ns : List Memory) → Extends N M → IsFilling modes p M Ms end → IsSparing modes p end N Ns → length Ms ≤ length Ns
-filling-sparing modes p M N end [] Ns ext log run = omega arith
-filling-sparing modes p M N end (M' ∷ Ms) [] ext log run = absurd (log.0 (front-stays modes p N M ext run))
-filling-sparing modes p M N end (M' ∷ Ms) (N' ∷ Ns) ext log run =
-    let more : Extends N' M' = sparing-step modes p N N' M M' end ext log.1 log.2 (filling-extends modes p M' Ms end log.3) run.0 in
-    let i : length Ms ≤ length Ns = filling-sparing modes p M' N' end Ms Ns more log.3 run.1 in
+pub filling-sparing : (modes : List KeyMode) (p : Program) (M N end last : Memory) (Ms Ns : List Memory) → Extends N M → IsFilling modes p M Ms end → Extends end last → IsSparing modes p last N Ns → length Ms ≤ length Ns
+filling-sparing modes p M N end last [] Ns ext log after run = omega arith
+filling-sparing modes p M N end last (M' ∷ Ms) [] ext log after run = absurd (log.0 (front-stays modes p N M ext run))
+filling-sparing modes p M N end last (M' ∷ Ms) (N' ∷ Ns) ext log after run =
+    let onward : Extends M' last = extends-trans M' end last (filling-extends modes p M' Ms end log.3) after in
+    let more : Extends N' M' = sparing-step modes p N N' M M' last ext log.1 log.2 onward run.0 in
+    let i : length Ms ≤ length Ns = filling-sparing modes p M' N' end last Ms Ns more log.3 after run.1 in
     omega arith

@@ -9,3 +9,4 @@ pub mod Fitting
 pub mod TwiceLaws
 pub mod Wanting
 pub mod StoreLaws
+pub mod SharedLaws

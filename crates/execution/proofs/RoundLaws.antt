@@ -18,7 +18,7 @@ use Rattle.execution.specs.Program.{Program, chain}
 use Rattle.execution.specs.Front.{keys_for, front}
 use Rattle.execution.specs.Rounds.{RuleOf, modes_of, any_answer, orders_from, orders_of, IsReply, AreReplies, reply_pairs, pairs_of, stored, after_round, AreRounds, IsSparing, AreLimited, HasLoaders}
 use Rattle.execution.proofs.Same.{one-either}
-use Rattle.execution.proofs.ChainLaws.{Fills, IsFilling, front-needs, filling-chain, filling-below, filling-sparing}
+use Rattle.execution.proofs.ChainLaws.{extends-self, Fills, IsFilling, front-needs, filling-chain, filling-below, filling-sparing}
 
 -- some order asks this key of this loader
 abbrev pub IsOrdered : ℕ → KeyOf → List OrderOf → Type 0
@@ -162,7 +162,7 @@ module _ (may : ℕ → List KeyOf → AnswerOf → Type 0) where
 
   pub rounds-chain : (rules : List RuleOf) (p : Program) (M : Memory) (rounds : List (List ReplyOf)) (end : Memory) → AreLimited rules → HasLoaders (length rules) p → AreRounds may rules p M rounds end → length rounds ≤ chain p (read (modes_of rules) end)
   rounds-chain rules p M rounds end positive within h =
-      omega (arith, length-memories rules M rounds, filling-chain (modes_of rules) p M (memories rules M rounds) end (rounds-filling rules p M rounds end positive within h))
+      omega (arith, length-memories rules M rounds, filling-chain (modes_of rules) p M (memories rules M rounds) end end (rounds-filling rules p M rounds end positive within h) (extends-self end))
 
   -- there are fewer where something is missing still
   pub rounds-below : (rules : List RuleOf) (p : Program) (M : Memory) (rounds : List (List ReplyOf)) (end : Memory) → AreLimited rules → HasLoaders (length rules) p → AreRounds may rules p M rounds end → front (modes_of rules) p end ≢ [] → length rounds < chain p (read (modes_of rules) end)
@@ -171,7 +171,7 @@ module _ (may : ℕ → List KeyOf → AnswerOf → Type 0) where
 
   pub rounds-sparing : (rules : List RuleOf) (p : Program) (M : Memory) (rounds : List (List ReplyOf)) (end : Memory) (Ns : List Memory) → AreLimited rules → HasLoaders (length rules) p → AreRounds may rules p M rounds end → IsSparing (modes_of rules) p end M Ns → length rounds ≤ length Ns
   rounds-sparing rules p M rounds end Ns positive within h run =
-      let less : length (memories rules M rounds) ≤ length Ns = filling-sparing (modes_of rules) p M M end (memories rules M rounds) Ns (λ loader key o e. e) (rounds-filling rules p M rounds end positive within h) run in
+      let less : length (memories rules M rounds) ≤ length Ns = filling-sparing (modes_of rules) p M M end end (memories rules M rounds) Ns (extends-self M) (rounds-filling rules p M rounds end positive within h) (extends-self end) run in
       omega (arith, length-memories rules M rounds, less)
 
   -- one round more

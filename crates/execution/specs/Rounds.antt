@@ -1,5 +1,5 @@
 -- *Batches*, *Lawful log* and sparing runs: how a memory grows, round by round, until nothing is missing.
-use Rattle.std.specs.Prelude.{◌≡◌, ◌≢◌, ◌==◌, ◌<◌, ◌⊎◌, ℕ, suc, List, [], ◌∷◌, ◌++◌, map, length, Option, Some, None, slice_get, if◌then◌else◌}
+use Rattle.std.specs.Prelude.{◌≡◌, ◌≢◌, ◌==◌, ◌<◌, ◌⊎◌, ℕ, suc, List, [], ◌∷◌, ◌++◌, ◌+◌, map, length, Option, Some, None, slice_get, if◌then◌else◌}
 use Rattle.std.specs.Option.{option_or}
 use Rattle.load_memory.specs.Keys.{KeyOf, folded}
 use Rattle.load_memory.specs.Outcomes.{ItemOf, OutcomeOf, known, batch_fault}
@@ -11,7 +11,7 @@ use Rattle.load_queue.specs.Batches.{batches}
 use Rattle.load_queue.specs.Loaders.{LoaderOf}
 use Rattle.load_queue.specs.Orders.{OrderOf, order_of}
 use Rattle.execution.specs.Loads.{Load, Reader, Memory, mode_at, cache_key, IsOneOf}
-use Rattle.execution.specs.Program.{Program, needs}
+use Rattle.execution.specs.Program.{Program, Programs, End, With, needs}
 use Rattle.execution.specs.Front.{front, keys_for}
 
 -- how a loader compares its keys, and how many of them it asks at most at once
@@ -140,3 +140,17 @@ IsTold modes item M = (loader : ℕ) (key : KeyOf) (outcome : OutcomeOf) → M l
 abbrev pub all_primed : List PairOf → List PairOf → List PairOf
 all_primed pairs [] = pairs
 all_primed pairs (p ∷ ps) = all_primed (primed pairs p) ps
+
+-- *Shared rounds*: the program is one of those below a position
+abbrev pub IsBelow : Program → Programs → Type 0
+IsBelow p End = ⊥
+IsBelow p (With spot q rest) = (p ≡ q) ⊎ IsBelow p rest
+
+abbrev pub one_unless_empty : List Load → ℕ
+one_unless_empty [] = 0
+one_unless_empty (l ∷ ls) = 1
+
+-- among the rounds from a memory, those in which the program's own front isn't empty
+abbrev pub own_rounds : List RuleOf → Program → Memory → List (List ReplyOf) → ℕ
+own_rounds rules p M [] = 0
+own_rounds rules p M (round ∷ rounds) = one_unless_empty (front (modes_of rules) p M) + own_rounds rules p (after_round rules M round) rounds

@@ -2,11 +2,11 @@
 ghost use Rattle.std.specs.Prelude.{◌≡◌, ◌↔◌, ◌≤◌, ◌<◌, map, ℕ, IsSome, List, [], ◌∷◌, ◌++◌, Some, true, length, IsPermutation};
 ghost use Rattle.load_memory.specs.declared.key.KeyMode.{KeyMode};
 ghost use Rattle.execution.specs.Loads.{Load, Memory, Reader, read, Extends, AnswersMore, IsOneOf};
-ghost use Rattle.execution.specs.Program.{Program, Tree, needs, tree, chain};
+ghost use Rattle.execution.specs.Program.{Program, Programs, Under, Kind, Tree, needs, tree, chain};
 ghost use Rattle.execution.specs.Completion.{IsNullAt, IsCompletion, AnsweredOf};
 ghost use Rattle.execution.specs.Front.{front, firsts, wanting, modes_wanted, keys_for};
 ghost use Rattle.load_memory.specs.Replies.{ReplyOf};
-ghost use Rattle.execution.specs.Rounds.{RuleOf, modes_of, any_answer, IsLawful, IsSparing, AreLimited, HasLoaders, key_by_key, direct, RespectsCacheKeys, IsTold, orders_of, AreReplies, after_round, stored, all_primed};
+ghost use Rattle.execution.specs.Rounds.{RuleOf, modes_of, any_answer, IsLawful, IsSparing, AreLimited, HasLoaders, key_by_key, direct, RespectsCacheKeys, IsTold, orders_of, AreReplies, after_round, stored, all_primed, IsBelow, own_rounds};
 ghost use Rattle.load_memory.specs.Keys.{KeyOf};
 ghost use Rattle.load_memory.specs.Outcomes.{ItemOf};
 ghost use Rattle.execution.specs.Sessions.{Cell, Step, Asked, AreSteps, AreMissing, AreApart, order_cells, IsAskedAgainRightly};
@@ -77,6 +77,20 @@ pub fn no_sparing_run_is_shorter()
     ensures { (rules : List RuleOf) (p : Program) (M : Memory) (rounds : List (List ReplyOf)) (end : Memory) (steps : List Memory)
         → AreLimited rules → HasLoaders (length rules) p → IsLawful any_answer rules p M rounds end
         → IsSparing (modes_of rules) p end M steps → length rounds ≤ length steps }
+{}
+
+/// *Shared rounds are few*: of several programs that share rounds, as the parts of one program, each is executed over the
+/// last memory, and its own rounds are those in which something that it needs was missing: at most its own load chain, and
+/// no more than any sparing run of it alone has steps.
+pub fn shared_rounds_are_few()
+    ensures executed { (rules : List RuleOf) (kind : Kind) (programs : Programs) (p : Program) (end : Memory)
+        → IsBelow p programs → front (modes_of rules) (Under kind programs) end ≡ [] → front (modes_of rules) p end ≡ [] }
+    ensures chain { (rules : List RuleOf) (kind : Kind) (programs : Programs) (p : Program) (M : Memory) (rounds : List (List ReplyOf)) (end : Memory)
+        → AreLimited rules → HasLoaders (length rules) (Under kind programs) → IsBelow p programs → IsLawful any_answer rules (Under kind programs) M rounds end
+        → own_rounds rules p M rounds ≤ chain p (read (modes_of rules) end) }
+    ensures sparing { (rules : List RuleOf) (kind : Kind) (programs : Programs) (p : Program) (M : Memory) (rounds : List (List ReplyOf)) (end : Memory) (steps : List Memory)
+        → AreLimited rules → HasLoaders (length rules) (Under kind programs) → IsBelow p programs → IsLawful any_answer rules (Under kind programs) M rounds end
+        → IsSparing (modes_of rules) p end M steps → own_rounds rules p M rounds ≤ length steps }
 {}
 
 /// *One lawful log*: over sources that answer key by key there is at most one lawful log from a memory, and one memory at
