@@ -10,3 +10,4 @@ pub mod TwiceLaws
 pub mod Wanting
 pub mod StoreLaws
 pub mod SharedLaws
+pub mod OnceLaws

@@ -96,7 +96,7 @@ batches-cells modes n rule rules ls positive =
     pieces-cells modes n (batches rule.limit (keys_for n ls)) (orders_from (suc n) rules ls)
     ∙ ap (λ keys. map (key_cell modes n) keys ++ order_cells modes (orders_from (suc n) rules ls)) (are-batches rule.limit (keys_for n ls) positive.0).in_order
 
-append-apart : (xs ys : List Cell) → AreApart xs → AreApart ys → ((c : Cell) → IsOneOf c xs → IsOneOf c ys → ⊥) → AreApart (xs ++ ys)
+pub append-apart : (xs ys : List Cell) → AreApart xs → AreApart ys → ((c : Cell) → IsOneOf c xs → IsOneOf c ys → ⊥) → AreApart (xs ++ ys)
 append-apart [] ys h k d = k
 append-apart (x ∷ xs) ys h k d = ((λ i. elim (one-either x xs ys i) [ inl a ↦ h.0 a | inr b ↦ d x (inl refl) b ]), append-apart xs ys h.1 k (λ c i j. d c (inr i) j))
 

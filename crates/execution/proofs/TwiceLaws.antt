@@ -27,7 +27,7 @@ missing-none rules M loads needed l e h =
     none-is (read modes M l) (filter-one (λ m. is_none (read modes M m)) l needed among).1
 
 -- what is asked is absent
-absent : (rules : List RuleOf) (M : Memory) (loads : List Load) (c : Cell) → AreLimited rules → AreMissing (modes_of rules) M loads → IsOneOf c (order_cells (modes_of rules) (orders_of rules loads)) → M c.0 c.1 ≡ None
+pub absent : (rules : List RuleOf) (M : Memory) (loads : List Load) (c : Cell) → AreLimited rules → AreMissing (modes_of rules) M loads → IsOneOf c (order_cells (modes_of rules) (orders_of rules loads)) → M c.0 c.1 ≡ None
 absent rules M loads c positive h one =
     let modes : List KeyMode = modes_of rules in
     let r = one-map (cell_of modes) c loads (orders-loads modes 0 rules loads c positive one) in
@@ -105,7 +105,7 @@ module _ (may : ℕ → List KeyOf → AnswerOf → Type 0) where
   some-value (Some o) h = (o, refl)
 
   -- what a round asked has its outcome afterwards
-  asked-outcome : (rules : List RuleOf) (M : Memory) (loads : List Load) (replies : List ReplyOf) (c : Cell) → AreLimited rules → IsStep may rules M (Asked loads replies) → IsOneOf c (order_cells (modes_of rules) (orders_of rules loads))
+  pub asked-outcome : (rules : List RuleOf) (M : Memory) (loads : List Load) (replies : List ReplyOf) (c : Cell) → AreLimited rules → IsStep may rules M (Asked loads replies) → IsOneOf c (order_cells (modes_of rules) (orders_of rules loads))
       → (o : OutcomeOf) × (look (pairs_of (modes_of rules) replies) c.0 c.1 ≡ Some o) × (after rules M (Asked loads replies) c.0 c.1 ≡ Some o)
   asked-outcome rules M loads replies c positive h one =
       let modes : List KeyMode = modes_of rules in

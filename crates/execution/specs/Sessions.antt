@@ -9,8 +9,9 @@ use Rattle.load_memory.specs.declared.key.KeyMode.{KeyMode}
 use Rattle.load_queue.specs.Answers.{AnswerOf}
 use Rattle.load_queue.specs.Orders.{OrderOf}
 use Rattle.execution.specs.Loads.{Load, Memory, mode_at, read, IsOneOf}
-use Rattle.execution.specs.Front.{missing, firsts}
-use Rattle.execution.specs.Rounds.{RuleOf, modes_of, orders_of, AreReplies, stored, after_round, without_failed}
+use Rattle.execution.specs.Program.{Program}
+use Rattle.execution.specs.Front.{missing, firsts, front}
+use Rattle.execution.specs.Rounds.{RuleOf, modes_of, orders_of, AreReplies, reply_pairs, stored, after_round, without_failed}
 
 -- a loader's number and a cache key
 abbrev pub Cell : Type 0
@@ -92,3 +93,14 @@ FailedAt modes cell replies = (reply : ReplyOf) × IsOneOf reply replies × IsOn
 -- between two rounds that ask one cell it was cleared, or the earlier batch failed as a whole
 abbrev pub IsAskedAgainRightly : List KeyMode → Cell → List ReplyOf → List Step → Type 0
 IsAskedAgainRightly modes cell replies between = (list_any (clears cell) between ≡ true) ⊎ FailedAt modes cell replies
+
+-- what the rounds from a memory ask, one after another
+abbrev pub asked_cells : List RuleOf → Program → Memory → List (List ReplyOf) → List Cell
+asked_cells rules p M [] = []
+asked_cells rules p M (round ∷ rounds) =
+    order_cells (modes_of rules) (orders_of rules (front (modes_of rules) p M)) ++ asked_cells rules p (after_round rules M round) rounds
+
+-- the pair is in a reply of one of the rounds
+abbrev pub IsAnsweredIn : List KeyMode → PairOf → List (List ReplyOf) → Type 0
+IsAnsweredIn modes pair rounds =
+    (round : List ReplyOf) × IsOneOf round rounds × (reply : ReplyOf) × IsOneOf reply round × IsOneOf pair (reply_pairs (mode_at modes reply.loader) reply.loader reply.keys reply.outcomes)

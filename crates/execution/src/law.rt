@@ -1,15 +1,15 @@
 //! What holds of the definitions. Each function does nothing: its contract is the law.
-ghost use Rattle.std.specs.Prelude.{◌≡◌, ◌↔◌, ◌≤◌, ◌<◌, map, ℕ, IsSome, List, [], ◌∷◌, ◌++◌, Some, true, length, IsPermutation};
+ghost use Rattle.std.specs.Prelude.{◌≡◌, ◌↔◌, ◌≤◌, ◌<◌, ◌⊎◌, map, ℕ, IsSome, List, [], ◌∷◌, ◌++◌, Some, true, length, IsPermutation};
 ghost use Rattle.load_memory.specs.declared.key.KeyMode.{KeyMode};
 ghost use Rattle.execution.specs.Loads.{Load, Memory, Reader, read, Extends, AnswersMore, IsOneOf};
 ghost use Rattle.execution.specs.Program.{Program, Programs, Under, Kind, Tree, needs, tree, chain};
 ghost use Rattle.execution.specs.Completion.{IsNullAt, IsCompletion, AnsweredOf};
-ghost use Rattle.execution.specs.Front.{front, firsts, wanting, modes_wanted, keys_for};
+ghost use Rattle.execution.specs.Front.{front, front_of_keys, firsts, wanting, modes_wanted, keys_for};
 ghost use Rattle.load_memory.specs.Replies.{ReplyOf};
-ghost use Rattle.execution.specs.Rounds.{RuleOf, modes_of, any_answer, IsLawful, IsSparing, AreLimited, HasLoaders, key_by_key, direct, RespectsCacheKeys, IsTold, orders_of, AreReplies, after_round, stored, all_primed, IsBelow, own_rounds};
+ghost use Rattle.execution.specs.Rounds.{RuleOf, modes_of, any_answer, IsLawful, IsSparing, AreLimited, HasLoaders, key_by_key, direct, RespectsCacheKeys, IsTold, orders_of, AreReplies, AreRounds, after_round, stored, all_primed, IsBelow, own_rounds};
 ghost use Rattle.load_memory.specs.Keys.{KeyOf};
 ghost use Rattle.load_memory.specs.Outcomes.{ItemOf};
-ghost use Rattle.execution.specs.Sessions.{Cell, Step, Asked, AreSteps, AreMissing, AreApart, order_cells, IsAskedAgainRightly};
+ghost use Rattle.execution.specs.Sessions.{Cell, Step, Asked, AreSteps, AreMissing, AreApart, order_cells, asked_cells, IsAskedAgainRightly, IsAnsweredIn};
 ghost use Rattle.load_queue.specs.Wanted.{WantedOf, nothing_wanted, keys_wanted};
 ghost use Rattle.load_memory.specs.Pairs.{PairOf, look};
 ghost use Rattle.execution.specs.Residual.{rest, Fits, unanswered};
@@ -107,10 +107,25 @@ pub fn one_lawful_log()
         → exec p (read (modes_of rules) end) ≡ exec p (direct item) }
 {}
 
-/// *No key twice*, over whatever steps of a session. No round asks two equal cache keys of one loader. Between two rounds
+/// Within one log no cache key is asked twice of one loader, whatever the sources answer, and each pair of the last memory
+/// was there at first or is in a reply of the log.
+pub fn asked_once_and_answered()
+    ensures once { (rules : List RuleOf) (p : Program) (M : Memory) (rounds : List (List ReplyOf)) (end : Memory)
+        → AreLimited rules → AreRounds any_answer rules p M rounds end → AreApart (asked_cells rules p M rounds) }
+    ensures answered { (rules : List RuleOf) (p : Program) (M : Memory) (rounds : List (List ReplyOf)) (end : Memory) (pair : PairOf)
+        → AreRounds any_answer rules p M rounds end → end pair.loader pair.key ≡ Some pair.outcome
+        → (M pair.loader pair.key ≡ Some pair.outcome) ⊎ IsAnsweredIn (modes_of rules) pair rounds }
+    ensures kept { (rules : List RuleOf) (p : Program) (M : Memory) (rounds : List (List ReplyOf)) (end : Memory)
+        → AreRounds any_answer rules p M rounds end → Extends M end }
+{}
+
+/// *No key twice*, over whatever steps of a session. The rounds of an answer, and that of a list of keys, ask some loads
+/// that the memory lacks, of equal cache keys the first. No round asks two equal cache keys of one loader. Between two rounds
 /// that ask one, it was cleared, or the earlier batch that asked it failed as a whole. What was primed, lost or answered in
 /// between makes no difference.
 pub fn no_key_twice()
+    ensures front { (modes : List KeyMode) (p : Program) (M : Memory) → AreMissing modes M (front modes p M) }
+    ensures keys { (modes : List KeyMode) (loader : ℕ) (keys : List KeyOf) (M : Memory) → AreMissing modes M (front_of_keys modes loader keys M) }
     ensures together { (rules : List RuleOf) (M : Memory) (loads : List Load)
         → AreLimited rules → AreMissing (modes_of rules) M loads → AreApart (order_cells (modes_of rules) (orders_of rules loads)) }
     ensures again { (rules : List RuleOf) (M : Memory) (first later : List Load) (replies others : List ReplyOf) (between : List Step) (cell : Cell)
