@@ -1,12 +1,12 @@
 -- Within one log each key is asked once, and each pair was there or is answered.
-use Rattle.std.proofs.Common.{◌≡◌, ℕ, ◌⊎◌, List, [], ◌∷◌, ◌++◌, inl, inr, sym, ◌∙◌, ap, refl, Option, Some, None}
+use Rattle.std.proofs.Common.{◌≡◌, ℕ, ◌⊎◌, List, [], ◌∷◌, inl, inr, sym, ◌∙◌, refl, Option, Some, None}
 use Rattle.std.specs.Option.{option_or}
 use Rattle.load_memory.specs.Keys.{KeyOf}
 use Rattle.load_memory.specs.Outcomes.{OutcomeOf}
-use Rattle.load_memory.specs.Pairs.{PairOf, look}
+use Rattle.load_memory.specs.Pairs.{look}
 use Rattle.load_memory.specs.Replies.{ReplyOf}
 use Rattle.load_queue.specs.Answers.{AnswerOf}
-use Rattle.execution.specs.Loads.{Load, Memory, read, IsOneOf, Extends}
+use Rattle.execution.specs.Loads.{Memory, read, IsOneOf, Extends}
 use Rattle.execution.specs.Program.{Program, needs}
 use Rattle.execution.specs.Front.{front}
 use Rattle.execution.specs.Rounds.{RuleOf, modes_of, orders_of, pairs_of, after_round, AreRounds, AreLimited}

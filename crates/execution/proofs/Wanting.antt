@@ -1,5 +1,5 @@
 -- Wants to which loads are added hold of equal cache keys the first, so to none the front is added as it is.
-use Rattle.std.proofs.Common.{◌≡◌, ◌≢◌, ◌==◌, ◌||◌, ℕ, zero, suc, ◌<◌, Bool, true, false, not, ◌⊎◌, List, [], ◌∷◌, ◌++◌, map, length, filter, inl, inr, sym, ◌∙◌, ap, refl, subst, arith, if◌then◌else◌, eqb-true, eq-eqb}
+use Rattle.std.proofs.Common.{◌≡◌, ◌≢◌, ◌==◌, ◌||◌, ℕ, zero, suc, ◌<◌, Bool, true, false, not, List, [], ◌∷◌, ◌++◌, map, length, filter, inl, inr, sym, ◌∙◌, ap, refl, subst, arith, if◌then◌else◌, eqb-true, eq-eqb}
 use Rattle.std.specs.List.{list_any}
 use Rattle.load_memory.specs.Keys.{KeyOf, folded, same_key}
 use Rattle.load_memory.specs.declared.key.KeyMode.{KeyMode}

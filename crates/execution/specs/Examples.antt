@@ -1,9 +1,14 @@
 -- Small programs with their answers, worked by hand from the rules of the GraphQL specification.
 use Rattle.std.specs.Prelude.{ℕ, true, false, List, [], ◌∷◌, Some, None, codes, if◌then◌else◌, ◌==◌}
-use Rattle.load_memory.specs.Keys.{text}
+use Rattle.load_memory.specs.Keys.{KeyOf, all, text}
 use Rattle.load_memory.specs.Outcomes.{OutcomeOf, known, batch_fault, rows, key_fault}
 use Rattle.gq_lexer.specs.declared.place.Place.{Place}
-use Rattle.execution.specs.Loads.{Load, Reader}
+use Rattle.load_memory.specs.Replies.{ReplyOf}
+use Rattle.load_memory.specs.declared.key.KeyMode.TheVariants.{Exact, FoldAscii}
+use Rattle.load_queue.specs.Answers.{given, outcomes_of}
+use Rattle.load_queue.specs.Orders.{OrderOf}
+use Rattle.execution.specs.Loads.{Load, Reader, Memory}
+use Rattle.execution.specs.Rounds.{RuleOf}
 use Rattle.execution.specs.Program.{Text, Own, Value, Null, Fault, ListOf, ObjectOf, Part, Key, Item, Spot, Program, Is, Read, Under, Programs, End, With}
 use Rattle.execution.specs.Completion.{ResponseOf, NullResponse, LeafResponse, Holding, NoResponses, Responding, ErrorOf, AnsweredOf, null_message}
 
@@ -98,3 +103,20 @@ first_answered load = if load.loader == 0 then Some (known (rows [])) else None
 
 abbrev pub fault_answered : Reader
 fault_answered load = Some (batch_fault (codes "down"))
+
+-- loader 0 folds its keys and is asked two at once; loader 1 has no limit
+abbrev pub two_loaders : List RuleOf
+two_loaders = record { mode = FoldAscii; limit = Some 2 } ∷ record { mode = Exact; limit = None } ∷ []
+
+abbrev pub five_loads : List Load
+five_loads = load_of 0 (codes "ABC") ∷ record { loader = 1; key = all } ∷ load_of 0 (codes "abc") ∷ load_of 0 (codes "b") ∷ load_of 0 (codes "c") ∷ []
+
+abbrev pub order : ℕ → List KeyOf → OrderOf
+order loader keys = record { loader = loader; keys = keys }
+
+-- two keys of loader 0, answered by one item
+abbrev pub one_item_too_few : ReplyOf
+one_item_too_few = record { loader = 0; keys = text (codes "ABC") ∷ text (codes "b") ∷ []; outcomes = outcomes_of 2 (given (rows [] ∷ [])) }
+
+abbrev pub nothing_known : Memory
+nothing_known loader key = None
