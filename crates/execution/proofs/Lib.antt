@@ -1,0 +1,13 @@
+pub mod Same
+pub mod Monotone
+pub mod NullLaws
+pub mod ChainLaws
+pub mod RoundLaws
+pub mod OneLog
+pub mod ReplyLaws
+pub mod Fitting
+pub mod TwiceLaws
+pub mod Wanting
+pub mod StoreLaws
+pub mod SharedLaws
+pub mod OnceLaws

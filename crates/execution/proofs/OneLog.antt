@@ -1,0 +1,128 @@
+-- Sources that answer key by key leave no choice.
+use Rattle.std.proofs.Common.{◌≡◌, ◌==◌, ◌&&◌, ℕ, Bool, true, false, ◌⊎◌, List, [], ◌∷◌, ◌++◌, map, length, inl, inr, sym, ◌∙◌, ap, refl, Option, Some, None, if◌then◌else◌, eqb-true, eq-eqb}
+use Rattle.std.proofs.Math.Path.{fun_ext}
+use Rattle.std.proofs.lemmas.List.{length-map}
+use Rattle.std.specs.Option.{option_or}
+use Rattle.load_memory.specs.Keys.{KeyOf, folded, same_key}
+use Rattle.load_memory.specs.Outcomes.{ItemOf, OutcomeOf, known}
+use Rattle.load_memory.specs.Pairs.{PairOf, is_at, look}
+use Rattle.load_memory.specs.Replies.{ReplyOf}
+use Rattle.load_memory.specs.declared.key.KeyMode.{KeyMode}
+use Rattle.load_memory.proofs.Looks.{same_key-is}
+use Rattle.load_queue.specs.Answers.{AnswerOf, given, outcomes_of}
+use Rattle.load_queue.specs.Orders.{OrderOf}
+use Rattle.execution.specs.Loads.{Memory, mode_at, read, AnswersMore}
+use Rattle.execution.specs.Program.{Program}
+use Rattle.execution.specs.Front.{front}
+use Rattle.execution.specs.Executed.{exec}
+use Rattle.execution.specs.Rounds.{RuleOf, modes_of, key_by_key, orders_of, IsReply, AreReplies, reply_pairs, pairs_of, after_round, AreRounds, IsLawful, direct, RespectsCacheKeys, IsTold}
+use Rattle.execution.proofs.Monotone.{front-open, exec-stays}
+
+both : (a b : Bool) → (a && b) ≡ true → (a ≡ true) × (b ≡ true)
+both true b h = (refl, h)
+both false b h = absurd (cc h)
+
+pub at-pair : (loader : ℕ) (key : KeyOf) (p : PairOf) → is_at loader key p ≡ true → (loader ≡ p.loader) × (key ≡ p.key)
+at-pair loader key p e =
+    let b = both (loader == p.loader) (same_key key p.key) e in
+    (eqb-true loader p.loader b.0, same_key-is key p.key b.1)
+
+module _ (item : ℕ → KeyOf → ItemOf) where
+  -- the outcomes of keys
+  abbrev told : ℕ → List KeyOf → List OutcomeOf
+  told loader keys = map known (map (item loader) keys)
+
+  outcomes-told : (loader : ℕ) (keys : List KeyOf) (a : AnswerOf) → a ≡ given (map (item loader) keys) → outcomes_of (length keys) a ≡ told loader keys
+  outcomes-told loader keys a e =
+      ap (outcomes_of (length keys)) e ∙ (rw (eq-eqb (length (map (item loader) keys)) (length keys) (length-map keys (item loader))) refl)
+
+  reply-told : (o : OrderOf) (r : ReplyOf) → IsReply (key_by_key item) o r → r.outcomes ≡ told o.loader o.keys
+  reply-told o r h = h.outcomes ∙ outcomes-told o.loader o.keys h.answer h.may_be
+
+  reply-is : (o : OrderOf) (r : ReplyOf) → IsReply (key_by_key item) o r → r ≡ record { loader = o.loader; keys = o.keys; outcomes = told o.loader o.keys }
+  reply-is o r h =
+      let make : ℕ → List KeyOf → List OutcomeOf → ReplyOf = λ n ks os. record { loader = n; keys = ks; outcomes = os } in
+      ap (λ n. make n r.keys r.outcomes) h.loader ∙ ap (λ ks. make o.loader ks r.outcomes) h.keys ∙ ap (λ os. make o.loader o.keys os) (reply-told o r h)
+
+  replies-one : (os : List OrderOf) (rs ss : List ReplyOf) → AreReplies (key_by_key item) os rs → AreReplies (key_by_key item) os ss → rs ≡ ss
+  replies-one [] [] [] h k = refl
+  replies-one [] [] (s ∷ ss) h k = absurd k
+  replies-one [] (r ∷ rs) ss h k = absurd h
+  replies-one (o ∷ os) [] ss h k = absurd h
+  replies-one (o ∷ os) (r ∷ rs) [] h k = absurd k
+  replies-one (o ∷ os) (r ∷ rs) (s ∷ ss) h k = rw (reply-is o r h.0, reply-is o s k.0, replies-one os rs ss h.1 k.1) refl
+
+  module _ (rules : List RuleOf) (p : Program) where
+    same-memory : (M end : Memory) → ((loader : ℕ) (key : KeyOf) → end loader key ≡ M loader key) → end ≡ M
+    same-memory M end h = fun_ext (λ loader. fun_ext (λ key. h loader key))
+
+    no-more : (M end : Memory) → ((loader : ℕ) (key : KeyOf) → end loader key ≡ M loader key) → front (modes_of rules) p end ≡ [] → front (modes_of rules) p M ≡ []
+    no-more M end h e = ap (front (modes_of rules) p) (sym (same-memory M end h)) ∙ e
+
+    pub one-log : (M : Memory) (rs ss : List (List ReplyOf)) (end last : Memory) → IsLawful (key_by_key item) rules p M rs end → IsLawful (key_by_key item) rules p M ss last → (rs ≡ ss) × (end ≡ last)
+    one-log M [] [] end last h k = (refl, same-memory M end h.0 ∙ sym (same-memory M last k.0))
+    one-log M [] (s ∷ ss) end last h k = absurd (k.0.0 (no-more M end h.0 h.1))
+    one-log M (r ∷ rs) [] end last h k = absurd (h.0.0 (no-more M last k.0 k.1))
+    one-log M (r ∷ rs) (s ∷ ss) end last h k =
+        let same : s ≡ r = replies-one (orders_of rules (front (modes_of rules) p M)) s r k.0.1 h.0.1 in
+        let after : IsLawful (key_by_key item) rules p (after_round rules M r) ss last = rw (← same) (k.0.2, k.1) in
+        let more : (rs ≡ ss) × (end ≡ last) = one-log (after_round rules M r) rs ss end last (h.0.2, h.1) after in
+        (rw (same, more.0) refl, more.1)
+
+  -- a reply's pairs say what asking key by key gives
+  pairs-told : (mode : KeyMode) (n : ℕ) (keys : List KeyOf) (loader : ℕ) (key : KeyOf) (o : OutcomeOf) → look (reply_pairs mode n keys (told n keys)) loader key ≡ Some o
+      → (n ≡ loader) × (k : KeyOf) × (folded mode k ≡ key) × (o ≡ known (item n k))
+  pairs-told mode n [] loader key o h = absurd (cc h)
+  pairs-told mode n (k ∷ ks) loader key o h = go (is_at loader key (record { loader = n; key = folded mode k; outcome = known (item n k) })) refl h (pairs-told mode n ks loader key o)
+    where
+      go : (b : Bool) → is_at loader key (record { loader = n; key = folded mode k; outcome = known (item n k) }) ≡ b → (if b then Some (known (item n k)) else look (reply_pairs mode n ks (told n ks)) loader key) ≡ Some o
+          → (look (reply_pairs mode n ks (told n ks)) loader key ≡ Some o → (n ≡ loader) × (k : KeyOf) × (folded mode k ≡ key) × (o ≡ known (item n k)))
+          → (n ≡ loader) × (k : KeyOf) × (folded mode k ≡ key) × (o ≡ known (item n k))
+      go true e h ih =
+          let at = at-pair loader key (record { loader = n; key = folded mode k; outcome = known (item n k) }) e in
+          (sym at.0, k, sym at.1, cc h)
+      go false e h ih = ih h
+
+  either-look : (loader : ℕ) (key : KeyOf) (o : OutcomeOf) (ps qs : List PairOf) → look (ps ++ qs) loader key ≡ Some o → (look ps loader key ≡ Some o) ⊎ (look qs loader key ≡ Some o)
+  either-look loader key o [] qs h = inr h
+  either-look loader key o (p ∷ ps) qs h = go (is_at loader key p) h (either-look loader key o ps qs)
+    where
+      go : (b : Bool) → (if b then Some p.outcome else look (ps ++ qs) loader key) ≡ Some o → (look (ps ++ qs) loader key ≡ Some o → (look ps loader key ≡ Some o) ⊎ (look qs loader key ≡ Some o))
+          → ((if b then Some p.outcome else look ps loader key) ≡ Some o) ⊎ (look qs loader key ≡ Some o)
+      go true h ih = inl h
+      go false h ih = ih h
+
+  replies-told : (modes : List KeyMode) (os : List OrderOf) (rs : List ReplyOf) (loader : ℕ) (key : KeyOf) (o : OutcomeOf) → AreReplies (key_by_key item) os rs → look (pairs_of modes rs) loader key ≡ Some o
+      → (k : KeyOf) × (folded (mode_at modes loader) k ≡ key) × (o ≡ known (item loader k))
+  replies-told modes [] [] loader key o h e = absurd (cc e)
+  replies-told modes [] (r ∷ rs) loader key o h e = absurd h
+  replies-told modes (w ∷ ws) [] loader key o h e = absurd h
+  replies-told modes (w ∷ ws) (r ∷ rs) loader key o h e = elim (either-look loader key o (reply_pairs (mode_at modes r.loader) r.loader r.keys r.outcomes) (pairs_of modes rs) e) [
+    | inl a ↦
+        let is : r.outcomes ≡ told r.loader r.keys = rw (h.0.loader, h.0.keys) (reply-told w r h.0) in
+        let f : look (reply_pairs (mode_at modes r.loader) r.loader r.keys (told r.loader r.keys)) loader key ≡ Some o = ap (λ os. look (reply_pairs (mode_at modes r.loader) r.loader r.keys os) loader key) (sym is) ∙ a in
+        let t = pairs-told (mode_at modes r.loader) r.loader r.keys loader key o f in
+        (t.1, ap (λ n. folded (mode_at modes n) t.1) (sym t.0) ∙ t.2, t.3 ∙ ap (λ n. known (item n t.1)) t.0)
+    | inr b ↦ replies-told modes ws rs loader key o h.1 b
+  ]
+
+  module _ (rules : List RuleOf) (p : Program) (alike : RespectsCacheKeys (modes_of rules) item) where
+    round-told : (M : Memory) (os : List OrderOf) (round : List ReplyOf) → IsTold (modes_of rules) item M → AreReplies (key_by_key item) os round → IsTold (modes_of rules) item (after_round rules M round)
+    round-told M os round told h = λ loader key o e. go loader key o (M loader (folded (mode_at (modes_of rules) loader) key)) refl e
+      where
+        go : (loader : ℕ) (key : KeyOf) (o : OutcomeOf) (r : Option OutcomeOf) → M loader (folded (mode_at (modes_of rules) loader) key) ≡ r
+            → option_or r (look (pairs_of (modes_of rules) round) loader (folded (mode_at (modes_of rules) loader) key)) ≡ Some o → o ≡ known (item loader key)
+        go loader key o None f e =
+            let t = replies-told (modes_of rules) os round loader (folded (mode_at (modes_of rules) loader) key) o h e in
+            t.2 ∙ ap known (alike loader t.0 key t.1)
+        go loader key o (Some x) f e = told loader key o (f ∙ e)
+
+    rounds-told : (M : Memory) (rs : List (List ReplyOf)) (end : Memory) → IsTold (modes_of rules) item M → AreRounds (key_by_key item) rules p M rs end → IsTold (modes_of rules) item end
+    rounds-told M [] end told h = λ loader key o e. told loader key o (sym (h loader (folded (mode_at (modes_of rules) loader) key)) ∙ e)
+    rounds-told M (r ∷ rs) end told h = rounds-told (after_round rules M r) rs end (round-told M (orders_of rules (front (modes_of rules) p M)) r told h.1) h.2
+
+    pub log-direct : (M : Memory) (rs : List (List ReplyOf)) (end : Memory) → IsTold (modes_of rules) item M → IsLawful (key_by_key item) rules p M rs end → exec p (read (modes_of rules) end) ≡ exec p (direct item)
+    log-direct M rs end told h =
+        let at : IsTold (modes_of rules) item end = rounds-told M rs end told h.0 in
+        let more : AnswersMore (read (modes_of rules) end) (direct item) = λ load o e. ap (λ x. Some x) (sym (at load.loader load.key o e)) in
+        sym (exec-stays p (read (modes_of rules) end) (direct item) more ((front-open (modes_of rules) p end).0 h.1))
