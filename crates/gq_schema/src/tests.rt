@@ -36,7 +36,12 @@ fn expect<R: AllocGlobal + std::process::Abort>(
 
 #[test]
 fn syntax(rt: HostRuntime) -> Result<(), Fail> {
-    expect(&rt, "type Query{a:Float}", "NotServed 1:14")
+    expect(&rt, "type Query{", "Syntax 1:12")?;
+    expect(&rt, "type Query{a:Int}\n\"x\"", "Syntax 2:4")?;
+    expect(&rt, "type Query{a:Int}?type Query{a:Int}", "Syntax 1:18")?;
+    expect(&rt, "type Query{a:Float}", "NotServed 1:14")?;
+    expect(&rt, "type Query{a:[[Int]]}", "NotServed 1:15")?;
+    expect(&rt, "type Query{a:Int a:Int} scalar X", "NotServed 1:25")
 }
 
 #[test]
