@@ -15,9 +15,12 @@ mod input;
 mod kind;
 mod names;
 mod possible;
+mod reading;
 mod references;
 mod rules;
 mod schema;
+#[cfg(test)]
+mod tests;
 mod type_names;
 mod types;
 
