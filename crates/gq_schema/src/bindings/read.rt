@@ -88,12 +88,20 @@ impl Bindings {
 
     /// What a bindings text says over a schema.
     ///
+    /// Loaders are defined before they are used. A field has at most one line, and its type is an
+    /// object type. `column` is for a leaf, `one` for a composite, and `many`, `each` and `via` are for a
+    /// list of composites. A key `arg NAME` names an argument that is an `Int`, an `ID` or a `String`; the
+    /// argument of `each` is a list of one of these. The fields of the root have no row, so they take
+    /// neither a column nor a key from one. `all` stands exactly with a loader without `by`; the loader of
+    /// `each` and the second one of `via` have a `by`. A field of leaf type without a line is bound to the
+    /// column of its own name.
+    ///
     /// # Errors
     ///
-    /// `BadBinding` with the number of the first line that has no form, defines a loader's name or
-    /// binds a field a second time, or whose binding does not fit; and then with 0 where the text has
-    /// no line `bindings 1`, or a field of an object type needs a line and has none: a field of the
-    /// root, or one whose type is composite or a list. `NoMemory` for want of memory.
+    /// `BadBinding` with the number of the first line that has no form or breaks one of these rules; and
+    /// then with 0 where the text has no line `bindings 1`, or a field of an object type needs a line and
+    /// has none: a field of the root, or one whose type is composite or a list. `NoMemory` for want of
+    /// memory.
     pub fn read(alloc: Global, schema: &Schema, text: &str) -> Result<Bindings, SchemaFault>
         ensures ok { IfOk result (λ bindings. bindings_of (tree_of schema.now) text.now ≡ accepted bindings) }
         ensures fault { IfErr result (λ fault. Refuses fault (bindings_of (tree_of schema.now) text.now)) }
