@@ -11,3 +11,4 @@ pub mod Wanting
 pub mod StoreLaws
 pub mod SharedLaws
 pub mod OnceLaws
+pub mod FewestLaws

@@ -141,11 +141,11 @@ module _ (may : ℕ → List KeyOf → AnswerOf → Type 0) where
   pub stored-extends : (M : Memory) (ps : List PairOf) → Extends M (stored M ps)
   stored-extends M ps = λ loader key o e. rw e refl
 
-  pub memories : List RuleOf → Memory → List (List ReplyOf) → List Memory
+  unfoldable pub memories : List RuleOf → Memory → List (List ReplyOf) → List Memory
   memories rules M [] = []
   memories rules M (round ∷ rounds) = after_round rules M round ∷ memories rules (after_round rules M round) rounds
 
-  length-memories : (rules : List RuleOf) (M : Memory) (rounds : List (List ReplyOf)) → length (memories rules M rounds) ≡ length rounds
+  pub length-memories : (rules : List RuleOf) (M : Memory) (rounds : List (List ReplyOf)) → length (memories rules M rounds) ≡ length rounds
   unfolding memories
   length-memories rules M [] = refl
   length-memories rules M (round ∷ rounds) = ap (λ n. suc n) (length-memories rules (after_round rules M round) rounds)

@@ -72,16 +72,19 @@ pub fn rounds_within_the_chain()
 {}
 
 /// *No sparing run is shorter*: whatever the sources answer, asking in each step any part of what is needed and missing
-/// takes no fewer steps than a lawful log has rounds.
+/// takes no fewer steps than a lawful log has rounds; and some such run takes as many, since the log is one itself.
 pub fn no_sparing_run_is_shorter()
-    ensures { (rules : List RuleOf) (p : Program) (M : Memory) (rounds : List (List ReplyOf)) (end : Memory) (steps : List Memory)
+    ensures attained { (rules : List RuleOf) (p : Program) (M : Memory) (rounds : List (List ReplyOf)) (end : Memory)
+        → AreLimited rules → IsLawful any_answer rules p M rounds end
+        → (steps : List Memory) × IsSparing (modes_of rules) p end M steps × (length steps ≡ length rounds) }
+    ensures fewest { (rules : List RuleOf) (p : Program) (M : Memory) (rounds : List (List ReplyOf)) (end : Memory) (steps : List Memory)
         → AreLimited rules → HasLoaders (length rules) p → IsLawful any_answer rules p M rounds end
         → IsSparing (modes_of rules) p end M steps → length rounds ≤ length steps }
 {}
 
 /// *Shared rounds are few*: of several programs that share rounds, as the parts of one program, each is executed over the
 /// last memory, and its own rounds are those in which something that it needs was missing: at most its own load chain, and
-/// no more than any sparing run of it alone has steps.
+/// no more than any sparing run of it alone has steps. One of them has as many rounds as there are.
 pub fn shared_rounds_are_few()
     ensures executed { (rules : List RuleOf) (kind : Kind) (programs : Programs) (p : Program) (end : Memory)
         → IsBelow p programs → front (modes_of rules) (Under kind programs) end ≡ [] → front (modes_of rules) p end ≡ [] }
@@ -91,6 +94,9 @@ pub fn shared_rounds_are_few()
     ensures sparing { (rules : List RuleOf) (kind : Kind) (programs : Programs) (p : Program) (M : Memory) (rounds : List (List ReplyOf)) (end : Memory) (steps : List Memory)
         → AreLimited rules → HasLoaders (length rules) (Under kind programs) → IsBelow p programs → IsLawful any_answer rules (Under kind programs) M rounds end
         → IsSparing (modes_of rules) p end M steps → own_rounds rules p M rounds ≤ length steps }
+    ensures greatest { (rules : List RuleOf) (kind : Kind) (programs : Programs) (M : Memory) (rounds : List (List ReplyOf)) (end : Memory)
+        → IsLawful any_answer rules (Under kind programs) M rounds end → 0 < length rounds
+        → (p : Program) × IsBelow p programs × (own_rounds rules p M rounds ≡ length rounds) }
 {}
 
 /// *One lawful log*: over sources that answer key by key there is at most one lawful log from a memory, and one memory at
