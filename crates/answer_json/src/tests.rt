@@ -25,6 +25,102 @@ fn error(
     })
 }
 
+/// A string by the rule for texts, a character at a time.
+fn plain_string(alloc: Global, text: &str) -> Result<String, AllocError> {
+    let mut out = String::from_str(alloc, "\"")?;
+    for c in text.chars() {
+        match c {
+            '"' => out.push_str("\\\"")?,
+            '\\' => out.push_str("\\\\")?,
+            '\u{8}' => out.push_str("\\b")?,
+            '\t' => out.push_str("\\t")?,
+            '\n' => out.push_str("\\n")?,
+            '\u{c}' => out.push_str("\\f")?,
+            '\r' => out.push_str("\\r")?,
+            '\0'..'\u{20}' => {
+                let code = u32::from(c);
+                out.push_str(format!(in alloc; "\\u{code:04x}")?.as_str())?;
+            }
+            _ => out.push(c)?,
+        }
+    }
+    out.push('"')?;
+    Ok(out)
+}
+
+/// The text of a response, made of the texts of its parts.
+#[cycle(plain)]
+fn plain(alloc: Global, response: &Response) -> Result<String, AllocError> {
+    match response {
+        Response::Null => text(alloc, "null"),
+        Response::Text(value) => plain_string(alloc, value.as_str()),
+        Response::Int(value) => format!(in alloc; "{value}"),
+        Response::Bool(value) => format!(in alloc; "{value}"),
+        Response::List(items) => plain_items(alloc, items),
+        Response::Object(members) => plain_members(alloc, members),
+    }
+}
+
+#[cycle(plain)]
+fn plain_items(alloc: Global, items: &Vec<Response>) -> Result<String, AllocError> {
+    let mut out = text(alloc, "[")?;
+    for item in items {
+        if out.as_str() != "[" {
+            out.push(',')?;
+        }
+        let item = plain(alloc, item)?;
+        out.push_str(item.as_str())?;
+    }
+    out.push(']')?;
+    Ok(out)
+}
+
+#[cycle(plain)]
+fn plain_members(alloc: Global, members: &Vec<(String, Response)>) -> Result<String, AllocError> {
+    let mut out = text(alloc, "{")?;
+    for (name, member) in members {
+        if out.as_str() != "{" {
+            out.push(',')?;
+        }
+        let name = plain_string(alloc, name.as_str())?;
+        let member = plain(alloc, member)?;
+        out.push_str(format!(in alloc; "{name}:{member}")?.as_str())?;
+    }
+    out.push('}')?;
+    Ok(out)
+}
+
+#[test]
+fn a_plain_writer_agrees(rt: HostRuntime) -> Result<(), Fail> {
+    let alloc = rt.alloc();
+    for value in [
+        "",
+        "a",
+        "\"\\/",
+        "\u{0}\u{1}\u{7}\u{8}\t\n\u{b}\u{c}\r\u{e}\u{1f} \u{7f}\u{80}é\u{2028}\u{ffff}\u{1F600}",
+    ] {
+        let items = vec![in alloc;
+            Response::Text(text(alloc, value)?),
+            Response::Int(-7),
+            object(alloc, value, Response::List(Vec::new(alloc)))?,
+            Response::Null,
+        ]?;
+        let members = vec![in alloc;
+            (text(alloc, "b")?, Response::List(items)),
+            (text(alloc, value)?, Response::Bool(true)),
+            (text(alloc, "a")?, Response::Object(Vec::new(alloc))),
+        ]?;
+        let response = Response::Object(members);
+        let data = plain(alloc, &response)?;
+        let want = format!(in alloc; "{{\"data\":{data}}}")?;
+        assert_eq!(rt;
+            write_answer(alloc, &response, &[])?.as_str(),
+            want.as_str()
+        );
+    }
+    Ok(())
+}
+
 #[test]
 fn responses(rt: HostRuntime) -> Result<(), Fail> {
     let alloc = rt.alloc();
