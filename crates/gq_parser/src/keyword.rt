@@ -5,7 +5,7 @@ ghost use Rattle.gq_parser.specs.Keywords.{keyword_of};
 
 /// What a name is where a word is wanted. Elsewhere each of them is a plain name.
 #[derive(Clone, Copy, Debug, PartialEq, Eq)]
-pub(crate) enum Keyword {
+pub enum Keyword {
     Query,
     Mutation,
     Subscription,

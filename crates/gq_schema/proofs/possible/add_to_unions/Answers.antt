@@ -1,0 +1,14 @@
+use Rattle.std.proofs.Common.{arith, bytes_eq, string_bytes, drop, ◌+◌}
+use Rattle.gq_schema.specs.Possible.{names_at, is_among}
+use Rattle.gq_schema.proofs.Walks.{drop-next}
+use Rattle.gq_schema.proofs.TypeNameLists.{with_name_if-step}
+use Rattle.gq_schema.proofs.possible.add_to_unions.Goals as goal
+
+pub loop-name-preserved : goal.loop-name-preserved
+loop-name-preserved c = λ q.
+    let i = c.loop-name.name-index in
+    let names = c.args.names.now in
+    let x = c.name-item.result in
+    with_name_if-step (bytes_eq q (string_bytes x.now.text)) (is_among q (drop (i + 1) names)) (is_among q names)
+    (names_at c.add_to.new.possible q) (names_at c.loop-name.possible q) (names_at c.args.possible.now q) (string_bytes c.args.object.now.text)
+    (c.in_ok-add_to.ensures q) (rw (drop-next names i x (omega arith) c.name-item.is) at (c.loop-name.invariant q))

@@ -1,0 +1,8 @@
+use Rattle.gq_schema.proofs.schema.Schema.of.Goals as goal
+
+pub invariant_of-result : goal.invariant_of-result
+invariant_of-result c = record {
+  rooted = rw c.deref.ensures.value at c.in_ok-root.ensures;
+  placed = rw c.deref-2.ensures.value at c.in_ok-types.ensures;
+  found = rw c.deref-3.ensures.value at c.in_ok-possible.ensures;
+}

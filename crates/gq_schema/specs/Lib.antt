@@ -1,0 +1,17 @@
+pub mod Scan
+pub mod Seen
+pub mod Kinds
+pub mod Types
+pub mod Reserved
+pub mod Repeated
+pub mod Uses
+pub mod Implements
+pub mod Earlier
+pub mod Places
+pub mod Possible
+pub mod Indexes
+pub mod Schemas
+pub mod Inputs
+pub mod Coercion
+pub mod Defaults
+pub mod Fault

@@ -1,0 +1,224 @@
+//! The coercion of literals to types (section 3, Input Coercion).
+
+ghost use Rattle.std.specs.Prelude.{◌≡◌, Some, None, IfOk, is_some, map, string_bytes};
+ghost use Rattle.std.specs.Option.{option_map};
+ghost use Rattle.gq_parser.specs.Tree.{type_of, literal_of, values_of};
+ghost use Rattle.gq_schema.specs.Types.{tree_of};
+ghost use Rattle.gq_schema.specs.Inputs.{Null, input_of};
+ghost use Rattle.gq_schema.specs.Coercion.{int_of, from_int, from_text, from_enum, named_value, value_with, all_items, list_input, one_item, coerced, accepts, place_of};
+
+use crate::input::Input;
+use crate::schema::Schema;
+use gq_lexer::Place;
+use gq_parser::{Literal, TypeRef, Value};
+use std::alloc::{AllocError, Global};
+
+// The number that the text of an Int writes, where it lies within signed 32 bits.
+fn int_of(text: &str) -> Option<i32>
+    ensures { result ≡ int_of text.now }
+{
+    text.parse::<i32>().ok()
+}
+
+/// The place of a literal's first token.
+pub fn place_of(literal: &Literal) -> Place
+    ensures { result ≡ place_of (literal_of literal.now) }
+{
+    literal.place
+}
+
+fn accepts_int(name: &str, text: &str) -> bool
+    ensures { result ≡ is_some (from_int name.now text.now) }
+{
+    if name == "Int" {
+        int_of(text).is_some()
+    } else {
+        name == "ID"
+    }
+}
+
+// Whether a literal is right at the type of this name. Variables are passed over.
+fn accepts_named(schema: &Schema, name: &str, strict: bool, literal: &Literal) -> bool
+    ensures { result ≡ is_some (named_value (Some Null) (tree_of schema.now) name.now strict (literal_of literal.now)) }
+{
+    match &literal.value {
+        Value::Null => !strict,
+        Value::Variable(_) => true,
+        Value::Int(text) => accepts_int(name, text.as_str()),
+        Value::Float(_) => false,
+        Value::Text(_) => name == "ID" || name == "String",
+        Value::Boolean(_) => name == "Boolean",
+        Value::Enum(value) => schema.has_value(name, value.as_str()),
+        Value::List(_) => false,
+        Value::Object(_) => false,
+    }
+}
+
+/// Whether a literal is right at a type, whatever its variables are: each is passed over (section 5.6.1).
+///
+/// An `Int` takes an Int within signed 32 bits, an `ID` a string or an Int, a `String` a string, a `Boolean` `true` or
+/// `false`, an enum a name among its values. A list takes a list item by item, and another value as a list of one. `null` is
+/// right where the type may be null.
+#[cycle(accepts)]
+pub fn accepts(schema: &Schema, ty: &TypeRef, literal: &Literal) -> bool
+    ensures { result ≡ accepts (tree_of schema.now) (type_of ty.now) (literal_of literal.now) }
+{
+    match ty {
+        TypeRef::Named { name, non_null, .. } => {
+            accepts_named(schema, name.as_str(), *non_null, literal)
+        }
+        TypeRef::List { item, non_null, .. } => match &literal.value {
+            Value::Null => !*non_null,
+            Value::Variable(_) => true,
+            Value::List(items) => accepts_all(schema, item, items),
+            Value::Int(_) => accepts(schema, item, literal),
+            Value::Float(_) => accepts(schema, item, literal),
+            Value::Text(_) => accepts(schema, item, literal),
+            Value::Boolean(_) => accepts(schema, item, literal),
+            Value::Enum(_) => accepts(schema, item, literal),
+            Value::Object(_) => accepts(schema, item, literal),
+        },
+    }
+}
+
+#[cycle(accepts)]
+fn accepts_all(schema: &Schema, ty: &TypeRef, literals: &[Literal]) -> bool
+    ensures { result ≡ is_some (list_input (all_items (value_with (Some Null) (tree_of schema.now) (type_of ty.now)) (values_of (map literal_of literals.now)))) }
+{
+    for literal in literals {
+        if !accepts(schema, ty, literal) {
+            return false;
+        }
+    }
+    true
+}
+
+fn coerce_int(name: &str, text: &String) -> Result<Option<Input>, AllocError>
+    ensures { IfOk result (λ input. option_map input_of input ≡ from_int name.now (string_bytes text.now)) }
+{
+    if name == "Int" {
+        return Ok(int_of(text.as_str()).map(Input::Int));
+    }
+    if name == "ID" {
+        return Ok(Some(Input::Text(text.clone()?)));
+    }
+    Ok(None)
+}
+
+fn coerce_text(name: &str, text: &String) -> Result<Option<Input>, AllocError>
+    ensures { IfOk result (λ input. option_map input_of input ≡ from_text name.now (string_bytes text.now)) }
+{
+    if name == "ID" || name == "String" {
+        return Ok(Some(Input::Text(text.clone()?)));
+    }
+    Ok(None)
+}
+
+fn coerce_enum(schema: &Schema, name: &str, value: &String) -> Result<Option<Input>, AllocError>
+    ensures { IfOk result (λ input. option_map input_of input ≡ from_enum (tree_of schema.now) name.now (string_bytes value.now)) }
+{
+    if schema.has_value(name, value.as_str()) {
+        return Ok(Some(Input::Text(value.clone()?)));
+    }
+    Ok(None)
+}
+
+fn coerce_named(
+    schema: &Schema,
+    name: &str,
+    strict: bool,
+    literal: &Literal,
+) -> Result<Option<Input>, AllocError>
+    ensures { IfOk result (λ input. option_map input_of input ≡ named_value None (tree_of schema.now) name.now strict (literal_of literal.now)) }
+{
+    match &literal.value {
+        Value::Null => Ok((!strict).then_some(Input::Null)),
+        Value::Variable(_) => Ok(None),
+        Value::Int(text) => Ok(coerce_int(name, text)?),
+        Value::Float(_) => Ok(None),
+        Value::Text(text) => Ok(coerce_text(name, text)?),
+        Value::Boolean(b) => Ok((name == "Boolean").then_some(Input::Bool(*b))),
+        Value::Enum(value) => Ok(coerce_enum(schema, name, value)?),
+        Value::List(_) => Ok(None),
+        Value::Object(_) => Ok(None),
+    }
+}
+
+// A list of one item.
+fn list_of_one(alloc: Global, item: Option<Input>) -> Result<Option<Input>, AllocError>
+    ensures { IfOk result (λ input. option_map input_of input ≡ one_item (option_map input_of item)) }
+{
+    match item {
+        Some(item) => {
+            let mut items = Vec::with_capacity(alloc, 1)?;
+            items.push(item)?;
+            Ok(Some(Input::List(items)))
+        }
+        None => Ok(None),
+    }
+}
+
+/// The value that a literal gives at a type; nothing where it isn't right, or holds a variable (section 3, Input Coercion).
+///
+/// It is right where `accepts` says so: an ID and an enum's value become a `Text`, an ID the text of an Int as it is written,
+/// and a value at a list type that is no list a list of one.
+#[cycle(coerce)]
+pub fn coerce(
+    alloc: Global,
+    schema: &Schema,
+    ty: &TypeRef,
+    literal: &Literal,
+) -> Result<Option<Input>, AllocError>
+    ensures { IfOk result (λ input. option_map input_of input ≡ coerced (tree_of schema.now) (type_of ty.now) (literal_of literal.now)) }
+{
+    match ty {
+        TypeRef::Named { name, non_null, .. } => {
+            Ok(coerce_named(schema, name.as_str(), *non_null, literal)?)
+        }
+        TypeRef::List { item, non_null, .. } => match &literal.value {
+            Value::Null => Ok((!*non_null).then_some(Input::Null)),
+            Value::Variable(_) => Ok(None),
+            Value::List(items) => Ok(coerce_all(alloc, schema, item, items)?),
+            Value::Int(_) => coerce_one(alloc, schema, item, literal),
+            Value::Float(_) => coerce_one(alloc, schema, item, literal),
+            Value::Text(_) => coerce_one(alloc, schema, item, literal),
+            Value::Boolean(_) => coerce_one(alloc, schema, item, literal),
+            Value::Enum(_) => coerce_one(alloc, schema, item, literal),
+            Value::Object(_) => coerce_one(alloc, schema, item, literal),
+        },
+    }
+}
+
+// A value as a list of one.
+#[cycle(coerce)]
+fn coerce_one(
+    alloc: Global,
+    schema: &Schema,
+    ty: &TypeRef,
+    literal: &Literal,
+) -> Result<Option<Input>, AllocError>
+    ensures { IfOk result (λ input. option_map input_of input ≡ one_item (coerced (tree_of schema.now) (type_of ty.now) (literal_of literal.now))) }
+{
+    let item = coerce(alloc, schema, ty, literal)?;
+    Ok(list_of_one(alloc, item)?)
+}
+
+// A list item by item.
+#[cycle(coerce)]
+fn coerce_all(
+    alloc: Global,
+    schema: &Schema,
+    ty: &TypeRef,
+    literals: &[Literal],
+) -> Result<Option<Input>, AllocError>
+    ensures { IfOk result (λ input. option_map input_of input ≡ list_input (all_items (coerced (tree_of schema.now) (type_of ty.now)) (values_of (map literal_of literals.now)))) }
+{
+    let mut inputs = Vec::with_capacity(alloc, literals.len())?;
+    for literal in literals {
+        match coerce(alloc, schema, ty, literal)? {
+            Some(input) => inputs.push(input)?,
+            None => return Ok(None),
+        }
+    }
+    Ok(Some(Input::List(inputs)))
+}

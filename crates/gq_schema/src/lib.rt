@@ -1,0 +1,22 @@
+//! Schemas.
+#![tactic(auto)]
+
+mod check;
+mod coercion;
+mod fault;
+mod index;
+mod input;
+mod kind;
+mod names;
+mod possible;
+mod references;
+mod rules;
+mod schema;
+mod type_names;
+mod types;
+
+pub use coercion::{accepts, coerce};
+pub use fault::SchemaFault;
+pub use input::Input;
+pub use kind::TypeKind;
+pub use schema::Schema;

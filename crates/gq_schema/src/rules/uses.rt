@@ -1,0 +1,153 @@
+//! The uses of types' names.
+
+ghost use Rattle.std.specs.Prelude.{◌≡◌};
+ghost use Rattle.schema_syntax.specs.Tree.{name_of, names_of, arguments_of, fields_of, definition_of};
+ghost use Rattle.gq_schema.specs.Scan.{first_in};
+ghost use Rattle.gq_schema.specs.Types.{tree_of};
+ghost use Rattle.gq_schema.specs.Uses.{fits, keeps, broken_use, broken_argument, broken_field, broken_root, broken_in, first_broken};
+
+use crate::kind::TypeKind;
+use crate::references::core;
+use crate::schema::Schema;
+use gq_lexer::Place;
+use schema_syntax::{ArgumentDefinition, Definition, FieldDefinition, Name};
+
+/// What the use of a type's name is for.
+#[derive(Clone, Copy, Debug, PartialEq, Eq)]
+pub enum Role {
+    FieldType,
+    ArgumentType,
+    Implemented,
+    Member,
+    Root,
+}
+
+/// What is asked of the use of a type's name.
+#[derive(Clone, Copy, Debug, PartialEq, Eq)]
+pub enum Rule {
+    /// The name has a definition.
+    IsDefined,
+    /// What it names may stand there.
+    Fits,
+}
+
+// Whether a type of this kind may stand there.
+fn fits(role: Role, kind: TypeKind) -> bool
+    ensures { result ≡ fits role kind }
+{
+    match role {
+        Role::FieldType => true,
+        Role::ArgumentType => kind.is_leaf(),
+        Role::Implemented => kind == TypeKind::Interface,
+        Role::Member => kind == TypeKind::Object,
+        Role::Root => kind == TypeKind::Object,
+    }
+}
+
+fn keeps(rule: Rule, role: Role, kind: Option<TypeKind>) -> bool
+    ensures { result ≡ keeps rule role kind }
+{
+    match (rule, kind) {
+        (_, Some(kind)) => rule == Rule::IsDefined || fits(role, kind),
+        (Rule::IsDefined, None) => false,
+        (Rule::Fits, None) => true,
+    }
+}
+
+fn broken_use(schema: &Schema, rule: Rule, role: Role, name: &str, place: Place) -> Option<Place>
+    ensures { result ≡ broken_use (tree_of schema.now) rule role (record { text = name.now; place = place }) }
+{
+    if keeps(rule, role, schema.kind_of(name)) {
+        None
+    } else {
+        Some(place)
+    }
+}
+
+fn broken_name(schema: &Schema, rule: Rule, role: Role, name: &Name) -> Option<Place>
+    ensures { result ≡ broken_use (tree_of schema.now) rule role (name_of name.now) }
+{
+    broken_use(schema, rule, role, name.text.as_str(), name.place)
+}
+
+fn broken_names(schema: &Schema, rule: Rule, role: Role, names: &[Name]) -> Option<Place>
+    ensures { result ≡ first_in (broken_use (tree_of schema.now) rule role) (names_of names.now) }
+{
+    for name in names {
+        if let Some(place) = broken_name(schema, rule, role, name) {
+            return Some(place);
+        }
+    }
+    None
+}
+
+fn broken_arguments(schema: &Schema, rule: Rule, arguments: &[ArgumentDefinition]) -> Option<Place>
+    ensures { result ≡ first_in (broken_argument (tree_of schema.now) rule) (arguments_of arguments.now) }
+{
+    for argument in arguments {
+        let (name, place) = core(&argument.of_type);
+        if let Some(place) = broken_use(schema, rule, Role::ArgumentType, name, place) {
+            return Some(place);
+        }
+    }
+    None
+}
+
+fn broken_fields(schema: &Schema, rule: Rule, fields: &[FieldDefinition]) -> Option<Place>
+    ensures { result ≡ first_in (broken_field (tree_of schema.now) rule) (fields_of fields.now) }
+{
+    for field in fields {
+        if let Some(place) = broken_arguments(schema, rule, &field.arguments) {
+            return Some(place);
+        }
+        let (name, place) = core(&field.of_type);
+        if let Some(place) = broken_use(schema, rule, Role::FieldType, name, place) {
+            return Some(place);
+        }
+    }
+    None
+}
+
+// The use of a definition's own name, where it is the root without a `schema`.
+fn broken_root(schema: &Schema, rule: Rule, name: &Name) -> Option<Place>
+    ensures { result ≡ broken_root (tree_of schema.now) rule (name_of name.now) }
+{
+    if !schema.declares_root() && name.text.as_str() == "Query" {
+        broken_name(schema, rule, Role::Root, name)
+    } else {
+        None
+    }
+}
+
+fn broken_in(schema: &Schema, rule: Rule, definition: &Definition) -> Option<Place>
+    ensures { result ≡ broken_in (tree_of schema.now) rule (definition_of definition.now) }
+{
+    match definition {
+        Definition::Schema(root) => broken_name(schema, rule, Role::Root, &root.query),
+        Definition::Object(object) => broken_root(schema, rule, &object.name)
+            .or_else(|| broken_names(schema, rule, Role::Implemented, &object.interfaces))
+            .or_else(|| broken_fields(schema, rule, &object.fields)),
+        Definition::Interface(interface) => broken_root(schema, rule, &interface.name).or_else(
+            || broken_fields(schema, rule, &interface.fields),
+        ),
+        Definition::Union(union) => broken_root(schema, rule, &union.name).or_else(|| broken_names(
+            schema,
+            rule,
+            Role::Member,
+            &union.members,
+        )),
+        Definition::Enum(values) => broken_root(schema, rule, &values.name),
+    }
+}
+
+/// The first use in the text of a type's name that breaks the rule.
+pub fn first_broken(schema: &Schema, rule: Rule) -> Option<Place>
+    ensures { result ≡ first_broken (tree_of schema.now) rule }
+{
+    for indexed in schema.definitions() {
+        if let Some(place) = broken_in(schema, rule, &indexed.definition) {
+            return Some(place);
+        }
+    }
+    None
+}

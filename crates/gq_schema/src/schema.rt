@@ -1,0 +1,207 @@
+//! Schemas, and what they say of names.
+
+ghost use Rattle.std.specs.Prelude.{◌≡◌, IfOk, map, is_some, string_bytes};
+ghost use Rattle.gq_schema.specs.Indexes.{definition_in};
+ghost use Rattle.std.specs.Option.{option_map, option_copied};
+ghost use Rattle.schema_syntax.specs.Tree.{field_of, fields_of, definition_of};
+ghost use Rattle.gq_parser.specs.Tree.{type_of};
+ghost use Rattle.gq_schema.specs.Types.{tree_of, declared_root, root_in, type_in, kind_of, kind_in, fields_in, field_in, has_value, can_be, possible_in, is_covariant};
+
+use crate::index::{Indexed, Places, index};
+use crate::kind::TypeKind;
+use crate::names::{is_built_in, own_fields};
+use crate::possible::{Possible, possible_in};
+use crate::types::{declared_root, type_places};
+use gq_parser::TypeRef;
+use schema_syntax::{Definition, FieldDefinition, SchemaDocument};
+use std::alloc::{AllocError, Global};
+use std::marker::Model;
+
+/// The types of a schema with their fields, arguments, values and possible types, each found by its name (section 3).
+#[derive(Drop)]
+pub struct Schema {
+    definitions: Vec<Indexed>,
+    root: Option<String>,
+    types: Places,
+    possible: Possible,
+}
+
+impl Model for Schema {
+    ghost use Rattle.std.specs.Prelude.{List, map};
+    ghost use Rattle.schema_syntax.specs.declared.tree.Definition.{Definition};
+    ghost use Rattle.gq_parser.specs.contracts.tree.TypeRef as type_ref;
+    ghost use Rattle.gq_parser.specs.contracts.tree.Literal as literal;
+    ghost use Rattle.std.specs.Coded.{codes};
+
+    ghost Value = { List Definition };
+
+    ghost coded = { Prim.hlevel (codes, type_ref.the_row.coded, literal.the_row.coded) };
+
+    ghost use Rattle.gq_schema.specs.Indexes.{definition_in};
+    ghost use Rattle.gq_schema.specs.Schemas.{IsIndexed};
+
+    ghost view = { λ s. map definition_in s.definitions.items };
+
+    ghost invariant = { λ s. IsIndexed s.definitions.items s.root s.types s.possible };
+}
+
+impl Schema {
+    /// The schema of these definitions, whatever they are.
+    pub(crate) fn of(alloc: Global, document: SchemaDocument) -> Result<Schema, AllocError>
+        ensures { IfOk result (λ schema. schema ≡ document.definitions.items) }
+    {
+        let definitions = index(alloc, document.definitions)?;
+        let root = declared_root(&definitions)?;
+        let types = type_places(alloc, &definitions)?;
+        let possible = possible_in(alloc, &definitions)?;
+        Ok(Schema {
+            definitions,
+            root,
+            types,
+            possible,
+        })
+    }
+
+    /// The definitions in the order of the text.
+    pub(crate) fn definitions(&self) -> &[Indexed]
+        ensures { map definition_in result.now ≡ self.now }
+    {
+        &self.definitions
+    }
+
+    /// Whether there is a `schema`.
+    pub(crate) fn declares_root(&self) -> bool
+        ensures { result ≡ is_some (declared_root (tree_of self.now)) }
+    {
+        self.root.is_some()
+    }
+
+    /// The name of the type that queries begin at (section 3.3.1).
+    pub fn root(&self) -> &str
+        ensures { result.now ≡ root_in (tree_of self.now) }
+    {
+        match &self.root {
+            Some(root) => root.as_str(),
+            None => "Query",
+        }
+    }
+
+    // The definition of a type.
+    fn definition(&self, name: &str) -> Option<&Indexed>
+        ensures { option_map (λ indexed. definition_of indexed.definition) (option_copied result) ≡ type_in (tree_of self.now) name.now }
+    {
+        let place = *self.types.get(name)?;
+        Some(&self.definitions[place])
+    }
+
+    /// Whether the text defines a type of this name.
+    pub(crate) fn defines(&self, name: &str) -> bool
+        ensures { result ≡ is_some (type_in (tree_of self.now) name.now) }
+    {
+        self.definition(name).is_some()
+    }
+
+    /// What a type is; nothing where there is no type of this name.
+    pub fn kind_of(&self, name: &str) -> Option<TypeKind>
+        ensures { result ≡ kind_in (tree_of self.now) name.now }
+    {
+        if is_built_in(name) {
+            return Some(TypeKind::Scalar);
+        }
+        kind_of(&self.definition(name)?.definition)
+    }
+
+    /// The fields of an object type or of an interface, in order; none where there is no such type.
+    pub fn fields(&self, ty: &str) -> &[FieldDefinition]
+        ensures { fields_of result.now ≡ fields_in (tree_of self.now) ty.now }
+    {
+        match self.definition(ty) {
+            Some(indexed) => own_fields(&indexed.definition),
+            None => &[],
+        }
+    }
+
+    /// The field of a type; nothing where there is no such type or no such field (section 3.6).
+    pub fn field(&self, ty: &str, name: &str) -> Option<&FieldDefinition>
+        ensures { option_map field_of (option_copied result) ≡ field_in (tree_of self.now) ty.now name.now }
+    {
+        self.definition(ty)?.field(name)
+    }
+
+    /// Whether a type is an enum that has this value (section 3.9).
+    pub fn has_value(&self, ty: &str, value: &str) -> bool
+        ensures { result ≡ has_value (tree_of self.now) ty.now value.now }
+    {
+        match self.definition(ty) {
+            Some(indexed) => indexed.has_value(value),
+            None => false,
+        }
+    }
+
+    /// Whether an object type is a possible type of a type: it is that type, implements it, or is a member of it.
+    pub fn can_be(&self, ty: &str, object: &str) -> bool
+        ensures { result ≡ can_be (tree_of self.now) ty.now object.now }
+    {
+        match self.possible.get(ty) {
+            Some(names) => names.contains(object),
+            None => false,
+        }
+    }
+
+    /// The object types that a type can be, in the order of their definitions: of an object type itself, of an interface
+    /// the types that implement it, of a union its members. Nothing for a scalar, an enum and an unknown name.
+    pub fn possible_types(&self, ty: &str) -> Option<&[String]>
+        ensures { option_map (λ names. map string_bytes names.now) result ≡ possible_in (tree_of self.now) ty.now }
+    {
+        let kind = self.kind_of(ty)?;
+        if kind.is_leaf() {
+            return None;
+        }
+        match self.possible.get(ty) {
+            Some(names) => Some(names.as_slice()),
+            None => Some(&[]),
+        }
+    }
+
+    /// Whether a type may stand for another (section 3.6): equal types; an object type for an interface that it implements
+    /// or a union that has it; a list for a list, where its items may; a non-null type for one that may be null.
+    pub fn is_covariant(&self, own: &TypeRef, wanted: &TypeRef) -> bool
+        ensures { result ≡ is_covariant (tree_of self.now) (type_of own.now) (type_of wanted.now) }
+    {
+        match (own, wanted) {
+            (
+                TypeRef::Named { name, non_null, .. },
+                TypeRef::Named {
+                    name: wanted_name,
+                    non_null: wanted_non_null,
+                    ..
+                },
+            ) => {
+                (*non_null || !*wanted_non_null)
+                    && (name.as_str() == wanted_name.as_str()
+                        || self.can_be(wanted_name.as_str(), name.as_str()))
+            }
+            (
+                TypeRef::List { item, non_null, .. },
+                TypeRef::List {
+                    item: wanted_item,
+                    non_null: wanted_non_null,
+                    ..
+                },
+            ) => (*non_null || !*wanted_non_null) && self.is_covariant(item, wanted_item),
+            _ => false,
+        }
+    }
+}
+
+fn kind_of(definition: &Definition) -> Option<TypeKind>
+    ensures { result ≡ kind_of (definition_of definition.now) }
+{
+    match definition {
+        Definition::Schema(_) => None,
+        Definition::Object(_) => Some(TypeKind::Object),
+        Definition::Interface(_) => Some(TypeKind::Interface),
+        Definition::Union(_) => Some(TypeKind::Union),
+        Definition::Enum(_) => Some(TypeKind::Enum),
+    }
+}

@@ -1,0 +1,13 @@
+//! The tree of a schema text, in the part of the schema definition language that is served (GraphQL specification of
+//! October 2021, section 3).
+#![tactic(auto)]
+
+mod fault;
+mod parser;
+mod tree;
+mod word;
+
+pub use tree::{
+    ArgumentDefinition, Definition, EnumDefinition, FieldDefinition, InterfaceDefinition, Name,
+    ObjectDefinition, SchemaDefinition, SchemaDocument, UnionDefinition,
+};

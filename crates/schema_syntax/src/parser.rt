@@ -1,0 +1,605 @@
+//! From the tokens of a schema text to its tree.
+
+ghost use Rattle.std.specs.Prelude.{◌≡◌, ◌<◌, ◌≤◌, ◌∷◌, [], suc, length, MatchOption, MatchResult, OnOk, IfOk, map, List, false, true};
+ghost use Rattle.gq_lexer.specs.declared.token.Punct.TheVariants as punct;
+ghost use Rattle.gq_parser.specs.Word.{at, Punct as a_mark, Name as a_word};
+ghost use Rattle.gq_parser.specs.Tree.{literal_of, type_of, values_of, members_of, default_of, arguments_of as map_members, argument_of as member_of};
+ghost use Rattle.gq_parser.specs.Grammar.{IsValue, AreValues, AreMembers, IsDefault};
+ghost use Rattle.schema_syntax.specs.declared.word.SchemaWord.TheVariants as words;
+ghost use Rattle.schema_syntax.specs.declared.tree.Definition.TheVariants as declared;
+ghost use Rattle.schema_syntax.specs.Tree.{name_of, names_of, argument_of, arguments_of, field_of, fields_of, definition_of};
+ghost use Rattle.schema_syntax.specs.Grammar.{IsBody, IsName, IsTypeName, IsReason, IsDeprecated, IsArgument, AreArguments, AreOptionalArguments, IsField, AreFields, IsEnumValue, AreEnumValues};
+ghost use Rattle.schema_syntax.specs.Machine.{one, a_union_then, A, AName, AColon, ATypeName, AnItem, AnEnumName, AQuery, ARootEnd, ADefinition, RootBody, ObjectBody, FirstInterface, InterfaceBody, EnumBody, Fields, MaybeArguments, Arguments, MaybeDefault, AType, MaybeBang, MaybeDeprecated, MaybeReason, EnumValues, MaybePipe, MoreMembers, AValue, MoreValues, MoreObjectFields, refused};
+ghost use Rattle.schema_syntax.specs.Parsing.{Reads, Eats, Expects, Describes, TakesMark, TakesText, NumberReads, IsNoName, IsNameTaken, IsTaken, IsMemberRead, IsEnumNameRead, IsQueryTaken, AreSomeInterfaces, AreMembersRead, IsTypeRead, IsNamed, AreInterfacesRead, IsDefinitionRead};
+
+use crate::fault::Stop;
+use crate::tree::{
+    ArgumentDefinition, Definition, EnumDefinition, FieldDefinition, InterfaceDefinition, Name,
+    ObjectDefinition, SchemaDefinition, UnionDefinition,
+};
+use crate::word::{SchemaWord, is_enum_name, is_served_name, name_value, operation, word_of};
+use gq_lexer::{Kind, Place, Punct, Token, string_value};
+use gq_parser::{Argument, Literal, TypeRef, Value};
+use std::alloc::Global;
+use std::marker::Model;
+
+/// Reads from the left. A clause sees the tokens that are left.
+#[derive(Drop)]
+struct Parser<'a> {
+    alloc: Global,
+    text: &'a str,
+    rest: &'a [Token],
+}
+
+impl<'a> Model for Parser<'a> {
+    ghost use Rattle.std.specs.Prelude.{List, All};
+    ghost use Rattle.gq_lexer.specs.Tokens.{IsToken};
+    ghost use Rattle.gq_parser.specs.Word.{Token, tokens_of};
+
+    ghost Value = { List Token };
+
+    ghost view = { λ p. tokens_of p.text.now p.rest.now };
+
+    ghost invariant = { λ p. All (IsToken p.text.now) p.rest.now };
+}
+
+impl<'a> Parser<'a> {
+    /// The fault, if what is next can't come.
+    fn stop(&self) -> Stop
+        ensures { result ≡ refused self.now }
+    {
+        let Some((first, rest)) = self.rest.split_first() else {
+            return Stop::Unexpected(None);
+        };
+        match (first.kind, rest.split_first()) {
+            (Kind::Punct(Punct::At), Some((name, _))) if name.kind == Kind::Name => {
+                Stop::NotServed(first.place())
+            }
+            _ => Stop::Unexpected(Some(first.place())),
+        }
+    }
+
+    /// The name that is next, if one is.
+    fn word(&mut self) -> Option<(Place, &'a str)>
+        ensures { MatchOption result ((self.new ≡ self.old) × IsNoName self.old) (λ t. IsNameTaken t.0 t.1.now self.old self.new) }
+    {
+        match self.rest.split_first() {
+            Some((first, rest)) if first.kind == Kind::Name => {
+                let text = self.text;
+                self.rest = rest;
+                Some((first.place(), first.text(text)))
+            }
+            _ => None,
+        }
+    }
+
+    /// The place of this punctuator, if it is next.
+    fn take(&mut self, mark: Punct) -> Option<Place>
+        ensures { TakesMark (a_mark mark) self.old self.new result }
+    {
+        match self.rest.split_first() {
+            Some((first, rest)) if first.kind == Kind::Punct(mark) => {
+                self.rest = rest;
+                Some(first.place())
+            }
+            _ => None,
+        }
+    }
+
+    fn eat(&mut self, mark: Punct) -> bool
+        ensures { Eats (a_mark mark) self.old self.new result }
+    {
+        self.take(mark).is_some()
+    }
+
+    fn expect(&mut self, mark: Punct) -> Result<(), Stop>
+        ensures { Expects (a_mark mark) self.old self.new result }
+    {
+        if self.eat(mark) {
+            Ok(())
+        } else {
+            Err(self.stop())
+        }
+    }
+
+    /// Skips the string that is next, if one is.
+    fn description(&mut self) -> bool
+        ensures { Describes self.old self.new result }
+    {
+        match self.rest.split_first() {
+            Some((first, rest)) if first.kind == Kind::Str || first.kind == Kind::BlockStr => {
+                self.rest = rest;
+                true
+            }
+            _ => false,
+        }
+    }
+
+    fn name(&mut self) -> Result<Name, Stop>
+        ensures reads { (room : _) → Reads (λ n. IsName (name_of n)) room (one (A AName)) room [] self.old self.new result }
+        ensures shrinks { OnOk result (length self.new < length self.old) }
+    {
+        let Some((place, text)) = self.word() else {
+            return Err(self.stop());
+        };
+        let text = String::from_str(self.alloc, text)?;
+        Ok(Name { text, place })
+    }
+
+    fn type_name(&mut self) -> Result<Name, Stop>
+        ensures reads { (room : _) → Reads (λ n. IsTypeName (name_of n)) room (one (A ATypeName)) room [] self.old self.new result }
+        ensures shrinks { OnOk result (length self.new < length self.old) }
+    {
+        let Some((place, text)) = self.word() else {
+            return Err(self.stop());
+        };
+        if !is_served_name(text) {
+            return Err(Stop::NotServed(place));
+        }
+        let text = String::from_str(self.alloc, text)?;
+        Ok(Name { text, place })
+    }
+
+    /// A type that is no list.
+    fn named_type(&mut self) -> Result<TypeRef, Stop>
+        ensures reads { (room : _) → Reads (λ t. IsTypeRead (type_of t)) room (A ATypeName ∷ one MaybeBang) room [] self.old self.new result }
+        ensures named { IfOk result (λ t. IsNamed (type_of t)) }
+        ensures shrinks { OnOk result (length self.new < length self.old) }
+    {
+        let Name { text, place } = self.type_name()?;
+        let non_null = self.eat(Punct::Bang);
+        Ok(TypeRef::Named {
+            place,
+            name: text,
+            non_null,
+        })
+    }
+
+    /// The type in a list.
+    fn item_type(&mut self) -> Result<TypeRef, Stop>
+        ensures reads { (room : _) → Reads (λ t. IsTypeRead (type_of t)) room (A AnItem ∷ one MaybeBang) room [] self.old self.new result }
+        ensures named { IfOk result (λ t. IsNamed (type_of t)) }
+        ensures shrinks { OnOk result (length self.new < length self.old) }
+    {
+        if let Some(place) = self.take(Punct::BracketLeft) {
+            return Err(Stop::NotServed(place));
+        }
+        self.named_type()
+    }
+
+    fn type_ref(&mut self) -> Result<TypeRef, Stop>
+        ensures reads { (room : _) → Reads (λ t. IsTypeRead (type_of t)) (suc room) (one AType) (suc room) [] self.old self.new result }
+        ensures shrinks { OnOk result (length self.new < length self.old) }
+    {
+        let Some(place) = self.take(Punct::BracketLeft) else {
+            return self.named_type();
+        };
+        let item = self.item_type()?;
+        self.expect(Punct::BracketRight)?;
+        let non_null = self.eat(Punct::Bang);
+        Ok(TypeRef::List {
+            place,
+            item: Box::new(self.alloc, item)?,
+            non_null,
+        })
+    }
+
+    /// The reason of a `@deprecated`, if a parenthesis opens one. It is skipped.
+    fn reason(&mut self) -> Result<(), Stop>
+        ensures reads { (room : _) → Reads (λ _. IsReason) (suc room) (one MaybeReason) (suc room) [] self.old self.new result }
+        ensures shrinks { OnOk result (length self.new ≤ length self.old) }
+    {
+        if !self.eat(Punct::ParenLeft) {
+            return Ok(());
+        }
+        let Some((place, name)) = self.word() else {
+            return Err(self.stop());
+        };
+        let SchemaWord::Reason = word_of(name) else {
+            return Err(Stop::Unexpected(Some(place)));
+        };
+        self.expect(Punct::Colon)?;
+        if !self.description() {
+            return Err(self.stop());
+        }
+        self.expect(Punct::ParenRight)
+    }
+
+    /// A `@deprecated`, if an `@` begins one. It is skipped.
+    fn deprecated(&mut self) -> Result<(), Stop>
+        ensures reads { (room : _) → Reads (λ _. IsDeprecated) (suc room) (one MaybeDeprecated) (suc room) [] self.old self.new result }
+        ensures shrinks { OnOk result (length self.new ≤ length self.old) }
+    {
+        let Some(place) = self.take(Punct::At) else {
+            return Ok(());
+        };
+        let Some((_, name)) = self.word() else {
+            return Err(self.stop());
+        };
+        let SchemaWord::Deprecated = word_of(name) else {
+            return Err(Stop::NotServed(place));
+        };
+        self.reason()
+    }
+
+    /// The string that is next, if one is: its place and its value.
+    fn string(&mut self) -> Result<Option<(Place, String)>, Stop>
+        ensures { MatchResult result (TakesText self.old self.new) (λ e. e ≡ Stop.NoMemory) }
+    {
+        match self.rest.split_first() {
+            Some((first, rest)) if first.kind == Kind::Str || first.kind == Kind::BlockStr => {
+                let value = match string_value(self.alloc, self.text, first) {
+                    Ok(value) => value,
+                    Err(_) => return Err(Stop::NoMemory),
+                };
+                self.rest = rest;
+                Ok(Some((first.place(), value)))
+            }
+            _ => Ok(None),
+        }
+    }
+
+    fn number(&mut self) -> Result<Literal, Stop>
+        ensures { NumberReads self.old self.new result }
+    {
+        match self.rest.split_first() {
+            Some((first, rest)) if first.kind == Kind::Int => {
+                let text = self.text;
+                self.rest = rest;
+                let number = String::from_str(self.alloc, first.text(text))?;
+                Ok(Literal {
+                    place: first.place(),
+                    value: Value::Int(number),
+                })
+            }
+            Some((first, rest)) if first.kind == Kind::Float => {
+                let text = self.text;
+                self.rest = rest;
+                let number = String::from_str(self.alloc, first.text(text))?;
+                Ok(Literal {
+                    place: first.place(),
+                    value: Value::Float(number),
+                })
+            }
+            _ => Err(self.stop()),
+        }
+    }
+
+    #[cycle(value)]
+    fn value(&mut self, room: u32) -> Result<Literal, Stop>
+        ensures reads { Reads (λ v. IsValue true (literal_of v)) room (one AValue) room [] self.old self.new result }
+        ensures shrinks { OnOk result (length self.new < length self.old) }
+    {
+        if let Some((place, text)) = self.string()? {
+            let value = Value::Text(text);
+            return Ok(Literal { place, value });
+        }
+        if let Some((place, name)) = self.word() {
+            let value = name_value(self.alloc, name)?;
+            return Ok(Literal { place, value });
+        }
+        if let Some(place) = self.take(Punct::BracketLeft) {
+            if room == 0 {
+                return Err(Stop::Unexpected(Some(place)));
+            }
+            let value = Value::List(self.values(room - 1)?);
+            return Ok(Literal { place, value });
+        }
+        if let Some(place) = self.take(Punct::BraceLeft) {
+            if room == 0 {
+                return Err(Stop::Unexpected(Some(place)));
+            }
+            let value = Value::Object(self.object_fields(room - 1)?);
+            return Ok(Literal { place, value });
+        }
+        self.number()
+    }
+
+    /// The values up to the bracket that closes them.
+    #[cycle(value)]
+    fn values(&mut self, room: u32) -> Result<Vec<Literal>, Stop>
+        ensures reads { Reads (λ vs. AreValues true (values_of (map literal_of vs.items))) room (one MoreValues) (suc room) [] self.old self.new result }
+        ensures shrinks { OnOk result (length self.new < length self.old) }
+    {
+        let mut values = Vec::new(self.alloc);
+        while !self.eat(Punct::BracketRight) {
+            values.push(self.value(room)?)?;
+        }
+        Ok(values)
+    }
+
+    #[cycle(value)]
+    fn object_field(&mut self, room: u32) -> Result<Argument, Stop>
+        ensures reads { Reads (λ a. IsMemberRead (member_of a)) room (A AName ∷ A AColon ∷ one AValue) room [] self.old self.new result }
+        ensures shrinks { OnOk result (length self.new < length self.old) }
+    {
+        let Name { text, place } = self.name()?;
+        self.expect(Punct::Colon)?;
+        let value = self.value(room)?;
+        Ok(Argument {
+            place,
+            name: text,
+            value,
+        })
+    }
+
+    /// The fields of an object value up to the brace that closes them.
+    #[cycle(value)]
+    fn object_fields(&mut self, room: u32) -> Result<Vec<Argument>, Stop>
+        ensures reads { Reads (λ ms. AreMembers true (members_of (map_members ms.items))) room (one MoreObjectFields) (suc room) [] self.old self.new result }
+        ensures shrinks { OnOk result (length self.new < length self.old) }
+    {
+        let mut fields = Vec::new(self.alloc);
+        while !self.eat(Punct::BraceRight) {
+            fields.push(self.object_field(room)?)?;
+        }
+        Ok(fields)
+    }
+
+    /// The default of an argument, if a `=` begins one.
+    fn default(&mut self) -> Result<Option<Literal>, Stop>
+        ensures reads { Reads (λ v. IsDefault (default_of v)) 126 (one MaybeDefault) 126 [] self.old self.new result }
+        ensures shrinks { OnOk result (length self.new ≤ length self.old) }
+    {
+        if !self.eat(Punct::Equals) {
+            return Ok(None);
+        }
+        Ok(Some(self.value(126)?))
+    }
+
+    fn argument(&mut self) -> Result<ArgumentDefinition, Stop>
+        ensures reads { Reads (λ a. IsArgument (argument_of a)) 126 (one (Arguments false)) 126 (one (Arguments true)) self.old self.new result }
+        ensures shrinks { OnOk result (length self.new < length self.old) }
+    {
+        self.description();
+        let name = self.name()?;
+        self.expect(Punct::Colon)?;
+        let of_type = self.type_ref()?;
+        let default = self.default()?;
+        Ok(ArgumentDefinition {
+            name,
+            of_type,
+            default,
+        })
+    }
+
+    /// The arguments of a field, if a parenthesis opens them.
+    fn arguments(&mut self) -> Result<Vec<ArgumentDefinition>, Stop>
+        ensures reads { Reads (λ args. AreOptionalArguments (arguments_of args.items)) 127 (one MaybeArguments) 127 [] self.old self.new result }
+        ensures shrinks { OnOk result (length self.new ≤ length self.old) }
+    {
+        let mut arguments = Vec::new(self.alloc);
+        if !self.eat(Punct::ParenLeft) {
+            return Ok(arguments);
+        }
+        arguments.push(self.argument()?)?;
+        while !self.eat(Punct::ParenRight) {
+            arguments.push(self.argument()?)?;
+        }
+        Ok(arguments)
+    }
+
+    fn field(&mut self) -> Result<FieldDefinition, Stop>
+        ensures reads { Reads (λ f. IsField (field_of f)) 127 (one (Fields false)) 127 (one (Fields true)) self.old self.new result }
+        ensures shrinks { OnOk result (length self.new < length self.old) }
+    {
+        self.description();
+        let name = self.name()?;
+        let arguments = self.arguments()?;
+        self.expect(Punct::Colon)?;
+        let of_type = self.type_ref()?;
+        self.deprecated()?;
+        Ok(FieldDefinition {
+            name,
+            arguments,
+            of_type,
+        })
+    }
+
+    /// The fields up to the brace that closes them.
+    fn fields(&mut self) -> Result<Vec<FieldDefinition>, Stop>
+        ensures reads { Reads (λ fs. AreFields false (fields_of fs.items)) 127 (one (Fields false)) 128 [] self.old self.new result }
+        ensures shrinks { OnOk result (length self.new < length self.old) }
+    {
+        let mut fields = Vec::new(self.alloc);
+        fields.push(self.field()?)?;
+        while !self.eat(Punct::BraceRight) {
+            fields.push(self.field()?)?;
+        }
+        Ok(fields)
+    }
+
+    fn enum_value(&mut self) -> Result<Name, Stop>
+        ensures reads { Reads (λ v. IsEnumValue (name_of v)) 127 (one (EnumValues false)) 127 (one (EnumValues true)) self.old self.new result }
+        ensures shrinks { OnOk result (length self.new < length self.old) }
+    {
+        self.description();
+        let name = self.enum_name()?;
+        self.deprecated()?;
+        Ok(name)
+    }
+
+    /// The values up to the brace that closes them.
+    fn enum_values(&mut self) -> Result<Vec<Name>, Stop>
+        ensures reads { Reads (λ vs. AreEnumValues false (names_of vs.items)) 127 (one (EnumValues false)) 128 [] self.old self.new result }
+        ensures shrinks { OnOk result (length self.new < length self.old) }
+    {
+        let mut values = Vec::new(self.alloc);
+        values.push(self.enum_value()?)?;
+        while !self.eat(Punct::BraceRight) {
+            values.push(self.enum_value()?)?;
+        }
+        Ok(values)
+    }
+
+    /// A name that an enum's value may have.
+    fn enum_name(&mut self) -> Result<Name, Stop>
+        ensures reads { (room : _) → Reads (λ n. IsEnumNameRead (name_of n)) room (one (A AnEnumName)) room [] self.old self.new result }
+        ensures shrinks { OnOk result (length self.new < length self.old) }
+    {
+        let Some((place, text)) = self.word() else {
+            return Err(self.stop());
+        };
+        if !is_enum_name(text) {
+            return Err(Stop::Unexpected(Some(place)));
+        }
+        let text = String::from_str(self.alloc, text)?;
+        Ok(Name { text, place })
+    }
+
+    /// The interfaces that an object type implements, and the brace behind them.
+    fn interfaces(&mut self) -> Result<Vec<Name>, Stop>
+        ensures reads { Reads (λ is. AreInterfacesRead (names_of is.items)) 128 (one ObjectBody) 127 (one (Fields false)) self.old self.new result }
+        ensures shrinks { OnOk result (length self.new < length self.old) }
+    {
+        let Some((place, name)) = self.word() else {
+            self.expect(Punct::BraceLeft)?;
+            return Ok(Vec::new(self.alloc));
+        };
+        let SchemaWord::Implements = word_of(name) else {
+            return Err(Stop::Unexpected(Some(place)));
+        };
+        self.some_interfaces()
+    }
+
+    /// The interfaces behind `implements`, and the brace behind them.
+    fn some_interfaces(&mut self) -> Result<Vec<Name>, Stop>
+        ensures reads { Reads (λ is. AreSomeInterfaces (names_of is.items)) 128 (one FirstInterface) 127 (one (Fields false)) self.old self.new result }
+        ensures shrinks { OnOk result (length self.new < length self.old) }
+    {
+        let mut interfaces = Vec::new(self.alloc);
+        self.eat(Punct::Amp);
+        interfaces.push(self.type_name()?)?;
+        while self.eat(Punct::Amp) {
+            interfaces.push(self.type_name()?)?;
+        }
+        self.expect(Punct::BraceLeft)?;
+        Ok(interfaces)
+    }
+
+    /// The brace behind the name of an interface.
+    fn interface_brace(&mut self) -> Result<(), Stop>
+        ensures reads { Reads (λ _. IsTaken (a_mark punct.BraceLeft)) 128 (one InterfaceBody) 127 (one (Fields false)) self.old self.new result }
+        ensures shrinks { OnOk result (length self.new < length self.old) }
+    {
+        if let Some((place, name)) = self.word() {
+            return match word_of(name) {
+                SchemaWord::Implements => Err(Stop::NotServed(place)),
+                _ => Err(Stop::Unexpected(Some(place))),
+            };
+        }
+        self.expect(Punct::BraceLeft)
+    }
+
+    /// The members of a union, behind its `=`.
+    fn members(&mut self) -> Result<Vec<Name>, Stop>
+        ensures reads { Reads (λ ms. AreMembersRead (names_of ms.items)) 128 (MaybePipe ∷ A ATypeName ∷ one MoreMembers) 128 [] self.old self.new result }
+        ensures shrinks { OnOk result (length self.new < length self.old) }
+    {
+        let mut members = Vec::new(self.alloc);
+        self.eat(Punct::Pipe);
+        members.push(self.type_name()?)?;
+        while self.eat(Punct::Pipe) {
+            members.push(self.type_name()?)?;
+        }
+        Ok(members)
+    }
+
+    /// The word `query` in `schema`.
+    fn query(&mut self) -> Result<(), Stop>
+        ensures reads { (room : _) → Reads (λ _. IsQueryTaken) room (one (A AQuery)) room [] self.old self.new result }
+        ensures shrinks { OnOk result (length self.new < length self.old) }
+    {
+        let Some((place, name)) = self.word() else {
+            return Err(self.stop());
+        };
+        match operation(name) {
+            Some(true) => Ok(()),
+            Some(false) => Err(Stop::NotServed(place)),
+            None => Err(Stop::Unexpected(Some(place))),
+        }
+    }
+
+    /// The brace that ends `schema`.
+    fn root_end(&mut self) -> Result<(), Stop>
+        ensures reads { Reads (λ _. IsTaken (a_mark punct.BraceRight)) 127 (one (A ARootEnd)) 128 [] self.old self.new result }
+        ensures shrinks { OnOk result (length self.new < length self.old) }
+    {
+        if let Some((place, name)) = self.word() {
+            return match operation(name) {
+                Some(false) => Err(Stop::NotServed(place)),
+                _ => Err(Stop::Unexpected(Some(place))),
+            };
+        }
+        self.expect(Punct::BraceRight)
+    }
+
+    fn schema(&mut self, place: Place) -> Result<SchemaDefinition, Stop>
+        ensures reads { Reads (λ d. IsBody words.Schema place (definition_of (declared.Schema d))) 128 (one RootBody) 128 [] self.old self.new result }
+    {
+        self.expect(Punct::BraceLeft)?;
+        self.query()?;
+        self.expect(Punct::Colon)?;
+        let query = self.type_name()?;
+        self.root_end()?;
+        Ok(SchemaDefinition { place, query })
+    }
+
+    fn object(&mut self) -> Result<ObjectDefinition, Stop>
+        ensures reads { Reads (λ d before after. (place : _) → IsBody words.Object place (definition_of (declared.Object d)) before after) 128 (A ATypeName ∷ one ObjectBody) 128 [] self.old self.new result }
+    {
+        let name = self.type_name()?;
+        let interfaces = self.interfaces()?;
+        let fields = self.fields()?;
+        Ok(ObjectDefinition {
+            name,
+            interfaces,
+            fields,
+        })
+    }
+
+    fn interface(&mut self) -> Result<InterfaceDefinition, Stop>
+        ensures reads { Reads (λ d before after. (place : _) → IsBody words.Interface place (definition_of (declared.Interface d)) before after) 128 (A ATypeName ∷ one InterfaceBody) 128 [] self.old self.new result }
+    {
+        let name = self.type_name()?;
+        self.interface_brace()?;
+        let fields = self.fields()?;
+        Ok(InterfaceDefinition { name, fields })
+    }
+
+    fn union_type(&mut self) -> Result<UnionDefinition, Stop>
+        ensures reads { Reads (λ d before after. (place : _) → IsBody words.Union place (definition_of (declared.Union d)) before after) 128 (A ATypeName ∷ a_union_then) 128 [] self.old self.new result }
+    {
+        let name = self.type_name()?;
+        self.expect(Punct::Equals)?;
+        let members = self.members()?;
+        Ok(UnionDefinition { name, members })
+    }
+
+    fn enum_type(&mut self) -> Result<EnumDefinition, Stop>
+        ensures reads { Reads (λ d before after. (place : _) → IsBody words.Enum place (definition_of (declared.Enum d)) before after) 128 (A ATypeName ∷ one EnumBody) 128 [] self.old self.new result }
+    {
+        let name = self.type_name()?;
+        self.expect(Punct::BraceLeft)?;
+        let values = self.enum_values()?;
+        Ok(EnumDefinition { name, values })
+    }
+
+    /// A definition, whose description was skipped.
+    fn definition(&mut self) -> Result<Definition, Stop>
+        ensures reads { Reads (λ d. IsDefinitionRead (definition_of d)) 128 (one ADefinition) 128 [] self.old self.new result }
+    {
+        let Some((place, name)) = self.word() else {
+            return Err(self.stop());
+        };
+        match word_of(name) {
+            SchemaWord::Schema => Ok(Definition::Schema(self.schema(place)?)),
+            SchemaWord::Object => Ok(Definition::Object(self.object()?)),
+            SchemaWord::Interface => Ok(Definition::Interface(self.interface()?)),
+            SchemaWord::Union => Ok(Definition::Union(self.union_type()?)),
+            SchemaWord::Enum => Ok(Definition::Enum(self.enum_type()?)),
+            SchemaWord::Unserved => Err(Stop::NotServed(place)),
+            _ => Err(Stop::Unexpected(Some(place))),
+        }
+    }
+}

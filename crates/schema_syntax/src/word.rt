@@ -1,0 +1,116 @@
+//! The names that mean something where the grammar has them as words.
+
+ghost use Rattle.std.specs.Prelude.{◌≡◌, MatchBool, MatchResult};
+ghost use Rattle.gq_parser.specs.Word.{keyword_of, IsEnumName};
+ghost use Rattle.schema_syntax.specs.Parsing.{IsNameValue};
+ghost use Rattle.schema_syntax.specs.Word.{word_of, IsServedName, operation_of};
+ghost use Rattle.schema_syntax.specs.declared.word.SchemaWord.TheVariants as words;
+
+use crate::fault::Stop;
+use gq_parser::{Keyword, Value};
+use std::alloc::Global;
+
+/// What a name is where a word is wanted. Elsewhere each of them is a plain name.
+#[derive(Clone, Copy, Debug, PartialEq, Eq)]
+pub(crate) enum SchemaWord {
+    Schema,
+    Object,
+    Interface,
+    Union,
+    Enum,
+    Implements,
+    Deprecated,
+    Reason,
+    /// A word that begins a definition which is not served: `scalar`, `input`, `directive` or `extend`.
+    Unserved,
+    /// The type name that is not served, `Float`.
+    Float,
+    /// Any other name.
+    Other,
+}
+
+/// What a name is where a word is wanted.
+pub(crate) fn word_of(name: &str) -> SchemaWord
+    ensures { result ≡ word_of name.now }
+{
+    match name {
+        "schema" => SchemaWord::Schema,
+        "type" => SchemaWord::Object,
+        "interface" => SchemaWord::Interface,
+        "union" => SchemaWord::Union,
+        "enum" => SchemaWord::Enum,
+        "implements" => SchemaWord::Implements,
+        "deprecated" => SchemaWord::Deprecated,
+        "reason" => SchemaWord::Reason,
+        "scalar" => SchemaWord::Unserved,
+        "input" => SchemaWord::Unserved,
+        "directive" => SchemaWord::Unserved,
+        "extend" => SchemaWord::Unserved,
+        "Float" => SchemaWord::Float,
+        _ => SchemaWord::Other,
+    }
+}
+
+/// Whether a type may have this name.
+pub(crate) fn is_served_name(name: &str) -> bool
+    ensures { MatchBool result (IsServedName name.now) (word_of name.now ≡ words.Float) }
+{
+    match word_of(name) {
+        SchemaWord::Float => false,
+        _ => true,
+    }
+}
+
+/// What a name is in the documents' language.
+#[tactic(auto, unfolding(gq_parser::specs::Word::keyword_of))]
+fn keyword_of(name: &str) -> Keyword
+    ensures { result ≡ keyword_of name.now }
+{
+    match name {
+        "query" => Keyword::Query,
+        "mutation" => Keyword::Mutation,
+        "subscription" => Keyword::Subscription,
+        "fragment" => Keyword::Fragment,
+        "on" => Keyword::On,
+        "true" => Keyword::True,
+        "false" => Keyword::False,
+        "null" => Keyword::Null,
+        _ => Keyword::Other,
+    }
+}
+
+/// Whether an enum's value may have this name.
+pub(crate) fn is_enum_name(name: &str) -> bool
+    ensures { MatchBool result (IsEnumName (keyword_of name.now)) (IsEnumName (keyword_of name.now) → ⊥) }
+{
+    match keyword_of(name) {
+        Keyword::True => false,
+        Keyword::False => false,
+        Keyword::Null => false,
+        _ => true,
+    }
+}
+
+/// Of an operation type, whether it is served.
+pub(crate) fn operation(name: &str) -> Option<bool>
+    ensures { result ≡ operation_of (keyword_of name.now) }
+{
+    match keyword_of(name) {
+        Keyword::Query => Some(true),
+        Keyword::Mutation => Some(false),
+        Keyword::Subscription => Some(false),
+        _ => None,
+    }
+}
+
+/// The value that a name is.
+pub(crate) fn name_value(alloc: Global, name: &str) -> Result<Value, Stop>
+    ensures { MatchResult result (IsNameValue name.now) (λ e. e ≡ Stop.NoMemory) }
+{
+    match keyword_of(name) {
+        Keyword::True => Ok(Value::Boolean(true)),
+        Keyword::False => Ok(Value::Boolean(false)),
+        Keyword::Null => Ok(Value::Null),
+        _ => Ok(Value::Enum(String::from_str(alloc, name)?)),
+    }
+}
