@@ -1,3 +1,4 @@
+pub mod BindingsPlaces
 pub mod Bools
 pub mod TypeNameLists
 pub mod Walks

@@ -1,3 +1,10 @@
+pub mod BindingsTree
+pub mod BindingsSeen
+pub mod BindingsPlaces
+pub mod BindingsTypes
+pub mod BindingsForms
+pub mod BindingsReading
+pub mod BindingsFaults
 pub mod Scan
 pub mod Seen
 pub mod Kinds

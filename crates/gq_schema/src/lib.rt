@@ -1,6 +1,7 @@
 //! Schemas.
 #![tactic(auto)]
 
+mod bindings;
 mod check;
 mod coercion;
 mod fault;
@@ -15,6 +16,7 @@ mod schema;
 mod type_names;
 mod types;
 
+pub use bindings::{Binding, Bindings, By, KeySource, LoaderLine};
 pub use coercion::{accepts, coerce};
 pub use fault::SchemaFault;
 pub use input::Input;

@@ -1,0 +1,38 @@
+-- What contracts see of the statements that were read.
+use Rattle.std.specs.Prelude.{map, option_map}
+use Rattle.bindings_syntax.specs.declared.statement.By.{By}
+use Rattle.bindings_syntax.specs.declared.statement.KeySource.{KeySource}
+use Rattle.bindings_syntax.specs.declared.statement.KeySource.TheVariants as source
+use Rattle.bindings_syntax.specs.declared.statement.Form.{Form}
+use Rattle.bindings_syntax.specs.declared.statement.Form.TheVariants as form
+use Rattle.bindings_syntax.specs.declared.statement.Statement.{Statement}
+use Rattle.bindings_syntax.specs.declared.statement.Statement.TheVariants as statement
+use Rattle.bindings_syntax.specs.declared.statement.NumberedStatement.{NumberedStatement}
+use Rattle.bindings_syntax.specs.declared.statement.BindingsText.{BindingsText}
+use Rattle.bindings_syntax.specs.Statements.{ByOf, KeyOf, from_argument, from_column, from_all, FormOf, to_column, to_one, to_many, to_each, to_via, StatementOf, loader_line, field_line}
+use Rattle.bindings_syntax.specs.Reading.{NumberedOf, BindingsTextOf}
+
+abbrev pub by_seen : By → ByOf
+by_seen by = record { column = by.column.now; fold = by.fold }
+
+abbrev pub key_seen : KeySource → KeyOf
+key_seen (source.Argument name) = from_argument name.now
+key_seen (source.Column name) = from_column name.now
+key_seen source.All = from_all
+
+abbrev pub form_seen : Form → FormOf
+form_seen (form.Column column) = to_column column.now
+form_seen (form.One loader key) = to_one loader.now (key_seen key)
+form_seen (form.Many loader key) = to_many loader.now (key_seen key)
+form_seen (form.Each loader argument) = to_each loader.now argument.now
+form_seen (form.Via loader key second column) = to_via loader.now (key_seen key) second.now column.now
+
+abbrev pub statement_seen : Statement → StatementOf
+statement_seen (statement.Loader name table by) = loader_line name.now table.now (option_map by_seen by)
+statement_seen (statement.Field type_name field_name form) = field_line type_name.now field_name.now (form_seen form)
+
+abbrev pub numbered_seen : NumberedStatement → NumberedOf
+numbered_seen numbered = record { line = numbered.line; statement = statement_seen numbered.statement }
+
+abbrev pub text_seen : BindingsText → BindingsTextOf
+text_seen text = record { is_headed = text.is_headed; statements = map numbered_seen text.statements.items; bad_line = text.bad_line }

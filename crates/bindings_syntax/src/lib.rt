@@ -1,0 +1,21 @@
+//! From a bindings text to its statements.
+//!
+//! A bindings text says how the fields of a schema are answered: which loaders there are, and which
+//! of them a field asks with which key. This crate cuts the text into lines and words and tells which
+//! statement each line is. What the statements mean over a schema, the crate above says.
+//!
+//! The layer above may rely on [`read`]: the statements are exactly those of the lines before the
+//! first line that has no form, in order and with their lines' numbers, and that line is named.
+#![tactic(auto)]
+
+mod cut;
+mod form;
+mod lines;
+mod statement;
+#[cfg(test)]
+mod tests;
+mod text;
+mod words;
+
+pub use statement::{BindingsText, By, Form, KeySource, NumberedStatement, Statement};
+pub use text::read;

@@ -1,0 +1,96 @@
+//! The lines of a text that count.
+
+ghost use Rattle.std.specs.Prelude.{◌≡◌, ℕ, List, [], ◌∷◌, ◌+◌, ◌<◌, ◌^◌, length, MatchOption, IfSome};
+ghost use Rattle.bindings_syntax.specs.Lines.{lines_of, NumberedLine as NumberedText, kept_from, kept_lines, is_skipped};
+
+use crate::cut::cut;
+use std::marker::Model;
+
+/// The first line, without its end, and what stands behind it.
+fn first_line(text: &str) -> Option<(&str, &str)>
+    ensures line { MatchOption result (lines_of text.now ≡ []) (λ p. lines_of text.now ≡ p.0.now ∷ lines_of p.1.now) }
+    ensures shorter { IfSome result (λ p. length p.1.now < length text.now) }
+{
+    match cut(text, '\n') {
+        Some((line, rest)) => Some((line.strip_suffix('\r').unwrap_or(line), rest)),
+        None => {
+            if text.is_empty() {
+                None
+            } else {
+                Some((text, ""))
+            }
+        }
+    }
+}
+
+/// A line with its number, from 1.
+#[derive(Clone, Copy)]
+pub(crate) struct NumberedLine<'text> {
+    pub number: u64,
+    pub text: &'text str,
+}
+
+/// The lines that are left.
+#[derive(Drop)]
+pub(crate) struct Lines<'text> {
+    rest: &'text str,
+    /// The number of lines before them.
+    passed: u64,
+}
+
+impl<'text> Model for Lines<'text> {
+    ghost Value = { List NumberedText };
+
+    ghost view = { λ lines. kept_from (lines.passed + 1) (lines_of lines.rest.now) };
+
+    ghost invariant = { λ lines. lines.passed + length lines.rest.now < 2 ^ 64 };
+}
+
+/// Whether a line says nothing: an empty one, or a comment.
+fn says_nothing(line: &str) -> bool
+    ensures { result ≡ is_skipped line.now }
+{
+    line.is_empty() || line.starts_with('#')
+}
+
+/// The first line that counts, and what stands behind it. `passed` is the number of lines before the
+/// text.
+fn first_kept(text: &str, passed: u64) -> Option<(NumberedLine<'_>, &str)>
+    requires { passed + length text.now < 2 ^ 64 }
+    ensures line { MatchOption result (kept_from (passed + 1) (lines_of text.now) ≡ [])
+        (λ p. kept_from (passed + 1) (lines_of text.now)
+        ≡ record { number = p.0.number; text = p.0.text.now } ∷ kept_from (p.0.number + 1) (lines_of p.1.now)) }
+    ensures count { IfSome result (λ p. p.0.number + length p.1.now < 2 ^ 64) }
+{
+    let mut rest = text;
+    let mut number = passed;
+    while let Some((line, after)) = first_line(rest) {
+        rest = after;
+        number += 1;
+        if !says_nothing(line) {
+            return Some((NumberedLine { number, text: line }, rest));
+        }
+    }
+    None
+}
+
+impl<'text> Lines<'text> {
+    pub(crate) fn of(text: &'text str) -> Self
+        ensures { result ≡ kept_lines text.now }
+    {
+        Lines {
+            rest: text,
+            passed: 0,
+        }
+    }
+
+    /// The next line that counts.
+    pub(crate) fn next(&mut self) -> Option<NumberedLine<'text>>
+        ensures { MatchOption result (self.old ≡ []) (λ line. self.old ≡ record { number = line.number; text = line.text.now } ∷ self.new) }
+    {
+        let (line, rest) = first_kept(self.rest, self.passed)?;
+        self.rest = rest;
+        self.passed = line.number;
+        Some(line)
+    }
+}

@@ -1,0 +1,87 @@
+//! The statements of a bindings text. Their parts are words of the text.
+
+/// By which column of its table a loader finds the rows of a key.
+#[derive(Clone, Copy, Debug, PartialEq, Eq)]
+pub struct By<'text> {
+    pub column: &'text str,
+    /// Keys and columns are compared with `A` to `Z` made small.
+    pub fold: bool,
+}
+
+/// Where a field takes its keys from.
+#[derive(Clone, Copy, Debug, PartialEq, Eq)]
+pub enum KeySource<'text> {
+    /// `arg NAME`: an argument of the field.
+    Argument(&'text str),
+    /// `column NAME`: a column of the row that the field belongs to.
+    Column(&'text str),
+    /// `all`: the one key of all rows.
+    All,
+}
+
+/// How a field is answered.
+#[derive(Clone, Copy, Debug, PartialEq, Eq)]
+pub enum Form<'text> {
+    /// `column COLUMN`: a column of the row that the field belongs to.
+    Column(&'text str),
+    /// `one LOADER KEY`: the first row of the key, or null.
+    One {
+        loader: &'text str,
+        key: KeySource<'text>,
+    },
+    /// `many LOADER KEY`: all rows of the key.
+    Many {
+        loader: &'text str,
+        key: KeySource<'text>,
+    },
+    /// `each LOADER arg NAME`: for each key in the argument's list, its first row or null.
+    Each {
+        loader: &'text str,
+        argument: &'text str,
+    },
+    /// `via LOADER KEY LOADER2 COLUMN`: for each row of the key, the second loader's first row of the
+    /// key that stands in the column, or null.
+    Via {
+        loader: &'text str,
+        key: KeySource<'text>,
+        second: &'text str,
+        column: &'text str,
+    },
+}
+
+/// What a line says.
+#[derive(Clone, Copy, Debug, PartialEq, Eq)]
+pub enum Statement<'text> {
+    /// `loader NAME TABLE`, `loader NAME TABLE by COLUMN`, `loader NAME TABLE by COLUMN fold`.
+    Loader {
+        name: &'text str,
+        table: &'text str,
+        /// Without it, the loader gives all rows of the table.
+        by: Option<By<'text>>,
+    },
+    /// `field T.F FORM`. The names are what stands before and after the first dot of `T.F`.
+    Field {
+        type_name: &'text str,
+        field_name: &'text str,
+        form: Form<'text>,
+    },
+}
+
+/// A statement with its line's number, from 1.
+#[derive(Clone, Copy, Debug, PartialEq, Eq)]
+pub struct NumberedStatement<'text> {
+    pub line: u64,
+    pub statement: Statement<'text>,
+}
+
+/// What a bindings text says.
+#[derive(Debug, Drop)]
+pub struct BindingsText<'text> {
+    /// The first line that counts is `bindings 1`.
+    pub is_headed: bool,
+    /// The statements of the lines before the first bad one, in order.
+    pub statements: Vec<NumberedStatement<'text>>,
+    /// The first line that counts and has no form, from 1. Where another line than `bindings 1` comes
+    /// first, it is that line. A text with no line that counts has none, and isn't headed.
+    pub bad_line: Option<u64>,
+}

@@ -1,0 +1,55 @@
+//! The words of a line.
+
+ghost use Rattle.std.specs.Prelude.{◌≡◌, List, [], ◌∷◌, MatchOption};
+ghost use Rattle.bindings_syntax.specs.Cuts.{Text};
+ghost use Rattle.bindings_syntax.specs.Words.{words_of};
+
+use crate::cut::cut;
+use std::marker::Model;
+
+/// The first word, and what stands behind it.
+fn first_word(line: &str) -> Option<(&str, &str)>
+    ensures { MatchOption result (words_of line.now ≡ []) (λ p. words_of line.now ≡ p.0.now ∷ words_of p.1.now) }
+{
+    let mut rest = line;
+    while let Some((word, after)) = cut(rest, ' ') {
+        if !word.is_empty() {
+            return Some((word, after));
+        }
+        rest = after;
+    }
+    if rest.is_empty() {
+        None
+    } else {
+        Some((rest, ""))
+    }
+}
+
+/// The words of a line that are left.
+#[derive(Drop)]
+pub(crate) struct Words<'text> {
+    rest: &'text str,
+}
+
+impl<'text> Model for Words<'text> {
+    ghost Value = { List Text };
+
+    ghost view = { λ words. words_of words.rest.now };
+}
+
+impl<'text> Words<'text> {
+    pub(crate) fn of(line: &'text str) -> Self
+        ensures { result ≡ words_of line.now }
+    {
+        Words { rest: line }
+    }
+
+    /// The next word.
+    pub(crate) fn next(&mut self) -> Option<&'text str>
+        ensures { MatchOption result ((self.old ≡ []) × (self.new ≡ [])) (λ word. self.old ≡ word.now ∷ self.new) }
+    {
+        let (word, rest) = first_word(self.rest)?;
+        self.rest = rest;
+        Some(word)
+    }
+}

@@ -1,0 +1,13 @@
+//! Bindings: how the fields of a schema are answered.
+
+mod binding;
+mod fields;
+mod forms;
+mod loaders;
+mod read;
+#[cfg(test)]
+mod tests;
+mod types;
+
+pub use binding::{Binding, By, KeySource, LoaderLine};
+pub use read::Bindings;
