@@ -1,14 +1,15 @@
 -- From the machine to the tokens, and what meets whatever is expected.
 use Rattle.std.specs.Prelude.{codes}
-use Rattle.std.proofs.Common.{◌≡◌, ◌≢◌, ℕ, Bool, true, false, List, [], ◌∷◌, ◌++◌, Option, Some, None, refl, sym, ap, subst}
+use Rattle.std.proofs.Common.{◌≡◌, ◌≢◌, ℕ, Bool, true, false, List, [], ◌∷◌, ◌++◌, Option, None, refl, sym, subst}
 use Rattle.gq_lexer.specs.declared.place.Place.{Place}
 use Rattle.gq_lexer.specs.declared.token.Punct as lexer
 use Rattle.gq_lexer.specs.declared.token.Punct.TheVariants.{Bang, Amp, ParenLeft, ParenRight, Colon, Equals, At, BracketLeft, BracketRight, BraceLeft, BraceRight, Pipe}
 use Rattle.gq_parser.specs.declared.keyword.Keyword.{Keyword}
 use Rattle.gq_parser.specs.declared.keyword.Keyword.TheVariants.{Query, True, False, Null}
-use Rattle.gq_parser.specs.Word.{Word, Punct, Name, Text, Token, at, IsEnumName}
+use Rattle.gq_parser.specs.Word.{Word, Punct, Name, Text, Token, at}
+use Rattle.gq_parser.specs.Keywords.{IsEnumName}
 use Rattle.gq_parser.specs.Word as words
-use Rattle.gq_parser.specs.Tree.{Value, Values, Members, TypeTree, Named}
+use Rattle.gq_parser.specs.Tree.{Value, TypeTree, Named}
 use Rattle.gq_parser.specs.Grammar as value
 use Rattle.gq_parser.specs.Grammar.{IsValue, AreValues, AreMembers, IsBang, no_bang, bang, IsType, named, list_of, IsDefault, no_default, default}
 use Rattle.schema_syntax.specs.declared.word.SchemaWord.{SchemaWord}
@@ -16,16 +17,15 @@ use Rattle.schema_syntax.specs.declared.word.SchemaWord.TheVariants as word
 use Rattle.schema_syntax.specs.Word.{word_of, IsServedName}
 use Rattle.schema_syntax.specs.Tree as tree
 use Rattle.schema_syntax.specs.Tree.{Definition}
-use Rattle.schema_syntax.specs.Grammar.{IsDescription, no_description, description, IsName, a_name, IsTypeName, type_name, IsServedType, IsReason, no_reason, reason, IsDeprecated, not_deprecated, deprecated, IsArgument, argument, AreArguments, no_more_arguments, next_argument, AreOptionalArguments, no_arguments, arguments}
-use Rattle.schema_syntax.specs.Grammar.{IsField, field, AreFields, no_more_fields, next_field, IsEnumValue, enum_value, AreEnumValues, no_more_values, next_value, IsAmpersand, no_ampersand, ampersand, AreMoreInterfaces, no_more_interfaces, next_interface, AreInterfaces, no_interfaces, interfaces}
-use Rattle.schema_syntax.specs.Grammar.{IsPipe, no_pipe, pipe, AreMoreMembers, no_more_members, next_member, IsBody, schema, object, interface, union, enum, IsDefinition, definition, IsDocument, no_more_definitions, next_definition}
+use Rattle.schema_syntax.specs.Grammar.{IsDescription, no_description, description, IsName, a_name, IsTypeName, type_name, IsServedType, IsReason, no_reason, reason, IsDeprecated, not_deprecated, deprecated, argument, AreArguments, no_more_arguments, next_argument, AreOptionalArguments, no_arguments, arguments}
+use Rattle.schema_syntax.specs.Grammar.{field, AreFields, no_more_fields, next_field, enum_value, AreEnumValues, no_more_values, next_value, no_ampersand, ampersand, no_more_interfaces, next_interface, no_interfaces, interfaces}
+use Rattle.schema_syntax.specs.Grammar.{IsPipe, no_pipe, pipe, no_more_members, next_member, IsBody, schema, object, interface, union, enum, definition, no_more_definitions, next_definition}
 use Rattle.schema_syntax.specs.Machine.{Terminal, AColon, AnEquals, ABracket, AParenthesis, AName, ATypeName, AnItem, AnEnumName, AText, ADeprecated, AReason, AQuery, ARootEnd}
 use Rattle.schema_syntax.specs.Machine.{Symbol, A, ADefinition, RootBody, ObjectBody, FirstInterface, MoreInterfaces, InterfaceBody, EnumBody, Fields, MaybeArguments, Arguments, MaybeDefault, AType, MaybeBang, MaybeDeprecated, MaybeReason, EnumValues, MaybePipe, MoreMembers, AValue, MoreValues, MoreObjectFields}
-use Rattle.schema_syntax.specs.Machine.{Verdict, Move, Takes, Skips, Refuses, Denies, Accepts, Rejects, Bars, verdict, on_verdict, type_name_verdict, enum_name_verdict, deprecated_verdict, reason_verdict, query_verdict, implements_verdict, no_implements_verdict, end_verdict, body_move, moved, Shift, Shifts, Refused, Denied, shift, at_end, a_root, a_field_then, an_argument_then, a_value_then}
-
+use Rattle.schema_syntax.specs.Machine.{Verdict, Accepts, Rejects, Bars, verdict, on_verdict, type_name_verdict, enum_name_verdict, deprecated_verdict, reason_verdict, query_verdict, implements_verdict, no_implements_verdict, end_verdict, body_move, moved, Shift, shift, at_end, a_root, a_field_then, an_argument_then, a_value_then}
 use Rattle.gq_parser.specs.declared.keyword.Keyword.TheVariants.{Mutation, Subscription, Fragment, On, Other}
-use Rattle.gq_parser.specs.Word.{AreSpelled, keyword_of}
-use Rattle.schema_syntax.specs.declared.fault.Stop.{Stop}
+use Rattle.gq_parser.specs.Word.{AreSpelled}
+use Rattle.gq_parser.specs.Keywords.{keyword_of}
 use Rattle.schema_syntax.proofs.Means.{IsNotNext, EndsUnion, Derives, Means, ends, then', Shifted}
 use Rattle.schema_syntax.proofs.Means.{d_terminal, d_definition, d_root, d_object, d_first_interface, d_interfaces, d_interface, d_enum, d_fields, d_no_arguments, d_some_arguments, d_arguments, d_no_default, d_default, d_type, d_list_type, d_no_bang, d_bang, d_not_deprecated, d_deprecated, d_no_reason, d_reason, d_values, d_no_pipe, d_pipe, d_members, d_value, d_more_values, d_object_fields}
 

@@ -1,6 +1,6 @@
 -- Where the machine stops there is the first fault.
 use Rattle.std.specs.Prelude.{not, if◌then◌else◌}
-use Rattle.std.proofs.Common.{◌≡◌, ◌≢◌, ℕ, zero, suc, Bool, true, false, List, [], ◌∷◌, ◌++◌, Option, Some, None, refl, sym, ap, subst, ◌∙◌, ◌⊎◌, inl, inr}
+use Rattle.std.proofs.Common.{◌≡◌, ℕ, zero, suc, Bool, true, false, List, [], ◌∷◌, ◌++◌, Option, Some, None, refl, sym, ap, subst, ◌∙◌, ◌⊎◌, inl, inr}
 use Rattle.std.proofs.lemmas.List.{append-nil}
 use Rattle.gq_lexer.specs.declared.place.Place.{Place}
 use Rattle.gq_lexer.specs.declared.token.Punct.TheVariants.{At, BracketLeft}
@@ -17,7 +17,7 @@ use Rattle.schema_syntax.specs.Machine.{Symbol, A, AColon, AnEquals, ABracket, A
 use Rattle.schema_syntax.specs.Machine.{MaybeArguments, MaybeDefault, MaybeBang, MaybeDeprecated, MaybeReason, MaybePipe, MoreMembers, Verdict, Accepts, Rejects, deprecated_verdict, on_verdict, moved, Shift, Shifts, Refused, Denied, shift}
 use Rattle.schema_syntax.specs.Machine.{is_deprecated, is_other_directive, refused, Step, Goes, Stops, Forbids, Sinks, entered, step, at_end, read}
 use Rattle.schema_syntax.proofs.Means.{Means, Shifted, shifts}
-use Rattle.schema_syntax.proofs.Back.{Met, meets, shifts_back, at_end_done}
+use Rattle.schema_syntax.proofs.Back.{meets, shifts_back, at_end_done}
 use Rattle.schema_syntax.proofs.Served.{Comes, goes_comes, refused_comes, denied_comes, Plain, Lawful, plain_lawful, keeps, denied}
 use Rattle.schema_syntax.proofs.Refused.{refused_served, bracket_refused}
 
@@ -211,8 +211,8 @@ module _ (stack next : List Symbol) (p : Place) (w : Word) (e : shift stack w �
   item_later good bad lawful f = elim (keeps stack next w lawful e) [
     | inl plain ↦ absurd (f.not_plain plain)
     | inr x ↦
-      let u : IsUnserved (Comes stack (at p w ∷ [])) (at p w ∷ []) (at f.place (Punct BracketLeft) ∷ f.rest) = list (λ c. f.never (on [] _ c)) x.0 in
-      rw (f.none, f.is) u
+        let u : IsUnserved (Comes stack (at p w ∷ [])) (at p w ∷ []) (at f.place (Punct BracketLeft) ∷ f.rest) = list (λ c. f.never (on [] _ c)) x.0 in
+        rw (f.none, f.is) u
   ]
 
   why_later : (room r : ℕ) (good bad : List Token) (stop : Stop) → Lawful stack → ((more : List Token) → IsShallow room (at p w ∷ more) → IsShallow r more) → Why r next good bad stop → Why room stack (at p w ∷ good) bad stop

@@ -3,4 +3,11 @@ pub mod Back
 pub mod Served
 pub mod Refused
 pub mod Faults
-pub mod Reading
+pub mod Steps
+pub mod Views
+pub mod Values
+pub mod Front
+pub mod Lists
+pub mod Bodies
+pub mod Unique
+pub mod Whole

@@ -1,12 +1,11 @@
 -- What may come where a list of symbols is expected, and that a token changes it as the machine says.
-use Rattle.std.specs.Prelude.{codes}
-use Rattle.std.proofs.Common.{◌≡◌, ◌≢◌, ℕ, Bool, true, false, List, [], ◌∷◌, ◌++◌, Option, Some, None, refl, ap, subst}
+use Rattle.std.proofs.Common.{◌≡◌, ◌≢◌, ℕ, Bool, true, false, List, [], ◌∷◌, ◌++◌, Option, refl, ap}
 use Rattle.gq_lexer.specs.declared.place.Place.{Place}
-use Rattle.gq_lexer.specs.declared.token.Punct.TheVariants.{Bang, Amp, ParenLeft, ParenRight, Colon, Equals, At, BracketLeft, BracketRight, BraceLeft, BraceRight, Pipe}
+use Rattle.gq_lexer.specs.declared.token.Punct.TheVariants.{Bang, ParenLeft, ParenRight, Colon, Equals, At, BracketLeft, BracketRight, BraceLeft, BraceRight, Pipe}
 use Rattle.gq_parser.specs.declared.keyword.Keyword.{Keyword}
 use Rattle.gq_parser.specs.declared.keyword.Keyword.TheVariants.{Query, True, False, Null}
-use Rattle.gq_parser.specs.Word.{Word, Punct, Name, Text, Token, at, IsEnumName}
-use Rattle.gq_parser.specs.Word as words
+use Rattle.gq_parser.specs.Word.{Word, Punct, Name, Text, Token, at}
+use Rattle.gq_parser.specs.Keywords.{IsEnumName}
 use Rattle.gq_parser.specs.Tree.{Value, Values, Members, TypeTree}
 use Rattle.gq_parser.specs.Grammar as value
 use Rattle.gq_parser.specs.Grammar.{IsValue, AreValues, AreMembers, IsBang, no_bang, bang, IsType, named, list_of, IsDefault, no_default, default}
@@ -15,12 +14,12 @@ use Rattle.schema_syntax.specs.declared.word.SchemaWord.TheVariants as word
 use Rattle.schema_syntax.specs.Word.{word_of, IsServedName}
 use Rattle.schema_syntax.specs.Tree as tree
 use Rattle.schema_syntax.specs.Tree.{Definition}
-use Rattle.schema_syntax.specs.Grammar.{IsDescription, no_description, description, IsName, a_name, IsTypeName, type_name, IsServedType, IsReason, no_reason, reason, IsDeprecated, not_deprecated, deprecated, IsArgument, argument, AreArguments, no_more_arguments, next_argument, AreOptionalArguments, no_arguments, arguments}
-use Rattle.schema_syntax.specs.Grammar.{IsField, field, AreFields, no_more_fields, next_field, IsEnumValue, enum_value, AreEnumValues, no_more_values, next_value, IsAmpersand, no_ampersand, ampersand, AreMoreInterfaces, no_more_interfaces, next_interface, AreInterfaces, no_interfaces, interfaces}
-use Rattle.schema_syntax.specs.Grammar.{IsPipe, no_pipe, pipe, AreMoreMembers, no_more_members, next_member, IsBody, schema, object, interface, union, enum, IsDefinition, definition, IsDocument, no_more_definitions, next_definition}
-use Rattle.schema_syntax.specs.Machine.{Terminal, AColon, AnEquals, ABracket, AParenthesis, AName, ATypeName, AnItem, AnEnumName, AText, ADeprecated, AReason, AQuery, ARootEnd}
+use Rattle.schema_syntax.specs.Grammar.{no_description, description, a_name, IsTypeName, type_name, IsServedType, IsReason, no_reason, reason, IsDeprecated, not_deprecated, deprecated, argument, AreArguments, no_more_arguments, next_argument, AreOptionalArguments, no_arguments, arguments}
+use Rattle.schema_syntax.specs.Grammar.{field, AreFields, no_more_fields, next_field, enum_value, AreEnumValues, no_more_values, next_value, IsAmpersand, no_ampersand, ampersand, AreMoreInterfaces, no_more_interfaces, next_interface, AreInterfaces, no_interfaces, interfaces}
+use Rattle.schema_syntax.specs.Grammar.{IsPipe, no_pipe, pipe, AreMoreMembers, no_more_members, next_member, IsBody, schema, object, interface, union, enum, definition, IsDocument, no_more_definitions, next_definition}
+use Rattle.schema_syntax.specs.Machine.{Terminal, ATypeName}
 use Rattle.schema_syntax.specs.Machine.{Symbol, A, ADefinition, RootBody, ObjectBody, FirstInterface, MoreInterfaces, InterfaceBody, EnumBody, Fields, MaybeArguments, Arguments, MaybeDefault, AType, MaybeBang, MaybeDeprecated, MaybeReason, EnumValues, MaybePipe, MoreMembers, AValue, MoreValues, MoreObjectFields}
-use Rattle.schema_syntax.specs.Machine.{Verdict, Accepts, Rejects, Bars, verdict, on_verdict, type_name_verdict, enum_name_verdict, deprecated_verdict, reason_verdict, query_verdict, implements_verdict, end_verdict, body_move, moved, Shift, Shifts, Refused, Denied, shift, at_end, a_field_then, an_argument_then, a_value_then}
+use Rattle.schema_syntax.specs.Machine.{Accepts, verdict, type_name_verdict, enum_name_verdict, deprecated_verdict, reason_verdict, body_move, moved, Shift, Shifts, Refused, Denied, shift, a_field_then, an_argument_then, a_value_then}
 
 -- the word is not next
 abbrev pub IsNotNext : Word → List Token → Type 0

@@ -1,22 +1,20 @@
 -- Where the machine refuses a word, that word is none of those that aren't served.
 use Rattle.std.specs.Prelude.{codes}
-use Rattle.std.proofs.Common.{◌≡◌, ◌≢◌, ℕ, Bool, true, false, List, [], ◌∷◌, ◌++◌, refl, sym, ap, subst, ◌∙◌, ◌⊎◌, inl, inr}
+use Rattle.std.proofs.Common.{◌≡◌, ℕ, true, List, [], ◌∷◌, ◌++◌, refl, sym, ap, ◌∙◌, inl, inr}
 use Rattle.gq_lexer.specs.declared.place.Place.{Place}
-use Rattle.gq_lexer.specs.declared.token.Punct.TheVariants.{Bang, Amp, ParenLeft, ParenRight, Colon, Equals, At, BracketLeft, BracketRight, BraceLeft, BraceRight, Pipe}
+use Rattle.gq_lexer.specs.declared.token.Punct.TheVariants.{Amp, Colon, BracketLeft, BraceLeft, BraceRight}
 use Rattle.gq_parser.specs.declared.keyword.Keyword.{Keyword}
-use Rattle.gq_parser.specs.declared.keyword.Keyword.TheVariants.{Query, Mutation, Subscription, True, False, Null, Other}
-use Rattle.gq_parser.specs.Word.{Word, Punct, Name, Text, Token, at, AreSpelled}
-use Rattle.gq_parser.specs.Word as words
+use Rattle.gq_parser.specs.declared.keyword.Keyword.TheVariants.{Query, Mutation, Subscription, Other}
+use Rattle.gq_parser.specs.Word.{Word, Punct, Name, Token, at}
 use Rattle.schema_syntax.specs.declared.word.SchemaWord.{SchemaWord}
 use Rattle.schema_syntax.specs.declared.word.SchemaWord.TheVariants as word
 use Rattle.schema_syntax.specs.Word.{word_of}
 use Rattle.schema_syntax.specs.Fault.{IsUnservedWord, definition, operation, implements, float, IsOtherOperation}
-use Rattle.schema_syntax.specs.Machine.{Terminal, AColon, AnEquals, ABracket, AParenthesis, AName, ATypeName, AnItem, AnEnumName, AText, ADeprecated, AReason, AQuery, ARootEnd}
+use Rattle.schema_syntax.specs.Machine.{AColon, AnEquals, ABracket, AParenthesis, AName, ATypeName, AnItem, AnEnumName, AText, ADeprecated, AReason, AQuery, ARootEnd}
 use Rattle.schema_syntax.specs.Machine.{Symbol, A, ADefinition, RootBody, ObjectBody, FirstInterface, MoreInterfaces, InterfaceBody, EnumBody, Fields, MaybeArguments, Arguments, MaybeDefault, AType, MaybeBang, MaybeDeprecated, MaybeReason, EnumValues, MaybePipe, MoreMembers, AValue, MoreValues, MoreObjectFields}
-use Rattle.schema_syntax.specs.Machine.{Verdict, Move, Takes, Skips, Refuses, Denies, Accepts, Rejects, Bars, verdict, on_verdict, type_name_verdict, enum_name_verdict, deprecated_verdict, reason_verdict, query_verdict, root_end_verdict, implements_verdict, no_implements_verdict, end_verdict, body_move, top_move, move, moved, Shift, Shifts, Refused, Denied, shift}
-use Rattle.schema_syntax.proofs.Means.{Means, Shifted, shifts}
-use Rattle.schema_syntax.proofs.Back.{Met, a, meets, shifts_back}
-
+use Rattle.schema_syntax.specs.Machine.{Verdict, Accepts, Rejects, Bars, on_verdict, type_name_verdict, enum_name_verdict, query_verdict, root_end_verdict, implements_verdict, no_implements_verdict, body_move, moved, Shift, Shifts, Refused, Denied, shift}
+use Rattle.schema_syntax.proofs.Means.{Shifted, shifts}
+use Rattle.schema_syntax.proofs.Back.{a}
 use Rattle.schema_syntax.proofs.Served.{Comes, goes_comes, comes_behind, comes_before}
 
 verdict_refused : (v v' : Verdict) (symbols stack : List Symbol) (skipped : Shift) → v ≡ v' → moved (on_verdict v symbols) stack skipped ≡ Refused → moved (on_verdict v' symbols) stack skipped ≡ Refused

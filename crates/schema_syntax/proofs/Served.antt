@@ -6,7 +6,6 @@ use Rattle.gq_lexer.specs.declared.token.Punct.TheVariants.{Bang, Amp, ParenLeft
 use Rattle.gq_parser.specs.declared.keyword.Keyword.{Keyword}
 use Rattle.gq_parser.specs.declared.keyword.Keyword.TheVariants.{Query, Mutation, Subscription, True, False, Null, Other}
 use Rattle.gq_parser.specs.Word.{Word, Punct, Name, Text, Token, at, AreSpelled}
-use Rattle.gq_parser.specs.Word as words
 use Rattle.schema_syntax.specs.declared.word.SchemaWord.{SchemaWord}
 use Rattle.schema_syntax.specs.declared.word.SchemaWord.TheVariants as word
 use Rattle.schema_syntax.specs.Word.{word_of}
@@ -15,7 +14,7 @@ use Rattle.schema_syntax.specs.Machine.{Terminal, AColon, AnEquals, ABracket, AP
 use Rattle.schema_syntax.specs.Machine.{Symbol, A, ADefinition, RootBody, ObjectBody, FirstInterface, MoreInterfaces, InterfaceBody, EnumBody, Fields, MaybeArguments, Arguments, MaybeDefault, AType, MaybeBang, MaybeDeprecated, MaybeReason, EnumValues, MaybePipe, MoreMembers, AValue, MoreValues, MoreObjectFields}
 use Rattle.schema_syntax.specs.Machine.{Verdict, Move, Takes, Skips, Refuses, Denies, Accepts, Rejects, Bars, verdict, on_verdict, type_name_verdict, enum_name_verdict, deprecated_verdict, reason_verdict, query_verdict, root_end_verdict, implements_verdict, no_implements_verdict, end_verdict, body_move, top_move, move, moved, Shift, Shifts, Refused, Denied, shift}
 use Rattle.schema_syntax.proofs.Means.{Means, Shifted, shifts}
-use Rattle.schema_syntax.proofs.Back.{Met, a, meets, shifts_back}
+use Rattle.schema_syntax.proofs.Back.{a, meets, shifts_back}
 
 -- behind good tokens, where these symbols were expected before them, these can come next
 pub record Comes (stack : List Symbol) (good next : List Token) : Type 0 where

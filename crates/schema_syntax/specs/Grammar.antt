@@ -7,7 +7,8 @@ use Rattle.gq_lexer.specs.declared.token.Punct.TheVariants.{Amp, ParenLeft, Pare
 use Rattle.gq_parser.specs.declared.keyword.Keyword.{Keyword}
 use Rattle.gq_parser.specs.declared.keyword.Keyword.TheVariants.{Query}
 use Rattle.gq_parser.specs.Word as token
-use Rattle.gq_parser.specs.Word.{Token, at, Punct, Text, IsEnumName}
+use Rattle.gq_parser.specs.Word.{Token, at, Punct, Text}
+use Rattle.gq_parser.specs.Keywords.{IsEnumName}
 use Rattle.gq_parser.specs.Tree.{Value, TypeTree, Named, ListOf}
 use Rattle.gq_parser.specs.Grammar.{IsType, IsDefault}
 use Rattle.schema_syntax.specs.declared.word.SchemaWord.{SchemaWord}

@@ -1,6 +1,5 @@
 -- Reading by what is still expected, a token at a time. No promise to a caller speaks of it: the parser's own methods are proved against it.
 use Rattle.std.specs.Prelude.{ℕ, zero, suc, Bool, true, false, not, List, [], ◌∷◌, ◌++◌, Option, Some, None, if◌then◌else◌}
-use Rattle.gq_lexer.specs.declared.place.Place.{Place}
 use Rattle.gq_lexer.specs.declared.token.Punct.TheVariants.{Bang, Amp, ParenLeft, ParenRight, Colon, Equals, At, BracketLeft, BracketRight, BraceLeft, BraceRight, Pipe}
 use Rattle.gq_parser.specs.declared.keyword.Keyword.{Keyword}
 use Rattle.gq_parser.specs.declared.keyword.Keyword.TheVariants.{Query, Mutation, Subscription, True, False, Null}

@@ -1,10 +1,10 @@
 -- What a method of the parser does with the tokens that are left.
 use Rattle.std.specs.Prelude.{◌≡◌, ◌≢◌, ◌≤◌, ℕ, Bool, true, false, List, [], ◌∷◌, ◌++◌, length, Result, Ok, Err, Option, Some, None, string_bytes, ◌<◌}
 use Rattle.gq_lexer.specs.declared.place.Place.{Place}
-use Rattle.gq_lexer.specs.declared.token.Punct as lexer
 use Rattle.gq_lexer.specs.declared.token.Punct.TheVariants.{BraceLeft, Colon}
 use Rattle.gq_parser.specs.declared.keyword.Keyword.{Keyword}
-use Rattle.gq_parser.specs.Word.{Word, Punct, Name, Int, Float, Text, Token, at, keyword_of, IsEnumName}
+use Rattle.gq_parser.specs.Word.{Word, Punct, Name, Int, Float, Text, Token, at}
+use Rattle.gq_parser.specs.Keywords.{keyword_of, IsEnumName}
 use Rattle.gq_parser.specs.declared.keyword.Keyword.TheVariants.{Query}
 use Rattle.gq_parser.specs.Tree as values
 use Rattle.gq_parser.specs.Tree.{TypeTree, Named, ListOf, literal_of}
@@ -17,7 +17,8 @@ use Rattle.schema_syntax.specs.declared.fault.Stop as rust
 use Rattle.schema_syntax.specs.declared.fault.Stop.TheVariants.{Unexpected, NotServed, NoMemory}
 use Rattle.schema_syntax.specs.Word.{word_of}
 use Rattle.schema_syntax.specs.Tree as tree
-use Rattle.schema_syntax.specs.Tree.{Definition}
+use Rattle.schema_syntax.specs.Tree.{Definition, definitions_of}
+use Rattle.schema_syntax.specs.declared.tree.SchemaDocument as rust-document
 use Rattle.schema_syntax.specs.Grammar.{IsServedType, IsTypeName, IsAmpersand, AreMoreInterfaces, AreInterfaces, IsPipe, AreMoreMembers, IsBody, IsDocument}
 use Rattle.schema_syntax.specs.Machine.{Symbol, AValue, read, refused}
 
@@ -87,11 +88,15 @@ TakesText old new (Some t) = old ≡ at t.0 (Text (string_bytes t.1)) ∷ new
 TakesText old new None = (new ≡ old) × IsNoText old
 
 -- no number is next
-abbrev pub IsNoNumber : List Token → Type 0
-IsNoNumber [] = Unit {0}
-IsNoNumber (at p (Int n) ∷ rest) = ⊥
-IsNoNumber (at p (Float n) ∷ rest) = ⊥
-IsNoNumber (at p _ ∷ rest) = Unit {0}
+abbrev pub IsNoInt : List Token → Type 0
+IsNoInt [] = Unit {0}
+IsNoInt (at p (Int n) ∷ rest) = ⊥
+IsNoInt (at p _ ∷ rest) = Unit {0}
+
+abbrev pub IsNoFloat : List Token → Type 0
+IsNoFloat [] = Unit {0}
+IsNoFloat (at p (Float n) ∷ rest) = ⊥
+IsNoFloat (at p _ ∷ rest) = Unit {0}
 
 -- a name is this value
 abbrev pub IsNameValue : List ℕ → Value → Type 0
@@ -106,7 +111,7 @@ pub record IsNumberRead (l : Literal) (old new : List Token) : Type 0 where
 abbrev pub NumberReads : List Token → List Token → Result Literal rust.Stop → Type 0
 NumberReads old new (Ok l) = IsNumberRead l old new
 NumberReads old new (Err NoMemory) = Unit {0}
-NumberReads old new (Err stop) = (stop ≡ refused old) × IsNoNumber old
+NumberReads old new (Err stop) = (stop ≡ refused old) × IsNoInt old × IsNoFloat old
 
 -- a type that is served
 pub record IsTypeRead (t : TypeTree) (before after : List Token) : Type 0 where
@@ -138,17 +143,16 @@ pub record IsQueryTaken (before after : List Token) : Type 0 where
   pub name : List ℕ
   pub begins : before ≡ at place (Name Query name) ∷ after
 
--- the interfaces behind `implements`, and the brace behind them
+-- the interfaces behind `implements`
 pub record AreSomeInterfaces (names : List tree.Name) (before after : List Token) : Type 0 where
   pub first : tree.Name
   pub others : List tree.Name
   pub mid : List Token
   pub mid' : List Token
-  pub place : Place
   pub all : names ≡ first ∷ others
   pub ampersand : IsAmpersand before mid
   pub is : IsTypeName first mid mid'
-  pub are : AreMoreInterfaces others mid' (at place (Punct BraceLeft) ∷ after)
+  pub are : AreMoreInterfaces others mid' after
 
 -- the interfaces that a type implements, and the brace behind them
 pub record AreInterfacesRead (is : List tree.Name) (before after : List Token) : Type 0 where
@@ -187,3 +191,8 @@ pub record IsFront {T W : Type 0} (AreRest : T → List Token → List Token →
 pub record IsDocumentFront (room : ℕ) (definitions : List Definition) (before now : List Token) : Type 0 where
   pub joins : (others : List Definition) → IsDocument others now → IsDocument (definitions ++ others) before
   pub reads : read room [] before ≡ read room [] now
+
+-- this tree was found, unless memory ran out
+abbrev pub Finds : List Definition → Result rust-document.SchemaDocument rust.Stop → Type 0
+Finds ds (Ok d) = definitions_of d ≡ ds
+Finds ds (Err stop) = stop ≡ NoMemory

@@ -3,11 +3,19 @@
 #![tactic(auto)]
 
 mod fault;
+mod law;
 mod parser;
+mod reading;
 mod tree;
 mod word;
 
+pub use fault::SyntaxFault;
+pub use law::one_tree;
+pub use reading::read_tokens;
 pub use tree::{
     ArgumentDefinition, Definition, EnumDefinition, FieldDefinition, InterfaceDefinition, Name,
     ObjectDefinition, SchemaDefinition, SchemaDocument, UnionDefinition,
 };
+
+#[cfg(test)]
+mod tests;

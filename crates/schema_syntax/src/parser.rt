@@ -1,21 +1,24 @@
 //! From the tokens of a schema text to its tree.
 
-ghost use Rattle.std.specs.Prelude.{◌≡◌, ◌<◌, ◌≤◌, ◌∷◌, [], suc, length, MatchOption, MatchResult, OnOk, IfOk, map, List, false, true};
+ghost use Rattle.std.specs.Prelude.{◌≡◌, ◌<◌, ◌≤◌, ◌∷◌, [], suc, length, MatchOption, MatchResult, OnOk, IfOk, IfErr, All, List, true, false};
 ghost use Rattle.gq_lexer.specs.declared.token.Punct.TheVariants as punct;
-ghost use Rattle.gq_parser.specs.Word.{at, Punct as a_mark, Name as a_word};
-ghost use Rattle.gq_parser.specs.Tree.{literal_of, type_of, values_of, members_of, default_of, arguments_of as map_members, argument_of as member_of};
+ghost use Rattle.gq_lexer.specs.Tokens.{IsToken};
+ghost use Rattle.gq_parser.specs.Fault.{IsShallow, most_brackets};
+ghost use Rattle.gq_parser.specs.Word.{tokens_of, at, Punct as a_mark, Int as an_int, Float as a_float};
+ghost use Rattle.gq_parser.specs.Tree.{literal_of, type_of, map_literals, map_members, default_of, argument_of as member_of};
 ghost use Rattle.gq_parser.specs.Grammar.{IsValue, AreValues, AreMembers, IsDefault};
 ghost use Rattle.schema_syntax.specs.declared.word.SchemaWord.TheVariants as words;
 ghost use Rattle.schema_syntax.specs.declared.tree.Definition.TheVariants as declared;
-ghost use Rattle.schema_syntax.specs.Tree.{name_of, names_of, argument_of, arguments_of, field_of, fields_of, definition_of};
-ghost use Rattle.schema_syntax.specs.Grammar.{IsBody, IsName, IsTypeName, IsReason, IsDeprecated, IsArgument, AreArguments, AreOptionalArguments, IsField, AreFields, IsEnumValue, AreEnumValues};
-ghost use Rattle.schema_syntax.specs.Machine.{one, a_union_then, A, AName, AColon, ATypeName, AnItem, AnEnumName, AQuery, ARootEnd, ADefinition, RootBody, ObjectBody, FirstInterface, InterfaceBody, EnumBody, Fields, MaybeArguments, Arguments, MaybeDefault, AType, MaybeBang, MaybeDeprecated, MaybeReason, EnumValues, MaybePipe, MoreMembers, AValue, MoreValues, MoreObjectFields, refused};
-ghost use Rattle.schema_syntax.specs.Parsing.{Reads, Eats, Expects, Describes, TakesMark, TakesText, NumberReads, IsNoName, IsNameTaken, IsTaken, IsMemberRead, IsEnumNameRead, IsQueryTaken, AreSomeInterfaces, AreMembersRead, IsTypeRead, IsNamed, AreInterfacesRead, IsDefinitionRead};
+ghost use Rattle.schema_syntax.specs.Tree.{name_of, names_of, argument_of, arguments_of, field_of, fields_of, definition_of, definitions_of, Definition as tree_definition};
+ghost use Rattle.schema_syntax.specs.Fault.{IsStop};
+ghost use Rattle.schema_syntax.specs.Grammar.{IsDocument, IsBody, IsName, IsTypeName, IsReason, IsDeprecated, IsArgument, AreArguments, AreOptionalArguments, IsField, AreFields, IsEnumValue, AreEnumValues};
+ghost use Rattle.schema_syntax.specs.Machine.{one, a_union_then, A, AName, AColon, ATypeName, AnItem, AnEnumName, AQuery, ARootEnd, ADefinition, RootBody, ObjectBody, FirstInterface, MoreInterfaces, InterfaceBody, EnumBody, Fields, MaybeArguments, Arguments, MaybeDefault, AType, MaybeBang, MaybeDeprecated, MaybeReason, EnumValues, MaybePipe, MoreMembers, AValue, MoreValues, MoreObjectFields, refused};
+ghost use Rattle.schema_syntax.specs.Parsing.{Reads, Eats, Expects, Describes, TakesMark, TakesText, NumberReads, IsNotNext, IsNoName, IsNoInt, IsNoFloat, IsNameTaken, IsTaken, IsMemberRead, IsEnumNameRead, IsQueryTaken, AreSomeInterfaces, AreMembersRead, IsTypeRead, IsNamed, AreInterfacesRead, IsDefinitionRead, Finds};
 
 use crate::fault::Stop;
 use crate::tree::{
     ArgumentDefinition, Definition, EnumDefinition, FieldDefinition, InterfaceDefinition, Name,
-    ObjectDefinition, SchemaDefinition, UnionDefinition,
+    ObjectDefinition, SchemaDefinition, SchemaDocument, UnionDefinition,
 };
 use crate::word::{SchemaWord, is_enum_name, is_served_name, name_value, operation, word_of};
 use gq_lexer::{Kind, Place, Punct, Token, string_value};
@@ -44,6 +47,12 @@ impl<'a> Model for Parser<'a> {
 }
 
 impl<'a> Parser<'a> {
+    fn left(&self) -> usize
+        ensures { result ≡ length self.now }
+    {
+        self.rest.len()
+    }
+
     /// The fault, if what is next can't come.
     fn stop(&self) -> Stop
         ensures { result ≡ refused self.now }
@@ -239,30 +248,48 @@ impl<'a> Parser<'a> {
         }
     }
 
-    fn number(&mut self) -> Result<Literal, Stop>
-        ensures { NumberReads self.old self.new result }
+    /// The integer that is next, if one is.
+    fn int(&mut self) -> Option<(Place, &'a str)>
+        ensures { MatchOption result ((self.new ≡ self.old) × IsNoInt self.old) (λ t. self.old ≡ at t.0 (an_int t.1.now) ∷ self.new) }
     {
         match self.rest.split_first() {
             Some((first, rest)) if first.kind == Kind::Int => {
                 let text = self.text;
                 self.rest = rest;
-                let number = String::from_str(self.alloc, first.text(text))?;
-                Ok(Literal {
-                    place: first.place(),
-                    value: Value::Int(number),
-                })
+                Some((first.place(), first.text(text)))
             }
+            _ => None,
+        }
+    }
+
+    /// The number with a fraction or an exponent that is next, if one is.
+    fn float(&mut self) -> Option<(Place, &'a str)>
+        ensures { MatchOption result ((self.new ≡ self.old) × IsNoFloat self.old) (λ t. self.old ≡ at t.0 (a_float t.1.now) ∷ self.new) }
+    {
+        match self.rest.split_first() {
             Some((first, rest)) if first.kind == Kind::Float => {
                 let text = self.text;
                 self.rest = rest;
-                let number = String::from_str(self.alloc, first.text(text))?;
-                Ok(Literal {
-                    place: first.place(),
-                    value: Value::Float(number),
-                })
+                Some((first.place(), first.text(text)))
             }
-            _ => Err(self.stop()),
+            _ => None,
         }
+    }
+
+    fn number(&mut self) -> Result<Literal, Stop>
+        ensures { NumberReads self.old self.new result }
+    {
+        if let Some((place, text)) = self.int() {
+            let number = String::from_str(self.alloc, text)?;
+            let value = Value::Int(number);
+            return Ok(Literal { place, value });
+        }
+        if let Some((place, text)) = self.float() {
+            let number = String::from_str(self.alloc, text)?;
+            let value = Value::Float(number);
+            return Ok(Literal { place, value });
+        }
+        Err(self.stop())
     }
 
     #[cycle(value)]
@@ -298,7 +325,7 @@ impl<'a> Parser<'a> {
     /// The values up to the bracket that closes them.
     #[cycle(value)]
     fn values(&mut self, room: u32) -> Result<Vec<Literal>, Stop>
-        ensures reads { Reads (λ vs. AreValues true (values_of (map literal_of vs.items))) room (one MoreValues) (suc room) [] self.old self.new result }
+        ensures reads { Reads (λ vs. AreValues true (map_literals vs.items)) room (one MoreValues) (suc room) [] self.old self.new result }
         ensures shrinks { OnOk result (length self.new < length self.old) }
     {
         let mut values = Vec::new(self.alloc);
@@ -326,7 +353,7 @@ impl<'a> Parser<'a> {
     /// The fields of an object value up to the brace that closes them.
     #[cycle(value)]
     fn object_fields(&mut self, room: u32) -> Result<Vec<Argument>, Stop>
-        ensures reads { Reads (λ ms. AreMembers true (members_of (map_members ms.items))) room (one MoreObjectFields) (suc room) [] self.old self.new result }
+        ensures reads { Reads (λ ms. AreMembers true (map_members ms.items)) room (one MoreObjectFields) (suc room) [] self.old self.new result }
         ensures shrinks { OnOk result (length self.new < length self.old) }
     {
         let mut fields = Vec::new(self.alloc);
@@ -450,7 +477,7 @@ impl<'a> Parser<'a> {
     /// The interfaces that an object type implements, and the brace behind them.
     fn interfaces(&mut self) -> Result<Vec<Name>, Stop>
         ensures reads { Reads (λ is. AreInterfacesRead (names_of is.items)) 128 (one ObjectBody) 127 (one (Fields false)) self.old self.new result }
-        ensures shrinks { OnOk result (length self.new < length self.old) }
+        ensures shrinks { OnOk result (length self.new ≤ length self.old) }
     {
         let Some((place, name)) = self.word() else {
             self.expect(Punct::BraceLeft)?;
@@ -459,13 +486,16 @@ impl<'a> Parser<'a> {
         let SchemaWord::Implements = word_of(name) else {
             return Err(Stop::Unexpected(Some(place)));
         };
-        self.some_interfaces()
+        let interfaces = self.some_interfaces()?;
+        self.expect(Punct::BraceLeft)?;
+        Ok(interfaces)
     }
 
-    /// The interfaces behind `implements`, and the brace behind them.
+    /// The interfaces behind `implements`.
     fn some_interfaces(&mut self) -> Result<Vec<Name>, Stop>
-        ensures reads { Reads (λ is. AreSomeInterfaces (names_of is.items)) 128 (one FirstInterface) 127 (one (Fields false)) self.old self.new result }
-        ensures shrinks { OnOk result (length self.new < length self.old) }
+        ensures reads { Reads (λ is. AreSomeInterfaces (names_of is.items)) 128 (one FirstInterface) 128 (one MoreInterfaces) self.old self.new result }
+        ensures ends { OnOk result (IsNotNext (a_mark punct.Amp) self.new) }
+        ensures shrinks { OnOk result (length self.new ≤ length self.old) }
     {
         let mut interfaces = Vec::new(self.alloc);
         self.eat(Punct::Amp);
@@ -473,7 +503,6 @@ impl<'a> Parser<'a> {
         while self.eat(Punct::Amp) {
             interfaces.push(self.type_name()?)?;
         }
-        self.expect(Punct::BraceLeft)?;
         Ok(interfaces)
     }
 
@@ -494,7 +523,7 @@ impl<'a> Parser<'a> {
     /// The members of a union, behind its `=`.
     fn members(&mut self) -> Result<Vec<Name>, Stop>
         ensures reads { Reads (λ ms. AreMembersRead (names_of ms.items)) 128 (MaybePipe ∷ A ATypeName ∷ one MoreMembers) 128 [] self.old self.new result }
-        ensures shrinks { OnOk result (length self.new < length self.old) }
+        ensures shrinks { OnOk result (length self.new ≤ length self.old) }
     {
         let mut members = Vec::new(self.alloc);
         self.eat(Punct::Pipe);
@@ -536,6 +565,7 @@ impl<'a> Parser<'a> {
 
     fn schema(&mut self, place: Place) -> Result<SchemaDefinition, Stop>
         ensures reads { Reads (λ d. IsBody words.Schema place (definition_of (declared.Schema d))) 128 (one RootBody) 128 [] self.old self.new result }
+        ensures shrinks { OnOk result (length self.new ≤ length self.old) }
     {
         self.expect(Punct::BraceLeft)?;
         self.query()?;
@@ -547,6 +577,7 @@ impl<'a> Parser<'a> {
 
     fn object(&mut self) -> Result<ObjectDefinition, Stop>
         ensures reads { Reads (λ d before after. (place : _) → IsBody words.Object place (definition_of (declared.Object d)) before after) 128 (A ATypeName ∷ one ObjectBody) 128 [] self.old self.new result }
+        ensures shrinks { OnOk result (length self.new ≤ length self.old) }
     {
         let name = self.type_name()?;
         let interfaces = self.interfaces()?;
@@ -560,6 +591,7 @@ impl<'a> Parser<'a> {
 
     fn interface(&mut self) -> Result<InterfaceDefinition, Stop>
         ensures reads { Reads (λ d before after. (place : _) → IsBody words.Interface place (definition_of (declared.Interface d)) before after) 128 (A ATypeName ∷ one InterfaceBody) 128 [] self.old self.new result }
+        ensures shrinks { OnOk result (length self.new ≤ length self.old) }
     {
         let name = self.type_name()?;
         self.interface_brace()?;
@@ -569,6 +601,7 @@ impl<'a> Parser<'a> {
 
     fn union_type(&mut self) -> Result<UnionDefinition, Stop>
         ensures reads { Reads (λ d before after. (place : _) → IsBody words.Union place (definition_of (declared.Union d)) before after) 128 (A ATypeName ∷ a_union_then) 128 [] self.old self.new result }
+        ensures shrinks { OnOk result (length self.new ≤ length self.old) }
     {
         let name = self.type_name()?;
         self.expect(Punct::Equals)?;
@@ -578,6 +611,7 @@ impl<'a> Parser<'a> {
 
     fn enum_type(&mut self) -> Result<EnumDefinition, Stop>
         ensures reads { Reads (λ d before after. (place : _) → IsBody words.Enum place (definition_of (declared.Enum d)) before after) 128 (A ATypeName ∷ one EnumBody) 128 [] self.old self.new result }
+        ensures shrinks { OnOk result (length self.new ≤ length self.old) }
     {
         let name = self.type_name()?;
         self.expect(Punct::BraceLeft)?;
@@ -588,6 +622,7 @@ impl<'a> Parser<'a> {
     /// A definition, whose description was skipped.
     fn definition(&mut self) -> Result<Definition, Stop>
         ensures reads { Reads (λ d. IsDefinitionRead (definition_of d)) 128 (one ADefinition) 128 [] self.old self.new result }
+        ensures shrinks { OnOk result (length self.new < length self.old) }
     {
         let Some((place, name)) = self.word() else {
             return Err(self.stop());
@@ -602,4 +637,33 @@ impl<'a> Parser<'a> {
             _ => Err(Stop::Unexpected(Some(place))),
         }
     }
+}
+
+/// The definitions that the tokens are.
+pub(crate) fn definitions(
+    alloc: Global,
+    text: &str,
+    tokens: &[Token],
+) -> Result<SchemaDocument, Stop>
+    requires { All (IsToken text.now) tokens.now }
+    // What is found is what the grammar says, and no bracket in it is opened while 128 are open.
+    ensures found { IfOk result (λ d. IsDocument (definitions_of d) (tokens_of text.now tokens.now) × IsShallow most_brackets (tokens_of text.now tokens.now)) }
+
+    // Such a tree is found, and there is no other.
+    ensures only { (ds : List tree_definition) → IsDocument ds (tokens_of text.now tokens.now) → IsShallow most_brackets (tokens_of text.now tokens.now) → Finds ds result }
+
+    // Otherwise the first fault is named.
+    ensures stop { IfErr result (IsStop (tokens_of text.now tokens.now)) }
+{
+    let mut parser = Parser {
+        alloc,
+        text,
+        rest: tokens,
+    };
+    let mut definitions = Vec::new(alloc);
+    while parser.left() != 0 {
+        parser.description();
+        definitions.push(parser.definition()?)?;
+    }
+    Ok(SchemaDocument { definitions })
 }

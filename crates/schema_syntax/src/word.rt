@@ -1,7 +1,7 @@
 //! The names that mean something where the grammar has them as words.
 
 ghost use Rattle.std.specs.Prelude.{◌≡◌, MatchBool, MatchResult};
-ghost use Rattle.gq_parser.specs.Word.{keyword_of, IsEnumName};
+ghost use Rattle.gq_parser.specs.Keywords.{keyword_of, IsEnumName};
 ghost use Rattle.schema_syntax.specs.Parsing.{IsNameValue};
 ghost use Rattle.schema_syntax.specs.Word.{word_of, IsServedName, operation_of};
 ghost use Rattle.schema_syntax.specs.declared.word.SchemaWord.TheVariants as words;
@@ -62,7 +62,7 @@ pub(crate) fn is_served_name(name: &str) -> bool
 }
 
 /// What a name is in the documents' language.
-#[tactic(auto, unfolding(gq_parser::specs::Word::keyword_of))]
+#[tactic(auto, unfolding(gq_parser::specs::Keywords::keyword_of))]
 fn keyword_of(name: &str) -> Keyword
     ensures { result ≡ keyword_of name.now }
 {

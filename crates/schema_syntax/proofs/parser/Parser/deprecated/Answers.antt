@@ -1,5 +1,5 @@
 use Rattle.std.proofs.Common.{sym, suc}
-use Rattle.schema_syntax.proofs.Reading.{no_deprecated_read, deprecated_read}
+use Rattle.schema_syntax.proofs.Steps.{no_deprecated_read, deprecated_read}
 use Rattle.schema_syntax.proofs.parser.Parser.deprecated.Goals as goal
 
 pub returns-in_default-clause-reads : goal.returns-in_default-clause-reads

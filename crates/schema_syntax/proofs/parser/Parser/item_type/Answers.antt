@@ -2,7 +2,7 @@ use Rattle.std.proofs.Common.{◌∷◌, []}
 use Rattle.gq_parser.specs.Tree.{type_of}
 use Rattle.schema_syntax.specs.Machine.{A, AnItem, ATypeName, MaybeBang}
 use Rattle.schema_syntax.specs.Parsing.{IsTypeRead}
-use Rattle.schema_syntax.proofs.Reading.{reads_at, item_comes}
+use Rattle.schema_syntax.proofs.Steps.{reads_at, item_comes}
 use Rattle.schema_syntax.proofs.parser.Parser.item_type.Goals as goal
 
 pub returns-clause-reads : goal.returns-clause-reads

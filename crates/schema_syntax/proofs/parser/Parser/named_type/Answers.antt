@@ -1,4 +1,4 @@
-use Rattle.schema_syntax.proofs.Reading.{named_type_read}
+use Rattle.schema_syntax.proofs.Steps.{named_type_read}
 use Rattle.schema_syntax.proofs.parser.Parser.named_type.Goals as goal
 
 pub returns-clause-reads : goal.returns-clause-reads

@@ -1,5 +1,5 @@
 use Rattle.std.proofs.Common.{sym}
-use Rattle.schema_syntax.proofs.Reading.{no_reason_read, reason_read}
+use Rattle.schema_syntax.proofs.Steps.{no_reason_read, reason_read}
 use Rattle.schema_syntax.proofs.parser.Parser.reason.Goals as goal
 
 pub returns-then-not-eat-clause-reads : goal.returns-then-not-eat-clause-reads

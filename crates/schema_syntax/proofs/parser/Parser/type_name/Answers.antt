@@ -1,4 +1,4 @@
-use Rattle.schema_syntax.proofs.Reading.{type_name_read}
+use Rattle.schema_syntax.proofs.Steps.{type_name_read}
 use Rattle.schema_syntax.proofs.parser.Parser.type_name.Goals as goal
 
 pub returns-clause-reads : goal.returns-clause-reads

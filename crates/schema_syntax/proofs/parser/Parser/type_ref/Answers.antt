@@ -3,7 +3,7 @@ use Rattle.std.proofs.lemmas.Result.{err_from_is_err_and}
 use Rattle.gq_parser.specs.Tree.{type_of}
 use Rattle.schema_syntax.specs.Machine.{A, AType, ABracket, ATypeName, MaybeBang}
 use Rattle.schema_syntax.specs.Parsing.{IsTypeRead}
-use Rattle.schema_syntax.proofs.Reading.{fails_earlier, reads_at, type_comes, list_opens, bracket_fails, list_type_read}
+use Rattle.schema_syntax.proofs.Steps.{fails_earlier, reads_at, type_comes, list_opens, bracket_fails, list_type_read}
 use Rattle.schema_syntax.proofs.parser.Parser.type_ref.Goals as goal
 
 pub returns-in_default-clause-reads : goal.returns-in_default-clause-reads

@@ -1,29 +1,28 @@
 -- What each step of a method gives.
-use Rattle.std.proofs.Common.{◌≡◌, ◌≢◌, ℕ, zero, suc, ◌<◌, ◌≤◌, Bool, true, false, List, [], ◌∷◌, ◌++◌, length, map, Result, Ok, Err, Option, Some, None, refl, sym, ap, subst, ◌∙◌, arith}
-use Rattle.std.specs.Global.{Vec, Global}
+use Rattle.std.proofs.Common.{◌≡◌, ◌≢◌, ℕ, suc, Bool, true, false, List, [], ◌∷◌, ◌++◌, Result, Ok, Err, Option, Some, None, refl, sym, ap, subst, ◌∙◌}
+use Rattle.std.specs.Global.{Global}
 use Rattle.std.specs.Prelude.{string_bytes, not, if◌then◌else◌}
 use Rattle.std.specs.declared.string.String.{String}
 use Rattle.std.specs.declared.boxed.Box.{Box}
 use Rattle.gq_lexer.specs.declared.place.Place.{Place}
-use Rattle.gq_lexer.specs.declared.token.Punct.TheVariants.{Bang, Amp, ParenLeft, ParenRight, Colon, Equals, At, BracketLeft, BracketRight, BraceLeft, BraceRight, Pipe}
+use Rattle.gq_lexer.specs.declared.token.Punct.TheVariants.{Bang, Amp, ParenLeft, ParenRight, Colon, Equals, At, BracketLeft, BracketRight, BraceLeft, BraceRight}
 use Rattle.gq_parser.specs.declared.keyword.Keyword.{Keyword}
 use Rattle.gq_parser.specs.declared.tree.TypeRef as rust-type
 use Rattle.gq_parser.specs.declared.tree.TypeRef.TheVariants as typeref
 use Rattle.gq_parser.specs.declared.tree.TypeRef.TheFolds.{fold-roll-TypeRef}
 use Rattle.gq_parser.specs.declared.tree.TypeRef.TheOpen as open-type
-use Rattle.gq_parser.specs.Word.{Word, Punct, Name, Text, Token, at, keyword_of, IsEnumName}
-use Rattle.gq_parser.specs.Word as words
+use Rattle.gq_parser.specs.Word.{Word, Punct, Name, Text, Token, at}
 use Rattle.gq_parser.specs.Tree.{TypeTree, Named, ListOf, type_of, type_step}
 use Rattle.gq_parser.specs.Grammar.{IsBang, no_bang, bang, IsType, named, list_of}
 use Rattle.schema_syntax.specs.declared.fault.Stop.{Stop}
-use Rattle.schema_syntax.specs.declared.fault.Stop.TheVariants.{Unexpected, NotServed, NoMemory}
+use Rattle.schema_syntax.specs.declared.fault.Stop.TheVariants.{Unexpected, NotServed}
 use Rattle.schema_syntax.specs.declared.word.SchemaWord.{SchemaWord}
 use Rattle.schema_syntax.specs.declared.word.SchemaWord.TheVariants as word
 use Rattle.schema_syntax.specs.Word.{word_of, IsServedName}
 use Rattle.schema_syntax.specs.Tree as tree
 use Rattle.schema_syntax.specs.Grammar.{IsName, a_name, IsTypeName, type_name, IsServedType, IsReason, no_reason, reason, IsDeprecated, not_deprecated, deprecated}
-use Rattle.schema_syntax.specs.Machine.{Symbol, RootBody, ObjectBody, InterfaceBody, EnumBody, MoreInterfaces, ARootEnd, at_end, A, AColon, AnEquals, ABracket, AParenthesis, AName, ATypeName, AnItem, AType, MaybeBang, MaybeDeprecated, MaybeReason, ADeprecated, AReason, AText, Verdict, Accepts, Rejects, Bars, on_verdict, type_name_verdict, deprecated_verdict, reason_verdict, moved, Shift, Shifts, shift, one, refused, read, is_deprecated, Step, Goes, Stops, Forbids, Sinks, Refused, Denied, is_other_directive}
-use Rattle.schema_syntax.specs.Parsing.{Reads, Fails, Eats, Expects, Describes, TakesMark, IsNotNext, IsTaken, IsTextTaken, IsNoName, IsTypeRead, IsNamed}
+use Rattle.schema_syntax.specs.Machine.{Symbol, RootBody, ObjectBody, InterfaceBody, EnumBody, MoreInterfaces, ARootEnd, at_end, A, AColon, AnEquals, ABracket, AParenthesis, AName, ATypeName, AnItem, AType, MaybeBang, MaybeDeprecated, MaybeReason, ADeprecated, AReason, AText, Verdict, Accepts, Rejects, Bars, on_verdict, type_name_verdict, deprecated_verdict, reason_verdict, moved, Shift, Shifts, shift, one, refused, read, is_deprecated, Goes, Stops, Forbids, Sinks, Refused}
+use Rattle.schema_syntax.specs.Parsing.{Reads, Fails, Eats, Expects, IsNotNext, IsTaken, IsTextTaken, IsNoName, IsTypeRead, IsNamed}
 
 -- a fault is the same fault earlier, where the reading is the same
 pub fails_earlier : (e : Stop) (o o' : Option Stop) → o ≡ o' → Fails e o' → Fails e o
@@ -41,7 +40,7 @@ pub reads_at : {T : Type 0} (P : T → List Token → List Token → Type 0) (ro
 reads_at P room r1 r2 s0 s1 s2 before mid after res e f h = reads_from P P room r1 r2 s0 s1 s2 before mid after res (λ stack. f stack ∙ ap (read r1 (s1 ++ stack)) (sym e)) (λ t x. subst (λ b. P t b after) e x) h
 
 -- a name that is taken
-read_name : (room : ℕ) (p : Place) (k : Keyword) (n : List ℕ) (stack next : List Symbol) (tokens : List Token) → shift stack (Name k n) ≡ Shifts next → read room stack (at p (Name k n) ∷ tokens) ≡ read room next tokens
+pub read_name : (room : ℕ) (p : Place) (k : Keyword) (n : List ℕ) (stack next : List Symbol) (tokens : List Token) → shift stack (Name k n) ≡ Shifts next → read room stack (at p (Name k n) ∷ tokens) ≡ read room next tokens
 read_name room p k n stack next tokens e = rw (e, read) refl
 
 -- ---- names
@@ -230,8 +229,7 @@ pub list_type_read : (room : ℕ) (p : Place) (t : Box rust-type.TypeRef Global)
 list_type_read room p t item b before b1 b2 b3 after e h is_named boxed closes eaten =
     let tree_is : type_of (typeref.List p t b) ≡ ListOf p (type_of item) b = type_of_list p t b ∙ ap (λ x. ListOf p (type_of x) b) boxed in
     let whole : IsType (ListOf p (type_of item) b) (at p (Punct BracketLeft) ∷ b1) after = list_of (subst (λ x. IsType (type_of item) b1 x) closes.is h.0.is) (bang_read b3 after b eaten) in
-    let both : IsTypeRead (ListOf p (type_of item) b) (at p (Punct BracketLeft) ∷ b1) after = record { is = whole; served = list_served p (type_of item) b is_named h.0.served } in
-    (
+    let both : IsTypeRead (ListOf p (type_of item) b) (at p (Punct BracketLeft) ∷ b1) after = record { is = whole; served = list_served p (type_of item) b is_named h.0.served } in (
       subst (λ t. IsTypeRead t before after) (sym tree_is) (subst (λ x. IsTypeRead (ListOf p (type_of item) b) x after) (sym e) both),
       λ stack. list_opens room p before b1 stack e ∙ h.1 (A ABracket ∷ MaybeBang ∷ stack) ∙ ap (read room (A ABracket ∷ MaybeBang ∷ stack)) closes.is ∙ bang_comes (suc room) b3 after b stack eaten,
     )
@@ -294,3 +292,11 @@ deprecated_is e e1 h r = rw (e, e1) (deprecated h r)
 pub deprecated_read : (room : ℕ) (p q : Place) (k : Keyword) (n : List ℕ) (before b1 b2 after : List Token) (res : Result (Unit {0}) Stop) → before ≡ at p (Punct At) ∷ b1 → b1 ≡ at q (Name k n) ∷ b2 → word_of n ≡ word.Deprecated
     → Reads (λ _. IsReason) room (one MaybeReason) room [] b2 after res → Reads (λ _. IsDeprecated) room (one MaybeDeprecated) room [] before after res
 deprecated_read room p q k n before b1 b2 after res o e h = reads_from (λ _. IsReason) (λ _. IsDeprecated) room room room (one MaybeDeprecated) (one MaybeReason) [] before b2 after res (λ stack. deprecated_opens room p q k n before b1 b2 stack o e h) (λ t r. deprecated_is o e h r)
+
+-- ---- punctuators that come
+
+pub colon_comes : (room : ℕ) (before after : List Token) (stack : List Symbol) → IsTaken (Punct Colon) before after → read room (A AColon ∷ stack) before ≡ read room stack after
+colon_comes room before after stack h = rw h.is refl
+
+pub equals_comes : (room : ℕ) (before after : List Token) (stack : List Symbol) → IsTaken (Punct Equals) before after → read room (A AnEquals ∷ stack) before ≡ read room stack after
+equals_comes room before after stack h = rw h.is refl

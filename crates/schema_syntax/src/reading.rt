@@ -1,0 +1,55 @@
+//! From the tokens of a schema text, and what stands behind them, to its tree.
+
+ghost use Rattle.std.specs.Prelude.{◌≡◌, ◌≤◌, List, length, All, IfOk, IfErr, None};
+ghost use Rattle.gq_lexer.specs.Tokens.{IsToken};
+ghost use Rattle.gq_parser.specs.Word.{tokens_of};
+ghost use Rattle.gq_parser.specs.Fault.{IsShallow, most_brackets};
+ghost use Rattle.schema_syntax.specs.Tree.{definitions_of, Definition as tree_definition};
+ghost use Rattle.schema_syntax.specs.Grammar.{IsDocument};
+ghost use Rattle.schema_syntax.specs.Text.{IsFault, FindsTree};
+
+use crate::fault::{Stop, SyntaxFault};
+use crate::parser::definitions;
+use crate::tree::SchemaDocument;
+use gq_lexer::{MAX_BYTES, Place, Token, end_of};
+use std::alloc::Global;
+
+/// The tree of a schema text's tokens. `lexical` is the place of the lexical fault behind them, if the text has one.
+///
+/// # Errors
+///
+/// The first fault from the left: [`SyntaxFault::NotServed`] at the word, the `@` or the `[` that isn't served,
+/// [`SyntaxFault::Syntax`] at any other token that can't come, at a bracket that is opened while 128 are open, or
+/// else at the lexical fault or at the end. [`SyntaxFault::NoMemory`] comes where the tree could not grow, before
+/// any fault further on.
+pub fn read_tokens(
+    alloc: Global,
+    text: &str,
+    tokens: &[Token],
+    lexical: Option<Place>,
+) -> Result<SchemaDocument, SyntaxFault>
+    requires size { length text.now ≤ MAX_BYTES }
+    requires inside { All (IsToken text.now) tokens.now }
+    // What is found is what the grammar says, no bracket in it is opened while 128 are open, and the text ends behind it.
+    ensures found { IfOk result (λ d. IsDocument (definitions_of d) (tokens_of text.now tokens.now) × IsShallow most_brackets (tokens_of text.now tokens.now) × (lexical ≡ None)) }
+
+    // Such a tree is found, and there is no other.
+    ensures only { (ds : List tree_definition) → IsDocument ds (tokens_of text.now tokens.now) → IsShallow most_brackets (tokens_of text.now tokens.now) → lexical ≡ None → FindsTree ds result }
+
+    // Otherwise the first fault is named.
+    ensures fault { IfErr result (IsFault text.now (tokens_of text.now tokens.now) lexical) }
+{
+    match definitions(alloc, text, tokens) {
+        Ok(document) => match lexical {
+            None => Ok(document),
+            Some(place) => Err(SyntaxFault::Syntax(place)),
+        },
+        Err(Stop::Unexpected(Some(place))) => Err(SyntaxFault::Syntax(place)),
+        Err(Stop::Unexpected(None)) => match lexical {
+            None => Err(SyntaxFault::Syntax(end_of(text))),
+            Some(place) => Err(SyntaxFault::Syntax(place)),
+        },
+        Err(Stop::NotServed(place)) => Err(SyntaxFault::NotServed(place)),
+        Err(Stop::NoMemory) => Err(SyntaxFault::NoMemory),
+    }
+}
