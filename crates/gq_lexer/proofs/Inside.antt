@@ -20,6 +20,9 @@ use Rattle.gq_lexer.specs.declared.quoted.Quotes.TheVariants as quotes
 use Rattle.gq_lexer.specs.Characters.{is_digit, is_name_start, is_name_continue}
 use Rattle.gq_lexer.specs.Grammar.{IsPart, IsName, IsUnsigned, IsInt, IsDigits, IsFraction, IsSigned, IsExponent, IsFloat, IsQuoted, spelling, quotes_of}
 use Rattle.gq_lexer.specs.Tokens.{Part, Reads, tokens_from, token_of, AreTokens, IsToken}
+use Rattle.std.proofs.Common.{Option, Some, None}
+use Rattle.gq_lexer.specs.declared.fault.LexFault.{LexFault}
+use Rattle.gq_lexer.specs.Faults.{AreTokensBefore, IsLexed}
 use Rattle.gq_lexer.proofs.Numbers.{OrNone}
 
 abbrev Ascii : List ℕ → Type 0
@@ -179,14 +182,14 @@ one_token text bs after start line column k utf8 begins e part =
       part = subst (λ (x : List ℕ). IsPart (shape.Token k) x (drop (start + n) text)) (sym bytes) (subst (λ (x : List ℕ). IsPart (shape.Token k) bs x) (sym rest) part);
     }
 
-inside_from : (text : List ℕ) → IsUtf8 text → (ps : List Part) (start : ℕ) → start ≤ length text → Reads ps (drop start text) [] → All (IsToken text) (tokens_from text start ps)
-inside_from text utf8 [] start begins h = All-nil (IsToken text)
-inside_from text utf8 (p ∷ ps) start begins h =
+inside_from : (text end : List ℕ) → IsUtf8 text → (ps : List Part) (start : ℕ) → start ≤ length text → Reads ps (drop start text) end → All (IsToken text) (tokens_from text start ps)
+inside_from text end utf8 [] start begins h = All-nil (IsToken text)
+inside_from text end utf8 (p ∷ ps) start begins h =
     let n = length p.bytes in
     let within : start + n ≤ length text = omega (arith, ap length h.1, length-append p.bytes h.0, length-drop start text) in
     let rest : h.0 ≡ drop (start + n) text = sym (sym (drop-drop n start text) ∙ ap (drop n) h.1 ∙ drop_at p.bytes h.0 n refl) in
     All-append (IsToken text) (token_of p.shape text start (start + n)) (tokens_from text (start + n) ps) (one p.shape h.2)
-    (inside_from text utf8 ps (start + n) within (subst (λ (t : List ℕ). Reads ps t []) rest h.3))
+    (inside_from text end utf8 ps (start + n) within (subst (λ (t : List ℕ). Reads ps t end) rest h.3))
   where
     one : (s : Shape) → IsPart s p.bytes h.0 → All (IsToken text) (token_of s text start (start + length p.bytes))
     one (shape.Token k) part = All-cons (IsToken text) _ [] (one_token text p.bytes h.0 start _ _ k utf8 begins h.1 part) (All-nil (IsToken text))
@@ -197,4 +200,12 @@ inside_from text utf8 (p ∷ ps) start begins h =
 
 -- the tokens of a text stand in it
 pub tokens_inside : (text : List ℕ) (tokens : List Token) → IsUtf8 text → AreTokens text tokens → All (IsToken text) tokens
-tokens_inside text tokens utf8 h = subst (All (IsToken text)) (sym h.tokens_are) (inside_from text utf8 h.parts 0 (omega arith) h.whole)
+tokens_inside text tokens utf8 h = subst (All (IsToken text)) (sym h.tokens_are) (inside_from text [] utf8 h.parts 0 (omega arith) h.whole)
+
+-- and so do those before a fault
+pub before_inside : (text : List ℕ) (tokens : List Token) (f : LexFault) → IsUtf8 text → AreTokensBefore text tokens f → All (IsToken text) tokens
+before_inside text tokens f utf8 h = subst (All (IsToken text)) (sym h.tokens_are) (inside_from text h.stops.rest utf8 h.stops.parts 0 (omega arith) h.stops.front)
+
+pub lexed_inside : (text : List ℕ) (tokens : List Token) (f : Option LexFault) → IsUtf8 text → IsLexed text tokens f → All (IsToken text) tokens
+lexed_inside text tokens None utf8 h = tokens_inside text tokens utf8 h
+lexed_inside text tokens (Some f) utf8 h = before_inside text tokens f utf8 h

@@ -1,5 +1,5 @@
 -- What `lex` answers, by what the text is.
-use Rattle.std.proofs.Common.{◌≡◌, ◌≢◌, ◌⊎◌, ℕ, List, IfOk, IfErr, MatchResult, All, IsUtf8, Result, Ok, Err, refl, ap, inl, inr}
+use Rattle.std.proofs.Common.{Option, Some, None, ◌≡◌, ◌≢◌, ◌⊎◌, ℕ, List, IfOk, IfErr, MatchResult, All, IsUtf8, Result, Ok, Err, refl, ap, inl, inr}
 use Rattle.std.specs.Global.{Vec}
 use Rattle.gq_lexer.specs.declared.place.Place.{Place}
 use Rattle.gq_lexer.specs.declared.token.Token.{Token}
@@ -8,9 +8,11 @@ use Rattle.gq_lexer.specs.declared.scan.Stop.TheVariants as stop
 use Rattle.gq_lexer.specs.declared.fault.LexFault.{LexFault}
 use Rattle.gq_lexer.specs.declared.fault.LexFault.TheVariants as fault
 use Rattle.gq_lexer.specs.Tokens.{AreTokens, StopsAt, IsToken}
-use Rattle.gq_lexer.specs.Faults.{IsFirstFault, fault_of}
+use Rattle.std.specs.declared.alloc.AllocError.{AllocError}
+use Rattle.gq_lexer.specs.declared.lexer.Lexed.{Lexed}
+use Rattle.gq_lexer.specs.Faults.{IsFirstFault, IsLexed, fault_of}
 use Rattle.gq_lexer.proofs.Unique.{same_tokens, tokens_or_fault, same_fault}
-use Rattle.gq_lexer.proofs.Inside.{tokens_inside}
+use Rattle.gq_lexer.proofs.Inside.{tokens_inside, lexed_inside}
 
 -- a first fault of a text of tokens is want of memory
 pub only_memory : (text : List ℕ) (tokens : List Token) (f : LexFault) → AreTokens text tokens → IsFirstFault f text → f ≢ fault.TooLong → f ≡ fault.NoMemory
@@ -51,3 +53,15 @@ pub refused : (text : List ℕ) (r : Answer) → IfOk r (λ (v : Vec Token). Are
     → MatchResult r (λ (v : Vec Token). ⊥) (λ (f : LexFault). (f ≡ fault_of s place) ⊎ (f ≡ fault.NoMemory))
 refused text (Ok v) h k short s place t = tokens_or_fault text v.items s place h t
 refused text (Err f) h k short s place t = that_fault text s place f t k (λ e. short (ap (λ (g : LexFault). Err g) e))
+
+pub front_inside : (text : List ℕ) (r : Result Lexed AllocError) → IsUtf8 text → IfOk r (λ (l : Lexed). IsLexed text l.tokens.items l.fault) → IfOk r (λ (l : Lexed). All (IsToken text) l.tokens.items)
+front_inside text (Ok l) utf8 h = lexed_inside text l.tokens.items l.fault utf8 h
+front_inside text (Err e) utf8 h = tt
+
+lexed_accepts : (text : List ℕ) (tokens ts : List Token) (f : Option LexFault) → IsLexed text tokens f → AreTokens text ts → (f ≡ None) × (tokens ≡ ts)
+lexed_accepts text tokens ts None h t = (refl, same_tokens text tokens ts h t)
+lexed_accepts text tokens ts (Some f) h t = absurd (tokens_or_fault text ts h.stop h.place t h.stops)
+
+pub front_accepts : (text : List ℕ) (r : Result Lexed AllocError) → IfOk r (λ (l : Lexed). IsLexed text l.tokens.items l.fault) → (ts : List Token) → AreTokens text ts → IfOk r (λ (l : Lexed). (l.fault ≡ None) × (l.tokens.items ≡ ts))
+front_accepts text (Ok l) h ts t = lexed_accepts text l.tokens.items ts l.fault h t
+front_accepts text (Err e) h ts t = tt

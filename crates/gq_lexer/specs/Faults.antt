@@ -1,11 +1,12 @@
 -- The faults of a text, as `lex` answers them.
-use Rattle.std.specs.Prelude.{ℕ, List, Option, Some, None}
+use Rattle.std.specs.Prelude.{◌≡◌, ℕ, List, Option, Some, None}
 use Rattle.gq_lexer.specs.declared.place.Place.{Place}
+use Rattle.gq_lexer.specs.declared.token.Token.{Token}
 use Rattle.gq_lexer.specs.declared.scan.Stop.{Stop}
 use Rattle.gq_lexer.specs.declared.scan.Stop.TheVariants as stop
 use Rattle.gq_lexer.specs.declared.fault.LexFault.{LexFault}
 use Rattle.gq_lexer.specs.declared.fault.LexFault.TheVariants as fault
-use Rattle.gq_lexer.specs.Tokens.{StopsAt}
+use Rattle.gq_lexer.specs.Tokens.{AreTokens, StopsAt, tokens_from}
 
 -- a fault of this kind, at this place
 abbrev pub fault_of : Stop → Place → LexFault
@@ -31,3 +32,16 @@ place_of_fault (fault.UnterminatedString place) = Some place
 place_of_fault (fault.BadEscape place) = Some place
 place_of_fault (fault.BadNumber place) = Some place
 place_of_fault fault.NoMemory = None
+
+-- These are the tokens of the text up to its first fault, which is this one.
+pub record AreTokensBefore (text : List ℕ) (tokens : List Token) (f : LexFault) : Type 0 where
+  pub stop : Stop
+  pub place : Place
+  pub fault_is : f ≡ fault_of stop place
+  pub stops : StopsAt text stop place
+  pub tokens_are : tokens ≡ tokens_from text 0 stops.parts
+
+-- the tokens of the text, or those up to its first fault
+abbrev pub IsLexed : List ℕ → List Token → Option LexFault → Type 0
+IsLexed text tokens None = AreTokens text tokens
+IsLexed text tokens (Some f) = AreTokensBefore text tokens f

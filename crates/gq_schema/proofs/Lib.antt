@@ -7,3 +7,4 @@ pub mod PlaceLaws
 pub mod IntTexts
 pub mod Faults
 pub mod InputLaws
+pub mod ReadingLaws

@@ -22,3 +22,5 @@ pub mod Inputs
 pub mod Coercion
 pub mod Defaults
 pub mod Fault
+pub mod SyntaxFaults
+pub mod Reading

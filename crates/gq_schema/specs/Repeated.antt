@@ -7,15 +7,17 @@ use Rattle.schema_syntax.specs.Tree.{Name, Argument, Field, Definition, Schema, 
 use Rattle.gq_schema.specs.Scan.{or_else}
 use Rattle.gq_schema.specs.Types.{is_called, is_argument, is_field, is_built_in, defines}
 
--- The first name in a list that stands before it, where these stood earlier. Of each type of names there is such a list.
+-- the first of these names that stands before itself, among the earlier ones too
 abbrev pub repeated_name : List Name → List Name → Option Place
 repeated_name earlier [] = None
 repeated_name earlier (n ∷ ns) = if list_any (is_called n.text) earlier then Some n.place else repeated_name (earlier ++ n ∷ []) ns
 
+-- the same of arguments
 abbrev pub repeated_argument : List Argument → List Argument → Option Place
 repeated_argument earlier [] = None
 repeated_argument earlier (a ∷ others) = if list_any (is_argument a.name.text) earlier then Some a.name.place else repeated_argument (earlier ++ a ∷ []) others
 
+-- the same of fields, and of the arguments of each
 abbrev pub repeated_field : List Field → List Field → Option Place
 repeated_field earlier [] = None
 repeated_field earlier (f ∷ fs) =
@@ -26,6 +28,7 @@ abbrev pub is_root : Definition → Bool
 is_root (Schema p n) = true
 is_root _ = false
 
+-- the name of a type, where it is built in or one of these defines it
 abbrev pub repeated_type : List Definition → Name → Option Place
 repeated_type earlier n = if is_built_in n.text || list_any (defines n.text) earlier then Some n.place else None
 
@@ -45,6 +48,7 @@ repeated_within (Interface n fs) = repeated_field [] fs
 repeated_within (Union n ms) = repeated_name [] ms
 repeated_within (Enum n vs) = repeated_name [] vs
 
+-- the first name that these definitions define again, behind the earlier ones
 abbrev pub repeated_from : List Definition → List Definition → Option Place
 repeated_from earlier [] = None
 repeated_from earlier (d ∷ ds) = or_else (repeated_self earlier d) (or_else (repeated_within d) (repeated_from (earlier ++ d ∷ []) ds))

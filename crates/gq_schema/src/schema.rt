@@ -13,7 +13,7 @@ use crate::names::{is_built_in, own_fields};
 use crate::possible::{Possible, possible_in};
 use crate::types::{declared_root, type_places};
 use gq_parser::TypeRef;
-use schema_syntax::{Definition, FieldDefinition, SchemaDocument};
+use schema_syntax::{Definition, FieldDefinition as FieldDef, SchemaDocument};
 use std::alloc::{AllocError, Global};
 use std::marker::Model;
 
@@ -112,7 +112,7 @@ impl Schema {
     }
 
     /// The fields of an object type or of an interface, in order; none where there is no such type.
-    pub fn fields(&self, ty: &str) -> &[FieldDefinition]
+    pub fn fields(&self, ty: &str) -> &[FieldDef]
         ensures { fields_of result.now ≡ fields_in (tree_of self.now) ty.now }
     {
         match self.definition(ty) {
@@ -122,7 +122,7 @@ impl Schema {
     }
 
     /// The field of a type; nothing where there is no such type or no such field (section 3.6).
-    pub fn field(&self, ty: &str, name: &str) -> Option<&FieldDefinition>
+    pub fn field(&self, ty: &str, name: &str) -> Option<&FieldDef>
         ensures { option_map field_of (option_copied result) ≡ field_in (tree_of self.now) ty.now name.now }
     {
         self.definition(ty)?.field(name)

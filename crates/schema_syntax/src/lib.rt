@@ -11,7 +11,7 @@ mod word;
 
 pub use fault::SyntaxFault;
 pub use law::one_tree;
-pub use reading::read_tokens;
+pub use reading::{read, read_tokens};
 pub use tree::{
     ArgumentDefinition, Definition, EnumDefinition, FieldDefinition, InterfaceDefinition, Name,
     ObjectDefinition, SchemaDefinition, SchemaDocument, UnionDefinition,

@@ -1,4 +1,4 @@
-//! From the tokens of a schema text, and what stands behind them, to its tree.
+//! From a schema text to its tree.
 
 ghost use Rattle.std.specs.Prelude.{◌≡◌, ◌≤◌, List, length, All, IfOk, IfErr, None};
 ghost use Rattle.gq_lexer.specs.Tokens.{IsToken};
@@ -6,12 +6,12 @@ ghost use Rattle.gq_parser.specs.Word.{tokens_of};
 ghost use Rattle.gq_parser.specs.Fault.{IsShallow, most_brackets};
 ghost use Rattle.schema_syntax.specs.Tree.{definitions_of, Definition as tree_definition};
 ghost use Rattle.schema_syntax.specs.Grammar.{IsDocument};
-ghost use Rattle.schema_syntax.specs.Text.{IsFault, FindsTree};
+ghost use Rattle.schema_syntax.specs.Text.{IsFault, FindsTree, IsSchemaOf, IsTextFault};
 
 use crate::fault::{Stop, SyntaxFault};
 use crate::parser::definitions;
 use crate::tree::SchemaDocument;
-use gq_lexer::{MAX_BYTES, Place, Token, end_of};
+use gq_lexer::{Lexed, MAX_BYTES, Place, Token, end_of, lex_front};
 use std::alloc::Global;
 
 /// The tree of a schema text's tokens. `lexical` is the place of the lexical fault behind them, if the text has one.
@@ -51,5 +51,35 @@ pub fn read_tokens(
         },
         Err(Stop::NotServed(place)) => Err(SyntaxFault::NotServed(place)),
         Err(Stop::NoMemory) => Err(SyntaxFault::NoMemory),
+    }
+}
+
+/// The tree of a schema text, in the part of the language that is served (October 2021, section 3).
+///
+/// # Errors
+///
+/// A text of more than [`MAX_BYTES`] bytes is [`SyntaxFault::Syntax`] at line 1, column 1. Otherwise the first fault
+/// from the left is answered: [`SyntaxFault::NotServed`] at the word, the `@` or the `[` that isn't served, and
+/// [`SyntaxFault::Syntax`] at any other token that can't come, at a bracket that is opened while 128 are open, at a
+/// lexical fault, or at the end. [`SyntaxFault::NoMemory`] comes where the tokens or the tree could not grow.
+pub fn read(alloc: Global, text: &str) -> Result<SchemaDocument, SyntaxFault>
+    // What is found is what the grammar says of the text's tokens, and no bracket in it is opened while 128 are open.
+    ensures found { IfOk result (λ d. IsSchemaOf text.now (definitions_of d)) }
+
+    // Such a tree is found, and there is no other.
+    ensures only { (ds : List tree_definition) → IsSchemaOf text.now ds → FindsTree ds result }
+
+    // Otherwise the first fault is named.
+    ensures fault { IfErr result (IsTextFault text.now) }
+{
+    if text.len() > MAX_BYTES {
+        return Err(SyntaxFault::Syntax(Place::START));
+    }
+    let Ok(Lexed { tokens, fault }) = lex_front(alloc, text) else {
+        return Err(SyntaxFault::NoMemory);
+    };
+    match fault {
+        None => read_tokens(alloc, text, tokens.as_slice(), None),
+        Some(fault) => read_tokens(alloc, text, tokens.as_slice(), fault.place()),
     }
 }
