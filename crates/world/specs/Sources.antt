@@ -1,5 +1,5 @@
 -- The sources of loaders over tables.
-use Rattle.std.specs.Prelude.{ℕ, Bool, true, false, List, [], ◌∷◌, Option, Some, None, Result, Ok, Err, String, string_bytes, bytes_eq, map, find, option_map, if◌then◌else◌}
+use Rattle.std.specs.Prelude.{◌≡◌, ℕ, Bool, true, false, List, [], ◌∷◌, Option, Some, None, Result, Ok, Err, String, string_bytes, bytes_eq, map, find, option_map, if◌then◌else◌}
 use Rattle.std.specs.List.{list_any}
 use Rattle.std.specs.Global.{Global}
 use Rattle.bindings_syntax.specs.Statements.{ByOf}
@@ -7,9 +7,10 @@ use Rattle.gq_schema.specs.BindingsTree.{LoaderOf}
 use Rattle.load_memory.specs.Rows.{SheetOf}
 use Rattle.load_memory.specs.declared.key.KeyMode.{KeyMode}
 use Rattle.load_memory.specs.declared.key.KeyMode.TheVariants.{Exact, FoldAscii}
+use Rattle.csv_source.specs.Reading.{Repeats}
 use Rattle.csv_source.specs.Tables.{SourceOf, rows_of, source_of_all, source_by}
 use Rattle.world.specs.declared.fault.WorldFault.{WorldFault}
-use Rattle.world.specs.declared.fault.WorldFault.TheVariants.{NoSuchTable, NoSuchColumn}
+use Rattle.world.specs.declared.fault.WorldFault.TheVariants.{BadLimit, Schema, DuplicateTable, NoSuchTable, NoSuchColumn, NoMemory}
 
 -- a table that is given, by its name
 pub record TableOf : Type 0 where
@@ -21,6 +22,15 @@ table_of t = record { name = string_bytes t.0; sheet = t.1 }
 
 abbrev pub names_of : List TableOf → List (List ℕ)
 names_of tables = map (λ (t : TableOf). t.name) tables
+
+-- why tables cannot be found by their names; of memory this says nothing
+abbrev pub IsRefusedTables : List TableOf → WorldFault → Type 0
+IsRefusedTables tables BadLimit = ⊥
+IsRefusedTables tables (Schema fault) = ⊥
+IsRefusedTables tables DuplicateTable = Repeats (names_of tables)
+IsRefusedTables tables NoSuchTable = ⊥
+IsRefusedTables tables NoSuchColumn = ⊥
+IsRefusedTables tables NoMemory = Unit {0}
 
 abbrev pub is_table : List ℕ → TableOf → Bool
 is_table q t = bytes_eq q t.name
@@ -62,3 +72,12 @@ with_rest (Ok s) rest = before s rest
 abbrev pub sources_for : (List ℕ → Option SheetOf) → List LoaderOf → Result (List SourceOf) WorldFault
 sources_for sheets [] = Ok []
 sources_for sheets (l ∷ ls) = with_rest (source_for sheets l) (sources_for sheets ls)
+
+-- the refusal that is told where sources are wanted; of memory this says nothing
+abbrev pub IsRefused : {A : Type 0} → Result A WorldFault → WorldFault → Type 0
+IsRefused want BadLimit = ⊥
+IsRefused want (Schema fault) = ⊥
+IsRefused want DuplicateTable = ⊥
+IsRefused want NoSuchTable = want ≡ Err NoSuchTable
+IsRefused want NoSuchColumn = want ≡ Err NoSuchColumn
+IsRefused want NoMemory = Unit {0}

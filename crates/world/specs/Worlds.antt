@@ -1,6 +1,9 @@
 -- Which texts and tables are a world, and why others are none.
-use Rattle.std.specs.Prelude.{◌≡◌, ◌≤◌, ◌&&◌, ℕ, List, Option, Some, None, Result, Ok, Err, if◌then◌else◌, nat_le}
+use Rattle.std.specs.Prelude.{◌≡◌, ◌≤◌, ◌⊎◌, ℕ, List, Option, Some, None, Result, Ok, Err}
 use Rattle.schema_syntax.specs.Tree.{Definition}
+use Rattle.schema_syntax.specs.declared.tree.Definition as rust
+use Rattle.gq_schema.specs.Types.{tree_of}
+use Rattle.gq_schema.specs.Reading.{IsSchema, IsFaultOf}
 use Rattle.gq_schema.specs.BindingsTree.{BindingsOf}
 use Rattle.gq_schema.specs.BindingsReading.{bindings_of, accepted, refused}
 use Rattle.gq_schema.specs.declared.fault.SchemaFault.{SchemaFault}
@@ -11,9 +14,9 @@ use Rattle.world.specs.declared.fault.WorldFault.{WorldFault}
 use Rattle.world.specs.declared.fault.WorldFault.TheVariants as world
 use Rattle.world.specs.Sources.{TableOf, names_of, sheet_named, sources_for}
 
--- a schema, how its fields are answered, at most how many keys a batch has, and the sources of the loaders in order
+-- the definitions of a schema, how its fields are answered, at most how many keys a batch has, and the sources of the loaders in order
 pub record WorldOf : Type 0 where
-  pub schema : List Definition
+  pub definitions : List rust.Definition
   pub bindings : BindingsOf
   pub limit : Option ℕ
   pub sources : List SourceOf
@@ -30,7 +33,7 @@ pub record IsRead (defs : List Definition) (text : List ℕ) (tables : List Tabl
 
 -- a world over a schema
 pub record IsWorldOver (defs : List Definition) (text : List ℕ) (tables : List TableOf) (w : WorldOf) : Type 0 where
-  pub same : w.schema ≡ defs
+  pub same : tree_of w.definitions ≡ defs
   pub read : IsRead defs text tables w.bindings
   pub answered : sources_for (sheet_named tables) w.bindings.loaders ≡ Ok w.sources
 
@@ -52,3 +55,39 @@ IsRefusalOver defs text tables world.DuplicateTable = ((b : BindingsOf) × (bind
 IsRefusalOver defs text tables world.NoSuchTable = LacksSource defs text tables world.NoSuchTable
 IsRefusalOver defs text tables world.NoSuchColumn = LacksSource defs text tables world.NoSuchColumn
 IsRefusalOver defs text tables world.NoMemory = Unit {0}
+
+-- The texts, the tables and the limit are this world: each part accepts its own.
+pub record IsWorld (text bindings : List ℕ) (tables : List TableOf) (max : Option ℕ) (w : WorldOf) : Type 0 where
+  pub fits : IsLimit max
+  pub limited : w.limit ≡ max
+  pub says : IsSchema text (tree_of w.definitions)
+  pub over : IsWorldOver (tree_of w.definitions) bindings tables w
+
+-- with a limit that fits and a schema, there is no world for this
+pub record IsRefusedOver (text bindings : List ℕ) (tables : List TableOf) (max : Option ℕ) (fault : WorldFault) : Type 0 where
+  pub fits : IsLimit max
+  pub defs : List Definition
+  pub says : IsSchema text defs
+  pub refused : IsRefusalOver defs bindings tables fault
+
+-- Why there is no world: the limit; or else the schema's fault; or else what there is no world over the schema for. Where memory was wanting,
+-- the limit fits.
+abbrev pub IsRefusal : List ℕ → List ℕ → List TableOf → Option ℕ → WorldFault → Type 0
+IsRefusal text bindings tables max world.BadLimit = ¬ (IsLimit max)
+IsRefusal text bindings tables max (world.Schema fault) = (IsLimit max × IsFaultOf text fault) ⊎ IsRefusedOver text bindings tables max (world.Schema fault)
+IsRefusal text bindings tables max world.DuplicateTable = IsRefusedOver text bindings tables max world.DuplicateTable
+IsRefusal text bindings tables max world.NoSuchTable = IsRefusedOver text bindings tables max world.NoSuchTable
+IsRefusal text bindings tables max world.NoSuchColumn = IsRefusedOver text bindings tables max world.NoSuchColumn
+IsRefusal text bindings tables max world.NoMemory = IsLimit max
+
+-- the same world, wherever its schema lies in memory
+pub record IsSame (v w : WorldOf) : Type 0 where
+  pub definitions : tree_of v.definitions ≡ tree_of w.definitions
+  pub bindings : v.bindings ≡ w.bindings
+  pub limit : v.limit ≡ w.limit
+  pub sources : v.sources ≡ w.sources
+
+-- this world is made, unless memory ran out
+abbrev pub MakesWorld : WorldOf → Result WorldOf WorldFault → Type 0
+MakesWorld w (Ok made) = IsSame made w
+MakesWorld w (Err fault) = fault ≡ world.NoMemory

@@ -1,9 +1,9 @@
 //! What the sources of the loaders are made from.
 
-ghost use Rattle.std.specs.Prelude.{◌≡◌, ◌≢◌, ℕ, List, Ok, Err, IfOk, IfErr, map};
+ghost use Rattle.std.specs.Prelude.{◌≡◌, ℕ, List, Ok, IfOk, IfErr, map};
 ghost use Rattle.std.specs.HashMap.{get_by_text};
 ghost use Rattle.gq_schema.specs.BindingsSeen.{loader_of};
-ghost use Rattle.world.specs.Sources.{source_for, sources_for};
+ghost use Rattle.world.specs.Sources.{source_for, sources_for, IsRefused};
 ghost use Rattle.world.specs.Kept.{source_of};
 
 use crate::fault::WorldFault;
@@ -41,7 +41,7 @@ fn source_parts(
 ) -> Result<SourceParts, WorldFault>
     ensures same { (q : List ℕ) → get_by_text tables.new q ≡ get_by_text tables.old q }
     ensures ok { IfOk result (λ s. source_for (get_by_text tables.old) (loader_of line.now) ≡ Ok (source_of s)) }
-    ensures err { IfErr result (λ e. e ≢ WorldFault.NoMemory → source_for (get_by_text tables.old) (loader_of line.now) ≡ Err e) }
+    ensures err { IfErr result (IsRefused (source_for (get_by_text tables.old) (loader_of line.now))) }
 {
     let Some(table) = tables.get_mut(line.table.as_str()) else {
         return Err(WorldFault::NoSuchTable);
@@ -61,7 +61,7 @@ pub fn all_source_parts(
     loaders: &[LoaderLine],
 ) -> Result<Vec<SourceParts>, WorldFault>
     ensures ok { IfOk result (λ v. sources_for (get_by_text tables) (map loader_of loaders.now) ≡ Ok (map source_of v.items)) }
-    ensures err { IfErr result (λ e. e ≢ WorldFault.NoMemory → sources_for (get_by_text tables) (map loader_of loaders.now) ≡ Err e) }
+    ensures err { IfErr result (IsRefused (sources_for (get_by_text tables) (map loader_of loaders.now))) }
 {
     let mut all = Vec::with_capacity(alloc, loaders.len())?;
     for line in loaders {

@@ -1,13 +1,13 @@
 //! The tables by their names, and the indices of their columns.
 
-ghost use Rattle.std.specs.Prelude.{◌≡◌, ◌≢◌, ℕ, List, Ok, Err, Some, IfOk, IfErr, IfSome, OnOk, Contains, map, position, bytes_eq};
+ghost use Rattle.std.specs.Prelude.{◌≡◌, ℕ, List, Ok, Some, IfOk, IfErr, IfSome, OnOk, Contains, map, position, bytes_eq};
 ghost use Rattle.std.specs.Arc.{arc_value};
 ghost use Rattle.std.specs.HashMap.{get_by_text};
 ghost use Rattle.std.specs.Option.{option_map};
 ghost use Rattle.gq_schema.specs.BindingsSeen.{by_of};
 ghost use Rattle.csv_source.specs.Reading.{Repeats};
 ghost use Rattle.csv_source.specs.Tables.{rows_of, index_of};
-ghost use Rattle.world.specs.Sources.{table_of, names_of, sheet_named, mode_of, source_over};
+ghost use Rattle.world.specs.Sources.{table_of, names_of, sheet_named, mode_of, source_over, IsRefused, IsRefusedTables};
 ghost use Rattle.world.specs.Kept.{source_of, source_by_index};
 
 use crate::fault::WorldFault;
@@ -106,7 +106,7 @@ impl IndexedTable {
     fn index(&mut self, alloc: Global, by: &By) -> Result<Arc<ColumnIndex>, WorldFault>
         ensures same { self.new ≡ self.old }
         ensures ok { IfOk result (λ x. source_over self.old (Some (by_of by.now)) ≡ Ok (source_by_index (arc_value x))) }
-        ensures err { IfErr result (λ e. e ≢ WorldFault.NoMemory → source_over self.old (Some (by_of by.now)) ≡ Err e) }
+        ensures err { IfErr result (IsRefused (source_over self.old (Some (by_of by.now)))) }
     {
         let mode = mode_of(by);
         let Some(place) = self.table.sheet().column(&by.column) else {
@@ -126,7 +126,7 @@ impl IndexedTable {
     pub fn source(&mut self, alloc: Global, by: &Option<By>) -> Result<SourceParts, WorldFault>
         ensures same { self.new ≡ self.old }
         ensures ok { IfOk result (λ s. source_over self.old (option_map by_of by.now) ≡ Ok (source_of s)) }
-        ensures err { IfErr result (λ e. e ≢ WorldFault.NoMemory → source_over self.old (option_map by_of by.now) ≡ Err e) }
+        ensures err { IfErr result (IsRefused (source_over self.old (option_map by_of by.now))) }
     {
         match by {
             None => Ok(SourceParts::All(Arc::try_clone(&self.table)?)),
@@ -149,7 +149,7 @@ pub fn by_name(
 ) -> Result<HashMap<String, IndexedTable>, WorldFault>
     ensures found { IfOk result (λ named. (q : List ℕ) → get_by_text named q ≡ sheet_named (map table_of tables.items) q) }
     ensures once { OnOk result (¬ (Repeats (names_of (map table_of tables.items)))) }
-    ensures err { IfErr result (λ e. e ≢ WorldFault.NoMemory → (e ≡ WorldFault.DuplicateTable) × Repeats (names_of (map table_of tables.items))) }
+    ensures err { IfErr result (IsRefusedTables (map table_of tables.items)) }
 {
     let mut named = HashMap::new(alloc);
     for (name, table) in tables {

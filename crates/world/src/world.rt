@@ -4,7 +4,7 @@ ghost use Rattle.std.specs.Prelude.{◌≡◌, ◌<◌, ℕ, IfOk, IfErr, get_or
 ghost use Rattle.gq_schema.specs.Types.{tree_of};
 ghost use Rattle.csv_source.specs.Tables.{SourceOf};
 ghost use Rattle.world.specs.Sources.{table_of};
-ghost use Rattle.world.specs.Worlds.{IsLimit, IsWorldOver, IsRefusalOver};
+ghost use Rattle.world.specs.Worlds.{WorldOf, IsLimit, IsWorldOver, IsRefusalOver, IsWorld, IsRefusal, MakesWorld};
 
 use crate::fault::WorldFault;
 use crate::sources::{SourceParts, all_source_parts};
@@ -32,13 +32,17 @@ pub struct World {
 
 impl Model for World {
     ghost use Rattle.std.specs.Prelude.{map};
-    ghost use Rattle.gq_schema.specs.Types.{tree_of};
+    ghost use Rattle.std.specs.Coded.{codes};
+    ghost use Rattle.gq_parser.specs.contracts.tree.TypeRef as type_ref;
+    ghost use Rattle.gq_parser.specs.contracts.tree.Literal as literal;
     ghost use Rattle.world.specs.Kept.{source_of};
     ghost use Rattle.world.specs.Worlds.{WorldOf};
 
     ghost Value = { WorldOf };
 
-    ghost view = { λ w. record { schema = tree_of w.schema; bindings = w.bindings; limit = w.limit; sources = map source_of w.sources.items } };
+    ghost coded = { Prim.hlevel (codes, type_ref.the_row.coded, literal.the_row.coded) };
+
+    ghost view = { λ w. record { definitions = w.schema; bindings = w.bindings; limit = w.limit; sources = map source_of w.sources.items } };
 }
 
 // A limit that may be set, if there is one.
@@ -58,6 +62,39 @@ fn limited(max: Option<u32>) -> Result<Option<u32>, WorldFault>
 }
 
 impl World {
+    /// The world of a schema text, a bindings text and tables by their names, with at most `max` keys
+    /// in a batch where it is given. Tables that no loader uses are taken, and not kept. Loaders of
+    /// the same column that compare keys alike share one index.
+    ///
+    /// # Errors
+    ///
+    /// The first of these: [`BadLimit`](WorldFault::BadLimit);
+    /// [`Schema`](WorldFault::Schema) with the schema's fault, and then with `BadBinding`;
+    /// [`DuplicateTable`](WorldFault::DuplicateTable); and for the loaders in order
+    /// [`NoSuchTable`](WorldFault::NoSuchTable) or [`NoSuchColumn`](WorldFault::NoSuchColumn).
+    /// [`NoMemory`](WorldFault::NoMemory) comes where a growth is refused, before any fault that would
+    /// have been found later.
+    pub fn new(
+        alloc: Global,
+        schema: &str,
+        bindings: &str,
+        tables: Vec<(String, Table)>,
+        max: Option<u32>,
+    ) -> Result<World, WorldFault>
+        // What is made is the world that the texts and the tables say.
+        ensures made { IfOk result (IsWorld schema.now bindings.now (map table_of tables.items) max) }
+
+        // Where they say a world, it is made.
+        ensures only { (w : WorldOf) → IsWorld schema.now bindings.now (map table_of tables.items) max w → MakesWorld w result }
+
+        // Otherwise the first refusal is told.
+        ensures fault { IfErr result (IsRefusal schema.now bindings.now (map table_of tables.items) max) }
+    {
+        let limit = limited(max)?;
+        let schema = Schema::read(alloc, schema)?;
+        World::over(alloc, schema, bindings, tables, limit)
+    }
+
     // The world of a schema.
     fn over(
         alloc: Global,
@@ -83,7 +120,7 @@ impl World {
 
     /// The schema.
     pub fn schema(&self) -> &Schema
-        ensures { tree_of result.now ≡ self.now.schema }
+        ensures { result.now ≡ self.now.definitions }
     {
         &self.schema
     }
