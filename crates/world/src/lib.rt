@@ -8,8 +8,8 @@
 mod fault;
 mod sources;
 mod tables;
-
-
+#[cfg(test)]
+mod tests;
 mod world;
 
 pub use fault::WorldFault;
