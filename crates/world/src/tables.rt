@@ -52,7 +52,11 @@ impl Model for IndexedTable {
 fn mode_of(by: &By) -> KeyMode
     ensures { result ≡ mode_of by.now.fold }
 {
-    if by.fold { KeyMode::FoldAscii } else { KeyMode::Exact }
+    if by.fold {
+        KeyMode::FoldAscii
+    } else {
+        KeyMode::Exact
+    }
 }
 
 impl IndexedTable {

@@ -108,6 +108,7 @@ fn sample_world(rt: HostRuntime) -> Result<(), Fail> {
     ];
     let one = Key::Text(String::from_str(alloc, "1")?);
     for (loader, (column, want)) in wants.iter().enumerate() {
+        assert!(rt; loader < world.loaders());
         let key = if loader == 1 { &Key::All } else { &one };
         let texts = texts_of(alloc, &world.source(loader), key, column)?;
         assert_eq!(rt; texts.as_str(), *want, "loader {loader}");
@@ -134,6 +135,7 @@ field Query.c one second arg n
     assert_eq!(rt; world.loaders(), 4);
     let key = Key::Text(String::from_str(alloc, "A")?);
     for (loader, want) in ["b;", "b;c;", "b;", "A;"].iter().enumerate() {
+        assert!(rt; loader < world.loaders());
         let texts = texts_of(alloc, &world.source(loader), &key, "y")?;
         assert_eq!(rt; texts.as_str(), *want, "loader {loader}");
     }
@@ -186,10 +188,16 @@ loader second u by x
 field Query.a one first arg n
 ";
     let column: [(&str, &[u8]); 1] = [("t", b"x,y,Z\n")];
-    let text = printed(alloc, world_of(alloc, schema, bindings, column.as_slice(), None)?)?;
+    let text = printed(
+        alloc,
+        world_of(alloc, schema, bindings, column.as_slice(), None)?,
+    )?;
     assert_eq!(rt; text.as_str(), "C6 NoSuchColumn");
     let table: [(&str, &[u8]); 1] = [("u", b"x\n")];
-    let text = printed(alloc, world_of(alloc, schema, bindings, table.as_slice(), None)?)?;
+    let text = printed(
+        alloc,
+        world_of(alloc, schema, bindings, table.as_slice(), None)?,
+    )?;
     assert_eq!(rt; text.as_str(), "X7 NoSuchTable");
     Ok(())
 }
