@@ -107,9 +107,10 @@ fn sample_world(rt: HostRuntime) -> Result<(), Fail> {
         ("title", ""),
     ];
     let one = Key::Text(String::from_str(alloc, "1")?);
+    let all = Key::All;
     for (loader, (column, want)) in wants.iter().enumerate() {
         assert!(rt; loader < world.loaders());
-        let key = if loader == 1 { &Key::All } else { &one };
+        let key = if loader == 1 { &all } else { &one };
         let texts = texts_of(alloc, &world.source(loader), key, column)?;
         assert_eq!(rt; texts.as_str(), *want, "loader {loader}");
     }
