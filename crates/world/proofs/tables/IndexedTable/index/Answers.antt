@@ -1,0 +1,20 @@
+use Rattle.std.proofs.Common.{◌≡◌, ◌∙◌, sym, refl}
+use Rattle.std.specs.Arc.{arc_value}
+use Rattle.gq_schema.specs.BindingsSeen.{by_of}
+use Rattle.world.proofs.Columns.{on_ok, source-there, source-missing}
+use Rattle.world.proofs.tables.IndexedTable.index.Goals as goal
+
+pub returns-in_default-clause-err : goal.returns-in_default-clause-err
+returns-in_default-clause-err c =
+    let none = rw (c.deref-2.ensures, c.sheet.ensures.value, c.deref.ensures, c.deref-3.ensures) at c.in_default.ensures in
+    rw (← c.self.view_is) (source-missing _ (by_of c.args.by.now) none)
+
+pub returns-in_ok-try_clone-in-Some-find-clause-ok : goal.returns-in_ok-try_clone-in-Some-find-clause-ok
+returns-in_ok-try_clone-in-Some-find-clause-ok c =
+    let at = rw (c.deref-2.ensures, c.sheet.ensures.value, c.deref.ensures, c.deref-3.ensures, c.self.view_is) at c.in-Some.ensures in
+    source-there c.args.self.now (by_of c.args.by.now) c.in-Some.place _ _ at c.mode_of-mode.ensures (c.in_ok-try_clone-in-Some-find.ensures ∙ c.in-Some-find.ensures)
+
+pub returns-in-None-clause-ok : goal.returns-in-None-clause-ok
+returns-in-None-clause-ok c =
+    let at = rw (c.deref-2.ensures, c.sheet.ensures.value, c.deref.ensures, c.deref-3.ensures, c.self.view_is) at c.in-Some.ensures in
+    on_ok _ _ (λ x made. source-there c.args.self.now (by_of c.args.by.now) c.in-Some.place _ _ at c.mode_of-mode.ensures made) c.add.result c.add.ensures.ok

@@ -1,0 +1,20 @@
+-- What is kept for sources, and what it stands for.
+use Rattle.std.specs.Prelude.{◌≡◌}
+use Rattle.std.specs.Arc.{arc_value}
+use Rattle.load_memory.specs.Rows.{SheetOf}
+use Rattle.csv_source.specs.Tables.{SourceOf, IndexOf, rows_of, index_of, source_of_all, source_by}
+use Rattle.world.specs.declared.tables.KeptIndex.{KeptIndex}
+use Rattle.world.specs.declared.sources.SourceParts.{SourceParts}
+use Rattle.world.specs.declared.sources.SourceParts.TheVariants as parts
+
+-- the index of that column of the sheet
+abbrev pub IsKept : SheetOf → KeptIndex → Type 0
+IsKept sheet kept = arc_value kept.index ≡ index_of sheet kept.column (arc_value kept.index).mode
+
+-- the source by an index
+abbrev pub source_by_index : IndexOf → SourceOf
+source_by_index index = source_by index.rows index.column index.mode
+
+abbrev pub source_of : SourceParts → SourceOf
+source_of (parts.All table) = source_of_all (rows_of (arc_value table))
+source_of (parts.By index) = source_by_index (arc_value index)

@@ -1,0 +1,4 @@
+pub mod Faults
+pub mod Sources
+pub mod Kept
+pub mod Worlds

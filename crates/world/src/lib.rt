@@ -1,0 +1,16 @@
+//! A world: a schema, how its fields are answered, and the tables that they are answered from.
+//!
+//! The layer above may rely on this: [`World::new`] makes a world exactly where each part accepts,
+//! and names the first refusal otherwise; each loader of the bindings has its source, which is made
+//! without memory.
+#![tactic(auto)]
+
+mod fault;
+mod sources;
+mod tables;
+#[cfg(test)]
+mod tests;
+mod world;
+
+pub use fault::WorldFault;
+pub use world::{MAX_LIMIT, World};

@@ -1,0 +1,166 @@
+//! The tables by their names, and the indices of their columns.
+
+ghost use Rattle.std.specs.Prelude.{◌≡◌, ℕ, List, Ok, Some, IfOk, IfErr, IfSome, OnOk, Contains, map, position, bytes_eq};
+ghost use Rattle.std.specs.Arc.{arc_value};
+ghost use Rattle.std.specs.HashMap.{get_by_text};
+ghost use Rattle.std.specs.Option.{option_map};
+ghost use Rattle.gq_schema.specs.BindingsSeen.{by_of};
+ghost use Rattle.csv_source.specs.Reading.{Repeats};
+ghost use Rattle.csv_source.specs.Tables.{rows_of, index_of};
+ghost use Rattle.world.specs.Sources.{table_of, names_of, sheet_named, mode_of, source_over, IsRefused, IsRefusedTables};
+ghost use Rattle.world.specs.Kept.{source_of, source_by_index};
+
+use crate::fault::WorldFault;
+use crate::sources::SourceParts;
+use csv_source::{ColumnIndex, Table};
+use gq_schema::By;
+use load_memory::KeyMode;
+use std::alloc::{AllocError, Global};
+use std::collections::HashMap;
+use std::marker::Model;
+use std::sync::Arc;
+
+/// An index of the column at a place, counted from 0.
+#[derive(Drop)]
+pub struct KeptIndex {
+    column: usize,
+    index: Arc<ColumnIndex>,
+}
+
+/// A table, and the indices that were made of its columns.
+///
+/// A contract sees it as its sheet.
+#[derive(Drop)]
+pub struct IndexedTable {
+    table: Arc<Table>,
+    indices: Vec<KeptIndex>,
+}
+
+impl Model for IndexedTable {
+    ghost use Rattle.std.specs.Prelude.{All};
+    ghost use Rattle.std.specs.Arc.{arc_value};
+    ghost use Rattle.load_memory.specs.Rows.{SheetOf};
+    ghost use Rattle.world.specs.Kept.{IsKept};
+
+    ghost Value = { SheetOf };
+
+    ghost view = { λ t. arc_value t.table };
+
+    ghost invariant = { λ t. All (IsKept (arc_value t.table)) t.indices.items };
+}
+
+fn mode_of(by: &By) -> KeyMode
+    ensures { result ≡ mode_of by.now.fold }
+{
+    if by.fold {
+        KeyMode::FoldAscii
+    } else {
+        KeyMode::Exact
+    }
+}
+
+impl IndexedTable {
+    /// A table without an index.
+    pub fn new(alloc: Global, table: Table) -> Result<IndexedTable, AllocError>
+        ensures { IfOk result (λ t. t ≡ table) }
+    {
+        let indices = Vec::new(alloc);
+        let table = Arc::new(alloc, table)?;
+        Ok(IndexedTable { table, indices })
+    }
+
+    // The index of the column at a place that was made for this mode.
+    fn find(&self, column: usize, mode: KeyMode) -> Option<&Arc<ColumnIndex>>
+        ensures { IfSome result (λ x. arc_value x.now ≡ index_of self.now column mode) }
+    {
+        for kept in &self.indices {
+            if kept.column == column && kept.index.mode() == mode {
+                return Some(&kept.index);
+            }
+        }
+        None
+    }
+
+    // Makes the index of a column that is there, and keeps it.
+    fn add(
+        &mut self,
+        alloc: Global,
+        place: usize,
+        column: &str,
+        mode: KeyMode,
+    ) -> Result<Arc<ColumnIndex>, WorldFault>
+        requires { Some place ≡ position (λ n. bytes_eq n column.now) self.old.names }
+        ensures same { self.new ≡ self.old }
+        ensures ok { IfOk result (λ x. arc_value x ≡ index_of self.old place mode) }
+        ensures err { IfErr result (λ e. e ≡ WorldFault.NoMemory) }
+    {
+        let Ok(index) = ColumnIndex::new(alloc, &self.table, column, mode) else {
+            return Err(WorldFault::NoMemory);
+        };
+        let index = Arc::new(alloc, index)?;
+        let kept = Arc::try_clone(&index)?;
+        self.indices.push(KeptIndex {
+            column: place,
+            index: kept,
+        })?;
+        Ok(index)
+    }
+
+    // The index of a column, of which one is made for each mode at most.
+    fn index(&mut self, alloc: Global, by: &By) -> Result<Arc<ColumnIndex>, WorldFault>
+        ensures same { self.new ≡ self.old }
+        ensures ok { IfOk result (λ x. source_over self.old (Some (by_of by.now)) ≡ Ok (source_by_index (arc_value x))) }
+        ensures err { IfErr result (IsRefused (source_over self.old (Some (by_of by.now)))) }
+    {
+        let mode = mode_of(by);
+        let Some(place) = self.table.sheet().column(&by.column) else {
+            return Err(WorldFault::NoSuchColumn);
+        };
+        match self.find(place, mode) {
+            Some(index) => Ok(Arc::try_clone(index)?),
+            None => self.add(alloc, place, &by.column, mode),
+        }
+    }
+
+    /// What the source of a loader of this table is made from.
+    ///
+    /// # Errors
+    ///
+    /// `NoSuchColumn` where the loader goes by a column that the table doesn't have, and `NoMemory`.
+    pub fn source(&mut self, alloc: Global, by: &Option<By>) -> Result<SourceParts, WorldFault>
+        ensures same { self.new ≡ self.old }
+        ensures ok { IfOk result (λ s. source_over self.old (option_map by_of by.now) ≡ Ok (source_of s)) }
+        ensures err { IfErr result (IsRefused (source_over self.old (option_map by_of by.now))) }
+    {
+        match by {
+            None => Ok(SourceParts::All(Arc::try_clone(&self.table)?)),
+            Some(by) => {
+                let index = self.index(alloc, by)?;
+                Ok(SourceParts::By(index))
+            }
+        }
+    }
+}
+
+/// The tables by their names.
+///
+/// # Errors
+///
+/// `DuplicateTable` where two have the same name, and `NoMemory`.
+pub fn by_name(
+    alloc: Global,
+    tables: Vec<(String, Table)>,
+) -> Result<HashMap<String, IndexedTable>, WorldFault>
+    ensures found { IfOk result (λ named. (q : List ℕ) → get_by_text named q ≡ sheet_named (map table_of tables.items) q) }
+    ensures once { OnOk result (¬ (Repeats (names_of (map table_of tables.items)))) }
+    ensures err { IfErr result (IsRefusedTables (map table_of tables.items)) }
+{
+    let mut named = HashMap::new(alloc);
+    for (name, table) in tables {
+        let table = IndexedTable::new(alloc, table)?;
+        if named.insert(name, table)?.is_some() {
+            return Err(WorldFault::DuplicateTable);
+        }
+    }
+    Ok(named)
+}

@@ -1,0 +1,157 @@
+//! Worlds.
+
+ghost use Rattle.std.specs.Prelude.{◌≡◌, ◌<◌, ℕ, IfOk, IfErr, get_or, length, map};
+ghost use Rattle.gq_schema.specs.Types.{tree_of};
+ghost use Rattle.csv_source.specs.Tables.{SourceOf};
+ghost use Rattle.world.specs.Sources.{table_of};
+ghost use Rattle.world.specs.Worlds.{WorldOf, IsLimit, IsWorldOver, IsRefusalOver, IsWorld, IsRefusal, MakesWorld};
+
+use crate::fault::WorldFault;
+use crate::sources::{SourceParts, all_source_parts};
+use crate::tables::by_name;
+use csv_source::{CsvSource, Table};
+use gq_schema::{Bindings, Schema};
+use std::alloc::Global;
+use std::marker::Model;
+
+/// The greatest limit on the keys of one batch.
+pub const MAX_LIMIT: u32 = 65_535;
+
+/// A schema, how its fields are answered, at most how many keys one batch has, and for each loader of
+/// the bindings what its source is made from.
+///
+/// A contract sees it as these four: the definitions of the schema, the bindings, the limit, and the
+/// sources in the order of their loaders.
+#[derive(Drop)]
+pub struct World {
+    schema: Schema,
+    bindings: Bindings,
+    limit: Option<u32>,
+    sources: Vec<SourceParts>,
+}
+
+impl Model for World {
+    ghost use Rattle.std.specs.Prelude.{map};
+    ghost use Rattle.std.specs.Coded.{codes};
+    ghost use Rattle.gq_parser.specs.contracts.tree.TypeRef as type_ref;
+    ghost use Rattle.gq_parser.specs.contracts.tree.Literal as literal;
+    ghost use Rattle.world.specs.Kept.{source_of};
+    ghost use Rattle.world.specs.Worlds.{WorldOf};
+
+    ghost Value = { WorldOf };
+
+    ghost coded = { Prim.hlevel (codes, type_ref.the_row.coded, literal.the_row.coded) };
+
+    ghost view = { λ w. record { definitions = w.schema; bindings = w.bindings; limit = w.limit; sources = map source_of w.sources.items } };
+}
+
+// A limit that may be set, if there is one.
+fn limited(max: Option<u32>) -> Result<Option<u32>, WorldFault>
+    ensures ok { IfOk result (λ limit. (limit ≡ max) × IsLimit max) }
+    ensures err { IfErr result (λ e. (e ≡ WorldFault.BadLimit) × ¬ (IsLimit max)) }
+{
+    match max {
+        None => Ok(None),
+        Some(limit) => {
+            if limit == 0 || limit > MAX_LIMIT {
+                return Err(WorldFault::BadLimit);
+            }
+            Ok(Some(limit))
+        }
+    }
+}
+
+impl World {
+    /// The world of a schema text, a bindings text and tables by their names, with at most `max` keys
+    /// in a batch where it is given. Tables that no loader uses are taken, and not kept. Loaders of
+    /// the same column that compare keys alike share one index.
+    ///
+    /// # Errors
+    ///
+    /// The first of these: [`BadLimit`](WorldFault::BadLimit);
+    /// [`Schema`](WorldFault::Schema) with the schema's fault, and then with `BadBinding`;
+    /// [`DuplicateTable`](WorldFault::DuplicateTable); and for the loaders in order
+    /// [`NoSuchTable`](WorldFault::NoSuchTable) or [`NoSuchColumn`](WorldFault::NoSuchColumn).
+    /// [`NoMemory`](WorldFault::NoMemory) comes where a growth is refused, before any fault that would
+    /// have been found later.
+    pub fn new(
+        alloc: Global,
+        schema: &str,
+        bindings: &str,
+        tables: Vec<(String, Table)>,
+        max: Option<u32>,
+    ) -> Result<World, WorldFault>
+        // What is made is the world that the texts and the tables say.
+        ensures made { IfOk result (IsWorld schema.now bindings.now (map table_of tables.items) max) }
+
+        // Where they say a world, it is made.
+        ensures only { (w : WorldOf) → IsWorld schema.now bindings.now (map table_of tables.items) max w → MakesWorld w result }
+
+        // Otherwise the first refusal is told.
+        ensures fault { IfErr result (IsRefusal schema.now bindings.now (map table_of tables.items) max) }
+    {
+        let limit = limited(max)?;
+        let schema = Schema::read(alloc, schema)?;
+        World::over(alloc, schema, bindings, tables, limit)
+    }
+
+    // The world of a schema.
+    fn over(
+        alloc: Global,
+        schema: Schema,
+        bindings: &str,
+        tables: Vec<(String, Table)>,
+        limit: Option<u32>,
+    ) -> Result<World, WorldFault>
+        ensures ok { IfOk result (λ w. IsWorldOver (tree_of schema) bindings.now (map table_of tables.items) w) }
+        ensures limit { IfOk result (λ w. w.limit ≡ limit) }
+        ensures err { IfErr result (IsRefusalOver (tree_of schema) bindings.now (map table_of tables.items)) }
+    {
+        let bindings = Bindings::read(alloc, &schema, bindings)?;
+        let tables = by_name(alloc, tables)?;
+        let sources = all_source_parts(alloc, tables, bindings.loaders())?;
+        Ok(World {
+            schema,
+            bindings,
+            limit,
+            sources,
+        })
+    }
+
+    /// The schema.
+    pub fn schema(&self) -> &Schema
+        ensures { result.now ≡ self.now.definitions }
+    {
+        &self.schema
+    }
+
+    /// How the fields of the schema are answered.
+    pub fn bindings(&self) -> &Bindings
+        ensures { result.now ≡ self.now.bindings }
+    {
+        &self.bindings
+    }
+
+    /// At most how many keys one batch has, from 1 to [`MAX_LIMIT`]; no bound where there is none.
+    pub fn limit(&self) -> Option<u32>
+        ensures { result ≡ self.now.limit }
+    {
+        self.limit
+    }
+
+    /// How many loaders there are. They are numbered from 0 in the order of their lines.
+    pub fn loaders(&self) -> usize
+        ensures { result ≡ length self.now.sources }
+    {
+        self.sources.len()
+    }
+
+    /// The source of the loader of this number. It is made without memory, and nothing is indexed
+    /// anew.
+    pub fn source(&self, loader: usize) -> CsvSource<'_>
+        requires { loader < length self.now.sources }
+        ensures { (d : SourceOf) → result ≡ get_or self.now.sources loader d }
+    {
+        self.sources[loader].source()
+    }
+}
