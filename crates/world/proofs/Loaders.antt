@@ -1,12 +1,12 @@
 -- The sources of loaders, one more at a time.
-use Rattle.std.proofs.Common.{◌≡◌, ◌∙◌, ℕ, List, [], ◌∷◌, ◌++◌, map, sym, ap, refl, Option}
+use Rattle.std.proofs.Common.{◌≡◌, ℕ, List, [], ◌∷◌, ◌++◌, ap, refl, Option}
 use Rattle.std.specs.Prelude.{Result, Ok, Err}
 use Rattle.gq_schema.specs.BindingsTree.{LoaderOf}
 use Rattle.load_memory.specs.Rows.{SheetOf}
 use Rattle.csv_source.specs.Tables.{SourceOf}
 use Rattle.world.specs.declared.fault.WorldFault.{WorldFault}
 use Rattle.world.specs.declared.fault.WorldFault.TheVariants as world
-use Rattle.world.specs.Sources.{source_for, sources_for, source_over_found, with_rest, before, IsRefused}
+use Rattle.world.specs.Sources.{source_for, sources_for, source_over_found, IsRefused}
 
 -- these sources, and then those
 abbrev pub joined : List SourceOf → Result (List SourceOf) WorldFault → Result (List SourceOf) WorldFault

@@ -1,10 +1,10 @@
 -- A world is the only one of its texts and tables, and then there is no refusal.
-use Rattle.std.proofs.Common.{◌≡◌, ◌∙◌, ℕ, List, sym, ap, refl, Option, Some, None}
+use Rattle.std.proofs.Common.{◌≡◌, ◌∙◌, ℕ, List, sym, ap, refl, Option}
 use Rattle.std.specs.Prelude.{Result, Ok, Err, IfOk, IfErr}
 use Rattle.schema_syntax.specs.Tree.{Definition}
 use Rattle.gq_schema.specs.Reading.{IsSchema}
 use Rattle.gq_schema.specs.BindingsTree.{BindingsOf}
-use Rattle.gq_schema.specs.BindingsReading.{Reading, bindings_of, accepted, refused}
+use Rattle.gq_schema.specs.BindingsReading.{bindings_of, accepted, refused}
 use Rattle.gq_schema.specs.BindingsFaults.{Refuses}
 use Rattle.gq_schema.specs.declared.fault.SchemaFault.{SchemaFault}
 use Rattle.gq_schema.specs.declared.fault.SchemaFault.TheVariants as schema

@@ -1,5 +1,4 @@
-use Rattle.std.proofs.Common.{◌≡◌, ◌∙◌, sym, refl}
-use Rattle.std.specs.Arc.{arc_value}
+use Rattle.std.proofs.Common.{◌∙◌}
 use Rattle.gq_schema.specs.BindingsSeen.{by_of}
 use Rattle.world.proofs.Columns.{on_ok, source-there, source-missing}
 use Rattle.world.proofs.tables.IndexedTable.index.Goals as goal

@@ -1,4 +1,4 @@
-use Rattle.std.proofs.Common.{◌≡◌, ◌∙◌, sym, map}
+use Rattle.std.proofs.Common.{◌≡◌, map}
 use Rattle.gq_schema.specs.Types.{tree_of}
 use Rattle.world.specs.Sources.{table_of}
 use Rattle.world.specs.Worlds.{IsWorldOver}

@@ -1,8 +1,8 @@
-use Rattle.std.proofs.Common.{◌≡◌, ◌∙◌, sym, ap, refl, ℕ, List, map}
+use Rattle.std.proofs.Common.{◌∙◌, sym, ap, refl, map}
 use Rattle.std.specs.HashMap.{get_by_text}
 use Rattle.std.proofs.lemmas.Result.{err_from_is_err_and}
 use Rattle.gq_schema.specs.Types.{tree_of}
-use Rattle.world.specs.Sources.{table_of, sheet_named, sources_for, IsRefused}
+use Rattle.world.specs.Sources.{table_of, sheet_named, sources_for}
 use Rattle.world.specs.Worlds.{IsRead}
 use Rattle.world.proofs.Loaders.{sources_for-same}
 use Rattle.world.proofs.Worlds.{from-loaders}
