@@ -9,8 +9,10 @@
 
 mod broken;
 mod built_in;
+mod parents;
 mod part;
 mod parts;
+mod selections;
 
 pub use broken::{Broken, BrokenName, Earliest};
 pub use built_in::condition_arguments;
