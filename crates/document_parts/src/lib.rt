@@ -7,8 +7,11 @@
 //! its names being unique.
 #![tactic(auto)]
 
+mod arguments;
 mod broken;
 mod built_in;
+mod fragments;
+mod listing;
 mod parents;
 mod part;
 mod parts;

@@ -1,12 +1,12 @@
 //! All parts of a document.
 
-ghost use Rattle.std.specs.Prelude.{◌≡◌, ◌∷◌, [], ℕ, List, IfOk, bytes_eq};
-ghost use Rattle.std.specs.HashMap.{get_by};
+ghost use Rattle.std.specs.Prelude.{◌≡◌, ◌∷◌, [], IfOk};
 ghost use Rattle.gq_parser.specs.Tree.{document_of};
 ghost use Rattle.schema_syntax.specs.Tree.{arguments_of};
 ghost use Rattle.gq_schema.specs.Types.{tree_of};
-ghost use Rattle.document_parts.specs.Fragments.{fragment_place};
+ghost use Rattle.document_parts.specs.Fragments.{fragment_place, AreNumbers};
 
+use crate::fragments::Numbers;
 use crate::part::{
     ArgumentList, ArgumentPart, DirectiveList, FieldPart, InlinePart, SetPart, SpreadPart,
     VariablePart, VariableUse,
@@ -14,7 +14,6 @@ use crate::part::{
 use gq_parser::Document;
 use gq_schema::{ArgDef, Schema};
 use std::alloc::{AllocError, Global};
-use std::collections::HashMap;
 
 /// The parts of a document over a schema, each list with operations first and then fragments, in the order of the text.
 #[derive(Drop)]
@@ -35,8 +34,8 @@ pub struct Parts<'d> {
     pub arguments: Vec<ArgumentPart<'d>>,
     /// The variables in these arguments.
     pub uses: Vec<VariableUse<'d>>,
-    fragments: HashMap<&'d str, usize>,
-    ghost numbered: { (q : List ℕ) → get_by (λ k. bytes_eq q k.now) fragments ≡ fragment_place (document_of document.now).fragments q },
+    fragments: Numbers<'d>,
+    ghost numbered: { AreNumbers (document_of document.now).fragments fragments },
 }
 
 impl<'d> Parts<'d> {
