@@ -6,11 +6,13 @@ ghost use Rattle.schema_syntax.specs.Tree.{arguments_of};
 ghost use Rattle.gq_schema.specs.Types.{tree_of};
 ghost use Rattle.document_parts.specs.Fragments.{fragment_place, AreNumbers};
 
-use crate::fragments::Numbers;
+use crate::fragments::{Numbers, fragment_numbers};
 use crate::part::{
     ArgumentList, ArgumentPart, DirectiveList, FieldPart, InlinePart, SetPart, SpreadPart,
     VariablePart, VariableUse,
 };
+use crate::selections::document_selections;
+use crate::{arguments, listing};
 use gq_parser::Document;
 use gq_schema::{ArgDef, Schema};
 use std::alloc::{AllocError, Global};
@@ -53,7 +55,36 @@ impl<'d> Parts<'d> {
         requires { arguments_of condition.now ≡ condition_argument ∷ [] }
         ensures { IfOk result (λ parts. parts_in parts ≡ parts_of (tree_of schema.now) (document_of document.now)) }
     {
-        Err(AllocError)
+        let selections = document_selections(alloc, schema, document)?;
+        let fragments = fragment_numbers(alloc, &document.fragments)?;
+        let fields = listing::fields(alloc, &selections)?;
+        let spreads = listing::spreads(alloc, &fragments, &document.fragments, &selections)?;
+        let inlines = listing::inlines(alloc, &selections)?;
+        let sets = listing::sets(alloc, schema, document, &selections)?;
+        let variables = listing::variables(alloc, document)?;
+        let directive_lists = listing::directive_lists(alloc, document, &variables, &selections)?;
+        let argument_lists = arguments::argument_lists(
+            alloc,
+            condition,
+            &fields,
+            &directive_lists,
+        )?;
+        let arguments = arguments::arguments(alloc, &argument_lists)?;
+        let uses = arguments::uses(alloc, &arguments)?;
+        Ok(Parts {
+            schema,
+            document,
+            fields,
+            spreads,
+            inlines,
+            sets,
+            variables,
+            directive_lists,
+            argument_lists,
+            arguments,
+            uses,
+            fragments,
+        })
     }
 
     /// The number of the first fragment of this name, from 0.
