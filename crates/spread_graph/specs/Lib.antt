@@ -5,4 +5,5 @@ pub mod Walks
 pub mod Ranks
 pub mod Levels
 pub mod Known
+pub mod Tables
 pub mod Rules
