@@ -1,2 +1,3 @@
 pub mod ScanLaws
 pub mod RowLaws
+pub mod UseLaws

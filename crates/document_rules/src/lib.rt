@@ -12,6 +12,7 @@ mod growing;
 mod names;
 mod operations;
 mod served;
+mod use_table;
 mod variables;
 
 pub use arguments::argument_uniqueness;
