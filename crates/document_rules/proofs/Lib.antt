@@ -1,3 +1,5 @@
 pub mod ScanLaws
 pub mod RowLaws
 pub mod UseLaws
+pub mod MarkLaws
+pub mod ReachLaws

@@ -1,12 +1,13 @@
 -- Uses in rows, by the operation or fragment that they stand in.
-use Rattle.std.specs.Prelude.{◌≡◌, ℕ, ◌+◌, ◌<◌, true, List, length, [], map, Option, None, MatchOption, slice_index, slice_index_or, bytes_eq}
+use Rattle.std.specs.Prelude.{◌≡◌, ℕ, ◌+◌, ◌<◌, Bool, true, List, length, [], map, Option, None, MatchOption, slice_index, slice_index_or, bytes_eq}
+use Rattle.std.specs.List.{list_any}
 use Rattle.std.specs.HashMap.{get_by}
 use Rattle.std.specs.Borrow.{Bor}
 use Rattle.gq_lexer.specs.declared.place.Place.{Place}
 use Rattle.document_parts.specs.declared.part.Owner.{Owner}
 use Rattle.document_parts.specs.declared.part.Owner.TheVariants as owner
 use Rattle.document_parts.specs.Parts.{VariableUse}
-use Rattle.spread_graph.specs.Graphs.{GraphOf, row}
+use Rattle.spread_graph.specs.Graphs.{GraphOf, row, row_at}
 use Rattle.spread_graph.specs.Reach.{is_among}
 use Rattle.document_rules.specs.declared.use_table.UseRows as rust-rows
 use Rattle.document_rules.specs.declared.use_table.UseTable as rust-table
@@ -52,3 +53,7 @@ pub record IsUseTable (uses : List VariableUse) (table : rust-table.UseTable) : 
   pub sound : (s : ℕ) (o : Owner) → IsIn (rows_in table.rows) o s → (s < length uses) × ((use_at uses s).owner ≡ o)
   pub stood : (k : ℕ) → k < length uses → IsIn (rows_in table.rows) (use_at uses k).owner (slice_index table.stand_ins.items k)
   pub alike : (k : ℕ) → k < length uses → slice_index table.numbers.items (slice_index table.stand_ins.items k) ≡ slice_index table.numbers.items k
+
+-- the use stands in one of these rows
+abbrev pub is_among_rows : List (List ℕ) → ℕ → List ℕ → Bool
+is_among_rows rows s js = list_any (λ j. is_among s (row_at rows j)) js

@@ -1,6 +1,7 @@
 -- Numbers of names, and marks on numbers. A use goes by its place in the document's list, from 0.
 use Rattle.std.specs.Prelude.{◌≡◌, ℕ, ◌≤◌, ◌==◌, Bool, false, List, map, Option, Some, None, unwrap_or, slice_index_or, bytes_eq}
 use Rattle.gq_schema.specs.Places.{place_from}
+use Rattle.gq_parser.specs.Tree.{VariableDefinition}
 use Rattle.document_parts.specs.Parts.{VariableUse}
 
 abbrev pub is_use : List ℕ → VariableUse → Bool
@@ -26,3 +27,7 @@ is_marked marks i n = is_number i (slice_index_or marks n None)
 -- no operation from number i on has marked a number
 abbrev pub AreFresh : List (Option ℕ) → ℕ → Type 0
 AreFresh marks i = (m n : ℕ) → i ≤ m → is_marked marks m n ≡ false
+
+-- the variable's name has the number n
+abbrev pub is_numbered : (List ℕ → Option ℕ) → ℕ → VariableDefinition → Bool
+is_numbered number n v = is_number n (number v.name)
