@@ -3,3 +3,4 @@ pub mod RowLaws
 pub mod UseLaws
 pub mod MarkLaws
 pub mod ReachLaws
+pub mod UsedLaws

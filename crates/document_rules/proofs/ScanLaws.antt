@@ -60,4 +60,3 @@ repeated-short (n ∷ (m ∷ ns)) short = absurd (omega arith)
 -- what is told of a list and then of another
 pub told-more : (old new : rust.Earliest) (bs rest : List BrokenOf) → Tells old new bs → with_all new rest ≡ with_all old (bs ++ rest)
 told-more old new bs rest tells = ap (λ kept. fold with_broken kept rest) tells ∙ sym (fold-append with_broken (told old) bs rest)
-

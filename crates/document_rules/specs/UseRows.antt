@@ -1,5 +1,5 @@
 -- Uses in rows, by the operation or fragment that they stand in.
-use Rattle.std.specs.Prelude.{◌≡◌, ℕ, ◌+◌, ◌<◌, Bool, true, List, length, [], map, Option, None, MatchOption, slice_index, slice_index_or, bytes_eq}
+use Rattle.std.specs.Prelude.{◌≡◌, ℕ, ◌+◌, ◌<◌, ◌==◌, Bool, true, List, length, [], map, Option, None, MatchOption, slice_index, slice_index_or, bytes_eq}
 use Rattle.std.specs.List.{list_any}
 use Rattle.std.specs.HashMap.{get_by}
 use Rattle.std.specs.Borrow.{Bor}
@@ -57,3 +57,11 @@ pub record IsUseTable (uses : List VariableUse) (table : rust-table.UseTable) : 
 -- the use stands in one of these rows
 abbrev pub is_among_rows : List (List ℕ) → ℕ → List ℕ → Bool
 is_among_rows rows s js = list_any (λ j. is_among s (row_at rows j)) js
+
+-- a use in the row has a name of this number
+abbrev pub is_number_among : List ℕ → ℕ → List ℕ → Bool
+is_number_among numbers n row = list_any (λ s. n == slice_index numbers s) row
+
+-- a use in one of these rows has a name of this number
+abbrev pub is_number_reached : List ℕ → ℕ → List (List ℕ) → List ℕ → Bool
+is_number_reached numbers n rows js = list_any (λ j. is_number_among numbers n (row_at rows j)) js

@@ -31,3 +31,8 @@ AreFresh marks i = (m n : ℕ) → i ≤ m → is_marked marks m n ≡ false
 -- the variable's name has the number n
 abbrev pub is_numbered : (List ℕ → Option ℕ) → ℕ → VariableDefinition → Bool
 is_numbered number n v = is_number n (number v.name)
+
+-- the same of a number that may not be there
+abbrev pub is_marked_if : List (Option ℕ) → ℕ → Option ℕ → Bool
+is_marked_if marks i None = false
+is_marked_if marks i (Some n) = is_marked marks i n

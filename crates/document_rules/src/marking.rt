@@ -8,8 +8,8 @@ ghost use Rattle.gq_parser.specs.Tree.{operation_of};
 ghost use Rattle.spread_graph.specs.Graphs.{row_at};
 ghost use Rattle.spread_graph.specs.Reach.{is_among};
 ghost use Rattle.document_rules.specs.Rows.{rows_of};
-ghost use Rattle.document_rules.specs.UseTable.{is_numbered, is_marked};
-ghost use Rattle.document_rules.specs.UseRows.{is_among_rows};
+ghost use Rattle.document_rules.specs.UseTable.{is_numbered, is_marked, is_marked_if};
+ghost use Rattle.document_rules.specs.UseRows.{is_among_rows, is_number_among, is_number_reached};
 
 use crate::growing::put;
 use crate::use_table::{Numbers, number_at};
@@ -36,13 +36,23 @@ pub fn mark_defined(
     Ok(())
 }
 
-/// Whether the operation of number `i` marked a number last.
-pub fn is_marked(marks: &[Option<usize>], i: usize, number: usize) -> bool
+// Whether the operation of number `i` marked a number last.
+fn is_marked(marks: &[Option<usize>], i: usize, number: usize) -> bool
     ensures { result ≡ is_marked marks.now i number }
 {
     match marks.get(number) {
         Some(Some(by)) => i == *by,
         Some(None) => false,
+        None => false,
+    }
+}
+
+/// The same of a number that may not be there.
+pub fn is_marked_if(marks: &[Option<usize>], i: usize, number: Option<usize>) -> bool
+    ensures { result ≡ is_marked_if marks.now i number }
+{
+    match number {
+        Some(number) => is_marked(marks, i, number),
         None => false,
     }
 }
@@ -88,6 +98,37 @@ pub fn note_all_lacking(
 {
     for j in reached {
         note_lacking(row_of(rows, *j), numbers, marks, i, lacking)?;
+    }
+    Ok(())
+}
+
+/// Marks the numbers of the names of the uses in a row.
+pub fn mark_uses(
+    row: &[usize],
+    numbers: &[usize],
+    i: usize,
+    marks: &mut Marks,
+) -> Result<(), AllocError>
+    ensures { (m n : ℕ) → OnOk result (is_marked marks.new.items m n ≡ (if is_number_among numbers.now n row.now then m == i else is_marked marks.old.items m n)) }
+{
+    for place in row {
+        put(marks, None, number_at(numbers, *place), Some(i))?;
+    }
+    Ok(())
+}
+
+/// The same of several rows.
+pub fn mark_all_uses(
+    rows: &[Vec<usize>],
+    reached: &[usize],
+    numbers: &[usize],
+    i: usize,
+    marks: &mut Marks,
+) -> Result<(), AllocError>
+    ensures { (m n : ℕ) → OnOk result (is_marked marks.new.items m n ≡ (if is_number_reached numbers.now n (rows_of rows.now) reached.now then m == i else is_marked marks.old.items m n)) }
+{
+    for j in reached {
+        mark_uses(row_of(rows, *j), numbers, i, marks)?;
     }
     Ok(())
 }

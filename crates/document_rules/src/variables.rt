@@ -1,20 +1,28 @@
 //! The rules on variables that need no types (section 5.8).
 
-ghost use Rattle.std.specs.Prelude.{◌≡◌, ◌<◌, ℕ, List, false, IfOk, length, slice_index, slice_index_or};
+ghost use Rattle.std.specs.Prelude.{◌≡◌, ◌<◌, ℕ, List, false, not, IfOk, length, map, filter, bytes_eq, slice_index, slice_index_or};
+ghost use Rattle.std.specs.HashMap.{get_by};
 ghost use Rattle.std.specs.Option.{option_map};
-ghost use Rattle.gq_parser.specs.Tree.{document_of};
+ghost use Rattle.gq_parser.specs.Tree.{operation_of, document_of};
 ghost use Rattle.document_parts.specs.Broken.{broken_of, earliest};
 ghost use Rattle.document_parts.specs.Parts.{VariableUse as Use, parts_in};
 ghost use Rattle.spread_graph.specs.Graphs.{graph_of};
 ghost use Rattle.document_rules.specs.VariableNames.{variable_uniqueness};
 ghost use Rattle.document_rules.specs.UsesDefined.{one_lacks, all_variable_uses_defined};
+ghost use Rattle.document_rules.specs.Named.{named_variable};
+ghost use Rattle.document_rules.specs.Scans.{Tells};
+ghost use Rattle.document_rules.specs.VariablesUsed.{all_variables_used};
+ghost use Rattle.document_rules.specs.UseTable.{is_marked_if};
 ghost use Rattle.document_rules.specs.UseRows.{use_at, IsUseTable};
 
-use crate::marking::{Marks, mark_defined, note_all_lacking, note_lacking, row_of};
+use crate::marking::{
+    Marks, is_marked_if, mark_all_uses, mark_defined, mark_uses, note_all_lacking, note_lacking,
+    row_of,
+};
 use crate::names::add_repeated;
-use crate::use_table::{UseTable, number_at};
+use crate::use_table::{Numbers, UseTable, number_at};
 use document_parts::{Broken, Earliest, Owner, Parts};
-use gq_parser::Document;
+use gq_parser::{Document, Operation};
 use spread_graph::{Graph, Walk};
 use std::alloc::{AllocError, Global};
 
@@ -87,6 +95,49 @@ pub fn all_variable_uses_defined<'d>(
         if is_noted(&lacking, number_at(&table.stand_ins, place)) {
             earliest.add(Broken::named(part.name, part.place));
         }
+    }
+    Ok(earliest.found)
+}
+
+// Tells of the variables of the operation of number `i` whose names' numbers it hasn't marked.
+fn add_unmarked<'d>(
+    operation: &'d Operation,
+    names: &Numbers,
+    marks: &[Option<usize>],
+    i: usize,
+    earliest: &mut Earliest<'d>,
+)
+    ensures { Tells earliest.old earliest.new (map named_variable (filter (λ v. not (is_marked_if marks.now i (get_by (λ k. bytes_eq v.name k.now) names.now))) (operation_of operation.now).variables)) }
+{
+    for variable in &operation.variables {
+        let number = names.get(variable.name.as_str()).copied();
+        if !is_marked_if(marks, i, number) {
+            earliest.add(Broken::named(variable.name.as_str(), variable.place));
+        }
+    }
+}
+
+/// All Variables Used (section 5.8.4): a variable of an operation that reaches no use of it, in itself or in fragments.
+pub fn all_variables_used<'d>(
+    alloc: Global,
+    parts: &Parts<'d>,
+    graph: &Graph,
+) -> Result<Option<Broken<'d>>, AllocError>
+    requires { graph.now ≡ graph_of (parts_in parts.now) }
+    ensures { IfOk result (λ broken. option_map broken_of broken ≡ earliest (all_variables_used (parts_in parts.now))) }
+{
+    let document = parts.document;
+    let table = UseTable::new(alloc, &parts.uses)?;
+    let mut marks: Marks = Vec::new(alloc);
+    let mut walk = Walk::new(alloc);
+    let mut earliest = Earliest::new();
+    for (i, operation) in document.operations.iter().enumerate() {
+        let own = row_of(&table.rows.operations, i);
+        mark_uses(own, &table.numbers, i, &mut marks)?;
+        walk.walk_from(graph, Owner::Operation(i))?;
+        let rows = &table.rows.fragments;
+        mark_all_uses(rows, walk.reached(), &table.numbers, i, &mut marks)?;
+        add_unmarked(operation, &table.names, &marks, i, &mut earliest);
     }
     Ok(earliest.found)
 }
