@@ -1,0 +1,41 @@
+//! Variables Are Input Types (section 5.8.2).
+
+ghost use Rattle.std.specs.Prelude.{◌≡◌};
+ghost use Rattle.gq_parser.specs.Tree.{type_of};
+ghost use Rattle.gq_schema.specs.Types.{tree_of};
+ghost use Rattle.typed_rules.specs.InputVariables.{is_list, is_list_of_lists, is_of_leaf, is_input_type};
+
+use crate::references::core;
+use gq_parser::TypeRef;
+use gq_schema::Schema;
+
+fn is_list(of_type: &TypeRef) -> bool
+    ensures { result ≡ is_list (type_of of_type.now) }
+{
+    matches!(of_type, TypeRef::List { .. })
+}
+
+fn is_list_of_lists(of_type: &TypeRef) -> bool
+    ensures { result ≡ is_list_of_lists (type_of of_type.now) }
+{
+    match of_type {
+        TypeRef::Named { .. } => false,
+        TypeRef::List { item, .. } => is_list(item),
+    }
+}
+
+/// Whether the name at a type's core is that of a scalar or an enum.
+pub fn is_of_leaf(schema: &Schema, of_type: &TypeRef) -> bool
+    ensures { result ≡ is_of_leaf (tree_of schema.now) (type_of of_type.now) }
+{
+    match schema.kind_of(core(of_type)) {
+        Some(kind) => kind.is_leaf(),
+        None => false,
+    }
+}
+
+fn is_input_type(schema: &Schema, of_type: &TypeRef) -> bool
+    ensures { result ≡ is_input_type (tree_of schema.now) (type_of of_type.now) }
+{
+    is_of_leaf(schema, of_type) && !is_list_of_lists(of_type)
+}

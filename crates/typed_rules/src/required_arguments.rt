@@ -1,0 +1,54 @@
+//! Required Arguments (section 5.4.2.1).
+
+ghost use Rattle.std.specs.Prelude.{◌≡◌, option_map, find};
+ghost use Rattle.std.specs.Option.{option_copied};
+ghost use Rattle.gq_parser.specs.Tree.{literal_of, arguments_of};
+ghost use Rattle.schema_syntax.specs.Tree as schema;
+ghost use Rattle.gq_schema.specs.Implements.{is_required};
+ghost use Rattle.typed_rules.specs.RequiredArguments.{is_null, is_given, is_missing, first_missing};
+
+use crate::references::is_non_null;
+use gq_parser::{Argument, Literal, Value};
+use gq_schema::ArgDef;
+
+fn is_null(literal: &Literal) -> bool
+    ensures { result ≡ is_null (literal_of literal.now) }
+{
+    matches!(literal.value, Value::Null)
+}
+
+fn is_required(argument: &ArgDef) -> bool
+    ensures { result ≡ is_required (schema.argument_of argument.now) }
+{
+    is_non_null(&argument.of_type) && argument.default.is_none()
+}
+
+// Whether the argument of a name is given, and isn't the literal `null`.
+fn is_given(arguments: &[Argument], name: &str) -> bool
+    ensures { result ≡ is_given (arguments_of arguments.now) name.now }
+{
+    for argument in arguments {
+        if name == argument.name.as_str() {
+            return !is_null(&argument.value);
+        }
+    }
+    false
+}
+
+fn is_missing(arguments: &[Argument], argument: &ArgDef) -> bool
+    ensures { result ≡ is_missing (arguments_of arguments.now) (schema.argument_of argument.now) }
+{
+    is_required(argument) && !is_given(arguments, argument.name.text.as_str())
+}
+
+// The name of the first argument of these that is missing.
+fn first_missing<'a>(defined: &'a [ArgDef], arguments: &[Argument]) -> Option<&'a str>
+    ensures { option_copied result ≡ first_missing (schema.arguments_of defined.now) (arguments_of arguments.now) }
+{
+    for argument in defined {
+        if is_missing(arguments, argument) {
+            return Some(argument.name.text.as_str());
+        }
+    }
+    None
+}
