@@ -1,0 +1,6 @@
+pub mod Broken
+pub mod Parts
+pub mod Parents
+pub mod Selections
+pub mod Uses
+pub mod Listing
