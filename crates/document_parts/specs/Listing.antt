@@ -6,12 +6,12 @@ use Rattle.gq_lexer.specs.declared.place.Place.{Place}
 use Rattle.gq_parser.specs.Tree.{Named, Argument, Directive, Selection, Field, Spread, Inline, nothing_below, below, SelectionSet, VariableDefinition, Operation, Fragment, Document}
 use Rattle.schema_syntax.specs.Tree as schema
 use Rattle.gq_schema.specs.Implements.{argument_in}
-use Rattle.gq_schema.specs.Places.{place_from}
 use Rattle.document_parts.specs.declared.part.Owner.{Owner}
 use Rattle.document_parts.specs.declared.part.Owner.TheVariants as owner
 use Rattle.document_parts.specs.declared.part.DirectiveLocation.{DirectiveLocation}
 use Rattle.document_parts.specs.declared.part.DirectiveLocation.TheVariants as location
 use Rattle.document_parts.specs.Parts.{SelectionPart, FieldPart, SpreadPart, InlinePart, SetPart, VariablePart, DirectiveList, ArgumentList, ArgumentPart, VariableUse, PartsOf}
+use Rattle.document_parts.specs.Fragments.{fragment_place}
 use Rattle.document_parts.specs.Parents.{inside_operation, inside_condition}
 use Rattle.document_parts.specs.Selections.{document_selections}
 use Rattle.document_parts.specs.Uses.{argument_uses}
@@ -37,13 +37,6 @@ field_from part (Inline p c ds s) = None
 -- the selection, where it is a field
 abbrev pub field_part : SelectionPart → Option FieldPart
 field_part part = field_from part part.selection
-
-abbrev pub is_fragment : List ℕ → Fragment → Bool
-is_fragment name f = bytes_eq name f.name
-
--- the number of the first fragment of this name
-abbrev pub fragment_place : List Fragment → List ℕ → Option ℕ
-fragment_place fragments name = place_from 0 (is_fragment name) fragments
 
 abbrev pub spread_from : List Fragment → SelectionPart → Selection → Option SpreadPart
 spread_from fragments part (Field p alias name as' ds b) = None

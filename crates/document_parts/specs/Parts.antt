@@ -4,6 +4,7 @@ use Rattle.std.specs.Prelude.{ℕ, Bool, List, Option, map, string_bytes}
 use Rattle.std.specs.Option.{option_map, option_copied}
 use Rattle.gq_lexer.specs.declared.place.Place.{Place}
 use Rattle.gq_parser.specs.Tree.{Value, TypeTree, Argument, Directive, Condition, Selection, Below, SelectionSet, VariableDefinition, Document, text_if, type_of, literal_of, arguments_of, directives_of, condition_if, selection_of, set_of, below_of, variable_of, document_of}
+use Rattle.gq_parser.specs.declared.tree.Selection.TheViews.{out-Field}
 use Rattle.schema_syntax.specs.Tree as schema
 use Rattle.gq_schema.specs.Types.{tree_of}
 use Rattle.document_parts.specs.declared.part.Owner.{Owner}
@@ -136,18 +137,20 @@ selection_part_of s = record {
 }
 
 abbrev pub field_part_of : rust-field.FieldPart → FieldPart
-field_part_of f = record {
-  owner = f.owner;
-  parent = option_copied f.parent;
-  definition = option_map schema.field_of (option_copied f.definition);
-  inside = option_copied f.inside;
-  place = f.field.now.place;
-  alias = text_if f.field.now.alias;
-  name = string_bytes f.field.now.name;
-  arguments = arguments_of f.field.now.arguments.items;
-  directives = directives_of f.field.now.directives.items;
-  below = below_of f.field.now.selection_set;
-}
+field_part_of f =
+    let field = out-Field f.field.now in
+    record {
+      owner = f.owner;
+      parent = option_copied f.parent;
+      definition = option_map schema.field_of (option_copied f.definition);
+      inside = option_copied f.inside;
+      place = field.place;
+      alias = text_if field.alias;
+      name = string_bytes field.name;
+      arguments = arguments_of field.arguments.items;
+      directives = directives_of field.directives.items;
+      below = below_of field.selection_set;
+    }
 
 abbrev pub spread_part_of : rust-spread.SpreadPart → SpreadPart
 spread_part_of s = record {

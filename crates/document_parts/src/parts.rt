@@ -1,10 +1,11 @@
 //! All parts of a document.
 
-ghost use Rattle.std.specs.Prelude.{◌≡◌, ◌∷◌, [], IfOk};
+ghost use Rattle.std.specs.Prelude.{◌≡◌, ◌∷◌, [], ℕ, List, IfOk, bytes_eq};
+ghost use Rattle.std.specs.HashMap.{get_by};
 ghost use Rattle.gq_parser.specs.Tree.{document_of};
 ghost use Rattle.schema_syntax.specs.Tree.{arguments_of};
 ghost use Rattle.gq_schema.specs.Types.{tree_of};
-ghost use Rattle.document_parts.specs.Listing.{condition_argument, parts_of};
+ghost use Rattle.document_parts.specs.Fragments.{fragment_place};
 
 use crate::part::{
     ArgumentList, ArgumentPart, DirectiveList, FieldPart, InlinePart, SetPart, SpreadPart,
@@ -13,6 +14,7 @@ use crate::part::{
 use gq_parser::Document;
 use gq_schema::{ArgDef, Schema};
 use std::alloc::{AllocError, Global};
+use std::collections::HashMap;
 
 /// The parts of a document over a schema, each list with operations first and then fragments, in the order of the text.
 #[derive(Drop)]
@@ -33,9 +35,12 @@ pub struct Parts<'d> {
     pub arguments: Vec<ArgumentPart<'d>>,
     /// The variables in these arguments.
     pub uses: Vec<VariableUse<'d>>,
+    fragments: HashMap<&'d str, usize>,
+    ghost numbered: { (q : List ℕ) → get_by (λ k. bytes_eq q k.now) fragments ≡ fragment_place (document_of document.now).fragments q },
 }
 
 impl<'d> Parts<'d> {
+    ghost use Rattle.document_parts.specs.Listing.{condition_argument, parts_of};
     ghost use Rattle.document_parts.specs.Parts.{parts_in};
 
     /// The parts of a document, with `condition` as the arguments that `skip` and `include` take: see
@@ -50,5 +55,12 @@ impl<'d> Parts<'d> {
         ensures { IfOk result (λ parts. parts_in parts ≡ parts_of (tree_of schema.now) (document_of document.now)) }
     {
         Err(AllocError)
+    }
+
+    /// The number of the first fragment of this name, from 0.
+    pub fn fragment(&self, name: &str) -> Option<usize>
+        ensures { result ≡ fragment_place (parts_in self.now).document.fragments name.now }
+    {
+        self.fragments.get(name).copied()
     }
 }
