@@ -57,7 +57,7 @@ fn is_compatible_with_nullable(variable: &TypeRef, location: &TypeRef) -> bool
 
 // Whether there is a default, other than `null`.
 fn is_non_null_default(default: Option<&Literal>) -> bool
-    ensures { result ≡ is_non_null_default (option_map literal_of (option_copied default)) }
+    ensures { result ≡ is_non_null_default (option_map literal_of (option_copied default.entry)) }
 {
     match default {
         Some(literal) => !matches!(literal.value, Value::Null),
@@ -72,7 +72,7 @@ fn is_allowed(
     location: &TypeRef,
     has_default: bool,
 ) -> bool
-    ensures { result ≡ is_allowed (type_of variable.now) (option_map literal_of (option_copied default)) (type_of location.now) has_default }
+    ensures { result ≡ is_allowed (type_of variable.now) (option_map literal_of (option_copied default.entry)) (type_of location.now) has_default }
 {
     if is_non_null(location) && !is_non_null(variable) {
         (has_default || is_non_null_default(default))

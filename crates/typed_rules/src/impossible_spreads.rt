@@ -1,8 +1,9 @@
 //! Fragment Spread Is Possible (section 5.5.2.3).
 
-ghost use Rattle.std.specs.Prelude.{◌≡◌};
+ghost use Rattle.std.specs.Prelude.{◌≡◌, map, string_bytes};
+ghost use Rattle.std.specs.List.{list_any};
 ghost use Rattle.std.specs.Option.{option_map, option_copied};
-ghost use Rattle.gq_schema.specs.Types.{tree_of};
+ghost use Rattle.gq_schema.specs.Types.{tree_of, can_be};
 ghost use Rattle.document_parts.specs.Broken.{broken_of, earliest};
 ghost use Rattle.document_parts.specs.Parents.{composite_in};
 ghost use Rattle.document_parts.specs.Parts.{spread_part_of, inline_part_of, parts_in};
@@ -11,18 +12,30 @@ ghost use Rattle.typed_rules.specs.PossibleSpreads.{may_overlap, is_impossible, 
 use document_parts::{Broken, Earliest, InlinePart, Parts, SpreadPart};
 use gq_schema::Schema;
 
+// Whether one of these object types is a possible type of a type.
+fn can_be_any(schema: &Schema, ty: &str, names: &[String]) -> bool
+    ensures { result ≡ list_any (can_be (tree_of schema.now) ty.now) (map string_bytes names.now) }
+{
+    for name in names {
+        if schema.can_be(ty, name.as_str()) {
+            return true;
+        }
+    }
+    false
+}
+
 // Whether an object type is a possible type of both.
 fn may_overlap(schema: &Schema, one: &str, other: &str) -> bool
     ensures { result ≡ may_overlap (tree_of schema.now) one.now other.now }
 {
     match schema.possible_types(one) {
-        Some(names) => names.iter().any(|name| schema.can_be(other, name.as_str())),
+        Some(names) => can_be_any(schema, other, names),
         None => false,
     }
 }
 
 fn is_impossible(schema: &Schema, parent: Option<&str>, fragment_type: Option<&str>) -> bool
-    ensures { result ≡ is_impossible (tree_of schema.now) (option_copied parent) (option_copied fragment_type) }
+    ensures { result ≡ is_impossible (tree_of schema.now) (option_copied parent.entry) (option_copied fragment_type.entry) }
 {
     match (parent, fragment_type) {
         (Some(parent), Some(fragment_type)) => !may_overlap(schema, parent, fragment_type),
@@ -69,6 +82,7 @@ fn impossible_inline<'d>(schema: &Schema, part: &InlinePart<'d>) -> Option<Broke
 
 /// The earliest spread, or inline fragment with a type condition, whose type shares no possible object type with the type
 /// that it stands in, at its `...` (section 5.5.2.3). A type without any possible object type shares none with itself.
+#[tactic(auto, using(crate::proofs::Keeping::keep_next, crate::proofs::Keeping::keep_before))]
 pub fn possible_spreads<'d>(parts: &Parts<'d>) -> Option<Broken<'d>>
     ensures { option_map broken_of result ≡ earliest (impossible_spreads (parts_in parts.now)) }
 {

@@ -23,6 +23,7 @@ fn leaf_type<'d>(schema: &Schema, condition: &'d TypeCondition) -> Option<Broken
 
 /// The earliest type condition, of a fragment or an inline fragment, that names a scalar or an enum, at that name
 /// (section 5.5.1.3).
+#[tactic(auto, using(crate::proofs::Keeping::keep_next))]
 pub fn composite_types<'d>(parts: &Parts<'d>) -> Option<Broken<'d>>
     ensures { option_map broken_of result ≡ earliest (leaf_types (parts_in parts.now)) }
 {

@@ -36,6 +36,7 @@ fn misfit_field<'d>(schema: &Schema, part: &FieldPart<'d>) -> Option<Broken<'d>>
 }
 
 /// The earliest leaf with a selection set, or composite field without, at its own place (section 5.3.3).
+#[tactic(auto, using(crate::proofs::Keeping::keep_next))]
 pub fn leaf_selections<'d>(parts: &Parts<'d>) -> Option<Broken<'d>>
     ensures { option_map broken_of result ≡ earliest (misfit_fields (parts_in parts.now)) }
 {

@@ -65,6 +65,7 @@ fn missing_argument<'d>(list: &ArgumentList<'d>) -> Option<Broken<'d>>
 
 /// The earliest field or directive where a non-null argument without a default is missing, or is the literal `null`: the
 /// first such argument by definition, at the place of the field or directive (section 5.4.2.1).
+#[tactic(auto, using(crate::proofs::Keeping::keep_next))]
 pub fn required_arguments<'d>(parts: &Parts<'d>) -> Option<Broken<'d>>
     ensures { option_map broken_of result ≡ earliest (missing_arguments (parts_in parts.now)) }
 {

@@ -55,6 +55,7 @@ fn non_input_variable<'d>(schema: &Schema, part: &VariablePart<'d>) -> Option<Br
 }
 
 /// The earliest variable whose type isn't a scalar, an enum or a list of one of these, at its definition (section 5.8.2).
+#[tactic(auto, using(crate::proofs::Keeping::keep_next))]
 pub fn input_variables<'d>(parts: &Parts<'d>) -> Option<Broken<'d>>
     ensures { option_map broken_of result ≡ earliest (non_input_variables (parts_in parts.now)) }
 {

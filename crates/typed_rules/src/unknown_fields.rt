@@ -27,6 +27,7 @@ fn unknown_field<'d>(part: &FieldPart<'d>) -> Option<Broken<'d>>
 
 /// The earliest field that its parent type doesn't have, at its own place. `__typename` is in every composite type, and a
 /// union has no other (section 5.3.1).
+#[tactic(auto, using(crate::proofs::Keeping::keep_next))]
 pub fn field_selections<'d>(parts: &Parts<'d>) -> Option<Broken<'d>>
     ensures { option_map broken_of result ≡ earliest (unknown_fields (parts_in parts.now)) }
 {

@@ -22,6 +22,7 @@ fn unknown_type<'d>(schema: &Schema, condition: &'d TypeCondition) -> Option<Bro
 }
 
 /// The earliest type condition, of a fragment or an inline fragment, that names no type, at that name (section 5.5.1.2).
+#[tactic(auto, using(crate::proofs::Keeping::keep_next))]
 pub fn type_existence<'d>(parts: &Parts<'d>) -> Option<Broken<'d>>
     ensures { option_map broken_of result ≡ earliest (unknown_types (parts_in parts.now)) }
 {

@@ -46,6 +46,7 @@ fn wrong_default<'d>(schema: &Schema, variable: &'d VariableDefinition) -> Optio
 /// The earliest literal of an argument that isn't of the argument's type, under the argument's name, or default of a variable
 /// that isn't of the variable's type, under the variable's name with its `$`; at the place of the whole value
 /// (section 5.6.1).
+#[tactic(auto, using(crate::proofs::Keeping::keep_next, crate::proofs::Keeping::keep_before))]
 pub fn correct_values<'d>(parts: &Parts<'d>) -> Option<Broken<'d>>
     ensures { option_map broken_of result ≡ earliest (wrong_values (parts_in parts.now)) }
 {
