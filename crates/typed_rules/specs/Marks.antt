@@ -4,6 +4,5 @@ use Rattle.document_parts.specs.declared.part.VariableUse as rust
 use Rattle.document_parts.specs.Parts.{VariableUse, use_of}
 
 -- Those uses were marked that pass a test, which is also told the place of the use.
-pub record Marks (old new : List Bool) (uses : List rust.VariableUse) (test : ℕ → VariableUse → Bool) : Type 0 where
-  pub len : length new ≡ length old
-  pub each : (k : ℕ) (d : rust.VariableUse) → k < length uses → slice_index_or new k false ≡ (slice_index_or old k false || test k (use_of (slice_index_or uses k d)))
+abbrev pub Marks : List Bool → List Bool → List rust.VariableUse → (ℕ → VariableUse → Bool) → Type 0
+Marks old new uses test = (k : ℕ) (d : rust.VariableUse) → k < length uses → slice_index_or new k false ≡ (slice_index_or old k false || test k (use_of (slice_index_or uses k d)))

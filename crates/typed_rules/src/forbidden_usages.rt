@@ -21,7 +21,8 @@ use std::alloc::{AllocError, Global};
 // Marks those of these uses that stand where their variable may not.
 fn mark(marks: &mut Vec<bool>, places: &[usize], uses: &[VariableUse], variables: &Variables)
     requires { vec_len marks.old ≡ length uses.now }
-    ensures { (vs : List VariableDefinition) → AreVariables variables.now vs → Marks marks.old.items marks.new.items uses.now (λ k u. list_any (nat_eq k) places.now && forbids vs u) }
+    ensures len { vec_len marks.new ≡ vec_len marks.old }
+    ensures marks { (vs : List VariableDefinition) → AreVariables variables.now vs → Marks marks.old.items marks.new.items uses.now (λ k u. list_any (nat_eq k) places.now && forbids vs u) }
 {
     for place in places {
         if let Some(part) = uses.get(*place) {
@@ -44,7 +45,8 @@ fn mark_operation(
 )
     requires len { vec_len marks.old ≡ length uses.now }
     requires places { ArePlaces places.now uses.now }
-    ensures { (vs : List VariableDefinition) → AreVariables variables.now vs → Marks marks.old.items marks.new.items uses.now (λ k u. is_part number walk.now u.owner && forbids vs u) }
+    ensures len { vec_len marks.new ≡ vec_len marks.old }
+    ensures marks { (vs : List VariableDefinition) → AreVariables variables.now vs → Marks marks.old.items marks.new.items uses.now (λ k u. is_part number walk.now u.owner && forbids vs u) }
 {
     let own = places.of(Owner::Operation(number));
     mark(marks, own, uses, variables);
@@ -60,7 +62,8 @@ fn forbidden_marks(
     parts: &Parts,
     graph: &Graph,
 ) -> Result<Vec<bool>, AllocError>
-    ensures { IfOk result (λ marks. Marks (replicate (length parts.now.uses.items) false) marks.items parts.now.uses.items (λ k u. is_forbidden graph.now 0 (document_of parts.now.document.now).operations u)) }
+    ensures len { IfOk result (λ marks. vec_len marks ≡ length parts.now.uses.items) }
+    ensures marks { IfOk result (λ marks. Marks (replicate (length parts.now.uses.items) false) marks.items parts.now.uses.items (λ k u. is_forbidden graph.now 0 (document_of parts.now.document.now).operations u)) }
 {
     let places = UsePlaces::new(alloc, &parts.uses)?;
     let mut marks = vec![in alloc; false; parts.uses.len()]?;
