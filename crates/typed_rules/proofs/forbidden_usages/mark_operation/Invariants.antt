@@ -13,5 +13,5 @@ abbrev pub invariant-loop-fragment : goal.invariant-loop-fragment
 invariant-loop-fragment l = record {
   len : vec_len l.marks ≡ vec_len l.initial.marks;
   each : (vs : List VariableDefinition) (k : ℕ) (d : VariableUse) → AreVariables l.variables vs → k < length l.uses
-    → get_or l.marks.items k false ≡ (get_or l.initial.marks.items k false || (list_any (λ j. is_same_owner (owner.Fragment j) (get_or l.uses k d).owner) (take l.fragment-index l.fragment-items) && forbids vs (use_of (get_or l.uses k d))))
+      → get_or l.marks.items k false ≡ (get_or l.initial.marks.items k false || (list_any (λ j. is_same_owner (owner.Fragment j) (get_or l.uses k d).owner) (take l.fragment-index l.fragment-items) && forbids vs (use_of (get_or l.uses k d))));
 }
