@@ -1,0 +1,3 @@
+pub mod ReachLaws
+pub mod RowLaws
+pub mod WalkLaws
