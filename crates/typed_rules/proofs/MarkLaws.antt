@@ -5,8 +5,9 @@ use Rattle.std.specs.Option.{option_map_or}
 use Rattle.document_parts.specs.Parts.{Location, VariableUse}
 use Rattle.document_parts.specs.declared.part.Owner.{Owner}
 use Rattle.document_parts.specs.declared.part.Owner.TheVariants as owner
-use Rattle.spread_graph.specs.Graphs.{GraphOf, is_same_owner}
+use Rattle.spread_graph.specs.Graphs.{GraphOf}
 use Rattle.spread_graph.specs.Reach.{is_among, reaches}
+use Rattle.typed_rules.specs.UsePlaces.{is_same_owner}
 use Rattle.typed_rules.specs.AllowedUsages.{forbids_at, forbids, includes, is_part}
 
 pub or-false : (b : Bool) → b ≡ (b || false)

@@ -354,7 +354,7 @@ fn variable_usages_of_documents(rt: HostRuntime) -> Result<(), Fail> {
         ("query($v:ID!){users(ids:$v){id}}", "v 1:25"),
         ("query($v:ID!){users(ids:[1,$v]){id}}", "kept"),
         ("query($v:ID){users(ids:[$v]){id}}", "v 1:25"),
-        ("query($v:ID=\"1\"){users(ids:[$v]){id}}", "v 1:29"),
+        ("query($v:ID=\"1\"){users(ids:[$v]){id}}", "kept"),
         ("query($v:[ID!]!){users(ids:[$v]){id}}", "v 1:29"),
         ("query($v:Int){many(from:$v)}", "kept"),
         ("query($v:Int=null){many(from:$v)}", "kept"),

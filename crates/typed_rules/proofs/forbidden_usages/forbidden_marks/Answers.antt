@@ -33,17 +33,17 @@ pub loop-number-preserved-then-is_empty : goal.loop-number-preserved-then-is_emp
 loop-number-preserved-then-is_empty c = record {
   len = c.loop-number.invariant.len;
   each = λ k d lt.
-    let g = c.args.graph.now in
-    let n = c.loop-number.number in
-    let ops = c.args.parts.now.document.now.operations.items in
-    let o = c.operation-item.result in
-    let vs = variables_of o.variables.items in
-    let u = use_of (get_or c.args.parts.now.uses.items k d) in
-    let next : drop n ops ≡ o ∷ drop (n + 1) ops = drop-next ops n o (omega arith) (rw c.deref-operation-items.ensures.value at c.operation-item.is) in
-    let left : (get_or c.loop-number.marks.items k false || ((includes g n u.owner && forbids vs u) || is_forbidden g (n + 1) (map operation_of (drop (n + 1) ops)) u)) ≡ is_forbidden g 0 (map operation_of ops) u = rw next at (c.loop-number.invariant.each k d lt) in
-    let nothing : o.variables.items ≡ [] = nil_from_length o.variables.items (search rules) in
-    let none : forbids vs u ≡ false = rw nothing (forbids-none u) in
-    marks_same _ (includes g n u.owner) _ _ _ none left
+      let g = c.args.graph.now in
+      let n = c.loop-number.number in
+      let ops = c.args.parts.now.document.now.operations.items in
+      let o = c.operation-item.result in
+      let vs = variables_of o.variables.items in
+      let u = use_of (get_or c.args.parts.now.uses.items k d) in
+      let next : drop n ops ≡ o ∷ drop (n + 1) ops = drop-next ops n o (omega arith) (rw c.deref-operation-items.ensures.value at c.operation-item.is) in
+      let left : (get_or c.loop-number.marks.items k false || ((includes g n u.owner && forbids vs u) || is_forbidden g (n + 1) (map operation_of (drop (n + 1) ops)) u)) ≡ is_forbidden g 0 (map operation_of ops) u = rw next at (c.loop-number.invariant.each k d lt) in
+      let nothing : o.variables.items ≡ [] = nil_from_length o.variables.items (search rules) in
+      let none : forbids vs u ≡ false = rw nothing (forbids-none u) in
+      marks_same _ (includes g n u.owner) _ _ _ none left;
 }
 
 pub returns-clause-marks : goal.returns-clause-marks

@@ -4,7 +4,7 @@ use Rattle.gq_parser.specs.Tree.{VariableDefinition}
 use Rattle.document_parts.specs.declared.part.Owner.TheVariants as owner
 use Rattle.document_parts.specs.declared.part.VariableUse.{VariableUse}
 use Rattle.document_parts.specs.Parts.{use_of}
-use Rattle.spread_graph.specs.Graphs.{is_same_owner}
+use Rattle.typed_rules.specs.UsePlaces.{is_same_owner}
 use Rattle.typed_rules.specs.AllowedUsages.{forbids}
 use Rattle.typed_rules.specs.Variables.{AreVariables}
 use Rattle.typed_rules.proofs.forbidden_usages.mark_operation.Given as goal

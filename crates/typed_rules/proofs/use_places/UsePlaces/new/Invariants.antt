@@ -1,8 +1,7 @@
 use Rattle.std.proofs.Common.{◌≡◌, ℕ, ◌<◌, ◌≤◌, false, get_or}
 use Rattle.document_parts.specs.declared.part.Owner.{Owner}
 use Rattle.document_parts.specs.declared.part.VariableUse.{VariableUse}
-use Rattle.spread_graph.specs.Graphs.{is_same_owner}
-use Rattle.typed_rules.specs.UsePlaces.{is_place}
+use Rattle.typed_rules.specs.UsePlaces.{is_same_owner, is_place}
 use Rattle.typed_rules.proofs.use_places.UsePlaces.new.Given as goal
 
 abbrev pub invariant-loop-i : goal.invariant-loop-i
