@@ -6,6 +6,7 @@ use crate::tests::SCHEMA;
 use gq_parser::{Document, VariableDefinition, parse};
 use gq_schema::Schema;
 use std::alloc::Global;
+use std::process::Abort;
 use std::test::Fail;
 
 /// The item type of a list type.
@@ -53,24 +54,24 @@ const TYPES: &[&str] = &[
     "[[A!]!]!",
 ];
 
-fn variable_in(document: &Document) -> Option<&VariableDefinition> {
-    document.operations.first()?.variables.first()
-}
+const DEFAULTS: &[&str] = &["", "=null", "=1"];
 
+// A document with one variable of a type, with a default.
 fn document(alloc: Global, of_type: &str, default: &str) -> Result<Document, Fail> {
     let text = format!(in alloc; "query($v:{of_type}{default}){{a}}")?;
     Ok(parse(alloc, &text)?)
 }
 
-#[test]
-fn usages(rt: HostRuntime) -> Result<(), Fail> {
-    for location in TYPES {
-        let wanted = document(rt.alloc(), location, "")?;
-        let wanted = variable_in(&wanted).ok_or("no variable")?;
-        for (variable, default) in TYPES
-            .iter()
-            .flat_map(|t| ["", "=null", "=1"].map(|d| (*t, d)))
-        {
+fn variable_in(document: &Document) -> Option<&VariableDefinition> {
+    document.operations.first()?.variables.first()
+}
+
+// Compares both at each variable, with a location of one type.
+fn compare_at<R: AllocGlobal + Abort>(rt: &R, location: &str) -> Result<(), Fail> {
+    let wanted = document(rt.alloc(), location, "")?;
+    let wanted = variable_in(&wanted).ok_or("no variable")?;
+    for variable in TYPES {
+        for default in DEFAULTS {
             let own = document(rt.alloc(), variable, default)?;
             let own = variable_in(&own).ok_or("no variable")?;
             for has_default in [false, true] {
@@ -84,6 +85,14 @@ fn usages(rt: HostRuntime) -> Result<(), Fail> {
                 assert_eq!(rt; found, slow, "{variable}{default} at {location}");
             }
         }
+    }
+    Ok(())
+}
+
+#[test]
+fn usages(rt: HostRuntime) -> Result<(), Fail> {
+    for location in TYPES {
+        compare_at(&rt, location)?;
     }
     Ok(())
 }
