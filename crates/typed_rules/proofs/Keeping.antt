@@ -1,5 +1,5 @@
 -- One pass over a list that keeps the earliest of what is broken.
-use Rattle.std.proofs.Common.{◌≡◌, ◌++◌, List, ◌∷◌, fold, Option, None, Some, refl}
+use Rattle.std.proofs.Common.{◌≡◌, ◌++◌, List, fold, Option, None, Some, refl}
 use Rattle.std.specs.List.{cons_option}
 use Rattle.document_parts.specs.Broken.{BrokenOf, with_broken, with_broken_if}
 

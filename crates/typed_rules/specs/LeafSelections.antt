@@ -1,5 +1,5 @@
 -- Leaf Field Selections (section 5.3.3).
-use Rattle.std.specs.Prelude.{Bool, true, false, not, List, Option, Some, None, filter_map, if◌then◌else◌}
+use Rattle.std.specs.Prelude.{Bool, true, false, not, List, Option, Some, filter_map, if◌then◌else◌}
 use Rattle.std.specs.Option.{option_and_then, option_map_or}
 use Rattle.gq_parser.specs.Tree.{Below, nothing_below, below}
 use Rattle.schema_syntax.specs.Tree.{Definition, Field}

@@ -1,4 +1,4 @@
-use Rattle.std.proofs.Common.{◌≡◌, ◌∙◌, sym, ap, ℕ, ◌+◌, ◌&&◌, ◌||◌, false, [], ◌∷◌, length, get_or, drop, map, arith, rules}
+use Rattle.std.proofs.Common.{◌≡◌, ◌∙◌, sym, ap, ◌+◌, ◌&&◌, ◌||◌, false, [], ◌∷◌, length, get_or, drop, map, arith, rules}
 use Rattle.std.specs.Prelude.{replicate}
 use Rattle.std.proofs.lemmas.List.{drop_all, get_or-replicate, nil_from_length}
 use Rattle.gq_parser.specs.Tree.{variables_of, operation_of}

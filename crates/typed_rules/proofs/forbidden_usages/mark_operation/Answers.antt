@@ -1,11 +1,11 @@
-use Rattle.std.proofs.Common.{◌≡◌, ◌∙◌, sym, ap, ℕ, ◌+◌, ◌||◌, false, length, get_or, take, nat_eq, refl, arith}
+use Rattle.std.proofs.Common.{◌≡◌, ◌∙◌, sym, ap, ℕ, ◌+◌, ◌||◌, false, get_or, take, nat_eq, refl, arith}
 use Rattle.std.specs.List.{list_any}
 use Rattle.std.proofs.lemmas.List.{take_all}
 use Rattle.std.proofs.lemmas.List.Folds.{list_any_more}
 use Rattle.document_parts.specs.declared.part.Owner.TheVariants as owner
 use Rattle.document_parts.specs.Parts.{use_of}
 use Rattle.typed_rules.specs.AllowedUsages.{forbids, is_part}
-use Rattle.typed_rules.specs.UsePlaces.{is_same_owner, is_place}
+use Rattle.typed_rules.specs.UsePlaces.{is_same_owner}
 use Rattle.typed_rules.proofs.MarkLaws.{or-false, marks_both, is_part-or}
 use Rattle.typed_rules.proofs.forbidden_usages.mark_operation.Goals as goal
 
