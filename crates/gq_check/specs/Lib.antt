@@ -1,3 +1,5 @@
 pub mod Plans
 pub mod Prepared
 pub mod Texts
+pub mod Verdict
+pub mod Told

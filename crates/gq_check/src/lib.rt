@@ -10,11 +10,14 @@ mod checked;
 mod fault;
 mod fragments;
 mod operation;
+mod pending;
 mod places;
 mod plan;
 mod preparation;
+mod rules;
 #[cfg(test)]
 mod tests;
+mod told;
 mod validation;
 mod variables;
 

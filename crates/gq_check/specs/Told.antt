@@ -1,0 +1,18 @@
+-- What contracts see of a fault that borrows its document.
+use Rattle.document_parts.specs.Broken.{BrokenOf, broken_of}
+use Rattle.gq_check.specs.declared.told.Told as rust
+use Rattle.gq_check.specs.declared.told.Told.TheVariants as told
+use Rattle.gq_check.specs.declared.fault.Rule.{Rule}
+use Rattle.gq_check.specs.Verdict.{FaultOf, Breaks, TooComplex, TooDeep, NotServed}
+
+abbrev pub breaks : Rule → BrokenOf → FaultOf
+breaks r b = Breaks r b.name b.place
+
+abbrev pub not_served_here : BrokenOf → FaultOf
+not_served_here b = NotServed b.name b.place
+
+abbrev pub told_of : rust.Told → FaultOf
+told_of (told.Breaks r b) = breaks r (broken_of b)
+told_of told.TooComplex = TooComplex
+told_of (told.TooDeep p) = TooDeep p
+told_of (told.NotServed b) = not_served_here (broken_of b)
