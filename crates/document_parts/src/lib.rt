@@ -7,10 +7,15 @@
 //! its names being unique.
 #![tactic(auto)]
 
+mod arguments;
 mod broken;
 mod built_in;
+mod fragments;
+mod listing;
+mod parents;
 mod part;
 mod parts;
+mod selections;
 
 pub use broken::{Broken, BrokenName, Earliest};
 pub use built_in::condition_arguments;

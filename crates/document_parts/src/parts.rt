@@ -1,20 +1,21 @@
 //! All parts of a document.
 
-ghost use Rattle.std.specs.Prelude.{◌≡◌, ◌∷◌, [], ℕ, List, IfOk, bytes_eq};
-ghost use Rattle.std.specs.HashMap.{get_by};
+ghost use Rattle.std.specs.Prelude.{◌≡◌, ◌∷◌, [], IfOk};
 ghost use Rattle.gq_parser.specs.Tree.{document_of};
 ghost use Rattle.schema_syntax.specs.Tree.{arguments_of};
 ghost use Rattle.gq_schema.specs.Types.{tree_of};
-ghost use Rattle.document_parts.specs.Fragments.{fragment_place};
+ghost use Rattle.document_parts.specs.Fragments.{fragment_place, AreNumbers};
 
+use crate::fragments::{Numbers, fragment_numbers};
 use crate::part::{
     ArgumentList, ArgumentPart, DirectiveList, FieldPart, InlinePart, SetPart, SpreadPart,
     VariablePart, VariableUse,
 };
+use crate::selections::document_selections;
+use crate::{arguments, listing};
 use gq_parser::Document;
 use gq_schema::{ArgDef, Schema};
 use std::alloc::{AllocError, Global};
-use std::collections::HashMap;
 
 /// The parts of a document over a schema, each list with operations first and then fragments, in the order of the text.
 #[derive(Drop)]
@@ -35,8 +36,8 @@ pub struct Parts<'d> {
     pub arguments: Vec<ArgumentPart<'d>>,
     /// The variables in these arguments.
     pub uses: Vec<VariableUse<'d>>,
-    fragments: HashMap<&'d str, usize>,
-    ghost numbered: { (q : List ℕ) → get_by (λ k. bytes_eq q k.now) fragments ≡ fragment_place (document_of document.now).fragments q },
+    fragments: Numbers<'d>,
+    ghost numbered: { AreNumbers (document_of document.now).fragments fragments },
 }
 
 impl<'d> Parts<'d> {
@@ -54,7 +55,36 @@ impl<'d> Parts<'d> {
         requires { arguments_of condition.now ≡ condition_argument ∷ [] }
         ensures { IfOk result (λ parts. parts_in parts ≡ parts_of (tree_of schema.now) (document_of document.now)) }
     {
-        Err(AllocError)
+        let selections = document_selections(alloc, schema, document)?;
+        let fragments = fragment_numbers(alloc, &document.fragments)?;
+        let fields = listing::fields(alloc, &selections)?;
+        let spreads = listing::spreads(alloc, &fragments, &document.fragments, &selections)?;
+        let inlines = listing::inlines(alloc, &selections)?;
+        let sets = listing::sets(alloc, schema, document, &selections)?;
+        let variables = listing::variables(alloc, document)?;
+        let directive_lists = listing::directive_lists(alloc, document, &variables, &selections)?;
+        let argument_lists = arguments::argument_lists(
+            alloc,
+            condition,
+            &fields,
+            &directive_lists,
+        )?;
+        let arguments = arguments::arguments(alloc, &argument_lists)?;
+        let uses = arguments::uses(alloc, &arguments)?;
+        Ok(Parts {
+            schema,
+            document,
+            fields,
+            spreads,
+            inlines,
+            sets,
+            variables,
+            directive_lists,
+            argument_lists,
+            arguments,
+            uses,
+            fragments,
+        })
     }
 
     /// The number of the first fragment of this name, from 0.
