@@ -17,7 +17,6 @@ pub fn all_variable_uses_defined<'d>(
 ) -> Result<Option<Broken<'d>>, AllocError>
     ensures { IfOk result (λ broken. option_map broken_of broken ≡ earliest (all_variable_uses_defined (parts_in parts.now))) }
 {
-    let _ = (alloc, parts, graph);
     Err(AllocError)
 }
 
@@ -28,6 +27,5 @@ pub fn all_variables_used<'d>(
 ) -> Result<Option<Broken<'d>>, AllocError>
     ensures { IfOk result (λ broken. option_map broken_of broken ≡ earliest (all_variables_used (parts_in parts.now))) }
 {
-    let _ = (alloc, parts, graph);
     Err(AllocError)
 }
