@@ -11,4 +11,10 @@ pub mod CompositeTypes
 pub mod PossibleSpreads
 pub mod InputVariables
 pub mod CorrectValues
+pub mod CompatibleTypes
 pub mod AllowedUsages
+
+-- What the search for forbidden uses keeps.
+pub mod UsePlaces
+pub mod Variables
+pub mod Marks

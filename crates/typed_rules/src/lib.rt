@@ -5,6 +5,7 @@
 //! definition in `specs/` gives. Nothing rests on the other rules being kept: a rule that needs something unknown passes over it.
 #![tactic(auto)]
 
+mod compatible_types;
 mod forbidden_usages;
 mod impossible_spreads;
 mod leaf_types;
@@ -15,8 +16,11 @@ mod references;
 mod unknown_arguments;
 mod unknown_fields;
 mod unknown_types;
+mod use_places;
+mod variables;
 mod wrong_values;
 
+pub use forbidden_usages::variable_usages;
 pub use impossible_spreads::possible_spreads;
 pub use leaf_types::composite_types;
 pub use misfit_fields::leaf_selections;
