@@ -1,4 +1,5 @@
 pub mod Graphs
+pub mod Rows
 pub mod Reach
 pub mod Levels
 pub mod Rules

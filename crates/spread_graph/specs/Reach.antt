@@ -1,7 +1,6 @@
 -- Which fragments an operation or a fragment reaches by spreads.
-use Rattle.std.specs.Prelude.{◌==◌, ℕ, zero, suc, Bool, ◌&&◌, ◌||◌, IsTrue, List, length}
+use Rattle.std.specs.Prelude.{◌≡◌, ◌==◌, ℕ, zero, suc, Bool, true, ◌&&◌, ◌||◌, nat_lt, List, length}
 use Rattle.std.specs.List.{list_any, list_all}
-use Rattle.std.specs.Prelude.{nat_lt}
 use Rattle.document_parts.specs.declared.part.Owner.{Owner}
 use Rattle.document_parts.specs.declared.part.Owner.TheVariants as owner
 use Rattle.spread_graph.specs.Graphs.{GraphOf, row}
@@ -35,5 +34,5 @@ are_known g =
 
 -- the same, step by step
 pub data Reaches (g : GraphOf) (o : Owner) : ℕ → Type 0 where
-  start : {j : ℕ} → IsTrue (spreads g o j) → Reaches g o j
-  along : {j k : ℕ} → Reaches g o k → IsTrue (spreads g (owner.Fragment k) j) → Reaches g o j
+  start : {j : ℕ} → spreads g o j ≡ true → Reaches g o j
+  along : {j k : ℕ} → Reaches g o k → spreads g (owner.Fragment k) j ≡ true → Reaches g o j
