@@ -32,6 +32,7 @@ use Rattle.typed_rules.specs.CompositeTypes.{leaf_types}
 use Rattle.typed_rules.specs.PossibleSpreads.{impossible_spreads}
 use Rattle.typed_rules.specs.CorrectValues.{wrong_values}
 use Rattle.typed_rules.specs.InputVariables.{non_input_variables}
+use Rattle.typed_rules.specs.AllowedUsages.{forbidden_usages}
 use Rattle.spread_graph.specs.Rules.{fragment_cycles, too_deep}
 use Rattle.gq_check.specs.declared.fault.Rule.{Rule}
 use Rattle.gq_check.specs.declared.fault.Rule.TheVariants as rule
@@ -106,7 +107,8 @@ variables_fault p =
     or_else (told rule.VariableUniqueness (variable_uniqueness p))
     (or_else (told rule.VariablesAreInputTypes (non_input_variables p))
     (or_else (told rule.AllVariableUsesDefined (all_variable_uses_defined p))
-    (told rule.AllVariablesUsed (all_variables_used p))))
+    (or_else (told rule.AllVariablesUsed (all_variables_used p))
+    (told rule.AllVariableUsagesAreAllowed (forbidden_usages p)))))
 
 -- ---- all of them
 

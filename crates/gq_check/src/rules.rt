@@ -1,9 +1,10 @@
 //! The rules in the order of their sections (section 5).
 
 ghost use Rattle.std.specs.Prelude.{◌≡◌, None, IfOk, option_map};
-ghost use Rattle.document_parts.specs.Broken.{broken_of};
+ghost use Rattle.document_parts.specs.Broken.{broken_of, earliest};
 ghost use Rattle.document_parts.specs.Parts.{parts_in};
 ghost use Rattle.spread_graph.specs.Graphs.{graph_of};
+ghost use Rattle.spread_graph.specs.Rules.{fragment_cycles, too_deep};
 ghost use Rattle.gq_check.specs.Told.{breaks, told_of};
 ghost use Rattle.gq_check.specs.Verdict.{served_fault, operations_fault, fields_fault, arguments_fault, fragments_fault, spreads_fault, values_fault, directives_fault, variables_fault, rules_fault, limits_fault, parts_verdict};
 
@@ -21,7 +22,7 @@ use spread_graph::{Graph, fragment_cycles, too_deep};
 use std::alloc::{AllocError, Global};
 use typed_rules::{
     argument_names, composite_types, correct_values, field_selections, input_variables,
-    leaf_selections, possible_spreads, required_arguments, type_existence,
+    leaf_selections, possible_spreads, required_arguments, type_existence, variable_usages,
 };
 
 // What is told of a rule.
@@ -139,8 +140,11 @@ fn variables_fault<'d>(
     if let Some(broken) = all_variable_uses_defined(alloc, parts, graph)? {
         return Ok(Some(Told::Breaks(Rule::AllVariableUsesDefined, broken)));
     }
-    let broken = all_variables_used(alloc, parts, graph)?;
-    Ok(told(Rule::AllVariablesUsed, broken))
+    if let Some(broken) = all_variables_used(alloc, parts, graph)? {
+        return Ok(Some(Told::Breaks(Rule::AllVariablesUsed, broken)));
+    }
+    let broken = variable_usages(alloc, parts, graph)?;
+    Ok(told(Rule::AllVariableUsagesAreAllowed, broken))
 }
 
 // What isn't served, and the rules but Field Selection Merging.
@@ -179,6 +183,19 @@ fn rules_fault<'d>(
     Ok(variables_fault(alloc, parts, graph)?)
 }
 
+// The earliest operation with too many levels.
+fn deep_operation<'d>(
+    alloc: Global,
+    parts: &Parts<'d>,
+    graph: &Graph,
+) -> Result<Option<Broken<'d>>, AllocError>
+    requires graph { graph.now ≡ graph_of (parts_in parts.now) }
+    requires acyclic { earliest (fragment_cycles (parts_in parts.now)) ≡ None }
+    ensures { IfOk result (λ broken. option_map broken_of broken ≡ earliest (too_deep (parts_in parts.now))) }
+{
+    too_deep(alloc, parts, graph)
+}
+
 // Too many levels, and too many fields.
 fn limits_fault<'d>(
     alloc: Global,
@@ -186,13 +203,16 @@ fn limits_fault<'d>(
     graph: &Graph,
 ) -> Result<Option<Told<'d>>, AllocError>
     requires graph { graph.now ≡ graph_of (parts_in parts.now) }
-    requires keeps { rules_fault (parts_in parts.now) ≡ None }
+    requires acyclic { earliest (fragment_cycles (parts_in parts.now)) ≡ None }
     ensures { IfOk result (λ fault. option_map told_of fault ≡ limits_fault (parts_in parts.now)) }
 {
-    if let Some(broken) = too_deep(alloc, parts, graph)? {
+    if let Some(broken) = deep_operation(alloc, parts, graph)? {
         return Ok(Some(Told::TooDeep(broken.place)));
     }
-    Ok(is_too_complex(parts).then_some(Told::TooComplex))
+    if is_too_complex(parts) {
+        return Ok(Some(Told::TooComplex));
+    }
+    Ok(None)
 }
 
 /// The first fault of a document, by its parts and what its fragments spread.

@@ -1,9 +1,9 @@
 //! Validation (section 5).
 
-ghost use Rattle.std.specs.Prelude.{◌≡◌, None, Some, IfOk, IfErr, option_map};
+ghost use Rattle.std.specs.Prelude.{◌≡◌, None, IfOk, IfErr, OnOk};
 ghost use Rattle.gq_parser.specs.Tree.{document_of};
 ghost use Rattle.gq_schema.specs.Types.{tree_of};
-ghost use Rattle.gq_check.specs.Verdict.{verdict, fault_of, IsCheckFault};
+ghost use Rattle.gq_check.specs.Verdict.{verdict, IsCheckFault};
 
 use crate::checked::Checked;
 use crate::fault::CheckFault;
@@ -12,22 +12,19 @@ use document_parts::{Parts, condition_arguments};
 use gq_parser::Document;
 use gq_schema::Schema;
 use spread_graph::Graph;
-use std::alloc::{AllocError, Global};
+use std::alloc::Global;
 
-// The first fault of a document over a schema.
-fn verdict(
-    alloc: Global,
-    schema: &Schema,
-    document: &Document,
-) -> Result<Option<CheckFault>, AllocError>
-    ensures { IfOk result (λ fault. option_map fault_of fault ≡ option_map Some (verdict (tree_of schema.now) (document_of document.now))) }
+// Whether a document keeps every rule, and else its first fault.
+fn validate(alloc: Global, schema: &Schema, document: &Document) -> Result<(), CheckFault>
+    ensures ok { OnOk result (verdict (tree_of schema.now) (document_of document.now) ≡ None) }
+    ensures err { IfErr result (IsCheckFault (verdict (tree_of schema.now) (document_of document.now))) }
 {
     let condition = condition_arguments(alloc)?;
     let parts = Parts::new(alloc, schema, &condition, document)?;
     let graph = Graph::new(alloc, &parts)?;
     match parts_verdict(alloc, &parts, &graph)? {
-        Some(told) => Ok(Some(told.to_fault(alloc)?)),
-        None => Ok(None),
+        Some(told) => Err(told.to_fault(alloc)?),
+        None => Ok(()),
     }
 }
 
@@ -45,8 +42,6 @@ pub fn check(alloc: Global, schema: &Schema, document: Document) -> Result<Check
     ensures ok { IfOk result (λ checked. verdict (tree_of schema.now) (document_of checked.document) ≡ None) }
     ensures err { IfErr result (IsCheckFault (verdict (tree_of schema.now) (document_of document))) }
 {
-    match verdict(alloc, schema, &document)? {
-        Some(fault) => Err(fault),
-        None => Ok(Checked::of(schema, document)),
-    }
+    validate(alloc, schema, &document)?;
+    Ok(Checked::of(schema, document))
 }
