@@ -1,2 +1,4 @@
 pub mod ReachLaws
 pub mod RowLaws
+pub mod WalkLaws
+pub mod RankLaws

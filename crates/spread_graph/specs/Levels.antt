@@ -1,8 +1,8 @@
 -- How many fields stand one inside another on a path, fragments expanded.
-use Rattle.std.specs.Prelude.{ℕ, zero, suc, ◌+◌, max, List, length, find}
+use Rattle.std.specs.Prelude.{ℕ, zero, suc, ◌+◌, max, List, length, slice_get}
 use Rattle.std.specs.Option.{option_map_or}
 use Rattle.gq_parser.specs.Tree.{Field, Spread, Inline, Below, nothing_below, below, SelectionSet, set_at, Selection, Selections, no_selection, and_selection, Operation, Fragment}
-use Rattle.document_parts.specs.Fragments.{is_fragment}
+use Rattle.document_parts.specs.Fragments.{fragment_place}
 
 -- The greatest number of fields on a path down from here, where spread says that number of a fragment's name.
 abbrev mutual
@@ -22,11 +22,15 @@ abbrev mutual
   levels_below spread nothing_below = 0
   levels_below spread (below s) = levels_in spread s
 
--- That of a fragment, on paths that expand at most n fragments. An unknown name has no fields.
-abbrev pub levels_expanded : ℕ → List Fragment → List ℕ → ℕ
-levels_expanded zero fragments name = 0
-levels_expanded (suc n) fragments name = option_map_or (λ (f : Fragment). levels_in (levels_expanded n fragments) f.selection_set) (find (is_fragment name) fragments) 0
+-- that of a fragment's name, from those of the fragments by their numbers; an unknown name has no fields
+abbrev pub levels_named : (ℕ → ℕ) → List Fragment → List ℕ → ℕ
+levels_named levels fragments name = option_map_or levels (fragment_place fragments name) 0
+
+-- that of the fragment with the number j, on paths that expand at most n fragments
+abbrev pub levels_expanded : ℕ → List Fragment → ℕ → ℕ
+levels_expanded zero fragments j = 0
+levels_expanded (suc n) fragments j = option_map_or (λ (f : Fragment). levels_in (levels_named (levels_expanded n fragments) fragments) f.selection_set) (slice_get fragments j) 0
 
 -- That of an operation. Without cycles no path expands more fragments than there are.
 abbrev pub levels_of : List Fragment → Operation → ℕ
-levels_of fragments o = levels_in (levels_expanded (length fragments) fragments) o.selection_set
+levels_of fragments o = levels_in (levels_named (levels_expanded (length fragments) fragments) fragments) o.selection_set

@@ -1,5 +1,7 @@
 -- What breaks the rules on reach.
-use Rattle.std.specs.Prelude.{ℕ, ◌+◌, nat_lt, List, [], ◌∷◌, if◌then◌else◌, filter_map, Option, Some, None}
+use Rattle.std.specs.Prelude.{ℕ, ◌+◌, Bool, true, nat_lt, List, [], ◌∷◌, if◌then◌else◌, filter_map, Option, Some, None}
+use Rattle.gq_lexer.specs.declared.place.Place.{Place}
+use Rattle.gq_lexer.specs.Place.{is_before}
 use Rattle.gq_parser.specs.Tree.{Operation, Fragment}
 use Rattle.document_parts.specs.Broken.{BrokenOf}
 use Rattle.document_parts.specs.Parts.{PartsOf}
@@ -29,3 +31,8 @@ deep_operation fragments o = if nat_lt most_levels (levels_of fragments o) then 
 -- the operations with more than 128 fields on a path
 abbrev pub too_deep : PartsOf → List BrokenOf
 too_deep p = filter_map (deep_operation p.document.fragments) p.document.operations
+
+-- what is broken at this place would stand before what was kept
+abbrev pub stands_first : Option BrokenOf → Place → Bool
+stands_first None p = true
+stands_first (Some b) p = is_before p b.place

@@ -7,6 +7,7 @@
 //! fields one inside another.
 #![tactic(auto)]
 
+mod components;
 mod cycles;
 mod graph;
 mod levels;
