@@ -1,11 +1,14 @@
 -- Marks that several walks add to.
-use Rattle.std.proofs.Common.{◌≡◌, ◌∙◌, sym, ap, ℕ, Bool, true, false, ◌&&◌, ◌||◌, eqb, List, [], ◌∷◌, refl}
+use Rattle.std.proofs.Common.{◌≡◌, ◌∙◌, sym, ap, ℕ, Bool, true, false, ◌&&◌, ◌||◌, eqb, List, [], ◌∷◌, Option, Some, None, refl}
 use Rattle.std.specs.List.{list_any}
+use Rattle.std.specs.Option.{option_map_or}
+use Rattle.document_parts.specs.Parts.{Location, VariableUse}
 use Rattle.document_parts.specs.declared.part.Owner.{Owner}
 use Rattle.document_parts.specs.declared.part.Owner.TheVariants as owner
-use Rattle.spread_graph.specs.Graphs.{GraphOf, is_same_owner}
+use Rattle.spread_graph.specs.Graphs.{GraphOf}
 use Rattle.spread_graph.specs.Reach.{is_among, reaches}
-use Rattle.typed_rules.specs.AllowedUsages.{includes, is_part}
+use Rattle.typed_rules.specs.UsePlaces.{is_same_owner}
+use Rattle.typed_rules.specs.AllowedUsages.{forbids_at, forbids, includes, is_part}
 
 pub or-false : (b : Bool) → b ≡ (b || false)
 or-false true = refl
@@ -30,6 +33,21 @@ or_assoc false b c = refl
 -- what is left to mark, after one more was marked
 pub marks_left : (new mid one rest all : Bool) → new ≡ (mid || one) → (mid || (one || rest)) ≡ all → (new || rest) ≡ all
 marks_left new mid one rest all of_new of_all = ap (λ b. b || rest) of_new ∙ (or_assoc mid one rest ∙ of_all)
+
+-- No variable forbids anything.
+pub forbids-none : (u : VariableUse) → forbids [] u ≡ false
+forbids-none u = at u.location where
+  at : (l : Option Location) → option_map_or (forbids_at [] u.name) l false ≡ false
+  at None = refl
+  at (Some l) = refl
+
+and-none : (b f : Bool) → f ≡ false → (b && f) ≡ false
+and-none true f none = none
+and-none false f none = refl
+
+-- what is left to mark, after nothing was marked
+pub marks_same : (old b f rest all : Bool) → f ≡ false → (old || ((b && f) || rest)) ≡ all → (old || rest) ≡ all
+marks_same old b f rest all none left = ap (λ c. old || (c || rest)) (sym (and-none b f none)) ∙ left
 
 none_same : (k : ℕ) (js : List ℕ) → list_any (λ j. is_same_owner (owner.Fragment j) (owner.Operation k)) js ≡ false
 none_same k [] = refl

@@ -13,7 +13,6 @@ pub mod InputVariables
 pub mod CorrectValues
 pub mod CompatibleTypes
 pub mod AllowedUsages
-
 -- What the search for forbidden uses keeps.
 pub mod UsePlaces
 pub mod Variables

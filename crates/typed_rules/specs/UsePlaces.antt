@@ -1,5 +1,5 @@
 -- Where the uses of variables stand, by the operation or fragment that they stand in.
-use Rattle.std.specs.Prelude.{◌≡◌, ◌<◌, ℕ, Bool, List, [], length, nat_eq, slice_index_or}
+use Rattle.std.specs.Prelude.{◌≡◌, ◌<◌, ◌==◌, ℕ, Bool, false, List, [], length, nat_eq, slice_index_or}
 use Rattle.std.specs.Global.{Vec}
 use Rattle.std.specs.List.{list_any}
 use Rattle.std.specs.Option.{option_map_or}
@@ -7,8 +7,13 @@ use Rattle.std.specs.HashMap.{HashMap, get}
 use Rattle.document_parts.specs.declared.part.Owner.{Owner}
 use Rattle.document_parts.specs.declared.part.Owner.TheVariants as owner
 use Rattle.document_parts.specs.declared.part.VariableUse as rust
-use Rattle.spread_graph.specs.Graphs.{is_same_owner}
 use Rattle.typed_rules.specs.declared.use_places.UsePlaces.{UsePlaces}
+
+abbrev pub is_same_owner : Owner → Owner → Bool
+is_same_owner (owner.Operation i) (owner.Operation k) = i == k
+is_same_owner (owner.Operation i) (owner.Fragment k) = false
+is_same_owner (owner.Fragment i) (owner.Operation k) = false
+is_same_owner (owner.Fragment i) (owner.Fragment k) = i == k
 
 -- the places that are noted under a number
 abbrev pub places_at : {S : Type 0} → HashMap ℕ (Vec ℕ) S → ℕ → List ℕ

@@ -41,13 +41,15 @@ fn is_compatible_with_nullable(variable: &TypeRef, location: &TypeRef) -> bool
         (
             TypeRef::Named { name, .. },
             TypeRef::Named {
-                name: wanted_name, ..
+                name: wanted_name,
+                ..
             },
         ) => name.as_str() == wanted_name.as_str(),
         (
             TypeRef::List { item, .. },
             TypeRef::List {
-                item: wanted_item, ..
+                item: wanted_item,
+                ..
             },
         ) => are_compatible(item, wanted_item),
         _ => false,

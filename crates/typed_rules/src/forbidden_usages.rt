@@ -57,11 +57,7 @@ fn mark_operation(
 }
 
 // The uses that an operation forbids, one mark for each use.
-fn forbidden_marks(
-    alloc: Global,
-    parts: &Parts,
-    graph: &Graph,
-) -> Result<Vec<bool>, AllocError>
+fn forbidden_marks(alloc: Global, parts: &Parts, graph: &Graph) -> Result<Vec<bool>, AllocError>
     ensures len { IfOk result (λ marks. vec_len marks ≡ length parts.now.uses.items) }
     ensures marks { IfOk result (λ marks. Marks (replicate (length parts.now.uses.items) false) marks.items parts.now.uses.items (λ k u. is_forbidden graph.now 0 (document_of parts.now.document.now).operations u)) }
 {
@@ -69,6 +65,9 @@ fn forbidden_marks(
     let mut marks = vec![in alloc; false; parts.uses.len()]?;
     let mut walk = Walk::new(alloc);
     for (number, operation) in parts.document.operations.iter().enumerate() {
+        if operation.variables.is_empty() {
+            continue;
+        }
         let variables = variables_of(alloc, &operation.variables)?;
         walk.walk_from(graph, Owner::Operation(number))?;
         mark_operation(&mut marks, number, &walk, &places, &parts.uses, &variables);

@@ -24,8 +24,8 @@ fn can_be_any(schema: &Schema, ty: &str, names: &[String]) -> bool
     false
 }
 
-// Whether an object type is a possible type of both.
-fn may_overlap(schema: &Schema, one: &str, other: &str) -> bool
+/// Whether an object type is a possible type of both.
+pub fn may_overlap(schema: &Schema, one: &str, other: &str) -> bool
     ensures { result ≡ may_overlap (tree_of schema.now) one.now other.now }
 {
     match schema.possible_types(one) {

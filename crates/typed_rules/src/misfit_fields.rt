@@ -7,8 +7,8 @@ ghost use Rattle.document_parts.specs.Broken.{broken_of, earliest};
 ghost use Rattle.document_parts.specs.Parts.{field_part_of, parts_in};
 ghost use Rattle.typed_rules.specs.LeafSelections.{kind_of_field, misfit_field, misfit_fields};
 
-use crate::unknown_fields::is_type_name;
 use crate::references::core;
+use crate::unknown_fields::is_type_name;
 use document_parts::{Broken, Earliest, FieldPart, Parts};
 use gq_schema::{Schema, TypeKind};
 

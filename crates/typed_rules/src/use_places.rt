@@ -3,8 +3,7 @@
 ghost use Rattle.std.specs.Prelude.{◌≡◌, ◌==◌, ◌&&◌, ◌||◌, ℕ, IfOk, OnOk, nat_eq};
 ghost use Rattle.std.specs.List.{list_any};
 ghost use Rattle.document_parts.specs.declared.part.Owner.{Owner};
-ghost use Rattle.spread_graph.specs.Graphs.{is_same_owner};
-ghost use Rattle.typed_rules.specs.UsePlaces.{is_noted, is_place, ArePlaces};
+ghost use Rattle.typed_rules.specs.UsePlaces.{is_same_owner, is_noted, is_place, ArePlaces};
 
 use document_parts::{Owner, VariableUse};
 use std::alloc::{AllocError, Global};

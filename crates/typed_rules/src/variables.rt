@@ -24,9 +24,7 @@ fn note<'d>(
 ) -> Result<(), AllocError>
     ensures { (q : List ℕ) → OnOk result (variable_at variables.new q ≡ or_else (variable_at variables.old q) (if bytes_eq q (string_bytes variable.now.name) then Some (variable_of variable.now) else None)) }
 {
-    variables
-        .entry(variable.name.as_str())?
-        .or_insert(variable);
+    variables.entry(variable.name.as_str())?.or_insert(variable);
     Ok(())
 }
 

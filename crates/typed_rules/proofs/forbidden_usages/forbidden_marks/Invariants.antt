@@ -9,5 +9,5 @@ abbrev pub invariant-loop-number : goal.invariant-loop-number
 invariant-loop-number l = record {
   len : vec_len l.marks ≡ length l.parts.uses.items;
   each : (k : ℕ) (d : VariableUse) → k < length l.parts.uses.items
-    → (get_or l.marks.items k false || is_forbidden l.graph l.number (map operation_of (drop l.number l.parts.document.now.operations.items)) (use_of (get_or l.parts.uses.items k d))) ≡ is_forbidden l.graph 0 (map operation_of l.parts.document.now.operations.items) (use_of (get_or l.parts.uses.items k d))
+      → (get_or l.marks.items k false || is_forbidden l.graph l.number (map operation_of (drop l.number l.parts.document.now.operations.items)) (use_of (get_or l.parts.uses.items k d))) ≡ is_forbidden l.graph 0 (map operation_of l.parts.document.now.operations.items) (use_of (get_or l.parts.uses.items k d));
 }

@@ -4,29 +4,28 @@ use Rattle.std.proofs.lemmas.List.{take_all}
 use Rattle.std.proofs.lemmas.List.Folds.{list_any_more}
 use Rattle.document_parts.specs.declared.part.Owner.TheVariants as owner
 use Rattle.document_parts.specs.Parts.{use_of}
-use Rattle.spread_graph.specs.Graphs.{is_same_owner}
 use Rattle.typed_rules.specs.AllowedUsages.{forbids, is_part}
-use Rattle.typed_rules.specs.UsePlaces.{is_place}
+use Rattle.typed_rules.specs.UsePlaces.{is_same_owner, is_place}
 use Rattle.typed_rules.proofs.MarkLaws.{or-false, marks_both, is_part-or}
 use Rattle.typed_rules.proofs.forbidden_usages.mark_operation.Goals as goal
 
 pub loop-fragment-init : goal.loop-fragment-init
 loop-fragment-init c = record {
   len = refl;
-  each = λ vs k d are lt. or-false (get_or c.mark.new.marks.items k false)
+  each = λ vs k d are lt. or-false (get_or c.mark.new.marks.items k false);
 }
 
 pub loop-fragment-preserved : goal.loop-fragment-preserved
 loop-fragment-preserved c = record {
   len = c.mark-in-loop-fragment.ensures.len ∙ c.loop-fragment.invariant.len;
   each = λ vs k d are lt.
-    let i = c.loop-fragment.fragment-index in
-    let items = c.reached-fragment-items.result.now in
-    let u = get_or c.args.uses.now k d in
-    let p = λ (j : ℕ). is_same_owner (owner.Fragment j) u.owner in
-    let next : list_any (nat_eq k) c.of-others.result.now ≡ p (get_or items i 0) = c.of-others.ensures k ∙ c.requires.places (owner.Fragment (get_or items i 0)) k d lt in
-    let more : list_any p (take (i + 1) items) ≡ (list_any p (take i items) || list_any (nat_eq k) c.of-others.result.now) = list_any_more p items i 0 (omega arith) ∙ ap (λ b. list_any p (take i items) || b) (sym next) in
-    marks_both _ _ _ _ _ _ (forbids vs (use_of u)) (c.mark-in-loop-fragment.ensures.marks vs are k d lt) (c.loop-fragment.invariant.each vs k d are lt) more
+      let i = c.loop-fragment.fragment-index in
+      let items = c.reached-fragment-items.result.now in
+      let u = get_or c.args.uses.now k d in
+      let p = λ (j : ℕ). is_same_owner (owner.Fragment j) u.owner in
+      let next : list_any (nat_eq k) c.of-others.result.now ≡ p (get_or items i 0) = c.of-others.ensures k ∙ c.requires.places (owner.Fragment (get_or items i 0)) k d lt in
+      let more : list_any p (take (i + 1) items) ≡ (list_any p (take i items) || list_any (nat_eq k) c.of-others.result.now) = list_any_more p items i 0 (omega arith) ∙ ap (λ b. list_any p (take i items) || b) (sym next) in
+      marks_both _ _ _ _ _ _ (forbids vs (use_of u)) (c.mark-in-loop-fragment.ensures.marks vs are k d lt) (c.loop-fragment.invariant.each vs k d are lt) more;
 }
 
 pub returns-clause-marks : goal.returns-clause-marks
