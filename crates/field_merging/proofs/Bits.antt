@@ -25,7 +25,7 @@ has-none i = ap (λ w. bit_at w (i % 64) == 1) (zeros 16 (i / 64)) ∙ ap (λ b.
 apart-test : (i j : ℕ) → i ≢ j → (i == j) ≡ false
 apart-test i j ne = elim (eqb_tells i j) [ | inl same ↦ absurd (ne (same.1)) | inr other ↦ other.0 ]
 
-or-false : (x y : Bool) → y ≡ false → x ≡ (x || y)
+pub or-false : (x y : Bool) → y ≡ false → x ≡ (x || y)
 or-false true y e = refl
 or-false false y e = sym e
 
@@ -124,3 +124,7 @@ none-met a b la lb none m =
       | inl inside ↦ let z : bit_at (bit_and (get_or a (i / 64) 0) (get_or b (i / 64) 0)) (i % 64) ≡ 0 = ap (λ w. bit_at w (i % 64)) (none (i / 64) inside) ∙ bit_at-zero (i % 64) in omega (arith, p, q, both, z)
       | inr past ↦ let z : bit_at (get_or a (i / 64) 0) (i % 64) ≡ 0 = ap (λ w. bit_at w (i % 64)) (get_or_past a (i / 64) 0 (omega arith)) ∙ bit_at-zero (i % 64) in omega (arith, p, z)
     ]
+
+pub has-empty : (i : ℕ) → has [] i ≡ false
+unfolding has
+has-empty i = ap (λ b. b == 1) (bit_at-zero (i % 64))

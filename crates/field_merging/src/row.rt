@@ -16,13 +16,11 @@ pub struct Row {
 }
 
 impl Model for Row {
-    ghost use Rattle.std.specs.Prelude.{ℕ, List, ◌≡◌, length};
+    ghost use Rattle.std.specs.Prelude.{ℕ, List};
 
     ghost Value = { List ℕ };
 
     ghost view = { λ r. r.words };
-
-    ghost invariant = { λ r. length r.words ≡ 16 };
 }
 
 impl Row {

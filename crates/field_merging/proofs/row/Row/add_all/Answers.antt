@@ -5,5 +5,5 @@ use Rattle.field_merging.proofs.row.Row.add_all.Goals as goal
 
 pub returns : goal.returns
 returns c = λ i.
-    has-or c.self.inside.words c.loop-k.self-inside.words c.other.inside.words (each-word c.self.inside.words c.loop-k.self-inside.words c.other.inside.words c.self.invariant c.loop-k.invariant.len c.other.invariant (λ j h. c.loop-k.invariant.done j (omega arith))) i
+    has-or c.self.inside.words c.loop-k.self-inside.words c.other.inside.words (each-word c.self.inside.words c.loop-k.self-inside.words c.other.inside.words c.self.told c.loop-k.invariant.len c.other.told (λ j h. c.loop-k.invariant.done j (omega arith))) i
     ∙ rw (c.self.view_is, c.other.view_is) refl

@@ -4,4 +4,4 @@ use Rattle.field_merging.proofs.Bits.{has-insert}
 use Rattle.field_merging.proofs.row.Row.insert.Goals as goal
 
 pub returns : goal.returns
-returns c = λ i. has-insert c.self.inside.words c.args.field i c.self.invariant c.requires ∙ ap (λ w. has w i || (i == c.args.field)) c.self.view_is
+returns c = λ i. has-insert c.self.inside.words c.args.field i c.self.told c.requires ∙ ap (λ w. has w i || (i == c.args.field)) c.self.view_is

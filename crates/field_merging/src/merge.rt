@@ -1,0 +1,74 @@
+//! Which sets of fields can't be merged, and the first response key of such a set.
+ghost use Rattle.std.specs.Prelude.{◌≡◌, ◌<◌, ◌≤◌, ◌==◌, ◌&&◌, ℕ, length, IfOk, true, false, not};
+ghost use Rattle.field_merging.specs.Sets.{has};
+ghost use Rattle.field_merging.specs.Merging.{Merges, SaysOf};
+ghost use Rattle.field_merging.specs.Numbered.{fields_of, AreInOrder, AllBelow, is_in};
+ghost use Rattle.field_merging.specs.Table.{IsBelow, TellsAll, AreMarks, Refuses, has_marked};
+
+use crate::field::Field;
+use crate::row::Row;
+use crate::table::{Rule, marks_of, table};
+use std::alloc::{AllocError, Global};
+
+/// Which pairs of fields can't stand together: row `b` has each earlier field that fails with `b`.
+pub fn failing_pairs(alloc: Global, fields: &[Field]) -> Result<Vec<Row>, AllocError>
+    requires most { length fields.now ≤ 1024 }
+    requires order { AreInOrder fields.now }
+    ensures len { IfOk result (λ rows. length rows.items ≡ length fields.now) }
+    ensures below { IfOk result (λ rows. IsBelow rows.items) }
+    ensures tells { IfOk result (λ rows. TellsAll (Merges (fields_of fields.now)) (fields_of fields.now) (length fields.now) rows.items) }
+{
+    let shapes = table(alloc, fields, Rule::Shape, &[])?;
+    let rows = table(alloc, fields, Rule::Merge, &shapes)?;
+    Ok(rows)
+}
+
+/// Whether a set can't be merged, by the marks of those that fail with one of its members.
+pub fn is_failing(fields: &[Field], rows: &[Row], members: &Row, marks: &Row) -> bool
+    requires told { TellsAll (Merges (fields_of fields.now)) (fields_of fields.now) (length fields.now) rows.now }
+    requires below { (c : ℕ) → has members.now c ≡ true → c < length fields.now }
+    requires marked { AreMarks rows.now (has members.now) marks.now }
+    ensures { Refuses (fields_of fields.now) (has members.now) result }
+{
+    marks.meets(members)
+}
+
+/// Whether one of these has the key and is marked.
+fn has_marked(fields: &[Field], marks: &Row, key: u32, members: &[usize]) -> bool
+    requires most { length fields.now ≤ 1024 }
+    requires below { AllBelow members.now (length fields.now) }
+    ensures { result ≡ has_marked (fields_of fields.now).key marks.now key members.now }
+{
+    for m in members {
+        if key_of(fields, *m) == key && marks.has(*m) {
+            return true;
+        }
+    }
+    false
+}
+
+/// A field's response key.
+fn key_of(fields: &[Field], a: usize) -> u32
+    requires { a < length fields.now }
+    ensures { result ≡ (fields_of fields.now).key a }
+{
+    fields[a].key
+}
+
+/// The first response key of a set, in order of first meeting, with a failing pair, or nothing where
+/// the set can be merged. `members` is the set in that order.
+pub fn failing_key(fields: &[Field], rows: &[Row], members: &[usize], marks: &Row) -> Option<u32>
+    requires most { length fields.now ≤ 1024 }
+    requires told { TellsAll (Merges (fields_of fields.now)) (fields_of fields.now) (length fields.now) rows.now }
+    requires below { AllBelow members.now (length fields.now) }
+    requires marked { AreMarks rows.now (is_in members.now) marks.now }
+    ensures { SaysOf (fields_of fields.now) (is_in members.now) members.now result }
+{
+    for m in members {
+        let key = key_of(fields, *m);
+        if has_marked(fields, marks, key, members) {
+            return Some(key);
+        }
+    }
+    None
+}
