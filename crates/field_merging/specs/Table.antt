@@ -1,9 +1,9 @@
 -- A table of pairs of numbered fields: row b has each a below b that fails with it.
-use Rattle.std.specs.Prelude.{◌≡◌, ◌≢◌, ◌⊎◌, ℕ, ◌<◌, Bool, true, false, ◌||◌, ◌&&◌, not, ◌==◌, List, [], ◌∷◌, length, slice_index_or}
+use Rattle.std.specs.Prelude.{◌≡◌, ◌≢◌, ◌⊎◌, ℕ, ◌<◌, Bool, true, false, ◌||◌, ◌&&◌, not, ◌==◌, List, [], ◌∷◌, length, slice_index_or, Option, Some, None, if◌then◌else◌}
 use Rattle.field_merging.specs.declared.table.Rule.{Rule}
 use Rattle.field_merging.specs.declared.table.Rule.TheVariants.{Shape, Merge}
 use Rattle.field_merging.specs.Sets.{has, Common}
-use Rattle.field_merging.specs.Merging.{Fields, SameShape, Merges, CanMerge}
+use Rattle.field_merging.specs.Merging.{Fields, SameShape, Merges}
 
 abbrev pub row : List (List ℕ) → ℕ → List ℕ
 row rows b = slice_index_or rows b []
@@ -95,12 +95,12 @@ pub record KnowsInner (D : Fields ℕ ℕ) (rows : List (List ℕ)) (inner : Lis
   pub only : (a : ℕ) → has inner a ≡ true → Found rows (D.enters a) (D.enters a)
   pub all : (a : ℕ) → a < n → Found rows (D.enters a) (D.enters a) → has inner a ≡ true
 
--- a test tells whether a set can't be merged
-pub record Refuses {F K : Type 0} (D : Fields F K) (ms : F → Bool) (fails : Bool) : Type 0 where
-  pub merges : fails ≡ false → CanMerge D ms
-  pub breaks : fails ≡ true → CanMerge D ms → ⊥
-
 -- one of these has the key and is marked
 abbrev pub has_marked : (ℕ → ℕ) → List ℕ → ℕ → List ℕ → Bool
 has_marked key marks k [] = false
 has_marked key marks k (m ∷ ms) = ((key m == k) && has marks m) || has_marked key marks k ms
+
+-- the first key among these, in order, of which one of all is marked
+abbrev pub first_marked : (ℕ → ℕ) → List ℕ → List ℕ → List ℕ → Option ℕ
+first_marked key marks all [] = None
+first_marked key marks all (m ∷ ms) = if has_marked key marks (key m) all then Some (key m) else first_marked key marks all ms

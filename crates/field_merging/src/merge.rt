@@ -3,7 +3,7 @@ ghost use Rattle.std.specs.Prelude.{◌≡◌, ◌<◌, ◌≤◌, ◌==◌, ◌
 ghost use Rattle.field_merging.specs.Sets.{has};
 ghost use Rattle.field_merging.specs.Merging.{Merges, SaysOf};
 ghost use Rattle.field_merging.specs.Numbered.{fields_of, AreInOrder, AllBelow, is_in};
-ghost use Rattle.field_merging.specs.Table.{IsBelow, TellsAll, AreMarks, Refuses, has_marked};
+ghost use Rattle.field_merging.specs.Table.{IsBelow, TellsAll, AreMarks, has_marked, first_marked};
 
 use crate::field::Field;
 use crate::row::Row;
@@ -23,14 +23,24 @@ pub fn failing_pairs(alloc: Global, fields: &[Field]) -> Result<Vec<Row>, AllocE
     Ok(rows)
 }
 
-/// Whether a set can't be merged, by the marks of those that fail with one of its members.
-pub fn is_failing(fields: &[Field], rows: &[Row], members: &Row, marks: &Row) -> bool
-    requires told { TellsAll (Merges (fields_of fields.now)) (fields_of fields.now) (length fields.now) rows.now }
-    requires below { (c : ℕ) → has members.now c ≡ true → c < length fields.now }
-    requires marked { AreMarks rows.now (has members.now) marks.now }
-    ensures { Refuses (fields_of fields.now) (has members.now) result }
+/// The fields of a list as a row.
+fn row_of(members: &[usize]) -> Row
+    requires { AllBelow members.now 1024 }
+    ensures { (i : ℕ) → has result i ≡ is_in members.now i }
 {
-    marks.meets(members)
+    let mut row = Row::new();
+    for m in members {
+        row.insert(*m);
+    }
+    row
+}
+
+/// A field's response key.
+fn key_of(fields: &[Field], a: usize) -> u32
+    requires { a < length fields.now }
+    ensures { result ≡ (fields_of fields.now).key a }
+{
+    fields[a].key
 }
 
 /// Whether one of these has the key and is marked.
@@ -47,22 +57,11 @@ fn has_marked(fields: &[Field], marks: &Row, key: u32, members: &[usize]) -> boo
     false
 }
 
-/// A field's response key.
-fn key_of(fields: &[Field], a: usize) -> u32
-    requires { a < length fields.now }
-    ensures { result ≡ (fields_of fields.now).key a }
-{
-    fields[a].key
-}
-
-/// The first response key of a set, in order of first meeting, with a failing pair, or nothing where
-/// the set can be merged. `members` is the set in that order.
-pub fn failing_key(fields: &[Field], rows: &[Row], members: &[usize], marks: &Row) -> Option<u32>
+/// The first response key of a set, in order of first meeting, of which a member is marked.
+fn first_marked(fields: &[Field], marks: &Row, members: &[usize]) -> Option<u32>
     requires most { length fields.now ≤ 1024 }
-    requires told { TellsAll (Merges (fields_of fields.now)) (fields_of fields.now) (length fields.now) rows.now }
     requires below { AllBelow members.now (length fields.now) }
-    requires marked { AreMarks rows.now (is_in members.now) marks.now }
-    ensures { SaysOf (fields_of fields.now) (is_in members.now) members.now result }
+    ensures { result ≡ first_marked (fields_of fields.now).key marks.now members.now members.now }
 {
     for m in members {
         let key = key_of(fields, *m);
@@ -71,4 +70,18 @@ pub fn failing_key(fields: &[Field], rows: &[Row], members: &[usize], marks: &Ro
         }
     }
     None
+}
+
+/// The first response key of a set with a failing pair, or nothing where the set can be merged.
+/// `members` is the set in order of first meeting, and `rows` are its fields' [`failing_pairs`].
+pub fn failing_key(fields: &[Field], rows: &[Row], members: &[usize]) -> Option<u32>
+    requires most { length fields.now ≤ 1024 }
+    requires len { length rows.now ≡ length fields.now }
+    requires below { IsBelow rows.now }
+    requires told { TellsAll (Merges (fields_of fields.now)) (fields_of fields.now) (length fields.now) rows.now }
+    requires members { AllBelow members.now (length fields.now) }
+    ensures { SaysOf (fields_of fields.now) (is_in members.now) members.now result }
+{
+    let marks = marks_of(rows, &row_of(members));
+    first_marked(fields, &marks, members)
 }

@@ -1,0 +1,16 @@
+use Rattle.std.proofs.Common.{◌∙◌, length, sym, arith}
+use Rattle.field_merging.specs.Sets.{has}
+use Rattle.field_merging.specs.Numbered.{fields_of, is_in}
+use Rattle.field_merging.proofs.SetLaws.{below-weaker, below-in, marks-same, says-first}
+use Rattle.field_merging.proofs.merge.failing_key.Goals as goal
+
+pub row_of-requires : goal.row_of-requires
+row_of-requires c = below-weaker c.args.members.now (length c.args.fields.now) 1024 c.requires.most c.requires.members
+
+pub marks_of-marks-requires-clause-members : goal.marks_of-marks-requires-clause-members
+marks_of-marks-requires-clause-members c = λ k e. omega (arith, below-in c.args.members.now (length c.args.fields.now) k c.requires.members (sym (c.row_of.ensures k) ∙ e), c.requires.len)
+
+pub returns : goal.returns
+returns c =
+    let marked = marks-same c.args.rows.now (has c.row_of.result) (is_in c.args.members.now) c.marks_of-marks.result c.row_of.ensures c.marks_of-marks.ensures in
+    rw c.first_marked.ensures (says-first (fields_of c.args.fields.now) (length c.args.fields.now) c.args.rows.now c.marks_of-marks.result c.args.members.now c.requires.told c.requires.members marked)
