@@ -1,0 +1,4 @@
+pub mod Graphs
+pub mod Reach
+pub mod Levels
+pub mod Rules
