@@ -1,9 +1,0 @@
-use Rattle.std.proofs.Common.{arith}
-use Rattle.field_merging.proofs.TableLaws.{marks-all}
-use Rattle.field_merging.proofs.table.marks_of.Goals as goal
-
-pub returns : goal.returns
-returns c = record {
-  only = c.loop-d.invariant.only;
-  all = marks-all c.args.rows.now c.args.members.now c.loop-d.marks c.requires.members (λ k e h. c.loop-d.invariant.later k e (omega arith)) (λ k h. c.loop-d.invariant.earlier k (omega arith));
-}

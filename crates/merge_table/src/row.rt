@@ -1,0 +1,70 @@
+//! Sets of fields, a bit for each number.
+ghost use Rattle.std.specs.Prelude.{◌≡◌, ◌<◌, ℕ, ◌||◌, ◌==◌, false};
+ghost use Rattle.merge_table.specs.Sets.{has, Meets};
+
+use std::marker::Model;
+
+/// The words of a row.
+const WORDS: usize = 16;
+
+/// A set of fields by their numbers, which are below 1,024.
+///
+/// A contract sees its words, and asks them by `has`.
+#[derive(Drop)]
+pub struct Row {
+    words: [u64; WORDS],
+}
+
+impl Model for Row {
+    ghost use Rattle.std.specs.Prelude.{ℕ, List};
+
+    ghost Value = { List ℕ };
+
+    ghost view = { λ r. r.words };
+}
+
+impl Row {
+    /// A row without any field.
+    pub fn new() -> Row
+        ensures { (i : ℕ) → has result i ≡ false }
+    {
+        Row { words: [0; WORDS] }
+    }
+
+    /// Whether the row has a field.
+    pub fn has(&self, field: usize) -> bool
+        requires { field < 1024 }
+        ensures { result ≡ has self.now field }
+    {
+        (self.words[field / 64] >> (field % 64)) & 1 == 1
+    }
+
+    /// Adds a field.
+    pub fn insert(&mut self, field: usize)
+        requires { field < 1024 }
+        ensures { (i : ℕ) → has self.new i ≡ (has self.old i || (i == field)) }
+    {
+        self.words[field / 64] |= 1 << (field % 64);
+    }
+
+    /// Adds all fields of another row.
+    pub fn add_all(&mut self, other: &Row)
+        ensures { (i : ℕ) → has self.new i ≡ (has self.old i || has other.now i) }
+    {
+        for k in 0..WORDS {
+            self.words[k] |= other.words[k];
+        }
+    }
+
+    /// Whether two rows have a field in common.
+    pub fn meets(&self, other: &Row) -> bool
+        ensures { Meets self.now other.now result }
+    {
+        for k in 0..WORDS {
+            if self.words[k] & other.words[k] != 0 {
+                return true;
+            }
+        }
+        false
+    }
+}
