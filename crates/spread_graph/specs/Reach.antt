@@ -1,7 +1,6 @@
 -- Which fragments an operation or a fragment reaches by spreads.
-use Rattle.std.specs.Prelude.{◌==◌, ℕ, zero, suc, Bool, ◌&&◌, ◌||◌, IsTrue, List, length}
+use Rattle.std.specs.Prelude.{◌≡◌, ◌==◌, ℕ, zero, suc, Bool, true, ◌&&◌, ◌||◌, nat_lt, List, length}
 use Rattle.std.specs.List.{list_any, list_all}
-use Rattle.std.specs.Prelude.{nat_lt}
 use Rattle.document_parts.specs.declared.part.Owner.{Owner}
 use Rattle.document_parts.specs.declared.part.Owner.TheVariants as owner
 use Rattle.spread_graph.specs.Graphs.{GraphOf, row}
@@ -27,13 +26,14 @@ reaches g o j = reaches_through (length g.fragments) g o j
 abbrev pub is_cyclic : GraphOf → ℕ → Bool
 is_cyclic g j = reaches g (owner.Fragment j) j
 
+abbrev pub are_below : ℕ → List ℕ → Bool
+are_below n js = list_all (λ j. nat_lt j n) js
+
 -- each row names fragments that there are
 abbrev pub are_known : GraphOf → Bool
-are_known g =
-    let is_known : List ℕ → Bool = λ js. list_all (λ j. nat_lt j (length g.fragments)) js in
-    list_all is_known g.operations && list_all is_known g.fragments
+are_known g = list_all (are_below (length g.fragments)) g.operations && list_all (are_below (length g.fragments)) g.fragments
 
 -- the same, step by step
 pub data Reaches (g : GraphOf) (o : Owner) : ℕ → Type 0 where
-  start : {j : ℕ} → IsTrue (spreads g o j) → Reaches g o j
-  along : {j k : ℕ} → Reaches g o k → IsTrue (spreads g (owner.Fragment k) j) → Reaches g o j
+  start : {j : ℕ} → spreads g o j ≡ true → Reaches g o j
+  along : {j k : ℕ} → Reaches g o k → spreads g (owner.Fragment k) j ≡ true → Reaches g o j
