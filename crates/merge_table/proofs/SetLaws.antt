@@ -4,18 +4,18 @@ use Rattle.std.proofs.lemmas.List.{drop_more}
 use Rattle.std.proofs.lemmas.Bool.{or_cases, or_parts, or_left, or_right, and_parts, and_from, both_ways, cases_Bool, eqb-true, eq-eqb}
 use Rattle.merge_table.specs.Sets.{has}
 use Rattle.merge_table.specs.Merging.{Fields, IsPair, CanMerge, Merges, Breaks, KeyMerges, IsFirst, breaks, later, SaysOf}
-use Rattle.merge_table.specs.Numbered.{AllBelow, is_in}
+use Rattle.merge_table.specs.Numbered.{AreBelow, is_in}
 use Rattle.merge_table.specs.Table.{fail, Tells, TellsAll, AreMarks, FailsWith, has_marked, first_marked}
 use Rattle.merge_table.proofs.MergeLaws.{can-from, can-gives}
 
 -- ---- lists of numbers
 
-pub below-get : (ms : List ℕ) (n i : ℕ) → AllBelow ms n → i < length ms → get_or ms i 0 < n
+pub below-get : (ms : List ℕ) (n i : ℕ) → AreBelow ms n → i < length ms → get_or ms i 0 < n
 below-get [] n i b h = absurd (omega arith)
 below-get (m ∷ ms) n zero b h = b.0
 below-get (m ∷ ms) n (suc i) b h = below-get ms n i (b.1) (omega arith)
 
-pub below-in : (ms : List ℕ) (n x : ℕ) → AllBelow ms n → is_in ms x ≡ true → x < n
+pub below-in : (ms : List ℕ) (n x : ℕ) → AreBelow ms n → is_in ms x ≡ true → x < n
 below-in [] n x b e = absurd (both_ways false refl e)
 below-in (m ∷ ms) n x b e =
     elim (or_cases (x == m) (is_in ms x) e) [
@@ -29,7 +29,7 @@ in-more ms i x h = rw (drop_more ms i 0 h) refl
 pub marked-more : (one_key : ℕ → ℕ → Bool) (marks : List ℕ) (f : ℕ) (ms : List ℕ) (i : ℕ) → i < length ms → has_marked one_key marks f (drop i ms) ≡ ((one_key (get_or ms i 0) f && has marks (get_or ms i 0)) || has_marked one_key marks f (drop (i + 1) ms))
 marked-more one_key marks f ms i h = rw (drop_more ms i 0 h) refl
 
-pub below-weaker : (ms : List ℕ) (m n : ℕ) → m ≤ n → AllBelow ms m → AllBelow ms n
+pub below-weaker : (ms : List ℕ) (m n : ℕ) → m ≤ n → AreBelow ms m → AreBelow ms n
 below-weaker [] m n h b = tt
 below-weaker (x ∷ xs) m n h b = (omega (arith, b.0), below-weaker xs m n h (b.1))
 
@@ -47,7 +47,7 @@ marks-same rows ms ns marks same marked = record {
 
 -- ---- the first field
 
-module _ (D : Fields ℕ) (n : ℕ) (rows : List (List ℕ)) (marks : List ℕ) (all : List ℕ) (reflexive : (a : ℕ) → a < n → D.one_key a a ≡ true) (told : TellsAll (Merges D) D n rows) (below : AllBelow all n) (marked : AreMarks rows (is_in all) marks) where
+module _ (D : Fields ℕ) (n : ℕ) (rows : List (List ℕ)) (marks : List ℕ) (all : List ℕ) (reflexive : (a : ℕ) → a < n → D.one_key a a ≡ true) (told : TellsAll (Merges D) D n rows) (below : AreBelow all n) (marked : AreMarks rows (is_in all) marks) where
   tell : (a b : ℕ) → is_in all a ≡ true → is_in all b ≡ true → Tells (Merges D) D a b (fail rows a b)
   tell a b ha hb = told a b (below-in all n a below ha) (below-in all n b below hb)
 

@@ -15,6 +15,6 @@ mod table;
 mod tests;
 
 pub use field::Field;
-pub use merge::{failing_pairs, first_failing};
+pub use merge::{failing_pairs, first_failing, is_in_order};
 pub use row::Row;
 pub use table::marks_of;

@@ -1,6 +1,6 @@
 //! Sets of fields, a bit for each number.
-ghost use Rattle.std.specs.Prelude.{◌≡◌, ◌<◌, ℕ, ◌||◌, ◌==◌, false};
-ghost use Rattle.merge_table.specs.Sets.{has, Meets};
+ghost use Rattle.std.specs.Prelude.{◌≡◌, ◌<◌, ℕ, ◌||◌, ◌==◌, false, MatchBool};
+ghost use Rattle.merge_table.specs.Sets.{has, Meets, AllBelow};
 
 use std::marker::Model;
 
@@ -23,6 +23,13 @@ impl Model for Row {
     ghost view = { λ r. r.words };
 }
 
+fn has_bit(words: &[u64; WORDS], i: usize) -> bool
+    requires { i < 1024 }
+    ensures { result ≡ has words.now i }
+{
+    (words[i / 64] >> (i % 64)) & 1 == 1
+}
+
 impl Row {
     /// A row without any field.
     pub fn new() -> Row
@@ -36,7 +43,7 @@ impl Row {
         requires { field < 1024 }
         ensures { result ≡ has self.now field }
     {
-        (self.words[field / 64] >> (field % 64)) & 1 == 1
+        has_bit(&self.words, field)
     }
 
     /// Adds a field.
@@ -66,5 +73,17 @@ impl Row {
             }
         }
         false
+    }
+
+    /// Whether all fields of the row are below a number.
+    pub fn is_below(&self, n: usize) -> bool
+        ensures { MatchBool result (AllBelow self.now n) (AllBelow self.now n → ⊥) }
+    {
+        for field in n..64 * WORDS {
+            if has_bit(&self.words, field) {
+                return false;
+            }
+        }
+        true
     }
 }

@@ -170,7 +170,7 @@ fn note_inner(inner: &mut Row, marks: &Row, members: &Row, b: usize)
 }
 
 /// The members of a field's selection set.
-fn members_of(fields: &[Field], a: usize) -> &Row
+pub(crate) fn members_of(fields: &[Field], a: usize) -> &Row
     requires { a < length fields.now }
     ensures { result.now ≡ members_at fields.now a }
 {

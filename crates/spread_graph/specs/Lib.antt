@@ -1,6 +1,5 @@
 pub mod Graphs
 pub mod Rows
 pub mod Reach
-pub mod Walks
 pub mod Levels
 pub mod Rules
