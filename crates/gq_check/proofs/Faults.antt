@@ -1,9 +1,14 @@
 -- First faults.
-use Rattle.std.proofs.Common.{◌≡◌, ◌∙◌, sym, Option, Some, None}
+use Rattle.std.proofs.Common.{◌≡◌, ◌∙◌, sym, subst, Option, Some, None}
+use Rattle.std.specs.Prelude.{option_map}
+use Rattle.document_parts.specs.Broken.{BrokenOf}
+use Rattle.document_parts.specs.Parts.{PartsOf}
+use Rattle.field_merging.specs.Rule.{IsMerging}
 use Rattle.gq_schema.specs.Scan.{or_else}
 use Rattle.gq_check.specs.declared.fault.CheckFault.{CheckFault}
 use Rattle.gq_check.specs.declared.fault.CheckFault.TheVariants as check
-use Rattle.gq_check.specs.Verdict.{FaultOf, fault_of, IsCheckFault}
+use Rattle.gq_check.specs.declared.fault.Rule.TheVariants as rule
+use Rattle.gq_check.specs.Verdict.{FaultOf, breaks, first_fault, IsToldAfter, IsVerdictOf, fault_of, IsCheckFault}
 
 -- where neither of two answers is there, the first isn't
 pub first-none : {A : Type 0} (a b : Option A) → or_else a b ≡ None → a ≡ None
@@ -16,9 +21,17 @@ second-none (Some x) b h = cc
 second-none None b h = h
 
 -- a fault that says the verdict is the one that is told
-pub tells : (e : CheckFault) (f : FaultOf) (want : Option FaultOf) → fault_of e ≡ Some f → want ≡ Some f → IsCheckFault want e
-tells (check.Rule r name p) f want says is = is ∙ sym says
-tells check.TooComplex f want says is = is ∙ sym says
-tells (check.TooDeep p) f want says is = is ∙ sym says
-tells (check.NotServed name p) f want says is = is ∙ sym says
-tells check.NoMemory f want says is = tt
+pub tells : (verdict : Option FaultOf → Type 0) (e : CheckFault) (f : FaultOf) → fault_of e ≡ Some f → verdict (Some f) → IsCheckFault verdict e
+tells verdict (check.Rule r name p) f says is = subst verdict (sym says) is
+tells verdict check.TooComplex f says is = subst verdict (sym says) is
+tells verdict (check.TooDeep p) f says is = subst verdict (sym says) is
+tells verdict (check.NotServed name p) f says is = subst verdict (sym says) is
+tells verdict check.NoMemory f says is = tt
+
+-- a fault that comes before Field Selection Merging is the verdict
+pub comes-first : (p : PartsOf) (v : Option FaultOf) (f : FaultOf) → v ≡ first_fault p → v ≡ Some f → IsVerdictOf p v
+comes-first p v f first is = subst (λ (o : Option FaultOf). IsToldAfter p o v) (sym is ∙ first) is
+
+-- else what is told of Field Selection Merging is
+pub comes-last : (p : PartsOf) (v : Option FaultOf) (b : Option BrokenOf) → first_fault p ≡ None → IsMerging p b → v ≡ option_map (breaks rule.FieldSelectionMerging) b → IsVerdictOf p v
+comes-last p v b none merging is = subst (λ (o : Option FaultOf). IsToldAfter p o v) (sym none) (b, merging, is)

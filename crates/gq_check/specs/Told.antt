@@ -2,11 +2,7 @@
 use Rattle.document_parts.specs.Broken.{BrokenOf, broken_of}
 use Rattle.gq_check.specs.declared.told.Told as rust
 use Rattle.gq_check.specs.declared.told.Told.TheVariants as told
-use Rattle.gq_check.specs.declared.fault.Rule.{Rule}
-use Rattle.gq_check.specs.Verdict.{FaultOf, Breaks, TooComplex, TooDeep, NotServed}
-
-abbrev pub breaks : Rule → BrokenOf → FaultOf
-breaks r b = Breaks r b.name b.place
+use Rattle.gq_check.specs.Verdict.{FaultOf, breaks, TooComplex, TooDeep, NotServed}
 
 abbrev pub not_served_here : BrokenOf → FaultOf
 not_served_here b = NotServed b.name b.place

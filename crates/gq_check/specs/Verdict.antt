@@ -34,6 +34,7 @@ use Rattle.typed_rules.specs.CorrectValues.{wrong_values}
 use Rattle.typed_rules.specs.InputVariables.{non_input_variables}
 use Rattle.typed_rules.specs.AllowedUsages.{forbidden_usages}
 use Rattle.spread_graph.specs.Rules.{fragment_cycles, too_deep}
+use Rattle.field_merging.specs.Rule.{IsMerging}
 use Rattle.gq_check.specs.declared.fault.Rule.{Rule}
 use Rattle.gq_check.specs.declared.fault.Rule.TheVariants as rule
 use Rattle.gq_check.specs.declared.fault.CheckFault.{CheckFault}
@@ -47,9 +48,12 @@ pub data FaultOf : Type 0 where
   TooDeep : Place → FaultOf
   NotServed : List ℕ → Place → FaultOf
 
+abbrev pub breaks : Rule → BrokenOf → FaultOf
+breaks r b = Breaks r b.name b.place
+
 -- what is told of a rule, of all that breaks it
 abbrev pub told : Rule → List BrokenOf → Option FaultOf
-told r broken = option_map (λ (b : BrokenOf). Breaks r b.name b.place) (earliest broken)
+told r broken = option_map (breaks r) (earliest broken)
 
 -- ---- the rules, by what they speak of
 
@@ -130,13 +134,27 @@ limits_fault p =
     or_else (option_map (λ (b : BrokenOf). TooDeep b.place) (earliest (too_deep p)))
     (if is_too_complex p then Some TooComplex else None)
 
+-- all but Field Selection Merging
+abbrev pub first_fault : PartsOf → Option FaultOf
+first_fault p = or_else (rules_fault p) (limits_fault p)
+
+-- what is told of a document where this comes first: it; else what is told of Field Selection Merging (section 5.3.2), which is
+-- asked of documents that keep all else
+abbrev pub IsToldAfter : PartsOf → Option FaultOf → Option FaultOf → Type 0
+IsToldAfter p (Some f) v = v ≡ Some f
+IsToldAfter p None v = (b : Option BrokenOf) × IsMerging p b × (v ≡ option_map (breaks rule.FieldSelectionMerging) b)
+
 -- the verdict on a document, by its parts
-abbrev pub parts_verdict : PartsOf → Option FaultOf
-parts_verdict p = or_else (rules_fault p) (limits_fault p)
+abbrev pub IsVerdictOf : PartsOf → Option FaultOf → Type 0
+IsVerdictOf p v = IsToldAfter p (first_fault p) v
 
 -- the verdict on a document over the definitions of a schema
-abbrev pub verdict : List Definition → Document → Option FaultOf
-verdict defs d = parts_verdict (parts_of defs d)
+abbrev pub IsVerdict : List Definition → Document → Option FaultOf → Type 0
+IsVerdict defs d v = IsVerdictOf (parts_of defs d) v
+
+-- The document is valid.
+abbrev pub IsValid : List Definition → Document → Type 0
+IsValid defs d = IsVerdict defs d None
 
 -- ---- what the program tells
 
@@ -148,10 +166,10 @@ fault_of (check.TooDeep p) = Some (TooDeep p)
 fault_of (check.NotServed name p) = Some (NotServed (string_bytes name) p)
 fault_of check.NoMemory = None
 
--- the fault that is told where this is the verdict; of memory this says nothing
-abbrev pub IsCheckFault : Option FaultOf → CheckFault → Type 0
-IsCheckFault want (check.Rule r name p) = want ≡ Some (Breaks r (string_bytes name) p)
-IsCheckFault want check.TooComplex = want ≡ Some TooComplex
-IsCheckFault want (check.TooDeep p) = want ≡ Some (TooDeep p)
-IsCheckFault want (check.NotServed name p) = want ≡ Some (NotServed (string_bytes name) p)
-IsCheckFault want check.NoMemory = Unit {0}
+-- the fault that is told where verdicts are these; of memory this says nothing
+abbrev pub IsCheckFault : (Option FaultOf → Type 0) → CheckFault → Type 0
+IsCheckFault verdict (check.Rule r name p) = verdict (Some (Breaks r (string_bytes name) p))
+IsCheckFault verdict check.TooComplex = verdict (Some TooComplex)
+IsCheckFault verdict (check.TooDeep p) = verdict (Some (TooDeep p))
+IsCheckFault verdict (check.NotServed name p) = verdict (Some (NotServed (string_bytes name) p))
+IsCheckFault verdict check.NoMemory = Unit {0}

@@ -1,12 +1,13 @@
 //! The rules in the order of their sections (section 5).
 
-ghost use Rattle.std.specs.Prelude.{◌≡◌, None, IfOk, option_map};
+ghost use Rattle.std.specs.Prelude.{◌≡◌, ◌≤◌, None, IfOk, length, option_map};
 ghost use Rattle.document_parts.specs.Broken.{broken_of, earliest};
 ghost use Rattle.document_parts.specs.Parts.{parts_in};
 ghost use Rattle.spread_graph.specs.Graphs.{graph_of};
 ghost use Rattle.spread_graph.specs.Rules.{fragment_cycles, too_deep};
-ghost use Rattle.gq_check.specs.Told.{breaks, told_of};
-ghost use Rattle.gq_check.specs.Verdict.{served_fault, operations_fault, fields_fault, arguments_fault, fragments_fault, spreads_fault, values_fault, directives_fault, variables_fault, rules_fault, limits_fault, parts_verdict};
+ghost use Rattle.field_merging.specs.Rule.{IsMerging};
+ghost use Rattle.gq_check.specs.Told.{told_of};
+ghost use Rattle.gq_check.specs.Verdict.{served_fault, operations_fault, fields_fault, arguments_fault, fragments_fault, spreads_fault, values_fault, directives_fault, variables_fault, rules_fault, limits_fault, first_fault, breaks, IsVerdictOf};
 
 use crate::fault::Rule;
 use crate::pending::{all_variable_uses_defined, all_variables_used};
@@ -18,6 +19,7 @@ use document_rules::{
     fragments_must_be_used, is_too_complex, lone_anonymous_operation, not_served,
     operation_name_uniqueness, variable_uniqueness,
 };
+use field_merging::field_merging;
 use spread_graph::{Graph, fragment_cycles, too_deep};
 use std::alloc::{AllocError, Global};
 use typed_rules::{
@@ -215,17 +217,44 @@ fn limits_fault<'d>(
     Ok(None)
 }
 
-/// The first fault of a document, by its parts and what its fragments spread.
-pub fn parts_verdict<'d>(
+// All but Field Selection Merging.
+fn first_fault<'d>(
     alloc: Global,
     parts: &Parts<'d>,
     graph: &Graph,
 ) -> Result<Option<Told<'d>>, AllocError>
     requires { graph.now ≡ graph_of (parts_in parts.now) }
-    ensures { IfOk result (λ fault. option_map told_of fault ≡ parts_verdict (parts_in parts.now)) }
+    ensures { IfOk result (λ fault. option_map told_of fault ≡ first_fault (parts_in parts.now)) }
 {
     match rules_fault(alloc, parts, graph)? {
         Some(fault) => Ok(Some(fault)),
         None => Ok(limits_fault(alloc, parts, graph)?),
+    }
+}
+
+// The earliest selection set that can't be merged.
+fn unmerged_set<'d>(alloc: Global, parts: &Parts<'d>) -> Result<Option<Broken<'d>>, AllocError>
+    requires acyclic { earliest (fragment_cycles (parts_in parts.now)) ≡ None }
+    requires few { length (parts_in parts.now).fields ≤ 1000 }
+    ensures { IfOk result (λ broken. IsMerging (parts_in parts.now) (option_map broken_of broken)) }
+{
+    field_merging(alloc, parts)
+}
+
+/// The verdict on a document, by its parts and what its fragments spread.
+pub fn verdict<'d>(
+    alloc: Global,
+    parts: &Parts<'d>,
+    graph: &Graph,
+) -> Result<Option<Told<'d>>, AllocError>
+    requires { graph.now ≡ graph_of (parts_in parts.now) }
+    ensures { IfOk result (λ fault. IsVerdictOf (parts_in parts.now) (option_map told_of fault)) }
+{
+    match first_fault(alloc, parts, graph)? {
+        Some(fault) => Ok(Some(fault)),
+        None => {
+            let broken = unmerged_set(alloc, parts)?;
+            Ok(told(Rule::FieldSelectionMerging, broken))
+        }
     }
 }

@@ -1,13 +1,13 @@
 //! Validation (section 5).
 
-ghost use Rattle.std.specs.Prelude.{◌≡◌, None, IfOk, IfErr, OnOk};
+ghost use Rattle.std.specs.Prelude.{◌≡◌, IfOk, IfErr, OnOk};
 ghost use Rattle.gq_parser.specs.Tree.{document_of};
 ghost use Rattle.gq_schema.specs.Types.{tree_of};
-ghost use Rattle.gq_check.specs.Verdict.{verdict, IsCheckFault};
+ghost use Rattle.gq_check.specs.Verdict.{IsVerdict, IsValid, IsCheckFault};
 
 use crate::checked::Checked;
 use crate::fault::CheckFault;
-use crate::rules::parts_verdict;
+use crate::rules::verdict;
 use document_parts::{Parts, condition_arguments};
 use gq_parser::Document;
 use gq_schema::Schema;
@@ -16,13 +16,13 @@ use std::alloc::Global;
 
 // Whether a document keeps every rule, and else its first fault.
 fn validate(alloc: Global, schema: &Schema, document: &Document) -> Result<(), CheckFault>
-    ensures ok { OnOk result (verdict (tree_of schema.now) (document_of document.now) ≡ None) }
-    ensures err { IfErr result (IsCheckFault (verdict (tree_of schema.now) (document_of document.now))) }
+    ensures ok { OnOk result (IsValid (tree_of schema.now) (document_of document.now)) }
+    ensures err { IfErr result (IsCheckFault (IsVerdict (tree_of schema.now) (document_of document.now))) }
 {
     let condition = condition_arguments(alloc)?;
     let parts = Parts::new(alloc, schema, &condition, document)?;
     let graph = Graph::new(alloc, &parts)?;
-    match parts_verdict(alloc, &parts, &graph)? {
+    match verdict(alloc, &parts, &graph)? {
         Some(told) => Err(told.to_fault(alloc)?),
         None => Ok(()),
     }
@@ -39,8 +39,8 @@ fn validate(alloc: Global, schema: &Schema, document: &Document) -> Result<(), C
 pub fn check(alloc: Global, schema: &Schema, document: Document) -> Result<Checked<'_>, CheckFault>
     ensures schema { IfOk result (λ checked. checked.definitions ≡ schema.now) }
     ensures document { IfOk result (λ checked. checked.document ≡ document) }
-    ensures ok { IfOk result (λ checked. verdict (tree_of schema.now) (document_of checked.document) ≡ None) }
-    ensures err { IfErr result (IsCheckFault (verdict (tree_of schema.now) (document_of document))) }
+    ensures ok { IfOk result (λ checked. IsValid (tree_of schema.now) (document_of checked.document)) }
+    ensures err { IfErr result (IsCheckFault (IsVerdict (tree_of schema.now) (document_of document))) }
 {
     validate(alloc, schema, &document)?;
     Ok(Checked::of(schema, document))
