@@ -2,3 +2,4 @@ pub mod ReachLaws
 pub mod RowLaws
 pub mod WalkLaws
 pub mod RankLaws
+pub mod LevelLaws
