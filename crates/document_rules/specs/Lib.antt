@@ -19,3 +19,4 @@ pub mod UsesDefined
 pub mod VariablesUsed
 pub mod Rows
 pub mod UseTable
+pub mod UseRows

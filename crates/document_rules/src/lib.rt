@@ -9,9 +9,11 @@ mod arguments;
 mod directives;
 mod fragments;
 mod growing;
+mod marking;
 mod names;
 mod operations;
 mod served;
+mod use_table;
 mod variables;
 
 pub use arguments::argument_uniqueness;
@@ -23,4 +25,4 @@ pub use fragments::{
 };
 pub use operations::{lone_anonymous_operation, operation_name_uniqueness};
 pub use served::{MOST_FIELDS, is_too_complex, not_served};
-pub use variables::variable_uniqueness;
+pub use variables::{all_variable_uses_defined, all_variables_used, variable_uniqueness};

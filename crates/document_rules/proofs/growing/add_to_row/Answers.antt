@@ -1,4 +1,5 @@
-use Rattle.std.proofs.Common.{◌∙◌, arith}
+use Rattle.std.proofs.Common.{◌∙◌, ◌++◌, ◌∷◌, [], ap, ℕ, Vec, arith}
+use Rattle.std.specs.declared.alloc.Global.{Global}
 use Rattle.document_rules.proofs.RowLaws.{row_at-pad, row_at-put}
 use Rattle.document_rules.proofs.growing.add_to_row.Goals as goal
 
@@ -8,4 +9,5 @@ loop-alloc-preserved c = λ i.
 
 pub returns : goal.returns
 returns c = λ i.
-    rw (← c.loop-alloc.invariant i) (row_at-put c.loop-alloc.rows.items c.args.row i c.push-2.new.self ? c.args.number (omega arith) ?)
+    let longer = c.in_ok-push-2.ensures.items ∙ ap (λ (v : Vec ℕ Global). v.items ++ c.args.number ∷ []) c.index_mut.ensures.value in
+    rw (← c.loop-alloc.invariant i) (row_at-put c.loop-alloc.rows.items c.args.row i c.push-2.new.self c.index_mut.result.now c.args.number (omega (arith, c.loop-alloc.rows.ok.0)) longer)
