@@ -150,20 +150,20 @@ fn the_first_key_is_told(rt: HostRuntime) -> Result<(), AllocError> {
 fn many_fields_of_one_key(rt: HostRuntime) -> Result<(), AllocError> {
     let alloc = rt.alloc();
     let mut fields = Vec::new(alloc);
-    let mut members = Vec::new(alloc);
+    let mut names = Vec::new(alloc);
     for i in 0..450usize {
         fields.push(field(NAME, NAME, DOG, &[]))?;
-        members.push(i)?;
+        names.push(i)?;
     }
-    let inner = first(alloc, &fields, &members)?;
-    assert!(rt; inner == Some(None));
+    assert!(rt; first(alloc, &fields, &names)? == Some(None));
+    let mut owners = Vec::new(alloc);
     for i in 450..900usize {
-        fields.push(field(OWNER, OWNER, DOG, &members[..450]))?;
-        members.push(i)?;
+        fields.push(field(OWNER, OWNER, DOG, &names))?;
+        owners.push(i)?;
     }
-    assert!(rt; first(alloc, &fields, &members)? == Some(None));
+    assert!(rt; first(alloc, &fields, &owners)? == Some(None));
     fields.push(field(OWNER, NAME, DOG, &[]))?;
-    members.push(900)?;
-    assert!(rt; first(alloc, &fields, &members)? == Some(Some(450)));
+    owners.push(900)?;
+    assert!(rt; first(alloc, &fields, &owners)? == Some(Some(450)));
     Ok(())
 }
