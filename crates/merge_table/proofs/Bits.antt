@@ -1,5 +1,5 @@
 -- Words of bits as sets of numbers.
-use Rattle.std.proofs.Common.{◌≡◌, ◌≢◌, ℕ, zero, suc, ◌+◌, ◌*◌, ◌/◌, ◌%◌, ◌^◌, ◌<◌, ◌≤◌, min, max, Bool, true, false, ◌||◌, ◌==◌, List, [], ◌∷◌, length, get_or, set, replicate, eqb, ◌⊎◌, inl, inr, refl, sym, ap, ◌∙◌, arith, w64, eq-eqb, eqb-true, get_or-set_same, get_or-set_other}
+use Rattle.std.proofs.Common.{◌≡◌, ◌≢◌, ℕ, zero, suc, ◌+◌, ◌*◌, ◌/◌, ◌%◌, ◌^◌, ◌<◌, min, max, Bool, true, false, ◌||◌, ◌==◌, List, [], length, get_or, set, replicate, eqb, ◌⊎◌, inl, inr, refl, sym, ap, ◌∙◌, arith, w64, eq-eqb, eqb-true, get_or-set_same, get_or-set_other}
 use Rattle.std.specs.Prelude.{bit_and, bit_or}
 use Rattle.std.specs.Int.{bit_at, trailing_zeros}
 use Rattle.std.proofs.lemmas.Bool.{cases_eq, cases_lt, or_right}
@@ -7,7 +7,7 @@ use Rattle.std.proofs.lemmas.Bool.Decides.{eqb_tells}
 use Rattle.std.proofs.lemmas.List.{get_or_past}
 use Rattle.std.proofs.lemmas.Nat.{and_le_l}
 use Rattle.std.proofs.lemmas.Nat.Bits.{bit_at_or, bit_at_and, bit_at-zero, bit_at-lt, shr_and_one, bit_at_set_same, bit_at_set_other, bit_at-trailing_zeros}
-use Rattle.merge_table.specs.Sets.{has, Common, Meets}
+use Rattle.merge_table.specs.Sets.{has, Common}
 
 pub has-test : (words : List ℕ) (i : ℕ) → eqb (bit_and (get_or words (i / 64) 0 / 2 ^ (i % 64)) 1) 1 ≡ has words i
 unfolding has
@@ -23,7 +23,7 @@ unfolding has
 has-none i = ap (λ w. bit_at w (i % 64) == 1) (zeros 16 (i / 64)) ∙ ap (λ b. b == 1) (bit_at-zero (i % 64))
 
 apart-test : (i j : ℕ) → i ≢ j → (i == j) ≡ false
-apart-test i j ne = elim (eqb_tells i j) [ | inl same ↦ absurd (ne (same.1)) | inr other ↦ other.0 ]
+apart-test i j ne = elim (eqb_tells i j) [ inl same ↦ absurd (ne (same.1)) | inr other ↦ other.0 ]
 
 pub or-false : (x y : Bool) → y ≡ false → x ≡ (x || y)
 or-false true y e = refl

@@ -1,10 +1,10 @@
 -- The two recursions are made and broken by one step.
-use Rattle.std.proofs.Common.{◌≡◌, ◌≢◌, ℕ, zero, suc, ◌<◌, ◌≤◌, Bool, true, false, not, ◌||◌, ◌&&◌, ◌==◌, List, [], ◌∷◌, length, arith, refl, sym, ap, ◌∙◌, ◌⊎◌, inl, inr}
-use Rattle.std.proofs.lemmas.Bool.{or_cases, or_parts, or_left, or_right, and_parts, and_cases, both_ways, not-true, not-false, not_from_false, eqb-true}
+use Rattle.std.proofs.Common.{◌≡◌, ◌≢◌, ℕ, ◌<◌, Bool, true, false, not, ◌||◌, ◌&&◌, List, refl, ◌∙◌, inl, inr}
+use Rattle.std.proofs.lemmas.Bool.{or_cases, or_parts, or_left, or_right, and_parts, and_cases, both_ways, not-true, not-false}
 use Rattle.merge_table.specs.Merging.{Fields, IsPair, joined, SameShape, same, CanMerge, merges, Merges}
 use Rattle.merge_table.specs.declared.table.Rule.{Rule}
 use Rattle.merge_table.specs.declared.table.Rule.TheVariants.{Shape, Merge}
-use Rattle.merge_table.specs.Table.{fail, Tells, TellsAll, Holds, IsReady, fails_itself, asks_members, fails_with}
+use Rattle.merge_table.specs.Table.{fail, TellsAll, Holds, IsReady, fails_itself, asks_members}
 
 -- the relations between two fields don't ask which is the first
 pub record IsSymmetric {F : Type 0} (D : Fields F) : Type 0 where
@@ -14,7 +14,7 @@ pub record IsSymmetric {F : Type 0} (D : Fields F) : Type 0 where
   pub agree : (a b : F) → D.agree a b ≡ D.agree b a
 
 or-swap : (x y : Bool) → (x || y) ≡ true → (y || x) ≡ true
-or-swap x y e = elim (or_cases x y e) [ | inl h ↦ or_right y x h | inr h ↦ or_left y x h ]
+or-swap x y e = elim (or_cases x y e) [ inl h ↦ or_right y x h | inr h ↦ or_left y x h ]
 
 module _ {F : Type 0} (D : Fields F) where
   pub pair-swap : (a b c d : F) → IsPair D (joined D a b) c d → IsPair D (joined D b a) c d
@@ -68,7 +68,7 @@ module _ (D : Fields ℕ) (symmetric : IsSymmetric D) (n : ℕ) where
         let parts : (fail shapes a b ≡ false) × ((D.meet a b && not (D.agree a b)) ≡ false) = or_parts (fail shapes a b) (D.meet a b && not (D.agree a b)) e in
         record {
           shape = (told a b ha hb).keeps (parts.0) ne k;
-          agree = λ m. elim (and_cases (D.meet a b) (not (D.agree a b)) (parts.1)) [ | inl h ↦ absurd (both_ways (D.meet a b) h m) | inr h ↦ not-false (D.agree a b) h ];
+          agree = λ m. elim (and_cases (D.meet a b) (not (D.agree a b)) (parts.1)) [ inl h ↦ absurd (both_ways (D.meet a b) h m) | inr h ↦ not-false (D.agree a b) h ];
           deeper = λ m. can-from D (joined D a b) (within m);
         }
 

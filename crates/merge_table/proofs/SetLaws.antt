@@ -1,9 +1,9 @@
 -- A set of fields: whether it can be merged, and its first key that fails.
-use Rattle.std.proofs.Common.{◌≡◌, ◌≢◌, ℕ, zero, suc, ◌<◌, ◌≤◌, ◌+◌, Bool, true, false, ◌||◌, ◌&&◌, ◌==◌, List, [], ◌∷◌, length, get_or, drop, Option, Some, None, cond, arith, refl, sym, ap, ◌∙◌, ◌⊎◌, inl, inr}
+use Rattle.std.proofs.Common.{◌≡◌, ℕ, zero, suc, ◌<◌, ◌≤◌, ◌+◌, Bool, true, false, ◌||◌, ◌&&◌, ◌==◌, List, [], ◌∷◌, length, get_or, drop, Some, cond, arith, refl, sym, ◌∙◌, ◌⊎◌, inl, inr}
 use Rattle.std.proofs.lemmas.List.{drop_more}
-use Rattle.std.proofs.lemmas.Bool.{or_cases, or_parts, or_left, or_right, and_parts, and_from, both_ways, cases_Bool, eqb-true, eq-eqb}
+use Rattle.std.proofs.lemmas.Bool.{or_cases, or_left, or_right, and_parts, and_from, both_ways, cases_Bool, eqb-true, eq-eqb}
 use Rattle.merge_table.specs.Sets.{has}
-use Rattle.merge_table.specs.Merging.{Fields, IsPair, CanMerge, Merges, Breaks, KeyMerges, IsFirst, breaks, later, SaysOf}
+use Rattle.merge_table.specs.Merging.{Fields, CanMerge, Merges, Breaks, KeyMerges, IsFirst, breaks, later, SaysOf}
 use Rattle.merge_table.specs.Numbered.{AreBelow, is_in}
 use Rattle.merge_table.specs.Table.{fail, Tells, TellsAll, AreMarks, FailsWith, has_marked, first_marked}
 use Rattle.merge_table.proofs.MergeLaws.{can-from, can-gives}

@@ -6,7 +6,7 @@ use Rattle.merge_table.specs.Sets.{has, Common, Meets}
 use Rattle.merge_table.specs.Merging.{Fields, IsPair, joined}
 use Rattle.merge_table.specs.Numbered.{at, test_at, have_one_key, are_alike, may_meet, do_agree, fields_of, members_at}
 use Rattle.merge_table.specs.declared.field.Field.{Field}
-use Rattle.merge_table.specs.Table.{row, entry, fail, IsBelow, Tells, TellsAll, Found, Tests, FailsWith, AreMarks, TestsJoined, TestsPair, KnowsInner, Holds, fails_itself, asks_members, fails_with}
+use Rattle.merge_table.specs.Table.{row, entry, fail, IsBelow, Tells, TellsAll, Found, FailsWith, AreMarks, TestsJoined, TestsPair, KnowsInner, Holds, fails_itself, asks_members, fails_with}
 use Rattle.merge_table.specs.declared.table.Rule.{Rule}
 use Rattle.merge_table.proofs.MergeLaws.{Laws, IsSymmetric}
 use Rattle.merge_table.proofs.Bits.{has-empty, or-false}
@@ -64,7 +64,7 @@ below-push rows new n len below last b a e =
 fail-pushed : (rows : List (List ℕ)) (new : List ℕ) (n a : ℕ) → length rows ≡ n → IsBelow rows → a < n → fail (rows ++ new ∷ []) a n ≡ has new a
 fail-pushed rows new n a len below lt =
     let old : entry (rows ++ new ∷ []) a n ≡ false =
-    entry-push rows new a n (omega arith) ∙ elim (cases_Bool (entry rows a n)) [ | inl e ↦ absurd (let h = below a n e in omega arith) | inr e ↦ e ] in
+    entry-push rows new a n (omega arith) ∙ elim (cases_Bool (entry rows a n)) [ inl e ↦ absurd (let h = below a n e in omega arith) | inr e ↦ e ] in
     rw (old, entry-pushed rows new n a len) refl
 
 -- ---- the step
@@ -82,7 +82,7 @@ fail-comm : (rows : List (List ℕ)) (c d : ℕ) → fail rows c d ≡ fail rows
 fail-comm rows c d =
     elim (cases_Bool (fail rows c d)) [
       | inl e ↦ e ∙ sym (fail-swap rows c d e)
-      | inr e ↦ elim (cases_Bool (fail rows d c)) [ | inl h ↦ absurd (both_ways (fail rows c d) e (fail-swap rows d c h)) | inr h ↦ e ∙ sym h ]
+      | inr e ↦ elim (cases_Bool (fail rows d c)) [ inl h ↦ absurd (both_ways (fail rows c d) e (fail-swap rows d c h)) | inr h ↦ e ∙ sym h ]
     ]
 
 module _ (rule : Rule) (D : Fields ℕ) (n : ℕ) (shapes rows : List (List ℕ)) (b : ℕ) (members-b marks inner : List ℕ)
@@ -130,11 +130,11 @@ module _ (rule : Rule) (D : Fields ℕ) (n : ℕ) (shapes rows : List (List ℕ)
     module _ (laws : Laws (Holds rule D) D n (fails_itself rule D shapes) (asks_members rule D)) (ha : a < n) (hb : b < n)
         (below-a : (c : ℕ) → D.enters a c ≡ true → c < b) (below-b : (c : ℕ) → D.enters b c ≡ true → c < b) (told : TellsAll (Holds rule D) D b rows) where
       inside : (c : ℕ) → joined D a b c ≡ true → c < b
-      inside c h = elim (or_cases (D.enters a c) (D.enters b c) h) [ | inl p ↦ below-a c p | inr p ↦ below-b c p ]
+      inside c h = elim (or_cases (D.enters a c) (D.enters b c) h) [ inl p ↦ below-a c p | inr p ↦ below-b c p ]
 
       module _ (t : Bool) (test : TestsPair rule D shapes marks inner members-a a b t) where
         one-key : t ≡ true → D.one_key a b ≡ true
-        one-key e = elim (cases_Bool (D.one_key a b)) [ | inl h ↦ h | inr h ↦ absurd (both_ways t (test.other_key h) e) ]
+        one-key e = elim (cases_Bool (D.one_key a b)) [ inl h ↦ h | inr h ↦ absurd (both_ways t (test.other_key h) e) ]
 
         breaks : t ≡ true → Holds rule D a b → ⊥
         breaks e p = go (test.one_key (one-key e))
@@ -162,7 +162,7 @@ module _ (rule : Rule) (D : Fields ℕ) (n : ℕ) (shapes rows : List (List ℕ)
                   | inl idle ↦ absurd (both_ways (asks_members rule D a b) idle asked)
                   | inr unmet ↦
                       let s : Tells (Holds rule D) D c d (fail rows c d) = told c d (inside c p.first) (inside d p.second) in
-                      s.keeps (elim (cases_Bool (fail rows c d)) [ | inl f ↦ absurd (joined-none j joins unmet c d p.first p.second f) | inr f ↦ f ]) p.apart p.one_key
+                      s.keeps (elim (cases_Bool (fail rows c d)) [ inl f ↦ absurd (joined-none j joins unmet c d p.first p.second f) | inr f ↦ f ]) p.apart p.one_key
                 ]
 
             go : ((j : Bool) × TestsJoined marks inner members-a a b j × (t ≡ fails_with rule D shapes j a b)) → Holds rule D a b
@@ -307,7 +307,7 @@ pub row-same : (P : ℕ → Bool → Type 0) (old : List ℕ) (a : ℕ) → ((k 
 row-same P old a below each here = (λ k e. let b = below k e in omega arith, all)
   where
     absent : has old a ≡ false
-    absent = elim (cases_Bool (has old a)) [ | inl h ↦ absurd (let b = below a h in omega arith) | inr h ↦ h ]
+    absent = elim (cases_Bool (has old a)) [ inl h ↦ absurd (let b = below a h in omega arith) | inr h ↦ h ]
 
     all : (k : ℕ) → k < a + 1 → P k (has old k)
     all k lt =

@@ -1,5 +1,5 @@
 -- *Field selection merging* (section 5.3.2): the standard's two recursions.
-use Rattle.std.specs.Prelude.{◌≡◌, ◌≢◌, Bool, true, ◌||◌, List, [], ◌∷◌, Option, Some, None}
+use Rattle.std.specs.Prelude.{◌≡◌, ◌≢◌, Bool, true, ◌||◌, List, ◌∷◌, Option, Some, None}
 
 -- What the rule asks of the fields of a document, where F stands for a field.
 pub record Fields (F : Type 0) : Type 0 where

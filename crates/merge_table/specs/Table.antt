@@ -1,5 +1,5 @@
 -- A table of pairs of numbered fields: row b has each a below b that fails with it.
-use Rattle.std.specs.Prelude.{◌≡◌, ◌≢◌, ◌⊎◌, ℕ, ◌<◌, Bool, true, false, ◌||◌, ◌&&◌, not, ◌==◌, List, [], ◌∷◌, length, slice_index_or, Option, Some, None, if◌then◌else◌}
+use Rattle.std.specs.Prelude.{◌≡◌, ◌≢◌, ◌⊎◌, ℕ, ◌<◌, Bool, true, false, ◌||◌, ◌&&◌, not, List, [], ◌∷◌, length, slice_index_or, Option, Some, None, if◌then◌else◌}
 use Rattle.merge_table.specs.declared.table.Rule.{Rule}
 use Rattle.merge_table.specs.declared.table.Rule.TheVariants.{Shape, Merge}
 use Rattle.merge_table.specs.Sets.{has, Common}

@@ -133,14 +133,7 @@ fn pair_fails(
 }
 
 /// The earlier fields that fail with field `b`.
-fn next_row(
-    rule: Rule,
-    fields: &[Field],
-    shapes: &[Row],
-    marks: &Row,
-    inner: &Row,
-    b: usize,
-) -> Row
+fn next_row(rule: Rule, fields: &[Field], shapes: &[Row], marks: &Row, inner: &Row, b: usize) -> Row
     requires b { b < length fields.now }
     requires most { length fields.now ≤ 1024 }
     requires ready { IsReady rule (fields_of fields.now) (length fields.now) shapes.now }

@@ -7,16 +7,21 @@ use std::alloc::{AllocError, Global};
 
 // the parent types
 const DOG: u32 = 0;
+
 const CAT: u32 = 1;
+
 const PET: u32 = 2;
 
 // the response keys and names
 const NAME: u32 = 0;
+
 const NICKNAME: u32 = 1;
+
 const OWNER: u32 = 2;
 
 // the return types
 const STRING: u32 = 0;
+
 const INT: u32 = 1;
 
 /// A field without arguments, with the selection set of these members.
@@ -72,7 +77,10 @@ fn one_key_wants_one_name(rt: HostRuntime) -> Result<(), AllocError> {
     assert!(rt; first(alloc, &other, &[0, 1])? == Some(Some(0)));
     assert!(rt; first(alloc, &other, &[0])? == Some(None));
     // other keys
-    let apart = [field(NAME, NAME, DOG, &[]), field(NICKNAME, NICKNAME, DOG, &[])];
+    let apart = [
+        field(NAME, NAME, DOG, &[]),
+        field(NICKNAME, NICKNAME, DOG, &[]),
+    ];
     assert!(rt; first(alloc, &apart, &[0, 1])? == Some(None));
     Ok(())
 }

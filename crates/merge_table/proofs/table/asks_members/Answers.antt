@@ -1,6 +1,5 @@
-use Rattle.std.proofs.Common.{◌∙◌, sym, refl}
-use Rattle.merge_table.specs.Numbered.{may_meet, fields_of}
-use Rattle.merge_table.specs.Table.{asks_members}
+use Rattle.std.proofs.Common.{◌∙◌, sym}
+use Rattle.merge_table.specs.Numbered.{may_meet}
 use Rattle.merge_table.proofs.TableLaws.{test_at-get}
 use Rattle.merge_table.proofs.table.asks_members.Goals as goal
 

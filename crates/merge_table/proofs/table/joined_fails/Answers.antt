@@ -1,7 +1,6 @@
 use Rattle.std.proofs.Common.{◌≡◌, ◌∙◌, [], ap, inr, false, sym}
 use Rattle.std.proofs.lemmas.Bool.{both_ways}
 use Rattle.merge_table.specs.Sets.{has}
-use Rattle.merge_table.specs.Numbered.{members_at}
 use Rattle.merge_table.specs.declared.field.Field.{Field}
 use Rattle.merge_table.proofs.TableLaws.{at-get}
 use Rattle.merge_table.proofs.table.joined_fails.Goals as goal

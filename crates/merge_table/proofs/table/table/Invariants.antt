@@ -1,5 +1,4 @@
-use Rattle.std.proofs.Common.{◌≡◌, ◌<◌, ℕ, true, length}
-use Rattle.merge_table.specs.Sets.{has}
+use Rattle.std.proofs.Common.{◌≡◌, length}
 use Rattle.merge_table.specs.Numbered.{fields_of}
 use Rattle.merge_table.specs.Table.{IsBelow, TellsAll, Holds, KnowsInner}
 use Rattle.merge_table.proofs.table.table.Given as goal

@@ -1,5 +1,4 @@
-use Rattle.std.proofs.Common.{◌≡◌, ◌||◌, ◌∙◌, refl, arith}
-use Rattle.merge_table.specs.Sets.{has}
+use Rattle.std.proofs.Common.{◌∙◌, refl, arith}
 use Rattle.merge_table.proofs.Bits.{has-or, each-word}
 use Rattle.merge_table.proofs.row.Row.add_all.Goals as goal
 

@@ -1,4 +1,4 @@
-use Rattle.std.proofs.Common.{◌≡◌, ◌<◌, ℕ, inl, inr, true, arith}
+use Rattle.std.proofs.Common.{◌≡◌, inl, inr, true, arith}
 use Rattle.std.proofs.lemmas.Bool.{cases_lt, both_ways}
 use Rattle.merge_table.specs.Sets.{has}
 use Rattle.merge_table.proofs.Bits.{has-within}

@@ -1,5 +1,4 @@
 use Rattle.std.proofs.Common.{arith, rules}
-use Rattle.merge_table.specs.Sets.{Meets}
 use Rattle.merge_table.proofs.Bits.{met-at, none-met}
 use Rattle.merge_table.proofs.row.Row.meets.Goals as goal
 
