@@ -3,7 +3,7 @@ use Rattle.std.proofs.Common.{◌≡◌, ◌∙◌, sym, ap, ℕ, zero, suc, ◌
 use Rattle.std.specs.Prelude.{nat_lt, ◌==◌, ◌&&◌}
 use Rattle.std.specs.Global.{Vec}
 use Rattle.std.proofs.lemmas.Bool.{and_from}
-use Rattle.spread_graph.specs.Reach.{are_known}
+use Rattle.spread_graph.specs.Reach.{are_below, are_known}
 use Rattle.std.specs.List.{filter_map, cons_option, list_all}
 use Rattle.std.proofs.lemmas.List.{append-nil, map-append}
 use Rattle.std.proofs.lemmas.List.Elements.{filter_map-append}
@@ -97,9 +97,6 @@ rows-made count number xs many = ap (λ rows. fold (with_spread count number) ro
 
 -- ---- rows of fragments that there are
 
-below : ℕ → List ℕ → Bool
-below count js = list_all (λ j. nat_lt j count) js
-
 pub length-rows_from : (count : ℕ) (number : Owner → Option ℕ) (xs : List SpreadPart) (i many : ℕ) → length (rows_from count number xs i many) ≡ many
 length-rows_from count number xs i zero = refl
 length-rows_from count number xs i (suc many) = ap suc (length-rows_from count number xs (i + 1) many)
@@ -113,11 +110,11 @@ known count true (Some j) js h = go (nat_lt j count) refl
     go true e = rw e h
     go false e = h
 
-pub targets-known : (count : ℕ) (number : Owner → Option ℕ) (xs : List SpreadPart) (i : ℕ) → list_all (λ j. nat_lt j count) (targets_of count number xs i) ≡ true
+pub targets-known : (count : ℕ) (number : Owner → Option ℕ) (xs : List SpreadPart) (i : ℕ) → are_below count (targets_of count number xs i) ≡ true
 targets-known count number [] i = refl
 targets-known count number (x ∷ xs) i = known count (is_number i (number x.owner)) x.target (targets_of count number xs i) (targets-known count number xs i)
 
-pub rows-known : (count : ℕ) (number : Owner → Option ℕ) (xs : List SpreadPart) (i many : ℕ) → list_all (λ js. list_all (λ j. nat_lt j count) js) (rows_from count number xs i many) ≡ true
+pub rows-known : (count : ℕ) (number : Owner → Option ℕ) (xs : List SpreadPart) (i many : ℕ) → list_all (are_below count) (rows_from count number xs i many) ≡ true
 rows-known count number xs i zero = refl
 rows-known count number xs i (suc many) = rw (targets-known count number xs i) (rows-known count number xs (i + 1) many)
 

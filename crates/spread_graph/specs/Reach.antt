@@ -26,11 +26,12 @@ reaches g o j = reaches_through (length g.fragments) g o j
 abbrev pub is_cyclic : GraphOf → ℕ → Bool
 is_cyclic g j = reaches g (owner.Fragment j) j
 
+abbrev pub are_below : ℕ → List ℕ → Bool
+are_below n js = list_all (λ j. nat_lt j n) js
+
 -- each row names fragments that there are
 abbrev pub are_known : GraphOf → Bool
-are_known g =
-    let is_known : List ℕ → Bool = λ js. list_all (λ j. nat_lt j (length g.fragments)) js in
-    list_all is_known g.operations && list_all is_known g.fragments
+are_known g = list_all (are_below (length g.fragments)) g.operations && list_all (are_below (length g.fragments)) g.fragments
 
 -- the same, step by step
 pub data Reaches (g : GraphOf) (o : Owner) : ℕ → Type 0 where

@@ -1,8 +1,9 @@
 //! What operations and fragments spread.
 
-ghost use Rattle.std.specs.Prelude.{◌≡◌, [], OnOk, IfOk, length, map, replicate};
+ghost use Rattle.std.specs.Prelude.{◌≡◌, true, [], OnOk, IfOk, length, map, replicate};
 ghost use Rattle.document_parts.specs.Parts.{spread_part_of, parts_in};
 ghost use Rattle.spread_graph.specs.Graphs.{operation_number, fragment_number, with_target, with_spread, graph_of, row};
+ghost use Rattle.spread_graph.specs.Reach.{are_known};
 ghost use Rattle.spread_graph.specs.Rows.{rows_in};
 
 use document_parts::{Owner, Parts, SpreadPart};
@@ -106,7 +107,8 @@ impl Graph {
 
     /// What an operation or a fragment spreads, in the order of the text.
     pub fn row(&self, owner: Owner) -> &[usize]
-        ensures { result.now ≡ row self.now owner }
+        ensures row { result.now ≡ row self.now owner }
+        ensures known { are_known self.now ≡ true }
     {
         let row = match owner {
             Owner::Operation(number) => self.operations.get(number),
