@@ -3,3 +3,4 @@ pub mod Prepared
 pub mod Texts
 pub mod Verdict
 pub mod Told
+pub mod Planned

@@ -10,7 +10,6 @@ mod checked;
 mod fault;
 mod fragments;
 mod operation;
-mod pending;
 mod places;
 mod plan;
 mod preparation;

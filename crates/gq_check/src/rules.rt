@@ -4,20 +4,20 @@ ghost use Rattle.std.specs.Prelude.{◌≡◌, ◌≤◌, None, IfOk, length, op
 ghost use Rattle.document_parts.specs.Broken.{broken_of, earliest};
 ghost use Rattle.document_parts.specs.Parts.{parts_in};
 ghost use Rattle.spread_graph.specs.Graphs.{graph_of};
-ghost use Rattle.spread_graph.specs.Rules.{fragment_cycles, too_deep};
+ghost use Rattle.spread_graph.specs.Rules.{fragment_cycles};
 ghost use Rattle.field_merging.specs.Rule.{IsMerging};
 ghost use Rattle.gq_check.specs.Told.{told_of};
 ghost use Rattle.gq_check.specs.Verdict.{served_fault, operations_fault, fields_fault, arguments_fault, fragments_fault, spreads_fault, values_fault, directives_fault, variables_fault, rules_fault, limits_fault, first_fault, breaks, IsVerdictOf};
 
 use crate::fault::Rule;
-use crate::pending::{all_variable_uses_defined, all_variables_used};
 use crate::told::Told;
 use document_parts::{Broken, Parts};
 use document_rules::{
-    argument_uniqueness, directives_are_defined, directives_are_in_valid_locations,
-    directives_are_unique_per_location, fragment_name_uniqueness, fragment_spread_target_defined,
-    fragments_must_be_used, is_too_complex, lone_anonymous_operation, not_served,
-    operation_name_uniqueness, variable_uniqueness,
+    all_variable_uses_defined, all_variables_used, argument_uniqueness, directives_are_defined,
+    directives_are_in_valid_locations, directives_are_unique_per_location,
+    fragment_name_uniqueness, fragment_spread_target_defined, fragments_must_be_used,
+    is_too_complex, lone_anonymous_operation, not_served, operation_name_uniqueness,
+    variable_uniqueness,
 };
 use field_merging::field_merging;
 use spread_graph::{Graph, fragment_cycles, too_deep};
@@ -185,30 +185,16 @@ fn rules_fault<'d>(
     Ok(variables_fault(alloc, parts, graph)?)
 }
 
-// The earliest operation with too many levels.
-fn deep_operation<'d>(
-    alloc: Global,
-    parts: &Parts<'d>,
-    graph: &Graph,
-) -> Result<Option<Broken<'d>>, AllocError>
-    requires graph { graph.now ≡ graph_of (parts_in parts.now) }
-    requires acyclic { earliest (fragment_cycles (parts_in parts.now)) ≡ None }
-    ensures { IfOk result (λ broken. option_map broken_of broken ≡ earliest (too_deep (parts_in parts.now))) }
-{
-    too_deep(alloc, parts, graph)
-}
-
 // Too many levels, and too many fields.
 fn limits_fault<'d>(
     alloc: Global,
     parts: &Parts<'d>,
     graph: &Graph,
 ) -> Result<Option<Told<'d>>, AllocError>
-    requires graph { graph.now ≡ graph_of (parts_in parts.now) }
-    requires acyclic { earliest (fragment_cycles (parts_in parts.now)) ≡ None }
+    requires { graph.now ≡ graph_of (parts_in parts.now) }
     ensures { IfOk result (λ fault. option_map told_of fault ≡ limits_fault (parts_in parts.now)) }
 {
-    if let Some(broken) = deep_operation(alloc, parts, graph)? {
+    if let Some(broken) = too_deep(alloc, parts, graph)? {
         return Ok(Some(Told::TooDeep(broken.place)));
     }
     if is_too_complex(parts) {

@@ -13,7 +13,7 @@ use Rattle.gq_check.specs.declared.fault.CheckFault.{CheckFault}
 use Rattle.gq_check.specs.declared.fault.PrepareFault.{PrepareFault}
 use Rattle.gq_check.specs.Plans.{PlanOf}
 use Rattle.gq_check.specs.Prepared.{prepared, IsPrepareFault}
-use Rattle.gq_check.specs.Verdict.{verdict, IsCheckFault}
+use Rattle.gq_check.specs.Verdict.{IsVerdict, IsValid, IsCheckFault}
 use Rattle.gq_check.specs.Texts.{check_message, check_place, prepare_message}
 use Rattle.world.specs.declared.request.RequestFault.{RequestFault}
 use Rattle.world.specs.declared.request.RequestFault.TheVariants as fault
@@ -23,7 +23,7 @@ use Rattle.world.specs.declared.request.RequestFault.TheVariants as fault
 pub record IsPlanOf (defs : List Definition) (query : List ℕ) (name : Option (List ℕ)) (given : Data) (p : PlanOf) : Type 0 where
   pub document : Document
   pub says : IsDocumentOf query document
-  pub valid : verdict defs document ≡ None
+  pub valid : IsValid defs document
   pub fragments : p.fragments ≡ document.fragments
   pub prepared : prepared defs document.operations name given ≡ Ok (record { operation = p.operation; variables = p.variables })
 
@@ -31,13 +31,13 @@ pub record IsPlanOf (defs : List Definition) (query : List ℕ) (name : Option (
 pub record IsInvalid (defs : List Definition) (query : List ℕ) (e : CheckFault) : Type 0 where
   pub document : Document
   pub says : IsDocumentOf query document
-  pub fault : IsCheckFault (verdict defs document) e
+  pub fault : IsCheckFault (IsVerdict defs document) e
 
 -- The query is a document that is valid, and its operation can't be prepared, for this.
 pub record IsUnprepared (defs : List Definition) (query : List ℕ) (name : Option (List ℕ)) (given : Data) (e : PrepareFault) : Type 0 where
   pub document : Document
   pub says : IsDocumentOf query document
-  pub valid : verdict defs document ≡ None
+  pub valid : IsValid defs document
   pub fault : IsPrepareFault (prepared defs document.operations name given) e
 
 -- why a request has no plan; of memory this says nothing more
