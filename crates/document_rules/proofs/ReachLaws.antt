@@ -12,9 +12,10 @@ use Rattle.gq_parser.specs.Tree.{Operation, VariableDefinition}
 use Rattle.document_parts.specs.declared.part.Owner.{Owner}
 use Rattle.document_parts.specs.declared.part.Owner.TheVariants as owner
 use Rattle.document_parts.specs.Parts.{VariableUse}
-use Rattle.spread_graph.specs.Graphs.{GraphOf, is_same_owner, row, row_at}
+use Rattle.spread_graph.specs.Graphs.{GraphOf}
 use Rattle.spread_graph.specs.Reach.{is_among, reaches}
 use Rattle.document_rules.specs.declared.use_table.UseTable as rust
+use Rattle.document_rules.specs.Rows.{RowsOf, is_same_owner, row, row_at}
 use Rattle.document_rules.specs.VariableReach.{is_within, is_variable, defines}
 use Rattle.document_rules.specs.UsesDefined.{lacks}
 use Rattle.document_rules.specs.UseTable.{is_use, number_in, numbers_by, is_number, is_numbered, is_marked, AreFresh}
@@ -117,7 +118,7 @@ or-none : (b : Bool) → (b || false) ≡ b
 or-none true = refl
 or-none false = refl
 
-within_by : (g rows : GraphOf) (i s : ℕ) (reached : List ℕ) (o : Owner) → ((j : ℕ) → is_among j reached ≡ reaches g (owner.Operation i) j)
+within_by : (g : GraphOf) (rows : RowsOf) (i s : ℕ) (reached : List ℕ) (o : Owner) → ((j : ℕ) → is_among j reached ≡ reaches g (owner.Operation i) j)
     → ((q : Owner) → is_among s (row rows q) ≡ is_same_owner q o)
     → (is_among s (row_at rows.operations i) || is_among_rows rows.fragments s reached) ≡ is_within g i o
 within_by g rows i s reached (owner.Operation k) walked alone =

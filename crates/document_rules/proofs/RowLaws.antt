@@ -2,8 +2,7 @@
 use Rattle.std.proofs.Common.{◌≡◌, ◌<◌, ◌≤◌, ap, refl, zero, suc, ℕ, Bool, true, false, cond, eqb, List, [], ◌∷◌, ◌++◌, length, get_or, set, Vec, arith}
 use Rattle.std.proofs.Math.Dec.{eqb-suc-zero, eqb-zero-suc, eqb-suc-suc}
 use Rattle.std.specs.declared.alloc.Global.{Global}
-use Rattle.spread_graph.specs.Graphs.{row_at}
-use Rattle.document_rules.specs.Rows.{rows_of}
+use Rattle.document_rules.specs.Rows.{rows_of, row_at}
 
 -- an empty row behind the others
 pub row_at-pad : (rows : List (Vec ℕ Global)) (empty : Vec ℕ Global) (i : ℕ) → empty.items ≡ [] → row_at (rows_of (rows ++ empty ∷ [])) i ≡ row_at (rows_of rows) i

@@ -7,9 +7,10 @@ use Rattle.std.proofs.lemmas.List.Folds.{list_any_at}
 use Rattle.document_parts.specs.declared.part.Owner.{Owner}
 use Rattle.document_parts.specs.declared.part.Owner.TheVariants as owner
 use Rattle.document_parts.specs.Parts.{VariableUse}
-use Rattle.spread_graph.specs.Graphs.{GraphOf, row, row_at}
+use Rattle.spread_graph.specs.Graphs.{GraphOf}
 use Rattle.spread_graph.specs.Reach.{is_among, reaches}
 use Rattle.document_rules.specs.declared.use_table.UseTable as rust
+use Rattle.document_rules.specs.Rows.{row, row_at}
 use Rattle.document_rules.specs.VariableReach.{is_within}
 use Rattle.document_rules.specs.VariablesUsed.{uses_there}
 use Rattle.document_rules.specs.UseTable.{number_in, is_number, is_marked, is_marked_if, AreFresh}

@@ -7,12 +7,11 @@ use Rattle.gq_lexer.specs.declared.place.Place.{Place}
 use Rattle.document_parts.specs.declared.part.Owner.{Owner}
 use Rattle.document_parts.specs.declared.part.Owner.TheVariants as owner
 use Rattle.document_parts.specs.Parts.{VariableUse}
-use Rattle.spread_graph.specs.Graphs.{GraphOf, row, row_at}
 use Rattle.spread_graph.specs.Reach.{is_among}
 use Rattle.document_rules.specs.declared.use_table.UseRows as rust-rows
 use Rattle.document_rules.specs.declared.use_table.UseTable as rust-table
 use Rattle.document_rules.specs.declared.use_table.Last as rust-last
-use Rattle.document_rules.specs.Rows.{rows_of}
+use Rattle.document_rules.specs.Rows.{rows_of, row_at, RowsOf, row}
 use Rattle.document_rules.specs.UseTable.{number_in, numbers_by}
 
 -- what is read behind the last use
@@ -22,11 +21,11 @@ no_use = record { owner = owner.Operation 0; place = record { line = 1; column =
 abbrev pub use_at : List VariableUse → ℕ → VariableUse
 use_at uses k = slice_index_or uses k no_use
 
-abbrev pub rows_in : rust-rows.UseRows → GraphOf
+abbrev pub rows_in : rust-rows.UseRows → RowsOf
 rows_in r = record { operations = rows_of r.operations.items; fragments = rows_of r.fragments.items }
 
 -- the use k stands in this owner's row
-abbrev pub IsIn : GraphOf → Owner → ℕ → Type 0
+abbrev pub IsIn : RowsOf → Owner → ℕ → Type 0
 IsIn rows o k = is_among k (row rows o) ≡ true
 
 -- the use k has this owner, and its name this number
@@ -35,12 +34,12 @@ pub record Stands (uses : List VariableUse) (numbers : List ℕ) (o : Owner) (nu
   pub numbered : slice_index numbers k ≡ number
 
 -- the rows have uses before k alone, each in its own owner's row, and the last ones of names are among them
-pub record IsUpTo (uses : List VariableUse) (numbers : List ℕ) (rows : GraphOf) (last : List (Option rust-last.Last)) (k : ℕ) : Type 0 where
+pub record IsUpTo (uses : List VariableUse) (numbers : List ℕ) (rows : RowsOf) (last : List (Option rust-last.Last)) (k : ℕ) : Type 0 where
   pub sound : (s : ℕ) (o : Owner) → IsIn rows o s → (s < k) × ((use_at uses s).owner ≡ o)
   pub lasts : (n : ℕ) → MatchOption (slice_index_or last n None) (Unit {0}) (λ (l : rust-last.Last). IsIn rows l.owner l.place × (slice_index numbers l.place ≡ n))
 
 -- the same one use further, for which s stands
-pub record IsNext (uses : List VariableUse) (numbers : List ℕ) (old new : GraphOf) (lasts : List (Option rust-last.Last)) (o : Owner) (number k s : ℕ) : Type 0 where
+pub record IsNext (uses : List VariableUse) (numbers : List ℕ) (old new : RowsOf) (lasts : List (Option rust-last.Last)) (o : Owner) (number k s : ℕ) : Type 0 where
   pub further : IsUpTo uses numbers new lasts (k + 1)
   pub stands : IsIn new o s
   pub numbered : slice_index numbers s ≡ number

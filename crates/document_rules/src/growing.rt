@@ -1,8 +1,7 @@
 //! Lists that grow to the places that are written.
 
 ghost use Rattle.std.specs.Prelude.{◌≡◌, ◌==◌, ◌++◌, ◌∷◌, [], ℕ, OnOk, slice_index_or, if◌then◌else◌};
-ghost use Rattle.spread_graph.specs.Graphs.{row_at};
-ghost use Rattle.document_rules.specs.Rows.{rows_of};
+ghost use Rattle.document_rules.specs.Rows.{rows_of, row_at};
 
 use std::alloc::{AllocError, Global};
 

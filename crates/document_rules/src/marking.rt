@@ -5,9 +5,8 @@ ghost use Rattle.std.specs.Prelude.{◌≡◌, ◌==◌, ◌||◌, ◌&&◌, not
 ghost use Rattle.std.specs.List.{list_any};
 ghost use Rattle.std.specs.HashMap.{get_by};
 ghost use Rattle.gq_parser.specs.Tree.{operation_of};
-ghost use Rattle.spread_graph.specs.Graphs.{row_at};
 ghost use Rattle.spread_graph.specs.Reach.{is_among};
-ghost use Rattle.document_rules.specs.Rows.{rows_of};
+ghost use Rattle.document_rules.specs.Rows.{rows_of, row_at};
 ghost use Rattle.document_rules.specs.UseTable.{is_numbered, is_marked, is_marked_if};
 ghost use Rattle.document_rules.specs.UseRows.{is_among_rows, is_number_among, is_number_reached};
 

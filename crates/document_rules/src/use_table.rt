@@ -3,8 +3,8 @@
 ghost use Rattle.std.specs.Prelude.{◌≡◌, ◌+◌, ◌++◌, ◌∷◌, [], ℕ, List, Some, None, IfOk, OnOk, bytes_eq, map, slice_index, if◌then◌else◌};
 ghost use Rattle.std.specs.HashMap.{get_by};
 ghost use Rattle.gq_schema.specs.Scan.{or_else};
-ghost use Rattle.spread_graph.specs.Graphs.{is_same_owner, row};
 ghost use Rattle.document_parts.specs.Parts.{VariableUse as Use, use_of};
+ghost use Rattle.document_rules.specs.Rows.{is_same_owner, row};
 ghost use Rattle.document_rules.specs.UseTable.{number_in, numbers_by};
 ghost use Rattle.document_rules.specs.UseRows.{rows_in, IsUpTo, IsNext, Stands, IsUseTable};
 

@@ -1,6 +1,5 @@
 use Rattle.std.proofs.Common.{◌≡◌, ◌+◌, ◌-◌, ℕ, vec_len}
-use Rattle.spread_graph.specs.Graphs.{row_at}
-use Rattle.document_rules.specs.Rows.{rows_of}
+use Rattle.document_rules.specs.Rows.{rows_of, row_at}
 use Rattle.document_rules.proofs.growing.add_to_row.Given as goal
 
 abbrev pub invariant-loop-alloc : goal.invariant-loop-alloc

@@ -6,9 +6,9 @@ use Rattle.std.proofs.lemmas.List.Elements.{filter_agree}
 use Rattle.gq_parser.specs.Tree.{VariableDefinition, operation_of}
 use Rattle.document_parts.specs.Broken.{BrokenOf}
 use Rattle.document_parts.specs.Parts.{use_of}
-use Rattle.spread_graph.specs.Graphs.{row_at}
 use Rattle.spread_graph.specs.Reach.{is_among}
 use Rattle.document_rules.specs.Named.{named_variable}
+use Rattle.document_rules.specs.Rows.{row_at}
 use Rattle.document_rules.specs.Scans.{with_all}
 use Rattle.document_rules.specs.VariablesUsed.{is_unused, unused_variables}
 use Rattle.document_rules.specs.UseTable.{is_marked_if}
