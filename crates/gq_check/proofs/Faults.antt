@@ -1,6 +1,6 @@
 -- First faults.
-use Rattle.std.proofs.Common.{◌≡◌, ◌∙◌, sym, subst, Option, Some, None}
-use Rattle.std.specs.Prelude.{option_map}
+use Rattle.std.proofs.Common.{◌≡◌, ◌∙◌, ◌≤◌, sym, subst, refl, ℕ, Bool, true, false, cond, Option, Some, None, arith}
+use Rattle.std.specs.Prelude.{option_map, nat_lt}
 use Rattle.document_parts.specs.Broken.{BrokenOf}
 use Rattle.document_parts.specs.Parts.{PartsOf}
 use Rattle.field_merging.specs.Rule.{IsMerging}
@@ -8,7 +8,7 @@ use Rattle.gq_schema.specs.Scan.{or_else}
 use Rattle.gq_check.specs.declared.fault.CheckFault.{CheckFault}
 use Rattle.gq_check.specs.declared.fault.CheckFault.TheVariants as check
 use Rattle.gq_check.specs.declared.fault.Rule.TheVariants as rule
-use Rattle.gq_check.specs.Verdict.{FaultOf, breaks, first_fault, IsToldAfter, IsVerdictOf, fault_of, IsCheckFault}
+use Rattle.gq_check.specs.Verdict.{FaultOf, TooComplex, breaks, first_fault, IsToldAfter, IsVerdictOf, fault_of, IsCheckFault}
 
 -- where neither of two answers is there, the first isn't
 pub first-none : {A : Type 0} (a b : Option A) → or_else a b ≡ None → a ≡ None
@@ -35,3 +35,11 @@ comes-first p v f first is = subst (λ (o : Option FaultOf). IsToldAfter p o v) 
 -- else what is told of Field Selection Merging is
 pub comes-last : (p : PartsOf) (v : Option FaultOf) (b : Option BrokenOf) → first_fault p ≡ None → IsMerging p b → v ≡ option_map (breaks rule.FieldSelectionMerging) b → IsVerdictOf p v
 comes-last p v b none merging is = subst (λ (o : Option FaultOf). IsToldAfter p o v) (sym none) (b, merging, is)
+
+few-step : (n : ℕ) (b : Bool) → nat_lt 1000 n ≡ b → cond b (Some TooComplex) None ≡ None → n ≤ 1000
+few-step n true e h = cc
+few-step n false e h = grind arith
+
+-- where nothing comes first, there aren't too many fields
+pub few-fields : (rules levels : Option FaultOf) (n : ℕ) → or_else rules (or_else levels (cond (nat_lt 1000 n) (Some TooComplex) None)) ≡ None → n ≤ 1000
+few-fields rules levels n h = few-step n (nat_lt 1000 n) refl (second-none levels _ (second-none rules _ h))

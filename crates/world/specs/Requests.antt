@@ -1,5 +1,5 @@
 -- What the plan of a request is, and why there is none.
-use Rattle.std.specs.Prelude.{◌≡◌, ℕ, List, Option, Some, None, Ok, codes}
+use Rattle.std.specs.Prelude.{◌≡◌, ℕ, Bool, true, false, List, Option, Some, None, Ok, codes}
 use Rattle.gq_lexer.specs.declared.place.Place.{Place}
 use Rattle.gq_lexer.specs.declared.fault.LexFault.{LexFault}
 use Rattle.gq_lexer.specs.declared.fault.LexFault.TheVariants as lex
@@ -10,7 +10,9 @@ use Rattle.gq_parser.specs.Tree.{Document}
 use Rattle.serde_json.specs.Data.{Data}
 use Rattle.schema_syntax.specs.Tree.{Definition}
 use Rattle.gq_check.specs.declared.fault.CheckFault.{CheckFault}
+use Rattle.gq_check.specs.declared.fault.CheckFault.TheVariants as check
 use Rattle.gq_check.specs.declared.fault.PrepareFault.{PrepareFault}
+use Rattle.gq_check.specs.declared.fault.PrepareFault.TheVariants as prepare
 use Rattle.gq_check.specs.Plans.{PlanOf}
 use Rattle.gq_check.specs.Prepared.{prepared, IsPrepareFault}
 use Rattle.gq_check.specs.Verdict.{IsVerdict, IsValid, IsCheckFault}
@@ -45,6 +47,13 @@ abbrev pub IsRequestFault : List Definition → List ℕ → Option (List ℕ) �
 IsRequestFault defs query name given (fault.Parse e) = IsFault query e
 IsRequestFault defs query name given (fault.Check e) = IsInvalid defs query e
 IsRequestFault defs query name given (fault.Prepare e) = IsUnprepared defs query name given e
+
+-- memory was refused
+abbrev pub is_want_of_memory : RequestFault → Bool
+is_want_of_memory (fault.Parse parse.NoMemory) = true
+is_want_of_memory (fault.Check check.NoMemory) = true
+is_want_of_memory (fault.Prepare prepare.NoMemory) = true
+is_want_of_memory _ = false
 
 -- ---- texts
 

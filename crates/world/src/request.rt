@@ -51,10 +51,12 @@ fn parse_message(fault: &ParseFault) -> &'static str
 }
 
 impl RequestFault {
-    ghost use Rattle.world.specs.Requests.{request_message, request_place};
+    ghost use Rattle.world.specs.Requests.{is_want_of_memory, request_message, request_place};
 
     /// Whether memory was refused. Every other fault is told to the client.
-    pub fn is_want_of_memory(&self) -> bool {
+    pub fn is_want_of_memory(&self) -> bool
+        ensures { result ≡ is_want_of_memory self.now }
+    {
         matches!(
             self,
             RequestFault::Parse(ParseFault::NoMemory)
