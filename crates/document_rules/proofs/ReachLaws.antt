@@ -114,7 +114,7 @@ module _ (uses : List VariableUse) (table : rust.UseTable) (holds : IsUseTable u
 
 -- ---- an operation's step
 
-or-none : (b : Bool) → (b || false) ≡ b
+pub or-none : (b : Bool) → (b || false) ≡ b
 or-none true = refl
 or-none false = refl
 

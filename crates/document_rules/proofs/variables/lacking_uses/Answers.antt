@@ -1,12 +1,13 @@
-use Rattle.std.proofs.Common.{◌≡◌, ◌∙◌, ◌+◌, ap, ℕ, List, Option, false, map, drop, slice_index, slice_index_or, bytes_eq}
+use Rattle.std.proofs.Common.{◌≡◌, ◌∙◌, ◌+◌, ap, ℕ, List, Option, false, map, drop, slice_index, slice_index_or, bytes_eq, sym, arith}
 use Rattle.std.specs.HashMap.{get_by}
 use Rattle.std.specs.Borrow.{Bor}
+use Rattle.std.proofs.lemmas.List.{drop_all}
 use Rattle.gq_parser.specs.Tree.{operation_of}
 use Rattle.spread_graph.specs.Reach.{is_among}
 use Rattle.document_rules.specs.UsesDefined.{one_lacks, lacks}
 use Rattle.document_rules.specs.UseRows.{use_at}
 use Rattle.document_rules.proofs.ScanLaws.{drop-next, or-more}
-use Rattle.document_rules.proofs.ReachLaws.{lacks_more, fresh_more}
+use Rattle.document_rules.proofs.ReachLaws.{or-none, lacks_more, fresh_more}
 use Rattle.document_rules.proofs.variables.lacking_uses.Goals as goal
 
 pub loop-i-preserved : goal.loop-i-preserved
@@ -34,3 +35,9 @@ loop-i-preserved c =
           or-more (slice_index_or every s false) (slice_index_or noted s false) (lacks g i o (use_at uses k)) (one_lacks g (i + 1) (map operation_of (drop (i + 1) all)) (use_at uses k)) _ more
           (rw (drop-next all i item c.loop-i-test.true c.operation-item.is) at (c.loop-i.invariant.so_far uses holds k within));
     }
+
+pub returns : goal.returns
+returns c = λ uses holds k within.
+    let s = slice_index c.args.table.now.stand_ins.items k in
+    let done = rw (drop_all c.loop-i.i c.deref-operation-items.result.now (omega arith)) at (c.loop-i.invariant.so_far uses holds k within) in
+    rw (← c.deref-operation-items.ensures.value) (sym (or-none (slice_index_or c.loop-i.lacking.items s false)) ∙ done)
