@@ -10,10 +10,14 @@
 mod components;
 mod cycles;
 mod graph;
+mod law;
 mod levels;
+#[cfg(test)]
+mod tests;
 mod walk;
 
 pub use cycles::fragment_cycles;
 pub use graph::Graph;
+pub use law::reached_by_spreads;
 pub use levels::too_deep;
 pub use walk::Walk;
