@@ -76,15 +76,6 @@ fn operations_and_fields(rt: HostRuntime) -> Result<(), Fail> {
         ("query A{users{id}} query B{users{id}}", "valid"),
         ("{user(id:1){age}}", "5.3.1 Field Selections: age at 1:13"),
         ("{named(id:1){__typename}}", "valid"),
-        (
-            "{user(id:1){name name:id}}",
-            "5.3.2 Field Selection Merging: name at 1:12",
-        ),
-        (
-            "{user(id:1){best{name} best{name:id}}}",
-            "5.3.2 Field Selection Merging: best at 1:12",
-        ),
-        ("{user(id:1){best{name} best{name id}}}", "valid"),
         ("{users}", "5.3.3 Leaf Field Selections: users at 1:2"),
         ("{user{name}}", "5.4.2.1 Required Arguments: id at 1:2"),
         (
@@ -103,6 +94,28 @@ fn operations_and_fields(rt: HostRuntime) -> Result<(), Fail> {
             "query($i:ID=true){user(id:$i){name}}",
             "5.6.1 Values of Correct Type: $i at 1:13",
         ),
+    ];
+    for (query, want) in cases {
+        let text = verdict(alloc, &schema, query)?;
+        assert_eq!(rt; text.as_str(), want, "{query}");
+    }
+    Ok(())
+}
+
+#[test]
+fn merging(rt: HostRuntime) -> Result<(), Fail> {
+    let alloc = rt.alloc();
+    let schema = Schema::read(alloc, SCHEMA)?;
+    let cases = [
+        (
+            "{user(id:1){name name:id}}",
+            "5.3.2 Field Selection Merging: name at 1:12",
+        ),
+        (
+            "{user(id:1){best{name} best{name:id}}}",
+            "5.3.2 Field Selection Merging: best at 1:12",
+        ),
+        ("{user(id:1){best{name} best{name id}}}", "valid"),
     ];
     for (query, want) in cases {
         let text = verdict(alloc, &schema, query)?;
