@@ -253,7 +253,12 @@ fn plans(rt: HostRuntime) -> Result<(), Fail> {
         ("{user(id:1){name}}", None, "{}", "plan of 6 loaders"),
         ("{}", None, "{}", "unexpected token at 1:2"),
         ("", None, "{}", "unexpected end at 1:1"),
-        ("{user(id:\"\"\"1", None, "{}", "unterminated string at 1:10"),
+        (
+            "{user(id:\"\"\"1",
+            None,
+            "{}",
+            "unterminated string at 1:10",
+        ),
         (
             "{user(id:1){age}}",
             None,
