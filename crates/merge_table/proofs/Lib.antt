@@ -1,0 +1,4 @@
+pub mod Bits
+pub mod MergeLaws
+pub mod SetLaws
+pub mod TableLaws

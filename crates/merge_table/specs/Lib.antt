@@ -1,0 +1,4 @@
+pub mod Merging
+pub mod Numbered
+pub mod Sets
+pub mod Table
