@@ -5,7 +5,7 @@ use Rattle.gq_parser.specs.Tree.{Operation}
 use Rattle.schema_syntax.specs.Tree.{Definition}
 use Rattle.variable_values.specs.Variables.{VariableOf}
 use Rattle.variable_values.specs.Values as values
-use Rattle.gq_check.specs.Prepared.{FaultOf, PreparedOf, chosen_operation, with_variables, prepared_operation, prepared}
+use Rattle.gq_check.specs.Prepared.{FaultOf, chosen_operation, with_variables, prepared_operation, prepared}
 
 -- an operation was chosen, and its variables have values
 pub prepares-with : (defs : List Definition) (os : List Operation) (name : Option (List ℕ)) (given : Data) (o : Operation) (vs : List VariableOf)
