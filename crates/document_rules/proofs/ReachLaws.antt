@@ -1,10 +1,9 @@
 -- What the table of uses says of each use, and what an operation lacks by it.
-use Rattle.std.proofs.Common.{◌≡◌, ◌∙◌, ◌+◌, ◌<◌, ◌≤◌, ap, sym, refl, subst, zero, suc, ℕ, Bool, true, false, not, ◌||◌, cond, eqb, List, [], ◌∷◌, Option, Some, None, length, get_or, map, slice_index, slice_index_or, unwrap_or, bytes_eq, arith}
+use Rattle.std.proofs.Common.{◌≡◌, ◌∙◌, ◌+◌, ◌<◌, ap, sym, refl, zero, suc, ℕ, Bool, true, false, not, ◌||◌, cond, eqb, List, [], ◌∷◌, Option, Some, None, length, get_or, map, slice_index, unwrap_or, bytes_eq, arith}
 use Rattle.std.specs.Prelude.{◌&&◌}
 use Rattle.std.specs.List.{list_any}
 use Rattle.std.specs.HashMap.{get_by}
 use Rattle.std.specs.Borrow.{Bor}
-use Rattle.std.proofs.Math.Path.{fun_ext}
 use Rattle.std.proofs.lemmas.Bool.{eqb-true, eq-eqb, ne_eqb, false≢true}
 use Rattle.std.proofs.lemmas.Slice.Eq.{bytes_eq-Decides}
 use Rattle.gq_schema.specs.Places.{place_from}
@@ -18,8 +17,8 @@ use Rattle.document_rules.specs.declared.use_table.UseTable as rust
 use Rattle.document_rules.specs.Rows.{RowsOf, is_same_owner, row, row_at}
 use Rattle.document_rules.specs.VariableReach.{is_within, is_variable, defines}
 use Rattle.document_rules.specs.UsesDefined.{lacks}
-use Rattle.document_rules.specs.UseTable.{is_use, number_in, numbers_by, is_number, is_numbered, is_marked, AreFresh}
-use Rattle.document_rules.specs.UseRows.{no_use, use_at, rows_in, IsIn, IsUseTable, is_among_rows}
+use Rattle.document_rules.specs.UseTable.{is_use, number_in, is_number, is_numbered, is_marked, AreFresh}
+use Rattle.document_rules.specs.UseRows.{no_use, use_at, rows_in, IsUseTable, is_among_rows}
 use Rattle.document_rules.proofs.UseLaws.{same_owner, is_same_owner-same}
 
 -- two tests that are true together are one

@@ -1,5 +1,5 @@
 -- Rows that grow.
-use Rattle.std.proofs.Common.{◌≡◌, ◌<◌, ◌≤◌, ap, refl, zero, suc, ℕ, Bool, true, false, cond, eqb, List, [], ◌∷◌, ◌++◌, length, get_or, set, Vec, arith}
+use Rattle.std.proofs.Common.{◌≡◌, ◌<◌, ◌≤◌, ap, refl, zero, suc, ℕ, cond, eqb, List, [], ◌∷◌, ◌++◌, length, get_or, set, Vec, arith}
 use Rattle.std.proofs.Math.Dec.{eqb-suc-zero, eqb-zero-suc, eqb-suc-suc}
 use Rattle.std.specs.declared.alloc.Global.{Global}
 use Rattle.document_rules.specs.Rows.{rows_of, row_at}

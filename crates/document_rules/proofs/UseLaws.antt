@@ -1,5 +1,5 @@
 -- Uses in rows.
-use Rattle.std.proofs.Common.{◌≡◌, ◌∙◌, ◌+◌, ◌<◌, ap, sym, refl, subst, zero, suc, ℕ, Bool, true, false, ◌||◌, cond, eqb, List, [], ◌∷◌, ◌++◌, Option, Some, None, MatchOption, slice_index, slice_index_or, length, get_or, map, arith, ◌⊎◌, inl, inr, ⊎_elim}
+use Rattle.std.proofs.Common.{◌≡◌, ◌∙◌, ◌+◌, ◌<◌, ap, sym, refl, subst, ℕ, Bool, true, false, ◌||◌, cond, eqb, List, [], ◌∷◌, ◌++◌, Option, Some, None, MatchOption, slice_index, slice_index_or, length, get_or, map, arith, ◌⊎◌, inl, inr, ⊎_elim}
 use Rattle.std.proofs.lemmas.Bool.{eqb-true, eq-eqb, false≢true, or_cases}
 use Rattle.std.proofs.lemmas.List.{get_or_read, get_or_push, length-map}
 use Rattle.std.proofs.Math.ListN.{get_or-append, get_or-map}

@@ -1,6 +1,5 @@
 -- Which variables an operation uses, by the table of uses.
-use Rattle.std.proofs.Common.{◌≡◌, ◌∙◌, ◌+◌, ◌<◌, ◌≤◌, ap, sym, refl, suc, ℕ, Bool, true, false, ◌||◌, cond, eqb, List, [], ◌∷◌, Option, Some, None, length, slice_index, bytes_eq, arith, ⊎_elim}
-use Rattle.std.specs.Prelude.{◌&&◌}
+use Rattle.std.proofs.Common.{◌≡◌, ◌∙◌, ◌+◌, ◌<◌, ap, sym, refl, suc, ℕ, Bool, true, false, ◌||◌, cond, eqb, List, [], ◌∷◌, Option, Some, None, length, slice_index, bytes_eq, arith, ⊎_elim}
 use Rattle.std.specs.List.{list_any}
 use Rattle.std.proofs.lemmas.Bool.{eqb-true, eq-eqb, ne_eqb, false≢true, or_cases, or_left, or_right, and_from, and_parts}
 use Rattle.std.proofs.lemmas.List.Folds.{list_any_at}

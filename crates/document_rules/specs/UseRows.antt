@@ -1,9 +1,8 @@
 -- Uses in rows, by the operation or fragment that they stand in.
-use Rattle.std.specs.Prelude.{◌≡◌, ℕ, ◌+◌, ◌<◌, ◌==◌, Bool, true, List, length, [], map, Option, None, MatchOption, slice_index, slice_index_or, bytes_eq}
+use Rattle.std.specs.Prelude.{◌≡◌, ℕ, ◌+◌, ◌<◌, ◌==◌, Bool, true, List, length, [], Option, None, MatchOption, slice_index, slice_index_or, bytes_eq}
 use Rattle.std.specs.List.{list_any}
 use Rattle.std.specs.HashMap.{get_by}
 use Rattle.std.specs.Borrow.{Bor}
-use Rattle.gq_lexer.specs.declared.place.Place.{Place}
 use Rattle.document_parts.specs.declared.part.Owner.{Owner}
 use Rattle.document_parts.specs.declared.part.Owner.TheVariants as owner
 use Rattle.document_parts.specs.Parts.{VariableUse}

@@ -1,4 +1,4 @@
-use Rattle.std.proofs.Common.{◌≡◌, ◌∙◌, ◌+◌, ap, sym, refl, ℕ, List, ◌∷◌, map, drop, arith}
+use Rattle.std.proofs.Common.{◌≡◌, ◌∙◌, ◌+◌, ap, ◌∷◌, map, drop, arith}
 use Rattle.std.proofs.lemmas.List.{length-map}
 use Rattle.document_parts.specs.Broken.{BrokenOf}
 use Rattle.document_rules.specs.Named.{named}

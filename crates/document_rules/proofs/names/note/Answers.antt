@@ -1,5 +1,4 @@
-use Rattle.std.proofs.Common.{◌≡◌, ◌∙◌, ℕ, Bool, true, false, not, List, sym, refl, arith}
-use Rattle.std.proofs.lemmas.Bool.{not-true, not-false}
+use Rattle.std.proofs.Common.{◌≡◌, false, refl, arith}
 use Rattle.document_rules.specs.Scans.{told, has_text}
 use Rattle.document_rules.specs.Named.{named}
 use Rattle.document_rules.proofs.ScanLaws.{noted-name, left-noted}

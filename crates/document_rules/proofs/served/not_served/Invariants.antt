@@ -1,4 +1,4 @@
-use Rattle.std.proofs.Common.{◌≡◌, ◌++◌, map, drop}
+use Rattle.std.proofs.Common.{◌≡◌, map, drop}
 use Rattle.std.specs.List.{filter, filter_map}
 use Rattle.gq_parser.specs.Tree.{operation_of}
 use Rattle.document_parts.specs.Parts.{parts_in, field_part_of}

@@ -1,10 +1,9 @@
-use Rattle.std.proofs.Common.{◌≡◌, ◌∙◌, ◌+◌, ap, ℕ, List, Option, not, map, drop, bytes_eq}
+use Rattle.std.proofs.Common.{◌∙◌, ◌+◌, ap, ℕ, List, not, map, drop, bytes_eq}
 use Rattle.std.specs.List.{filter}
 use Rattle.std.specs.HashMap.{get_by}
 use Rattle.std.specs.Borrow.{Bor}
 use Rattle.std.proofs.lemmas.List.Elements.{filter_agree}
 use Rattle.gq_parser.specs.Tree.{VariableDefinition, operation_of}
-use Rattle.document_parts.specs.Broken.{BrokenOf}
 use Rattle.document_parts.specs.Parts.{use_of}
 use Rattle.spread_graph.specs.Reach.{is_among}
 use Rattle.document_rules.specs.Named.{named_variable}

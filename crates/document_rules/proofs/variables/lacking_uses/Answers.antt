@@ -1,4 +1,4 @@
-use Rattle.std.proofs.Common.{◌≡◌, ◌∙◌, ◌+◌, ap, ℕ, List, Option, false, map, drop, slice_index, slice_index_or, bytes_eq, sym, arith}
+use Rattle.std.proofs.Common.{◌∙◌, ◌+◌, ap, ℕ, List, Option, false, map, drop, slice_index, slice_index_or, bytes_eq, sym, arith}
 use Rattle.std.specs.HashMap.{get_by}
 use Rattle.std.specs.Borrow.{Bor}
 use Rattle.std.proofs.lemmas.List.{drop_all}

@@ -1,9 +1,9 @@
-use Rattle.std.proofs.Common.{◌≡◌, ◌∙◌, ◌<◌, ap, sym, ℕ, List, Option, length, map, arith}
+use Rattle.std.proofs.Common.{◌≡◌, ◌∙◌, ap, sym, ℕ, List, Option, length, map, arith}
 use Rattle.std.proofs.Math.Path.{fun_ext}
 use Rattle.std.proofs.lemmas.List.{length-map}
 use Rattle.document_parts.specs.Parts.{VariableUse, use_of}
 use Rattle.document_rules.specs.UseTable.{numbers_by}
-use Rattle.document_rules.specs.UseRows.{rows_in, use_at, Stands}
+use Rattle.document_rules.specs.UseRows.{rows_in, Stands}
 use Rattle.document_rules.proofs.UseLaws.{use_at-map, stood_more, alike_more}
 use Rattle.document_rules.proofs.use_table.UseTable.new.Goals as goal
 
