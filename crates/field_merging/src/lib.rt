@@ -1,9 +1,8 @@
-//! Field selection merging (section 5.3.2 of the GraphQL specification of October 2021) over the parts of a document.
-//!
-//! The layer above may rely on this: [`field_merging`] tells the selection set with the earliest `{` whose fields can't be merged,
-//! and its first response key, in order of first meeting, with a failing pair (`specs/Rule.antt`).
+//! Field Selection Merging (section 5.3.2 of the GraphQL specification of October 2021) over the parts of a document: its
+//! definition, and the law that it tells one thing. What decides it over numbered fields is `merge_table`; the way from a
+//! document to the numbers isn't written yet, so no document is refused by this rule.
 #![tactic(auto)]
 
-mod rule;
+mod law;
 
-pub use rule::field_merging;
+pub use law::one_set_is_told;

@@ -1,6 +1,6 @@
 -- The verdict on a document over a schema (section 5): nothing where it is valid, else the first fault in this order: what isn't
--- served; the rules but Field Selection Merging in the order of their sections' numbers, compared part by part; too many
--- levels; too many fields; Field Selection Merging. Of one rule the earliest place is told.
+-- served; the rules in the order of their sections' numbers, compared part by part; too many levels; too many fields. Of one
+-- rule the earliest place is told. Field Selection Merging (section 5.3.2) is not among them yet; it will come last.
 use Rattle.std.specs.Prelude.{◌≡◌, ℕ, List, Option, Some, None, option_map, string_bytes, if◌then◌else◌}
 use Rattle.gq_lexer.specs.declared.place.Place.{Place}
 use Rattle.gq_parser.specs.Tree.{Document}
@@ -34,7 +34,6 @@ use Rattle.typed_rules.specs.CorrectValues.{wrong_values}
 use Rattle.typed_rules.specs.InputVariables.{non_input_variables}
 use Rattle.typed_rules.specs.AllowedUsages.{forbidden_usages}
 use Rattle.spread_graph.specs.Rules.{fragment_cycles, too_deep}
-use Rattle.field_merging.specs.Rule.{IsMerging}
 use Rattle.gq_check.specs.declared.fault.Rule.{Rule}
 use Rattle.gq_check.specs.declared.fault.Rule.TheVariants as rule
 use Rattle.gq_check.specs.declared.fault.CheckFault.{CheckFault}
@@ -116,7 +115,7 @@ variables_fault p =
 
 -- ---- all of them
 
--- what isn't served, and the rules but Field Selection Merging
+-- what isn't served, and the rules
 abbrev pub rules_fault : PartsOf → Option FaultOf
 rules_fault p =
     or_else (served_fault p)
@@ -134,19 +133,12 @@ limits_fault p =
     or_else (option_map (λ (b : BrokenOf). TooDeep b.place) (earliest (too_deep p)))
     (if is_too_complex p then Some TooComplex else None)
 
--- all but Field Selection Merging
 abbrev pub first_fault : PartsOf → Option FaultOf
 first_fault p = or_else (rules_fault p) (limits_fault p)
 
--- what is told of a document where this comes first: it; else what is told of Field Selection Merging (section 5.3.2), which is
--- asked of documents that keep all else
-abbrev pub IsToldAfter : PartsOf → Option FaultOf → Option FaultOf → Type 0
-IsToldAfter p (Some f) v = v ≡ Some f
-IsToldAfter p None v = (b : Option BrokenOf) × IsMerging p b × (v ≡ option_map (breaks rule.FieldSelectionMerging) b)
-
 -- the verdict on a document, by its parts
 abbrev pub IsVerdictOf : PartsOf → Option FaultOf → Type 0
-IsVerdictOf p v = IsToldAfter p (first_fault p) v
+IsVerdictOf p v = v ≡ first_fault p
 
 -- the verdict on a document over the definitions of a schema
 abbrev pub IsVerdict : List Definition → Document → Option FaultOf → Type 0

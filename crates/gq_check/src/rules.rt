@@ -5,7 +5,6 @@ ghost use Rattle.document_parts.specs.Broken.{broken_of, earliest};
 ghost use Rattle.document_parts.specs.Parts.{parts_in};
 ghost use Rattle.spread_graph.specs.Graphs.{graph_of};
 ghost use Rattle.spread_graph.specs.Rules.{fragment_cycles};
-ghost use Rattle.field_merging.specs.Rule.{IsMerging};
 ghost use Rattle.gq_check.specs.Told.{told_of};
 ghost use Rattle.gq_check.specs.Verdict.{served_fault, operations_fault, fields_fault, arguments_fault, fragments_fault, spreads_fault, values_fault, directives_fault, variables_fault, rules_fault, limits_fault, first_fault, breaks, IsVerdictOf};
 
@@ -19,7 +18,6 @@ use document_rules::{
     is_too_complex, lone_anonymous_operation, not_served, operation_name_uniqueness,
     variable_uniqueness,
 };
-use field_merging::field_merging;
 use spread_graph::{Graph, fragment_cycles, too_deep};
 use std::alloc::{AllocError, Global};
 use typed_rules::{
@@ -149,7 +147,7 @@ fn variables_fault<'d>(
     Ok(told(Rule::AllVariableUsagesAreAllowed, broken))
 }
 
-// What isn't served, and the rules but Field Selection Merging.
+// What isn't served, and the rules.
 fn rules_fault<'d>(
     alloc: Global,
     parts: &Parts<'d>,
@@ -203,7 +201,6 @@ fn limits_fault<'d>(
     Ok(None)
 }
 
-// All but Field Selection Merging.
 fn first_fault<'d>(
     alloc: Global,
     parts: &Parts<'d>,
@@ -218,15 +215,6 @@ fn first_fault<'d>(
     }
 }
 
-// The earliest selection set that can't be merged.
-fn unmerged_set<'d>(alloc: Global, parts: &Parts<'d>) -> Result<Option<Broken<'d>>, AllocError>
-    requires acyclic { earliest (fragment_cycles (parts_in parts.now)) ≡ None }
-    requires few { length (parts_in parts.now).fields ≤ 1000 }
-    ensures { IfOk result (λ broken. IsMerging (parts_in parts.now) (option_map broken_of broken)) }
-{
-    field_merging(alloc, parts)
-}
-
 /// The verdict on a document, by its parts and what its fragments spread.
 pub fn verdict<'d>(
     alloc: Global,
@@ -236,11 +224,5 @@ pub fn verdict<'d>(
     requires { graph.now ≡ graph_of (parts_in parts.now) }
     ensures { IfOk result (λ fault. IsVerdictOf (parts_in parts.now) (option_map told_of fault)) }
 {
-    match first_fault(alloc, parts, graph)? {
-        Some(fault) => Ok(Some(fault)),
-        None => {
-            let broken = unmerged_set(alloc, parts)?;
-            Ok(told(Rule::FieldSelectionMerging, broken))
-        }
-    }
+    first_fault(alloc, parts, graph)
 }

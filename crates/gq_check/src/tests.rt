@@ -103,28 +103,6 @@ fn operations_and_fields(rt: HostRuntime) -> Result<(), Fail> {
 }
 
 #[test]
-fn merging(rt: HostRuntime) -> Result<(), Fail> {
-    let alloc = rt.alloc();
-    let schema = Schema::read(alloc, SCHEMA)?;
-    let cases = [
-        (
-            "{user(id:1){name name:id}}",
-            "5.3.2 Field Selection Merging: name at 1:12",
-        ),
-        (
-            "{user(id:1){best{name} best{name:id}}}",
-            "5.3.2 Field Selection Merging: best at 1:12",
-        ),
-        ("{user(id:1){best{name} best{name id}}}", "valid"),
-    ];
-    for (query, want) in cases {
-        let text = verdict(alloc, &schema, query)?;
-        assert_eq!(rt; text.as_str(), want, "{query}");
-    }
-    Ok(())
-}
-
-#[test]
 fn fragments_directives_and_variables(rt: HostRuntime) -> Result<(), Fail> {
     let alloc = rt.alloc();
     let schema = Schema::read(alloc, SCHEMA)?;

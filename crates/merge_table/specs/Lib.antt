@@ -1,3 +1,4 @@
+pub mod Entered
 pub mod Merging
 pub mod Numbered
 pub mod Sets

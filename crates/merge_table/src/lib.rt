@@ -10,6 +10,7 @@
 mod field;
 mod merge;
 mod row;
+mod sets;
 mod table;
 #[cfg(test)]
 mod tests;
@@ -17,4 +18,5 @@ mod tests;
 pub use field::Field;
 pub use merge::{failing_pairs, first_failing, is_in_order};
 pub use row::Row;
+pub use sets::{Entry, Reached, are_known, reached_sets};
 pub use table::marks_of;

@@ -175,3 +175,43 @@ fn many_fields_of_one_key(rt: HostRuntime) -> Result<(), AllocError> {
     assert!(rt; first(alloc, &fields, &owners)? == Some(Some(450)));
     Ok(())
 }
+
+/// Of each set whether it can't be merged.
+fn failing_sets(
+    alloc: Global,
+    fields: &[Field],
+    sets: &[Vec<Entry>],
+) -> Result<Option<Vec<bool>>, AllocError> {
+    if fields.len() > 1024 || !is_in_order(fields) || !are_known(sets, fields.len()) {
+        return Ok(None);
+    }
+    let rows = failing_pairs(alloc, fields)?;
+    let mut failing = Vec::new(alloc);
+    for set in &reached_sets(alloc, &rows, sets)? {
+        failing.push(set.is_failing(fields, &rows))?;
+    }
+    Ok(Some(failing))
+}
+
+#[test]
+fn sets_enter_others(rt: HostRuntime) -> Result<(), AllocError> {
+    let alloc = rt.alloc();
+    // fragment A { name } fragment B { name: nickname } { ...A ... { ...B owner } } { ...A }
+    let fields = [
+        field(NAME, NAME, DOG, &[]),
+        field(NAME, NICKNAME, DOG, &[]),
+        field(OWNER, OWNER, DOG, &[]),
+    ];
+    let sets = vec![in alloc;
+        vec![in alloc; Entry::Field(0)]?,
+        vec![in alloc; Entry::Field(1)]?,
+        vec![in alloc; Entry::Set(1), Entry::Field(2)]?,
+        vec![in alloc; Entry::Set(0), Entry::Set(2)]?,
+        vec![in alloc; Entry::Set(0)]?,
+    ]?;
+    let Some(failing) = failing_sets(alloc, &fields, &sets)? else {
+        panic!(rt; "the sets are in order");
+    };
+    assert!(rt; failing.as_slice() == &[false, false, false, true, false][..]);
+    Ok(())
+}
