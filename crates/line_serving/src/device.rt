@@ -55,7 +55,8 @@ impl<D> Counted<D> {
         ensures device { device_of self.new ≡ device_of self.old }
         ensures counts { (calls_of self.new ≡ calls_of self.old) × (given_of self.new ≡ given_of self.old) }
     {
-        self.faults = self.faults.saturating_add(1);
+        let faults = &mut self.faults;
+        *faults = faults.saturating_add(1);
         DeviceFault
     }
 }

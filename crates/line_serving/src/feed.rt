@@ -32,10 +32,10 @@ fn finish_line<A: Answerer, W: Write>(
         (Sends (W.contents (device_of writer.old)) pending.old.items (W.contents (device_of writer.new)) pending.new.items)) }
     ensures err { IfErr result (λ fault. AtFault fault
         (Sends (W.contents (device_of writer.old)) pending.old.items (W.contents (device_of writer.new)) pending.new.items []
-            × (limit < length (held.old.items ++ line.now)))
+        × (limit < length (held.old.items ++ line.now)))
         ⊥
         ((length (held.old.items ++ line.now) ≤ limit) × WithAnswer (A.Answers answerer.now) (held.old.items ++ line.now)
-            (λ out. IsCut (W.contents (device_of writer.old)) (W.contents (device_of writer.new)) (pending.old.items ++ out)))
+        (λ out. IsCut (W.contents (device_of writer.old)) (W.contents (device_of writer.new)) (pending.old.items ++ out)))
         (Sends (W.contents (device_of writer.old)) pending.old.items (W.contents (device_of writer.new)) pending.new.items [])) }
     ensures faults { faults_of writer.new ≡ faults_at result ServeFault.WriteFault (faults_of writer.old) }
 {
@@ -118,7 +118,7 @@ pub fn finish<A: Answerer, W: Write>(
         (Sends (W.contents (device_of writer.old)) pending.old.items (W.contents (device_of writer.new)) pending.new.items)) }
     ensures err { IfErr result (λ fault. AtFault fault ⊥ ⊥
         (WithAnswers (A.Answers answerer.now) (last_of held.now.items)
-            (λ out. IsCut (W.contents (device_of writer.old)) (W.contents (device_of writer.new)) (pending.old.items ++ out)))
+        (λ out. IsCut (W.contents (device_of writer.old)) (W.contents (device_of writer.new)) (pending.old.items ++ out)))
         (Sends (W.contents (device_of writer.old)) pending.old.items (W.contents (device_of writer.new)) pending.new.items [])) }
     ensures faults { faults_of writer.new ≡ faults_at result ServeFault.WriteFault (faults_of writer.old) }
 {

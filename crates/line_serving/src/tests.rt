@@ -304,7 +304,16 @@ fn a_line_has_at_most_four_mebibytes(rt: HostRuntime) {
 
 #[test]
 fn faults_are_printed_with_their_codes(rt: HostRuntime) -> Result<(), Fail> {
-    let printed = format!(in rt.alloc(); "{}, {}, {}, {}", ServeFault::LineTooLong, ServeFault::ReadFault, ServeFault::WriteFault, ServeFault::NoMemory)?;
-    assert_eq!(rt; printed.as_str(), "X1 LineTooLong, X2 ReadFault, X3 WriteFault, X4 NoMemory");
+    let printed = format!(in rt.alloc();
+        "{}, {}, {}, {}",
+        ServeFault::LineTooLong,
+        ServeFault::ReadFault,
+        ServeFault::WriteFault,
+        ServeFault::NoMemory
+    )?;
+    assert_eq!(rt;
+        printed.as_str(),
+        "X1 LineTooLong, X2 ReadFault, X3 WriteFault, X4 NoMemory"
+    );
     Ok(())
 }
