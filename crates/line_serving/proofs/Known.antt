@@ -1,11 +1,11 @@
 -- Steps on the known bytes of readers and writers.
 use Rattle.std.proofs.lemmas.List.{take_rest, take-append-drop}
-use Rattle.std.proofs.Common.{subst, ◌-◌, drop, ◌≡◌, ℕ, ◌<◌, ◌≤◌, List, [], ◌∷◌, ◌++◌, length, take, refl, sym, ap, ◌∙◌, append_assoc, append-nil, arith, Some, None}
-use Rattle.std.specs.Prelude.{Option, MatchResult}
-use Rattle.std.specs.Io.KnownBytes.{append_known, Appends, Consumes, Keeps, IsAtEnd, ReadConsumes, WriteAppends}
+use Rattle.std.proofs.Common.{subst, ◌-◌, drop, ◌≡◌, ℕ, List, [], ◌++◌, length, take, refl, sym, ap, ◌∙◌, append_assoc, append-nil, Some, None}
+use Rattle.std.specs.Prelude.{Option}
+use Rattle.std.specs.Io.KnownBytes.{Appends, Consumes, Keeps, ReadConsumes, WriteAppends}
 use Rattle.std.specs.declared.result.Result.{Result}
 use Rattle.std.specs.declared.result.Result.TheVariants.{Ok, Err}
-use Rattle.line_serving.specs.Output.{SendsSome, Sends, Cuts, IsCut}
+use Rattle.line_serving.specs.Output.{Sends, IsCut}
 
 pub keeps_refl : (a : Option (List ℕ)) → Keeps a a
 keeps_refl None = tt

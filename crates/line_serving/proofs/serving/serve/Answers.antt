@@ -1,5 +1,4 @@
-use Rattle.std.proofs.Common.{ℕ, List, inr, [], sym, ◌∙◌, ◌≡◌, ◌≢◌, refl}
-use Rattle.line_serving.specs.declared.fault.ServeFault.TheVariants as fault
+use Rattle.std.proofs.Common.{inr, []}
 use Rattle.line_serving.proofs.Known.{consumes_none}
 use Rattle.line_serving.proofs.Feeding.{fails_start, cut_close, cut_long, cut_read, cut_memory}
 use Rattle.line_serving.proofs.serving.serve.Goals as goal

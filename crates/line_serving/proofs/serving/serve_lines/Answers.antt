@@ -1,8 +1,6 @@
-use Rattle.std.proofs.Common.{subst, inl, ◌≡◌, ℕ, ◌+◌, ◌<◌, ◌≤◌, List, [], ◌++◌, length, take, refl, sym, ap, ◌∙◌, arith}
-use Rattle.std.specs.List.{All, flat_map}
-use Rattle.std.specs.Io.KnownBytes.{Consumes}
+use Rattle.std.proofs.Common.{subst, inl, [], ◌++◌, refl, sym, ◌∙◌, arith}
 use Rattle.std.proofs.lemmas.List.Elements.{All-nil, All-append}
-use Rattle.line_serving.specs.Lines.{IsLine, HasNoLineFeed, ended}
+use Rattle.line_serving.specs.Lines.{IsLine, HasNoLineFeed}
 use Rattle.line_serving.proofs.Known.{sends_kept, sends_trans}
 use Rattle.line_serving.proofs.Feeding.{are_append, no_line, fails_read, fails_send, fails_last, answered_all, stopped_later, consumes_start, consumes_keeps, consumes_nothing, consumes_more, consumes_lines, sends_sent, sends_close, count_both, count_given}
 use Rattle.line_serving.proofs.serving.serve_lines.Goals as goal

@@ -1,4 +1,4 @@
-use Rattle.std.proofs.Common.{rules, ◌≡◌, ℕ, List, ◌++◌, ◌∙◌}
+use Rattle.std.proofs.Common.{◌∙◌}
 use Rattle.line_serving.proofs.Known.{appends_trans, wrote_more}
 use Rattle.line_serving.proofs.device.Counted.write_whole.Goals as goal
 
