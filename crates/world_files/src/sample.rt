@@ -1,6 +1,8 @@
 //! The sample world: users with their best friends, posts and likes.
 
-ghost use Rattle.std.specs.Prelude.{IfErr, None};
+ghost use Rattle.std.specs.Prelude.{List, IfOk, IfErr, None};
+ghost use Rattle.world.specs.Sources.{TableOf};
+ghost use Rattle.world.specs.Worlds.{IsWorld};
 ghost use Rattle.world_files.specs.Opening.{IsUnopened, IsUnmade};
 
 use command_line::Stop;
@@ -68,6 +70,7 @@ fn sample_tables(alloc: Global) -> Result<Vec<(String, Table)>, Stop>
 ///
 /// Only for want of memory, since its parts are accepted.
 pub fn sample_world(alloc: Global) -> Result<World, Stop>
+    ensures ok { IfOk result (λ world. (tables : List TableOf) × IsWorld SCHEMA.now BINDINGS.now tables None world) }
     ensures err { IfErr result (IsUnmade None) }
 {
     let tables = match sample_tables(alloc) {
