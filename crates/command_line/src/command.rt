@@ -15,6 +15,7 @@ fn max_batch<'a>(alloc: Global) -> Arg<'a>
     Arg::new(alloc, "max-batch")
         .long("max-batch")
         .value_name("N")
+        .help("At most how many keys one batch has")
         .value_parser(clap::value_parser!(u32).range(1..=65_535))
 }
 
@@ -26,6 +27,7 @@ fn schema<'a>(alloc: Global) -> Arg<'a>
     Arg::new(alloc, "schema")
         .long("schema")
         .value_name("F")
+        .help("The file of the schema")
         .required(true)
 }
 
@@ -36,6 +38,7 @@ fn bindings<'a>(alloc: Global) -> Arg<'a>
     Arg::new(alloc, "bindings")
         .long("bindings")
         .value_name("F")
+        .help("The file that says how the fields are answered")
         .required(true)
 }
 
@@ -43,14 +46,18 @@ fn requests<'a>(alloc: Global) -> Arg<'a>
     ensures rule { rule_of result ≡ requests_rule }
     ensures local { result.global ≡ false }
 {
-    Arg::new(alloc, "REQUESTS").required(true)
+    Arg::new(alloc, "REQUESTS")
+        .required(true)
+        .help("The file of the request lines")
 }
 
 fn tables<'a>(alloc: Global) -> Arg<'a>
     ensures rule { rule_of result ≡ table_rule }
     ensures local { result.global ≡ false }
 {
-    Arg::new(alloc, "NAME=F").action(ArgAction::Append)
+    Arg::new(alloc, "NAME=F")
+        .action(ArgAction::Append)
+        .help("A table by its name, and its CSV file")
 }
 
 /// The command, whose words begin after the program's name.
@@ -58,6 +65,7 @@ pub fn command<'a>(alloc: Global) -> Result<Command<'a>, AllocError>
     ensures { IfOk result (λ c. app_of c ≡ command_line) }
 {
     Command::new(alloc, "query_cli")
+        .about("Answers GraphQL queries over tables, a request line by an answer line")
         .no_binary_name(true)
         .arg(schema(alloc))?
         .arg(bindings(alloc))?

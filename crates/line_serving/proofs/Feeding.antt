@@ -12,7 +12,7 @@ use Rattle.line_serving.specs.Output.{AreAnswers, WithAnswer, WithAnswers, Sends
 use Rattle.line_serving.specs.Serving.{AtFault, Stopped, IsAnswered, Fails}
 use Rattle.line_serving.specs.declared.fault.ServeFault.{ServeFault}
 use Rattle.line_serving.specs.declared.fault.ServeFault.TheVariants as fault
-use Rattle.line_serving.proofs.Known.{appends_none, consumes_none, consumes_trans, sends_same, sends_trans, cut_sends, cut_same, same_text, appends_trans, cut_after}
+use Rattle.line_serving.proofs.Known.{sends_kept, consumes_none, consumes_trans, sends_same, sends_trans, cut_sends, cut_same, same_text, appends_trans, cut_after}
 
 pub are_append : (A : List ℕ → List ℕ → Type 0) (ls ms : List (List ℕ)) (x y : List ℕ) → AreAnswers A ls x → AreAnswers A ms y → AreAnswers A (ls ++ ms) (x ++ y)
 are_append A [] ms x y h k = subst (λ t. AreAnswers A ms (t ++ y)) (sym h) k
@@ -23,15 +23,6 @@ are_one A l t a = (t, [], a, refl, sym (append-nil (ended t)))
 
 pub are_more : (A : List ℕ → List ℕ → Type 0) (ls : List (List ℕ)) (l x t : List ℕ) → AreAnswers A ls x → A l t → AreAnswers A (ls ++ l ∷ []) (x ++ ended t)
 are_more A ls l x t h a = are_append A ls (l ∷ []) x (ended t) h (are_one A l t a)
-
--- the last line is what is held
-pub answers_last : (A : List ℕ → List ℕ → Type 0) (held : List ℕ) (P : List ℕ → Type 0) → held ≢ [] → WithAnswer A held P → WithAnswers A (last_of held) P
-answers_last A [] P some h = absurd (some refl)
-answers_last A (b ∷ bs) P some (t, a, p) = (ended t, are_one A (b ∷ bs) t a, p)
-
--- no line is left
-pub answers_none : (A : List ℕ → List ℕ → Type 0) (held : List ℕ) (P : List ℕ → Type 0) → held ≡ [] → P [] → WithAnswers A (last_of held) P
-answers_none A held P none p = subst (λ t. WithAnswers A (last_of t) P) (sym none) ([], refl, p)
 
 pub is_line : (held line : List ℕ) → IsLine held → HasNoLineFeed line → length (held ++ line) ≤ limit → IsLine (held ++ line)
 is_line held line h k short = record { one = All-append (λ b. b ≢ line_feed) held line h.one k; short = short }
@@ -262,5 +253,5 @@ pub count_given : (m more g h n : ℕ) (blk : List ℕ) → m ≤ g → more ≤
 count_given m more g h n blk was few e = grind (arith, common_steps, was, few, e)
 
 -- where no block was had to read into
-pub fails_start : (A : List ℕ → List ℕ → Type 0) (a left : Option (List ℕ)) → Fails A [] (Appends a a) (IsCut a a) left fault.NoMemory
-fails_start A a left = inl ([], [], [], record { whole = refl; each = All-nil IsLine }, refl, appends_none a)
+pub fails_start : (A : List ℕ → List ℕ → Type 0) (a left : Option (List ℕ)) (p : List ℕ) → p ≡ [] → Fails A [] (Sends a [] a p) (IsCut a a) left fault.NoMemory
+fails_start A a left p none = inl ([], [], [], record { whole = refl; each = All-nil IsLine }, refl, sends_kept a [] p [] none)

@@ -2,46 +2,8 @@
 use Rattle.std.proofs.lemmas.List.{take_rest, take-append-drop}
 use Rattle.std.proofs.Common.{subst, ◌-◌, drop, ◌≡◌, ℕ, List, [], ◌++◌, length, take, refl, sym, ap, ◌∙◌, append_assoc, append-nil, Some, None}
 use Rattle.std.specs.Prelude.{Option}
-use Rattle.std.specs.Io.KnownBytes.{Appends, Consumes, Keeps, ReadConsumes, WriteAppends}
-use Rattle.std.specs.declared.result.Result.{Result}
-use Rattle.std.specs.declared.result.Result.TheVariants.{Ok, Err}
+use Rattle.std.specs.Io.KnownBytes.{Appends, Consumes}
 use Rattle.line_serving.specs.Output.{Sends, IsCut}
-
-pub keeps_refl : (a : Option (List ℕ)) → Keeps a a
-keeps_refl None = tt
-keeps_refl (Some xs) = refl
-
-pub keeps_trans : (a b c : Option (List ℕ)) → Keeps a b → Keeps b c → Keeps a c
-keeps_trans None b c h k = tt
-keeps_trans (Some xs) None c h k = absurd h
-keeps_trans (Some xs) (Some ys) None h k = absurd k
-keeps_trans (Some xs) (Some ys) (Some zs) h k = k ∙ h
-
-pub keeps_consumes : (a b c : Option (List ℕ)) (bs : List ℕ) → Keeps a b → Consumes b c bs → Consumes a c bs
-keeps_consumes None b c bs h k = tt
-keeps_consumes (Some xs) None c bs h k = absurd h
-keeps_consumes (Some xs) (Some ys) None bs h k = absurd k
-keeps_consumes (Some xs) (Some ys) (Some zs) bs h k = sym h ∙ k
-
-pub keeps_appends : (a b c : Option (List ℕ)) (bs : List ℕ) → Keeps a b → Appends b c bs → Appends a c bs
-keeps_appends None b c bs h k = tt
-keeps_appends (Some xs) None c bs h k = absurd h
-keeps_appends (Some xs) (Some ys) None bs h k = absurd k
-keeps_appends (Some xs) (Some ys) (Some zs) bs h k = k ∙ ap (λ l. l ++ bs) h
-
-pub appends_keeps : (a b c : Option (List ℕ)) (bs : List ℕ) → Appends a b bs → Keeps b c → Appends a c bs
-appends_keeps None b c bs h k = tt
-appends_keeps (Some xs) None c bs h k = absurd h
-appends_keeps (Some xs) (Some ys) None bs h k = absurd k
-appends_keeps (Some xs) (Some ys) (Some zs) bs h k = k ∙ h
-
-pub keeps_reads : {E : Type 0} (a b c : Option (List ℕ)) (r : Result ℕ E) (buf : List ℕ) → Keeps a b → ReadConsumes b c r buf → ReadConsumes a c r buf
-keeps_reads a b c (Ok n) buf h k = (keeps_consumes a b c (take n buf) h k.0, k.1)
-keeps_reads a b c (Err e) buf h k = keeps_trans a b c h k
-
-pub keeps_writes : {E : Type 0} (a b c : Option (List ℕ)) (r : Result ℕ E) (buf : List ℕ) → Keeps a b → WriteAppends b c r buf → WriteAppends a c r buf
-keeps_writes a b c (Ok n) buf h k = keeps_appends a b c (take n buf) h k
-keeps_writes a b c (Err e) buf h k = keeps_trans a b c h k
 
 pub appends_none : (a : Option (List ℕ)) → Appends a a []
 appends_none None = tt
@@ -65,17 +27,6 @@ consumes_trans (Some ws) (Some bs) (Some cs) xs ys h k = h ∙ ap (λ l. xs ++ l
 
 pub same_text : (a b : Option (List ℕ)) (xs ys : List ℕ) → Appends a b xs → xs ≡ ys → Appends a b ys
 same_text a b xs ys h e = subst (λ t. Appends a b t) e h
-
-pub cut_whole : (a b : Option (List ℕ)) (xs : List ℕ) → Appends a b xs → (rest : List ℕ) → IsCut a b (xs ++ rest)
-cut_whole a b xs h rest = (xs, rest, record { front = refl; went = h })
-
-pub cut_none : (a b : Option (List ℕ)) → Keeps a b → (text : List ℕ) → IsCut a b text
-cut_none a b h text = ([], text, record { front = refl; went = keeps_appends_none a b h })
-  where
-    keeps_appends_none : (a b : Option (List ℕ)) → Keeps a b → Appends a b []
-    keeps_appends_none None b h = tt
-    keeps_appends_none (Some xs) None h = absurd h
-    keeps_appends_none (Some xs) (Some ys) h = h ∙ sym (append-nil xs)
 
 -- a front, and then a front of what is left
 pub cut_after : (a b c : Option (List ℕ)) (xs ys : List ℕ) → Appends a b xs → IsCut b c ys → IsCut a c (xs ++ ys)

@@ -75,6 +75,40 @@ fn serve_lines<A: Answerer, R: Read, W: Write>(
     }
 }
 
+// Reads to the end, and answers each line. What is pending may not be written yet.
+fn serve_blocks<A: Answerer, R: Read, W: Write>(
+    alloc: Global,
+    answerer: &A,
+    reader: &mut Counted<R>,
+    writer: &mut Counted<W>,
+    pending: &mut Vec<u8>,
+) -> Result<u64, ServeFault>
+    requires { pending.old.items ≡ [] }
+    ensures ok { IfOk result (λ n. (text : List ℕ) × Consumes (R.remaining (device_of reader.old)) (R.remaining (device_of reader.new)) text
+        × IsAtEnd (R.remaining (device_of reader.new))
+        × IsAnswered (A.Answers answerer.now) text n
+        (Sends (W.contents (device_of writer.old)) [] (W.contents (device_of writer.new)) pending.new.items)) }
+    ensures err { IfErr result (λ fault. (text : List ℕ) × Consumes (R.remaining (device_of reader.old)) (R.remaining (device_of reader.new)) text
+        × Fails (A.Answers answerer.now) text
+        (Sends (W.contents (device_of writer.old)) [] (W.contents (device_of writer.new)) pending.new.items)
+        (IsCut (W.contents (device_of writer.old)) (W.contents (device_of writer.new)))
+        (R.remaining (device_of reader.new))
+        fault) }
+    ensures read { faults_of reader.new ≡ faults_at result ServeFault.ReadFault (faults_of reader.old) }
+    ensures written { faults_of writer.new ≡ faults_at result ServeFault.WriteFault (faults_of writer.old) }
+    ensures bounded { OnOk result ((calls_of reader.new ≤ bound) × (given_of reader.new < bound)) }
+    ensures grown { (calls_of reader.old ≤ calls_of reader.new) × (given_of reader.old ≤ given_of reader.new) }
+{
+    let mut block = match new_block(alloc) {
+        Ok(block) => block,
+        Err(_) => return Err(ServeFault::NoMemory),
+    };
+    match serve_lines(alloc, answerer, reader, writer, pending, &mut block) {
+        Ok(count) => Ok(count),
+        Err(fault) => Err(fault),
+    }
+}
+
 /// Answers each line of the reader by a line to the writer, and says how many there were. A line ends at a line feed or at
 /// the end of the input; a last line feed begins no further line. The writer is flushed once, at the end, after a fault of
 /// the reader, a line that is too long and want of memory too.
@@ -117,12 +151,8 @@ pub fn serve<A: Answerer, R: Read, W: Write>(
     ensures bounded { OnOk result ((calls_of reader.new ≤ bound) × (given_of reader.new < bound)) }
     ensures grown { (calls_of reader.old ≤ calls_of reader.new) × (given_of reader.old ≤ given_of reader.new) }
 {
-    let mut block = match new_block(alloc) {
-        Ok(block) => block,
-        Err(_) => return Err(ServeFault::NoMemory),
-    };
     let mut pending = Vec::new(alloc);
-    match serve_lines(alloc, answerer, reader, writer, &mut pending, &mut block) {
+    match serve_blocks(alloc, answerer, reader, writer, &mut pending) {
         Ok(count) => match close(writer, &mut pending) {
             Ok(()) => Ok(count),
             Err(_) => Err(ServeFault::WriteFault),
