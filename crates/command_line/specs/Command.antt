@@ -1,5 +1,5 @@
 -- The command that `clap` reads.
-use Rattle.std.specs.Prelude.{ℕ, Some, true, pos, codes}
+use Rattle.std.specs.Prelude.{Some, true, pos, codes}
 use Rattle.clap.specs.Words.{App, Rule, new_app, new_rule, with_rule}
 use Rattle.clap.specs.declared.builder.action.ArgAction.TheVariants.{Append}
 use Rattle.clap.specs.declared.builder.value_parser.ValueParser.TheVariants as parser

@@ -177,6 +177,45 @@ fn lines_end_at_line_feeds_and_at_the_end(rt: HostRuntime) {
     assert!(rt; out.is_empty());
 }
 
+// A text of at most four letters and line feeds, one for each number below 256.
+fn small_input(alloc: Global, number: u32) -> Result<Vec<u8>, Fail> {
+    let mut input = Vec::new(alloc);
+    let mut rest = number;
+    for _ in 0..4u32 {
+        match rest % 4 {
+            0 => break,
+            1 => input.push(b'\n')?,
+            2 => input.push(b'a')?,
+            _ => input.push(b'b')?,
+        }
+        rest /= 4;
+    }
+    Ok(input)
+}
+
+#[test]
+fn small_inputs_are_cut_as_a_plain_program_cuts_them(rt: HostRuntime) -> Result<(), Fail> {
+    for number in 0..256u32 {
+        let mut input = small_input(rt.alloc(), number)?;
+        let mut lines = 0u64;
+        let mut is_begun = false;
+        for byte in &input {
+            is_begun = *byte != b'\n';
+            if !is_begun {
+                lines = lines.saturating_add(1);
+            }
+        }
+        let (result, out) = served(rt.alloc(), &Echo, input.as_slice());
+        if is_begun {
+            lines = lines.saturating_add(1);
+            input.push(b'\n')?;
+        }
+        assert!(rt; result == Ok(lines));
+        assert!(rt; out.as_slice() == input.as_slice());
+    }
+    Ok(())
+}
+
 #[test]
 fn long_outputs_keep_their_order(rt: HostRuntime) -> Result<(), Fail> {
     let mut input = String::new(rt.alloc());

@@ -1,4 +1,4 @@
-use Rattle.std.proofs.Common.{subst, ℕ, List, Option, Result, codes}
+use Rattle.std.proofs.Common.{subst, ℕ, List, Option, codes}
 use Rattle.std.specs.Str.Parse.{ParsesUnsigned, ExplainsUnsignedError, HasUnsignedDigitsIfOk}
 use Rattle.clap.specs.Words.{found_of, one_text}
 use Rattle.clap.proofs.WalkLemmas.{one_text-rows}

@@ -1,4 +1,4 @@
-use Rattle.std.proofs.Common.{Some, None, arith, rules, ap, ap₂, sym, ◌∙◌, ◌≡◌, ◌++◌, ◌∷◌, subst}
+use Rattle.std.proofs.Common.{Some, None, arith, rules, ap₂, sym, ◌∙◌, ◌≡◌, ◌++◌, ◌∷◌, subst}
 use Rattle.std.specs.Prelude.{string_bytes}
 use Rattle.std.proofs.lemmas.Str.Pattern.{split_parts}
 use Rattle.command_line.specs.Words.{HasNoEquals}
