@@ -28,13 +28,13 @@ fn finish_line<A: Answerer, W: Write>(
 ) -> Result<(), ServeFault>
     requires { length held.old.items ≤ limit }
     ensures ok { OnOk result ((held.new.items ≡ []) × (length (held.old.items ++ line.now) ≤ limit)
-        × WithAnswer (A.Answers answerer.now) (held.old.items ++ line.now)
+        × WithAnswer (A.answered_by answerer.now) (held.old.items ++ line.now)
         (Sends (W.contents (device_of writer.old)) pending.old.items (W.contents (device_of writer.new)) pending.new.items)) }
     ensures err { IfErr result (λ fault. AtFault fault
         (Sends (W.contents (device_of writer.old)) pending.old.items (W.contents (device_of writer.new)) pending.new.items []
         × (limit < length (held.old.items ++ line.now)))
         ⊥
-        ((length (held.old.items ++ line.now) ≤ limit) × WithAnswer (A.Answers answerer.now) (held.old.items ++ line.now)
+        ((length (held.old.items ++ line.now) ≤ limit) × WithAnswer (A.answered_by answerer.now) (held.old.items ++ line.now)
         (λ out. IsCut (W.contents (device_of writer.old)) (W.contents (device_of writer.new)) (pending.old.items ++ out)))
         (Sends (W.contents (device_of writer.old)) pending.old.items (W.contents (device_of writer.new)) pending.new.items [])) }
     ensures faults { faults_of writer.new ≡ faults_at result ServeFault.WriteFault (faults_of writer.old) }
@@ -72,11 +72,11 @@ pub fn feed<A: Answerer, W: Write>(
     requires { IsLine held.old.items }
     ensures ok { IfOk result (λ n. (lines : List (List ℕ)) × Splits (held.old.items ++ block.now) lines held.new.items
         × (n ≡ length lines)
-        × WithAnswers (A.Answers answerer.now) lines
+        × WithAnswers (A.answered_by answerer.now) lines
         (Sends (W.contents (device_of writer.old)) pending.old.items (W.contents (device_of writer.new)) pending.new.items)) }
     ensures held { OnOk result (IsLine held.new.items) }
     ensures count { IfOk result (λ n. n ≤ length block.now) }
-    ensures err { IfErr result (Stopped (A.Answers answerer.now) (held.old.items ++ block.now)
+    ensures err { IfErr result (Stopped (A.answered_by answerer.now) (held.old.items ++ block.now)
         (Sends (W.contents (device_of writer.old)) pending.old.items (W.contents (device_of writer.new)) pending.new.items)
         (λ out. IsCut (W.contents (device_of writer.old)) (W.contents (device_of writer.new)) (pending.old.items ++ out))
         (λ _. ⊥)) }
@@ -114,10 +114,10 @@ pub fn finish<A: Answerer, W: Write>(
 ) -> Result<u64, ServeFault>
     requires { count < 2 ^ 63 }
     ensures ok { IfOk result (λ n. (n ≡ count + length (last_of held.now.items))
-        × WithAnswers (A.Answers answerer.now) (last_of held.now.items)
+        × WithAnswers (A.answered_by answerer.now) (last_of held.now.items)
         (Sends (W.contents (device_of writer.old)) pending.old.items (W.contents (device_of writer.new)) pending.new.items)) }
     ensures err { IfErr result (λ fault. AtFault fault ⊥ ⊥
-        (WithAnswers (A.Answers answerer.now) (last_of held.now.items)
+        (WithAnswers (A.answered_by answerer.now) (last_of held.now.items)
         (λ out. IsCut (W.contents (device_of writer.old)) (W.contents (device_of writer.new)) (pending.old.items ++ out)))
         (Sends (W.contents (device_of writer.old)) pending.old.items (W.contents (device_of writer.new)) pending.new.items [])) }
     ensures faults { faults_of writer.new ≡ faults_at result ServeFault.WriteFault (faults_of writer.old) }

@@ -63,7 +63,7 @@ fn put<W: Write>(
 
 // The answer of a line, with its line feed.
 fn answer_whole<A: Answerer>(alloc: Global, answerer: &A, line: &[u8]) -> Result<String, NoMemory>
-    ensures { IfOk result (λ text. WithAnswer (A.Answers answerer.now) line.now (λ out. string_bytes text ≡ out)) }
+    ensures { IfOk result (λ text. WithAnswer (A.answered_by answerer.now) line.now (λ out. string_bytes text ≡ out)) }
 {
     let mut text = answerer.answer(alloc, line)?;
     text.push_str("\n")?;
@@ -82,10 +82,10 @@ pub fn answer_line<A: Answerer, W: Write>(
     pending: &mut Vec<u8>,
     line: &[u8],
 ) -> Result<(), ServeFault>
-    ensures ok { OnOk result (WithAnswer (A.Answers answerer.now) line.now
+    ensures ok { OnOk result (WithAnswer (A.answered_by answerer.now) line.now
         (Sends (W.contents (device_of writer.old)) pending.old.items (W.contents (device_of writer.new)) pending.new.items)) }
     ensures err { IfErr result (λ fault. AtFault fault ⊥ ⊥
-        (WithAnswer (A.Answers answerer.now) line.now (λ out. IsCut (W.contents (device_of writer.old)) (W.contents (device_of writer.new)) (pending.old.items ++ out)))
+        (WithAnswer (A.answered_by answerer.now) line.now (λ out. IsCut (W.contents (device_of writer.old)) (W.contents (device_of writer.new)) (pending.old.items ++ out)))
         (Sends (W.contents (device_of writer.old)) pending.old.items (W.contents (device_of writer.new)) pending.new.items [])) }
     ensures faults { faults_of writer.new ≡ faults_at result ServeFault.WriteFault (faults_of writer.old) }
 {

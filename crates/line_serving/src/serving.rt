@@ -38,10 +38,10 @@ fn serve_lines<A: Answerer, R: Read, W: Write>(
     requires room { length block.old ≡ 65536 }
     ensures ok { IfOk result (λ n. (text : List ℕ) × Consumes (R.remaining (device_of reader.old)) (R.remaining (device_of reader.new)) text
         × IsAtEnd (R.remaining (device_of reader.new))
-        × IsAnswered (A.Answers answerer.now) text n
+        × IsAnswered (A.answered_by answerer.now) text n
         (Sends (W.contents (device_of writer.old)) [] (W.contents (device_of writer.new)) pending.new.items)) }
     ensures err { IfErr result (λ fault. (text : List ℕ) × Consumes (R.remaining (device_of reader.old)) (R.remaining (device_of reader.new)) text
-        × Fails (A.Answers answerer.now) text
+        × Fails (A.answered_by answerer.now) text
         (Sends (W.contents (device_of writer.old)) [] (W.contents (device_of writer.new)) pending.new.items)
         (IsCut (W.contents (device_of writer.old)) (W.contents (device_of writer.new)))
         (R.remaining (device_of reader.new))
@@ -86,10 +86,10 @@ fn serve_blocks<A: Answerer, R: Read, W: Write>(
     requires { pending.old.items ≡ [] }
     ensures ok { IfOk result (λ n. (text : List ℕ) × Consumes (R.remaining (device_of reader.old)) (R.remaining (device_of reader.new)) text
         × IsAtEnd (R.remaining (device_of reader.new))
-        × IsAnswered (A.Answers answerer.now) text n
+        × IsAnswered (A.answered_by answerer.now) text n
         (Sends (W.contents (device_of writer.old)) [] (W.contents (device_of writer.new)) pending.new.items)) }
     ensures err { IfErr result (λ fault. (text : List ℕ) × Consumes (R.remaining (device_of reader.old)) (R.remaining (device_of reader.new)) text
-        × Fails (A.Answers answerer.now) text
+        × Fails (A.answered_by answerer.now) text
         (Sends (W.contents (device_of writer.old)) [] (W.contents (device_of writer.new)) pending.new.items)
         (IsCut (W.contents (device_of writer.old)) (W.contents (device_of writer.new)))
         (R.remaining (device_of reader.new))
@@ -126,11 +126,11 @@ pub fn serve<A: Answerer, R: Read, W: Write>(
     // All of the input was read, and what was written is the output of its lines.
     ensures ok { IfOk result (λ n. (text : List ℕ) × Consumes (R.remaining (device_of reader.old)) (R.remaining (device_of reader.new)) text
         × IsAtEnd (R.remaining (device_of reader.new))
-        × IsAnswered (A.Answers answerer.now) text n (Appends (W.contents (device_of writer.old)) (W.contents (device_of writer.new)))) }
+        × IsAnswered (A.answered_by answerer.now) text n (Appends (W.contents (device_of writer.old)) (W.contents (device_of writer.new)))) }
 
     // After a fault the answers of the lines before it were written, or a front of them where the writer failed.
     ensures err { IfErr result (λ fault. (text : List ℕ) × Consumes (R.remaining (device_of reader.old)) (R.remaining (device_of reader.new)) text
-        × Fails (A.Answers answerer.now) text
+        × Fails (A.answered_by answerer.now) text
         (Appends (W.contents (device_of writer.old)) (W.contents (device_of writer.new)))
         (IsCut (W.contents (device_of writer.old)) (W.contents (device_of writer.new)))
         (R.remaining (device_of reader.new))

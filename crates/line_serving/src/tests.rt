@@ -10,7 +10,7 @@ use std::test::Fail;
 struct Echo;
 
 impl Answerer for Echo {
-    ghost Answers = { λ _ _ _. Unit {0} };
+    ghost answered_by = { λ _ _ _. Unit {0} };
 
     fn answer(&self, alloc: Global, line: &[u8]) -> Result<String, NoMemory> {
         match str::from_utf8(line) {
@@ -27,7 +27,7 @@ struct Fixed;
 const REFUSAL: &str = "{\"errors\":[{\"message\":\"not a request\"}]}";
 
 impl Answerer for Fixed {
-    ghost Answers = { λ _ _ _. Unit {0} };
+    ghost answered_by = { λ _ _ _. Unit {0} };
 
     fn answer(&self, alloc: Global, _line: &[u8]) -> Result<String, NoMemory> {
         Ok(String::from_str(alloc, REFUSAL)?)

@@ -28,7 +28,7 @@ loop-line-preserved g c =
         one_more _ _ _ c.in-Some.after.now _ lines cut.0 inv.answered.2 ∙ ap (λ l. flat_map ended (lines ++ line ∷ []) ++ (l ++ c.in-Some.after.now)) (sym done.0),
         All-push IsLine lines line inv.answered.3 (is_line _ _ inv.held cut.1 done.1),
         count_more _ lines line inv.answered.4,
-        are_more (g.A.Answerer.Answers c.args.answerer.now) lines line inv.answered.1 done.2.0 inv.answered.5 done.2.1,
+        are_more (g.A.Answerer.answered_by c.args.answerer.now) lines line inv.answered.1 done.2.0 inv.answered.5 done.2.1,
         sends_trans _ (g.W.Write.contents c.loop-line.writer.device) _ _ c.loop-line.pending.items _ inv.answered.1 (ended done.2.0) inv.answered.6 done.2.2,
       );
       held = subst IsLine (sym done.0) no_line;
@@ -40,7 +40,7 @@ pub returns-in-Err-clause-err : goal.returns-in-Err-clause-err
 returns-in-Err-clause-err g c =
     let inv = c.loop-line.invariant in
     let cut = c.in-Some.ensures in
-    stopped_at (g.A.Answerer.Answers c.args.answerer.now) c.in-Err.fault _ (g.W.Write.contents c.loop-line.writer.device) _ _ c.loop-line.pending.items _ _ _ _ _ _ inv.answered.1 inv.answered.0 _ cut.0 inv.answered.2 inv.answered.3 inv.held cut.1 inv.answered.5 inv.answered.6 c.in-Err.ensures.err
+    stopped_at (g.A.Answerer.answered_by c.args.answerer.now) c.in-Err.fault _ (g.W.Write.contents c.loop-line.writer.device) _ _ c.loop-line.pending.items _ _ _ _ _ _ inv.answered.1 inv.answered.0 _ cut.0 inv.answered.2 inv.answered.3 inv.held cut.1 inv.answered.5 inv.answered.6 c.in-Err.ensures.err
 
 pub returns-then-rest-len-clause-err : goal.returns-then-rest-len-clause-err
 returns-then-rest-len-clause-err g c =

@@ -7,7 +7,7 @@ use Rattle.line_serving.proofs.feed.feed.Given as goal
 abbrev pub invariant-loop-line : goal.invariant-loop-line
 invariant-loop-line g l = record {
   answered : (lines : List (List ℕ)) × (out : List ℕ) × (l.initial.held.items ++ l.block ≡ flat_map ended lines ++ (l.held.items ++ l.rest)) × All IsLine lines × (l.count ≡ length lines)
-      × AreAnswers (g.A.Answerer.Answers l.answerer) lines out
+      × AreAnswers (g.A.Answerer.answered_by l.answerer) lines out
       × Sends (g.W.Write.contents l.initial.writer.device) l.initial.pending.items (g.W.Write.contents l.writer.device) l.pending.items out;
   held : IsLine l.held.items;
   count : l.count + length l.rest ≤ length l.block;

@@ -20,7 +20,7 @@ returns-in-Err-LineTooLong-clause-err g c =
     let was = c.in-Err-LineTooLong.ensures.err in (
       was.0,
       was.1,
-      cut_long (g.A.Answerer.Answers c.args.answerer.now) c.in-Err-LineTooLong.field-0 (g.W.Write.contents c.args.writer.now.device) (g.W.Write.contents c.serve_blocks.new.writer.device) (g.W.Write.contents c.close-in-Err-LineTooLong.new.writer.device)
+      cut_long (g.A.Answerer.answered_by c.args.answerer.now) c.in-Err-LineTooLong.field-0 (g.W.Write.contents c.args.writer.now.device) (g.W.Write.contents c.serve_blocks.new.writer.device) (g.W.Write.contents c.close-in-Err-LineTooLong.new.writer.device)
           (g.R.Read.remaining c.serve_blocks.new.reader.device) c.serve_blocks.new.pending.items was.0 c.in-Err-LineTooLong.field-0-is c.in-Err-close.ensures.err was.2,
     )
 
@@ -29,7 +29,7 @@ returns-in-Err-ReadFault-clause-err g c =
     let was = c.in-Err-ReadFault.ensures.err in (
       was.0,
       was.1,
-      cut_read (g.A.Answerer.Answers c.args.answerer.now) c.in-Err-ReadFault.field-0 (g.W.Write.contents c.args.writer.now.device) (g.W.Write.contents c.serve_blocks.new.writer.device) (g.W.Write.contents c.close-in-Err-ReadFault.new.writer.device)
+      cut_read (g.A.Answerer.answered_by c.args.answerer.now) c.in-Err-ReadFault.field-0 (g.W.Write.contents c.args.writer.now.device) (g.W.Write.contents c.serve_blocks.new.writer.device) (g.W.Write.contents c.close-in-Err-ReadFault.new.writer.device)
           (g.R.Read.remaining c.serve_blocks.new.reader.device) c.serve_blocks.new.pending.items was.0 c.in-Err-ReadFault.field-0-is c.in-Err-close-2.ensures.err was.2,
     )
 
@@ -38,6 +38,6 @@ returns-clause-err g c =
     let was = c.in-Err-NoMemory.ensures.err in (
       was.0,
       was.1,
-      cut_memory (g.A.Answerer.Answers c.args.answerer.now) c.in-Err-NoMemory.field-0 (g.W.Write.contents c.args.writer.now.device) (g.W.Write.contents c.serve_blocks.new.writer.device) (g.W.Write.contents c.close-in-Err-NoMemory.new.writer.device)
+      cut_memory (g.A.Answerer.answered_by c.args.answerer.now) c.in-Err-NoMemory.field-0 (g.W.Write.contents c.args.writer.now.device) (g.W.Write.contents c.serve_blocks.new.writer.device) (g.W.Write.contents c.close-in-Err-NoMemory.new.writer.device)
           (g.R.Read.remaining c.serve_blocks.new.reader.device) c.serve_blocks.new.pending.items was.0 c.in-Err-NoMemory.field-0-is c.in-Err-close-3.ensures.err was.2,
     )

@@ -10,7 +10,7 @@ abbrev pub invariant-loop-n : goal.invariant-loop-n
 invariant-loop-n g l = record {
   answered : (lines : List (List ℕ)) × (out : List ℕ) × All IsLine lines × Consumes (g.R.Read.remaining l.initial.reader.device) (g.R.Read.remaining l.reader.device) (flat_map ended lines ++ l.held.items)
       × (l.count ≡ length lines)
-      × AreAnswers (g.A.Answerer.Answers l.answerer) lines out
+      × AreAnswers (g.A.Answerer.answered_by l.answerer) lines out
       × Sends (g.W.Write.contents l.initial.writer.device) [] (g.W.Write.contents l.writer.device) l.pending.items out;
   sent : l.pending.items ≡ [];
   held : IsLine l.held.items;
