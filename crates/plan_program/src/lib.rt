@@ -1,0 +1,7 @@
+//! x
+#![tactic(auto)]
+
+/// x
+pub fn one() -> u8 {
+    1
+}
