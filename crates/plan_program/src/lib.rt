@@ -1,7 +1,19 @@
-//! x
+//! What a plan asks, as a program: the fields that are collected of an object type, their arguments, and the loads of their
+//! bindings (sections 6.3 and 6.4.1 of the GraphQL specification of October 2021).
+//!
+//! `specs/PlanPrograms.antt` gives each plan its program in the words of `execution`. The layer above executes it, and may
+//! rely on this: [`collect`], [`arguments_of`] and [`prepare`] give exactly the parts of that definition.
 #![tactic(auto)]
 
-/// x
-pub fn one() -> u8 {
-    1
-}
+mod arguments;
+mod chosen;
+mod collect;
+mod collected;
+mod group;
+mod no_memory;
+mod type_refs;
+
+pub use arguments::{ArgFault, Args, arguments_of};
+pub use collect::{collect, collect_below};
+pub use group::Group;
+pub use no_memory::NoMemory;
