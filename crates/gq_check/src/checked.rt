@@ -40,7 +40,7 @@ impl<'a> Checked<'a> {
 
     /// The document, to be kept.
     pub(crate) fn into_document(self) -> Document
-        ensures { result ≡ self.document }
+        ensures { result ≡ self.entry.document }
     {
         self.document
     }

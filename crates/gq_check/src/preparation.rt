@@ -53,10 +53,10 @@ pub fn prepare<'a>(
     requires { checked.definitions ≡ schema.now }
     ensures schema { IfOk result (λ plan. plan.definitions ≡ schema.now) }
     ensures bindings { IfOk result (λ plan. plan.bindings ≡ bindings.now) }
-    ensures fragments { IfOk result (λ plan. plan.fragments ≡ checked.document.fragments.items) }
-    ensures ok { IfOk result (λ plan. prepared (tree_of schema.now) (map operation_of checked.document.operations.items) (option_map (λ name. name.now) operation_name.entry) (view variables.now)
+    ensures fragments { IfOk result (λ plan. plan.fragments ≡ checked.entry.document.fragments.items) }
+    ensures ok { IfOk result (λ plan. prepared (tree_of schema.now) (map operation_of checked.entry.document.operations.items) (option_map (λ name. name.now) operation_name.entry) (view variables.now)
         ≡ Ok (record { operation = (plan_of plan).operation; variables = (plan_of plan).variables })) }
-    ensures err { IfErr result (IsPrepareFault (prepared (tree_of schema.now) (map operation_of checked.document.operations.items) (option_map (λ name. name.now) operation_name.entry) (view variables.now))) }
+    ensures err { IfErr result (IsPrepareFault (prepared (tree_of schema.now) (map operation_of checked.entry.document.operations.items) (option_map (λ name. name.now) operation_name.entry) (view variables.now))) }
 {
     let Document {
         operations,

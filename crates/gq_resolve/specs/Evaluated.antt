@@ -35,4 +35,4 @@ pub record AddsPart (old new : List WantedOf) (loads : List Load) : Type 0 where
 -- a plan can be evaluated over the memory, and what it lacks can be wanted
 pub record CanEvaluate (plan : PlanOf) (m : MemoryOf) (wants : List WantedOf) : Type 0 where
   pub loaders : length plan.bindings.loaders ≤ length m.modes
-  pub wants : modes_wanted wants ≡ m.modes
+  pub modes : modes_wanted wants ≡ m.modes

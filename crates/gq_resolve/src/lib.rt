@@ -5,10 +5,12 @@
 //! (`plan_program::specs::PlanPrograms`) where nothing is missing, and else adds the front to the wants.
 #![tactic(auto)]
 
+mod answer;
 mod answered;
-mod evaluate;
+mod evaluation;
 mod no_memory;
 
+pub use answer::answer_text;
 pub use answered::Answered;
-pub use evaluate::evaluate;
+pub use evaluation::evaluate;
 pub use no_memory::NoMemory;

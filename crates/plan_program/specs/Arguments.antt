@@ -6,8 +6,8 @@ use Rattle.schema_syntax.specs.Tree.{Argument, Field}
 use Rattle.gq_schema.specs.Inputs.{Input, Null}
 use Rattle.gq_schema.specs.Types.{field_in, is_non_null}
 use Rattle.gq_schema.specs.Coercion.{named_value, all_items, list_input, one_item, coerced}
-use Rattle.plan_program.specs.Plans.{value_in}
-use Rattle.plan_program.specs.Plans.{PlanOf}
+use Rattle.variable_values.specs.Variables.{value_in}
+use Rattle.gq_check.specs.Plans.{PlanOf}
 use Rattle.plan_program.specs.Chosen.{given_to}
 use Rattle.plan_program.specs.Groups.{FieldOf, GroupOf}
 

@@ -13,7 +13,7 @@ use Rattle.gq_schema.specs.Types.{field_in, is_non_null, core_of}
 use Rattle.gq_schema.specs.BindingsTree.{BindingOf, by_column, by_one, by_many, by_each, by_via, binding_in}
 use Rattle.load_memory.specs.Keys.{KeyOf, all, text}
 use Rattle.execution.specs.Program.{Own, Value, Null, Fault, Text, Spot, Key}
-use Rattle.plan_program.specs.Plans.{PlanOf}
+use Rattle.gq_check.specs.Plans.{PlanOf}
 use Rattle.plan_program.specs.Groups.{FieldOf, GroupOf}
 use Rattle.plan_program.specs.Arguments.{ArgumentsOf, ValueOf, all_values, null_argument, arguments_of}
 use Rattle.plan_program.specs.Texts.{null_argument_message}

@@ -6,8 +6,8 @@ use Rattle.gq_parser.specs.Tree.{Value, Variable, Argument, Directive, Condition
 use Rattle.gq_parser.specs.Tree as literal
 use Rattle.gq_schema.specs.Inputs.{Input, Boolean}
 use Rattle.gq_schema.specs.Types.{can_be}
-use Rattle.plan_program.specs.Plans.{value_in}
-use Rattle.plan_program.specs.Plans.{PlanOf}
+use Rattle.variable_values.specs.Variables.{value_in}
+use Rattle.gq_check.specs.Plans.{PlanOf}
 
 -- true, and no other value
 abbrev pub is_true_input : Option Input → Bool

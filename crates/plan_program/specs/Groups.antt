@@ -4,7 +4,7 @@ use Rattle.std.specs.Prelude.{ℕ, zero, suc, Bool, not, ◌||◌, List, [], ◌
 use Rattle.std.specs.List.{list_any}
 use Rattle.gq_lexer.specs.declared.place.Place.{Place}
 use Rattle.gq_parser.specs.Tree.{Argument, Selection, Field, Spread, Inline, Below, nothing_below, below, SelectionSet, set_at, Selections, no_selection, and_selection, Fragment}
-use Rattle.plan_program.specs.Plans.{PlanOf, fragment_in}
+use Rattle.gq_check.specs.Plans.{PlanOf, fragment_in}
 use Rattle.plan_program.specs.Chosen.{is_left_out, applies}
 
 -- a field that is chosen

@@ -12,7 +12,7 @@ use Rattle.load_memory.specs.Keys.{KeyOf, text}
 use Rattle.load_memory.specs.Rows.{RowOf, cell_of}
 use Rattle.load_memory.specs.Outcomes.{OutcomeOf, known, batch_fault, rows, key_fault}
 use Rattle.execution.specs.Program.{Leaf, Text, Int, Boolean, Own, Value, Null, Fault, ListOf as Listed, ObjectOf, Item, Spot, Program, Is, Read, Under, Programs, End, With}
-use Rattle.plan_program.specs.Plans.{PlanOf}
+use Rattle.gq_check.specs.Plans.{PlanOf}
 use Rattle.plan_program.specs.Groups.{FieldOf, selections_in, nothing_collected, collect, collect_below}
 use Rattle.plan_program.specs.Asked.{KeyFrom, fixed, of_column, BelowOf, AskedOf, known as settled, cell, first_row, all_rows, each_row, joined_rows, PreparedOf, all_prepared}
 use Rattle.plan_program.specs.Texts.{bad_value_message, no_column_message, no_type_message, not_type_message, is_int_text}
