@@ -2,5 +2,8 @@ pub mod Chosen
 pub mod Groups
 pub mod Arguments
 pub mod Texts
+pub mod Seen
+pub mod Collecting
+pub mod Coercing
 pub mod Asked
 pub mod PlanPrograms

@@ -5,6 +5,16 @@
 //! rely on this: [`collect`], [`arguments_of`] and [`prepare`] give exactly the parts of that definition.
 #![tactic(auto)]
 
+mod arguments;
+mod chosen;
+mod collected;
+mod collection;
+mod fields;
+mod group;
 mod no_memory;
+mod type_refs;
 
+pub use arguments::{ArgFault, Args, arguments_of};
+pub use collection::{collect, collect_below};
+pub use group::Group;
 pub use no_memory::NoMemory;
