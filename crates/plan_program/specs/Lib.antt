@@ -6,4 +6,5 @@ pub mod Seen
 pub mod Collecting
 pub mod Coercing
 pub mod Asked
+pub mod Prepared
 pub mod PlanPrograms

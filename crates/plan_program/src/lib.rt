@@ -12,9 +12,15 @@ mod collection;
 mod fields;
 mod group;
 mod no_memory;
+mod preparation;
+mod prepared;
+mod texts;
 mod type_refs;
 
 pub use arguments::{ArgFault, Args, arguments_of};
 pub use collection::{collect, collect_below};
 pub use group::Group;
 pub use no_memory::NoMemory;
+pub use preparation::prepare;
+pub use prepared::{Asked, Below, KeyFrom, Own, Prepared};
+pub use texts::{bad_value_message, no_column_message, no_type_message, not_type_message};
