@@ -7,8 +7,12 @@
 
 mod answer;
 mod answered;
+mod build;
+mod cells;
 mod evaluation;
 mod no_memory;
+mod reading;
+mod state;
 
 pub use answer::answer_text;
 pub use answered::Answered;

@@ -19,3 +19,21 @@ impl<T: Drop> From<AllocFailed<T>> for NoMemory {
         NoMemory
     }
 }
+
+impl From<answer_json::NoMemory> for NoMemory {
+    fn from(_e: answer_json::NoMemory) -> NoMemory {
+        NoMemory
+    }
+}
+
+impl From<load_memory::NoMemory> for NoMemory {
+    fn from(_e: load_memory::NoMemory) -> NoMemory {
+        NoMemory
+    }
+}
+
+impl From<plan_program::NoMemory> for NoMemory {
+    fn from(_e: plan_program::NoMemory) -> NoMemory {
+        NoMemory
+    }
+}
