@@ -49,8 +49,8 @@ programs_of [] = End
 programs_of (c ∷ cs) = With (spot_of c.0) c.1 (programs_of cs)
 
 abbrev pub state_step : PlanOf → State-F Program → Program
-state_step plan (Waits loader key then levels below) =
-    Read (record { loader = loader; key = key_of key }) (with_rows (then_rows plan levels then (below_seen (arc_value below))))
+state_step plan (Waits loader key next levels below) =
+    Read (record { loader = loader; key = key_of key }) (with_rows (then_rows plan levels next (below_seen (arc_value below))))
 state_step plan (Done own) = Is (own_seen own)
 state_step plan (Over k children) = Under (kind_of k) (programs_of children.items)
 

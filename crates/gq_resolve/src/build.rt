@@ -116,11 +116,11 @@ fn asked<'p>(
             column,
             below,
         } => {
-            let then = Then::Joined {
+            let next = Then::Joined {
                 second: *second,
                 column: *column,
             };
-            read_from(alloc, plan, memory, levels, *loader, key, then, below, row)
+            read_from(alloc, plan, memory, levels, *loader, key, next, below, row)
         }
     }
 }
@@ -134,19 +134,19 @@ fn read_from<'p>(
     levels: u32,
     loader: usize,
     key: &KeyFrom<'p>,
-    then: Then<'p>,
+    next: Then<'p>,
     below: &Arc<Below<'p>>,
     row: &Row,
 ) -> Result<State<'p>, NoMemory>
-    ensures { IfOk result (λ state. program_of (plan_of plan.now) state ≡ rest (read_from loader (key_from_seen key.now) row.now (then_rows (plan_of plan.now) levels then.entry (below_seen (arc_value below.now)))) (told memory.now)) }
+    ensures { IfOk result (λ state. program_of (plan_of plan.now) state ≡ rest (read_from loader (key_from_seen key.now) row.now (then_rows (plan_of plan.now) levels next.entry (below_seen (arc_value below.now)))) (told memory.now)) }
 {
     match key {
         KeyFrom::Fixed(key) => {
             let key = key.clone()?;
-            read(alloc, plan, memory, levels, loader, key, then, below)
+            read(alloc, plan, memory, levels, loader, key, next, below)
         }
         KeyFrom::Column(column) => {
-            read_cell(alloc, plan, memory, levels, loader, column, then, below, row)
+            read_cell(alloc, plan, memory, levels, loader, column, next, below, row)
         }
     }
 }
@@ -160,18 +160,18 @@ fn read_cell<'p>(
     levels: u32,
     loader: usize,
     column: &str,
-    then: Then<'p>,
+    next: Then<'p>,
     below: &Arc<Below<'p>>,
     row: &Row,
 ) -> Result<State<'p>, NoMemory>
-    ensures { IfOk result (λ state. program_of (plan_of plan.now) state ≡ rest (read_cell loader column.now (cell_of row.now column.now) (then_rows (plan_of plan.now) levels then.entry (below_seen (arc_value below.now)))) (told memory.now)) }
+    ensures { IfOk result (λ state. program_of (plan_of plan.now) state ≡ rest (read_cell loader column.now (cell_of row.now column.now) (then_rows (plan_of plan.now) levels next.entry (below_seen (arc_value below.now)))) (told memory.now)) }
 {
     match row.get(column) {
         Cell::NoColumn => Ok(State::Done(Own::Fault(no_column_message(alloc, column)?))),
         Cell::Null => Ok(State::Done(Own::Null)),
         Cell::Text(text) => {
             let key = Key::Text(String::from_str(alloc, text)?);
-            read(alloc, plan, memory, levels, loader, key, then, below)
+            read(alloc, plan, memory, levels, loader, key, next, below)
         }
     }
 }
@@ -185,17 +185,17 @@ pub fn read<'p>(
     levels: u32,
     loader: usize,
     key: Key,
-    then: Then<'p>,
+    next: Then<'p>,
     below: &Arc<Below<'p>>,
 ) -> Result<State<'p>, NoMemory>
-    ensures { IfOk result (λ state. program_of (plan_of plan.now) state ≡ rest (Read (record { loader = loader; key = key_of key }) (with_rows (then_rows (plan_of plan.now) levels then.entry (below_seen (arc_value below.now))))) (told memory.now)) }
+    ensures { IfOk result (λ state. program_of (plan_of plan.now) state ≡ rest (Read (record { loader = loader; key = key_of key }) (with_rows (then_rows (plan_of plan.now) levels next.entry (below_seen (arc_value below.now))))) (told memory.now)) }
 {
     match told(alloc, memory, loader, &key)? {
-        Some(outcome) => go_on(alloc, plan, memory, levels, then, below, outcome),
+        Some(outcome) => go_on(alloc, plan, memory, levels, next, below, outcome),
         None => Ok(State::Waits {
             loader,
             key,
-            then,
+            next,
             levels,
             below: Arc::try_clone(below)?,
         }),
@@ -209,14 +209,14 @@ fn go_on<'p>(
     plan: &'p Plan<'_>,
     memory: &Memory,
     levels: u32,
-    then: Then<'p>,
+    next: Then<'p>,
     below: &Arc<Below<'p>>,
     outcome: &Outcome,
 ) -> Result<State<'p>, NoMemory>
-    ensures { IfOk result (λ state. program_of (plan_of plan.now) state ≡ rest (with_rows (then_rows (plan_of plan.now) levels then.entry (below_seen (arc_value below.now))) (outcome_of outcome.now)) (told memory.now)) }
+    ensures { IfOk result (λ state. program_of (plan_of plan.now) state ≡ rest (with_rows (then_rows (plan_of plan.now) levels next.entry (below_seen (arc_value below.now))) (outcome_of outcome.now)) (told memory.now)) }
 {
     match outcome {
-        Outcome::Rows(rows) => match then {
+        Outcome::Rows(rows) => match next {
             Then::First => first(alloc, plan, memory, levels, below, rows),
             Then::All => all(alloc, plan, memory, levels, below, rows),
             Then::Joined { second, column } => {

@@ -50,7 +50,7 @@ pub enum State<'p> {
     Waits {
         loader: usize,
         key: Key,
-        then: Then<'p>,
+        next: Then<'p>,
         levels: u32,
         below: Arc<Below<'p>>,
     },

@@ -1,0 +1,112 @@
+-- A state that is built child by child is what is left of its program.
+use Rattle.std.proofs.Common.{◌≡◌, ℕ, zero, suc, ◌≤◌, ◌<◌, ◌-◌, ◌+◌, Bool, List, [], ◌∷◌, ◌++◌, map, take, length, get_or, sym, ◌∙◌, ap, subst, refl, arith, Vec}
+use Rattle.std.proofs.lemmas.List.{take_more, take_all, get_or_default}
+use Rattle.std.proofs.lemmas.Grind.{common_steps}
+use Rattle.std.specs.declared.alloc.Global.{Global}
+use Rattle.gq_lexer.specs.declared.place.Place.{Place}
+use Rattle.execution.specs.Loads.{Reader}
+use Rattle.execution.specs.Program.{Item, Spot, Program, Is, Under, Programs, End, With}
+use Rattle.execution.specs.Residual.{rest, all_rest}
+use Rattle.gq_check.specs.Plans.{PlanOf}
+use Rattle.plan_program.specs.declared.prepared.Own.{Own}
+use Rattle.plan_program.specs.declared.prepared.Prepared.{Prepared}
+use Rattle.plan_program.specs.Asked.{AskedOf, PreparedOf, BelowOf}
+use Rattle.plan_program.specs.Prepared.{own_seen, prepared_seen, all_prepared_seen}
+use Rattle.plan_program.specs.PlanPrograms.{places, list_of, fields_of}
+use Rattle.gq_resolve.specs.States.{kind_of, spot_of, programs_of, state_step, program_of}
+use Rattle.gq_resolve.specs.declared.state.Kind.{Kind}
+use Rattle.gq_resolve.specs.declared.state.Spot as rust
+use Rattle.gq_resolve.specs.declared.state.State.{State, fold-roll-State}
+use Rattle.gq_resolve.specs.declared.state.State.TheVariants.{Done, Over, rolls-Done, rolls-Over}
+use Rattle.gq_resolve.specs.declared.state.State.TheOpen.{Done as Done-F, Over as Over-F}
+
+abbrev pub chained : Programs → Programs → Programs
+chained End qs = qs
+chained (With spot p ps) qs = With spot p (chained ps qs)
+
+all_rest-chained : (ps qs : Programs) (R : Reader) → all_rest (chained ps qs) R ≡ chained (all_rest ps R) (all_rest qs R)
+all_rest-chained End qs R = refl
+all_rest-chained (With spot p ps) qs R = rw (all_rest-chained ps qs R) refl
+
+abbrev pub view_of : PlanOf → (rust.Spot × State) → (rust.Spot × Program)
+view_of plan c = (c.0, program_of plan c.1)
+
+pub programs_of-append : (plan : PlanOf) (xs : List (rust.Spot × State)) (c : rust.Spot × State)
+    → programs_of (map (view_of plan) (xs ++ c ∷ [])) ≡ chained (programs_of (map (view_of plan) xs)) (With (spot_of c.0) (program_of plan c.1) End)
+programs_of-append plan [] c = refl
+programs_of-append plan (x ∷ xs) c = rw (programs_of-append plan xs c) refl
+
+-- the children so far are what is left of these programs
+pub record Gathers (plan : PlanOf) (R : Reader) (ps : Programs) (children : List (rust.Spot × State)) : Type 0 where
+  pub left : programs_of (map (view_of plan) children) ≡ all_rest ps R
+
+pub gathers-more : (plan : PlanOf) (R : Reader) (ps : Programs) (children children' : List (rust.Spot × State)) (spot : rust.Spot) (p : Program) (s : State)
+    → Gathers plan R ps children → program_of plan s ≡ rest p R → children' ≡ children ++ (spot, s) ∷ [] → Gathers plan R (chained ps (With (spot_of spot) p End)) children'
+gathers-more plan R ps children children' spot p s g h pushed = record {
+  left = ap (λ cs. programs_of (map (view_of plan) cs)) pushed ∙ (programs_of-append plan children (spot, s) ∙ (rw (g.left, h) (sym (all_rest-chained ps (With (spot_of spot) p End) R))));
+}
+
+pub program-over : (plan : PlanOf) (kind : Kind) (v : Vec (rust.Spot × State) Global) → program_of plan (Over kind v) ≡ Under (kind_of kind) (programs_of (map (view_of plan) v.items))
+program-over plan kind v = ap (program_of plan) (sym (rolls-Over kind v)) ∙ fold-roll-State Program (state_step plan) (Over-F kind v)
+
+pub program-done : (plan : PlanOf) (own : Own) → program_of plan (Done own) ≡ Is (own_seen own)
+program-done plan own = ap (program_of plan) (sym (rolls-Done own)) ∙ fold-roll-State Program (state_step plan) (Done-F own)
+
+gathers-done : (plan : PlanOf) (R : Reader) (kind : Kind) (ps : Programs) (v : Vec (rust.Spot × State) Global) → Gathers plan R ps v.items → program_of plan (Over kind v) ≡ rest (Under (kind_of kind) ps) R
+gathers-done plan R kind ps v g = program-over plan kind v ∙ ap (Under (kind_of kind)) g.left
+
+-- ---- places of a list
+
+abbrev item_spot : Bool → Place → ℕ → Spot
+item_spot non_null place n = record { part = Item n; non_null = non_null; place = place }
+
+places-append : {A : Type 0} (non_null : Bool) (place : Place) (f : A → Program) (n : ℕ) (xs : List A) (x : A)
+    → places non_null place n (map f (xs ++ x ∷ [])) ≡ chained (places non_null place n (map f xs)) (With (item_spot non_null place (n + length xs)) (f x) End)
+places-append non_null place f n [] x = let e : n + 0 ≡ n = omega arith in rw e refl
+places-append non_null place f n (y ∷ xs) x = let e : n + suc (length xs) ≡ suc n + length xs = omega arith in rw (e, places-append non_null place f (suc n) xs x) refl
+
+length-take-below : {A : Type 0} (xs : List A) (i : ℕ) → i < length xs → length (take i xs) ≡ i
+length-take-below xs i h = grind (arith, common_steps)
+
+places-more : {A : Type 0} (non_null : Bool) (place : Place) (f : A → Program) (xs : List A) (i : ℕ) (x : A) → i < length xs → x ≡ get_or xs i x
+    → places non_null place 0 (map f (take (i + 1) xs)) ≡ chained (places non_null place 0 (map f (take i xs))) (With (item_spot non_null place i) (f x) End)
+places-more non_null place f xs i x h e =
+    let len : 0 + length (take i xs) ≡ i = omega (arith, length-take-below xs i h) in
+    ap (λ ys. places non_null place 0 (map f ys)) (take_more xs i x h ∙ ap (λ y. take i xs ++ y ∷ []) (sym e)) ∙ places-append non_null place f 0 (take i xs) x
+    ∙ ap (λ n. chained (places non_null place 0 (map f (take i xs))) (With (item_spot non_null place n) (f x) End)) len
+
+abbrev pub places_below : {A : Type 0} → BelowOf → (A → Program) → List A → Programs
+places_below below f xs = places below.item_non_null below.place 0 (map f xs)
+
+-- the step of a loop over places
+pub gathers-place : {A : Type 0} (plan : PlanOf) (R : Reader) (below : BelowOf) (f : A → Program) (xs : List A) (i : ℕ) (d x : A) (children children' : List (rust.Spot × State)) (spot : rust.Spot) (s : State)
+    → i < length xs → x ≡ get_or xs i d → Gathers plan R (places_below below f (take i xs)) children → program_of plan s ≡ rest (f x) R
+    → spot_of spot ≡ item_spot below.item_non_null below.place i → children' ≡ children ++ (spot, s) ∷ [] → Gathers plan R (places_below below f (take (i + 1) xs)) children'
+gathers-place plan R below f xs i d x children children' spot s lt e g h at pushed =
+    let e' : x ≡ get_or xs i x = e ∙ get_or_default xs i d x lt in
+    rw (places-more below.item_non_null below.place f xs i x lt e', ← at) (gathers-more plan R (places_below below f (take i xs)) children children' spot (f x) s g h pushed)
+
+pub places-done : {A : Type 0} (plan : PlanOf) (R : Reader) (below : BelowOf) (f : A → Program) (kind : Kind) (xs : List A) (i : ℕ) (v : Vec (rust.Spot × State) Global)
+    → length xs ≤ i → Gathers plan R (places_below below f (take i xs)) v.items → program_of plan (Over kind v) ≡ rest (Under (kind_of kind) (places_below below f xs)) R
+places-done plan R below f kind xs i v le g =
+    gathers-done plan R kind (places_below below f xs) v (subst (λ ys. Gathers plan R (places_below below f ys) v.items) (take_all i xs le) g)
+
+-- ---- fields of an object
+
+fields-append : (f : AskedOf → Program) (xs : List Prepared) (x : Prepared)
+    → fields_of f (all_prepared_seen (xs ++ x ∷ [])) ≡ chained (fields_of f (all_prepared_seen xs)) (With (prepared_seen x).spot (f (prepared_seen x).asked) End)
+fields-append f [] x = refl
+fields-append f (y ∷ xs) x = rw (fields-append f xs x) refl
+
+-- the step of a loop over fields
+pub gathers-field : (plan : PlanOf) (R : Reader) (f : AskedOf → Program) (xs : List Prepared) (i : ℕ) (x : Prepared) (children children' : List (rust.Spot × State)) (spot : rust.Spot) (s : State)
+    → i < length xs → x ≡ get_or xs i x → Gathers plan R (fields_of f (all_prepared_seen (take i xs))) children → program_of plan s ≡ rest (f (prepared_seen x).asked) R
+    → spot_of spot ≡ (prepared_seen x).spot → children' ≡ children ++ (spot, s) ∷ [] → Gathers plan R (fields_of f (all_prepared_seen (take (i + 1) xs))) children'
+gathers-field plan R f xs i x children children' spot s lt e g h at pushed =
+    let more : take (i + 1) xs ≡ take i xs ++ x ∷ [] = take_more xs i x lt ∙ ap (λ y. take i xs ++ y ∷ []) (sym e) in
+    rw (more, fields-append f (take i xs) x, ← at) (gathers-more plan R (fields_of f (all_prepared_seen (take i xs))) children children' spot (f (prepared_seen x).asked) s g h pushed)
+
+pub fields-done : (plan : PlanOf) (R : Reader) (f : AskedOf → Program) (kind : Kind) (xs : List Prepared) (i : ℕ) (v : Vec (rust.Spot × State) Global)
+    → length xs ≤ i → Gathers plan R (fields_of f (all_prepared_seen (take i xs))) v.items → program_of plan (Over kind v) ≡ rest (Under (kind_of kind) (fields_of f (all_prepared_seen xs))) R
+fields-done plan R f kind xs i v le g =
+    gathers-done plan R kind (fields_of f (all_prepared_seen xs)) v (subst (λ ys. Gathers plan R (fields_of f (all_prepared_seen ys)) v.items) (take_all i xs le) g)
