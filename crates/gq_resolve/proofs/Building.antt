@@ -1,18 +1,21 @@
 -- A state that is built child by child is what is left of its program.
-use Rattle.std.proofs.Common.{◌≡◌, ℕ, zero, suc, ◌≤◌, ◌<◌, ◌-◌, ◌+◌, Bool, List, [], ◌∷◌, ◌++◌, map, take, length, get_or, sym, ◌∙◌, ap, subst, refl, arith, Vec}
+use Rattle.std.proofs.Common.{◌≡◌, ℕ, zero, suc, ◌≤◌, ◌<◌, ◌-◌, ◌+◌, Bool, List, [], ◌∷◌, ◌++◌, map, take, length, get_or, sym, ◌∙◌, ap, subst, refl, arith, Vec, Option, Some, false, ◌==◌}
 use Rattle.std.proofs.lemmas.List.{take_more, take_all, get_or_default}
 use Rattle.std.proofs.lemmas.Grind.{common_steps}
 use Rattle.std.specs.declared.alloc.Global.{Global}
 use Rattle.gq_lexer.specs.declared.place.Place.{Place}
+use Rattle.load_memory.specs.Keys.{text}
+use Rattle.load_memory.specs.Rows.{RowOf}
 use Rattle.execution.specs.Loads.{Reader}
 use Rattle.execution.specs.Program.{Item, Spot, Program, Is, Under, Programs, End, With}
 use Rattle.execution.specs.Residual.{rest, all_rest}
 use Rattle.gq_check.specs.Plans.{PlanOf}
 use Rattle.plan_program.specs.declared.prepared.Own.{Own}
 use Rattle.plan_program.specs.declared.prepared.Prepared.{Prepared}
-use Rattle.plan_program.specs.Asked.{AskedOf, PreparedOf, BelowOf}
+use Rattle.plan_program.specs.Groups.{FieldOf, nothing_collected, collect_below}
+use Rattle.plan_program.specs.Asked.{AskedOf, PreparedOf, BelowOf, all_prepared}
 use Rattle.plan_program.specs.Prepared.{own_seen, prepared_seen, all_prepared_seen}
-use Rattle.plan_program.specs.PlanPrograms.{places, list_of, fields_of}
+use Rattle.plan_program.specs.PlanPrograms.{places, list_of, fields_of, read_key, read_cell, prepared_program, object_program}
 use Rattle.gq_resolve.specs.States.{kind_of, spot_of, programs_of, state_step, program_of}
 use Rattle.gq_resolve.specs.declared.state.Kind.{Kind}
 use Rattle.gq_resolve.specs.declared.state.Spot as rust
@@ -110,3 +113,19 @@ pub fields-done : (plan : PlanOf) (R : Reader) (f : AskedOf → Program) (kind :
     → length xs ≤ i → Gathers plan R (fields_of f (all_prepared_seen (take i xs))) v.items → program_of plan (Over kind v) ≡ rest (Under (kind_of kind) (fields_of f (all_prepared_seen xs))) R
 fields-done plan R f kind xs i v le g =
     gathers-done plan R kind (fields_of f (all_prepared_seen xs)) v (subst (λ ys. Gathers plan R (fields_of f (all_prepared_seen ys)) v.items) (take_all i xs le) g)
+
+-- ---- programs, unfolded
+
+pub object-above : (plan : PlanOf) (levels : ℕ) (ty : List ℕ) (fields : List FieldOf) (row : RowOf) → 0 < levels
+    → object_program plan levels ty fields row ≡ prepared_program plan.definitions (object_program plan (levels - 1)) (all_prepared plan ty (collect_below plan ty nothing_collected fields).groups) row
+object-above plan zero ty fields row h = absurd (omega arith)
+object-above plan (suc n) ty fields row h = let e : suc n - 1 ≡ n = omega arith in rw e refl
+
+-- the key of a cell that isn't empty
+pub cell-read : (loader : ℕ) (column t : List ℕ) (cell : Option (List ℕ)) (next : List RowOf → Program) → cell ≡ Some t → (length t == 0) ≡ false → read_cell loader column cell next ≡ read_key loader (text t) next
+cell-read loader column [] cell next is full = absurd (cc full)
+cell-read loader column (c ∷ cs) cell next is full = rw is refl
+
+pub map-map : {A B C : Type 0} (g : B → C) (h : A → B) (xs : List A) → map g (map h xs) ≡ map (λ (x : A). g (h x)) xs
+map-map g h [] = refl
+map-map g h (x ∷ xs) = ap (λ ys. g (h x) ∷ ys) (map-map g h xs)
