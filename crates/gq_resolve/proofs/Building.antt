@@ -7,7 +7,7 @@ use Rattle.gq_lexer.specs.declared.place.Place.{Place}
 use Rattle.load_memory.specs.Keys.{text}
 use Rattle.load_memory.specs.Rows.{RowOf}
 use Rattle.execution.specs.Loads.{Reader}
-use Rattle.execution.specs.Program.{Item, Spot, Program, Is, Under, Programs, End, With}
+use Rattle.execution.specs.Program.{ListOf, ObjectOf, Program, Is, Under, Programs, End, With}
 use Rattle.execution.specs.Residual.{rest, all_rest}
 use Rattle.gq_check.specs.Plans.{PlanOf}
 use Rattle.plan_program.specs.declared.prepared.Own.{Own}
@@ -16,12 +16,13 @@ use Rattle.plan_program.specs.Groups.{FieldOf, nothing_collected, collect_below}
 use Rattle.plan_program.specs.Asked.{AskedOf, PreparedOf, BelowOf, all_prepared}
 use Rattle.plan_program.specs.Prepared.{own_seen, prepared_seen, all_prepared_seen}
 use Rattle.plan_program.specs.PlanPrograms.{places, list_of, fields_of, read_key, read_cell, prepared_program, object_program}
-use Rattle.gq_resolve.specs.States.{kind_of, spot_of, programs_of, state_step, program_of}
-use Rattle.gq_resolve.specs.declared.state.Kind.{Kind}
+use Rattle.gq_resolve.specs.States.{spot_of, programs_of, state_step, program_of}
+use Rattle.gq_resolve.specs.declared.state.Items.{Items}
 use Rattle.gq_resolve.specs.declared.state.Spot as rust
 use Rattle.gq_resolve.specs.declared.state.State.{State, fold-roll-State}
-use Rattle.gq_resolve.specs.declared.state.State.TheVariants.{Done, Over, rolls-Done, rolls-Over}
-use Rattle.gq_resolve.specs.declared.state.State.TheOpen.{Done as Done-F, Over as Over-F}
+use Rattle.gq_resolve.specs.declared.state.State.TheVariants.{Done, rolls-Done, rolls-List, rolls-Object}
+use Rattle.gq_resolve.specs.declared.state.State.TheVariants as state
+use Rattle.gq_resolve.specs.declared.state.State.TheOpen.{Done as Done-F, List as List-F, Object as Object-F}
 
 abbrev pub chained : Programs → Programs → Programs
 chained End qs = qs
@@ -49,50 +50,32 @@ gathers-more plan R ps children children' spot p s g h pushed = record {
   left = ap (λ cs. programs_of (map (view_of plan) cs)) pushed ∙ (programs_of-append plan children (spot, s) ∙ (rw (g.left, h) (sym (all_rest-chained ps (With (spot_of spot) p End) R))));
 }
 
-pub program-over : (plan : PlanOf) (kind : Kind) (v : Vec (rust.Spot × State) Global) → program_of plan (Over kind v) ≡ Under (kind_of kind) (programs_of (map (view_of plan) v.items))
-program-over plan kind v = ap (program_of plan) (sym (rolls-Over kind v)) ∙ fold-roll-State Program (state_step plan) (Over-F kind v)
+pub program-object : (plan : PlanOf) (v : Vec (rust.Spot × State) Global) → program_of plan (state.Object v) ≡ Under ObjectOf (programs_of (map (view_of plan) v.items))
+program-object plan v = ap (program_of plan) (sym (rolls-Object v)) ∙ fold-roll-State Program (state_step plan) (Object-F v)
+
+pub program-list : (plan : PlanOf) (items : Items) (v : Vec State Global) → program_of plan (state.List items v) ≡ Under ListOf (places items.non_null items.place 0 (map (program_of plan) v.items))
+program-list plan items v = ap (program_of plan) (sym (rolls-List items v)) ∙ fold-roll-State Program (state_step plan) (List-F items v)
 
 pub program-done : (plan : PlanOf) (own : Own) → program_of plan (Done own) ≡ Is (own_seen own)
 program-done plan own = ap (program_of plan) (sym (rolls-Done own)) ∙ fold-roll-State Program (state_step plan) (Done-F own)
 
-gathers-done : (plan : PlanOf) (R : Reader) (kind : Kind) (ps : Programs) (v : Vec (rust.Spot × State) Global) → Gathers plan R ps v.items → program_of plan (Over kind v) ≡ rest (Under (kind_of kind) ps) R
-gathers-done plan R kind ps v g = program-over plan kind v ∙ ap (Under (kind_of kind)) g.left
+gathers-done : (plan : PlanOf) (R : Reader) (ps : Programs) (v : Vec (rust.Spot × State) Global) → Gathers plan R ps v.items → program_of plan (state.Object v) ≡ rest (Under ObjectOf ps) R
+gathers-done plan R ps v g = program-object plan v ∙ ap (Under ObjectOf) g.left
 
--- ---- places of a list
+-- ---- items of a list
 
-abbrev item_spot : Bool → Place → ℕ → Spot
-item_spot non_null place n = record { part = Item n; non_null = non_null; place = place }
+places-rest : {A : Type 0} (non_null : Bool) (place : Place) (n : ℕ) (f : A → Program) (xs : List A) (R : Reader)
+    → all_rest (places non_null place n (map f xs)) R ≡ places non_null place n (map (λ (x : A). rest (f x) R) xs)
+places-rest non_null place n f [] R = refl
+places-rest non_null place n f (x ∷ xs) R = rw (places-rest non_null place (suc n) f xs R) refl
 
-places-append : {A : Type 0} (non_null : Bool) (place : Place) (f : A → Program) (n : ℕ) (xs : List A) (x : A)
-    → places non_null place n (map f (xs ++ x ∷ [])) ≡ chained (places non_null place n (map f xs)) (With (item_spot non_null place (n + length xs)) (f x) End)
-places-append non_null place f n [] x = let e : n + 0 ≡ n = omega arith in rw e refl
-places-append non_null place f n (y ∷ xs) x = let e : n + suc (length xs) ≡ suc n + length xs = omega arith in rw (e, places-append non_null place f (suc n) xs x) refl
-
-length-take-below : {A : Type 0} (xs : List A) (i : ℕ) → i < length xs → length (take i xs) ≡ i
-length-take-below xs i h = grind (arith, common_steps)
-
-places-more : {A : Type 0} (non_null : Bool) (place : Place) (f : A → Program) (xs : List A) (i : ℕ) (x : A) → i < length xs → x ≡ get_or xs i x
-    → places non_null place 0 (map f (take (i + 1) xs)) ≡ chained (places non_null place 0 (map f (take i xs))) (With (item_spot non_null place i) (f x) End)
-places-more non_null place f xs i x h e =
-    let len : 0 + length (take i xs) ≡ i = omega (arith, length-take-below xs i h) in
-    ap (λ ys. places non_null place 0 (map f ys)) (take_more xs i x h ∙ ap (λ y. take i xs ++ y ∷ []) (sym e)) ∙ places-append non_null place f 0 (take i xs) x
-    ∙ ap (λ n. chained (places non_null place 0 (map f (take i xs))) (With (item_spot non_null place n) (f x) End)) len
-
-abbrev pub places_below : {A : Type 0} → BelowOf → (A → Program) → List A → Programs
-places_below below f xs = places below.item_non_null below.place 0 (map f xs)
-
--- the step of a loop over places
-pub gathers-place : {A : Type 0} (plan : PlanOf) (R : Reader) (below : BelowOf) (f : A → Program) (xs : List A) (i : ℕ) (d x : A) (children children' : List (rust.Spot × State)) (spot : rust.Spot) (s : State)
-    → i < length xs → x ≡ get_or xs i d → Gathers plan R (places_below below f (take i xs)) children → program_of plan s ≡ rest (f x) R
-    → spot_of spot ≡ item_spot below.item_non_null below.place i → children' ≡ children ++ (spot, s) ∷ [] → Gathers plan R (places_below below f (take (i + 1) xs)) children'
-gathers-place plan R below f xs i d x children children' spot s lt e g h at pushed =
-    let e' : x ≡ get_or xs i x = e ∙ get_or_default xs i d x lt in
-    rw (places-more below.item_non_null below.place f xs i x lt e', ← at) (gathers-more plan R (places_below below f (take i xs)) children children' spot (f x) s g h pushed)
-
-pub places-done : {A : Type 0} (plan : PlanOf) (R : Reader) (below : BelowOf) (f : A → Program) (kind : Kind) (xs : List A) (i : ℕ) (v : Vec (rust.Spot × State) Global)
-    → length xs ≤ i → Gathers plan R (places_below below f (take i xs)) v.items → program_of plan (Over kind v) ≡ rest (Under (kind_of kind) (places_below below f xs)) R
-places-done plan R below f kind xs i v le g =
-    gathers-done plan R kind (places_below below f xs) v (subst (λ ys. Gathers plan R (places_below below f ys) v.items) (take_all i xs le) g)
+-- the end of a loop over items
+pub places-done : {A : Type 0} (plan : PlanOf) (R : Reader) (below : BelowOf) (f : A → Program) (items : Items) (xs : List A) (i : ℕ) (v : Vec State Global)
+    → length xs ≤ i → items.non_null ≡ below.item_non_null → items.place ≡ below.place → map (program_of plan) v.items ≡ map (λ (x : A). rest (f x) R) (take i xs)
+    → program_of plan (state.List items v) ≡ rest (list_of below (map f xs)) R
+places-done plan R below f items xs i v le strict at g =
+    let all : map (program_of plan) v.items ≡ map (λ x. rest (f x) R) xs = g ∙ ap (map (λ x. rest (f x) R)) (take_all i xs le) in
+    program-list plan items v ∙ (rw (strict, at, all) (ap (Under ListOf) (sym (places-rest below.item_non_null below.place 0 f xs R))))
 
 -- ---- fields of an object
 
@@ -109,10 +92,10 @@ gathers-field plan R f xs i x children children' spot s lt e g h at pushed =
     let more : take (i + 1) xs ≡ take i xs ++ x ∷ [] = take_more xs i x lt ∙ ap (λ y. take i xs ++ y ∷ []) (sym e) in
     rw (more, fields-append f (take i xs) x, ← at) (gathers-more plan R (fields_of f (all_prepared_seen (take i xs))) children children' spot (f (prepared_seen x).asked) s g h pushed)
 
-pub fields-done : (plan : PlanOf) (R : Reader) (f : AskedOf → Program) (kind : Kind) (xs : List Prepared) (i : ℕ) (v : Vec (rust.Spot × State) Global)
-    → length xs ≤ i → Gathers plan R (fields_of f (all_prepared_seen (take i xs))) v.items → program_of plan (Over kind v) ≡ rest (Under (kind_of kind) (fields_of f (all_prepared_seen xs))) R
-fields-done plan R f kind xs i v le g =
-    gathers-done plan R kind (fields_of f (all_prepared_seen xs)) v (subst (λ ys. Gathers plan R (fields_of f (all_prepared_seen ys)) v.items) (take_all i xs le) g)
+pub fields-done : (plan : PlanOf) (R : Reader) (f : AskedOf → Program) (xs : List Prepared) (i : ℕ) (v : Vec (rust.Spot × State) Global)
+    → length xs ≤ i → Gathers plan R (fields_of f (all_prepared_seen (take i xs))) v.items → program_of plan (state.Object v) ≡ rest (Under ObjectOf (fields_of f (all_prepared_seen xs))) R
+fields-done plan R f xs i v le g =
+    gathers-done plan R (fields_of f (all_prepared_seen xs)) v (subst (λ ys. Gathers plan R (fields_of f (all_prepared_seen ys)) v.items) (take_all i xs le) g)
 
 -- ---- programs, unfolded
 

@@ -1,42 +1,29 @@
 -- A suspended state is a program of which a part is done.
 use Rattle.std.specs.Prelude.{ℕ, List, [], ◌∷◌, length, nat_lt, Option, Some, None, if◌then◌else◌}
 use Rattle.std.specs.Arc.{arc_value}
-use Rattle.gq_lexer.specs.declared.place.Place.{Place}
 use Rattle.load_memory.specs.Keys.{key_of}
 use Rattle.load_memory.specs.Rows.{RowOf}
 use Rattle.load_memory.specs.Pairs.{MemoryOf}
 use Rattle.execution.specs.Loads.{Load, Reader}
-use Rattle.execution.specs.Program.{Kind, ListOf, ObjectOf, Part, Key, Item, Spot, Program, Is, Read, Under, Programs, End, With, Tree, tree}
+use Rattle.execution.specs.Program.{ListOf, ObjectOf, Key, Spot, Program, Is, Read, Under, Programs, End, With, Tree, tree}
 use Rattle.execution.specs.Residual.{unanswered}
 use Rattle.gq_check.specs.Plans.{PlanOf}
 use Rattle.plan_program.specs.Asked.{BelowOf}
 use Rattle.plan_program.specs.Prepared.{own_seen, below_seen}
-use Rattle.plan_program.specs.PlanPrograms.{with_rows, first_object, all_objects, joined_objects, object_program}
+use Rattle.plan_program.specs.PlanPrograms.{places, with_rows, first_object, all_objects, joined_objects, object_program}
 use Rattle.gq_resolve.specs.Evaluated.{reader}
-use Rattle.gq_resolve.specs.declared.state.Kind as rust-kind
-use Rattle.gq_resolve.specs.declared.state.Kind.TheVariants as kind
-use Rattle.gq_resolve.specs.declared.state.Part as rust-part
-use Rattle.gq_resolve.specs.declared.state.Part.TheVariants as part
-use Rattle.gq_resolve.specs.declared.state.Spot as rust-spot
+use Rattle.gq_resolve.specs.declared.state.Spot as rust
 use Rattle.gq_resolve.specs.declared.state.Then.{Then}
 use Rattle.gq_resolve.specs.declared.state.Then.TheVariants.{First, All, Joined}
 use Rattle.gq_resolve.specs.declared.state.State.{State, State-F, fold-State}
-use Rattle.gq_resolve.specs.declared.state.State.TheOpen.{Waits, Done, Over}
+use Rattle.gq_resolve.specs.declared.state.State.TheOpen.{Waits, Done, List as Listed, Object}
 
 -- what the memory says of the loads of its loaders; nothing of others, which no plan has
 abbrev pub told : MemoryOf → Reader
 told m load = if nat_lt load.loader (length m.modes) then reader m load else None
 
-abbrev pub kind_of : rust-kind.Kind → Kind
-kind_of kind.List = ListOf
-kind_of kind.Object = ObjectOf
-
-abbrev pub part_of : rust-part.Part → Part
-part_of (part.Key k) = Key k.now
-part_of (part.Item n) = Item n
-
-abbrev pub spot_of : rust-spot.Spot → Spot
-spot_of s = record { part = part_of s.part; non_null = s.non_null; place = s.place }
+abbrev pub spot_of : rust.Spot → Spot
+spot_of s = record { part = Key s.key.now; non_null = s.non_null; place = s.place }
 
 -- what is done with the rows of a load, which have so many levels of objects below them
 abbrev pub then_rows : PlanOf → ℕ → Then → BelowOf → List RowOf → Program
@@ -44,7 +31,7 @@ then_rows plan levels First below rows = first_object plan.definitions (object_p
 then_rows plan levels All below rows = all_objects plan.definitions (object_program plan levels) below rows
 then_rows plan levels (Joined second column) below rows = joined_objects plan.definitions (object_program plan levels) below second column.now rows
 
-abbrev pub programs_of : List (rust-spot.Spot × Program) → Programs
+abbrev pub programs_of : List (rust.Spot × Program) → Programs
 programs_of [] = End
 programs_of (c ∷ cs) = With (spot_of c.0) c.1 (programs_of cs)
 
@@ -52,7 +39,8 @@ abbrev pub state_step : PlanOf → State-F Program → Program
 state_step plan (Waits loader key next levels below) =
     Read (record { loader = loader; key = key_of key }) (with_rows (then_rows plan levels next (below_seen (arc_value below))))
 state_step plan (Done own) = Is (own_seen own)
-state_step plan (Over k children) = Under (kind_of k) (programs_of children.items)
+state_step plan (Listed items children) = Under ListOf (places items.non_null items.place 0 children.items)
+state_step plan (Object children) = Under ObjectOf (programs_of children.items)
 
 -- what a state is still to do
 abbrev pub program_of : PlanOf → State → Program

@@ -5,7 +5,7 @@ ghost use Rattle.std.specs.Arc.{arc_value};
 ghost use Rattle.load_memory.specs.Keys.{key_of};
 ghost use Rattle.load_memory.specs.Rows.{cell_of};
 ghost use Rattle.load_memory.specs.Outcomes.{outcome_of};
-ghost use Rattle.execution.specs.Program.{Item, Read};
+ghost use Rattle.execution.specs.Program.{Read};
 ghost use Rattle.execution.specs.Residual.{rest};
 ghost use Rattle.gq_check.specs.Plans.{plan_of};
 ghost use Rattle.plan_program.specs.Seen.{fields_seen};
@@ -16,9 +16,8 @@ ghost use Rattle.gq_resolve.specs.States.{told, then_rows, program_of, spot_of};
 use crate::cells::{TypeOf, cell_value, type_of_row};
 use crate::no_memory::NoMemory;
 use crate::reading::told;
-use crate::state::{Kind, Part, Spot, State, Then};
+use crate::state::{Items, Spot, State, Then};
 use gq_check::Plan;
-use gq_lexer::Place;
 use gq_parser::Field;
 use load_memory::{Cell, Key, Memory, Outcome, Row};
 use plan_program::{
@@ -27,12 +26,11 @@ use plan_program::{
 use std::alloc::{AllocError, Global};
 use std::sync::Arc;
 
-// A place of a list.
-fn item_spot<'p>(below: &Below<'_>, place: usize) -> Spot<'p>
-    ensures { spot_of result ≡ record { part = Item place; non_null = (below_seen below.now).item_non_null; place = (below_seen below.now).place } }
+fn items_of(below: &Below<'_>) -> Items
+    ensures non_null { result.non_null ≡ (below_seen below.now).item_non_null }
+    ensures place { result.place ≡ (below_seen below.now).place }
 {
-    Spot {
-        part: Part::Item(place),
+    Items {
         non_null: below.item_non_null,
         place: below.place,
     }
@@ -42,7 +40,7 @@ fn field_spot<'p>(field: &Prepared<'p>) -> Spot<'p>
     ensures { spot_of result ≡ (prepared_seen field.now).spot }
 {
     Spot {
-        part: Part::Key(field.key),
+        key: field.key,
         non_null: field.non_null,
         place: field.place,
     }
@@ -77,7 +75,7 @@ pub fn object<'p>(
         let child = asked(alloc, plan, memory, levels, &field.asked, row)?;
         children.push((field_spot(field), child))?;
     }
-    Ok(State::Over(Kind::Object, children))
+    Ok(State::Object(children))
 }
 
 // What a group asks for over a row.
@@ -259,11 +257,11 @@ fn all<'p>(
     ensures { IfOk result (λ state. program_of (plan_of plan.now) state ≡ rest (all_objects (plan_of plan.now).definitions (object_program (plan_of plan.now) levels) (below_seen below.now) rows.now) (told memory.now)) }
 {
     let mut children = Vec::with_capacity(alloc, rows.len())?;
-    for (i, row) in rows.iter().enumerate() {
+    for row in rows {
         let child = row_object(alloc, plan, memory, levels, below, row)?;
-        children.push((item_spot(below, i), child))?;
+        children.push(child)?;
     }
-    Ok(State::Over(Kind::List, children))
+    Ok(State::List(items_of(below), children))
 }
 
 // A place for each row, read by its own key.
@@ -281,7 +279,7 @@ fn joined<'p>(
     ensures { IfOk result (λ state. program_of (plan_of plan.now) state ≡ rest (joined_objects (plan_of plan.now).definitions (object_program (plan_of plan.now) levels) (below_seen (arc_value below.now)) second column.now rows.now) (told memory.now)) }
 {
     let mut children = Vec::with_capacity(alloc, rows.len())?;
-    for (i, row) in rows.iter().enumerate() {
+    for row in rows {
         let child = read_cell(
             alloc,
             plan,
@@ -293,9 +291,9 @@ fn joined<'p>(
             below,
             row,
         )?;
-        children.push((item_spot(below, i), child))?;
+        children.push(child)?;
     }
-    Ok(State::Over(Kind::List, children))
+    Ok(State::List(items_of(below), children))
 }
 
 // A place for each key.
@@ -312,11 +310,11 @@ fn each<'p>(
     ensures { IfOk result (λ state. program_of (plan_of plan.now) state ≡ rest (list_of (below_seen (arc_value below.now)) (map (read_if loader (first_object (plan_of plan.now).definitions (object_program (plan_of plan.now) levels) (below_seen (arc_value below.now)))) (keys_seen keys.now))) (told memory.now)) }
 {
     let mut children = Vec::with_capacity(alloc, keys.len())?;
-    for (i, key) in keys.iter().enumerate() {
+    for key in keys {
         let child = read_if(alloc, plan, memory, levels, loader, key, below)?;
-        children.push((item_spot(below, i), child))?;
+        children.push(child)?;
     }
-    Ok(State::Over(Kind::List, children))
+    Ok(State::List(items_of(below), children))
 }
 
 // The first row of a key, if there is one.

@@ -5,26 +5,17 @@ use load_memory::Key;
 use plan_program::{Below, Own};
 use std::sync::Arc;
 
-/// What a position with others below it is.
-#[derive(Clone, Copy, Drop)]
-pub enum Kind {
-    List,
-    Object,
-}
-
-/// One step of a path.
-#[derive(Clone, Copy, Drop)]
-pub enum Part<'p> {
-    /// A response key.
-    Key(&'p str),
-    /// A place in a list, from 0.
-    Item(usize),
-}
-
-/// A position: the last step of its path, its type, and where its errors stand.
+/// A field of an object: its response key, its type, and where its errors stand.
 #[derive(Clone, Copy, Drop)]
 pub struct Spot<'p> {
-    pub part: Part<'p>,
+    pub key: &'p str,
+    pub non_null: bool,
+    pub place: Place,
+}
+
+/// The items of a list: their type, and where their errors stand.
+#[derive(Clone, Copy, Drop)]
+pub struct Items {
     pub non_null: bool,
     pub place: Place,
 }
@@ -55,5 +46,6 @@ pub enum State<'p> {
         below: Arc<Below<'p>>,
     },
     Done(Own),
-    Over(Kind, Vec<(Spot<'p>, State<'p>)>),
+    List(Items, Vec<State<'p>>),
+    Object(Vec<(Spot<'p>, State<'p>)>),
 }

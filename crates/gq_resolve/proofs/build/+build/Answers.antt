@@ -10,43 +10,40 @@ use Rattle.gq_check.specs.Plans.{plan_of}
 use Rattle.plan_program.specs.Asked.{BelowOf}
 use Rattle.plan_program.specs.Seen.{fields_seen}
 use Rattle.plan_program.specs.Prepared.{below_seen}
-use Rattle.plan_program.specs.PlanPrograms.{list_of, read_if, first_object, all_objects, object_program}
+use Rattle.plan_program.specs.PlanPrograms.{list_of, row_object, read_cell, read_if, first_object, all_objects, object_program}
 use Rattle.plan_program.specs.declared.prepared.Below.{Below}
 use Rattle.gq_resolve.specs.declared.state.State.{State}
 use Rattle.gq_resolve.specs.States.{told, then_rows, program_of}
-use Rattle.gq_resolve.specs.declared.state.Kind.TheVariants as kind
-use Rattle.gq_resolve.proofs.Building.{gathers-place, places-done, gathers-field, fields-done, object-above, cell-read, map-map}
+use Rattle.gq_resolve.proofs.Building.{places-done, gathers-field, fields-done, object-above, cell-read, map-map}
 use Rattle.gq_resolve.proofs.build.+build.Goals as goal
 
 pub object-loop-field-preserved : goal.object-loop-field-preserved
 object-loop-field-preserved t c = gathers-field _ _ _ _ _ _ _ _ _ _ (omega arith) c.field-item.is c.loop-field.invariant c.in_ok-child.ensures c.field_spot.ensures c.in_ok-push.ensures.items
 
 pub object-returns : goal.object-returns
-object-returns t c = fields-done _ _ _ _ _ _ _ c.loop-field-test.false c.loop-field.invariant
-
-pub all-loop-i-preserved : goal.all-loop-i-preserved
-all-loop-i-preserved t c = gathers-place _ _ (below_seen c.args.below.now) _ _ _ _ _ _ _ _ _ (omega arith) c.index-rows-i.is c.loop-i.invariant c.in_ok-child.ensures c.item_spot.ensures c.in_ok-push.ensures.items
+object-returns t c = fields-done _ _ _ _ _ _ c.loop-field-test.false c.loop-field.invariant
 
 pub all-returns : goal.all-returns
-all-returns t c = places-done _ _ (below_seen c.args.below.now) _ _ _ _ _ c.loop-i-test.false c.loop-i.invariant
-
-pub each-loop-i-preserved : goal.each-loop-i-preserved
-each-loop-i-preserved t c =
-    gathers-place _ _ (below_seen (arc_value c.args.below.now)) _ _ _ _ _ _ _ _ _ (omega arith) c.index-keys-i.is c.loop-i.invariant c.in_ok-child.ensures (rw c.deref.ensures at c.item_spot.ensures) c.in_ok-push.ensures.items
+all-returns t c =
+    let f : Row → Program = row_object (plan_of c.args.plan.now).definitions (object_program (plan_of c.args.plan.now) c.args.levels) (below_seen c.args.below.now) in
+    places-done (plan_of c.args.plan.now) (told c.args.memory.now) (below_seen c.args.below.now) f c.items_of.result c.args.rows.now c.loop-row.row-index c.loop-row.children c.loop-row-test.false c.items_of.ensures.non_null c.items_of.ensures.place c.loop-row.invariant
 
 pub each-returns : goal.each-returns
 each-returns t c =
     let below : BelowOf = below_seen (arc_value c.args.below.now) in
     let read : Option KeyOf → Program = read_if c.args.loader (first_object (plan_of c.args.plan.now).definitions (object_program (plan_of c.args.plan.now) c.args.levels) below) in
-    places-done (plan_of c.args.plan.now) (told c.args.memory.now) below (λ (k : Option Key). read (option_map key_of k)) kind.List c.args.keys.now c.loop-i.i c.loop-i.children c.loop-i-test.false c.loop-i.invariant
+    let strict : c.items_of.result.non_null ≡ below.item_non_null = c.items_of.ensures.non_null ∙ ap (λ (b : Below). (below_seen b).item_non_null) c.deref.ensures in
+    let at : c.items_of.result.place ≡ below.place = c.items_of.ensures.place ∙ ap (λ (b : Below). (below_seen b).place) c.deref.ensures in
+    places-done (plan_of c.args.plan.now) (told c.args.memory.now) below (λ (k : Option Key). read (option_map key_of k)) c.items_of.result c.args.keys.now c.loop-key.key-index c.loop-key.children c.loop-key-test.false strict at c.loop-key.invariant
     ∙ ap (λ (ps : List Program). rest (list_of below ps) (told c.args.memory.now)) (sym (map-map read (λ (k : Option Key). option_map key_of k) c.args.keys.now))
 
-pub joined-loop-i-preserved : goal.joined-loop-i-preserved
-joined-loop-i-preserved t c =
-    gathers-place _ _ (below_seen (arc_value c.args.below.now)) _ _ _ _ _ _ _ _ _ (omega arith) c.index-rows-i.is c.loop-i.invariant c.in_ok-child.ensures (rw c.deref.ensures at c.item_spot.ensures) c.in_ok-push.ensures.items
-
 pub joined-returns : goal.joined-returns
-joined-returns t c = places-done _ _ (below_seen (arc_value c.args.below.now)) _ _ _ _ _ c.loop-i-test.false c.loop-i.invariant
+joined-returns t c =
+    let below : BelowOf = below_seen (arc_value c.args.below.now) in
+    let f : Row → Program = λ (r : Row). read_cell c.args.second c.args.column.now (cell_of r c.args.column.now) (first_object (plan_of c.args.plan.now).definitions (object_program (plan_of c.args.plan.now) c.args.levels) below) in
+    let strict : c.items_of.result.non_null ≡ below.item_non_null = c.items_of.ensures.non_null ∙ ap (λ (b : Below). (below_seen b).item_non_null) c.deref.ensures in
+    let at : c.items_of.result.place ≡ below.place = c.items_of.ensures.place ∙ ap (λ (b : Below). (below_seen b).place) c.deref.ensures in
+    places-done (plan_of c.args.plan.now) (told c.args.memory.now) below f c.items_of.result c.args.rows.now c.loop-row.row-index c.loop-row.children c.loop-row-test.false strict at c.loop-row.invariant
 
 pub asked-returns-in-First : goal.asked-returns-in-First
 asked-returns-in-First t c = rw c.in-First.is c.read_from.ensures
