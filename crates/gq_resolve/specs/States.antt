@@ -1,5 +1,7 @@
 -- A suspended state is a program of which a part is done.
-use Rattle.std.specs.Prelude.{ℕ, List, [], ◌∷◌, length, nat_lt, Option, Some, None, if◌then◌else◌}
+use Rattle.std.specs.Borrow.{Bor}
+use Rattle.load_memory.specs.declared.key.Key.{Key as RustKey}
+use Rattle.std.specs.Prelude.{ℕ, List, [], ◌∷◌, map, length, nat_lt, Option, Some, None, if◌then◌else◌}
 use Rattle.std.specs.Arc.{arc_value}
 use Rattle.load_memory.specs.Keys.{key_of}
 use Rattle.load_memory.specs.Rows.{RowOf}
@@ -49,3 +51,6 @@ program_of plan = fold-State Program (state_step plan)
 -- what a state holds as done, with the positions that wait open
 abbrev pub tree_of : PlanOf → State → Tree
 tree_of plan state = tree (program_of plan state) unanswered
+
+abbrev pub loads_seen : List (ℕ × Bor RustKey) → List Load
+loads_seen ls = map (λ (l : ℕ × Bor RustKey). record { loader = l.0; key = key_of l.1.now }) ls

@@ -13,6 +13,7 @@ mod evaluation;
 mod no_memory;
 mod reading;
 mod state;
+mod waiting;
 
 pub use answer::answer_text;
 pub use answered::Answered;
