@@ -1,5 +1,5 @@
 -- What a response and its errors say, and the text of an answer.
-use Rattle.std.specs.Prelude.{◌≡◌, ℕ, suc, Bool, List, [], ◌∷◌, map, String, string_bytes, codes, decimal}
+use Rattle.std.specs.Prelude.{◌≡◌, ℕ, suc, Bool, true, false, List, [], ◌∷◌, map, String, string_bytes, codes, decimal}
 use Rattle.std.specs.Fmt.{signed_decimal}
 use Rattle.json.specs.Json.{Json, null, boolean, number, string, array, object, Items, no_items, item, Members, no_members, member}
 use Rattle.std.specs.declared.alloc.Global.{Global}
@@ -101,3 +101,8 @@ answered_json a = object (errors_before a.errors (member (codes "data") (json_of
 
 abbrev pub answer_text : AnsweredOf → List ℕ
 answer_text a = json_text (answered_json a)
+
+abbrev pub is_null_response : ResponseOf → Bool
+is_null_response NullResponse = true
+is_null_response (LeafResponse leaf) = false
+is_null_response (Holding kind rs) = false

@@ -1,13 +1,16 @@
 -- A suspended state is a program of which a part is done.
 use Rattle.std.specs.Borrow.{Bor}
 use Rattle.load_memory.specs.declared.key.Key.{Key as RustKey}
-use Rattle.std.specs.Prelude.{ℕ, List, [], ◌∷◌, map, length, nat_lt, Option, Some, None, if◌then◌else◌}
+use Rattle.gq_lexer.specs.declared.place.Place.{Place}
+use Rattle.gq_resolve.specs.declared.state.Step.{Step}
+use Rattle.gq_resolve.specs.declared.state.Step.TheVariants as step
+use Rattle.std.specs.Prelude.{ℕ, suc, Bool, List, [], ◌∷◌, map, length, nat_lt, Option, Some, None, if◌then◌else◌}
 use Rattle.std.specs.Arc.{arc_value}
 use Rattle.load_memory.specs.Keys.{key_of}
 use Rattle.load_memory.specs.Rows.{RowOf}
 use Rattle.load_memory.specs.Pairs.{MemoryOf}
 use Rattle.execution.specs.Loads.{Load, Reader}
-use Rattle.execution.specs.Program.{ListOf, ObjectOf, Key, Spot, Program, Is, Read, Under, Programs, End, With, Tree, tree}
+use Rattle.execution.specs.Program.{ListOf, ObjectOf, Part, Key, Item, Spot, Program, Is, Read, Under, Programs, End, With, Tree, Trees, NoMore, And, tree}
 use Rattle.execution.specs.Residual.{unanswered}
 use Rattle.gq_check.specs.Plans.{PlanOf}
 use Rattle.plan_program.specs.Asked.{BelowOf}
@@ -54,3 +57,20 @@ tree_of plan state = tree (program_of plan state) unanswered
 
 abbrev pub loads_seen : List (ℕ × Bor RustKey) → List Load
 loads_seen ls = map (λ (l : ℕ × Bor RustKey). record { loader = l.0; key = key_of l.1.now }) ls
+
+-- what the items of a list hold as done, from a number on
+abbrev pub items_held : PlanOf → Bool → Place → ℕ → List State → Trees
+items_held plan non_null place n [] = NoMore
+items_held plan non_null place n (s ∷ ss) = And (record { part = Item n; non_null = non_null; place = place }) (tree_of plan s) (items_held plan non_null place (suc n) ss)
+
+-- what the fields of an object hold as done
+abbrev pub fields_held : PlanOf → List (rust.Spot × State) → Trees
+fields_held plan [] = NoMore
+fields_held plan (c ∷ cs) = And (spot_of c.0) (tree_of plan c.1) (fields_held plan cs)
+
+abbrev pub step_of : Step → Part
+step_of (step.Key k) = Key k.now
+step_of (step.Item n) = Item n
+
+abbrev pub steps_of : List Step → List Part
+steps_of ss = map step_of ss

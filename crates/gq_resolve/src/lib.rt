@@ -10,6 +10,7 @@ mod answered;
 mod build;
 mod cells;
 mod evaluation;
+mod finish;
 mod no_memory;
 mod reading;
 mod state;

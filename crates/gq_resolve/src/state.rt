@@ -20,6 +20,15 @@ pub struct Items {
     pub place: Place,
 }
 
+/// One step of a path.
+#[derive(Clone, Copy, Drop)]
+pub enum Step<'p> {
+    /// A response key.
+    Key(&'p str),
+    /// A place in a list, from 0.
+    Item(usize),
+}
+
 /// What is done with the rows of a load.
 #[derive(Clone, Copy, Drop)]
 pub enum Then<'p> {
