@@ -2,3 +2,5 @@ pub mod Building
 pub mod Told
 pub mod Waits
 pub mod Finishing
+pub mod Loaders
+pub mod Evaluating

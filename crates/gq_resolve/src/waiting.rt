@@ -1,6 +1,6 @@
 //! The loads that a state waits for.
 
-ghost use Rattle.std.specs.Prelude.{◌≡◌, ◌++◌, OnOk};
+ghost use Rattle.std.specs.Prelude.{◌≡◌, ◌++◌, OnOk, IfOk};
 ghost use Rattle.execution.specs.Program.{needs};
 ghost use Rattle.execution.specs.Residual.{unanswered};
 ghost use Rattle.gq_check.specs.Plans.{plan_of};
@@ -10,12 +10,13 @@ use crate::no_memory::NoMemory;
 use crate::state::State;
 use gq_check::Plan;
 use load_memory::Key;
+use std::alloc::Global;
 
 /// A load: its loader and its key.
 pub type Load<'s> = (usize, &'s Key);
 
 /// Adds the loads that a state of a plan waits for, depth first.
-pub fn add_waiting<'s>(
+fn add_waiting<'s>(
     plan: &Plan<'_>,
     state: &'s State<'_>,
     loads: &mut Vec<Load<'s>>,
@@ -39,4 +40,17 @@ pub fn add_waiting<'s>(
         }
     }
     Ok(())
+}
+
+/// The loads that a state of a plan waits for, depth first.
+pub fn loads_of<'s>(
+    alloc: Global,
+    plan: &Plan<'_>,
+    state: &'s State<'_>,
+) -> Result<Vec<Load<'s>>, NoMemory>
+    ensures { IfOk result (λ loads. loads_seen loads.items ≡ needs (program_of (plan_of plan.now) state.now) unanswered) }
+{
+    let mut loads = Vec::new(alloc);
+    add_waiting(plan, state, &mut loads)?;
+    Ok(loads)
 }
