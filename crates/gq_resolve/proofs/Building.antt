@@ -1,7 +1,6 @@
 -- A state that is built child by child is what is left of its program.
 use Rattle.std.proofs.Common.{◌≡◌, ℕ, zero, suc, ◌≤◌, ◌<◌, ◌-◌, ◌+◌, Bool, List, [], ◌∷◌, ◌++◌, map, take, length, get_or, sym, ◌∙◌, ap, subst, refl, arith, Vec, Option, Some, false, ◌==◌}
-use Rattle.std.proofs.lemmas.List.{take_more, take_all, get_or_default}
-use Rattle.std.proofs.lemmas.Grind.{common_steps}
+use Rattle.std.proofs.lemmas.List.{take_more, take_all}
 use Rattle.std.specs.declared.alloc.Global.{Global}
 use Rattle.gq_lexer.specs.declared.place.Place.{Place}
 use Rattle.load_memory.specs.Keys.{text}
@@ -13,7 +12,7 @@ use Rattle.gq_check.specs.Plans.{PlanOf}
 use Rattle.plan_program.specs.declared.prepared.Own.{Own}
 use Rattle.plan_program.specs.declared.prepared.Prepared.{Prepared}
 use Rattle.plan_program.specs.Groups.{FieldOf, nothing_collected, collect_below}
-use Rattle.plan_program.specs.Asked.{AskedOf, PreparedOf, BelowOf, all_prepared}
+use Rattle.plan_program.specs.Asked.{AskedOf, BelowOf, all_prepared}
 use Rattle.plan_program.specs.Prepared.{own_seen, prepared_seen, all_prepared_seen}
 use Rattle.plan_program.specs.PlanPrograms.{places, list_of, fields_of, read_key, read_cell, prepared_program, object_program}
 use Rattle.gq_resolve.specs.States.{spot_of, programs_of, state_step, program_of}

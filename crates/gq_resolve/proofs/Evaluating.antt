@@ -1,22 +1,21 @@
 -- An evaluation from scratch.
-use Rattle.std.proofs.Common.{◌≡◌, ◌≢◌, ℕ, zero, suc, ◌<◌, ◌≤◌, ◌+◌, Bool, true, false, ◌==◌, List, [], ◌∷◌, ◌++◌, map, take, length, get_or, refl, sym, ap, subst, ◌∙◌, arith, eqb-true, eq-eqb, Some, OnOk, OnErr, Result, Ok, Err, append_assoc}
-use Rattle.std.specs.Prelude.{is_none}
-use Rattle.std.proofs.lemmas.List.{take_more, take_all, length-map}
+use Rattle.std.proofs.Common.{◌≡◌, ◌≢◌, ℕ, zero, suc, ◌<◌, ◌≤◌, ◌+◌, false, ◌==◌, List, [], ◌∷◌, ◌++◌, map, take, length, get_or, refl, sym, ap, ◌∙◌, arith, eq-eqb, Some, OnErr, Result, Ok, Err}
+use Rattle.std.proofs.lemmas.List.{take_more}
 use Rattle.load_memory.specs.Keys.{KeyOf}
 use Rattle.load_memory.specs.Pairs.{MemoryOf, look}
 use Rattle.load_queue.specs.Wanted.{WantedOf, with_wanted}
-use Rattle.execution.specs.Loads.{Load, Reader, read}
+use Rattle.execution.specs.Loads.{Load}
 use Rattle.execution.specs.Program.{Program, needs, tree, Tree}
 use Rattle.execution.specs.Completion.{AnsweredOf, is_open}
 use Rattle.execution.specs.Executed.{completed, exec}
 use Rattle.execution.specs.Residual.{rest, unanswered}
-use Rattle.execution.specs.Front.{missing, firsts, front, wanting, modes_wanted}
+use Rattle.execution.specs.Front.{missing, firsts, wanting, modes_wanted}
 use Rattle.execution.proofs.Fitting.{held-rest}
 use Rattle.execution.proofs.Monotone.{front-open, exec-whole}
 use Rattle.execution.proofs.Wanting.{wanting-firsts}
 use Rattle.gq_check.specs.Plans.{PlanOf}
 use Rattle.plan_program.specs.PlanPrograms.{plan_program}
-use Rattle.gq_resolve.specs.Evaluated.{reader, front_over, AddsPart, CanEvaluate}
+use Rattle.gq_resolve.specs.Evaluated.{reader, front_over, AddsPart}
 use Rattle.gq_resolve.specs.States.{told, program_of, tree_of}
 use Rattle.gq_resolve.specs.declared.state.State.{State}
 use Rattle.gq_resolve.proofs.Loaders.{same-rest, told-same, plan-below}

@@ -6,7 +6,7 @@ use Rattle.std.proofs.lemmas.Grind.{common_steps}
 use Rattle.std.specs.declared.alloc.Global.{Global}
 use Rattle.gq_lexer.specs.declared.place.Place.{Place}
 use Rattle.execution.specs.Program.{Kind, ListOf, ObjectOf, Part, Key, Item, Spot, tree, trees, Tree, Trees, Open, At, Value, Null, Fault, Over, And, NoMore}
-use Rattle.execution.specs.Completion.{ResponseOf, NullResponse, LeafResponse, Holding, ResponsesOf, NoResponses, Responding, ErrorOf, is_open, any_open}
+use Rattle.execution.specs.Completion.{ResponseOf, NullResponse, Holding, ResponsesOf, NoResponses, Responding, ErrorOf, is_open, any_open}
 use Rattle.execution.specs.Executed.{nulls, pulls_down, response, responses, errors, all_errors}
 use Rattle.gq_check.specs.Plans.{PlanOf}
 use Rattle.execution.specs.Residual.{unanswered}
@@ -129,9 +129,9 @@ list-more plan non_null place ss i s path path' before now after rs rs' r pulled
     let taken : 0 + length (take i ss) ≡ i = omega (arith, length-take-below ss i lt) in
     let there : 0 + length rs ≡ i = omega (arith, len) in
     let held_is : items_held plan non_null place 0 (take (i + 1) ss) ≡ put (items_held plan non_null place 0 (take i ss)) (item_spot non_null place i) t =
-      ap (items_held plan non_null place 0) more ∙ held-append plan non_null place 0 (take i ss) s ∙ ap (λ n. put (items_held plan non_null place 0 (take i ss)) (item_spot non_null place n) t) taken in
+    ap (items_held plan non_null place 0) more ∙ held-append plan non_null place 0 (take i ss) s ∙ ap (λ n. put (items_held plan non_null place 0 (take i ss)) (item_spot non_null place n) t) taken in
     let parts_is : items_from 0 (map response_of rs') ≡ put_part (items_from 0 (map response_of rs)) (Item i) (response_of r) =
-      ap (λ xs. items_from 0 (map response_of xs)) q ∙ items-append 0 rs r ∙ ap (λ n. put_part (items_from 0 (map response_of rs)) (Item n) (response_of r)) there in
+    ap (λ xs. items_from 0 (map response_of xs)) q ∙ items-append 0 rs r ∙ ap (λ n. put_part (items_from 0 (map response_of rs)) (Item n) (response_of r)) there in
     let errs : after ≡ now ++ errors non_null place (path ++ (Item i) ∷ []) t = e shut ∙ ap (λ x. now ++ errors non_null place x t) p in
     rw (held_is, parts_is) (finishes-more (items_held plan non_null place 0 (take i ss)) (item_spot non_null place i) t path before now after (items_from 0 (map response_of rs)) (response_of r) pulled pulled' shut f (a shut) errs b)
 
@@ -166,7 +166,7 @@ object-more plan cs i c path path' before now after ms ms' key r pulled pulled' 
     let more : take (i + 1) cs ≡ take i cs ++ c ∷ [] = take_more cs i c lt ∙ ap (λ y. take i cs ++ y ∷ []) (sym at) in
     let held_is : fields_held plan (take (i + 1) cs) ≡ put (fields_held plan (take i cs)) spot t = ap (fields_held plan) more ∙ fields-append plan (take i cs) c in
     let parts_is : members_of (map member_seen ms') ≡ put_part (members_of (map member_seen ms)) spot.part (response_of r) =
-      ap (λ xs. members_of (map member_seen xs)) q ∙ members-append ms (key, r) ∙ ap (λ x. put_part (members_of (map member_seen ms)) (Key x) (response_of r)) k in
+    ap (λ xs. members_of (map member_seen xs)) q ∙ members-append ms (key, r) ∙ ap (λ x. put_part (members_of (map member_seen ms)) (Key x) (response_of r)) k in
     let errs : after ≡ now ++ errors spot.non_null spot.place (path ++ spot.part ∷ []) t = e shut ∙ ap (λ x. now ++ errors spot.non_null spot.place x t) p in
     rw (held_is, parts_is) (finishes-more (fields_held plan (take i cs)) spot t path before now after (members_of (map member_seen ms)) (response_of r) pulled pulled' shut f (a shut) errs b)
 

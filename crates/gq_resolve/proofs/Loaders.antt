@@ -1,5 +1,5 @@
 -- A plan's program reads loads of the bindings' loaders alone, so what else a memory says makes no difference to it.
-use Rattle.std.proofs.Common.{◌≡◌, ℕ, zero, suc, ◌<◌, ◌≤◌, Bool, true, false, List, [], ◌∷◌, map, length, Option, Some, None, refl, sym, ap, ◌∙◌, arith, if◌then◌else◌}
+use Rattle.std.proofs.Common.{◌≡◌, ℕ, zero, suc, ◌<◌, ◌≤◌, Bool, true, false, List, [], ◌∷◌, map, length, Option, Some, None, refl, ap, ◌∙◌, arith, if◌then◌else◌}
 use Rattle.std.specs.Prelude.{nat_lt, bytes_eq, codes}
 use Rattle.std.proofs.lemmas.Bool.Decides.{nat_tests}
 use Rattle.gq_lexer.specs.declared.place.Place.{Place}
@@ -9,7 +9,6 @@ use Rattle.load_memory.specs.Outcomes.{OutcomeOf, known, batch_fault, rows, key_
 use Rattle.load_memory.specs.Pairs.{MemoryOf}
 use Rattle.schema_syntax.specs.Tree.{Definition, Field}
 use Rattle.gq_parser.specs.Tree.{TypeTree}
-use Rattle.bindings_syntax.specs.Statements as source
 use Rattle.gq_schema.specs.Inputs.{Input, Items, Int, Text, Boolean, Null as NullInput}
 use Rattle.gq_schema.specs.Types.{field_in}
 use Rattle.gq_schema.specs.BindingsTree.{BindingOf, by_column, by_one, by_many, by_each, by_via, binding_in}
@@ -19,8 +18,8 @@ use Rattle.execution.specs.Residual.{rest, all_rest}
 use Rattle.gq_check.specs.Plans.{PlanOf}
 use Rattle.plan_program.specs.Groups.{FieldOf, GroupOf, nothing_collected, collect_below}
 use Rattle.plan_program.specs.Arguments.{ArgumentsOf, ValueOf, all_values, null_argument, arguments_of}
-use Rattle.plan_program.specs.Asked.{KeyFrom, fixed, of_column, BelowOf, AskedOf, known as settled, cell, first_row, all_rows, each_row, joined_rows, PreparedOf, key_from, with_loader, with_key, each_asked, input_named, bound_asked, below_of, with_arguments, defined_asked, field_asked, first_asked, prepared, all_prepared, spot_of}
-use Rattle.plan_program.specs.PlanPrograms.{TypeOf, object_type, type_fault, type_of_row, places, list_of, fields_of, Objects, typed_object, row_object, with_rows, read_key, read_cell, read_from, read_if, first_object, all_objects, joined_objects, asked_program, prepared_program, object_program, most_levels, root_prepared, plan_program}
+use Rattle.plan_program.specs.Asked.{KeyFrom, fixed, of_column, BelowOf, AskedOf, known as settled, cell, first_row, all_rows, each_row, joined_rows, PreparedOf, key_from, with_loader, with_key, each_asked, input_named, bound_asked, below_of, with_arguments, defined_asked, field_asked, first_asked, all_prepared, spot_of}
+use Rattle.plan_program.specs.PlanPrograms.{TypeOf, object_type, type_fault, type_of_row, places, fields_of, Objects, typed_object, row_object, with_rows, read_key, read_cell, read_from, read_if, first_object, asked_program, object_program, most_levels, plan_program}
 use Rattle.gq_resolve.specs.Evaluated.{reader}
 use Rattle.gq_resolve.specs.States.{told}
 

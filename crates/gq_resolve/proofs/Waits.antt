@@ -106,6 +106,6 @@ pub waits-load : (plan : PlanOf) (self : State) (loader : ℕ) (key : Key) (next
     → self ≡ state.Waits loader key next levels below → k.now ≡ key → ls' ≡ ls ++ (loader, k) ∷ [] → loads_seen ls' ≡ loads_seen ls ++ needs (program_of plan self) unanswered
 waits-load plan self loader key next levels below ls ls' k is at pushed =
     let p : program_of plan self ≡ state_step plan (Waits-F loader key next levels below) =
-      ap (program_of plan) (is ∙ sym (state.rolls-Waits loader key next levels below)) ∙ fold-roll-State Program (state_step plan) (Waits-F loader key next levels below) in
+    ap (program_of plan) (is ∙ sym (state.rolls-Waits loader key next levels below)) ∙ fold-roll-State Program (state_step plan) (Waits-F loader key next levels below) in
     ap loads_seen pushed ∙ map-append (λ (l : ℕ × Bor Key). record { loader = l.0; key = key_of l.1.now }) ls ((loader, k) ∷ [])
     ∙ ap (λ (x : Key). loads_seen ls ++ (record { loader = loader; key = key_of x }) ∷ []) at ∙ ap (λ ps. loads_seen ls ++ needs ps unanswered) (sym p)

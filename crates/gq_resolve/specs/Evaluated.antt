@@ -2,10 +2,10 @@
 use Rattle.std.specs.Prelude.{◌≡◌, ◌≢◌, ◌≤◌, List, [], ◌++◌, length, Some}
 use Rattle.load_memory.specs.Pairs.{MemoryOf, look}
 use Rattle.load_queue.specs.Wanted.{WantedOf}
-use Rattle.execution.specs.Loads.{Load, Reader, Memory, read}
-use Rattle.execution.specs.Program.{Program, needs}
+use Rattle.execution.specs.Loads.{Load, Reader, read}
+use Rattle.execution.specs.Program.{Program}
 use Rattle.execution.specs.Executed.{exec}
-use Rattle.execution.specs.Front.{front, missing, wanting, modes_wanted}
+use Rattle.execution.specs.Front.{front, wanting, modes_wanted}
 use Rattle.futures.specs.declared.task.Poll.{Poll}
 use Rattle.futures.specs.declared.task.Poll.TheVariants.{Ready, Pending}
 use Rattle.gq_check.specs.Plans.{PlanOf}

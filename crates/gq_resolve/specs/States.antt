@@ -4,7 +4,7 @@ use Rattle.load_memory.specs.declared.key.Key.{Key as RustKey}
 use Rattle.gq_lexer.specs.declared.place.Place.{Place}
 use Rattle.gq_resolve.specs.declared.state.Step.{Step}
 use Rattle.gq_resolve.specs.declared.state.Step.TheVariants as step
-use Rattle.std.specs.Prelude.{ℕ, suc, Bool, List, [], ◌∷◌, map, length, nat_lt, Option, Some, None, if◌then◌else◌}
+use Rattle.std.specs.Prelude.{ℕ, suc, Bool, List, [], ◌∷◌, map, length, nat_lt, None, if◌then◌else◌}
 use Rattle.std.specs.Arc.{arc_value}
 use Rattle.load_memory.specs.Keys.{key_of}
 use Rattle.load_memory.specs.Rows.{RowOf}

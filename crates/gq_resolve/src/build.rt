@@ -97,10 +97,30 @@ fn asked<'p>(
             Ok(State::Done(own))
         }
         Asked::First { loader, key, below } => {
-            read_from(alloc, plan, memory, levels, *loader, key, Then::First, below, row)
+            read_from(
+                alloc,
+                plan,
+                memory,
+                levels,
+                *loader,
+                key,
+                Then::First,
+                below,
+                row,
+            )
         }
         Asked::All { loader, key, below } => {
-            read_from(alloc, plan, memory, levels, *loader, key, Then::All, below, row)
+            read_from(
+                alloc,
+                plan,
+                memory,
+                levels,
+                *loader,
+                key,
+                Then::All,
+                below,
+                row,
+            )
         }
         Asked::Each {
             loader,
@@ -144,7 +164,9 @@ fn read_from<'p>(
             read(alloc, plan, memory, levels, loader, key, next, below)
         }
         KeyFrom::Column(column) => {
-            read_cell(alloc, plan, memory, levels, loader, column, next, below, row)
+            read_cell(
+                alloc, plan, memory, levels, loader, column, next, below, row,
+            )
         }
     }
 }

@@ -32,11 +32,7 @@ use std::alloc::Global;
 const MOST_LEVELS: u32 = 128;
 
 // The root object, which has no row (section 6.2.1).
-fn root<'p>(
-    alloc: Global,
-    plan: &'p Plan<'_>,
-    memory: &Memory,
-) -> Result<State<'p>, NoMemory>
+fn root<'p>(alloc: Global, plan: &'p Plan<'_>, memory: &Memory) -> Result<State<'p>, NoMemory>
     ensures { IfOk result (λ state. program_of (plan_of plan.now) state ≡ rest (plan_program (plan_of plan.now)) (told memory.now)) }
 {
     let ty = plan.schema().root();

@@ -140,7 +140,15 @@ fn finished_list<'p>(
     let mut pulled = false;
     for (i, child) in children.iter().enumerate() {
         steps.push(Step::Item(i))?;
-        let part = finished(alloc, plan, child, items.non_null, items.place, steps, errors)?;
+        let part = finished(
+            alloc,
+            plan,
+            child,
+            items.non_null,
+            items.place,
+            steps,
+            errors,
+        )?;
         steps.pop();
         pulled = pulled || (items.non_null && is_null(&part));
         parts.push(part)?;

@@ -20,3 +20,4 @@ pub use answer::answer_text;
 pub use answered::Answered;
 pub use evaluation::evaluate;
 pub use no_memory::NoMemory;
+pub use plan_program::{ArgFault, Args, Group, arguments_of, collect};

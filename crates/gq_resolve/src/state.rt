@@ -37,10 +37,7 @@ pub enum Then<'p> {
     /// All of them.
     All,
     /// For each of them the second loader's first row of the key in a column.
-    Joined {
-        second: usize,
-        column: &'p str,
-    },
+    Joined { second: usize, column: &'p str },
 }
 
 /// A position of an execution that goes on as loads are answered.

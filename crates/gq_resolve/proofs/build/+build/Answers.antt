@@ -1,4 +1,4 @@
-use Rattle.std.proofs.Common.{◌≡◌, arith, refl, sym, ap, subst, ◌∙◌}
+use Rattle.std.proofs.Common.{◌≡◌, arith, sym, ap, subst, ◌∙◌}
 use Rattle.std.specs.Prelude.{List, Option, option_map, IfOk}
 use Rattle.std.specs.Arc.{arc_value}
 use Rattle.load_memory.specs.Keys.{KeyOf, key_of}
@@ -63,7 +63,7 @@ go_on-returns-in-First t c = rw (c.in-Rows.is, c.in-First.is, ← c.deref.ensure
 pub go_on-returns-in-All : goal.go_on-returns-in-All
 go_on-returns-in-All t c =
     let P : Below → List Row → Type 0 = λ (b : Below). λ (rows : List Row).
-      IfOk c.all.result (λ (s : State). program_of (plan_of c.args.plan.now) s ≡ rest (all_objects (plan_of c.args.plan.now).definitions (object_program (plan_of c.args.plan.now) c.args.levels) (below_seen b) rows) (told c.args.memory.now)) in
+    IfOk c.all.result (λ (s : State). program_of (plan_of c.args.plan.now) s ≡ rest (all_objects (plan_of c.args.plan.now).definitions (object_program (plan_of c.args.plan.now) c.args.levels) (below_seen b) rows) (told c.args.memory.now)) in
     rw (c.in-Rows.is, c.in-All.is) (subst (λ (b : Below). P b c.in-Rows.rows.items) c.deref-in-All.ensures (subst (λ (rows : List Row). P c.deref-in-All.result.now rows) c.deref-in-All-2.ensures.value c.all.ensures))
 
 pub read_cell-returns-in_ok-from_str-in-Text : goal.read_cell-returns-in_ok-from_str-in-Text

@@ -1,4 +1,4 @@
-use Rattle.std.proofs.Common.{◌≡◌, ℕ, ◌∙◌, ◌==◌, false, true, ap, sym, refl, subst, length, List, [], eqb-true}
+use Rattle.std.proofs.Common.{◌≡◌, ℕ, ◌∙◌, ap, sym, refl, subst, length, List, eqb-true}
 use Rattle.std.specs.Borrow.{Bor}
 use Rattle.std.proofs.lemmas.List.{length-map}
 use Rattle.load_memory.specs.Keys.{key_of}
@@ -11,7 +11,7 @@ use Rattle.execution.specs.Front.{missing, wanting}
 use Rattle.gq_check.specs.Plans.{PlanOf, plan_of}
 use Rattle.plan_program.specs.PlanPrograms.{plan_program}
 use Rattle.gq_resolve.specs.Answered.{answered_of}
-use Rattle.gq_resolve.specs.Evaluated.{reader, front_over, AddsPart}
+use Rattle.gq_resolve.specs.Evaluated.{reader, AddsPart}
 use Rattle.gq_resolve.specs.States.{tree_of, loads_seen}
 use Rattle.gq_resolve.proofs.Evaluating.{left-told, waits-missing, holds-tree, front-none, front-some, no-items, closed-tree, executes, wants-front, on_err}
 use Rattle.gq_resolve.proofs.evaluation.evaluate.Goals as goal
@@ -49,8 +49,7 @@ returns-clause-ok c =
     let left = left-told plan m s c.requires.loaders c.in_ok-state.ensures in
     let waits = c.in_ok-loads.ensures ∙ waits-missing plan m s p left in
     let counted : c.in_ok-loads.loads.len ≡ length (missing (reader m) (needs p (reader m))) =
-      c.in_ok-loads.loads.ok.0 ∙ sym (length-map c.in_ok-loads.loads.items (λ (l : ℕ × Bor Key). record { loader = l.0; key = key_of l.1.now })) ∙ ap length waits in
-    (
+    c.in_ok-loads.loads.ok.0 ∙ sym (length-map c.in_ok-loads.loads.items (λ (l : ℕ × Bor Key). record { loader = l.0; key = key_of l.1.now })) ∙ ap length waits in (
       front-some m p c.in_ok-loads.loads.len counted (sym c.if-is_empty.ensures),
       c.in_ok-want_all.ensures.ok ∙ ap (λ (xs : List (ℕ × Bor Key)). wanting c.args.wants.now (loads_seen xs)) c.deref.ensures.value ∙ ap (wanting c.args.wants.now) waits ∙ wants-front m p c.args.wants.now c.requires.modes,
     )

@@ -1,4 +1,4 @@
-use Rattle.std.proofs.Common.{◌≤◌, length, sym, arith}
+use Rattle.std.proofs.Common.{sym, arith}
 use Rattle.load_memory.specs.Keys.{key_of}
 use Rattle.gq_resolve.proofs.Evaluating.{with-past}
 use Rattle.gq_resolve.proofs.evaluation.want.Goals as goal

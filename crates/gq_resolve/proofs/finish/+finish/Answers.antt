@@ -1,7 +1,6 @@
-use Rattle.std.proofs.Common.{◌≡◌, ◌∙◌, ◌||◌, ◌&&◌, ◌++◌, ◌∷◌, [], ◌+◌, List, length, arith, refl, sym, ap}
+use Rattle.std.proofs.Common.{◌≡◌, ◌∙◌, ◌||◌, ◌&&◌, ◌++◌, ◌∷◌, [], ◌+◌, List, length, arith, refl, ap}
 use Rattle.std.proofs.lemmas.List.{map-append, length_push}
 use Rattle.gq_check.specs.Plans.{plan_of}
-use Rattle.execution.specs.Completion.{is_open}
 use Rattle.execution.specs.Program.{ListOf, ObjectOf}
 use Rattle.gq_resolve.specs.Answered.{response_of, is_null_response}
 use Rattle.gq_resolve.specs.States.{step_of, steps_of}
@@ -30,9 +29,8 @@ finished_list-loop-i-preserved t c =
     let before : c.push.new.self.items ≡ c.args.steps.now.items ++ item ∷ [] = c.in_ok-push.ensures.items ∙ ap (λ (p : List Step). p ++ item ∷ []) c.loop-i.invariant.1 in
     let seen : steps_of c.push.new.self.items ≡ steps_of c.args.steps.now.items ++ step_of item ∷ [] = ap steps_of before ∙ map-append step_of c.args.steps.now.items (item ∷ []) in
     let pulled : c.if-pulled.pulled ≡ (c.loop-i.pulled || (items.non_null && is_null_response (response_of c.in_ok-part.part))) =
-      elim c.if-pulled.branch [ finished_list-then-pulled w ↦ rw (w.pulled-is, w.if-pulled.true) refl | finished_list-else-pulled+then-items w ↦ rw (w.pulled-is, w.is_null.ensures, w.if-pulled.false, w.if-items.true) refl | finished_list-else-pulled+else-items w ↦ rw (w.pulled-is, w.if-pulled.false, w.if-items.false) refl ] in
-    let longer : length c.push-in-loop-i.new.self.items ≡ c.loop-i.i + 1 = ap length c.in_ok-push-2.ensures.items ∙ length_push c.loop-i.parts.items c.in_ok-part.part ∙ ap (λ n. n + 1) c.loop-i.invariant.2 in
-    (
+    elim c.if-pulled.branch [ finished_list-then-pulled w ↦ rw (w.pulled-is, w.if-pulled.true) refl | finished_list-else-pulled+then-items w ↦ rw (w.pulled-is, w.is_null.ensures, w.if-pulled.false, w.if-items.true) refl | finished_list-else-pulled+else-items w ↦ rw (w.pulled-is, w.if-pulled.false, w.if-items.false) refl ] in
+    let longer : length c.push-in-loop-i.new.self.items ≡ c.loop-i.i + 1 = ap length c.in_ok-push-2.ensures.items ∙ length_push c.loop-i.parts.items c.in_ok-part.part ∙ ap (λ n. n + 1) c.loop-i.invariant.2 in (
       λ closed. list-more (plan_of c.args.plan.now) items.non_null items.place c.args.children.now c.loop-i.i c.index-children-i.result _ _ _ _ _ c.loop-i.parts.items _ c.in_ok-part.part _ _ (omega arith) c.index-children-i.is closed c.loop-i.invariant.2 (c.loop-i.invariant.0 closed) seen c.in_ok-part.ensures.response c.in_ok-part.ensures.errors pulled c.in_ok-push-2.ensures.items,
       popped _ _ _ _ c.finished.new.steps.len (c.in_ok-part.ensures.steps ∙ before) c.finished.new.steps.ok.0 c.pop.ensures.rest,
       longer,
@@ -51,8 +49,7 @@ finished_object-loop-spot-preserved t c =
     let before : c.push.new.self.items ≡ c.args.steps.now.items ++ key ∷ [] = c.in_ok-push.ensures.items ∙ ap (λ (p : List Step). p ++ key ∷ []) c.loop-spot.invariant.1 in
     let seen : steps_of c.push.new.self.items ≡ steps_of c.args.steps.now.items ++ step_of key ∷ [] = ap steps_of before ∙ map-append step_of c.args.steps.now.items (key ∷ []) in
     let pulled : c.if-pulled.pulled ≡ (c.loop-spot.pulled || (spot.non_null && is_null_response (response_of c.in_ok-part.part))) =
-      elim c.if-pulled.branch [ finished_object-then-pulled w ↦ rw (w.pulled-is, w.if-pulled.true) refl | finished_object-else-pulled+then-spot w ↦ rw (w.pulled-is, w.is_null.ensures, w.if-pulled.false, w.if-spot.true) refl | finished_object-else-pulled+else-spot w ↦ rw (w.pulled-is, w.if-pulled.false, w.if-spot.false) refl ] in
-    (
+    elim c.if-pulled.branch [ finished_object-then-pulled w ↦ rw (w.pulled-is, w.if-pulled.true) refl | finished_object-else-pulled+then-spot w ↦ rw (w.pulled-is, w.is_null.ensures, w.if-pulled.false, w.if-spot.true) refl | finished_object-else-pulled+else-spot w ↦ rw (w.pulled-is, w.if-pulled.false, w.if-spot.false) refl ] in (
       λ closed. object-more (plan_of c.args.plan.now) c.args.children.now c.loop-spot.spot-index c.loop-spot-item.result _ _ _ _ _ c.loop-spot.parts.items _ c.in_ok-key.key c.in_ok-part.part _ _ (omega arith) c.loop-spot-item.is closed (c.loop-spot.invariant.0 closed) seen c.in_ok-key.ensures.ok c.in_ok-part.ensures.response c.in_ok-part.ensures.errors pulled c.in_ok-push-2.ensures.items,
       popped _ _ _ _ c.finished.new.steps.len (c.in_ok-part.ensures.steps ∙ before) c.finished.new.steps.ok.0 c.pop.ensures.rest,
     )

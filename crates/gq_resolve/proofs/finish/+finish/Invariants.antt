@@ -9,11 +9,11 @@ use Rattle.gq_resolve.proofs.finish.+finish.Given as goal
 abbrev pub invariant-finished_list-loop-i : goal.invariant-finished_list-loop-i
 invariant-finished_list-loop-i l =
     (any_open (items_held (plan_of l.plan) l.items.non_null l.items.place 0 l.children) ≡ false
-      → Finishes (items_held (plan_of l.plan) l.items.non_null l.items.place 0 (take l.i l.children)) (steps_of l.fn.steps.items) (errors_of l.fn.errors.items) (items_from 0 (map response_of l.parts.items)) (errors_of l.errors.items) l.pulled)
+    → Finishes (items_held (plan_of l.plan) l.items.non_null l.items.place 0 (take l.i l.children)) (steps_of l.fn.steps.items) (errors_of l.fn.errors.items) (items_from 0 (map response_of l.parts.items)) (errors_of l.errors.items) l.pulled)
     × (l.steps.items ≡ l.fn.steps.items) × (length l.parts.items ≡ l.i)
 
 abbrev pub invariant-finished_object-loop-spot : goal.invariant-finished_object-loop-spot
 invariant-finished_object-loop-spot l =
     (any_open (fields_held (plan_of l.plan) l.children) ≡ false
-      → Finishes (fields_held (plan_of l.plan) (take l.spot-index l.children)) (steps_of l.fn.steps.items) (errors_of l.fn.errors.items) (members_of (map member_seen l.parts.items)) (errors_of l.errors.items) l.pulled)
+    → Finishes (fields_held (plan_of l.plan) (take l.spot-index l.children)) (steps_of l.fn.steps.items) (errors_of l.fn.errors.items) (members_of (map member_seen l.parts.items)) (errors_of l.errors.items) l.pulled)
     × (l.steps.items ≡ l.fn.steps.items)

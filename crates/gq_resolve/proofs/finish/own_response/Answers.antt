@@ -1,4 +1,4 @@
-use Rattle.std.proofs.Common.{◌≡◌, ◌∙◌, ◌++◌, [], List, sym, ap, refl, rules}
+use Rattle.std.proofs.Common.{sym}
 use Rattle.gq_resolve.proofs.finish.own_response.Goals as goal
 use Rattle.gq_resolve.proofs.finish.own_response.Goals.{then-non_null+in_ok-message-in-Null+in_ok-put_error-in-Null, else-non_null}
 use Rattle.gq_resolve.proofs.Finishing.{append-none}

@@ -1,5 +1,4 @@
-use Rattle.std.proofs.Common.{◌≡◌, ◌<◌, length, arith, ap, ◌∙◌}
-use Rattle.std.specs.Prelude.{slice_get, Some}
+use Rattle.std.proofs.Common.{arith}
 use Rattle.load_memory.specs.Keys.{key_of, cache_of}
 use Rattle.gq_resolve.proofs.Told.{told-got}
 use Rattle.gq_resolve.proofs.reading.told.Goals as goal
