@@ -4,3 +4,4 @@ pub mod Waits
 pub mod Finishing
 pub mod Loaders
 pub mod Evaluating
+pub mod Texts
