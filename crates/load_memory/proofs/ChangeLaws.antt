@@ -8,7 +8,7 @@ use Rattle.std.specs.List.{IsDistinct, AllByRecursion}
 use Rattle.std.specs.HashMap.{spare}
 use Rattle.std.specs.Map.{keys_of, lookup}
 use Rattle.load_memory.specs.Keys.{KeyOf, cache_of, same_key}
-use Rattle.load_memory.specs.Outcomes.{ItemOf, OutcomeOf, known, batch_fault, outcome_of}
+use Rattle.load_memory.specs.Outcomes.{ItemOf, OutcomeOf, known, batch_fault, outcome_of, is_failed}
 use Rattle.load_memory.specs.Pairs.{PairOf, is_at, look, primed, IsSameMap, IsWithout, unless_failed, IsUnfailed, IsWith}
 use Rattle.load_memory.specs.Parts.{PartOf, EntriesOf, pairs_from, look_in, room_at, count_at, HaveRoom, staged_of, AreUnfailed}
 use Rattle.load_memory.specs.declared.key.CacheKey.{CacheKey}
@@ -18,6 +18,10 @@ use Rattle.load_memory.specs.declared.outcome.Outcome.TheVariants as outcome
 use Rattle.load_memory.specs.contracts.key.CacheKeyPartialEq.TheImpl as cache_eq
 use Rattle.load_memory.proofs.Looks.{same_key-is, same_key-refl, nothing, primed-absent}
 use Rattle.load_memory.proofs.PartLaws.{cache-eq, lookup-cache, at_part, look-part, at_part-read, at_part-same, at_part-other, pairs-put}
+
+-- what the part of a loader says
+pub look-one : (ps : List PartOf) (i : ℕ) (d : PartOf) (q : KeyOf) → i < length ps → d ≡ get_or ps i d → look (pairs_from 0 ps) i q ≡ look_in d.entries q
+look-one ps i d q lt at = look-part ps i q ∙ at_part-read ps i d q lt ∙ ap (λ (p : PartOf). look_in p.entries q) (sym at)
 
 -- one part is changed, at each of its keys
 pub look-changed : (ps : List PartOf) (i : ℕ) (x d : PartOf) (f : KeyOf → Option OutcomeOf → Option OutcomeOf) → i < length ps → d ≡ get_or ps i d
@@ -66,6 +70,13 @@ AreUnfailed-without names ps qs none out l q = ap unless_failed (out l q) ∙ go
   go true = refl
   go false = none l q
 
+pub AreUnfailed-one : (ps : List PartOf) (i : ℕ) (x : PartOf) → AreUnfailed (pairs_from 0 ps)
+    → ((l : ℕ) (q : KeyOf) → look (pairs_from 0 (slice_set ps i x)) l q ≡ (if i == l then unless_failed (look (pairs_from 0 ps) l q) else look (pairs_from 0 ps) l q)) → AreUnfailed (pairs_from 0 (slice_set ps i x))
+AreUnfailed-one ps i x none h l q = ap unless_failed (h l q) ∙ go (i == l) ∙ sym (h l q) where
+  go : (b : Bool) → unless_failed (if b then unless_failed (look (pairs_from 0 ps) l q) else look (pairs_from 0 ps) l q) ≡ (if b then unless_failed (look (pairs_from 0 ps) l q) else look (pairs_from 0 ps) l q)
+  go true = unfailed-twice (look (pairs_from 0 ps) l q)
+  go false = none l q
+
 pub AreUnfailed-after : (ps qs : List PairOf) → IsUnfailed ps qs → AreUnfailed qs
 AreUnfailed-after ps qs h l q = ap unless_failed (h l q) ∙ unfailed-twice (look ps l q) ∙ sym (h l q)
 
@@ -82,18 +93,12 @@ AreUnfailed-put ps p item qs none absent is same l q =
     go true = rw is refl
     go false = none l q
 
--- whether the outcome isn't that of a batch that failed as a whole
-abbrev pub is_item : Outcome → Bool
-is_item (outcome.Rows r) = true
-is_item (outcome.KeyFault t) = true
-is_item (outcome.BatchFault t) = false
-
-item-known : (o : Outcome) → is_item o ≡ true → unless_failed (Some (outcome_of o)) ≡ Some (outcome_of o)
+pub item-known : (o : Outcome) → is_failed o ≡ false → unless_failed (Some (outcome_of o)) ≡ Some (outcome_of o)
 item-known (outcome.Rows r) e = refl
 item-known (outcome.KeyFault t) e = refl
 item-known (outcome.BatchFault t) e = absurd (cc e)
 
-item-failed : (o : Outcome) → is_item o ≡ false → unless_failed (Some (outcome_of o)) ≡ None
+item-failed : (o : Outcome) → is_failed o ≡ true → unless_failed (Some (outcome_of o)) ≡ None
 item-failed (outcome.Rows r) e = absurd (cc e)
 item-failed (outcome.KeyFault t) e = absurd (cc e)
 item-failed (outcome.BatchFault t) e = refl
@@ -104,17 +109,17 @@ not-among k [] h = refl
 not-among k (e ∷ es) h = rw (sym (cache-eq k e.0) ∙ h.0) (not-among k es h.1)
 
 -- entries whose batch failed are taken out
-pub look_in-items : (es : EntriesOf) → IsDistinct (cache_eq.eq-value).it (keys_of es) → (q : KeyOf) → look_in (filter (λ e. is_item e.1) es) q ≡ unless_failed (look_in es q)
+pub look_in-items : (es : EntriesOf) → IsDistinct (cache_eq.eq-value).it (keys_of es) → (q : KeyOf) → look_in (filter (λ e. not (is_failed e.1)) es) q ≡ unless_failed (look_in es q)
 unfolding IsDistinct
 look_in-items [] d q = refl
-look_in-items (e ∷ es) d q = go (look_in-items es d.1 q) (is_item e.1) refl (same_key q (cache_of e.0)) refl where
-  go : look_in (filter (λ e. is_item e.1) es) q ≡ unless_failed (look_in es q) → (b : Bool) → is_item e.1 ≡ b → (c : Bool) → same_key q (cache_of e.0) ≡ c → look_in (filter (λ e. is_item e.1) (e ∷ es)) q ≡ unless_failed (look_in (e ∷ es) q)
-  go rest true item true at = rw (item, at) (sym (item-known e.1 item))
-  go rest true item false at = rw (item, at) rest
-  go rest false item true at =
+look_in-items (e ∷ es) d q = go (look_in-items es d.1 q) (is_failed e.1) refl (same_key q (cache_of e.0)) refl where
+  go : look_in (filter (λ e. not (is_failed e.1)) es) q ≡ unless_failed (look_in es q) → (b : Bool) → is_failed e.1 ≡ b → (c : Bool) → same_key q (cache_of e.0) ≡ c → look_in (filter (λ e. not (is_failed e.1)) (e ∷ es)) q ≡ unless_failed (look_in (e ∷ es) q)
+  go rest false item true at = rw (item, at) (sym (item-known e.1 item))
+  go rest false item false at = rw (item, at) rest
+  go rest true item true at =
       let none : look_in es q ≡ None = rw (same_key-is q (cache_of e.0) at) (not-among e.0 es d.0) in
       rw (item, at) (rest ∙ ap unless_failed none ∙ sym (item-failed e.1 item))
-  go rest false item false at = rw (item, at) rest
+  go rest true item false at = rw (item, at) rest
 
 -- what a part's test of a key tells
 pub look_in-told : (es : EntriesOf) (k : CacheKey) (b : Bool) → b ≡ is_some (lookup ((cache_eq.eq-value).it k) es) → is_some (look_in es (cache_of k)) ≡ b

@@ -1,5 +1,5 @@
 -- What a memory's parts say of a key, and what a change of one part does.
-use Rattle.std.proofs.Common.{◌≡◌, ℕ, zero, suc, ◌+◌, ◌<◌, Bool, true, false, List, [], ◌∷◌, ◌++◌, map, length, get_or, Option, Some, None, refl, ap, ◌∙◌, sym, arith, length-append}
+use Rattle.std.proofs.Common.{◌≡◌, ℕ, zero, suc, ◌+◌, ◌<◌, ◌≤◌, Bool, true, false, List, [], ◌∷◌, ◌++◌, map, length, get_or, Option, Some, None, refl, ap, ◌∙◌, sym, arith, length-append}
 use Rattle.std.proofs.lemmas.List.{length-map, length-set}
 use Rattle.std.proofs.lemmas.Bool.{eqb-true, eqb-false, eq-eqb, ne_eqb, and_left}
 use Rattle.std.specs.Prelude.{◌==◌, ◌&&◌, cond, is_some, option_map, if◌then◌else◌, slice_set}
@@ -139,6 +139,12 @@ pairs-counted n (p ∷ ps) zero x d lt =
     omega (arith, length-append (map (pair_at n) x.entries) (pairs_from (suc n) ps), length-append (map (pair_at n) p.entries) (pairs_from (suc n) ps), length-map x.entries (pair_at n), length-map p.entries (pair_at n))
 pairs-counted n (p ∷ ps) (suc i) x d lt =
     omega (arith, length-append (map (pair_at n) p.entries) (pairs_from (suc n) (slice_set ps i x)), length-append (map (pair_at n) p.entries) (pairs_from (suc n) ps), pairs-counted (suc n) ps i x d (omega arith))
+
+-- one part has no more pairs than there are
+pub part-within : (n : ℕ) (ps : List PartOf) (i : ℕ) (d : PartOf) → i < length ps → length (get_or ps i d).entries ≤ length (pairs_from n ps)
+part-within n [] i d lt = absurd (omega arith)
+part-within n (p ∷ ps) zero d lt = omega (arith, length-append (map (pair_at n) p.entries) (pairs_from (suc n) ps), length-map p.entries (pair_at n))
+part-within n (p ∷ ps) (suc i) d lt = omega (arith, length-append (map (pair_at n) p.entries) (pairs_from (suc n) ps), part-within (suc n) ps i d (omega arith))
 
 -- what is put where nothing is
 pub pairs-put : (ps : List PartOf) (i : ℕ) (x d : PartOf) (key : KeyOf) (o : OutcomeOf) → i < length ps → d ≡ get_or ps i d → is_some (look (pairs_from 0 ps) i key) ≡ false

@@ -1,5 +1,5 @@
 -- The pairs of a memory that keeps a hash map for each loader.
-use Rattle.std.specs.Prelude.{◌≡◌, ◌==◌, ◌≤◌, ℕ, zero, suc, Bool, false, List, [], ◌∷◌, ◌++◌, map, length, count_by, Option, option_map}
+use Rattle.std.specs.Prelude.{◌≡◌, ◌==◌, ◌≤◌, ℕ, zero, suc, Bool, false, List, [], ◌∷◌, ◌++◌, map, length, Option, option_map, if◌then◌else◌}
 use Rattle.std.specs.HashMap.{HashMap, IsUnique, spare}
 use Rattle.std.specs.Map.{lookup}
 use Rattle.std.specs.declared.hash.FoldHasher.{FoldHasher}
@@ -57,7 +57,8 @@ staged_of s = record { loader = s.loader; key = cache_of s.key; outcome = outcom
 
 -- how many of these are of the loader of a number
 abbrev pub count_at : ℕ → List Staged → ℕ
-count_at loader pairs = count_by (λ (s : Staged). s.loader == loader) pairs
+count_at loader [] = 0
+count_at loader (s ∷ pairs) = if s.loader == loader then suc (count_at loader pairs) else count_at loader pairs
 
 -- the places that the part of a loader has to spare
 abbrev pub room_at : List PartOf → ℕ → ℕ

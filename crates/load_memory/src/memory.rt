@@ -208,9 +208,7 @@ impl Memory {
         }
         let counts = counts_of(*pairs.allocator(), &pairs, self.parts.len())?;
         make_room(&mut self.parts, &counts)?;
-        if has_failed(&pairs) {
-            self.failed = true;
-        }
+        self.failed |= has_failed(&pairs);
         self.count += put_all(&mut self.parts, pairs);
         Ok(())
     }

@@ -77,6 +77,6 @@ pub(crate) fn drop_failed_of(part: &mut Part) -> usize
     ensures own_keys { HasOwnKeys part.new }
 {
     let before = part.len();
-    part.retain(|_, outcome| !matches!(outcome, Outcome::BatchFault(_)));
+    part.retain(|_, outcome| !outcome.has_failed());
     before - part.len()
 }

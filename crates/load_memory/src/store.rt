@@ -8,7 +8,6 @@ ghost use Rattle.load_memory.specs.Replies.{reply_pairs};
 
 use crate::key::{KeyMode, cache_key};
 use crate::no_memory::NoMemory;
-use crate::outcome::Outcome;
 use crate::part::{Part, Staged, put};
 use crate::reply::Reply;
 use std::alloc::Global;
@@ -39,7 +38,7 @@ pub(crate) fn has_failed(pairs: &[Staged]) -> bool
     ensures { result ≡ false → AreUnfailed (map staged_of pairs.now) }
 {
     for pair in pairs {
-        if matches!(pair.outcome, Outcome::BatchFault(_)) {
+        if pair.outcome.has_failed() {
             return true;
         }
     }

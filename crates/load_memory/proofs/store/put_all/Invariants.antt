@@ -1,4 +1,4 @@
-use Rattle.std.proofs.Common.{◌≡◌, ◌+◌, ◌<◌, ℕ, length, map}
+use Rattle.std.proofs.Common.{◌≡◌, ◌+◌, ◌<◌, ◌≤◌, ℕ, length, map}
 use Rattle.std.specs.Prelude.{All}
 use Rattle.std.specs.Option.{option_or}
 use Rattle.load_memory.specs.Keys.{KeyOf}
@@ -16,5 +16,5 @@ invariant-loop-pair l = record {
   pairs : (loader : ℕ) (key : KeyOf) → option_or (look (pairs_from 0 l.parts.items) loader key) (look (map staged_of l.pair-iterator.rest.items) loader key)
       ≡ option_or (look (pairs_from 0 l.fn.parts.items) loader key) (look (map staged_of l.fn.pairs.items) loader key);
   count : length (pairs_from 0 l.parts.items) ≡ length (pairs_from 0 l.fn.parts.items) + l.added;
-  most : l.added + length l.pair-iterator.rest.items ≡ length l.fn.pairs.items;
+  most : l.added + length l.pair-iterator.rest.items ≤ length l.fn.pairs.items;
 }
