@@ -1,5 +1,5 @@
 //! A loader: a source with its name, its mode, its limit and its log.
-ghost use Rattle.std.specs.Prelude.{◌≡◌, ◌↔◌, [], IfOk, OnOk, OnErr, IsErrOf, map};
+ghost use Rattle.std.specs.Prelude.{◌≡◌, ◌↔◌, ◌<◌, ℕ, Some, [], IfOk, OnOk, OnErr, IsErrOf, map};
 ghost use Rattle.load_memory.specs.Keys.{key_of};
 ghost use Rattle.load_queue.specs.Batches.{AreBatches};
 ghost use Rattle.load_queue.specs.Orders.{orders_of};
@@ -81,7 +81,7 @@ impl<S> Model for Loader<S> {
 
 impl<S> Loader<S> {
     ghost use Rattle.load_queue.specs.Logs.{asked_of};
-    ghost use Rattle.load_queue.specs.Loaders.{asked_in};
+    ghost use Rattle.load_queue.specs.Loaders.{asked_in, stored_in};
 
     /// The name, as its source's table is called.
     pub fn name(&self) -> &str
@@ -128,6 +128,25 @@ impl<S> Loader<S> {
         let (orders, mut entries) = cut_keys(*self.log.allocator(), loader, round, keys, most)?;
         self.log.append(&mut entries)?;
         Ok(orders)
+    }
+
+    /// Marks the entries of a round as stored, and changes nothing else.
+    pub fn mark_stored(&mut self, round: u32)
+        ensures { self.new ≡ stored_in self.old round }
+    {
+        for entry in self.log.iter_mut() {
+            if entry.round == round {
+                entry.stored = true;
+            }
+        }
+    }
+
+    /// How many keys its source is asked at most at once; `None` is no bound.
+    pub fn limit(&self) -> Option<u32>
+        ensures value { result ≡ self.now.limit }
+        ensures positive { (n : ℕ) → self.now.limit ≡ Some n → 0 < n }
+    {
+        self.limit
     }
 }
 
