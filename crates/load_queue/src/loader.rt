@@ -90,9 +90,10 @@ impl<S> Loader<S> {
         self.name.as_str()
     }
 
-    /// How the loader's keys are compared.
+    /// How the loader's keys are compared. A contract also sees here that no loader's limit is 0.
     pub fn mode(&self) -> KeyMode
-        ensures { result ≡ self.now.mode }
+        ensures value { result ≡ self.now.mode }
+        ensures limited { (n : ℕ) → self.now.limit ≡ Some n → 0 < n }
     {
         self.mode
     }
@@ -139,14 +140,6 @@ impl<S> Loader<S> {
                 entry.stored = true;
             }
         }
-    }
-
-    /// How many keys its source is asked at most at once; `None` is no bound.
-    pub fn limit(&self) -> Option<u32>
-        ensures value { result ≡ self.now.limit }
-        ensures positive { (n : ℕ) → self.now.limit ≡ Some n → 0 < n }
-    {
-        self.limit
     }
 }
 

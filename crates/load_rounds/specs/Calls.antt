@@ -1,0 +1,51 @@
+-- What the calls of a session do.
+use Rattle.std.specs.Prelude.{◌≡◌, ◌⊎◌, ℕ, List, [], ◌∷◌, map, Some}
+use Rattle.load_memory.specs.Keys.{KeyOf, folded}
+use Rattle.load_memory.specs.Outcomes.{OutcomeOf}
+use Rattle.load_memory.specs.Replies.{ReplyOf}
+use Rattle.load_queue.specs.Answers.{AnswerOf}
+use Rattle.execution.specs.Loads.{Load, read, mode_at}
+use Rattle.execution.specs.Front.{front_of_keys}
+use Rattle.execution.specs.Rounds.{orders_of, may_at, AreReplies, without_failed}
+use Rattle.execution.specs.Sessions.{Step, Forgot, Asked, Lost, Cell, key_cell}
+use Rattle.load_rounds.specs.Sessions.{StateOf, rules_of, session_modes, after_steps, of_first}
+
+-- no round is made where nothing is asked
+abbrev pub round_of : List Load → List ReplyOf → List Step
+round_of [] replies = []
+round_of (l ∷ ls) replies = Asked (l ∷ ls) replies ∷ []
+
+module _ {S : Type 0} where
+  -- a key as the memory has it
+  abbrev pub cell_at : StateOf S → ℕ → KeyOf → Cell
+  cell_at s loader key = key_cell (session_modes s) loader key
+
+  -- what a call asks for keys of a loader: those that aren't known once failed batches are forgotten
+  abbrev pub asked_for : StateOf S → ℕ → List KeyOf → List Load
+  asked_for s loader keys = front_of_keys (session_modes s) loader keys (without_failed s.memory)
+
+  -- what is known of keys of a loader, place by place
+  abbrev pub AreKnown : StateOf S → ℕ → List KeyOf → List OutcomeOf → Type 0
+  AreKnown s loader keys outcomes = map (λ key. read (session_modes s) s.memory (record { loader = loader; key = key })) keys ≡ map Some outcomes
+
+  module _ (may : S → List KeyOf → AnswerOf → Type 0) where
+    -- Failed batches were forgotten, then the loads were asked in one round, where there are some, and each batch was
+    -- answered as its source may.
+    pub record RunsRound (old new : StateOf S) (loads : List Load) : Type 0 where
+      pub replies : List ReplyOf
+      pub answered : AreReplies (may_at may old.loaders) (orders_of (rules_of old) loads) replies
+      pub after : new ≡ after_steps old (Forgot ∷ round_of loads replies)
+
+    -- Failed batches were forgotten, and the round was lost: the batches of the first loaders were entered, perhaps none.
+    pub record LosesRound (old new : StateOf S) (loads : List Load) : Type 0 where
+      pub loaders : ℕ
+      pub after : new ≡ after_steps old (Forgot ∷ Lost (of_first loaders loads) ∷ [])
+
+    -- what was missing was asked, and these are the outcomes of the keys
+    pub record IsLoaded (old new : StateOf S) (loader : ℕ) (keys : List KeyOf) (outcomes : List OutcomeOf) : Type 0 where
+      pub round : RunsRound old new (asked_for old loader keys)
+      pub known : AreKnown new loader keys outcomes
+
+    -- after want of memory the round was lost, or it is there and its outcomes weren't copied
+    abbrev pub IsStopped : StateOf S → StateOf S → List Load → Type 0
+    IsStopped old new loads = RunsRound old new loads ⊎ LosesRound old new loads
