@@ -1,2 +1,5 @@
 pub mod Cutting
+pub mod Lacking
+pub mod Numbering
 pub mod Running
+pub mod States

@@ -7,13 +7,11 @@ use Rattle.load_queue.specs.Answers.{AnswerOf}
 use Rattle.execution.specs.Loads.{Load, read, mode_at}
 use Rattle.execution.specs.Front.{front_of_keys}
 use Rattle.execution.specs.Rounds.{orders_of, may_at, AreReplies, without_failed}
-use Rattle.execution.specs.Sessions.{Step, Forgot, Asked, Lost, Cell, key_cell}
-use Rattle.load_rounds.specs.Sessions.{StateOf, rules_of, session_modes, after_steps, of_first}
+use Rattle.execution.specs.Sessions.{Forgot, Asked, Lost, Cell, key_cell}
+use Rattle.load_rounds.specs.Sessions.{StateOf, rules_of, session_modes, after_step, of_first}
 
--- no round is made where nothing is asked
-abbrev pub round_of : List Load → List ReplyOf → List Step
-round_of [] replies = []
-round_of (l ∷ ls) replies = Asked (l ∷ ls) replies ∷ []
+abbrev pub load_of : ℕ → KeyOf → Load
+load_of loader key = record { loader = loader; key = key }
 
 module _ {S : Type 0} where
   -- a key as the memory has it
@@ -26,26 +24,32 @@ module _ {S : Type 0} where
 
   -- what is known of keys of a loader, place by place
   abbrev pub AreKnown : StateOf S → ℕ → List KeyOf → List OutcomeOf → Type 0
-  AreKnown s loader keys outcomes = map (λ key. read (session_modes s) s.memory (record { loader = loader; key = key })) keys ≡ map Some outcomes
+  AreKnown s loader keys outcomes = map (λ key. read (session_modes s) s.memory (load_of loader key)) keys ≡ map Some outcomes
 
   module _ (may : S → List KeyOf → AnswerOf → Type 0) where
-    -- Failed batches were forgotten, then the loads were asked in one round, where there are some, and each batch was
-    -- answered as its source may.
-    pub record RunsRound (old new : StateOf S) (loads : List Load) : Type 0 where
+    -- a round was run: it asked these loads, and each batch was answered as its source may
+    pub record RoundRan (old new : StateOf S) (loads : List Load) : Type 0 where
       pub replies : List ReplyOf
       pub answered : AreReplies (may_at may old.loaders) (orders_of (rules_of old) loads) replies
-      pub after : new ≡ after_steps old (Forgot ∷ round_of loads replies)
+      pub after : new ≡ after_step old (Asked loads replies)
 
-    -- Failed batches were forgotten, and the round was lost: the batches of the first loaders were entered, perhaps none.
-    pub record LosesRound (old new : StateOf S) (loads : List Load) : Type 0 where
-      pub loaders : ℕ
-      pub after : new ≡ after_steps old (Forgot ∷ Lost (of_first loaders loads) ∷ [])
+    -- failed batches were forgotten, then the loads were asked in one round, where there are some
+    abbrev pub RunsRound : StateOf S → StateOf S → List Load → Type 0
+    RunsRound old new [] = new ≡ after_step old Forgot
+    RunsRound old new (l ∷ ls) = RoundRan (after_step old Forgot) new (l ∷ ls)
 
+  -- a round was lost: the batches of the first loaders were entered, perhaps of none
+  pub record RoundLost (old new : StateOf S) (loads : List Load) : Type 0 where
+    pub loaders : ℕ
+    pub after : new ≡ after_step old (Lost (of_first loaders loads))
+
+  module _ (may : S → List KeyOf → AnswerOf → Type 0) where
     -- what was missing was asked, and these are the outcomes of the keys
     pub record IsLoaded (old new : StateOf S) (loader : ℕ) (keys : List KeyOf) (outcomes : List OutcomeOf) : Type 0 where
-      pub round : RunsRound old new (asked_for old loader keys)
+      pub round : RunsRound may old new (asked_for old loader keys)
       pub known : AreKnown new loader keys outcomes
 
-    -- after want of memory the round was lost, or it is there and its outcomes weren't copied
+    -- after want of memory failed batches are forgotten, and the round was lost, or it is there and its outcomes weren't
+    -- copied
     abbrev pub IsStopped : StateOf S → StateOf S → List Load → Type 0
-    IsStopped old new loads = RunsRound old new loads ⊎ LosesRound old new loads
+    IsStopped old new loads = RunsRound may old new loads ⊎ RoundLost (after_step old Forgot) new loads

@@ -7,6 +7,7 @@
 #![tactic(auto)]
 
 pub mod fault;
+mod keys;
 mod round;
 pub mod session;
 

@@ -12,6 +12,7 @@ ghost use Rattle.execution.specs.Sessions.{Forgot, Primed, Cleared, ClearedAll, 
 ghost use Rattle.load_rounds.specs.Rounds.{AreWanted};
 
 use crate::fault::SessionFault;
+use crate::keys::{known_outcomes, missing_keys};
 use crate::round::{cut_all, mark_all, run_all};
 use load_memory::{Item, Key, Memory, NoMemory, Outcome, cache_key};
 use load_queue::{Asked, Asks, Loader, Wants};
@@ -140,5 +141,65 @@ impl<S: Drop> Session<S> {
             memory,
             rounds: 0,
         })
+    }
+}
+
+impl<S: Asks> Session<S> {
+    ghost use Rattle.load_rounds.specs.Sessions.{state_of};
+    ghost use Rattle.load_rounds.specs.Calls.{asked_for, RoundRan, RoundLost, IsLoaded, IsStopped};
+
+    /// What comes of a loader's key, after failed batches are forgotten: what is known of it, and else what its
+    /// source answers in a round of this one key, which is then known. It copies the outcome.
+    pub fn load(&mut self, loader: usize, key: Key) -> Result<Outcome, SessionFault>
+        ensures no_loader { IsErrOf result SessionFault.NoSuchLoader ↔ (length self.old.loaders ≤ loader) }
+        ensures refused { IsErrOf result SessionFault.NoSuchLoader → self.new ≡ self.old }
+        ensures no_memory { IsErrOf result SessionFault.NoMemory → IsStopped S.may_tell (state_of self.old)
+            (state_of self.new) (asked_for (state_of self.old) loader (key_of key ∷ [])) }
+        ensures loaded { IfOk result (λ outcome. IsLoaded S.may_tell (state_of self.old) (state_of self.new) loader
+            (key_of key ∷ []) (outcome_of outcome ∷ [])) }
+    {
+        let keys = [key];
+        let mut outcomes = self.load_many(loader, &keys)?;
+        match outcomes.pop() {
+            Some(outcome) => Ok(outcome),
+            None => unreachable!(),
+        }
+    }
+
+    /// What comes of keys of a loader, place by place, as [`load`](Session::load) does of one. The keys that
+    /// aren't known are asked in one round, of equal cache keys the first.
+    pub fn load_many(&mut self, loader: usize, keys: &[Key]) -> Result<Vec<Outcome>, SessionFault>
+        ensures no_loader { IsErrOf result SessionFault.NoSuchLoader ↔ (length self.old.loaders ≤ loader) }
+        ensures refused { IsErrOf result SessionFault.NoSuchLoader → self.new ≡ self.old }
+        ensures no_memory { IsErrOf result SessionFault.NoMemory → IsStopped S.may_tell (state_of self.old)
+            (state_of self.new) (asked_for (state_of self.old) loader (map key_of keys.now)) }
+        ensures loaded { IfOk result (λ outcomes. IsLoaded S.may_tell (state_of self.old) (state_of self.new) loader
+            (map key_of keys.now) (map outcome_of outcomes.items)) }
+    {
+        if loader >= self.loaders.len() {
+            return Err(SessionFault::NoSuchLoader);
+        }
+        self.memory.drop_failed();
+        let wants = missing_keys(*self.loaders.allocator(), &self.memory, loader, keys)?;
+        if !wants.keys(loader).is_empty() {
+            self.ask(&wants)?;
+        }
+        Ok(known_outcomes(*self.loaders.allocator(), &self.memory, loader, keys)?)
+    }
+
+    /// Asks what is wanted, in one round in turn, and stores the replies.
+    fn ask(&mut self, wants: &Wants) -> Result<(), NoMemory>
+        requires { length wants.now ≡ length self.old.loaders }
+        ensures ran { (loads : List Load) → AreWanted wants.now loads
+            → OnOk result (RoundRan S.may_tell (state_of self.old) (state_of self.new) loads) }
+        ensures lost { (loads : List Load) → AreWanted wants.now loads
+            → OnErr result (RoundLost (state_of self.old) (state_of self.new) loads) }
+    {
+        let round = self.rounds.checked_add(1).ok_or(NoMemory)?;
+        let orders = cut_all(&mut self.loaders, &mut self.rounds, round, wants)?;
+        let replies = run_all(*self.loaders.allocator(), orders, &self.loaders)?;
+        self.memory.keep(&replies)?;
+        mark_all(&mut self.loaders, round);
+        Ok(())
     }
 }
