@@ -1,4 +1,5 @@
 pub mod Cutting
+pub mod Keyed
 pub mod Lacking
 pub mod Numbering
 pub mod Running

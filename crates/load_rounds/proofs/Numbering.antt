@@ -3,7 +3,7 @@ use Rattle.std.proofs.Common.{◌≡◌, ◌≢◌, ℕ, zero, suc, ◌<◌, ◌
 use Rattle.std.proofs.lemmas.List.{map-append, length-map}
 use Rattle.std.proofs.lemmas.List.Elements.{All-nil, All-cons, All-head, All-tail, All-append}
 use Rattle.std.proofs.lemmas.Bool.{ne_eqb, eq-eqb, eqb-true, lt-ltb}
-use Rattle.std.specs.Prelude.{All, nat_lt, ◌==◌, if◌then◌else◌}
+use Rattle.std.specs.Prelude.{All, slice_get, Some, nat_lt, ◌==◌, if◌then◌else◌}
 use Rattle.std.specs.List.{filter}
 use Rattle.load_memory.specs.Keys.{KeyOf}
 use Rattle.load_memory.specs.Replies.{ReplyOf}
@@ -14,7 +14,7 @@ use Rattle.load_queue.specs.Orders.{OrderOf, order_of}
 use Rattle.load_queue.specs.Wanted.{WantedOf, keys_wanted}
 use Rattle.execution.specs.Loads.{Load}
 use Rattle.execution.specs.Front.{keys_for}
-use Rattle.execution.specs.Rounds.{RuleOf, rule_of, orders_from, orders_of, AreReplies}
+use Rattle.execution.specs.Rounds.{RuleOf, rule_of, orders_from, may_at, AreReplies}
 use Rattle.load_rounds.specs.Sessions.{entry, logged, logged_from, made, of_first, AreNumbered}
 use Rattle.load_rounds.specs.Rounds.{orders_by, first_keys, Enters, AreWanted}
 use Rattle.load_rounds.proofs.Cutting.{first-none, first-some, orders-same, logged-same}
@@ -120,3 +120,23 @@ replies-below may most (o ∷ os) (r ∷ rs) h below =
     let first : o.loader < most = All-head (λ (o : OrderOf). o.loader < most) o os below in
     let is = h.0.loader in
     All-cons (λ (r : ReplyOf). r.loader < most) r rs (omega (arith, first, is)) (replies-below may most os rs h.1 (All-tail (λ (o : OrderOf). o.loader < most) o os below))
+
+some-is : {X : Type 0} (x y : X) → Some x ≡ Some y → x ≡ y
+some-is x y e = cc e
+
+-- the sources of loaders stay as their logs grow
+module _ {S : Type 0} (stored : Bool) (round : ℕ) (keys : ℕ → List KeyOf) where
+  source-at : (n : ℕ) (ls : List (LoaderOf S)) (i : ℕ) (x : LoaderOf S) → slice_get (logged_from n stored round keys ls) i ≡ Some x → (y : LoaderOf S) × (slice_get ls i ≡ Some y) × (x.source ≡ y.source)
+  source-at n [] i x e = absurd (cc e)
+  source-at n (l ∷ ls) zero x e = (l, refl, ap (λ (y : LoaderOf S). y.source) (sym (some-is (logged stored round (keys n) l) x e)))
+  source-at n (l ∷ ls) (suc i) x e = source-at (suc n) ls i x e
+
+  pub replies-before : (may : S → List KeyOf → AnswerOf → Type 0) (ls : List (LoaderOf S)) (os : List OrderOf) (rs : List ReplyOf) → AreReplies (may_at may (logged_from 0 stored round keys ls)) os rs → AreReplies (may_at may ls) os rs
+  replies-before may ls [] [] h = tt
+  replies-before may ls [] (r ∷ rs) h = absurd h
+  replies-before may ls (o ∷ os) [] h = absurd h
+  replies-before may ls (o ∷ os) (r ∷ rs) h =
+      let is = h.0 in
+      let at = source-at 0 ls o.loader is.may_be.0 is.may_be.1 in
+      let can : may at.0.source o.keys is.answer = rw (← at.2) is.may_be.2 in
+      (record { loader = is.loader; keys = is.keys; answer = is.answer; may_be = (at.0, at.1, can); outcomes = is.outcomes }, replies-before may ls os rs h.1)

@@ -1,8 +1,8 @@
 -- The state of a session after its fields were changed.
-use Rattle.std.proofs.Common.{◌≡◌, ◌≢◌, ℕ, zero, suc, ◌<◌, ◌≤◌, ◌+◌, Bool, true, false, List, [], ◌∷◌, ◌++◌, map, length, refl, ap, ◌∙◌, sym, arith, Some}
+use Rattle.std.proofs.Common.{◌≡◌, ◌≢◌, ℕ, zero, suc, ◌<◌, ◌≤◌, ◌+◌, Bool, true, false, List, [], ◌∷◌, ◌++◌, map, length, refl, ap, ◌∙◌, sym, arith, Some, Result, Ok, Err}
 use Rattle.std.proofs.Math.Path.{fun_ext}
 use Rattle.std.proofs.lemmas.List.{length-map}
-use Rattle.std.specs.Prelude.{All, slice_get, nat_lt, if◌then◌else◌}
+use Rattle.std.specs.Prelude.{All, slice_get, nat_lt, if◌then◌else◌, OnErr}
 use Rattle.load_memory.specs.Keys.{KeyOf, folded, mode_at}
 use Rattle.load_memory.specs.Outcomes.{OutcomeOf}
 use Rattle.load_memory.specs.Pairs.{MemoryOf, PairOf, look, unless_failed, IsUnfailed, IsWith, IsSameMap}
@@ -106,3 +106,7 @@ module _ {S : Type 0} where
     loaders = sym (logged-past false round 0 0 keys old (omega arith));
     rounds = rw (orders-past 0 0 keys (map rule_of old) (omega arith)) (omega arith);
   }
+
+pub on-err : {T E P : Type 0} (r : Result T E) → P → OnErr r P
+on-err (Ok x) h = tt
+on-err (Err e) h = h

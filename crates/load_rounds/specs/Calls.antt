@@ -33,10 +33,10 @@ module _ {S : Type 0} where
       pub answered : AreReplies (may_at may old.loaders) (orders_of (rules_of old) loads) replies
       pub after : new ≡ after_step old (Asked loads replies)
 
-    -- failed batches were forgotten, then the loads were asked in one round, where there are some
-    abbrev pub RunsRound : StateOf S → StateOf S → List Load → Type 0
-    RunsRound old new [] = new ≡ after_step old Forgot
-    RunsRound old new (l ∷ ls) = RoundRan (after_step old Forgot) new (l ∷ ls)
+    -- the loads were asked in one round, where there are some
+    abbrev pub AsksOnce : StateOf S → StateOf S → List Load → Type 0
+    AsksOnce old new [] = new ≡ old
+    AsksOnce old new (l ∷ ls) = RoundRan old new (l ∷ ls)
 
   -- a round was lost: the batches of the first loaders were entered, perhaps of none
   pub record RoundLost (old new : StateOf S) (loads : List Load) : Type 0 where
@@ -44,12 +44,12 @@ module _ {S : Type 0} where
     pub after : new ≡ after_step old (Lost (of_first loaders loads))
 
   module _ (may : S → List KeyOf → AnswerOf → Type 0) where
-    -- what was missing was asked, and these are the outcomes of the keys
+    -- failed batches were forgotten, what was missing was asked, and these are the outcomes of the keys
     pub record IsLoaded (old new : StateOf S) (loader : ℕ) (keys : List KeyOf) (outcomes : List OutcomeOf) : Type 0 where
-      pub round : RunsRound may old new (asked_for old loader keys)
+      pub round : AsksOnce may (after_step old Forgot) new (asked_for old loader keys)
       pub known : AreKnown new loader keys outcomes
 
     -- after want of memory failed batches are forgotten, and the round was lost, or it is there and its outcomes weren't
     -- copied
     abbrev pub IsStopped : StateOf S → StateOf S → List Load → Type 0
-    IsStopped old new loads = RunsRound may old new loads ⊎ RoundLost (after_step old Forgot) new loads
+    IsStopped old new loads = AsksOnce may (after_step old Forgot) new loads ⊎ RoundLost (after_step old Forgot) new loads

@@ -6,7 +6,7 @@ ghost use Rattle.load_memory.specs.Pairs.{look, pair_of};
 ghost use Rattle.load_queue.specs.Logs.{asked_of};
 ghost use Rattle.load_queue.specs.Wanted.{WantedOf, nothing_wanted};
 ghost use Rattle.execution.specs.Loads.{Load, read};
-ghost use Rattle.execution.specs.Front.{missing, wanting};
+ghost use Rattle.execution.specs.Front.{front_of_keys};
 ghost use Rattle.execution.specs.Rounds.{rule_of, modes_of, without_failed};
 ghost use Rattle.execution.specs.Sessions.{Forgot, Primed, Cleared, ClearedAll, Lost, Asked};
 ghost use Rattle.load_rounds.specs.Rounds.{AreWanted};
@@ -145,8 +145,8 @@ impl<S: Drop> Session<S> {
 }
 
 impl<S: Asks> Session<S> {
-    ghost use Rattle.load_rounds.specs.Sessions.{state_of};
-    ghost use Rattle.load_rounds.specs.Calls.{asked_for, RoundRan, RoundLost, IsLoaded, IsStopped};
+    ghost use Rattle.load_rounds.specs.Sessions.{state_of, session_modes};
+    ghost use Rattle.load_rounds.specs.Calls.{asked_for, AsksOnce, RoundRan, RoundLost, IsLoaded, IsStopped};
 
     /// What comes of a loader's key, after failed batches are forgotten: what is known of it, and else what its
     /// source answers in a round of this one key, which is then known. It copies the outcome.
@@ -180,11 +180,23 @@ impl<S: Asks> Session<S> {
             return Err(SessionFault::NoSuchLoader);
         }
         self.memory.drop_failed();
-        let wants = missing_keys(*self.loaders.allocator(), &self.memory, loader, keys)?;
-        if !wants.keys(loader).is_empty() {
-            self.ask(&wants)?;
-        }
+        self.ask_missing(loader, keys)?;
         Ok(known_outcomes(*self.loaders.allocator(), &self.memory, loader, keys)?)
+    }
+
+    /// Asks those of the keys that aren't known in one round, if there are some.
+    fn ask_missing(&mut self, loader: usize, keys: &[Key]) -> Result<(), NoMemory>
+        requires { loader < length self.old.loaders }
+        ensures ran { OnOk result (AsksOnce S.may_tell (state_of self.old) (state_of self.new)
+            (front_of_keys (session_modes (state_of self.old)) loader (map key_of keys.now) (look self.old.pairs))) }
+        ensures lost { OnErr result (RoundLost (state_of self.old) (state_of self.new)
+            (front_of_keys (session_modes (state_of self.old)) loader (map key_of keys.now) (look self.old.pairs))) }
+    {
+        let wants = missing_keys(*self.loaders.allocator(), &self.memory, loader, keys)?;
+        if wants.keys(loader).is_empty() {
+            return Ok(());
+        }
+        self.ask(&wants)
     }
 
     /// Asks what is wanted, in one round in turn, and stores the replies.
