@@ -2,7 +2,7 @@
 use Rattle.std.proofs.Common.{◌≡◌, ◌<◌, ℕ, Bool, true, false, List, [], ◌∷◌, ◌++◌, map, length, Option, Some, None, is_none, IsSome, refl, ap, ◌∙◌, sym, inl, inr, ◌⊎◌}
 use Rattle.std.proofs.lemmas.List.Elements.{All-nil, All-cons}
 use Rattle.std.proofs.Math.Path.{fun_ext}
-use Rattle.std.specs.Prelude.{All}
+use Rattle.std.specs.Prelude.{All, if◌then◌else◌}
 use Rattle.load_memory.specs.Keys.{KeyOf}
 use Rattle.load_memory.specs.Outcomes.{OutcomeOf}
 use Rattle.load_memory.specs.Replies.{ReplyOf}
@@ -66,8 +66,9 @@ known-already modes loader ks M none = go ks (none-missing (missing (read modes 
 
   go : (ks : List KeyOf) → missing (read modes M) (map (load_of loader) ks) ≡ [] → All (λ k. IsSome (read modes M (load_of loader k))) ks
   go [] e = All-nil (λ k. IsSome (read modes M (load_of loader k)))
-  go (k ∷ ks) e = one (is_none (read modes M (load_of loader k))) refl e
+  go (k ∷ ks) e = one (is_none (read modes M (load_of loader k))) refl (go ks) e
     where
-      one : (b : Bool) → is_none (read modes M (load_of loader k)) ≡ b → (if b then load_of loader k ∷ missing (read modes M) (map (load_of loader) ks) else missing (read modes M) (map (load_of loader) ks)) ≡ [] → All (λ k. IsSome (read modes M (load_of loader k))) (k ∷ ks)
-      one true f e = absurd (cc e)
-      one false f e = All-cons (λ k. IsSome (read modes M (load_of loader k))) k ks (none-some (read modes M (load_of loader k)) f) (go ks e)
+      one : (b : Bool) → is_none (read modes M (load_of loader k)) ≡ b → (missing (read modes M) (map (load_of loader) ks) ≡ [] → All (λ k. IsSome (read modes M (load_of loader k))) ks)
+          → (if b then load_of loader k ∷ missing (read modes M) (map (load_of loader) ks) else missing (read modes M) (map (load_of loader) ks)) ≡ [] → All (λ k. IsSome (read modes M (load_of loader k))) (k ∷ ks)
+      one true f rest e = absurd (cc e)
+      one false f rest e = All-cons (λ k. IsSome (read modes M (load_of loader k))) k ks (none-some (read modes M (load_of loader k)) f) (rest e)

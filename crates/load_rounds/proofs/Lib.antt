@@ -2,5 +2,6 @@ pub mod Cutting
 pub mod Keyed
 pub mod Lacking
 pub mod Numbering
+pub mod Onces
 pub mod Running
 pub mod States
