@@ -10,6 +10,8 @@ pub mod fault;
 mod keys;
 mod round;
 pub mod session;
+#[cfg(test)]
+mod tests;
 
 
 pub use fault::SessionFault;
