@@ -126,7 +126,7 @@ some-is x y e = cc e
 
 -- the sources of loaders stay as their logs grow
 module _ {S : Type 0} (stored : Bool) (round : ℕ) (keys : ℕ → List KeyOf) where
-  source-at : (n : ℕ) (ls : List (LoaderOf S)) (i : ℕ) (x : LoaderOf S) → slice_get (logged_from n stored round keys ls) i ≡ Some x → (y : LoaderOf S) × (slice_get ls i ≡ Some y) × (x.source ≡ y.source)
+  pub source-at : (n : ℕ) (ls : List (LoaderOf S)) (i : ℕ) (x : LoaderOf S) → slice_get (logged_from n stored round keys ls) i ≡ Some x → (y : LoaderOf S) × (slice_get ls i ≡ Some y) × (x.source ≡ y.source)
   source-at n [] i x e = absurd (cc e)
   source-at n (l ∷ ls) zero x e = (l, refl, ap (λ (y : LoaderOf S). y.source) (sym (some-is (logged stored round (keys n) l) x e)))
   source-at n (l ∷ ls) (suc i) x e = source-at (suc n) ls i x e

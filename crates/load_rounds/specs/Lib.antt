@@ -1,3 +1,4 @@
 pub mod Calls
+pub mod Executes
 pub mod Rounds
 pub mod Sessions

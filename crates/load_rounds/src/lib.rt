@@ -6,6 +6,8 @@
 //! and nothing else changes.
 #![tactic(auto)]
 
+pub mod answer;
+pub mod execute;
 pub mod fault;
 mod keys;
 mod round;
@@ -14,5 +16,7 @@ pub mod session;
 mod tests;
 
 
+pub use answer::Answer;
+pub use execute::Execute;
 pub use fault::SessionFault;
 pub use session::Session;

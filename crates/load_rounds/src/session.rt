@@ -7,7 +7,7 @@ ghost use Rattle.load_queue.specs.Logs.{asked_of};
 ghost use Rattle.load_queue.specs.Wanted.{WantedOf, nothing_wanted};
 ghost use Rattle.execution.specs.Loads.{Load, read};
 ghost use Rattle.execution.specs.Front.{front_of_keys};
-ghost use Rattle.execution.specs.Rounds.{rule_of, modes_of, without_failed};
+ghost use Rattle.execution.specs.Rounds.{AreLimited, without_failed};
 ghost use Rattle.execution.specs.Sessions.{Forgot, Primed, Cleared, ClearedAll, Lost, Asked};
 ghost use Rattle.load_rounds.specs.Rounds.{AreWanted};
 
@@ -39,8 +39,27 @@ impl<S> Model for Session<S> {
 }
 
 impl<S> Session<S> {
-    ghost use Rattle.load_rounds.specs.Sessions.{session_modes, state_of, after_steps};
+    ghost use Rattle.load_rounds.specs.Sessions.{session_modes, rules_of, state_of, after_step, after_steps};
     ghost use Rattle.load_rounds.specs.Calls.{cell_at};
+
+    pub(crate) fn alloc(&self) -> Global {
+        *self.loaders.allocator()
+    }
+
+    /// Forgets the failed batches. A contract also sees here that no loader's limit is 0.
+    pub(crate) fn forget(&mut self)
+        ensures after { state_of self.new ≡ after_step (state_of self.old) Forgot }
+        ensures limited { AreLimited (rules_of (state_of self.old)) }
+    {
+        self.memory.drop_failed();
+    }
+
+    /// Nothing is wanted of the loaders.
+    pub(crate) fn nothing_wanted(&self) -> Result<Wants, NoMemory>
+        ensures { IfOk result (λ wants. wants ≡ map nothing_wanted (session_modes (state_of self.now))) }
+    {
+        Wants::new(self.alloc(), &self.memory)
+    }
 
     /// What is known of the loaders' keys.
     pub fn memory(&self) -> &Memory
@@ -200,7 +219,7 @@ impl<S: Asks> Session<S> {
     }
 
     /// Asks what is wanted, in one round in turn, and stores the replies.
-    fn ask(&mut self, wants: &Wants) -> Result<(), NoMemory>
+    pub(crate) fn ask(&mut self, wants: &Wants) -> Result<(), NoMemory>
         requires { length wants.now ≡ length self.old.loaders }
         ensures ran { (loads : List Load) → AreWanted wants.now loads
             → OnOk result (RoundRan S.may_tell (state_of self.old) (state_of self.new) loads) }
