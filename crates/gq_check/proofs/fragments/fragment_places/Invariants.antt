@@ -1,0 +1,9 @@
+use Rattle.std.proofs.Common.{◌≡◌, ℕ, List, drop}
+use Rattle.std.specs.HashMap.{get_by_text}
+use Rattle.gq_schema.specs.Scan.{or_else}
+use Rattle.gq_schema.specs.Places.{place_from}
+use Rattle.gq_check.specs.Plans.{fragments_of, is_fragment}
+use Rattle.gq_check.proofs.fragments.fragment_places.Given as goal
+
+abbrev pub invariant-loop-i : goal.invariant-loop-i
+invariant-loop-i l = (q : List ℕ) → or_else (get_by_text l.places q) (place_from l.i (is_fragment q) (fragments_of (drop l.i l.fragments))) ≡ place_from 0 (is_fragment q) (fragments_of l.fragments)

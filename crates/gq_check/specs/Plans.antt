@@ -1,0 +1,53 @@
+-- Plans, without where they lie in memory.
+use Rattle.std.specs.Prelude.{◌≡◌, ℕ, Bool, List, Option, map, find, bytes_eq}
+use Rattle.gq_parser.specs.declared.tree.Operation as rust-operation
+use Rattle.gq_parser.specs.declared.tree.Fragment as rust-fragment
+use Rattle.gq_parser.specs.declared.tree.Document as rust-document
+use Rattle.gq_parser.specs.Tree.{Operation, Fragment, operation_of, fragment_of}
+use Rattle.schema_syntax.specs.declared.tree.Definition as rust-definition
+use Rattle.schema_syntax.specs.Tree.{Definition}
+use Rattle.gq_schema.specs.Types.{tree_of}
+use Rattle.gq_schema.specs.BindingsTree.{BindingsOf}
+use Rattle.variable_values.specs.declared.variable.Variable as rust-variable
+use Rattle.variable_values.specs.Variables.{VariableOf, variables_of}
+
+-- the parts of a plan as the program holds them
+pub record PlanParts : Type 0 where
+  pub definitions : List rust-definition.Definition
+  pub bindings : BindingsOf
+  pub operation : rust-operation.Operation
+  pub fragments : List rust-fragment.Fragment
+  pub variables : List rust-variable.Variable
+
+-- a checked document as the program holds it, and the definitions of the schema over which it was checked
+pub record CheckedParts : Type 0 where
+  pub definitions : List rust-definition.Definition
+  pub document : rust-document.Document
+
+-- A plan: the definitions of the schema, how its fields are answered, the chosen operation, the fragments of its document,
+-- and the variables that have a value.
+pub record PlanOf : Type 0 where
+  pub definitions : List Definition
+  pub bindings : BindingsOf
+  pub operation : Operation
+  pub fragments : List Fragment
+  pub variables : List VariableOf
+
+abbrev pub fragments_of : List rust-fragment.Fragment → List Fragment
+fragments_of fs = map fragment_of fs
+
+abbrev pub plan_of : PlanParts → PlanOf
+plan_of p = record {
+  definitions = tree_of p.definitions;
+  bindings = p.bindings;
+  operation = operation_of p.operation;
+  fragments = fragments_of p.fragments;
+  variables = variables_of p.variables;
+}
+
+abbrev pub is_fragment : List ℕ → Fragment → Bool
+is_fragment q f = bytes_eq q f.name
+
+-- the fragment of this name
+abbrev pub fragment_in : List Fragment → List ℕ → Option Fragment
+fragment_in fs q = find (is_fragment q) fs

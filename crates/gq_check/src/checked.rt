@@ -1,0 +1,47 @@
+//! Documents that were checked.
+
+ghost use Rattle.std.specs.Prelude.{◌≡◌};
+
+use gq_parser::Document;
+use gq_schema::Schema;
+use std::marker::Model;
+
+/// A document that keeps every rule of validation over a schema.
+///
+/// A contract sees it as the document and the definitions of the schema.
+#[derive(Drop)]
+pub struct Checked<'a> {
+    schema: &'a Schema,
+    document: Document,
+}
+
+impl<'a> Model for Checked<'a> {
+    ghost use Rattle.std.specs.Coded.{codes};
+    ghost use Rattle.gq_parser.specs.contracts.tree.TypeRef as type_ref;
+    ghost use Rattle.gq_parser.specs.contracts.tree.Literal as literal;
+    ghost use Rattle.gq_parser.specs.contracts.tree.Argument as argument;
+    ghost use Rattle.gq_parser.specs.contracts.tree.SelectionSet as set;
+    ghost use Rattle.gq_check.specs.Plans.{CheckedParts};
+
+    ghost Value = { CheckedParts };
+
+    ghost coded = { Prim.hlevel (codes, type_ref.the_row.coded, literal.the_row.coded, argument.the_row.coded, set.the_row.coded) };
+
+    ghost view = { λ c. record { definitions = c.schema.now; document = c.document } };
+}
+
+impl<'a> Checked<'a> {
+    /// The document.
+    pub fn document(&self) -> &Document
+        ensures { result.now ≡ self.now.document }
+    {
+        &self.document
+    }
+
+    /// The document, to be kept.
+    pub(crate) fn into_document(self) -> Document
+        ensures { result ≡ self.entry.document }
+    {
+        self.document
+    }
+}

@@ -1,0 +1,25 @@
+//! Validation and preparation: from a document and a schema to a plan (GraphQL specification of October 2021, sections 5 and
+//! 6.1).
+//!
+//! The layer above may rely on this: a [`Checked`] is a document that keeps every rule of validation over its schema, and
+//! [`check`] names the first fault of every other document. A [`Plan`] is an operation of such a document with the values of
+//! its variables, and [`prepare`] says why there is none. A plan's look-ups take no memory.
+#![tactic(auto)]
+
+mod checked;
+mod fault;
+mod fragments;
+mod operation;
+mod places;
+mod plan;
+mod preparation;
+#[cfg(test)]
+mod tests;
+mod validation;
+mod variables;
+
+pub use checked::Checked;
+pub use fault::{CheckFault, PrepareFault, Rule};
+pub use plan::Plan;
+pub use preparation::prepare;
+pub use validation::check;

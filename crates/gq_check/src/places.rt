@@ -1,0 +1,19 @@
+//! Where each name stands in a list.
+
+ghost use Rattle.std.specs.Prelude.{◌≡◌, ℕ, List, Some, None, OnOk, bytes_eq, string_bytes, if◌then◌else◌};
+ghost use Rattle.std.specs.HashMap.{get_by_text};
+ghost use Rattle.gq_schema.specs.Scan.{or_else};
+
+use std::alloc::AllocError;
+use std::collections::HashMap;
+
+/// The place of the first of each name in a list.
+pub type Places = HashMap<String, usize>;
+
+/// Notes the place of a name, unless one of the name stands earlier.
+pub fn note(places: &mut Places, name: &String, place: usize) -> Result<(), AllocError>
+    ensures { (q : List ℕ) → OnOk result (get_by_text places.new q ≡ or_else (get_by_text places.old q) (if bytes_eq q (string_bytes name.now) then Some place else None)) }
+{
+    places.entry(name.clone()?)?.or_insert(place);
+    Ok(())
+}

@@ -1,0 +1,118 @@
+//! Plans.
+
+ghost use Rattle.std.specs.Prelude.{◌≡◌, length};
+ghost use Rattle.std.specs.Option.{option_map, option_copied};
+ghost use Rattle.gq_parser.specs.Tree.{fragment_of};
+ghost use Rattle.gq_schema.specs.Inputs.{input_of};
+ghost use Rattle.variable_values.specs.Variables.{value_in};
+ghost use Rattle.gq_check.specs.Plans.{plan_of, fragment_in};
+
+use crate::fragments::Fragments;
+use crate::variables::Variables;
+use gq_parser::{Fragment, Operation};
+use gq_schema::{Bindings, Input, Schema};
+use std::marker::Model;
+
+/// An operation of a checked document with the values of its variables, ready to be executed over a schema and its bindings.
+///
+/// A contract sees its parts, and `plan_of` says what they are.
+#[derive(Drop)]
+pub struct Plan<'a> {
+    schema: &'a Schema,
+    bindings: &'a Bindings,
+    operation: Operation,
+    fragments: Fragments,
+    variables: Variables,
+}
+
+impl<'a> Model for Plan<'a> {
+    ghost use Rattle.std.specs.Coded.{codes};
+    ghost use Rattle.gq_parser.specs.contracts.tree.TypeRef as type_ref;
+    ghost use Rattle.gq_parser.specs.contracts.tree.Literal as literal;
+    ghost use Rattle.gq_parser.specs.contracts.tree.Argument as argument;
+    ghost use Rattle.gq_parser.specs.contracts.tree.SelectionSet as set;
+    ghost use Rattle.gq_schema.specs.contracts.input.Input as input;
+    ghost use Rattle.gq_check.specs.Plans.{PlanParts};
+
+    ghost Value = { PlanParts };
+
+    ghost coded = { Prim.hlevel (codes, type_ref.the_row.coded, literal.the_row.coded, argument.the_row.coded, set.the_row.coded, input.the_row.coded) };
+
+    ghost view = { λ p. record {
+      definitions = p.schema.now;
+      bindings = p.bindings.now;
+      operation = p.operation;
+      fragments = p.fragments;
+      variables = p.variables;
+    } };
+}
+
+impl<'a> Plan<'a> {
+    /// The plan of these parts.
+    pub(crate) fn of(
+        schema: &'a Schema,
+        bindings: &'a Bindings,
+        operation: Operation,
+        fragments: Fragments,
+        variables: Variables,
+    ) -> Plan<'a>
+        ensures { result ≡ record { definitions = schema.now; bindings = bindings.now; operation = operation; fragments = fragments; variables = variables } }
+    {
+        Plan {
+            schema,
+            bindings,
+            operation,
+            fragments,
+            variables,
+        }
+    }
+
+    /// The schema.
+    pub fn schema(&self) -> &'a Schema
+        ensures { result.now ≡ self.now.definitions }
+    {
+        self.schema
+    }
+
+    /// How the fields of the schema are answered.
+    pub fn bindings(&self) -> &'a Bindings
+        ensures { result.now ≡ self.now.bindings }
+    {
+        self.bindings
+    }
+
+    /// The operation that is executed.
+    pub fn operation(&self) -> &Operation
+        ensures { result.now ≡ self.now.operation }
+    {
+        &self.operation
+    }
+
+    /// The fragments of the document, in the order of the text.
+    pub fn fragments(&self) -> &[Fragment]
+        ensures { result.now ≡ self.now.fragments }
+    {
+        self.fragments.as_slice()
+    }
+
+    /// The fragment of this name. It takes constant time.
+    pub fn fragment(&self, name: &str) -> Option<&Fragment>
+        ensures { option_map fragment_of (option_copied result) ≡ fragment_in (plan_of self.now).fragments name.now }
+    {
+        self.fragments.get(name)
+    }
+
+    /// The value of the variable of this name, which is without the `$`; nothing where it has none. It takes constant time.
+    pub fn variable(&self, name: &str) -> Option<&Input>
+        ensures { option_map input_of (option_copied result) ≡ value_in (plan_of self.now).variables name.now }
+    {
+        self.variables.get(name)
+    }
+
+    /// How many loaders a session of this plan needs: those of the bindings.
+    pub fn loaders(&self) -> usize
+        ensures { result ≡ length self.now.bindings.loaders }
+    {
+        self.bindings.loaders().len()
+    }
+}

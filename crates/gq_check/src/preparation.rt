@@ -1,0 +1,70 @@
+//! Preparing an operation (section 6.1).
+
+ghost use Rattle.std.specs.Prelude.{◌≡◌, Ok, IfOk, IfErr, map};
+ghost use Rattle.std.specs.Option.{option_map};
+ghost use Rattle.serde_json.specs.View.{view};
+ghost use Rattle.gq_parser.specs.Tree.{operation_of};
+ghost use Rattle.gq_schema.specs.Types.{tree_of};
+ghost use Rattle.gq_check.specs.Plans.{plan_of};
+ghost use Rattle.gq_check.specs.Prepared.{prepared, prepare_fault, IsPrepareFault};
+
+use crate::checked::Checked;
+use crate::fault::PrepareFault;
+use crate::fragments::Fragments;
+use crate::operation::chosen_operation;
+use crate::plan::Plan;
+use crate::variables::Variables;
+use gq_parser::Document;
+use gq_schema::{Bindings, Schema};
+use serde_json::Value;
+use std::alloc::Global;
+use variable_values::{VariableFault, coerce_variables};
+
+impl From<VariableFault> for PrepareFault {
+    ghost from_gives = { λ f e. e ≡ prepare_fault f };
+
+    fn from(fault: VariableFault) -> PrepareFault {
+        match fault {
+            VariableFault::NotObject => PrepareFault::VariablesNotObject,
+            VariableFault::Bad(name) => PrepareFault::BadVariable(name),
+            VariableFault::NoMemory => PrepareFault::NoMemory,
+        }
+    }
+}
+
+/// The plan of an operation of a checked document: the one of this name, or the only one, with the values that are given for
+/// its variables. Null gives no values. The empty name is a name.
+///
+/// # Errors
+///
+/// The first of these: [`NoSuchOperation`](PrepareFault::NoSuchOperation),
+/// [`OperationNeeded`](PrepareFault::OperationNeeded), [`VariablesNotObject`](PrepareFault::VariablesNotObject),
+/// [`BadVariable`](PrepareFault::BadVariable) for the first in the order of the definitions.
+/// [`NoMemory`](PrepareFault::NoMemory) comes where a growth is refused, before any fault that would have been found later.
+/// The document is not given back.
+pub fn prepare<'a>(
+    alloc: Global,
+    schema: &'a Schema,
+    bindings: &'a Bindings,
+    checked: Checked<'a>,
+    operation_name: Option<&str>,
+    variables: &Value,
+) -> Result<Plan<'a>, PrepareFault>
+    requires { checked.definitions ≡ schema.now }
+    ensures schema { IfOk result (λ plan. plan.definitions ≡ schema.now) }
+    ensures bindings { IfOk result (λ plan. plan.bindings ≡ bindings.now) }
+    ensures fragments { IfOk result (λ plan. plan.fragments ≡ checked.entry.document.fragments.items) }
+    ensures ok { IfOk result (λ plan. prepared (tree_of schema.now) (map operation_of checked.entry.document.operations.items) (option_map (λ name. name.now) operation_name.entry) (view variables.now)
+        ≡ Ok (record { operation = (plan_of plan).operation; variables = (plan_of plan).variables })) }
+    ensures err { IfErr result (IsPrepareFault (prepared (tree_of schema.now) (map operation_of checked.entry.document.operations.items) (option_map (λ name. name.now) operation_name.entry) (view variables.now))) }
+{
+    let Document {
+        operations,
+        fragments,
+    } = checked.into_document();
+    let operation = chosen_operation(alloc, operations, operation_name)?;
+    let variables = coerce_variables(alloc, schema, &operation.variables, variables)?;
+    let fragments = Fragments::of(alloc, fragments)?;
+    let variables = Variables::of(alloc, variables)?;
+    Ok(Plan::of(schema, bindings, operation, fragments, variables))
+}

@@ -1,0 +1,68 @@
+//! Variables by their names.
+
+ghost use Rattle.std.specs.Prelude.{◌≡◌, IfOk, map};
+ghost use Rattle.std.specs.Option.{option_map, option_copied};
+ghost use Rattle.gq_schema.specs.Inputs.{input_of};
+ghost use Rattle.gq_schema.specs.Places.{ArePlaces};
+ghost use Rattle.variable_values.specs.Variables.{variables_of, is_variable, value_in};
+
+use crate::places::{Places, note};
+use gq_schema::Input;
+use std::alloc::{AllocError, Global};
+use std::collections::HashMap;
+use std::marker::Model;
+use variable_values::Variable;
+
+/// Variables in their order, each found by its name. A contract sees the list.
+#[derive(Drop)]
+pub struct Variables {
+    items: Vec<Variable>,
+    places: Places,
+}
+
+impl Model for Variables {
+    ghost use Rattle.std.specs.Prelude.{List};
+    ghost use Rattle.std.specs.Coded.{codes};
+    ghost use Rattle.variable_values.specs.declared.variable.Variable.{Variable};
+    ghost use Rattle.gq_schema.specs.contracts.input.Input as input;
+
+    ghost Value = { List Variable };
+
+    ghost coded = { Prim.hlevel (codes, input.the_row.coded) };
+
+    ghost use Rattle.gq_schema.specs.Places.{ArePlaces};
+    ghost use Rattle.variable_values.specs.Variables.{variables_of, is_variable};
+
+    ghost view = { λ v. v.items.items };
+
+    ghost invariant = { λ v. ArePlaces is_variable (variables_of v.items.items) v.places };
+}
+
+// The place of the first variable of each name.
+fn variable_places(alloc: Global, variables: &[Variable]) -> Result<Places, AllocError>
+    ensures { IfOk result (ArePlaces is_variable (variables_of variables.now)) }
+{
+    let mut places: Places = HashMap::new(alloc);
+    for (i, variable) in variables.iter().enumerate() {
+        note(&mut places, &variable.name, i)?;
+    }
+    Ok(places)
+}
+
+impl Variables {
+    /// These variables.
+    pub fn of(alloc: Global, items: Vec<Variable>) -> Result<Variables, AllocError>
+        ensures { IfOk result (λ variables. variables ≡ items.items) }
+    {
+        let places = variable_places(alloc, &items)?;
+        Ok(Variables { items, places })
+    }
+
+    /// The value of the first variable of this name.
+    pub fn get(&self, name: &str) -> Option<&Input>
+        ensures { option_map input_of (option_copied result) ≡ value_in (variables_of self.now) name.now }
+    {
+        let place = *self.places.get(name)?;
+        Some(&self.items[place].value)
+    }
+}

@@ -1,0 +1,4 @@
+pub mod Building
+pub mod Told
+pub mod Waits
+pub mod Finishing

@@ -1,0 +1,38 @@
+-- What an evaluation answers, and what it adds to the wants.
+use Rattle.std.specs.Prelude.{◌≡◌, ◌≢◌, ◌≤◌, List, [], ◌++◌, length, Some}
+use Rattle.load_memory.specs.Pairs.{MemoryOf, look}
+use Rattle.load_queue.specs.Wanted.{WantedOf}
+use Rattle.execution.specs.Loads.{Load, Reader, Memory, read}
+use Rattle.execution.specs.Program.{Program, needs}
+use Rattle.execution.specs.Executed.{exec}
+use Rattle.execution.specs.Front.{front, missing, wanting, modes_wanted}
+use Rattle.futures.specs.declared.task.Poll.{Poll}
+use Rattle.futures.specs.declared.task.Poll.TheVariants.{Ready, Pending}
+use Rattle.gq_check.specs.Plans.{PlanOf}
+use Rattle.gq_resolve.specs.declared.answered.Answered.{Answered}
+use Rattle.gq_resolve.specs.Answered.{answered_of}
+
+-- what a memory says of a load
+abbrev pub reader : MemoryOf → Reader
+reader m = read m.modes (look m.pairs)
+
+-- the loads that are needed and that the memory lacks
+abbrev pub front_over : MemoryOf → Program → List Load
+front_over m p = front m.modes p (look m.pairs)
+
+-- Ready with the execution exactly where the front is empty, and the wants are as they were. Else the front was added.
+abbrev pub IsEvaluated : List WantedOf → List WantedOf → Program → MemoryOf → Poll Answered → Type 0
+IsEvaluated old new p m (Ready a) = (front_over m p ≡ []) × (exec p (reader m) ≡ Some (answered_of a)) × (new ≡ old)
+IsEvaluated old new p m Pending = (front_over m p ≢ []) × (new ≡ wanting old (front_over m p))
+
+-- The wants are the old ones, to which the first of these loads were added.
+pub record AddsPart (old new : List WantedOf) (loads : List Load) : Type 0 where
+  pub part : List Load
+  pub left : List Load
+  pub split : loads ≡ part ++ left
+  pub added : new ≡ wanting old part
+
+-- a plan can be evaluated over the memory, and what it lacks can be wanted
+pub record CanEvaluate (plan : PlanOf) (m : MemoryOf) (wants : List WantedOf) : Type 0 where
+  pub loaders : length plan.bindings.loaders ≤ length m.modes
+  pub modes : modes_wanted wants ≡ m.modes

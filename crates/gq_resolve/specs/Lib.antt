@@ -1,0 +1,4 @@
+pub mod Answered
+pub mod Evaluated
+pub mod States
+pub mod Cells

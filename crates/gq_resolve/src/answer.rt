@@ -1,0 +1,20 @@
+//! The text of an answer.
+
+ghost use Rattle.std.specs.Prelude.{◌≡◌, IfOk, string_bytes};
+ghost use Rattle.gq_resolve.specs.Answered.{answered_of, answer_text};
+
+use crate::answered::Answered;
+use crate::no_memory::NoMemory;
+use std::alloc::Global;
+
+/// The text of an answer (section 7.1): its errors first and only where there are some, then its data, with no space between
+/// the tokens.
+///
+/// # Errors
+///
+/// Only where a growth was refused.
+pub fn answer_text(alloc: Global, answered: &Answered) -> Result<String, NoMemory>
+    ensures { IfOk result (λ text. string_bytes text ≡ answer_text (answered_of answered.now)) }
+{
+    Err(NoMemory)
+}

@@ -1,0 +1,379 @@
+//! States that are built as far as the memory goes.
+
+ghost use Rattle.std.specs.Prelude.{◌≡◌, IfOk, map, option_map};
+ghost use Rattle.std.specs.Arc.{arc_value};
+ghost use Rattle.load_memory.specs.Keys.{key_of};
+ghost use Rattle.load_memory.specs.Rows.{cell_of};
+ghost use Rattle.load_memory.specs.Outcomes.{outcome_of};
+ghost use Rattle.execution.specs.Program.{Read};
+ghost use Rattle.execution.specs.Residual.{rest};
+ghost use Rattle.gq_check.specs.Plans.{plan_of};
+ghost use Rattle.plan_program.specs.Seen.{fields_seen};
+ghost use Rattle.plan_program.specs.Prepared.{own_seen, key_from_seen, keys_seen, below_seen, asked_seen, prepared_seen, all_prepared_seen};
+ghost use Rattle.plan_program.specs.PlanPrograms.{with_rows, read_from, read_cell, read_if, first_object, all_objects, joined_objects, row_object, list_of, asked_program, prepared_program, object_program};
+ghost use Rattle.gq_resolve.specs.States.{told, then_rows, program_of, spot_of};
+
+use crate::cells::{TypeOf, cell_value, type_of_row};
+use crate::no_memory::NoMemory;
+use crate::reading::told;
+use crate::state::{Items, Spot, State, Then};
+use gq_check::Plan;
+use gq_parser::Field;
+use load_memory::{Cell, Key, Memory, Outcome, Row};
+use plan_program::{
+    Asked, Below, KeyFrom, Own, Prepared, collect_below, no_column_message, prepare,
+};
+use std::alloc::{AllocError, Global};
+use std::sync::Arc;
+
+fn items_of(below: &Below<'_>) -> Items
+    ensures non_null { result.non_null ≡ (below_seen below.now).item_non_null }
+    ensures place { result.place ≡ (below_seen below.now).place }
+{
+    Items {
+        non_null: below.item_non_null,
+        place: below.place,
+    }
+}
+
+fn field_spot<'p>(field: &Prepared<'p>) -> Spot<'p>
+    ensures { spot_of result ≡ (prepared_seen field.now).spot }
+{
+    Spot {
+        key: field.key,
+        non_null: field.non_null,
+        place: field.place,
+    }
+}
+
+fn copied_own(own: &Own) -> Result<Own, AllocError>
+    ensures { IfOk result (λ copy. own_seen copy ≡ own_seen own.now) }
+{
+    match own {
+        Own::Text(text) => Ok(Own::Text(text.clone()?)),
+        Own::Int(number) => Ok(Own::Int(*number)),
+        Own::Bool(value) => Ok(Own::Bool(*value)),
+        Own::Null => Ok(Own::Null),
+        Own::Fault(text) => Ok(Own::Fault(text.clone()?)),
+    }
+}
+
+/// An object over a row, from its prepared groups, with so many levels of objects below it.
+#[cycle(build)]
+pub fn object<'p>(
+    alloc: Global,
+    plan: &'p Plan<'_>,
+    memory: &Memory,
+    levels: u32,
+    prepared: &[Prepared<'p>],
+    row: &Row,
+) -> Result<State<'p>, NoMemory>
+    ensures { IfOk result (λ state. program_of (plan_of plan.now) state ≡ rest (prepared_program (plan_of plan.now).definitions (object_program (plan_of plan.now) levels) (all_prepared_seen prepared.now) row.now) (told memory.now)) }
+{
+    let mut children = Vec::with_capacity(alloc, prepared.len())?;
+    for field in prepared {
+        let child = asked(alloc, plan, memory, levels, &field.asked, row)?;
+        children.push((field_spot(field), child))?;
+    }
+    Ok(State::Object(children))
+}
+
+// What a group asks for over a row.
+#[cycle(build)]
+fn asked<'p>(
+    alloc: Global,
+    plan: &'p Plan<'_>,
+    memory: &Memory,
+    levels: u32,
+    asked: &Asked<'p>,
+    row: &Row,
+) -> Result<State<'p>, NoMemory>
+    ensures { IfOk result (λ state. program_of (plan_of plan.now) state ≡ rest (asked_program (plan_of plan.now).definitions (object_program (plan_of plan.now) levels) row.now (asked_seen asked.now)) (told memory.now)) }
+{
+    match asked {
+        Asked::Known(own) => Ok(State::Done(copied_own(own)?)),
+        Asked::Cell { column, ty } => {
+            let own = cell_value(alloc, plan.schema(), column, ty, row)?;
+            Ok(State::Done(own))
+        }
+        Asked::First { loader, key, below } => {
+            read_from(alloc, plan, memory, levels, *loader, key, Then::First, below, row)
+        }
+        Asked::All { loader, key, below } => {
+            read_from(alloc, plan, memory, levels, *loader, key, Then::All, below, row)
+        }
+        Asked::Each {
+            loader,
+            keys,
+            below,
+        } => each(alloc, plan, memory, levels, *loader, keys, below),
+        Asked::Joined {
+            loader,
+            key,
+            second,
+            column,
+            below,
+        } => {
+            let next = Then::Joined {
+                second: *second,
+                column: *column,
+            };
+            read_from(alloc, plan, memory, levels, *loader, key, next, below, row)
+        }
+    }
+}
+
+// A load by a key that may stand in the row.
+#[cycle(build)]
+fn read_from<'p>(
+    alloc: Global,
+    plan: &'p Plan<'_>,
+    memory: &Memory,
+    levels: u32,
+    loader: usize,
+    key: &KeyFrom<'p>,
+    next: Then<'p>,
+    below: &Arc<Below<'p>>,
+    row: &Row,
+) -> Result<State<'p>, NoMemory>
+    ensures { IfOk result (λ state. program_of (plan_of plan.now) state ≡ rest (read_from loader (key_from_seen key.now) row.now (then_rows (plan_of plan.now) levels next.entry (below_seen (arc_value below.now)))) (told memory.now)) }
+{
+    match key {
+        KeyFrom::Fixed(key) => {
+            let key = key.clone()?;
+            read(alloc, plan, memory, levels, loader, key, next, below)
+        }
+        KeyFrom::Column(column) => {
+            read_cell(alloc, plan, memory, levels, loader, column, next, below, row)
+        }
+    }
+}
+
+// A load by the key in a column.
+#[cycle(build)]
+fn read_cell<'p>(
+    alloc: Global,
+    plan: &'p Plan<'_>,
+    memory: &Memory,
+    levels: u32,
+    loader: usize,
+    column: &str,
+    next: Then<'p>,
+    below: &Arc<Below<'p>>,
+    row: &Row,
+) -> Result<State<'p>, NoMemory>
+    ensures { IfOk result (λ state. program_of (plan_of plan.now) state ≡ rest (read_cell loader column.now (cell_of row.now column.now) (then_rows (plan_of plan.now) levels next.entry (below_seen (arc_value below.now)))) (told memory.now)) }
+{
+    match row.get(column) {
+        Cell::NoColumn => Ok(State::Done(Own::Fault(no_column_message(alloc, column)?))),
+        Cell::Null => Ok(State::Done(Own::Null)),
+        Cell::Text(text) => {
+            let key = Key::Text(String::from_str(alloc, text)?);
+            read(alloc, plan, memory, levels, loader, key, next, below)
+        }
+    }
+}
+
+/// A load, and what is done with its rows.
+#[cycle(build)]
+pub fn read<'p>(
+    alloc: Global,
+    plan: &'p Plan<'_>,
+    memory: &Memory,
+    levels: u32,
+    loader: usize,
+    key: Key,
+    next: Then<'p>,
+    below: &Arc<Below<'p>>,
+) -> Result<State<'p>, NoMemory>
+    ensures { IfOk result (λ state. program_of (plan_of plan.now) state ≡ rest (Read (record { loader = loader; key = key_of key }) (with_rows (then_rows (plan_of plan.now) levels next.entry (below_seen (arc_value below.now))))) (told memory.now)) }
+{
+    match told(alloc, memory, loader, &key)? {
+        Some(outcome) => go_on(alloc, plan, memory, levels, next, below, outcome),
+        None => Ok(State::Waits {
+            loader,
+            key,
+            next,
+            levels,
+            below: Arc::try_clone(below)?,
+        }),
+    }
+}
+
+// What an outcome gives.
+#[cycle(build)]
+fn go_on<'p>(
+    alloc: Global,
+    plan: &'p Plan<'_>,
+    memory: &Memory,
+    levels: u32,
+    next: Then<'p>,
+    below: &Arc<Below<'p>>,
+    outcome: &Outcome,
+) -> Result<State<'p>, NoMemory>
+    ensures { IfOk result (λ state. program_of (plan_of plan.now) state ≡ rest (with_rows (then_rows (plan_of plan.now) levels next.entry (below_seen (arc_value below.now))) (outcome_of outcome.now)) (told memory.now)) }
+{
+    match outcome {
+        Outcome::Rows(rows) => match next {
+            Then::First => first(alloc, plan, memory, levels, below, rows),
+            Then::All => all(alloc, plan, memory, levels, below, rows),
+            Then::Joined { second, column } => {
+                joined(alloc, plan, memory, levels, below, second, column, rows)
+            }
+        },
+        Outcome::KeyFault(text) => Ok(State::Done(Own::Fault(text.clone()?))),
+        Outcome::BatchFault(text) => Ok(State::Done(Own::Fault(text.clone()?))),
+    }
+}
+
+// The first of some rows.
+#[cycle(build)]
+fn first<'p>(
+    alloc: Global,
+    plan: &'p Plan<'_>,
+    memory: &Memory,
+    levels: u32,
+    below: &Below<'p>,
+    rows: &[Row],
+) -> Result<State<'p>, NoMemory>
+    ensures { IfOk result (λ state. program_of (plan_of plan.now) state ≡ rest (first_object (plan_of plan.now).definitions (object_program (plan_of plan.now) levels) (below_seen below.now) rows.now) (told memory.now)) }
+{
+    match rows {
+        [] => Ok(State::Done(Own::Null)),
+        [row, ..] => row_object(alloc, plan, memory, levels, below, row),
+    }
+}
+
+// A place for each row.
+#[cycle(build)]
+fn all<'p>(
+    alloc: Global,
+    plan: &'p Plan<'_>,
+    memory: &Memory,
+    levels: u32,
+    below: &Below<'p>,
+    rows: &[Row],
+) -> Result<State<'p>, NoMemory>
+    ensures { IfOk result (λ state. program_of (plan_of plan.now) state ≡ rest (all_objects (plan_of plan.now).definitions (object_program (plan_of plan.now) levels) (below_seen below.now) rows.now) (told memory.now)) }
+{
+    let mut children = Vec::with_capacity(alloc, rows.len())?;
+    for row in rows {
+        let child = row_object(alloc, plan, memory, levels, below, row)?;
+        children.push(child)?;
+    }
+    Ok(State::List(items_of(below), children))
+}
+
+// A place for each row, read by its own key.
+#[cycle(build)]
+fn joined<'p>(
+    alloc: Global,
+    plan: &'p Plan<'_>,
+    memory: &Memory,
+    levels: u32,
+    below: &Arc<Below<'p>>,
+    second: usize,
+    column: &'p str,
+    rows: &[Row],
+) -> Result<State<'p>, NoMemory>
+    ensures { IfOk result (λ state. program_of (plan_of plan.now) state ≡ rest (joined_objects (plan_of plan.now).definitions (object_program (plan_of plan.now) levels) (below_seen (arc_value below.now)) second column.now rows.now) (told memory.now)) }
+{
+    let mut children = Vec::with_capacity(alloc, rows.len())?;
+    for row in rows {
+        let child = read_cell(
+            alloc,
+            plan,
+            memory,
+            levels,
+            second,
+            column,
+            Then::First,
+            below,
+            row,
+        )?;
+        children.push(child)?;
+    }
+    Ok(State::List(items_of(below), children))
+}
+
+// A place for each key.
+#[cycle(build)]
+fn each<'p>(
+    alloc: Global,
+    plan: &'p Plan<'_>,
+    memory: &Memory,
+    levels: u32,
+    loader: usize,
+    keys: &[Option<Key>],
+    below: &Arc<Below<'p>>,
+) -> Result<State<'p>, NoMemory>
+    ensures { IfOk result (λ state. program_of (plan_of plan.now) state ≡ rest (list_of (below_seen (arc_value below.now)) (map (read_if loader (first_object (plan_of plan.now).definitions (object_program (plan_of plan.now) levels) (below_seen (arc_value below.now)))) (keys_seen keys.now))) (told memory.now)) }
+{
+    let mut children = Vec::with_capacity(alloc, keys.len())?;
+    for key in keys {
+        let child = read_if(alloc, plan, memory, levels, loader, key, below)?;
+        children.push(child)?;
+    }
+    Ok(State::List(items_of(below), children))
+}
+
+// The first row of a key, if there is one.
+#[cycle(build)]
+fn read_if<'p>(
+    alloc: Global,
+    plan: &'p Plan<'_>,
+    memory: &Memory,
+    levels: u32,
+    loader: usize,
+    key: &Option<Key>,
+    below: &Arc<Below<'p>>,
+) -> Result<State<'p>, NoMemory>
+    ensures { IfOk result (λ state. program_of (plan_of plan.now) state ≡ rest (read_if loader (first_object (plan_of plan.now).definitions (object_program (plan_of plan.now) levels) (below_seen (arc_value below.now))) (option_map key_of key.now)) (told memory.now)) }
+{
+    match key {
+        Some(key) => {
+            let key = key.clone()?;
+            read(alloc, plan, memory, levels, loader, key, Then::First, below)
+        }
+        None => Ok(State::Done(Own::Null)),
+    }
+}
+
+// An object over a row that may tell its type.
+#[cycle(build)]
+fn row_object<'p>(
+    alloc: Global,
+    plan: &'p Plan<'_>,
+    memory: &Memory,
+    levels: u32,
+    below: &Below<'p>,
+    row: &Row,
+) -> Result<State<'p>, NoMemory>
+    ensures { IfOk result (λ state. program_of (plan_of plan.now) state ≡ rest (row_object (plan_of plan.now).definitions (object_program (plan_of plan.now) levels) (below_seen below.now) row.now) (told memory.now)) }
+{
+    match type_of_row(alloc, plan.schema(), below.type_name, row)? {
+        TypeOf::Object(ty) => typed_object(alloc, plan, memory, levels, ty, &below.fields, row),
+        TypeOf::Fault(text) => Ok(State::Done(Own::Fault(text))),
+    }
+}
+
+// An object of a type over a row.
+#[cycle(build)]
+fn typed_object<'p>(
+    alloc: Global,
+    plan: &'p Plan<'_>,
+    memory: &Memory,
+    levels: u32,
+    ty: &str,
+    fields: &[&'p Field],
+    row: &Row,
+) -> Result<State<'p>, NoMemory>
+    ensures { IfOk result (λ state. program_of (plan_of plan.now) state ≡ rest (object_program (plan_of plan.now) levels ty.now (fields_seen fields.now) row.now) (told memory.now)) }
+{
+    if levels == 0 {
+        return Ok(State::Done(Own::Null));
+    }
+    let groups = collect_below(alloc, plan, ty, fields)?;
+    let prepared = prepare(alloc, plan, ty, groups)?;
+    object(alloc, plan, memory, levels - 1, &prepared, row)
+}

@@ -1,0 +1,215 @@
+//! What the cells of a row say.
+
+ghost use Rattle.std.specs.Prelude.{◌≡◌, IfOk, option_map};
+ghost use Rattle.std.specs.Str.{all_ascii_digits};
+ghost use Rattle.gq_parser.specs.Tree.{type_of};
+ghost use Rattle.gq_schema.specs.Types.{tree_of};
+ghost use Rattle.gq_schema.specs.BindingsTypes.{is_object_type};
+ghost use Rattle.gq_schema.specs.Coercion.{int_of};
+ghost use Rattle.load_memory.specs.Rows.{cell_of};
+ghost use Rattle.execution.specs.Program.{Value};
+ghost use Rattle.plan_program.specs.Texts.{is_int_text, is_unsigned_text};
+ghost use Rattle.plan_program.specs.PlanPrograms.{boolean_of, int_leaf, named_leaf, leaf_of, or_bad, cell_value, typename, told_type, type_of_row};
+ghost use Rattle.plan_program.specs.Prepared.{own_seen};
+ghost use Rattle.gq_resolve.specs.Cells.{type_seen};
+
+use gq_parser::TypeRef;
+use gq_schema::{Schema, TypeKind};
+use load_memory::{Cell, Row};
+use plan_program::{Own, bad_value_message, no_column_message, no_type_message, not_type_message};
+use std::alloc::{AllocError, Global};
+
+fn all_digits(text: &[u8]) -> bool
+    ensures { result ≡ all_ascii_digits text.now }
+{
+    for byte in text {
+        if !byte.is_ascii_digit() {
+            return false;
+        }
+    }
+    true
+}
+
+// `0`, or digits of which the first isn't 0.
+fn is_unsigned_text(text: &[u8]) -> bool
+    ensures { result ≡ is_unsigned_text text.now }
+{
+    match text {
+        [] => false,
+        [first, rest @ ..] => {
+            (b'1' <= *first && *first <= b'9' && all_digits(rest)) || text == b"0".as_slice()
+        }
+    }
+}
+
+// The text of an Int (section 2.9.1).
+fn is_int_text(text: &[u8]) -> bool
+    ensures { result ≡ is_int_text text.now }
+{
+    match text {
+        [] => false,
+        [first, rest @ ..] => {
+            if *first == b'-' {
+                is_unsigned_text(rest)
+            } else {
+                is_unsigned_text(text)
+            }
+        }
+    }
+}
+
+// The number that the text of an Int writes, where it lies within signed 32 bits.
+fn int_of(text: &str) -> Option<i32>
+    ensures { result ≡ int_of text.now }
+{
+    text.parse::<i32>().ok()
+}
+
+fn int_leaf(text: &str) -> Option<Own>
+    ensures { option_map own_seen result ≡ option_map (λ leaf. Value leaf) (int_leaf text.now) }
+{
+    if !is_int_text(text.as_bytes()) {
+        return None;
+    }
+    match int_of(text) {
+        Some(number) => Some(Own::Int(number)),
+        None => None,
+    }
+}
+
+fn boolean_leaf(text: &str) -> Option<Own>
+    ensures { option_map own_seen result ≡ option_map (λ leaf. Value leaf) (boolean_of text.now) }
+{
+    if text == "true" {
+        return Some(Own::Bool(true));
+    }
+    if text == "false" {
+        return Some(Own::Bool(false));
+    }
+    None
+}
+
+// What a text is at the type of this name.
+fn named_leaf(
+    alloc: Global,
+    schema: &Schema,
+    name: &str,
+    text: &str,
+) -> Result<Option<Own>, AllocError>
+    ensures { IfOk result (λ own. option_map own_seen own ≡ option_map (λ leaf. Value leaf) (named_leaf (tree_of schema.now) name.now text.now)) }
+{
+    if name == "Int" {
+        return Ok(int_leaf(text));
+    }
+    if name == "Boolean" {
+        return Ok(boolean_leaf(text));
+    }
+    if name == "String" || name == "ID" || schema.has_value(name, text) {
+        return Ok(Some(Own::Text(String::from_str(alloc, text)?)));
+    }
+    Ok(None)
+}
+
+fn leaf_of(
+    alloc: Global,
+    schema: &Schema,
+    ty: &TypeRef,
+    text: &str,
+) -> Result<Option<Own>, AllocError>
+    ensures { IfOk result (λ own. option_map own_seen own ≡ option_map (λ leaf. Value leaf) (leaf_of (tree_of schema.now) (type_of ty.now) text.now)) }
+{
+    match ty {
+        TypeRef::Named { name, .. } => named_leaf(alloc, schema, name.as_str(), text),
+        TypeRef::List { .. } => Ok(None),
+    }
+}
+
+// The own value of a text in a column.
+fn text_value(
+    alloc: Global,
+    schema: &Schema,
+    column: &str,
+    ty: &TypeRef,
+    text: &str,
+) -> Result<Own, AllocError>
+    ensures { IfOk result (λ own. own_seen own ≡ or_bad column.now (leaf_of (tree_of schema.now) (type_of ty.now) text.now)) }
+{
+    match leaf_of(alloc, schema, ty, text)? {
+        Some(own) => Ok(own),
+        None => Ok(Own::Fault(bad_value_message(alloc, column)?)),
+    }
+}
+
+/// The own value of a field that is bound to a column (section 6.4.3, CompleteValue of a leaf).
+pub fn cell_value(
+    alloc: Global,
+    schema: &Schema,
+    column: &str,
+    ty: &TypeRef,
+    row: &Row,
+) -> Result<Own, AllocError>
+    ensures { IfOk result (λ own. own_seen own ≡ cell_value (tree_of schema.now) column.now (type_of ty.now) (cell_of row.now column.now)) }
+{
+    match row.get(column) {
+        Cell::NoColumn => Ok(Own::Fault(no_column_message(alloc, column)?)),
+        Cell::Null => Ok(Own::Null),
+        Cell::Text(text) => text_value(alloc, schema, column, ty, text),
+    }
+}
+
+/// The object type of a row, or why it has none.
+pub enum TypeOf<'a> {
+    Object(&'a str),
+    Fault(String),
+}
+
+/// Whether it is an object type.
+pub fn is_object_type(schema: &Schema, name: &str) -> bool
+    ensures { result ≡ is_object_type (tree_of schema.now) name.now }
+{
+    match schema.kind_of(name) {
+        Some(TypeKind::Object) => true,
+        Some(TypeKind::Scalar) => false,
+        Some(TypeKind::Interface) => false,
+        Some(TypeKind::Union) => false,
+        Some(TypeKind::Enum) => false,
+        None => false,
+    }
+}
+
+// The type that a row tells.
+fn told_type<'a>(
+    alloc: Global,
+    schema: &Schema,
+    name: &str,
+    row: &'a Row,
+) -> Result<TypeOf<'a>, AllocError>
+    ensures { IfOk result (λ ty. type_seen ty ≡ told_type (tree_of schema.now) name.now (cell_of row.now typename)) }
+{
+    match row.get("__typename") {
+        Cell::NoColumn => Ok(TypeOf::Fault(no_column_message(alloc, "__typename")?)),
+        Cell::Null => Ok(TypeOf::Fault(no_type_message(alloc)?)),
+        Cell::Text(text) => {
+            if schema.can_be(name, text) {
+                Ok(TypeOf::Object(text))
+            } else {
+                Ok(TypeOf::Fault(not_type_message(alloc, text)?))
+            }
+        }
+    }
+}
+
+/// The object type of a row that stands for the type of this name (section 6.4.3, ResolveAbstractType).
+pub fn type_of_row<'a>(
+    alloc: Global,
+    schema: &Schema,
+    name: &'a str,
+    row: &'a Row,
+) -> Result<TypeOf<'a>, AllocError>
+    ensures { IfOk result (λ ty. type_seen ty ≡ type_of_row (tree_of schema.now) name.now row.now) }
+{
+    if is_object_type(schema, name) {
+        return Ok(TypeOf::Object(name));
+    }
+    told_type(alloc, schema, name, row)
+}

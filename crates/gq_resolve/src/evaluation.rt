@@ -1,0 +1,37 @@
+//! Evaluation from scratch.
+
+ghost use Rattle.std.specs.Prelude.{◌≡◌, IfOk, OnErr};
+ghost use Rattle.execution.specs.Program.{needs};
+ghost use Rattle.execution.specs.Front.{missing};
+ghost use Rattle.gq_check.specs.Plans.{plan_of};
+ghost use Rattle.plan_program.specs.PlanPrograms.{plan_program};
+ghost use Rattle.gq_resolve.specs.Evaluated.{reader, IsEvaluated, AddsPart, CanEvaluate};
+
+use crate::answered::Answered;
+use crate::no_memory::NoMemory;
+use futures::task::Poll;
+use gq_check::Plan;
+use load_memory::Memory;
+use load_queue::Wants;
+use std::alloc::Global;
+
+/// Executes a plan over a memory, from scratch (section 6.2.1).
+///
+/// Where the memory has all that the plan needs, the answer is ready and the wants are as they were. Else the plan waits,
+/// and what it needs and the memory lacks is added to the wants, depth first.
+///
+/// # Errors
+///
+/// Only where a growth was refused. The wants hold what they held, and the first of what was to be added.
+pub fn evaluate(
+    alloc: Global,
+    plan: &Plan<'_>,
+    memory: &Memory,
+    wants: &mut Wants,
+) -> Result<Poll<Answered>, NoMemory>
+    requires { CanEvaluate (plan_of plan.now) memory.now wants.old }
+    ensures ok { IfOk result (λ polled. IsEvaluated wants.old wants.new (plan_program (plan_of plan.now)) memory.now polled) }
+    ensures err { OnErr result (AddsPart wants.old wants.new (missing (reader memory.now) (needs (plan_program (plan_of plan.now)) (reader memory.now)))) }
+{
+    Err(NoMemory)
+}

@@ -1,0 +1,22 @@
+//! Execution of plans (sections 6.2 to 6.4 of the GraphQL specification of October 2021): over a memory of what was loaded, a
+//! plan is ready with its answer, or waits for exactly the loads that it needs and the memory lacks.
+//!
+//! The layer above may rely on this: [`evaluate`] is ready with the execution of the plan's program
+//! (`plan_program::specs::PlanPrograms`) where nothing is missing, and else adds the front to the wants.
+#![tactic(auto)]
+
+mod answer;
+mod answered;
+mod build;
+mod cells;
+mod evaluation;
+mod finish;
+mod no_memory;
+mod reading;
+mod state;
+mod waiting;
+
+pub use answer::answer_text;
+pub use answered::Answered;
+pub use evaluation::evaluate;
+pub use no_memory::NoMemory;

@@ -1,0 +1,27 @@
+//! What the memory says of a load.
+
+ghost use Rattle.std.specs.Prelude.{◌≡◌, IfOk, option_map};
+ghost use Rattle.std.specs.Option.{option_copied};
+ghost use Rattle.load_memory.specs.Keys.{key_of};
+ghost use Rattle.load_memory.specs.Outcomes.{outcome_of};
+ghost use Rattle.gq_resolve.specs.States.{told};
+
+use crate::no_memory::NoMemory;
+use load_memory::{Key, Memory, Outcome, cache_key};
+use std::alloc::Global;
+
+/// What the memory says of a key of a loader; nothing where there is no such loader.
+pub fn told<'m>(
+    alloc: Global,
+    memory: &'m Memory,
+    loader: usize,
+    key: &Key,
+) -> Result<Option<&'m Outcome>, NoMemory>
+    ensures { IfOk result (λ outcome. option_map outcome_of (option_copied outcome) ≡ told memory.now (record { loader = loader; key = key_of key.now })) }
+{
+    if loader >= memory.modes().len() {
+        return Ok(None);
+    }
+    let cached = cache_key(alloc, key, memory.mode(loader))?;
+    Ok(memory.get(loader, &cached))
+}

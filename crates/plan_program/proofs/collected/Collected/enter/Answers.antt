@@ -1,0 +1,7 @@
+use Rattle.std.proofs.Common.{ap, ◌∙◌, sym}
+use Rattle.std.specs.Prelude.{not}
+use Rattle.plan_program.proofs.Grouping.{any_texts}
+use Rattle.plan_program.proofs.collected.Collected.enter.Goals as goal
+
+pub returns-clause-told : goal.returns-clause-told
+returns-clause-told c = c.in_ok-insert.ensures.added ∙ ap not (any_texts c.args.name.now c.args.self.now.entered.keys)

@@ -1,0 +1,142 @@
+-- *Arguments and loads*: what a group asks for, whatever the row is: its position, and by its field's binding a cell, or
+-- loads with where their keys come from.
+use Rattle.std.specs.Prelude.{ℕ, Bool, true, false, nat_lt, ◌&&◌, List, [], ◌∷◌, length, Option, Some, None, option_map, map, codes, bytes_eq, if◌then◌else◌}
+use Rattle.std.specs.Fmt.{signed_decimal}
+use Rattle.std.specs.Option.{option_map_or}
+use Rattle.gq_lexer.specs.declared.place.Place.{Place}
+use Rattle.gq_parser.specs.Tree.{TypeTree, Named, ListOf}
+use Rattle.schema_syntax.specs.Tree.{Field}
+use Rattle.bindings_syntax.specs.Statements as source
+use Rattle.gq_schema.specs.Inputs.{Input, Inputs, no_input, and_input, Items}
+use Rattle.gq_schema.specs.Inputs as input
+use Rattle.gq_schema.specs.Types.{field_in, is_non_null, core_of}
+use Rattle.gq_schema.specs.BindingsTree.{BindingOf, by_column, by_one, by_many, by_each, by_via, binding_in}
+use Rattle.load_memory.specs.Keys.{KeyOf, all, text}
+use Rattle.execution.specs.Program.{Own, Value, Null, Fault, Text, Spot, Key}
+use Rattle.gq_check.specs.Plans.{PlanOf}
+use Rattle.plan_program.specs.Groups.{FieldOf, GroupOf}
+use Rattle.plan_program.specs.Arguments.{ArgumentsOf, ValueOf, all_values, null_argument, arguments_of}
+use Rattle.plan_program.specs.Texts.{null_argument_message}
+
+-- where the key of a load comes from
+pub data KeyFrom : Type 0 where
+  fixed : KeyOf → KeyFrom
+  of_column : List ℕ → KeyFrom
+
+-- what an object below a field is made from: its type's name, which may be an interface or a union, and the fields that
+-- select of it; and the positions of a list's items
+pub record BelowOf : Type 0 where
+  pub type_name : List ℕ
+  pub item_non_null : Bool
+  pub place : Place
+  pub fields : List FieldOf
+
+pub data AskedOf : Type 0 where
+  -- the same for each row
+  known : Own → AskedOf
+  -- a column's field, at a type
+  cell : List ℕ → TypeTree → AskedOf
+  -- the key's first row, or all of its rows
+  first_row : ℕ → KeyFrom → BelowOf → AskedOf
+  all_rows : ℕ → KeyFrom → BelowOf → AskedOf
+  -- for each key its first row; no key is null
+  each_row : ℕ → List (Option KeyOf) → BelowOf → AskedOf
+  -- the key's rows, and for each the second loader's first row of the key in a column
+  joined_rows : ℕ → KeyFrom → ℕ → List ℕ → BelowOf → AskedOf
+
+-- the position of a group, and what it asks for
+pub record PreparedOf : Type 0 where
+  pub spot : Spot
+  pub asked : AskedOf
+
+-- ---- keys
+
+-- a text is a key, and an Int in decimal; null and no value is no key
+abbrev pub key_of_input : Input → Option KeyOf
+key_of_input (input.Text t) = Some (text t)
+key_of_input (input.Int z) = Some (text (signed_decimal z))
+key_of_input _ = None
+
+abbrev pub input_named : List ℕ → List ValueOf → Option Input
+input_named name [] = None
+input_named name (v ∷ vs) = if bytes_eq name v.name then Some v.value else input_named name vs
+
+abbrev pub key_if : Option Input → Option KeyFrom
+key_if None = None
+key_if (Some i) = option_map (λ key. fixed key) (key_of_input i)
+
+abbrev pub key_from : List ValueOf → source.KeyOf → Option KeyFrom
+key_from values (source.from_argument name) = key_if (input_named name values)
+key_from values (source.from_column column) = Some (of_column column)
+key_from values source.from_all = Some (fixed all)
+
+abbrev pub keys_of : Inputs → List (Option KeyOf)
+keys_of no_input = []
+keys_of (and_input i is) = key_of_input i ∷ keys_of is
+
+-- ---- loads
+
+-- A loader that the bindings define. Bindings that are read of a text name no other; else the field is null.
+abbrev pub with_loader : PlanOf → ℕ → AskedOf → AskedOf
+with_loader plan loader asked = if nat_lt loader (length plan.bindings.loaders) then asked else known Null
+
+-- no key gives null and makes no load
+abbrev pub with_key : Option KeyFrom → (KeyFrom → AskedOf) → AskedOf
+with_key None asked = known Null
+with_key (Some key) asked = asked key
+
+abbrev pub each_asked : ℕ → BelowOf → Option Input → AskedOf
+each_asked loader below (Some (Items is)) = each_row loader (keys_of is) below
+each_asked loader below _ = known Null
+
+abbrev pub bound_asked : PlanOf → TypeTree → BelowOf → List ValueOf → Option BindingOf → AskedOf
+bound_asked plan t below values None = known Null
+bound_asked plan t below values (Some (by_column column)) = cell column t
+bound_asked plan t below values (Some (by_one loader key)) = with_loader plan loader (with_key (key_from values key) (λ k. first_row loader k below))
+bound_asked plan t below values (Some (by_many loader key)) = with_loader plan loader (with_key (key_from values key) (λ k. all_rows loader k below))
+bound_asked plan t below values (Some (by_each loader name)) = with_loader plan loader (each_asked loader below (input_named name values))
+bound_asked plan t below values (Some (by_via loader key second column)) =
+    with_loader plan loader (with_loader plan second (with_key (key_from values key) (λ k. joined_rows loader k second column below)))
+
+-- ---- positions
+
+abbrev pub item_type : TypeTree → TypeTree
+item_type (Named p n strict) = Named p n strict
+item_type (ListOf p t strict) = t
+
+abbrev pub below_of : TypeTree → Place → List FieldOf → BelowOf
+below_of t place fields = record { type_name = (core_of t).text; item_non_null = is_non_null (item_type t); place = place; fields = fields }
+
+-- an argument's field error is the field's fault
+abbrev pub with_arguments : ArgumentsOf → (List ValueOf → AskedOf) → AskedOf
+with_arguments (null_argument name) asked = known (Fault (null_argument_message name))
+with_arguments (all_values values) asked = asked values
+
+abbrev pub spot_of : List ℕ → Place → Bool → Spot
+spot_of key place strict = record { part = Key key; non_null = strict; place = place }
+
+-- A field that the object type has no definition of, which no valid plan has, is null.
+abbrev pub defined_asked : PlanOf → List ℕ → FieldOf → GroupOf → Option Field → PreparedOf
+defined_asked plan ty f g None = record { spot = spot_of g.key f.place false; asked = known Null }
+defined_asked plan ty f g (Some d) = record {
+  spot = spot_of g.key f.place (is_non_null d.of_type);
+  asked = with_arguments (arguments_of plan ty g) (λ values. bound_asked plan d.of_type (below_of d.of_type f.place g.fields) values (binding_in plan.bindings.fields ty f.name));
+}
+
+-- `__typename` is the object type's name
+abbrev pub field_asked : PlanOf → List ℕ → FieldOf → GroupOf → PreparedOf
+field_asked plan ty f g =
+    if bytes_eq f.name (codes "__typename") then record { spot = spot_of g.key f.place true; asked = known (Value (Text ty)) }
+    else defined_asked plan ty f g (field_in plan.definitions ty f.name)
+
+-- the group of no field, which no collection has, is null
+abbrev pub first_asked : PlanOf → List ℕ → GroupOf → List FieldOf → PreparedOf
+first_asked plan ty g [] = record { spot = spot_of g.key (record { line = 1; column = 1 }) false; asked = known Null }
+first_asked plan ty g (f ∷ fs) = field_asked plan ty f g
+
+-- errors stand at the first field of the group
+abbrev pub prepared : PlanOf → List ℕ → GroupOf → PreparedOf
+prepared plan ty g = first_asked plan ty g g.fields
+
+abbrev pub all_prepared : PlanOf → List ℕ → List GroupOf → List PreparedOf
+all_prepared plan ty gs = map (prepared plan ty) gs

@@ -1,0 +1,10 @@
+pub mod Chosen
+pub mod Groups
+pub mod Arguments
+pub mod Texts
+pub mod Seen
+pub mod Collecting
+pub mod Coercing
+pub mod Asked
+pub mod Prepared
+pub mod PlanPrograms

@@ -1,0 +1,361 @@
+//! Coerced arguments (section 6.4.1).
+
+ghost use Rattle.std.specs.Prelude.{◌≡◌, ℕ, List, IfOk, IfErr, Some, map};
+ghost use Rattle.std.specs.Option.{option_map};
+ghost use Rattle.gq_lexer.specs.declared.place.Place.{Place};
+ghost use Rattle.gq_parser.specs.Tree.{Named, type_of, literal_of, values_of as literals_of, arguments_of as arguments_seen};
+ghost use Rattle.schema_syntax.specs.Tree.{argument_of, arguments_of as arguments_defined};
+ghost use Rattle.gq_schema.specs.Inputs.{input_of};
+ghost use Rattle.gq_schema.specs.Coercion.{list_input, all_items, one_item};
+ghost use Rattle.variable_values.specs.Variables.{value_in};
+ghost use Rattle.gq_check.specs.Plans.{plan_of};
+ghost use Rattle.plan_program.specs.Chosen.{given_to};
+ghost use Rattle.plan_program.specs.Arguments.{null_input, variable_value, name_value, literal_value, or_refused, default_value, by_variable, argument_value, coerced_arguments, arguments_of, all_values};
+ghost use Rattle.plan_program.specs.Seen.{values_of, group_of};
+ghost use Rattle.plan_program.specs.Coercing.{coerced_seen, Refuses};
+
+use crate::chosen::given_to;
+use crate::group::Group;
+use crate::no_memory::NoMemory;
+use crate::type_refs::is_non_null;
+use gq_check::Plan;
+use gq_parser::{Argument, Literal, TypeRef, Value};
+use gq_schema::{ArgDef, Input, coerce};
+use std::alloc::{AllocError, AllocFailed, Global};
+use thiserror::Error;
+
+/// The arguments of a field that have a value, by name, in the order of their definitions.
+#[derive(Debug, Drop)]
+pub struct Args {
+    pub pairs: Vec<(String, Input)>,
+}
+
+/// Why a field has no arguments.
+#[derive(Debug, Drop, Error)]
+pub enum ArgFault {
+    /// The first argument by definition that has no value, or null, at a non-null type.
+    #[error("null for the non-null argument {0}")]
+    NullArgument(String),
+    /// A growth was refused.
+    #[error("out of memory")]
+    NoMemory,
+}
+
+impl From<AllocError> for ArgFault {
+    ghost use Rattle.std.specs.Prelude.{◌≡◌};
+    ghost use Rattle.plan_program.specs.declared.arguments.ArgFault.TheVariants as fault;
+
+    ghost from_gives = { λ _ e. e ≡ fault.NoMemory };
+
+    fn from(_e: AllocError) -> ArgFault {
+        ArgFault::NoMemory
+    }
+}
+
+impl<T: Drop> From<AllocFailed<T>> for ArgFault {
+    ghost use Rattle.std.specs.Prelude.{◌≡◌};
+    ghost use Rattle.plan_program.specs.declared.arguments.ArgFault.TheVariants as fault;
+
+    ghost from_gives = { λ _ e. e ≡ fault.NoMemory };
+
+    fn from(_e: AllocFailed<T>) -> ArgFault {
+        ArgFault::NoMemory
+    }
+}
+
+/// What becomes of an argument.
+enum Coerced {
+    Absent,
+    Present(Input),
+    Refused,
+}
+
+// An input of its own.
+#[cycle(copied)]
+fn copied(input: &Input) -> Result<Input, AllocError>
+    ensures { IfOk result (λ copy. input_of copy ≡ input_of input.now) }
+{
+    match input {
+        Input::Null => Ok(Input::Null),
+        Input::Int(number) => Ok(Input::Int(*number)),
+        Input::Text(text) => Ok(Input::Text(text.clone()?)),
+        Input::Bool(value) => Ok(Input::Bool(*value)),
+        Input::List(items) => Ok(Input::List(all_copied(items)?)),
+    }
+}
+
+#[cycle(copied)]
+fn all_copied(inputs: &Vec<Input>) -> Result<Vec<Input>, AllocError>
+    ensures { IfOk result (λ copies. map input_of copies.items ≡ map input_of inputs.now.items) }
+{
+    let mut copies = Vec::with_capacity(*inputs.allocator(), inputs.len())?;
+    for input in inputs {
+        copies.push(copied(input)?)?;
+    }
+    Ok(copies)
+}
+
+fn null_input(strict: bool) -> Option<Input>
+    ensures { option_map input_of result ≡ null_input strict }
+{
+    (!strict).then_some(Input::Null)
+}
+
+// The value of a variable that has one.
+fn value_of_variable(strict: bool, value: &Input) -> Result<Option<Input>, AllocError>
+    ensures { IfOk result (λ input. option_map input_of input ≡ variable_value strict (Some (input_of value.now))) }
+{
+    match value {
+        Input::Null => Ok(null_input(strict)),
+        Input::Int(number) => Ok(Some(Input::Int(*number))),
+        Input::Text(text) => Ok(Some(Input::Text(text.clone()?))),
+        Input::Bool(value) => Ok(Some(Input::Bool(*value))),
+        Input::List(items) => Ok(Some(Input::List(all_copied(items)?))),
+    }
+}
+
+// The value of a variable; an absent one is null.
+fn variable_value(plan: &Plan<'_>, strict: bool, name: &str) -> Result<Option<Input>, AllocError>
+    ensures { IfOk result (λ input. option_map input_of input ≡ variable_value strict (value_in (plan_of plan.now).variables name.now)) }
+{
+    match plan.variable(name) {
+        Some(value) => value_of_variable(strict, value),
+        None => Ok(null_input(strict)),
+    }
+}
+
+// A list of one item.
+fn list_of_one(alloc: Global, item: Option<Input>) -> Result<Option<Input>, AllocError>
+    ensures { IfOk result (λ input. option_map input_of input ≡ one_item (option_map input_of item)) }
+{
+    match item {
+        Some(item) => {
+            let mut items = Vec::with_capacity(alloc, 1)?;
+            items.push(item)?;
+            Ok(Some(Input::List(items)))
+        }
+        None => Ok(None),
+    }
+}
+
+// What a literal gives at a type that is no list.
+fn name_value(
+    alloc: Global,
+    plan: &Plan<'_>,
+    ty: &TypeRef,
+    strict: bool,
+    literal: &Literal,
+) -> Result<Option<Input>, AllocError>
+    ensures { IfOk result (λ input. (p : Place) (name : List ℕ) → type_of ty.now ≡ Named p name strict
+        → option_map input_of input ≡ name_value (plan_of plan.now) name strict (literal_of literal.now)) }
+{
+    match &literal.value {
+        Value::Variable(name) => Ok(variable_value(plan, strict, name.as_str())?),
+        Value::Null => Ok(coerce(alloc, plan.schema(), ty, literal)?),
+        Value::Int(_) => Ok(coerce(alloc, plan.schema(), ty, literal)?),
+        Value::Float(_) => Ok(coerce(alloc, plan.schema(), ty, literal)?),
+        Value::Text(_) => Ok(coerce(alloc, plan.schema(), ty, literal)?),
+        Value::Boolean(_) => Ok(coerce(alloc, plan.schema(), ty, literal)?),
+        Value::Enum(_) => Ok(coerce(alloc, plan.schema(), ty, literal)?),
+        Value::List(_) => Ok(coerce(alloc, plan.schema(), ty, literal)?),
+        Value::Object(_) => Ok(coerce(alloc, plan.schema(), ty, literal)?),
+    }
+}
+
+// What a literal with its variables gives at a type.
+#[cycle(literal)]
+fn literal_value(
+    alloc: Global,
+    plan: &Plan<'_>,
+    ty: &TypeRef,
+    literal: &Literal,
+) -> Result<Option<Input>, AllocError>
+    ensures { IfOk result (λ input. option_map input_of input ≡ literal_value (plan_of plan.now) (type_of ty.now) (literal_of literal.now)) }
+{
+    match ty {
+        TypeRef::Named { non_null, .. } => Ok(name_value(alloc, plan, ty, *non_null, literal)?),
+        TypeRef::List { item, non_null, .. } => match &literal.value {
+            Value::Null => Ok(null_input(*non_null)),
+            Value::Variable(name) => Ok(variable_value(plan, *non_null, name.as_str())?),
+            Value::List(items) => Ok(list_value(alloc, plan, item, items)?),
+            Value::Int(_) => one_value(alloc, plan, item, literal),
+            Value::Float(_) => one_value(alloc, plan, item, literal),
+            Value::Text(_) => one_value(alloc, plan, item, literal),
+            Value::Boolean(_) => one_value(alloc, plan, item, literal),
+            Value::Enum(_) => one_value(alloc, plan, item, literal),
+            Value::Object(_) => one_value(alloc, plan, item, literal),
+        },
+    }
+}
+
+// A value as a list of one.
+#[cycle(literal)]
+fn one_value(
+    alloc: Global,
+    plan: &Plan<'_>,
+    ty: &TypeRef,
+    literal: &Literal,
+) -> Result<Option<Input>, AllocError>
+    ensures { IfOk result (λ input. option_map input_of input ≡ one_item (literal_value (plan_of plan.now) (type_of ty.now) (literal_of literal.now))) }
+{
+    let item = literal_value(alloc, plan, ty, literal)?;
+    Ok(list_of_one(alloc, item)?)
+}
+
+// A list item by item.
+#[cycle(literal)]
+fn list_value(
+    alloc: Global,
+    plan: &Plan<'_>,
+    ty: &TypeRef,
+    literals: &[Literal],
+) -> Result<Option<Input>, AllocError>
+    ensures { IfOk result (λ input. option_map input_of input ≡ list_input (all_items (literal_value (plan_of plan.now) (type_of ty.now)) (literals_of (map literal_of literals.now)))) }
+{
+    let mut inputs = Vec::with_capacity(alloc, literals.len())?;
+    for literal in literals {
+        match literal_value(alloc, plan, ty, literal)? {
+            Some(input) => inputs.push(input)?,
+            None => return Ok(None),
+        }
+    }
+    Ok(Some(Input::List(inputs)))
+}
+
+fn or_refused(input: Option<Input>) -> Coerced
+    ensures { coerced_seen result ≡ or_refused (option_map input_of input) }
+{
+    match input {
+        Some(input) => Coerced::Present(input),
+        None => Coerced::Refused,
+    }
+}
+
+// What becomes of an argument for which nothing is given.
+fn default_value(alloc: Global, plan: &Plan<'_>, argument: &ArgDef) -> Result<Coerced, AllocError>
+    ensures { IfOk result (λ value. coerced_seen value ≡ default_value (plan_of plan.now) (argument_of argument.now).of_type (argument_of argument.now).default) }
+{
+    match &argument.default {
+        Some(literal) => {
+            let input = coerce(alloc, plan.schema(), &argument.of_type, literal)?;
+            Ok(or_refused(input))
+        }
+        None => {
+            if is_non_null(&argument.of_type) {
+                Ok(Coerced::Refused)
+            } else {
+                Ok(Coerced::Absent)
+            }
+        }
+    }
+}
+
+// What becomes of an argument that is given by a variable.
+fn by_variable(
+    alloc: Global,
+    plan: &Plan<'_>,
+    argument: &ArgDef,
+    name: &str,
+) -> Result<Coerced, AllocError>
+    ensures { IfOk result (λ value. coerced_seen value ≡ by_variable (plan_of plan.now) (argument_of argument.now) (value_in (plan_of plan.now).variables name.now)) }
+{
+    match plan.variable(name) {
+        Some(value) => {
+            let strict = is_non_null(&argument.of_type);
+            Ok(or_refused(value_of_variable(strict, value)?))
+        }
+        None => default_value(alloc, plan, argument),
+    }
+}
+
+// What becomes of an argument for which a literal is given.
+fn given_value(
+    alloc: Global,
+    plan: &Plan<'_>,
+    argument: &ArgDef,
+    literal: &Literal,
+) -> Result<Coerced, AllocError>
+    ensures { IfOk result (λ value. coerced_seen value ≡ argument_value (plan_of plan.now) (argument_of argument.now) (Some (literal_of literal.now))) }
+{
+    let ty = &argument.of_type;
+    match &literal.value {
+        Value::Variable(name) => by_variable(alloc, plan, argument, name.as_str()),
+        Value::Null => Ok(or_refused(literal_value(alloc, plan, ty, literal)?)),
+        Value::Int(_) => Ok(or_refused(literal_value(alloc, plan, ty, literal)?)),
+        Value::Float(_) => Ok(or_refused(literal_value(alloc, plan, ty, literal)?)),
+        Value::Text(_) => Ok(or_refused(literal_value(alloc, plan, ty, literal)?)),
+        Value::Boolean(_) => Ok(or_refused(literal_value(alloc, plan, ty, literal)?)),
+        Value::Enum(_) => Ok(or_refused(literal_value(alloc, plan, ty, literal)?)),
+        Value::List(_) => Ok(or_refused(literal_value(alloc, plan, ty, literal)?)),
+        Value::Object(_) => Ok(or_refused(literal_value(alloc, plan, ty, literal)?)),
+    }
+}
+
+fn argument_value(
+    alloc: Global,
+    plan: &Plan<'_>,
+    argument: &ArgDef,
+    given: &[Argument],
+) -> Result<Coerced, AllocError>
+    ensures { IfOk result (λ value. coerced_seen value ≡ argument_value (plan_of plan.now) (argument_of argument.now) (given_to (arguments_seen given.now) (argument_of argument.now).name.text)) }
+{
+    match given_to(given, argument.name.text.as_str()) {
+        Some(literal) => given_value(alloc, plan, argument, literal),
+        None => default_value(alloc, plan, argument),
+    }
+}
+
+fn coerced_arguments(
+    alloc: Global,
+    plan: &Plan<'_>,
+    given: &[Argument],
+    arguments: &[ArgDef],
+) -> Result<Args, ArgFault>
+    ensures ok { IfOk result (λ args. coerced_arguments (plan_of plan.now) (arguments_seen given.now) (arguments_defined arguments.now) ≡ all_values (values_of args)) }
+    ensures fault { IfErr result (λ fault. Refuses fault (coerced_arguments (plan_of plan.now) (arguments_seen given.now) (arguments_defined arguments.now))) }
+{
+    let mut args = Args {
+        pairs: Vec::new(alloc),
+    };
+    for argument in arguments {
+        match argument_value(alloc, plan, argument, given)? {
+            Coerced::Absent => {}
+            Coerced::Present(input) => {
+                let name = argument.name.text.clone()?;
+                args.pairs.push((name, input))?;
+            }
+            Coerced::Refused => {
+                return Err(ArgFault::NullArgument(argument.name.text.clone()?));
+            }
+        }
+    }
+    Ok(args)
+}
+
+/// The coerced arguments of a group, by the definition of its field in an object type (section 6.4.1). The group is one that
+/// `collect` gave for this plan and this type.
+///
+/// # Errors
+///
+/// `NullArgument` with the first argument, in order of definition, that has no value, or null, at a non-null type.
+/// `NoMemory` only where a growth was refused.
+pub fn arguments_of(
+    alloc: Global,
+    plan: &Plan<'_>,
+    ty: &str,
+    group: &Group<'_>,
+) -> Result<Args, ArgFault>
+    ensures ok { IfOk result (λ args. arguments_of (plan_of plan.now) ty.now (group_of group.now) ≡ all_values (values_of args)) }
+    ensures fault { IfErr result (λ fault. Refuses fault (arguments_of (plan_of plan.now) ty.now (group_of group.now))) }
+{
+    let none = Args {
+        pairs: Vec::new(alloc),
+    };
+    let Some(field) = group.fields.first() else {
+        return Ok(none);
+    };
+    let Some(definition) = plan.schema().field(ty, field.name.as_str()) else {
+        return Ok(none);
+    };
+    coerced_arguments(alloc, plan, &field.arguments, &definition.arguments)
+}

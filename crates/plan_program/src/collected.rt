@@ -1,0 +1,71 @@
+//! What is collected.
+
+ghost use Rattle.std.specs.Prelude.{◌≡◌, map};
+
+use crate::fields::key_of;
+use crate::group::Group;
+use gq_parser::Field;
+use indexmap::IndexSet;
+use std::alloc::{AllocError, Global};
+
+/// Groups, each found by its key, and the fragments that were entered.
+#[derive(Drop)]
+pub struct Collected<'p> {
+    groups: Vec<Group<'p>>,
+    // the keys of the groups, in the same order
+    keys: IndexSet<&'p str>,
+    // the names of the fragments
+    entered: IndexSet<&'p str>,
+    ghost same_keys: { map (λ k. k.now) keys.keys ≡ map (λ g. g.key.now) groups.items },
+}
+
+impl<'p> Collected<'p> {
+    ghost use Rattle.std.specs.Prelude.{◌≡◌, ◌++◌, ◌∷◌, [], not, OnOk, IfOk, if◌then◌else◌};
+    ghost use Rattle.plan_program.specs.Groups.{with_field, nothing_collected, has_entered};
+    ghost use Rattle.plan_program.specs.Seen.{field_seen, groups_of};
+    ghost use Rattle.plan_program.specs.Collecting.{collected_of};
+
+    pub fn new(alloc: Global) -> Collected<'p>
+        ensures { collected_of result ≡ nothing_collected }
+    {
+        Collected {
+            groups: Vec::new(alloc),
+            keys: IndexSet::new(alloc),
+            entered: IndexSet::new(alloc),
+        }
+    }
+
+    pub fn into_groups(self) -> Vec<Group<'p>>
+        ensures { groups_of result.items ≡ (collected_of self.entry).groups }
+    {
+        self.groups
+    }
+
+    /// Adds a field to the group of its key, or begins one.
+    pub fn add_field(&mut self, alloc: Global, field: &'p Field) -> Result<(), AllocError>
+        ensures { OnOk result (collected_of self.new ≡ record { groups = with_field (collected_of self.old).groups (field_seen field.now); entered = (collected_of self.old).entered }) }
+    {
+        let key = key_of(field);
+        match self.keys.get_index_of(key) {
+            Some(place) => {
+                self.groups[place].fields.push(field)?;
+            }
+            None => {
+                let mut fields = Vec::with_capacity(alloc, 1)?;
+                fields.push(field)?;
+                self.groups.reserve(1)?;
+                self.keys.insert(key)?;
+                self.groups.push(Group { key, fields })?;
+            }
+        }
+        Ok(())
+    }
+
+    /// Notes that a fragment is entered; false where it was before.
+    pub fn enter(&mut self, name: &'p str) -> Result<bool, AllocError>
+        ensures told { IfOk result (λ entered. entered ≡ not (has_entered (collected_of self.old) name.now)) }
+        ensures after { IfOk result (λ entered. collected_of self.new ≡ (if entered then record { groups = (collected_of self.old).groups; entered = (collected_of self.old).entered ++ name.now ∷ [] } else collected_of self.old)) }
+    {
+        Ok(self.entered.insert(name)?)
+    }
+}

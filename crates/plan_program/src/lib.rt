@@ -1,0 +1,26 @@
+//! What a plan asks, as a program: the fields that are collected of an object type, their arguments, and the loads of their
+//! bindings (sections 6.3 and 6.4.1 of the GraphQL specification of October 2021).
+//!
+//! `specs/PlanPrograms.antt` gives each plan its program in the words of `execution`. The layer above executes it, and may
+//! rely on this: [`collect`], [`arguments_of`] and [`prepare`] give exactly the parts of that definition.
+#![tactic(auto)]
+
+mod arguments;
+mod chosen;
+mod collected;
+mod collection;
+mod fields;
+mod group;
+mod no_memory;
+mod preparation;
+mod prepared;
+mod texts;
+mod type_refs;
+
+pub use arguments::{ArgFault, Args, arguments_of};
+pub use collection::{collect, collect_below};
+pub use group::Group;
+pub use no_memory::NoMemory;
+pub use preparation::prepare;
+pub use prepared::{Asked, Below, KeyFrom, Own, Prepared};
+pub use texts::{bad_value_message, no_column_message, no_type_message, not_type_message};

@@ -1,0 +1,298 @@
+//! Preparation of groups: all that is the same for each row.
+
+ghost use Rattle.std.specs.Prelude.{◌≡◌, IfOk, Some, false, map};
+ghost use Rattle.std.specs.Option.{option_map, option_copied};
+ghost use Rattle.std.specs.Arc.{arc_value};
+ghost use Rattle.gq_parser.specs.Tree.{type_of};
+ghost use Rattle.schema_syntax.specs.Tree.{field_of};
+ghost use Rattle.gq_schema.specs.Inputs.{input_of, inputs_of};
+ghost use Rattle.gq_schema.specs.BindingsSeen.{key_of as source_of, binding_of};
+ghost use Rattle.gq_schema.specs.BindingsTree.{binding_in};
+ghost use Rattle.load_memory.specs.Keys.{key_of};
+ghost use Rattle.gq_check.specs.Plans.{plan_of};
+ghost use Rattle.plan_program.specs.Arguments.{arguments_of};
+ghost use Rattle.plan_program.specs.Asked.{key_of_input, input_named, key_if, key_from, keys_of, each_asked, bound_asked, below_of, with_arguments, spot_of, known, prepared, all_prepared};
+ghost use Rattle.execution.specs.Program.{Null};
+ghost use Rattle.plan_program.specs.Seen.{field_seen, fields_seen, group_of, groups_of, values_of};
+ghost use Rattle.plan_program.specs.Prepared.{key_from_seen, keys_seen, below_seen, asked_seen, prepared_seen, all_prepared_seen};
+
+use crate::arguments::{ArgFault, Args, arguments_of};
+use crate::group::Group;
+use crate::no_memory::NoMemory;
+use crate::prepared::{Asked, Below, KeyFrom, Own, Prepared};
+use crate::texts::null_argument_message;
+use crate::type_refs::{core_name, is_item_non_null, is_non_null};
+use gq_check::Plan;
+use gq_lexer::Place;
+use gq_parser::{Field, TypeRef};
+use gq_schema::{Binding, FieldDef, Input, KeySource};
+use load_memory::Key;
+use std::alloc::{AllocError, Global};
+use std::sync::Arc;
+
+// The key that an argument's value is.
+fn key_of_input(alloc: Global, input: &Input) -> Result<Option<Key>, AllocError>
+    ensures { IfOk result (λ key. option_map key_of key ≡ key_of_input (input_of input.now)) }
+{
+    match input {
+        Input::Text(text) => Ok(Some(Key::Text(text.clone()?))),
+        Input::Int(number) => Ok(Some(Key::Text(number.to_string(alloc)?))),
+        Input::Null => Ok(None),
+        Input::Bool(_) => Ok(None),
+        Input::List(_) => Ok(None),
+    }
+}
+
+// The value of the argument of this name.
+fn input_named<'a>(args: &'a Args, name: &str) -> Option<&'a Input>
+    ensures { option_map input_of (option_copied result) ≡ input_named name.now (values_of args.now) }
+{
+    for (own_name, input) in &args.pairs {
+        if own_name.as_str() == name {
+            return Some(input);
+        }
+    }
+    None
+}
+
+fn key_of_argument<'p>(
+    alloc: Global,
+    args: &Args,
+    name: &str,
+) -> Result<Option<KeyFrom<'p>>, AllocError>
+    ensures { IfOk result (λ key. option_map key_from_seen key ≡ key_if (input_named name.now (values_of args.now))) }
+{
+    match input_named(args, name) {
+        Some(input) => match key_of_input(alloc, input)? {
+            Some(key) => Ok(Some(KeyFrom::Fixed(key))),
+            None => Ok(None),
+        },
+        None => Ok(None),
+    }
+}
+
+// Where a key comes from; nothing where it is null.
+fn key_from<'p>(
+    alloc: Global,
+    args: &Args,
+    source: &'p KeySource,
+) -> Result<Option<KeyFrom<'p>>, AllocError>
+    ensures { IfOk result (λ key. option_map key_from_seen key ≡ key_from (values_of args.now) (source_of source.now)) }
+{
+    match source {
+        KeySource::Argument(name) => key_of_argument(alloc, args, name.as_str()),
+        KeySource::Column(column) => Ok(Some(KeyFrom::Column(column.as_str()))),
+        KeySource::All => Ok(Some(KeyFrom::Fixed(Key::All))),
+    }
+}
+
+fn keys_of(alloc: Global, inputs: &Vec<Input>) -> Result<Vec<Option<Key>>, AllocError>
+    ensures { IfOk result (λ keys. keys_seen keys.items ≡ keys_of (inputs_of (map input_of inputs.now.items))) }
+{
+    let mut keys = Vec::with_capacity(alloc, inputs.len())?;
+    for input in inputs {
+        keys.push(key_of_input(alloc, input)?)?;
+    }
+    Ok(keys)
+}
+
+// `each`.
+fn each_asked<'p>(
+    alloc: Global,
+    loader: usize,
+    below: Arc<Below<'p>>,
+    input: Option<&Input>,
+) -> Result<Asked<'p>, AllocError>
+    ensures { IfOk result (λ asked. asked_seen asked ≡ each_asked loader (below_seen (arc_value below.entry)) (option_map input_of (option_copied input.entry))) }
+{
+    match input {
+        Some(Input::List(inputs)) => {
+            let keys = keys_of(alloc, inputs)?;
+            Ok(Asked::Each {
+                loader,
+                keys,
+                below,
+            })
+        }
+        Some(Input::Null) => Ok(Asked::Known(Own::Null)),
+        Some(Input::Int(_)) => Ok(Asked::Known(Own::Null)),
+        Some(Input::Text(_)) => Ok(Asked::Known(Own::Null)),
+        Some(Input::Bool(_)) => Ok(Asked::Known(Own::Null)),
+        None => Ok(Asked::Known(Own::Null)),
+    }
+}
+
+// What a binding asks for.
+fn bound_asked<'p>(
+    alloc: Global,
+    plan: &Plan<'_>,
+    ty: &'p TypeRef,
+    below: Arc<Below<'p>>,
+    args: &Args,
+    binding: &'p Binding,
+) -> Result<Asked<'p>, AllocError>
+    ensures { IfOk result (λ asked. asked_seen asked ≡ bound_asked (plan_of plan.now) (type_of ty.now) (below_seen (arc_value below.entry)) (values_of args.now) (Some (binding_of binding.now))) }
+{
+    match binding {
+        Binding::Column(column) => Ok(Asked::Cell {
+            column: column.as_str(),
+            ty,
+        }),
+        Binding::One { loader, key } => {
+            if *loader >= plan.loaders() {
+                return Ok(Asked::Known(Own::Null));
+            }
+            match key_from(alloc, args, key)? {
+                Some(key) => Ok(Asked::First {
+                    loader: *loader,
+                    key,
+                    below,
+                }),
+                None => Ok(Asked::Known(Own::Null)),
+            }
+        }
+        Binding::Many { loader, key } => {
+            if *loader >= plan.loaders() {
+                return Ok(Asked::Known(Own::Null));
+            }
+            match key_from(alloc, args, key)? {
+                Some(key) => Ok(Asked::All {
+                    loader: *loader,
+                    key,
+                    below,
+                }),
+                None => Ok(Asked::Known(Own::Null)),
+            }
+        }
+        Binding::Each { loader, argument } => {
+            if *loader >= plan.loaders() {
+                return Ok(Asked::Known(Own::Null));
+            }
+            each_asked(alloc, *loader, below, input_named(args, argument.as_str()))
+        }
+        Binding::Via {
+            loader,
+            key,
+            second,
+            column,
+        } => {
+            if *loader >= plan.loaders() || *second >= plan.loaders() {
+                return Ok(Asked::Known(Own::Null));
+            }
+            match key_from(alloc, args, key)? {
+                Some(key) => Ok(Asked::Joined {
+                    loader: *loader,
+                    key,
+                    second: *second,
+                    column: column.as_str(),
+                    below,
+                }),
+                None => Ok(Asked::Known(Own::Null)),
+            }
+        }
+    }
+}
+
+fn below_of<'p>(ty: &'p TypeRef, place: Place, fields: Vec<&'p Field>) -> Below<'p>
+    ensures { below_seen result ≡ below_of (type_of ty.now) place (fields_seen fields.entry.items) }
+{
+    Below {
+        type_name: core_name(ty),
+        item_non_null: is_item_non_null(ty),
+        place,
+        fields,
+    }
+}
+
+// What a group asks for by the definition of its field.
+fn defined_asked<'p>(
+    alloc: Global,
+    plan: &'p Plan<'_>,
+    ty: &str,
+    definition: &'p FieldDef,
+    first: &'p Field,
+    group: Group<'p>,
+) -> Result<Asked<'p>, AllocError>
+    ensures { IfOk result (λ asked. asked_seen asked ≡ with_arguments (arguments_of (plan_of plan.now) ty.now (group_of group.entry)) (λ values. bound_asked (plan_of plan.now) (field_of definition.now).of_type (below_of (field_of definition.now).of_type (field_seen first.now).place (group_of group.entry).fields) values (binding_in (plan_of plan.now).bindings.fields ty.now (field_seen first.now).name))) }
+{
+    let args = match arguments_of(alloc, plan, ty, &group) {
+        Ok(args) => args,
+        Err(ArgFault::NullArgument(name)) => {
+            let message = null_argument_message(alloc, name.as_str())?;
+            return Ok(Asked::Known(Own::Fault(message)));
+        }
+        Err(ArgFault::NoMemory) => return Err(AllocError),
+    };
+    let Some(binding) = plan.bindings().binding_of(ty, first.name.as_str()) else {
+        return Ok(Asked::Known(Own::Null));
+    };
+    let below = below_of(&definition.of_type, first.place, group.fields);
+    let below = Arc::new(alloc, below)?;
+    bound_asked(alloc, plan, &definition.of_type, below, &args, binding)
+}
+
+// A position that is null.
+fn null_at<'p>(key: &'p str, place: Place) -> Prepared<'p>
+    ensures { prepared_seen result ≡ record { spot = spot_of key.now place false; asked = known Null } }
+{
+    Prepared {
+        key,
+        place,
+        non_null: false,
+        asked: Asked::Known(Own::Null),
+    }
+}
+
+fn prepare_one<'p>(
+    alloc: Global,
+    plan: &'p Plan<'_>,
+    ty: &str,
+    group: Group<'p>,
+) -> Result<Prepared<'p>, AllocError>
+    ensures { IfOk result (λ done. prepared_seen done ≡ prepared (plan_of plan.now) ty.now (group_of group.entry)) }
+{
+    let key = group.key;
+    let Some(first) = group.fields.first() else {
+        return Ok(null_at(key, Place { line: 1, column: 1 }));
+    };
+    let first: &'p Field = *first;
+    if first.name.as_str() == "__typename" {
+        let name = String::from_str(alloc, ty)?;
+        return Ok(Prepared {
+            key,
+            place: first.place,
+            non_null: true,
+            asked: Asked::Known(Own::Text(name)),
+        });
+    }
+    let Some(definition) = plan.schema().field(ty, first.name.as_str()) else {
+        return Ok(null_at(key, first.place));
+    };
+    let asked = defined_asked(alloc, plan, ty, definition, first, group)?;
+    Ok(Prepared {
+        key,
+        place: first.place,
+        non_null: is_non_null(&definition.of_type),
+        asked,
+    })
+}
+
+/// What each of the groups of an object type asks for.
+///
+/// # Errors
+///
+/// Only where a growth was refused.
+pub fn prepare<'p>(
+    alloc: Global,
+    plan: &'p Plan<'_>,
+    ty: &str,
+    groups: Vec<Group<'p>>,
+) -> Result<Vec<Prepared<'p>>, NoMemory>
+    ensures { IfOk result (λ all. all_prepared_seen all.items ≡ all_prepared (plan_of plan.now) ty.now (groups_of groups.entry.items)) }
+{
+    let mut all = Vec::with_capacity(alloc, groups.len())?;
+    for group in groups {
+        all.push(prepare_one(alloc, plan, ty, group)?)?;
+    }
+    Ok(all)
+}

@@ -1,0 +1,86 @@
+//! What a group of fields asks for, whatever the row is.
+
+use gq_lexer::Place;
+use gq_parser::{Field, TypeRef};
+use load_memory::Key;
+use std::sync::Arc;
+
+/// The own value of a position with nothing below it.
+#[derive(Debug, Drop)]
+pub enum Own {
+    /// A text, an ID, or the name of an enum's value.
+    Text(String),
+    Int(i32),
+    Bool(bool),
+    Null,
+    /// Why there is no value.
+    Fault(String),
+}
+
+/// Where the key of a load comes from.
+#[derive(Drop)]
+pub enum KeyFrom<'p> {
+    Fixed(Key),
+    /// A column of the row.
+    Column(&'p str),
+}
+
+/// What the objects below a field are made from.
+#[derive(Drop)]
+pub struct Below<'p> {
+    /// An object type, an interface or a union.
+    pub type_name: &'p str,
+    /// Whether the items of the field's list are of non-null type.
+    pub item_non_null: bool,
+    /// Where errors of the items stand: at the first field of the group.
+    pub place: Place,
+    /// The fields of the group, which select of the object.
+    pub fields: Vec<&'p Field>,
+}
+
+/// What a group asks for.
+#[derive(Drop)]
+pub enum Asked<'p> {
+    /// The same for each row.
+    Known(Own),
+    /// A column's field, at a type.
+    Cell {
+        column: &'p str,
+        ty: &'p TypeRef,
+    },
+    /// The key's first row.
+    First {
+        loader: usize,
+        key: KeyFrom<'p>,
+        below: Arc<Below<'p>>,
+    },
+    /// All rows of the key.
+    All {
+        loader: usize,
+        key: KeyFrom<'p>,
+        below: Arc<Below<'p>>,
+    },
+    /// For each key its first row; no key is null.
+    Each {
+        loader: usize,
+        keys: Vec<Option<Key>>,
+        below: Arc<Below<'p>>,
+    },
+    /// The key's rows, and for each the second loader's first row of the key in a column.
+    Joined {
+        loader: usize,
+        key: KeyFrom<'p>,
+        second: usize,
+        column: &'p str,
+        below: Arc<Below<'p>>,
+    },
+}
+
+/// The position of a group in its object, and what it asks for.
+#[derive(Drop)]
+pub struct Prepared<'p> {
+    pub key: &'p str,
+    pub place: Place,
+    pub non_null: bool,
+    pub asked: Asked<'p>,
+}

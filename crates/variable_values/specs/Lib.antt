@@ -1,0 +1,4 @@
+pub mod Variables
+pub mod JsonCoercion
+pub mod Values
+pub mod Seen
