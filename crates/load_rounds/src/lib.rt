@@ -10,6 +10,7 @@ pub mod answer;
 pub mod execute;
 pub mod fault;
 mod keys;
+mod plan;
 mod round;
 pub mod session;
 #[cfg(test)]
