@@ -48,7 +48,7 @@ count-other s rest l ne = rw (ne_eqb s.loader l ne) refl
 pub count-more : (l : ℕ) (xs : List Staged) (i n : ℕ) (s : Staged) → i < length xs → s ≡ get_or xs i s → n ≡ suc i → count_at l (take n xs) ≡ (if s.loader == l then suc (count_at l (take i xs)) else count_at l (take i xs))
 count-more l [] i n s lt at e = absurd (omega arith)
 count-more l (x ∷ xs) zero n s lt at e = rw (e, at) refl
-count-more l (x ∷ xs) (suc i) n s lt at e = rw e ( go (x.loader == l) (s.loader == l) (count-more l xs i (suc i) s (omega arith) at refl)) where
+count-more l (x ∷ xs) (suc i) n s lt at e = rw e (go (x.loader == l) (s.loader == l) (count-more l xs i (suc i) s (omega arith) at refl)) where
   go : (a b : Bool) → count_at l (take (suc i) xs) ≡ (if b then suc (count_at l (take i xs)) else count_at l (take i xs))
       → (if a then suc (count_at l (take (suc i) xs)) else count_at l (take (suc i) xs)) ≡ (if b then suc (if a then suc (count_at l (take i xs)) else count_at l (take i xs)) else (if a then suc (count_at l (take i xs)) else count_at l (take i xs)))
   go true true e = ap suc e

@@ -16,7 +16,7 @@ use std::alloc::Global;
 pub(crate) fn stage(pairs: &mut Vec<Staged>, mode: KeyMode, reply: &Reply) -> Result<(), NoMemory>
     ensures { OnOk result (map staged_of pairs.new.items ≡ map staged_of pairs.old.items
         ++ reply_pairs mode reply.now.loader (map key_of reply.now.keys.items)
-          (map outcome_of reply.now.outcomes.items)) }
+        (map outcome_of reply.now.outcomes.items)) }
 {
     let alloc = *pairs.allocator();
     let mut outcomes = reply.outcomes.iter();
@@ -46,7 +46,11 @@ pub(crate) fn has_failed(pairs: &[Staged]) -> bool
 }
 
 /// How many of the pairs are of each of so many loaders.
-pub(crate) fn counts_of(alloc: Global, pairs: &[Staged], loaders: usize) -> Result<Vec<usize>, NoMemory>
+pub(crate) fn counts_of(
+    alloc: Global,
+    pairs: &[Staged],
+    loaders: usize,
+) -> Result<Vec<usize>, NoMemory>
     requires { All (λ (s : Staged). s.loader < loaders) pairs.now }
     ensures lined_up { IfOk result (λ v. length v.items ≡ loaders) }
     ensures counts { IfOk result (λ v. (loader : ℕ) → loader < loaders

@@ -90,8 +90,8 @@ module _ {S : Type 0} (may : S → List KeyOf → AnswerOf → Type 0) where
       let grown : AreRounds (may_at may old.loaders) rules p M0 (is.log ++ r ∷ []) (after_round rules cur.memory r) = rounds-more (may_at may old.loaders) rules p M0 cur.memory is.log r is.made.rounds lacks told in
       let front-same : loads ≡ front (modes_of rules) p cur.memory = ap (λ ms. front ms p cur.memory) same in
       let after : new ≡ after_steps (after_step old Forgot) (asked_steps rules p M0 (is.log ++ r ∷ [])) =
-        ran.after ∙ ap (λ (s : StateOf S). after_step s (Asked loads r)) is.made.after ∙ ap (λ ls. after_step (after_steps (after_step old Forgot) (asked_steps rules p M0 is.log)) (Asked ls r)) front-same
-        ∙ sym (steps-more (may_at may old.loaders) rules p M0 cur.memory is.log r (after_step old Forgot) is.made.rounds) in
+      ran.after ∙ ap (λ (s : StateOf S). after_step s (Asked loads r)) is.made.after ∙ ap (λ ls. after_step (after_steps (after_step old Forgot) (asked_steps rules p M0 is.log)) (Asked ls r)) front-same
+      ∙ sym (steps-more (may_at may old.loaders) rules p M0 cur.memory is.log r (after_step old Forgot) is.made.rounds) in
       record {
         log = is.log ++ r ∷ [];
         made = record { rounds = rw memory grown; after = after };

@@ -23,7 +23,12 @@ pub trait Execute {
     ghost loaders: { Self → ℕ };
 
     /// Executes it over the memory. Where something is missing, the front is added to the wants.
-    fn execute(&self, alloc: Global, memory: &Memory, wants: &mut Wants) -> Result<Poll<String>, NoMemory>
+    fn execute(
+        &self,
+        alloc: Global,
+        memory: &Memory,
+        wants: &mut Wants,
+    ) -> Result<Poll<String>, NoMemory>
         requires { CanExecute (loaders self.now) memory.now wants.old }
         ensures { IfOk result (IsExecuted (text_of self.now) wants.old wants.new (program self.now) memory.now) };
 

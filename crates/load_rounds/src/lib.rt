@@ -16,7 +16,6 @@ pub mod session;
 #[cfg(test)]
 mod tests;
 
-
 pub use answer::Answer;
 pub use execute::Execute;
 pub use fault::SessionFault;

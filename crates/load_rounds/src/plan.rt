@@ -22,7 +22,12 @@ impl<'a> Execute for Plan<'a> {
 
     ghost within = { λ plan. plan-loads (plan_of plan) };
 
-    fn execute(&self, alloc: Global, memory: &Memory, wants: &mut Wants) -> Result<Poll<String>, NoMemory> {
+    fn execute(
+        &self,
+        alloc: Global,
+        memory: &Memory,
+        wants: &mut Wants,
+    ) -> Result<Poll<String>, NoMemory> {
         let Ok(polled) = evaluate(alloc, self, memory, wants) else {
             return Err(NoMemory);
         };

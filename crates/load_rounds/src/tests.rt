@@ -70,7 +70,11 @@ fn keys(alloc: Global, texts: &[&str]) -> Result<Vec<Key>, AllocError> {
 }
 
 /// Whether the log of the first loader has exactly these entries, all stored.
-fn has_asked(alloc: Global, s: &Session<Users>, want: &[(u32, &[&str])]) -> Result<bool, AllocError> {
+fn has_asked(
+    alloc: Global,
+    s: &Session<Users>,
+    want: &[(u32, &[&str])],
+) -> Result<bool, AllocError> {
     let Some(log) = s.logs(0) else {
         return Ok(false);
     };
@@ -110,12 +114,27 @@ fn has_no_loader_past_the_last(rt: HostRuntime) -> Result<(), Fail> {
     assert_eq!(rt; s.loaders().len(), 1);
     assert!(rt; s.logs(1).is_none());
     assert!(rt; matches!(s.clear_all(6), Err(SessionFault::NoSuchLoader)));
-    assert!(rt; matches!(s.load(6, text(alloc, "1")?), Err(SessionFault::NoSuchLoader)));
+    assert!(rt;
+        matches!(
+            s.load(6, text(alloc, "1")?),
+            Err(SessionFault::NoSuchLoader)
+        )
+    );
     assert!(rt; matches!(s.load_many(1, &[]), Err(SessionFault::NoSuchLoader)));
     assert!(rt; matches!(s.clear(1, &one), Err(SessionFault::NoSuchLoader)));
-    assert!(rt; matches!(s.prime(1, &one, named(alloc, "Zed")?), Err(SessionFault::NoSuchLoader)));
+    assert!(rt;
+        matches!(
+            s.prime(1, &one, named(alloc, "Zed")?),
+            Err(SessionFault::NoSuchLoader)
+        )
+    );
     assert_eq!(rt;
-        format!(in alloc; "{}, {}", SessionFault::NoSuchLoader, SessionFault::NoMemory)?.as_str(),
+        format!(in alloc;
+            "{}, {}",
+            SessionFault::NoSuchLoader,
+            SessionFault::NoMemory
+        )?
+        .as_str(),
         "no such loader, out of memory"
     );
     Ok(())

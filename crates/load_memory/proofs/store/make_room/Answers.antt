@@ -27,9 +27,9 @@ returns-in_err-reserve-clause-count c =
 
 room-next : (ps : _) (counts : _) (i : ℕ) (x : PartOf) → i < length ps → ((k : ℕ) → k < i → slice_index counts k ≤ room_at ps k) → slice_index counts i ≤ room_at (slice_set ps i x) i → (k : ℕ) → k < i + 1 → slice_index counts k ≤ room_at (slice_set ps i x) k
 room-next ps counts i x lt below here k le = elim (cases_eq k i) [
-    | inl e ↦ rw e here
-    | inr ne ↦ rw (room-other ps i k x ne) (below k (omega arith))
-  ]
+  | inl e ↦ rw e here
+  | inr ne ↦ rw (room-other ps i k x ne) (below k (omega arith))
+]
 
 pub loop-loader-preserved : goal.loop-loader-preserved
 loop-loader-preserved c =

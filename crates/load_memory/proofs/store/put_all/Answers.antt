@@ -76,4 +76,3 @@ loop-pair-preserved c =
       count = omega (arith, more, was.count);
       most = omega (arith, was.most, ap length is);
     }
-

@@ -47,7 +47,7 @@ returns-in_err-append-clause-lost g c =
       | else-not-is_empty w ↦ inr (none-left more (size ∙ eqb-true (vec_len c.in_ok-more.more) 0 (sym c.is_empty.ensures ∙ w.if-not-is_empty.false)), w.rounds-is)
     ] in
     let grown = enters-cut c.args.round i keys c.args.loaders.now.items c.loop-loader.loaders.items c.args.rounds.now c.loop-loader.rounds c.if-not-is_empty.rounds c.loop-loader.invariant.entered c.index_mut.result.now c.cut.new.self lt c.index_mut.ensures.value
-      (map key_of c.keys.result.now) c.keys.ensures c.in_ok-more.ensures.entered more c.in_ok-more.ensures.orders either c.requires.next in
+    (map key_of c.keys.result.now) c.keys.ensures c.in_ok-more.ensures.entered more c.in_ok-more.ensures.orders either c.requires.next in
     on-err c.from_residual-in_err-append.result (i + 1, grown)
 
 pub loop-loader-preserved : goal.loop-loader-preserved
@@ -62,7 +62,7 @@ loop-loader-preserved g c =
       | else-not-is_empty w ↦ inr (none-left more (size ∙ eqb-true (vec_len c.in_ok-more.more) 0 (sym c.is_empty.ensures ∙ w.if-not-is_empty.false)), w.rounds-is)
     ] in
     let grown = enters-cut c.args.round i keys c.args.loaders.now.items c.loop-loader.loaders.items c.args.rounds.now c.loop-loader.rounds c.if-not-is_empty.rounds c.loop-loader.invariant.entered c.index_mut.result.now c.cut.new.self lt c.index_mut.ensures.value
-      (map key_of c.keys.result.now) c.keys.ensures c.in_ok-more.ensures.entered more c.in_ok-more.ensures.orders either c.requires.next in
+    (map key_of c.keys.result.now) c.keys.ensures c.in_ok-more.ensures.entered more c.in_ok-more.ensures.orders either c.requires.next in
     let old = c.args.loaders.now.items in
     let d = c.index_mut.result.now in
     let next = more-orders c.args.round i keys old c.loop-loader.loaders.items c.args.rounds.now c.loop-loader.rounds c.loop-loader.invariant.entered d c.cut.new.self lt c.index_mut.ensures.value (rw c.keys.ensures at c.in_ok-more.ensures.entered) in

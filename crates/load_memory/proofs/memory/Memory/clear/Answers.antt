@@ -82,4 +82,3 @@ returns-else-removed-clause-pairs c = λ l q.
     let d : PartOf = c.index_mut.result.now in
     let at = c.index_mut.ensures.value in
     rw (← c.self.view_is) (look-taken parts i x d (cache_of c.args.key.now) lt at c.take_out-removed.ensures.pairs l q)
-

@@ -10,9 +10,9 @@ use Rattle.load_memory.proofs.memory.Memory.store.Goals as goal
 
 room-for : (parts : _) (pairs : _) (counts : _) (n : ℕ) → ((l : ℕ) → l < n → slice_index counts l ≡ count_at l pairs) → ((l : ℕ) → l < n → slice_index counts l ≤ room_at parts l) → All (λ (s : Staged). s.loader < n) pairs → HaveRoom parts pairs
 room-for parts pairs counts n is room below l = elim (cases_lt l n) [
-    | inl lt ↦ omega (arith, is l lt, room l lt)
-    | inr past ↦ omega (arith, count-past n l pairs below past)
-  ]
+  | inl lt ↦ omega (arith, is l lt, room l lt)
+  | inr past ↦ omega (arith, count-past n l pairs below past)
+]
 
 pub put_all-requires-clause-room : goal.put_all-requires-clause-room
 put_all-requires-clause-room c =

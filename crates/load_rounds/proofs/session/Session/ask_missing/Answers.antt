@@ -75,8 +75,8 @@ returns-clause-ran g c =
     let lt : loader < length c.in_ok-wants.wants = omega (arith, below, size, ap length c.self.invariant.modes, modes-size L) in
     let wanted : AreWanted c.in_ok-wants.wants loads = rw (← c.self.view_is) (wants-front (modes_of (map rule_of L)) M.modes loader keys (look M.pairs) c.in_ok-wants.wants c.self.invariant.modes c.in_ok-wants.ensures) in
     let some : loads ≢ [] = λ e.
-      let none : map key_of c.keys.result.now ≡ [] = c.keys.ensures ∙ wanted loader lt ∙ ap (keys_for loader) e in
-      eqb-false (length c.keys.result.now) 0 (sym c.is_empty.ensures ∙ c.if-is_empty.false) (sym (length-map c.keys.result.now key_of) ∙ ap length none) in
+    let none : map key_of c.keys.result.now ≡ [] = c.keys.ensures ∙ wanted loader lt ∙ ap (keys_for loader) e in
+    eqb-false (length c.keys.result.now) 0 (sym c.is_empty.ensures ∙ c.if-is_empty.false) (sym (length-map c.keys.result.now key_of) ∙ ap length none) in
     on_ok_weaker c.ask.result (λ h. asks-some g.S.Asks.may_tell (state_of s) (state_of c.ask.new.self) loads some h) (c.ask.ensures.ran loads wanted)
 
 pub returns-clause-lost : goal.returns-clause-lost
