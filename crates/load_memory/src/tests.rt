@@ -1,3 +1,5 @@
+ghost use Rattle.std.specs.Prelude.{◌≡◌};
+
 use super::*;
 use std::alloc::{AllocError, Global};
 use std::test::Fail;
@@ -161,6 +163,19 @@ fn two_loaders(alloc: Global) -> Result<Memory, Fail> {
     Ok(Memory::new(alloc, modes.to_vec(alloc)?)?)
 }
 
+/// Keeps replies, if there is a loader for each.
+fn keep_all(memory: &mut Memory, replies: &[Reply]) -> Result<bool, NoMemory>
+    ensures { memory.new.modes ≡ memory.old.modes }
+{
+    for reply in replies {
+        if reply.loader >= memory.modes().len() {
+            return Ok(false);
+        }
+    }
+    memory.keep(replies)?;
+    Ok(true)
+}
+
 #[test]
 fn keeps_and_clears(rt: HostRuntime) -> Result<(), Fail> {
     let alloc = rt.alloc();
@@ -171,7 +186,7 @@ fn keeps_and_clears(rt: HostRuntime) -> Result<(), Fail> {
         reply(alloc, 1, ["a", "A"], false)?,
         reply(alloc, 0, ["b", "a"], true)?,
     ];
-    memory.keep(&replies)?;
+    assert!(rt; keep_all(&mut memory, &replies)?);
     assert_eq!(rt; memory.len(), 4);
     assert!(rt; is_known(alloc, &memory, 0, "B")?);
     memory.drop_failed();
