@@ -1,23 +1,20 @@
 -- What a memory says of a key after one of its parts is changed, and which of its pairs are of batches that failed.
-use Rattle.std.proofs.Common.{◌≡◌, ℕ, zero, suc, ◌<◌, Bool, true, false, List, [], ◌∷◌, ◌++◌, map, length, get_or, Option, Some, None, refl, ap, ◌∙◌, sym, arith}
+use Rattle.std.proofs.Common.{◌≡◌, ℕ, zero, suc, ◌<◌, Bool, true, false, List, [], ◌∷◌, length, get_or, Option, Some, None, refl, ap, ◌∙◌, sym, arith}
 use Rattle.std.proofs.lemmas.Bool.{eqb-true, eqb-false}
-use Rattle.std.proofs.lemmas.List.{length-map}
-use Rattle.std.specs.Prelude.{◌==◌, ◌&&◌, not, is_some, is_none, nat_lt, slice_index, ◌≤◌, ◌+◌, count_by, option_map, if◌then◌else◌, slice_set, filter}
+use Rattle.std.specs.Prelude.{◌==◌, ◌&&◌, not, is_some, option_map, if◌then◌else◌, slice_set, filter}
 use Rattle.std.specs.Option.{option_or}
 use Rattle.std.specs.List.{IsDistinct, AllByRecursion}
-use Rattle.std.specs.HashMap.{spare}
 use Rattle.std.specs.Map.{keys_of, lookup}
 use Rattle.load_memory.specs.Keys.{KeyOf, cache_of, same_key}
 use Rattle.load_memory.specs.Outcomes.{ItemOf, OutcomeOf, known, batch_fault, outcome_of, is_failed}
 use Rattle.load_memory.specs.Pairs.{PairOf, is_at, look, primed, IsSameMap, IsWithout, unless_failed, IsUnfailed, IsWith}
-use Rattle.load_memory.specs.Parts.{PartOf, EntriesOf, pairs_from, look_in, room_at, count_at, HaveRoom, staged_of, AreUnfailed}
+use Rattle.load_memory.specs.Parts.{PartOf, EntriesOf, pairs_from, look_in, AreUnfailed}
 use Rattle.load_memory.specs.declared.key.CacheKey.{CacheKey}
 use Rattle.load_memory.specs.declared.outcome.Outcome.{Outcome}
-use Rattle.load_memory.specs.declared.part.Staged.{Staged}
 use Rattle.load_memory.specs.declared.outcome.Outcome.TheVariants as outcome
 use Rattle.load_memory.specs.contracts.key.CacheKeyPartialEq.TheImpl as cache_eq
-use Rattle.load_memory.proofs.Looks.{same_key-is, same_key-refl, nothing, primed-absent}
-use Rattle.load_memory.proofs.PartLaws.{cache-eq, lookup-cache, at_part, look-part, at_part-read, at_part-same, at_part-other, pairs-put}
+use Rattle.load_memory.proofs.Looks.{same_key-is, nothing, primed-absent}
+use Rattle.load_memory.proofs.PartLaws.{cache-eq, lookup-cache, at_part, look-part, at_part-read, at_part-same, at_part-other}
 
 -- what the part of a loader says
 pub look-one : (ps : List PartOf) (i : ℕ) (d : PartOf) (q : KeyOf) → i < length ps → d ≡ get_or ps i d → look (pairs_from 0 ps) i q ≡ look_in d.entries q

@@ -1,17 +1,17 @@
 -- Storing many pairs: the room that they need, and what the parts say after each of them.
 use Rattle.std.proofs.Common.{◌≡◌, ℕ, zero, suc, ◌<◌, ◌≤◌, ◌+◌, Bool, true, false, List, [], ◌∷◌, ◌++◌, map, take, length, get_or, Option, Some, None, refl, ap, ◌∙◌, sym, arith}
 use Rattle.std.proofs.lemmas.Bool.{eqb-true, eqb-false, eq-eqb, ne_eqb}
-use Rattle.std.proofs.lemmas.List.{length-map, length-set, map-append}
+use Rattle.std.proofs.lemmas.List.{map-append}
 use Rattle.std.proofs.lemmas.List.Elements.{All-head, All-tail}
 use Rattle.std.proofs.lemmas.Map.Entries.{place_from_lookup}
-use Rattle.std.specs.Prelude.{◌==◌, ◌&&◌, is_some, option_map, if◌then◌else◌, slice_set, All}
+use Rattle.std.specs.Prelude.{◌==◌, ◌&&◌, option_map, if◌then◌else◌, slice_set, All}
 use Rattle.std.specs.Option.{option_or}
 use Rattle.std.specs.HashMap.{spare}
 use Rattle.std.specs.Map.{lookup}
 use Rattle.load_memory.specs.Keys.{KeyOf, cache_of, same_key}
 use Rattle.load_memory.specs.Outcomes.{OutcomeOf, outcome_of, is_failed}
-use Rattle.load_memory.specs.Pairs.{PairOf, look, IsSameMap, unless_failed}
-use Rattle.load_memory.specs.Parts.{PartOf, EntriesOf, pairs_from, look_in, room_at, count_at, HaveRoom, staged_of, HaveOwnKeys, AreUnfailed}
+use Rattle.load_memory.specs.Pairs.{look, IsSameMap, unless_failed}
+use Rattle.load_memory.specs.Parts.{PartOf, EntriesOf, pairs_from, look_in, room_at, count_at, HaveRoom, staged_of, AreUnfailed}
 use Rattle.load_memory.specs.declared.key.CacheKey.{CacheKey}
 use Rattle.load_memory.specs.declared.outcome.Outcome.{Outcome}
 use Rattle.load_memory.specs.declared.part.Staged.{Staged}

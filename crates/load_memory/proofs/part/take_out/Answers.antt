@@ -1,7 +1,6 @@
-use Rattle.std.proofs.Common.{◌≡◌, None, ◌∙◌, sym, ap}
-use Rattle.std.specs.Prelude.{is_some, if◌then◌else◌}
-use Rattle.load_memory.specs.Keys.{cache_of, same_key}
-use Rattle.load_memory.specs.Parts.{look_in}
+use Rattle.std.proofs.Common.{None, ◌∙◌, sym, ap}
+use Rattle.std.specs.Prelude.{is_some}
+use Rattle.load_memory.specs.Keys.{cache_of}
 use Rattle.load_memory.proofs.Looks.{same_key-sym}
 use Rattle.load_memory.proofs.ChangeLaws.{look_in-told}
 use Rattle.load_memory.proofs.PartLaws.{look_in-put}

@@ -1,10 +1,9 @@
-use Rattle.std.proofs.Common.{◌≡◌, ◌<◌, ◌+◌, ℕ, length, ap, ◌∙◌, sym, arith, get_or, true, false, Bool}
+use Rattle.std.proofs.Common.{◌<◌, ◌+◌, ℕ, length, ◌∙◌, arith}
 use Rattle.std.proofs.lemmas.List.{length-set}
 use Rattle.std.proofs.lemmas.Bool.{cases_eq}
-use Rattle.std.proofs.lemmas.Bool.Decides.{nat_tests}
-use Rattle.std.specs.Prelude.{slice_set, slice_index, ◌≤◌, ◌⊎◌}
+use Rattle.std.specs.Prelude.{slice_set, slice_index, ◌≤◌}
 use Rattle.std.proofs.Common.{inl, inr}
-use Rattle.load_memory.specs.Parts.{PartOf, look_in, room_at}
+use Rattle.load_memory.specs.Parts.{PartOf, room_at}
 use Rattle.load_memory.proofs.PartLaws.{HaveOwnKeys-set}
 use Rattle.load_memory.proofs.StoreLaws.{look_in-reordered, look-held, counted-held, room-same, room-other}
 use Rattle.load_memory.proofs.store.make_room.Goals as goal

@@ -1,7 +1,7 @@
-use Rattle.std.proofs.Common.{◌≡◌, ◌<◌, ◌+◌, ℕ, ◌∷◌, length, ap, ◌∙◌, sym, arith}
+use Rattle.std.proofs.Common.{◌≡◌, ◌<◌, ℕ, ◌∷◌, length, ap, ◌∙◌, arith}
 use Rattle.std.proofs.lemmas.List.{length-set}
 use Rattle.std.proofs.lemmas.List.Elements.{All-head, All-tail}
-use Rattle.std.specs.Prelude.{All, slice_set}
+use Rattle.std.specs.Prelude.{All}
 use Rattle.load_memory.specs.Parts.{PartOf, HaveRoom}
 use Rattle.load_memory.specs.declared.part.Staged.{Staged}
 use Rattle.load_memory.proofs.PartLaws.{HaveOwnKeys-at, HaveOwnKeys-set}

@@ -1,11 +1,10 @@
-use Rattle.std.proofs.Common.{◌≡◌, ◌+◌, ◌-◌, ◌<◌, ◌≤◌, length, ap, ◌∙◌, sym, true, false, arith, refl, None}
+use Rattle.std.proofs.Common.{◌≡◌, ◌-◌, ◌<◌, length, ap, ◌∙◌, arith, refl, None}
 use Rattle.std.proofs.lemmas.List.{get_or_default}
-use Rattle.std.specs.Prelude.{slice_set, is_some}
-use Rattle.load_memory.specs.Keys.{cache_of}
-use Rattle.load_memory.specs.Pairs.{MemoryOf, PairOf, look, unless_failed}
+use Rattle.std.specs.Prelude.{slice_set}
+use Rattle.load_memory.specs.Pairs.{MemoryOf}
 use Rattle.load_memory.specs.Parts.{PartOf, pairs_from}
 use Rattle.load_memory.proofs.PartLaws.{part-within, AreParts-changed}
-use Rattle.load_memory.proofs.ChangeLaws.{look-one, look-taken, look-changed, AreUnfailed-without, AreUnfailed-same}
+use Rattle.load_memory.proofs.ChangeLaws.{look-changed, AreUnfailed-without}
 use Rattle.load_memory.proofs.memory.Memory.clear_all.Goals as goal
 
 pub overflow_sub-self : goal.overflow_sub-self

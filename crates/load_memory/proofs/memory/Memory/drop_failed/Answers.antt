@@ -1,9 +1,8 @@
-use Rattle.std.proofs.Common.{◌≡◌, ◌<◌, ℕ, Bool, true, false, length, ap, ◌∙◌, sym, arith, refl, None}
+use Rattle.std.proofs.Common.{◌≡◌, ◌<◌, ℕ, Bool, true, false, ap, ◌∙◌, sym, arith, refl, None}
 use Rattle.std.specs.Prelude.{nat_lt, if◌then◌else◌}
-use Rattle.std.proofs.lemmas.Bool.{ltb-false, lt-ltb}
+use Rattle.std.proofs.lemmas.Bool.{lt-ltb}
 use Rattle.load_memory.specs.Keys.{KeyOf}
-use Rattle.load_memory.specs.Pairs.{MemoryOf, PairOf, look, unless_failed, IsUnfailed}
-use Rattle.load_memory.specs.Parts.{pairs_from}
+use Rattle.load_memory.specs.Pairs.{MemoryOf, look, unless_failed, IsUnfailed}
 use Rattle.load_memory.proofs.ChangeLaws.{look-past, AreUnfailed-after}
 use Rattle.load_memory.proofs.memory.Memory.drop_failed.Goals as goal
 

@@ -1,10 +1,8 @@
-use Rattle.std.proofs.Common.{◌≡◌, ◌+◌, ◌-◌, ◌<◌, ◌≤◌, length, ap, ◌∙◌, sym, true, false, arith, refl, None}
-use Rattle.std.specs.Prelude.{slice_set, is_some}
-use Rattle.load_memory.specs.Keys.{cache_of}
-use Rattle.load_memory.specs.Pairs.{MemoryOf, PairOf, look, unless_failed}
-use Rattle.load_memory.specs.Parts.{PartOf, pairs_from}
+use Rattle.std.proofs.Common.{◌-◌, ◌<◌, length, ap, arith}
+use Rattle.load_memory.specs.Pairs.{MemoryOf, unless_failed}
+use Rattle.load_memory.specs.Parts.{PartOf}
 use Rattle.load_memory.proofs.PartLaws.{part-within, AreParts-changed}
-use Rattle.load_memory.proofs.ChangeLaws.{look-one, look-taken, look-changed, AreUnfailed-without, AreUnfailed-one}
+use Rattle.load_memory.proofs.ChangeLaws.{look-changed, AreUnfailed-one}
 use Rattle.load_memory.proofs.memory.Memory.drop_failed_at.Goals as goal
 
 pub overflow_sub-self : goal.overflow_sub-self

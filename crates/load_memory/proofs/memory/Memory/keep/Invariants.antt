@@ -1,7 +1,6 @@
 use Rattle.std.proofs.Common.{◌≡◌, map, take}
 use Rattle.load_memory.specs.Parts.{staged_of}
 use Rattle.load_memory.specs.Replies.{pairs_of, reply_of}
-use Rattle.load_memory.specs.Shelves.{shown}
 use Rattle.load_memory.proofs.memory.Memory.keep.Given as goal
 
 abbrev pub invariant-loop-reply : goal.invariant-loop-reply

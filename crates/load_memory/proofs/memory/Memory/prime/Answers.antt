@@ -2,7 +2,7 @@ use Rattle.std.proofs.Common.{◌≡◌, ◌+◌, ◌<◌, length, ap, ◌∙◌
 use Rattle.std.specs.Prelude.{not, slice_set}
 use Rattle.std.proofs.lemmas.Result.{err_from_is_err_and}
 use Rattle.load_memory.specs.Keys.{cache_of}
-use Rattle.load_memory.specs.Outcomes.{known, item_of, outcome_of}
+use Rattle.load_memory.specs.Outcomes.{known, item_of}
 use Rattle.load_memory.specs.Pairs.{MemoryOf, PairOf, look}
 use Rattle.load_memory.specs.Parts.{PartOf, pairs_from}
 use Rattle.load_memory.proofs.Looks.{primed-present}

@@ -1,10 +1,9 @@
-use Rattle.std.proofs.Common.{◌≡◌, ◌<◌, ◌≤◌, ◌+◌, ℕ, Bool, true, false, length, map, ap, ◌∙◌, sym, arith, refl, inl, inr}
-use Rattle.std.specs.Prelude.{slice_index, All, ◌||◌, ◌⊎◌}
+use Rattle.std.proofs.Common.{◌≡◌, ◌<◌, ◌≤◌, ℕ, length, ap, arith, inl, inr}
+use Rattle.std.specs.Prelude.{slice_index, All}
 use Rattle.std.proofs.lemmas.Bool.{cases_lt}
-use Rattle.load_memory.specs.Pairs.{MemoryOf, PairOf, look, IsWith}
-use Rattle.load_memory.specs.Parts.{PartOf, pairs_from, staged_of, count_at, room_at, HaveRoom}
+use Rattle.load_memory.specs.Pairs.{MemoryOf}
+use Rattle.load_memory.specs.Parts.{count_at, room_at, HaveRoom}
 use Rattle.load_memory.specs.declared.part.Staged.{Staged}
-use Rattle.load_memory.proofs.ChangeLaws.{AreUnfailed-with, AreUnfailed-same}
 use Rattle.load_memory.proofs.StoreLaws.{count-past}
 use Rattle.load_memory.proofs.memory.Memory.store.Goals as goal
 

@@ -1,4 +1,4 @@
-use Rattle.std.proofs.Common.{◌≡◌, ◌<◌, ◌+◌, length, arith, get_or, true, map, ◌∙◌, sym, ap}
+use Rattle.std.proofs.Common.{◌<◌, ◌+◌, length, arith, get_or, true, map, ◌∙◌, sym, ap}
 use Rattle.std.proofs.lemmas.List.{set-get_or}
 use Rattle.load_queue.specs.Logs.{asked_of}
 use Rattle.load_queue.specs.declared.loader.Asked.{Asked}
