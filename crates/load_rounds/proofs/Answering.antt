@@ -1,5 +1,5 @@
 -- Rounds that follow one another, until nothing is missing.
-use Rattle.std.proofs.Common.{true, ◌≡◌, ◌≢◌, ◌<◌, ◌≤◌, ◌+◌, ℕ, zero, suc, List, [], ◌∷◌, ◌++◌, map, length, Some, refl, ap, ◌∙◌, sym, arith, inl, inr, length-append}
+use Rattle.std.proofs.Common.{true, ◌≡◌, ◌≢◌, ◌<◌, ◌≤◌, ◌+◌, ℕ, List, [], ◌∷◌, ◌++◌, map, length, Some, refl, ap, ◌∙◌, sym, arith, length-append}
 use Rattle.std.proofs.Math.Path.{fun_ext}
 use Rattle.std.specs.Prelude.{slice_get}
 use Rattle.std.proofs.lemmas.List.{length-map}
@@ -11,18 +11,18 @@ use Rattle.load_queue.specs.Loaders.{LoaderOf}
 use Rattle.load_queue.specs.Orders.{OrderOf}
 use Rattle.load_queue.specs.Wanted.{WantedOf, nothing_wanted, keys_wanted}
 use Rattle.execution.specs.Loads.{Load, Memory, read}
-use Rattle.execution.specs.Program.{Program, chain, needs}
+use Rattle.execution.specs.Program.{Program, needs}
 use Rattle.execution.specs.Completion.{AnsweredOf}
 use Rattle.execution.specs.Executed.{exec}
 use Rattle.execution.specs.Front.{front, missing, wanting, modes_wanted, keys_for}
-use Rattle.execution.specs.Rounds.{RuleOf, rule_of, modes_of, orders_of, may_at, AreReplies, AreRounds, AreLimited, HasLoaders, IsSparing, after_round, without_failed}
-use Rattle.execution.specs.Sessions.{Step, Forgot, Asked}
+use Rattle.execution.specs.Rounds.{RuleOf, rule_of, modes_of, orders_of, may_at, AreReplies, AreRounds, AreLimited, HasLoaders, after_round, without_failed}
+use Rattle.execution.specs.Sessions.{Forgot, Asked}
 use Rattle.execution.proofs.RoundLaws.{rounds-chain, rounds-sparing, rounds-more}
 use Rattle.execution.proofs.Wanting.{wanting-front, wanting-firsts}
 use Rattle.load_rounds.specs.Sessions.{StateOf, rules_of, session_modes, after_step, after_steps}
 use Rattle.load_rounds.specs.Rounds.{AreWanted}
-use Rattle.load_rounds.specs.Calls.{RoundRan, RoundLost}
-use Rattle.load_rounds.specs.Executes.{asked_steps, MakesRounds, IsAnswer, StopsAnswering}
+use Rattle.load_rounds.specs.Calls.{RoundRan}
+use Rattle.load_rounds.specs.Executes.{asked_steps, MakesRounds, IsAnswer}
 use Rattle.load_rounds.proofs.Numbering.{source-at}
 use Rattle.load_rounds.proofs.Onces.{ran-rules}
 use Rattle.load_rounds.proofs.Lacking.{length-wanting}

@@ -2,13 +2,13 @@
 use Rattle.std.proofs.Common.{◌≡◌, ◌≢◌, ℕ, zero, suc, ◌<◌, ◌≤◌, ◌+◌, Bool, true, false, List, [], ◌∷◌, ◌++◌, map, length, get_or, refl, ap, ◌∙◌, sym, arith, append_assoc, ◌⊎◌, inl, inr}
 use Rattle.std.proofs.lemmas.List.{append-nil, length-map, get_or-map, set-get_or}
 use Rattle.std.proofs.lemmas.Bool.{lt-ltb, ltb-true}
-use Rattle.std.specs.Prelude.{slice_set, nat_lt, if◌then◌else◌}
+use Rattle.std.specs.Prelude.{slice_set, nat_lt}
 use Rattle.load_memory.specs.Keys.{KeyOf}
 use Rattle.load_queue.specs.Batches.{batches}
 use Rattle.load_queue.specs.Loaders.{LoaderOf, asked_in}
 use Rattle.load_queue.specs.Orders.{OrderOf, order_of, orders_of}
 use Rattle.execution.specs.Rounds.{RuleOf, rule_of}
-use Rattle.load_rounds.specs.Sessions.{entry, logged, logged_from, made}
+use Rattle.load_rounds.specs.Sessions.{logged, logged_from, made}
 use Rattle.load_rounds.specs.Rounds.{orders_by, first_keys, Enters}
 
 not-below : (a b : ℕ) → b ≤ a → nat_lt a b ≡ false

@@ -1,7 +1,6 @@
 -- Keys of one loader as a program that reads each of them: after a round that asks those that are missing, all are known.
-use Rattle.std.proofs.Common.{◌≡◌, ◌<◌, ℕ, Bool, true, false, List, [], ◌∷◌, ◌++◌, map, length, Option, Some, None, is_none, IsSome, refl, ap, ◌∙◌, sym, inl, inr, ◌⊎◌}
+use Rattle.std.proofs.Common.{◌≡◌, ◌<◌, ℕ, Bool, true, false, List, [], ◌∷◌, ◌++◌, map, length, Option, Some, None, is_none, IsSome, refl, ap, ◌∙◌, inl, inr}
 use Rattle.std.proofs.lemmas.List.Elements.{All-nil, All-cons}
-use Rattle.std.proofs.Math.Path.{fun_ext}
 use Rattle.std.specs.Prelude.{All, if◌then◌else◌}
 use Rattle.load_memory.specs.Keys.{KeyOf}
 use Rattle.load_memory.specs.Outcomes.{OutcomeOf}
@@ -9,7 +8,7 @@ use Rattle.load_memory.specs.Replies.{ReplyOf}
 use Rattle.load_memory.specs.declared.key.KeyMode.{KeyMode}
 use Rattle.load_queue.specs.Answers.{AnswerOf}
 use Rattle.execution.specs.Loads.{Load, Memory, Reader, read, IsOneOf}
-use Rattle.execution.specs.Program.{Program, Programs, Is, Read, Under, End, With, Null, ListOf, Item, Spot, given, needs, all_needs}
+use Rattle.execution.specs.Program.{Program, Programs, Is, Read, Under, End, With, Null, ListOf, Item, Spot, given, all_needs}
 use Rattle.execution.specs.Front.{missing, firsts, front, front_of_keys}
 use Rattle.execution.specs.Rounds.{RuleOf, modes_of, orders_of, AreReplies, AreLimited, HasLoaders, after_round, pairs_of}
 use Rattle.execution.proofs.ChainLaws.{covered}

@@ -1,13 +1,11 @@
 -- Keys that a memory lacks, one after another.
-use Rattle.std.proofs.Common.{◌≡◌, ◌<◌, ℕ, zero, suc, Bool, true, false, List, [], ◌∷◌, ◌++◌, map, length, Option, Some, None, is_some, is_none, IsSome, Bor, refl, ap, ◌∙◌, sym, arith}
-use Rattle.std.proofs.lemmas.List.{map-append, length-map, append-nil}
+use Rattle.std.proofs.Common.{◌≡◌, ℕ, zero, suc, Bool, true, false, List, [], ◌∷◌, ◌++◌, map, length, Option, Some, None, is_some, is_none, IsSome, Bor, refl, ap, ◌∙◌, sym}
+use Rattle.std.proofs.lemmas.List.{map-append, append-nil}
 use Rattle.std.specs.Prelude.{if◌then◌else◌, option_map, option_copied, not}
-use Rattle.std.specs.List.{filter}
 use Rattle.load_memory.specs.Keys.{KeyOf}
 use Rattle.load_memory.specs.Outcomes.{OutcomeOf, outcome_of}
 use Rattle.load_memory.specs.declared.outcome.Outcome.{Outcome}
-use Rattle.load_queue.specs.Wanted.{WantedOf, with_key, with_wanted, nothing_wanted}
-use Rattle.load_memory.specs.declared.key.KeyMode.{KeyMode}
+use Rattle.load_queue.specs.Wanted.{WantedOf, with_wanted}
 use Rattle.execution.specs.Loads.{Load, Reader}
 use Rattle.execution.specs.Front.{missing, wanting}
 use Rattle.load_rounds.specs.Calls.{load_of}

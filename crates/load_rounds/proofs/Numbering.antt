@@ -1,23 +1,20 @@
 -- The numbers of rounds in the logs, and the orders of loads.
 use Rattle.std.proofs.Common.{◌≡◌, ◌≢◌, ℕ, zero, suc, ◌<◌, ◌≤◌, ◌+◌, Bool, true, false, List, [], ◌∷◌, ◌++◌, map, length, refl, ap, ◌∙◌, sym, arith}
-use Rattle.std.proofs.lemmas.List.{map-append, length-map}
+use Rattle.std.proofs.lemmas.List.{map-append}
 use Rattle.std.proofs.lemmas.List.Elements.{All-nil, All-cons, All-head, All-tail, All-append}
-use Rattle.std.proofs.lemmas.Bool.{ne_eqb, eq-eqb, eqb-true, lt-ltb}
+use Rattle.std.proofs.lemmas.Bool.{ne_eqb, eq-eqb, eqb-true}
 use Rattle.std.specs.Prelude.{All, slice_get, Some, nat_lt, ◌==◌, if◌then◌else◌}
-use Rattle.std.specs.List.{filter}
 use Rattle.load_memory.specs.Keys.{KeyOf}
 use Rattle.load_memory.specs.Replies.{ReplyOf}
 use Rattle.load_queue.specs.Answers.{AnswerOf}
 use Rattle.load_queue.specs.Batches.{batches}
 use Rattle.load_queue.specs.Loaders.{LoaderOf, AskedOf, marked, stored_in}
 use Rattle.load_queue.specs.Orders.{OrderOf, order_of}
-use Rattle.load_queue.specs.Wanted.{WantedOf, keys_wanted}
 use Rattle.execution.specs.Loads.{Load}
 use Rattle.execution.specs.Front.{keys_for}
 use Rattle.execution.specs.Rounds.{RuleOf, rule_of, orders_from, may_at, AreReplies}
 use Rattle.load_rounds.specs.Sessions.{entry, logged, logged_from, made, of_first, AreNumbered}
-use Rattle.load_rounds.specs.Rounds.{orders_by, first_keys, Enters, AreWanted}
-use Rattle.load_rounds.proofs.Cutting.{first-none, first-some, orders-same, logged-same}
+use Rattle.load_rounds.specs.Rounds.{orders_by, first_keys, Enters}
 
 later : (n m : ℕ) → n ≤ m → (log : List AskedOf) → All (λ (a : AskedOf). a.round ≤ n) log → All (λ (a : AskedOf). a.round ≤ m) log
 later n m le [] h = All-nil (λ (a : AskedOf). a.round ≤ m)

@@ -2,14 +2,14 @@
 use Rattle.std.proofs.Common.{◌≡◌, ◌≢◌, ◌<◌, ℕ, Bool, true, false, List, [], ◌∷◌, map, length, is_none, IsSome, refl, ap, ◌∙◌, ◌+◌, sym, inl, inr, ◌⊎◌, arith}
 use Rattle.std.proofs.lemmas.List.{length-map}
 use Rattle.std.proofs.lemmas.Bool.{eq-eqb}
-use Rattle.std.specs.Prelude.{All, ◌==◌, if◌then◌else◌}
+use Rattle.std.specs.Prelude.{All, if◌then◌else◌}
 use Rattle.load_memory.specs.Keys.{KeyOf}
 use Rattle.load_memory.specs.declared.key.KeyMode.{KeyMode}
 use Rattle.load_queue.specs.Answers.{AnswerOf}
 use Rattle.load_queue.specs.Wanted.{WantedOf, keys_wanted, nothing_wanted}
 use Rattle.execution.specs.Loads.{Load, Memory, Reader, read}
 use Rattle.execution.specs.Front.{missing, firsts, front_of_keys, wanting, keys_for}
-use Rattle.execution.specs.Rounds.{rule_of, modes_of, may_at, AreLimited}
+use Rattle.execution.specs.Rounds.{rule_of, may_at, AreLimited}
 use Rattle.execution.proofs.Wanting.{wanting-front}
 use Rattle.load_rounds.specs.Sessions.{StateOf, rules_of, session_modes}
 use Rattle.load_rounds.specs.Rounds.{AreWanted}

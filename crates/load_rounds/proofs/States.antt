@@ -1,24 +1,21 @@
 -- The state of a session after its fields were changed.
-use Rattle.std.proofs.Common.{◌≡◌, ◌≢◌, ℕ, zero, suc, ◌<◌, ◌≤◌, ◌+◌, Bool, true, false, List, [], ◌∷◌, ◌++◌, map, length, refl, ap, ◌∙◌, sym, arith, Some, Result, Ok, Err}
+use Rattle.std.proofs.Common.{◌≡◌, ℕ, ◌<◌, ◌+◌, Bool, true, false, List, [], map, length, refl, ap, ◌∙◌, sym, arith, Some, Result, Ok, Err}
 use Rattle.std.proofs.Math.Path.{fun_ext}
 use Rattle.std.proofs.lemmas.List.{length-map}
-use Rattle.std.specs.Prelude.{All, slice_get, nat_lt, if◌then◌else◌, OnErr}
+use Rattle.std.specs.Prelude.{slice_get, nat_lt, if◌then◌else◌, OnErr}
 use Rattle.load_memory.specs.Keys.{KeyOf, folded, mode_at}
-use Rattle.load_memory.specs.Outcomes.{OutcomeOf}
-use Rattle.load_memory.specs.Pairs.{MemoryOf, PairOf, look, unless_failed, IsUnfailed, IsWith, IsSameMap}
+use Rattle.load_memory.specs.Pairs.{MemoryOf, look, IsWith, IsSameMap}
 use Rattle.load_memory.specs.Replies.{ReplyOf, pairs_of}
 use Rattle.load_memory.specs.declared.key.KeyMode.{KeyMode}
 use Rattle.load_memory.proofs.ReplyPairs.{mode-at}
-use Rattle.load_queue.specs.Answers.{AnswerOf}
 use Rattle.load_queue.specs.Loaders.{LoaderOf, stored_in}
-use Rattle.load_queue.specs.Wanted.{WantedOf, keys_wanted}
 use Rattle.execution.specs.Loads.{Load, Memory}
 use Rattle.execution.specs.Front.{keys_for}
-use Rattle.execution.specs.Rounds.{RuleOf, rule_of, modes_of, orders_of, may_at, AreReplies, AreLimited, after_round, stored, without_failed}
-use Rattle.execution.specs.Sessions.{Asked, Lost, Forgot}
-use Rattle.load_rounds.specs.Sessions.{StateOf, rules_of, logged_from, made, asked, after_step, of_first, AreNumbered, IsSession}
-use Rattle.load_rounds.specs.Rounds.{orders_by, first_keys, Enters, AreWanted}
-use Rattle.load_rounds.proofs.Cutting.{rules-logged, logged-same, logged-past, orders-same, orders-past, first-some, length-logged}
+use Rattle.execution.specs.Rounds.{rule_of, modes_of, orders_of, after_round, stored}
+use Rattle.execution.specs.Sessions.{Asked, Lost}
+use Rattle.load_rounds.specs.Sessions.{StateOf, logged_from, made, after_step, of_first, IsSession}
+use Rattle.load_rounds.specs.Rounds.{orders_by, first_keys, Enters}
+use Rattle.load_rounds.proofs.Cutting.{rules-logged, logged-same, logged-past, orders-same, orders-past, first-some}
 use Rattle.load_rounds.proofs.Numbering.{enters-numbered, logged-numbered, made-one, marked-round, orders-loads, keys-first}
 
 pub cached : (modes own : List KeyMode) (loader : ℕ) (mode : KeyMode) (k key : KeyOf) → own ≡ modes → slice_get own loader ≡ Some mode → k ≡ folded mode key → k ≡ folded (mode_at modes loader) key

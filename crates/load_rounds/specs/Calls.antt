@@ -1,10 +1,10 @@
 -- What the calls of a session do.
 use Rattle.std.specs.Prelude.{◌≡◌, ◌⊎◌, ℕ, List, [], ◌∷◌, map, Some}
-use Rattle.load_memory.specs.Keys.{KeyOf, folded}
+use Rattle.load_memory.specs.Keys.{KeyOf}
 use Rattle.load_memory.specs.Outcomes.{OutcomeOf}
 use Rattle.load_memory.specs.Replies.{ReplyOf}
 use Rattle.load_queue.specs.Answers.{AnswerOf}
-use Rattle.execution.specs.Loads.{Load, read, mode_at}
+use Rattle.execution.specs.Loads.{Load, read}
 use Rattle.execution.specs.Front.{front_of_keys}
 use Rattle.execution.specs.Rounds.{orders_of, may_at, AreReplies, without_failed}
 use Rattle.execution.specs.Sessions.{Forgot, Asked, Lost, Cell, key_cell}

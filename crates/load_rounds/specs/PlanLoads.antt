@@ -1,5 +1,5 @@
 -- The loads of a plan's program are of loaders that its bindings define.
-use Rattle.std.proofs.Common.{◌≡◌, ◌<◌, ℕ, zero, suc, Bool, true, false, List, [], ◌∷◌, ◌++◌, map, length, Option, Some, None, refl, ap, ◌∙◌, sym, inl, inr, ◌⊎◌}
+use Rattle.std.proofs.Common.{◌≡◌, ◌<◌, ℕ, zero, suc, Bool, true, false, List, [], ◌∷◌, ◌++◌, map, length, Option, Some, None, refl, inl, inr, ◌⊎◌}
 use Rattle.std.proofs.lemmas.Bool.{ltb-true}
 use Rattle.std.specs.Prelude.{nat_lt, if◌then◌else◌, bytes_eq, codes}
 use Rattle.gq_lexer.specs.declared.place.Place.{Place}
@@ -8,7 +8,7 @@ use Rattle.schema_syntax.specs.Tree.{Definition, Field}
 use Rattle.gq_schema.specs.BindingsTree.{BindingOf, by_column, by_one, by_many, by_each, by_via, binding_in}
 use Rattle.gq_schema.specs.Inputs.{Input}
 use Rattle.gq_schema.specs.Inputs as input
-use Rattle.gq_schema.specs.Types.{field_in, is_non_null, root_in}
+use Rattle.gq_schema.specs.Types.{field_in, root_in}
 use Rattle.load_memory.specs.Keys.{KeyOf, text}
 use Rattle.load_memory.specs.Rows.{RowOf, cell_of}
 use Rattle.load_memory.specs.Outcomes.{OutcomeOf, known, batch_fault, rows, key_fault}
@@ -18,8 +18,8 @@ use Rattle.execution.specs.Rounds.{HasLoaders}
 use Rattle.gq_check.specs.Plans.{PlanOf}
 use Rattle.plan_program.specs.Groups.{FieldOf, GroupOf, selections_in, nothing_collected, collect, collect_below}
 use Rattle.plan_program.specs.Arguments.{ArgumentsOf, ValueOf, all_values, null_argument, arguments_of}
-use Rattle.plan_program.specs.Asked.{KeyFrom, fixed, of_column, BelowOf, AskedOf, known as settled, cell, first_row, all_rows, each_row, joined_rows, PreparedOf, with_loader, with_key, key_from, each_asked, input_named, keys_of, bound_asked, below_of, with_arguments, defined_asked, field_asked, first_asked, spot_of, all_prepared}
-use Rattle.plan_program.specs.PlanPrograms.{TypeOf, object_type, type_fault, type_of_row, places, list_of, fields_of, Objects, typed_object, row_object, with_rows, read_key, read_cell, read_from, read_if, first_object, all_objects, joined_objects, asked_program, prepared_program, object_program, most_levels, root_prepared, plan_program}
+use Rattle.plan_program.specs.Asked.{KeyFrom, fixed, of_column, BelowOf, AskedOf, known as settled, cell, first_row, all_rows, each_row, joined_rows, PreparedOf, with_loader, with_key, key_from, each_asked, input_named, bound_asked, below_of, with_arguments, defined_asked, field_asked, first_asked, spot_of, all_prepared}
+use Rattle.plan_program.specs.PlanPrograms.{TypeOf, object_type, type_fault, type_of_row, places, list_of, fields_of, Objects, typed_object, row_object, with_rows, read_key, read_cell, read_from, read_if, first_object, all_objects, joined_objects, asked_program, object_program, most_levels, root_prepared, plan_program}
 
 split : (l : Load) (xs ys : List Load) → IsOneOf l (xs ++ ys) → IsOneOf l xs ⊎ IsOneOf l ys
 split l [] ys h = inr h

@@ -1,5 +1,5 @@
 -- A round in the making: the batches of what is wanted of each loader.
-use Rattle.std.specs.Prelude.{◌≡◌, ◌<◌, ℕ, suc, Bool, false, List, [], ◌∷◌, ◌++◌, ◌+◌, map, length, nat_lt, if◌then◌else◌}
+use Rattle.std.specs.Prelude.{◌≡◌, ◌<◌, ℕ, suc, false, List, [], ◌∷◌, ◌++◌, ◌+◌, map, length, nat_lt, if◌then◌else◌}
 use Rattle.load_memory.specs.Keys.{KeyOf}
 use Rattle.load_queue.specs.Batches.{batches}
 use Rattle.load_queue.specs.Loaders.{LoaderOf}

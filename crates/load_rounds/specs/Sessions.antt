@@ -3,7 +3,6 @@ use Rattle.std.specs.Prelude.{◌≡◌, ◌≤◌, ℕ, suc, Bool, true, false,
 use Rattle.std.specs.List.{filter}
 use Rattle.load_memory.specs.Keys.{KeyOf}
 use Rattle.load_memory.specs.Pairs.{MemoryOf, PairOf, look}
-use Rattle.load_memory.specs.Replies.{ReplyOf}
 use Rattle.load_memory.specs.declared.key.KeyMode.{KeyMode}
 use Rattle.load_queue.specs.Answers.{AnswerOf}
 use Rattle.load_queue.specs.Batches.{batches}
@@ -11,7 +10,7 @@ use Rattle.load_queue.specs.Loaders.{LoaderOf, AskedOf}
 use Rattle.load_queue.specs.Orders.{OrderOf}
 use Rattle.execution.specs.Loads.{Load, Memory}
 use Rattle.execution.specs.Front.{keys_for}
-use Rattle.execution.specs.Rounds.{RuleOf, rule_of, modes_of, orders_of, may_at, AreLimited, after_round}
+use Rattle.execution.specs.Rounds.{RuleOf, rule_of, modes_of, orders_of, may_at, AreLimited}
 use Rattle.execution.specs.Sessions.{Step, Forgot, Asked, Lost, Primed, Cleared, ClearedAll, AreSteps, after}
 
 -- the loaders with their logs, the pairs that are known in no order that means anything, and how many rounds were made

@@ -1,4 +1,4 @@
-use Rattle.std.proofs.Common.{◌≡◌, ap, ◌∙◌, refl}
+use Rattle.std.proofs.Common.{ap, ◌∙◌, refl}
 use Rattle.load_memory.specs.Keys.{cache_of, key_of}
 use Rattle.load_memory.specs.Pairs.{look}
 use Rattle.load_rounds.proofs.States.{cached}

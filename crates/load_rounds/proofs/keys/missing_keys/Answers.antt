@@ -1,9 +1,7 @@
-use Rattle.std.proofs.Common.{◌≡◌, ◌<◌, ◌++◌, ◌∷◌, [], ap, ◌∙◌, sym, map, take, length, arith, Option, Some, None, true, false}
+use Rattle.std.proofs.Common.{ap, ◌∙◌, map, take, length, arith}
 use Rattle.std.specs.Prelude.{not}
 use Rattle.std.proofs.lemmas.List.{take_more, map-append, length-map}
 use Rattle.load_memory.specs.Keys.{key_of}
-use Rattle.load_memory.specs.Outcomes.{OutcomeOf, outcome_of}
-use Rattle.load_memory.specs.declared.outcome.Outcome.{Outcome}
 use Rattle.load_memory.specs.Pairs.{look}
 use Rattle.load_queue.specs.Wanted.{nothing_wanted, with_wanted}
 use Rattle.execution.specs.Loads.{read}

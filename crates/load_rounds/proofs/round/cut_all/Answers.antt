@@ -1,15 +1,14 @@
-use Rattle.std.proofs.Common.{◌≡◌, ◌≢◌, ◌<◌, ◌+◌, ◌++◌, ℕ, List, [], map, length, ap, ◌∙◌, sym, arith, refl, false, Result, Ok, Err, ◌⊎◌, inl, inr, ◌≤◌}
-use Rattle.std.specs.Prelude.{OnErr, slice_set, vec_len}
+use Rattle.std.proofs.Common.{◌≡◌, ◌≢◌, ◌<◌, ◌+◌, ◌++◌, ℕ, [], map, length, ap, ◌∙◌, sym, arith, false, Result, Ok, Err, ◌⊎◌, inl, inr, ◌≤◌}
+use Rattle.std.specs.Prelude.{OnErr, vec_len}
 use Rattle.std.proofs.lemmas.Bool.{eqb-true, eqb-false}
 use Rattle.std.proofs.lemmas.List.{length-map}
 use Rattle.load_rounds.proofs.Running.{none-left}
-use Rattle.load_memory.specs.Keys.{KeyOf, key_of}
+use Rattle.load_memory.specs.Keys.{key_of}
 use Rattle.load_queue.specs.Batches.{batches}
 use Rattle.load_queue.specs.Orders.{order_of}
 use Rattle.load_queue.specs.Wanted.{keys_wanted}
 use Rattle.execution.specs.Rounds.{rule_of}
-use Rattle.load_rounds.specs.Rounds.{orders_by, first_keys, Enters}
-use Rattle.load_rounds.specs.Sessions.{logged}
+use Rattle.load_rounds.specs.Rounds.{orders_by, first_keys}
 use Rattle.load_rounds.proofs.Cutting.{orders-past, logged-past, length-logged, enters-kept, enters-cut, more-orders, enters-all, orders-same, first-some}
 use Rattle.load_rounds.proofs.round.cut_all.Goals as goal
 use Rattle.load_rounds.proofs.round.cut_all.Goals.{then-not-is_empty, else-not-is_empty}

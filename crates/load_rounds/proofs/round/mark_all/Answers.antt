@@ -1,4 +1,4 @@
-use Rattle.std.proofs.Common.{◌≡◌, ◌<◌, ◌+◌, length, arith, ◌∙◌, sym, ap}
+use Rattle.std.proofs.Common.{◌≡◌, ◌<◌, ◌+◌, length, arith, ◌∙◌, ap}
 use Rattle.load_queue.specs.Loaders.{stored_in}
 use Rattle.load_rounds.proofs.Running.{replaced-more, length-replaced}
 use Rattle.load_rounds.proofs.round.mark_all.Goals as goal

@@ -1,10 +1,9 @@
-use Rattle.std.proofs.Common.{◌≡◌, ◌++◌, ◌∷◌, [], ◌<◌, List, map, length, arith, ap, ◌∙◌, sym}
-use Rattle.std.specs.Prelude.{All}
+use Rattle.std.proofs.Common.{◌≡◌, ◌∷◌, [], ◌<◌, map, length, arith}
 use Rattle.std.proofs.lemmas.List.{append-nil}
 use Rattle.std.proofs.lemmas.List.Elements.{All-head, All-tail}
-use Rattle.load_memory.specs.Replies.{ReplyOf, reply_of}
+use Rattle.load_memory.specs.Replies.{reply_of}
 use Rattle.load_queue.specs.Orders.{OrderOf}
-use Rattle.execution.specs.Rounds.{may_at, AreReplies}
+use Rattle.execution.specs.Rounds.{may_at}
 use Rattle.execution.proofs.StoreLaws.{reply-ran}
 use Rattle.load_rounds.proofs.Running.{replies-more, none-left}
 use Rattle.load_rounds.proofs.round.run_all.Goals as goal

@@ -1,16 +1,12 @@
-use Rattle.std.proofs.Common.{◌≡◌, ◌≢◌, ◌≤◌, ◌+◌, ℕ, List, [], map, length, ap, ◌∙◌, sym, arith, refl, inr}
+use Rattle.std.proofs.Common.{◌≡◌, ◌+◌, map, length, ap, ◌∙◌, sym, arith, inr}
 use Rattle.std.proofs.lemmas.List.{length-map}
 use Rattle.std.specs.Prelude.{string_bytes}
-use Rattle.load_memory.specs.Pairs.{look}
 use Rattle.load_memory.proofs.PartLaws.{SomeIff-at}
 use Rattle.load_queue.specs.Wanted.{nothing_wanted}
-use Rattle.execution.specs.Loads.{Load}
 use Rattle.execution.specs.Program.{Program}
 use Rattle.execution.specs.Front.{front}
 use Rattle.execution.specs.Rounds.{RuleOf, rule_of, modes_of}
 use Rattle.load_rounds.specs.Sessions.{StateOf, state_of, session_modes, rules_of}
-use Rattle.load_rounds.specs.Rounds.{AreWanted}
-use Rattle.load_rounds.specs.Calls.{RoundLost}
 use Rattle.load_rounds.proofs.Answering.{nothing-modes, wants-are, in-none, in-more, in-all}
 use Rattle.load_rounds.proofs.Lacking.{length-wanting}
 use Rattle.load_rounds.proofs.States.{on-err}

@@ -1,16 +1,11 @@
-use Rattle.std.proofs.Common.{◌≡◌, ◌<◌, ◌≤◌, ◌+◌, ℕ, List, map, length, ap, ◌∙◌, sym, arith, refl, false}
-use Rattle.std.specs.Prelude.{All, OnErr}
+use Rattle.std.proofs.Common.{◌≡◌, ◌<◌, ◌≤◌, ◌+◌, ℕ, map, length, ap, arith, refl, false}
 use Rattle.std.proofs.lemmas.List.{length-map}
-use Rattle.load_memory.specs.Replies.{ReplyOf, reply_of, pairs_of}
-use Rattle.load_memory.specs.declared.reply.Reply.{Reply}
+use Rattle.load_memory.specs.Replies.{ReplyOf, reply_of}
 use Rattle.load_memory.proofs.PartLaws.{SomeIff-at}
 use Rattle.load_memory.proofs.ReplyPairs.{All-of_map}
-use Rattle.load_queue.specs.Orders.{OrderOf}
 use Rattle.load_queue.specs.Wanted.{keys_wanted}
-use Rattle.execution.specs.Loads.{Load}
-use Rattle.execution.specs.Rounds.{RuleOf, rule_of, orders_of, may_at, AreReplies}
-use Rattle.load_rounds.specs.Rounds.{first_keys, orders_by, AreWanted}
-use Rattle.load_rounds.specs.Calls.{RoundRan, RoundLost}
+use Rattle.execution.specs.Rounds.{RuleOf, rule_of, orders_of, may_at}
+use Rattle.load_rounds.specs.Rounds.{first_keys}
 use Rattle.load_rounds.proofs.Cutting.{length-logged}
 use Rattle.load_rounds.proofs.Numbering.{orders-below, replies-below, replies-before}
 use Rattle.load_rounds.proofs.States.{entered-session, marked-session, wanted-orders, state-ran, state-lost, enters-first, enters-nothing, on-err}

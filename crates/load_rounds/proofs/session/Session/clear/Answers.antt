@@ -1,13 +1,10 @@
-use Rattle.std.proofs.Common.{◌≡◌, ◌∷◌, [], map, ap, ◌∙◌, sym, refl}
+use Rattle.std.proofs.Common.{map, ap, ◌∙◌, refl}
 use Rattle.std.specs.Prelude.{is_some}
-use Rattle.load_memory.specs.Keys.{KeyOf, key_of, cache_of, folded, mode_at}
-use Rattle.load_memory.specs.Outcomes.{known, item_of}
-use Rattle.load_memory.specs.Pairs.{PairOf, pair_of, look}
-use Rattle.execution.specs.Rounds.{rule_of, modes_of, stored, without_failed}
+use Rattle.load_memory.specs.Keys.{key_of, cache_of}
+use Rattle.load_memory.specs.Pairs.{look}
+use Rattle.execution.specs.Rounds.{rule_of, modes_of, without_failed}
 use Rattle.execution.specs.Sessions.{Cell, without, is_cell}
-use Rattle.execution.proofs.StoreLaws.{look-all_primed}
-use Rattle.load_rounds.specs.Sessions.{SessionOf, session_modes, state_of}
-use Rattle.load_rounds.proofs.States.{cached, same-memory, state, state-is}
+use Rattle.load_rounds.proofs.States.{cached, same-memory, state-is}
 use Rattle.load_rounds.proofs.session.Session.clear.Goals as goal
 
 pub returns-clause-told : goal.returns-clause-told

@@ -1,4 +1,4 @@
-use Rattle.std.proofs.Common.{◌≡◌, map, refl}
+use Rattle.std.proofs.Common.{refl}
 use Rattle.load_memory.specs.Pairs.{look}
 use Rattle.execution.specs.Rounds.{without_failed}
 use Rattle.load_rounds.proofs.States.{same-memory, state-is}

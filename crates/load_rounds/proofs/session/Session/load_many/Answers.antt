@@ -1,20 +1,13 @@
-use Rattle.std.proofs.Common.{◌≡◌, ◌≢◌, ◌<◌, ◌≤◌, ◌+◌, ℕ, List, [], ◌∷◌, map, length, ap, ◌∙◌, sym, arith, refl, IsSome, inl, inr}
-use Rattle.std.specs.Prelude.{All, vec_len}
+use Rattle.std.proofs.Common.{◌≡◌, ◌<◌, List, map, length, ap, ◌∙◌, arith, inl, inr}
 use Rattle.std.proofs.lemmas.List.{length-map}
-use Rattle.std.proofs.lemmas.Bool.{eqb-true, eqb-false}
-use Rattle.load_memory.specs.Keys.{KeyOf, key_of}
+use Rattle.load_memory.specs.Keys.{key_of}
 use Rattle.load_memory.specs.Pairs.{look}
 use Rattle.load_queue.specs.Loaders.{LoaderOf}
-use Rattle.execution.specs.Loads.{Load, Memory, read}
-use Rattle.execution.specs.Front.{front_of_keys, keys_for}
-use Rattle.execution.specs.Rounds.{RuleOf, rule_of, modes_of, AreLimited, without_failed}
-use Rattle.load_rounds.specs.Sessions.{SessionOf, StateOf, state_of, session_modes, rules_of}
-use Rattle.std.proofs.lemmas.Result.{on_ok_weaker}
-use Rattle.load_rounds.specs.Rounds.{AreWanted}
-use Rattle.load_rounds.specs.Calls.{load_of, AsksOnce, RoundRan, RoundLost}
-use Rattle.load_rounds.proofs.Running.{none-left}
-use Rattle.load_rounds.proofs.Onces.{wants-front, wants-size, nothing-asked, asks-none, asks-some, asks-rules, asks-known}
-use Rattle.load_rounds.proofs.States.{state, same-memory, state-lost, enters-nothing, on-err}
+use Rattle.execution.specs.Front.{front_of_keys}
+use Rattle.execution.specs.Rounds.{RuleOf, rule_of, modes_of, without_failed}
+use Rattle.load_rounds.specs.Sessions.{SessionOf, state_of}
+use Rattle.load_rounds.proofs.Onces.{asks-rules, asks-known}
+use Rattle.load_rounds.proofs.States.{state, same-memory}
 use Rattle.load_rounds.proofs.session.Session.load_many.Goals as goal
 
 modes-size : {S : Type 0} (ls : List (LoaderOf S)) → length (modes_of (map rule_of ls)) ≡ length ls
