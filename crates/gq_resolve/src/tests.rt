@@ -72,7 +72,7 @@ fn all_wanted(alloc: Global, loaders: usize, wants: &Wants) -> Result<Vec<(usize
     Ok(loads)
 }
 
-fn round(alloc: Global, plan: &Plan<'_>, memory: &Memory) -> Result<Round, Fail>
+fn next_round(alloc: Global, plan: &Plan<'_>, memory: &Memory) -> Result<Round, Fail>
     requires { length (plan_of plan.now).bindings.loaders ≤ length memory.now.modes }
 {
     let mut wants = Wants::new(alloc, memory)?;
@@ -140,7 +140,7 @@ fn executed<R: AllocGlobal + std::process::Abort>(
     let mut log = String::new(alloc);
     for _ in 0..MOST_ROUNDS {
         assert!(rt; plan.loaders() <= memory.modes().len());
-        let loads = match round(alloc, plan, &memory)? {
+        let loads = match next_round(alloc, plan, &memory)? {
             Round::Answer(answered) => return Ok((log, answer_text(alloc, &answered)?)),
             Round::Asks(loads) => loads,
         };
