@@ -40,11 +40,14 @@ fn rows_of(item: Option<&Item>) -> &[Row] {
 
 #[test]
 fn faults_of_texts(rt: HostRuntime) {
-    let cases: [(&[u8], Option<TableFault>); 14] = [
+    let cases: [(&[u8], Option<TableFault>); 17] = [
         (b"", Some(TableFault::NoHeader)),
         (b"\n\r\n", Some(TableFault::NoHeader)),
+        (b"\r\n", Some(TableFault::NoHeader)),
         (b"id,id", Some(TableFault::DuplicateColumn)),
         (b"id,a,b,id\n", Some(TableFault::DuplicateColumn)),
+        (b",", Some(TableFault::DuplicateColumn)),
+        (b"a,\"a\"\n1", Some(TableFault::DuplicateColumn)),
         (b"id,ID", None),
         (b"id,\xff,id", Some(TableFault::NotText)),
         (b"id\n\xff", Some(TableFault::NotText)),
@@ -97,6 +100,10 @@ fn quoted_fields(rt: HostRuntime) -> Result<(), Fail> {
 fn users_by_name(rt: HostRuntime) -> Result<(), Fail> {
     let alloc = rt.alloc();
     let users = Table::read(alloc, USERS)?;
+    for column in ["", "NAME"] {
+        let missing = CsvSource::by(alloc, &users, column, KeyMode::FoldAscii);
+        assert_eq!(rt; missing.err(), Some(TableFault::NoSuchColumn));
+    }
     let missing = CsvSource::by(alloc, &users, "x", KeyMode::Exact);
     assert_eq!(rt; missing.err(), Some(TableFault::NoSuchColumn));
     let keys = vec![in alloc; text_key(alloc, "ADA")?, text_key(alloc, "")?, Key::All]?;

@@ -1,10 +1,10 @@
 -- Loads, and what a memory says of them. A memory is a finite map from a loader's number and a cache key to an outcome;
 -- two loads of one loader with equal cache keys are answered by one pair of it.
-use Rattle.std.specs.Prelude.{◌≡◌, ◌==◌, ◌&&◌, ◌⊎◌, ℕ, zero, suc, Bool, List, [], ◌∷◌, Option, Some}
+use Rattle.std.specs.Prelude.{◌≡◌, ◌==◌, ◌&&◌, ◌⊎◌, ℕ, Bool, List, [], ◌∷◌, Option, Some}
+pub use Rattle.load_memory.specs.Keys.{mode_at}
 use Rattle.load_memory.specs.Keys.{KeyOf, folded, same_key}
 use Rattle.load_memory.specs.Outcomes.{OutcomeOf}
 use Rattle.load_memory.specs.declared.key.KeyMode.{KeyMode}
-use Rattle.load_memory.specs.declared.key.KeyMode.TheVariants.{Exact}
 
 -- a key that is asked of the loader of a number
 pub record Load : Type 0 where
@@ -18,12 +18,6 @@ Reader = Load → Option OutcomeOf
 -- by loader and cache key
 abbrev pub Memory : Type 0
 Memory = ℕ → KeyOf → Option OutcomeOf
-
--- how the loader of a number compares its keys
-abbrev pub mode_at : List KeyMode → ℕ → KeyMode
-mode_at [] loader = Exact
-mode_at (mode ∷ modes) zero = mode
-mode_at (mode ∷ modes) (suc loader) = mode_at modes loader
 
 abbrev pub cache_key : List KeyMode → Load → KeyOf
 cache_key modes load = folded (mode_at modes load.loader) load.key

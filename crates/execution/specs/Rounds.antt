@@ -3,6 +3,8 @@ use Rattle.std.specs.Prelude.{◌≡◌, ◌≢◌, ◌<◌, ◌⊎◌, ℕ, suc
 use Rattle.std.specs.Option.{option_or}
 use Rattle.load_memory.specs.Keys.{KeyOf, folded}
 use Rattle.load_memory.specs.Outcomes.{ItemOf, OutcomeOf, known, batch_fault}
+pub use Rattle.load_memory.specs.Pairs.{unless_failed}
+pub use Rattle.load_memory.specs.Replies.{reply_pairs, pairs_of}
 use Rattle.load_memory.specs.Pairs.{PairOf, look, primed}
 use Rattle.load_memory.specs.Replies.{ReplyOf}
 use Rattle.load_memory.specs.declared.key.KeyMode.{KeyMode}
@@ -65,17 +67,6 @@ AreReplies may [] (reply ∷ replies) = ⊥
 AreReplies may (order ∷ orders) [] = ⊥
 AreReplies may (order ∷ orders) (reply ∷ replies) = IsReply may order reply × AreReplies may orders replies
 
--- the pairs of a reply, place by place
-abbrev pub reply_pairs : KeyMode → ℕ → List KeyOf → List OutcomeOf → List PairOf
-reply_pairs mode loader [] outcomes = []
-reply_pairs mode loader (key ∷ keys) [] = []
-reply_pairs mode loader (key ∷ keys) (outcome ∷ outcomes) =
-    record { loader = loader; key = folded mode key; outcome = outcome } ∷ reply_pairs mode loader keys outcomes
-
-abbrev pub pairs_of : List KeyMode → List ReplyOf → List PairOf
-pairs_of modes [] = []
-pairs_of modes (r ∷ rs) = reply_pairs (mode_at modes r.loader) r.loader r.keys r.outcomes ++ pairs_of modes rs
-
 -- the memory with those pairs that are absent, of equal keys the first
 abbrev pub stored : Memory → List PairOf → Memory
 stored M pairs loader key = option_or (M loader key) (look pairs loader key)
@@ -94,11 +85,6 @@ AreRounds may rules p M (round ∷ rounds) end =
 -- *Lawful log*: rounds, until the front is empty
 abbrev pub IsLawful : (ℕ → List KeyOf → AnswerOf → Type 0) → List RuleOf → Program → Memory → List (List ReplyOf) → Memory → Type 0
 IsLawful may rules p M rounds end = AreRounds may rules p M rounds end × (front (modes_of rules) p end ≡ [])
-
-abbrev pub unless_failed : Option OutcomeOf → Option OutcomeOf
-unless_failed None = None
-unless_failed (Some (known item)) = Some (known item)
-unless_failed (Some (batch_fault text)) = None
 
 -- the memory without batch faults, at which a call's log begins
 abbrev pub without_failed : Memory → Memory

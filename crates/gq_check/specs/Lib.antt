@@ -1,2 +1,6 @@
 pub mod Plans
 pub mod Prepared
+pub mod Texts
+pub mod Verdict
+pub mod Told
+pub mod Planned

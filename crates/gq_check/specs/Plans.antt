@@ -1,5 +1,5 @@
 -- Plans, without where they lie in memory.
-use Rattle.std.specs.Prelude.{◌≡◌, ℕ, Bool, List, Option, map, find, bytes_eq}
+use Rattle.std.specs.Prelude.{ℕ, Bool, List, Option, map, find, bytes_eq}
 use Rattle.gq_parser.specs.declared.tree.Operation as rust-operation
 use Rattle.gq_parser.specs.declared.tree.Fragment as rust-fragment
 use Rattle.gq_parser.specs.declared.tree.Document as rust-document

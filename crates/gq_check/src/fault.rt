@@ -6,10 +6,10 @@ ghost use Rattle.gq_check.specs.declared.fault.CheckFault.TheVariants as check;
 
 use gq_lexer::Place;
 use std::alloc::{AllocError, AllocFailed};
+use std::error::Error;
 use std::fmt;
-use thiserror::Error;
 
-/// A rule of validation (section 5), by its title. It is displayed as its section and its title.
+/// A rule of validation (section 5), by its title.
 #[derive(Clone, Copy, Debug, PartialEq, Eq)]
 pub enum Rule {
     OperationNameUniqueness,
@@ -39,8 +39,12 @@ pub enum Rule {
 }
 
 impl Rule {
+    ghost use Rattle.gq_check.specs.Texts.{section_of, title_of};
+
     /// The number of its section.
-    pub fn section(self) -> &'static str {
+    pub fn section(self) -> &'static str
+        ensures { result.now ≡ section_of self }
+    {
         match self {
             Rule::OperationNameUniqueness => "5.2.1.1",
             Rule::LoneAnonymousOperation => "5.2.2.1",
@@ -70,7 +74,9 @@ impl Rule {
     }
 
     /// Its title.
-    pub fn title(self) -> &'static str {
+    pub fn title(self) -> &'static str
+        ensures { result.now ≡ title_of self }
+    {
         match self {
             Rule::OperationNameUniqueness => "Operation Name Uniqueness",
             Rule::LoneAnonymousOperation => "Lone Anonymous Operation",
@@ -100,62 +106,103 @@ impl Rule {
     }
 }
 
-impl fmt::Display for Rule {
-    fn fmt<W: fmt::Write>(&self, f: &mut fmt::Formatter<W>) -> fmt::Result {
-        let section = self.section();
-        let title = self.title();
-        write!(f, "{section} {title}")
-    }
-}
-
 /// Why a document is not valid. It is displayed as the message that a client reads, without the place.
-#[derive(Debug, Drop, Error)]
+#[derive(Debug, Drop)]
 pub enum CheckFault {
     /// A rule of validation is broken here, by what has this name.
-    #[error("{rule}: {name}")]
     Rule {
         rule: Rule,
         name: String,
         place: Place,
     },
     /// The document has more than 1,000 fields, each counted once where it is written.
-    #[error("too complex")]
     TooComplex,
     /// The operation here has more than 128 fields on a path, fragments expanded.
-    #[error("too many levels")]
     TooDeep(Place),
     /// An operation of another kind than query, or a field of introspection.
-    #[error("not served: {name}")]
     NotServed {
         /// The kind of the operation, or the name of the field.
         name: String,
         place: Place,
     },
     /// A growth was refused.
-    #[error("out of memory")]
     NoMemory,
 }
 
+impl CheckFault {
+    ghost use Rattle.gq_check.specs.Texts.{check_place};
+
+    /// The place of the fault, if it has one.
+    pub fn place(&self) -> Option<Place>
+        ensures { result ≡ check_place self.now }
+    {
+        match self {
+            CheckFault::Rule { place, .. } => Some(*place),
+            CheckFault::TooComplex => None,
+            CheckFault::TooDeep(place) => Some(*place),
+            CheckFault::NotServed { place, .. } => Some(*place),
+            CheckFault::NoMemory => None,
+        }
+    }
+}
+
+impl fmt::Display for CheckFault {
+    ghost use Rattle.std.specs.Prelude.{Some};
+    ghost use Rattle.gq_check.specs.Texts.{check_message};
+
+    ghost output = { λ fault. Some (check_message fault) };
+
+    fn fmt<W: fmt::Write>(&self, f: &mut fmt::Formatter<W>) -> fmt::Result {
+        match self {
+            CheckFault::Rule { rule, name, .. } => {
+                let section = rule.section();
+                let title = rule.title();
+                write!(f, "{section} {title}: {name}")
+            }
+            CheckFault::TooComplex => write!(f, "too complex"),
+            CheckFault::TooDeep(_) => write!(f, "too many levels"),
+            CheckFault::NotServed { name, .. } => write!(f, "not served: {name}"),
+            CheckFault::NoMemory => write!(f, "out of memory"),
+        }
+    }
+}
+
+impl Error for CheckFault {}
+
 /// Why a checked document gives no plan. It is displayed as the message that a client reads; none has a place.
-#[derive(Debug, Drop, Error)]
+#[derive(Debug, Drop)]
 pub enum PrepareFault {
     /// No operation of the document has this name.
-    #[error("no operation named {0}")]
     NoSuchOperation(String),
     /// No name is given, and the document has another number of operations than one.
-    #[error("operation name needed")]
     OperationNeeded,
     /// What the request gives for its variables is neither an object nor null.
-    #[error("variables must be an object")]
     VariablesNotObject,
     /// The variable of this name: the first, in the order of the definitions, whose value is not of its type, or that has
     /// none and may not be null.
-    #[error("bad value for variable ${0}")]
     BadVariable(String),
     /// A growth was refused.
-    #[error("out of memory")]
     NoMemory,
 }
+
+impl fmt::Display for PrepareFault {
+    ghost use Rattle.std.specs.Prelude.{Some};
+    ghost use Rattle.gq_check.specs.Texts.{prepare_message};
+
+    ghost output = { λ fault. Some (prepare_message fault) };
+
+    fn fmt<W: fmt::Write>(&self, f: &mut fmt::Formatter<W>) -> fmt::Result {
+        match self {
+            PrepareFault::NoSuchOperation(name) => write!(f, "no operation named {name}"),
+            PrepareFault::OperationNeeded => write!(f, "operation name needed"),
+            PrepareFault::VariablesNotObject => write!(f, "variables must be an object"),
+            PrepareFault::BadVariable(name) => write!(f, "bad value for variable ${name}"),
+            PrepareFault::NoMemory => write!(f, "out of memory"),
+        }
+    }
+}
+
+impl Error for PrepareFault {}
 
 impl From<AllocError> for PrepareFault {
     ghost from_gives = { λ _ e. e ≡ prepare.NoMemory };

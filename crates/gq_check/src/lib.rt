@@ -2,24 +2,29 @@
 //! 6.1).
 //!
 //! The layer above may rely on this: a [`Checked`] is a document that keeps every rule of validation over its schema, and
-//! [`check`] names the first fault of every other document. A [`Plan`] is an operation of such a document with the values of
-//! its variables, and [`prepare`] says why there is none. A plan's look-ups take no memory.
+//! [`check`] names the first fault of every other document, which is its one verdict ([`one_verdict`]). A [`Plan`] is an
+//! operation of such a document with the values of its variables, and [`prepare`] says why there is none. A plan's look-ups
+//! take no memory.
 #![tactic(auto)]
 
 mod checked;
 mod fault;
 mod fragments;
+mod law;
 mod operation;
 mod places;
 mod plan;
 mod preparation;
+mod rules;
 #[cfg(test)]
 mod tests;
+mod told;
 mod validation;
 mod variables;
 
 pub use checked::Checked;
 pub use fault::{CheckFault, PrepareFault, Rule};
+pub use law::one_verdict;
 pub use plan::Plan;
 pub use preparation::prepare;
 pub use validation::check;

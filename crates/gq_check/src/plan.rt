@@ -6,6 +6,7 @@ ghost use Rattle.gq_parser.specs.Tree.{fragment_of};
 ghost use Rattle.gq_schema.specs.Inputs.{input_of};
 ghost use Rattle.variable_values.specs.Variables.{value_in};
 ghost use Rattle.gq_check.specs.Plans.{plan_of, fragment_in};
+ghost use Rattle.gq_check.specs.Planned.{IsPlan};
 
 use crate::fragments::Fragments;
 use crate::variables::Variables;
@@ -38,6 +39,9 @@ impl<'a> Model for Plan<'a> {
 
     ghost coded = { Prim.hlevel (codes, type_ref.the_row.coded, literal.the_row.coded, argument.the_row.coded, set.the_row.coded, input.the_row.coded) };
 
+    ghost use Rattle.gq_check.specs.Plans.{plan_of};
+    ghost use Rattle.gq_check.specs.Planned.{IsPlan};
+
     ghost view = { λ p. record {
       definitions = p.schema.now;
       bindings = p.bindings.now;
@@ -45,10 +49,18 @@ impl<'a> Model for Plan<'a> {
       fragments = p.fragments;
       variables = p.variables;
     } };
+
+    ghost invariant = { λ p. IsPlan (plan_of (record {
+      definitions = p.schema.now;
+      bindings = p.bindings.now;
+      operation = p.operation;
+      fragments = p.fragments;
+      variables = p.variables;
+    })) };
 }
 
 impl<'a> Plan<'a> {
-    /// The plan of these parts.
+    /// The plan of these parts, which are prepared from a valid document.
     pub(crate) fn of(
         schema: &'a Schema,
         bindings: &'a Bindings,
@@ -56,6 +68,7 @@ impl<'a> Plan<'a> {
         fragments: Fragments,
         variables: Variables,
     ) -> Plan<'a>
+        requires { IsPlan (plan_of (record { definitions = schema.now; bindings = bindings.now; operation = operation; fragments = fragments; variables = variables })) }
         ensures { result ≡ record { definitions = schema.now; bindings = bindings.now; operation = operation; fragments = fragments; variables = variables } }
     {
         Plan {
@@ -83,7 +96,9 @@ impl<'a> Plan<'a> {
 
     /// The operation that is executed.
     pub fn operation(&self) -> &Operation
-        ensures { result.now ≡ self.now.operation }
+        ensures same { result.now ≡ self.now.operation }
+        // It is of a valid document, and the values of its variables are those that were given.
+        ensures prepared { IsPlan (plan_of self.now) }
     {
         &self.operation
     }

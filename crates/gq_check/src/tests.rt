@@ -1,1 +1,275 @@
-//! What no clause says: that calls succeed, and the texts of worked examples.
+//! What no clause says: that calls succeed, and the faults of worked examples as they are printed.
+use crate::{CheckFault, PrepareFault, check, prepare};
+use gq_parser::{Document, parse};
+use gq_schema::{Bindings, Schema};
+use serde_json::Value;
+use std::alloc::{AllocError, Global};
+use std::test::Fail;
+
+const SCHEMA: &str = "type Query { user(id: ID!): User usersByIds(ids: [ID!]!): [User]!
+  users: [User!]! named(id: ID!): Named }
+interface Named { name: String! }
+type User implements Named { id: ID! name: String! best: User
+  posts: [Post!]! liked: [Post]! }
+type Bot implements Named { id: ID! name: String! model: String }
+type Post { id: ID! author: User! title: String! }
+";
+
+const BINDINGS: &str = "bindings 1
+loader userById users by id
+loader allUsers users
+loader postsByAuthor posts by author
+loader namedById named by id
+loader likesByUser likes by user
+loader postById posts by id
+field Query.user one userById arg id
+field Query.usersByIds each userById arg ids
+field Query.users many allUsers all
+field Query.named one namedById arg id
+field User.best one userById column best
+field User.posts many postsByAuthor column id
+field User.liked via likesByUser column id postById post
+field Post.author one userById column author
+";
+
+// The message of a fault, and its line and column where it has a place.
+fn printed_fault(alloc: Global, fault: &CheckFault) -> Result<String, AllocError> {
+    match fault.place() {
+        Some(place) => {
+            let line = place.line;
+            let column = place.column;
+            format!(in alloc; "{fault} at {line}:{column}")
+        }
+        None => format!(in alloc; "{fault}"),
+    }
+}
+
+// What is told of a query over the schema; `valid` where nothing is.
+fn verdict(alloc: Global, schema: &Schema, query: &str) -> Result<String, Fail> {
+    let document = parse(alloc, query)?;
+    match check(alloc, schema, document) {
+        Ok(_) => Ok(String::from_str(alloc, "valid")?),
+        Err(fault) => Ok(printed_fault(alloc, &fault)?),
+    }
+}
+
+#[test]
+fn operations_and_fields(rt: HostRuntime) -> Result<(), Fail> {
+    let alloc = rt.alloc();
+    let schema = Schema::read(alloc, SCHEMA)?;
+    let cases = [
+        ("{user(id:1){name}}", "valid"),
+        ("mutation{user(id:1){name}}", "not served: mutation at 1:1"),
+        ("{a:__schema{types{name}}}", "not served: __schema at 1:2"),
+        (
+            "{user(id:1){age}} mutation M{a}",
+            "not served: mutation at 1:19",
+        ),
+        (
+            "query A{users{id}} query A{users{name}}",
+            "5.2.1.1 Operation Name Uniqueness: A at 1:20",
+        ),
+        (
+            "{users{id}} query B{users{id}}",
+            "5.2.2.1 Lone Anonymous Operation: query at 1:1",
+        ),
+        ("query A{users{id}} query B{users{id}}", "valid"),
+        ("{user(id:1){age}}", "5.3.1 Field Selections: age at 1:13"),
+        ("{named(id:1){__typename}}", "valid"),
+        ("{users}", "5.3.3 Leaf Field Selections: users at 1:2"),
+        ("{user{name}}", "5.4.2.1 Required Arguments: id at 1:2"),
+        (
+            "{user(id:1,age:2){name}}",
+            "5.4.1 Argument Names: age at 1:12",
+        ),
+        (
+            "{user(id:1,id:2){name}}",
+            "5.4.2 Argument Uniqueness: id at 1:12",
+        ),
+        (
+            "{user(id:true){name}}",
+            "5.6.1 Values of Correct Type: id at 1:10",
+        ),
+        (
+            "query($i:ID=true){user(id:$i){name}}",
+            "5.6.1 Values of Correct Type: $i at 1:13",
+        ),
+    ];
+    for (query, want) in cases {
+        let text = verdict(alloc, &schema, query)?;
+        assert_eq!(rt; text.as_str(), want, "{query}");
+    }
+    Ok(())
+}
+
+#[test]
+fn fragments_directives_and_variables(rt: HostRuntime) -> Result<(), Fail> {
+    let alloc = rt.alloc();
+    let schema = Schema::read(alloc, SCHEMA)?;
+    let cases = [
+        (
+            "{users{...F}} fragment F on User{id} fragment F on User{name}",
+            "5.5.1.1 Fragment Name Uniqueness: F at 1:38",
+        ),
+        (
+            "{users{...on Cat{name}}}",
+            "5.5.1.2 Fragment Spread Type Existence: Cat at 1:14",
+        ),
+        (
+            "{users{...on Int{name}}}",
+            "5.5.1.3 Fragments On Composite Types: Int at 1:14",
+        ),
+        (
+            "{users{id}} fragment F on User{id}",
+            "5.5.1.4 Fragments Must Be Used: F at 1:13",
+        ),
+        (
+            "{users{...F}}",
+            "5.5.2.1 Fragment Spread Target Defined: F at 1:8",
+        ),
+        (
+            "{users{...F}} fragment F on User{best{...F}}",
+            "5.5.2.2 Fragment Spreads Must Not Form Cycles: F at 1:15",
+        ),
+        (
+            "{users{...on Bot{model}}}",
+            "5.5.2.3 Fragment Spread Is Possible: Bot at 1:8",
+        ),
+        ("{named(id:1){...on Bot{model}}}", "valid"),
+        (
+            "{users{id@upper}}",
+            "5.7.1 Directives Are Defined: upper at 1:10",
+        ),
+        (
+            "query @skip(if:true){users{id}}",
+            "5.7.2 Directives Are In Valid Locations: skip at 1:7",
+        ),
+        (
+            "{users{id@skip(if:true)@skip(if:false)}}",
+            "5.7.3 Directives Are Unique Per Location: skip at 1:24",
+        ),
+        ("{users{id@skip(if:true)@include(if:false)}}", "valid"),
+        (
+            "query($i:ID!,$i:ID!){user(id:$i){name}}",
+            "5.8.1 Variable Uniqueness: i at 1:14",
+        ),
+        (
+            "query($u:User){users{id}}",
+            "5.8.2 Variables Are Input Types: u at 1:7",
+        ),
+        (
+            "{user(id:$i){name}}",
+            "5.8.3 All Variable Uses Defined: i at 1:10",
+        ),
+        (
+            "query($i:ID){users{id}}",
+            "5.8.4 All Variables Used: i at 1:7",
+        ),
+        (
+            "query($i:ID){user(id:$i){name}}",
+            "5.8.5 All Variable Usages Are Allowed: i at 1:22",
+        ),
+        ("query($i:ID=1){user(id:$i){name}}", "valid"),
+    ];
+    for (query, want) in cases {
+        let text = verdict(alloc, &schema, query)?;
+        assert_eq!(rt; text.as_str(), want, "{query}");
+    }
+    Ok(())
+}
+
+// `front`, `part` as often as this, and `back`.
+fn repeated(
+    alloc: Global,
+    front: &str,
+    part: &str,
+    times: usize,
+    back: &str,
+) -> Result<String, AllocError> {
+    let mut text = String::from_str(alloc, front)?;
+    for _ in 0..times {
+        text.push_str(part)?;
+    }
+    text.push_str(back)?;
+    Ok(text)
+}
+
+// `k` nested `best` round an `id`, in a fragment.
+fn nested(alloc: Global, k: usize) -> Result<String, AllocError> {
+    let front = "{user(id:1){...F}} fragment F on User{";
+    let mut text = repeated(alloc, front, "best{", k, "id")?;
+    for _ in 0..k {
+        text.push_str("}")?;
+    }
+    text.push_str("}")?;
+    Ok(text)
+}
+
+#[test]
+fn limits(rt: HostRuntime) -> Result<(), Fail> {
+    let alloc = rt.alloc();
+    let schema = Schema::read(alloc, SCHEMA)?;
+    for (times, want) in [(999, "valid"), (1_000, "too complex")] {
+        let query = repeated(alloc, "{user(id:1){", "id ", times, "}}")?;
+        let text = verdict(alloc, &schema, &query)?;
+        assert_eq!(rt; text.as_str(), want, "{times} fields");
+    }
+    for (k, want) in [(126, "valid"), (127, "too many levels at 1:1")] {
+        let query = nested(alloc, k)?;
+        let text = verdict(alloc, &schema, &query)?;
+        assert_eq!(rt; text.as_str(), want, "{k} levels");
+    }
+    Ok(())
+}
+
+// What the plan of a valid query is: the name of its operation and its variable `$i`; else the fault.
+fn planned(
+    alloc: Global,
+    query: &str,
+    name: Option<&str>,
+    variables: &str,
+) -> Result<String, Fail> {
+    let schema = Schema::read(alloc, SCHEMA)?;
+    let bindings = Bindings::read(alloc, &schema, BINDINGS)?;
+    let document: Document = parse(alloc, query)?;
+    let checked = check(alloc, &schema, document)?;
+    let variables = Value::from_str(alloc, variables)?;
+    match prepare(alloc, &schema, &bindings, checked, name, &variables) {
+        Ok(plan) => {
+            let name = &plan.operation().name;
+            let value = plan.variable("i");
+            let fragment = plan.fragment("F").is_some();
+            let fragments = plan.fragments().len();
+            let loaders = plan.loaders();
+            Ok(format!(in alloc; "{name:?} {value:?} {fragment} {fragments} {loaders}")?)
+        }
+        Err(fault) => Ok(format!(in alloc; "{fault}")?),
+    }
+}
+
+#[test]
+fn plans(rt: HostRuntime) -> Result<(), Fail> {
+    let alloc = rt.alloc();
+    let two = "query A{users{id}} query B{users{...F}} fragment F on User{id}";
+    let with = "query($i:ID=\"1\"){user(id:$i){name}}";
+    let bad = "bad value for variable $i";
+    let cases = [
+        ("{users{id}}", None, "null", "None None false 0 6"),
+        (two, Some("B"), "{}", "Some(\"B\") None true 1 6"),
+        (two, None, "{}", "operation name needed"),
+        (two, Some("C"), "[]", "no operation named C"),
+        (two, Some(""), "{}", "no operation named "),
+        (two, Some("B"), "[]", "variables must be an object"),
+        (with, None, "{}", "None Some(Text(\"1\")) false 0 6"),
+        (with, None, "{\"i\":7}", "None Some(Text(\"7\")) false 0 6"),
+        (with, None, "{\"i\":null}", "None Some(Null) false 0 6"),
+        (with, None, "{\"i\":1.5}", bad),
+    ];
+    for (query, name, variables, want) in cases {
+        let text = planned(alloc, query, name, variables)?;
+        assert_eq!(rt; text.as_str(), want, "{query} {variables}");
+    }
+    let text = format!(in alloc; "{}", PrepareFault::NoMemory)?;
+    assert_eq!(rt; text.as_str(), "out of memory");
+    Ok(())
+}

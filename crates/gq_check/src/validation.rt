@@ -1,18 +1,47 @@
 //! Validation (section 5).
 
-ghost use Rattle.std.specs.Prelude.{◌≡◌, IfOk};
+ghost use Rattle.std.specs.Prelude.{◌≡◌, IfOk, IfErr, OnOk};
+ghost use Rattle.gq_parser.specs.Tree.{document_of};
+ghost use Rattle.gq_schema.specs.Types.{tree_of};
+ghost use Rattle.gq_check.specs.Verdict.{IsVerdict, IsValid, IsCheckFault};
 
 use crate::checked::Checked;
 use crate::fault::CheckFault;
+use crate::rules::verdict;
+use document_parts::{Parts, condition_arguments};
 use gq_parser::Document;
 use gq_schema::Schema;
+use spread_graph::Graph;
 use std::alloc::Global;
 
+// Whether a document keeps every rule, and else its first fault.
+fn validate(alloc: Global, schema: &Schema, document: &Document) -> Result<(), CheckFault>
+    ensures ok { OnOk result (IsValid (tree_of schema.now) (document_of document.now)) }
+    ensures err { IfErr result (IsCheckFault (IsVerdict (tree_of schema.now) (document_of document.now))) }
+{
+    let condition = condition_arguments(alloc)?;
+    let parts = Parts::new(alloc, schema, &condition, document)?;
+    let graph = Graph::new(alloc, &parts)?;
+    match verdict(alloc, &parts, &graph)? {
+        Some(told) => Err(told.to_fault(alloc)?),
+        None => Ok(()),
+    }
+}
+
 /// The document, where it keeps every rule of validation over a schema.
+///
+/// # Errors
+///
+/// The first of these: [`NotServed`](CheckFault::NotServed); [`Rule`](CheckFault::Rule) for the rule with the lowest section
+/// number at its earliest place; [`TooDeep`](CheckFault::TooDeep) for the earliest such operation;
+/// [`TooComplex`](CheckFault::TooComplex). [`NoMemory`](CheckFault::NoMemory) comes where a growth is refused. The document is
+/// not given back. Field Selection Merging isn't asked yet.
 pub fn check(alloc: Global, schema: &Schema, document: Document) -> Result<Checked<'_>, CheckFault>
     ensures schema { IfOk result (λ checked. checked.definitions ≡ schema.now) }
     ensures document { IfOk result (λ checked. checked.document ≡ document) }
+    ensures ok { IfOk result (λ checked. IsValid (tree_of schema.now) (document_of checked.document)) }
+    ensures err { IfErr result (IsCheckFault (IsVerdict (tree_of schema.now) (document_of document))) }
 {
-    let _ = (alloc, schema, document);
-    Err(CheckFault::NoMemory)
+    validate(alloc, schema, &document)?;
+    Ok(Checked::of(schema, document))
 }

@@ -1,5 +1,5 @@
 -- When two keys are one, and what a list of pairs says of a key.
-use Rattle.std.proofs.Common.{◌≡◌, ℕ, Bool, true, false, List, [], ◌∷◌, ◌++◌, Option, Some, None, refl, ap}
+use Rattle.std.proofs.Common.{◌≡◌, ℕ, Bool, true, false, List, [], ◌∷◌, ◌++◌, Option, Some, None, refl, ap, ◌∙◌, sym}
 use Rattle.std.specs.Prelude.{◌==◌, is_some, if◌then◌else◌}
 use Rattle.std.proofs.lemmas.Slice.Eq.{bytes_eq-Decides}
 use Rattle.std.proofs.lemmas.Bool.{eqb-true, and_parts}
@@ -16,6 +16,14 @@ same_key-is (text s) (text t) e = ap text ((bytes_eq-Decides s t).0 e)
 pub same_key-refl : (a : KeyOf) → same_key a a ≡ true
 same_key-refl all = refl
 same_key-refl (text t) = (bytes_eq-Decides t t).1 refl
+
+pub same_key-sym : (a b : KeyOf) → same_key a b ≡ same_key b a
+same_key-sym a b = go (same_key a b) refl (same_key b a) refl where
+  go : (x : Bool) → same_key a b ≡ x → (y : Bool) → same_key b a ≡ y → x ≡ y
+  go true e true h = refl
+  go false e false h = refl
+  go true e false h = absurd (cc (sym h ∙ ap (same_key b) (same_key-is a b e) ∙ same_key-refl b))
+  go false e true h = absurd (cc (sym e ∙ ap (same_key a) (same_key-is b a h) ∙ same_key-refl a))
 
 -- the first of two that is there
 abbrev pub first_of_two : Option OutcomeOf → Option OutcomeOf → Option OutcomeOf
@@ -38,7 +46,7 @@ look-append (p ∷ ps) qs loader key = first_step (is_at loader key p) p.outcome
 pub primed-present : (ps : List PairOf) (p : PairOf) → is_some (look ps p.loader p.key) ≡ true → primed ps p ≡ ps
 primed-present ps p e = rw e refl
 
-nothing : (o : Option OutcomeOf) → is_some o ≡ false → o ≡ None
+pub nothing : (o : Option OutcomeOf) → is_some o ≡ false → o ≡ None
 nothing None e = refl
 nothing (Some x) e = absurd (cc e)
 

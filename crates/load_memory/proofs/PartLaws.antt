@@ -1,5 +1,5 @@
 -- What a memory's parts say of a key, and what a change of one part does.
-use Rattle.std.proofs.Common.{◌≡◌, ℕ, zero, suc, ◌+◌, ◌<◌, Bool, true, false, List, [], ◌∷◌, ◌++◌, map, length, get_or, Option, Some, None, refl, ap, ◌∙◌, sym, arith, length-append}
+use Rattle.std.proofs.Common.{◌≡◌, ℕ, zero, suc, ◌+◌, ◌<◌, ◌≤◌, Bool, true, false, List, [], ◌∷◌, ◌++◌, map, length, get_or, Option, Some, None, refl, ap, ◌∙◌, sym, arith, length-append}
 use Rattle.std.proofs.lemmas.List.{length-map, length-set}
 use Rattle.std.proofs.lemmas.Bool.{eqb-true, eqb-false, eq-eqb, ne_eqb, and_left}
 use Rattle.std.specs.Prelude.{◌==◌, ◌&&◌, cond, is_some, option_map, if◌then◌else◌, slice_set}
@@ -9,7 +9,7 @@ use Rattle.std.specs.Map.{lookup, keys_of, KeepsOthers}
 use Rattle.load_memory.specs.Keys.{KeyOf, key_of, cache_of, same_key}
 use Rattle.load_memory.specs.Outcomes.{OutcomeOf, outcome_of}
 use Rattle.load_memory.specs.Pairs.{PairOf, is_at, look, primed, IsSameMap, AreApart}
-use Rattle.load_memory.specs.Parts.{PartOf, EntriesOf, pair_at, pairs_from, look_in, HasOwnKeys, HaveOwnKeys, AreParts}
+use Rattle.load_memory.specs.Parts.{PartOf, EntriesOf, pair_at, pairs_from, look_in, HasOwnKeys, HaveOwnKeys, AreUnfailed, AreParts}
 use Rattle.load_memory.specs.declared.key.KeyMode.{KeyMode}
 use Rattle.load_memory.specs.declared.key.CacheKey.{CacheKey}
 use Rattle.load_memory.specs.declared.key.Key.{Key}
@@ -44,12 +44,12 @@ mapped-none (Some x) e = absurd (cc e)
 pub lookup-absent : (k : CacheKey) (es : EntriesOf) → look_in es (cache_of k) ≡ None → lookup ((cache_eq.eq-value).it k) es ≡ None
 lookup-absent k es e = mapped-none (lookup ((cache_eq.eq-value).it k) es) (lookup-cache k es ∙ e)
 
--- the entries of a part in which a key was put
-pub look_in-put : (k : CacheKey) (o : Outcome) (old new : EntriesOf) → lookup ((cache_eq.eq-value).it k) new ≡ Some o → KeepsOthers (cache_eq.eq-value).it ((cache_eq.eq-value).it k) old new
-    → (q : KeyOf) → look_in new q ≡ (if same_key q (cache_of k) then Some (outcome_of o) else look_in old q)
+-- the entries of a part in which a key was put, or from which it was taken
+pub look_in-put : (k : CacheKey) (w : Option Outcome) (old new : EntriesOf) → lookup ((cache_eq.eq-value).it k) new ≡ w → KeepsOthers (cache_eq.eq-value).it ((cache_eq.eq-value).it k) old new
+    → (q : KeyOf) → look_in new q ≡ (if same_key q (cache_of k) then option_map outcome_of w else look_in old q)
 unfolding KeepsOthers
-look_in-put k o old new here others q = go (same_key q (cache_of k)) refl where
-  go : (b : Bool) → same_key q (cache_of k) ≡ b → look_in new q ≡ (if b then Some (outcome_of o) else look_in old q)
+look_in-put k w old new here others q = go (same_key q (cache_of k)) refl where
+  go : (b : Bool) → same_key q (cache_of k) ≡ b → look_in new q ≡ (if b then option_map outcome_of w else look_in old q)
   go true e = ap (look_in new) (same_key-is q (cache_of k) e) ∙ sym (lookup-cache k new) ∙ ap (option_map outcome_of) here
   go false e =
       let test : CacheKey → Bool = λ x. same_key q (cache_of x) in
@@ -104,12 +104,12 @@ at_part-read (p ∷ ps) zero d q lt = refl
 at_part-read (p ∷ ps) (suc i) d q lt = at_part-read ps i d q (omega arith)
 
 -- one part is changed
-at_part-same : (ps : List PartOf) (i : ℕ) (x : PartOf) (q : KeyOf) → i < length ps → at_part (slice_set ps i x) i q ≡ look_in x.entries q
+pub at_part-same : (ps : List PartOf) (i : ℕ) (x : PartOf) (q : KeyOf) → i < length ps → at_part (slice_set ps i x) i q ≡ look_in x.entries q
 at_part-same [] i x q lt = absurd (omega arith)
 at_part-same (p ∷ ps) zero x q lt = refl
 at_part-same (p ∷ ps) (suc i) x q lt = at_part-same ps i x q (omega arith)
 
-at_part-other : (ps : List PartOf) (i j : ℕ) (x : PartOf) (q : KeyOf) → (j ≡ i → ⊥) → at_part (slice_set ps i x) j q ≡ at_part ps j q
+pub at_part-other : (ps : List PartOf) (i j : ℕ) (x : PartOf) (q : KeyOf) → (j ≡ i → ⊥) → at_part (slice_set ps i x) j q ≡ at_part ps j q
 at_part-other [] i j x q ne = refl
 at_part-other (p ∷ ps) zero zero x q ne = absurd (ne refl)
 at_part-other (p ∷ ps) zero (suc j) x q ne = refl
@@ -132,13 +132,19 @@ HaveOwnKeys-at [] i d own lt = absurd (omega arith)
 HaveOwnKeys-at (p ∷ ps) zero d own lt = own.0
 HaveOwnKeys-at (p ∷ ps) (suc i) d own lt = HaveOwnKeys-at ps i d own.1 (omega arith)
 
--- a part with one more entry
-pub pairs-counted : (n : ℕ) (ps : List PartOf) (i : ℕ) (x d : PartOf) → length x.entries ≡ length (get_or ps i d).entries + 1 → i < length ps → length (pairs_from n (slice_set ps i x)) ≡ length (pairs_from n ps) + 1
-pairs-counted n [] i x d e lt = absurd (omega arith)
-pairs-counted n (p ∷ ps) zero x d e lt =
+-- the pairs where one part has other entries
+pub pairs-counted : (n : ℕ) (ps : List PartOf) (i : ℕ) (x d : PartOf) → i < length ps → length (pairs_from n (slice_set ps i x)) + length (get_or ps i d).entries ≡ length (pairs_from n ps) + length x.entries
+pairs-counted n [] i x d lt = absurd (omega arith)
+pairs-counted n (p ∷ ps) zero x d lt =
     omega (arith, length-append (map (pair_at n) x.entries) (pairs_from (suc n) ps), length-append (map (pair_at n) p.entries) (pairs_from (suc n) ps), length-map x.entries (pair_at n), length-map p.entries (pair_at n))
-pairs-counted n (p ∷ ps) (suc i) x d e lt =
-    omega (arith, length-append (map (pair_at n) p.entries) (pairs_from (suc n) (slice_set ps i x)), length-append (map (pair_at n) p.entries) (pairs_from (suc n) ps), pairs-counted (suc n) ps i x d e (omega arith))
+pairs-counted n (p ∷ ps) (suc i) x d lt =
+    omega (arith, length-append (map (pair_at n) p.entries) (pairs_from (suc n) (slice_set ps i x)), length-append (map (pair_at n) p.entries) (pairs_from (suc n) ps), pairs-counted (suc n) ps i x d (omega arith))
+
+-- one part has no more pairs than there are
+pub part-within : (n : ℕ) (ps : List PartOf) (i : ℕ) (d : PartOf) → i < length ps → length (get_or ps i d).entries ≤ length (pairs_from n ps)
+part-within n [] i d lt = absurd (omega arith)
+part-within n (p ∷ ps) zero d lt = omega (arith, length-append (map (pair_at n) p.entries) (pairs_from (suc n) ps), length-map p.entries (pair_at n))
+part-within n (p ∷ ps) (suc i) d lt = omega (arith, length-append (map (pair_at n) p.entries) (pairs_from (suc n) ps), part-within (suc n) ps i d (omega arith))
 
 -- what is put where nothing is
 pub pairs-put : (ps : List PartOf) (i : ℕ) (x d : PartOf) (key : KeyOf) (o : OutcomeOf) → i < length ps → d ≡ get_or ps i d → is_some (look (pairs_from 0 ps) i key) ≡ false
@@ -166,19 +172,23 @@ HaveOwnKeys-more [] p own new = (new, tt)
 HaveOwnKeys-more (x ∷ ps) p own new = (own.0, HaveOwnKeys-more ps p own.1 new)
 
 -- the parts after one has kept its entries, and after one has gained an entry
-module _ (modes : List KeyMode) (parts : List PartOf) (count i : ℕ) (x d : PartOf) where
-  pub AreParts-kept : AreParts modes parts count → i < length parts → x.entries ≡ (get_or parts i d).entries → AreParts modes (slice_set parts i x) count
+module _ (modes : List KeyMode) (parts : List PartOf) (count : ℕ) (failed : Bool) (i : ℕ) (x d : PartOf) where
+  pub AreParts-kept : AreParts modes parts count failed → i < length parts → x.entries ≡ (get_or parts i d).entries → AreParts modes (slice_set parts i x) count failed
   AreParts-kept are lt e = record {
     lined_up = length-set parts i x ∙ are.lined_up;
     own_keys = HaveOwnKeys-set parts i x are.own_keys (rw e (HaveOwnKeys-at parts i d are.own_keys lt));
     counted = are.counted ∙ ap length (sym (pairs-kept 0 parts i x d e lt));
+    unfailed = rw (pairs-kept 0 parts i x d e lt) are.unfailed;
   }
 
-  pub AreParts-more : AreParts modes parts count → i < length parts → HasOwnKeys x → length x.entries ≡ length (get_or parts i d).entries + 1 → AreParts modes (slice_set parts i x) (count + 1)
-  AreParts-more are lt own e = record {
+  -- one part has other entries
+  pub AreParts-changed : (many : ℕ) (marked : Bool) → AreParts modes parts count failed → i < length parts → HasOwnKeys x → many + length (get_or parts i d).entries ≡ count + length x.entries
+      → (marked ≡ false → AreUnfailed (pairs_from 0 (slice_set parts i x))) → AreParts modes (slice_set parts i x) many marked
+  AreParts-changed many marked are lt own e unfailed = record {
     lined_up = length-set parts i x ∙ are.lined_up;
     own_keys = HaveOwnKeys-set parts i x are.own_keys own;
-    counted = omega (arith, are.counted, pairs-counted 0 parts i x d e lt);
+    counted = omega (arith, are.counted, e, pairs-counted 0 parts i x d lt);
+    unfailed = unfailed;
   }
 
 told : (o : Option Outcome) (b : Bool) → is_some o ≡ b → is_some (option_map outcome_of o) ≡ b

@@ -1,8 +1,9 @@
 -- *Finite memory*: the pairs of a loader's number and a cache key with an outcome, and what they say of a key.
 use Rattle.std.specs.Prelude.{◌≡◌, ◌==◌, ◌&&◌, ℕ, Bool, List, [], ◌∷◌, ◌++◌, Option, Some, None, if◌then◌else◌, is_some}
 use Rattle.std.specs.List.{IsDistinct}
+use Rattle.std.specs.Option.{option_or}
 use Rattle.load_memory.specs.Keys.{KeyOf, same_key}
-use Rattle.load_memory.specs.Outcomes.{OutcomeOf}
+use Rattle.load_memory.specs.Outcomes.{OutcomeOf, known, batch_fault}
 use Rattle.load_memory.specs.declared.key.KeyMode.{KeyMode}
 
 pub record PairOf : Type 0 where
@@ -37,3 +38,25 @@ AreApart ps = IsDistinct (λ p q. is_at p.loader p.key q) ps
 -- the pairs with one more, where its key is absent
 abbrev pub primed : List PairOf → PairOf → List PairOf
 primed ps p = if is_some (look ps p.loader p.key) then ps else ps ++ p ∷ []
+
+-- the second is the map of the first without the keys that a test names
+abbrev pub IsWithout : (ℕ → KeyOf → Bool) → List PairOf → List PairOf → Type 0
+IsWithout names old new = (loader : ℕ) (key : KeyOf) → look new loader key ≡ (if names loader key then None else look old loader key)
+
+-- the test that names one key of one loader
+abbrev pub is_key : ℕ → KeyOf → ℕ → KeyOf → Bool
+is_key at cached loader key = (at == loader) && same_key cached key
+
+-- what is known, unless the batch failed as a whole
+abbrev pub unless_failed : Option OutcomeOf → Option OutcomeOf
+unless_failed None = None
+unless_failed (Some (known item)) = Some (known item)
+unless_failed (Some (batch_fault text)) = None
+
+-- the second is the map of the first without batch faults
+abbrev pub IsUnfailed : List PairOf → List PairOf → Type 0
+IsUnfailed old new = (loader : ℕ) (key : KeyOf) → look new loader key ≡ unless_failed (look old loader key)
+
+-- the last is the map of the first with those of some more pairs whose keys are absent, of equal keys the first
+abbrev pub IsWith : List PairOf → List PairOf → List PairOf → Type 0
+IsWith old more new = (loader : ℕ) (key : KeyOf) → look new loader key ≡ option_or (look old loader key) (look more loader key)

@@ -1,15 +1,16 @@
 -- The pairs of a memory that keeps a hash map for each loader.
-use Rattle.std.specs.Prelude.{◌≡◌, ℕ, suc, List, [], ◌∷◌, ◌++◌, map, length, Option, option_map}
-use Rattle.std.specs.HashMap.{HashMap, IsUnique}
+use Rattle.std.specs.Prelude.{◌≡◌, ◌==◌, ◌≤◌, ℕ, zero, suc, Bool, false, List, [], ◌∷◌, ◌++◌, map, length, Option, option_map, if◌then◌else◌}
+use Rattle.std.specs.HashMap.{HashMap, IsUnique, spare}
 use Rattle.std.specs.Map.{lookup}
 use Rattle.std.specs.declared.hash.FoldHasher.{FoldHasher}
 use Rattle.std.specs.declared.hash.BuildHasherDefault.{BuildHasherDefault}
 use Rattle.load_memory.specs.Keys.{KeyOf, cache_of, same_key}
 use Rattle.load_memory.specs.Outcomes.{OutcomeOf, outcome_of}
-use Rattle.load_memory.specs.Pairs.{PairOf}
+use Rattle.load_memory.specs.Pairs.{PairOf, look, unless_failed}
 use Rattle.load_memory.specs.declared.key.CacheKey.{CacheKey}
 use Rattle.load_memory.specs.declared.key.KeyMode.{KeyMode}
 use Rattle.load_memory.specs.declared.outcome.Outcome.{Outcome}
+use Rattle.load_memory.specs.declared.part.Staged.{Staged}
 use Rattle.load_memory.specs.contracts.key.CacheKeyPartialEq.TheImpl as key_eq
 
 -- one loader's part of the memory
@@ -38,8 +39,33 @@ abbrev pub HaveOwnKeys : List PartOf → Type 0
 HaveOwnKeys [] = Unit {0}
 HaveOwnKeys (p ∷ ps) = HasOwnKeys p × HaveOwnKeys ps
 
--- there is a part for each mode, no part has a key twice, and the pairs are counted
-pub record AreParts (modes : List KeyMode) (parts : List PartOf) (count : ℕ) : Type 0 where
+-- no batch of these failed as a whole
+abbrev pub AreUnfailed : List PairOf → Type 0
+AreUnfailed ps = (loader : ℕ) (key : KeyOf) → unless_failed (look ps loader key) ≡ look ps loader key
+
+-- There is a part for each mode, no part has a key twice, the pairs are counted, and where some batch failed that is
+-- marked.
+pub record AreParts (modes : List KeyMode) (parts : List PartOf) (count : ℕ) (failed : Bool) : Type 0 where
   pub lined_up : length parts ≡ length modes
   pub own_keys : HaveOwnKeys parts
   pub counted : count ≡ length (pairs_from 0 parts)
+  pub unfailed : failed ≡ false → AreUnfailed (pairs_from 0 parts)
+
+-- a pair that is to be stored
+abbrev pub staged_of : Staged → PairOf
+staged_of s = record { loader = s.loader; key = cache_of s.key; outcome = outcome_of s.outcome }
+
+-- how many of these are of the loader of a number
+abbrev pub count_at : ℕ → List Staged → ℕ
+count_at loader [] = 0
+count_at loader (s ∷ pairs) = if s.loader == loader then suc (count_at loader pairs) else count_at loader pairs
+
+-- the places that the part of a loader has to spare
+abbrev pub room_at : List PartOf → ℕ → ℕ
+room_at [] loader = 0
+room_at (p ∷ ps) zero = spare p
+room_at (p ∷ ps) (suc loader) = room_at ps loader
+
+-- each part has room for the pairs of its loader
+abbrev pub HaveRoom : List PartOf → List Staged → Type 0
+HaveRoom parts pairs = (loader : ℕ) → count_at loader pairs ≤ room_at parts loader

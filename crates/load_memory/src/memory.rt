@@ -1,20 +1,22 @@
 //! The memory: a finite map from a loader's number and a cache key to an outcome.
-ghost use Rattle.std.specs.Prelude.{IsTrue, ◌↔◌, ◌≡◌, ◌<◌, ◌+◌, [], length, Some, None, IfOk, OnOk, OnErr, is_none, option_map, option_copied, slice_get, if◌then◌else◌, ℕ};
-ghost use Rattle.std.specs.HashMap.{IsUnchanged};
-ghost use Rattle.load_memory.specs.Keys.{KeyOf, cache_of, same_key};
+ghost use Rattle.std.specs.Prelude.{IsTrue, ◌↔◌, ◌≡◌, ◌==◌, ◌<◌, [], All, map, length, Some, IfOk, OnOk, OnErr, is_some, is_none, option_map, option_copied, slice_get, if◌then◌else◌, ℕ};
+ghost use Rattle.load_memory.specs.Keys.{KeyOf, cache_of};
 ghost use Rattle.load_memory.specs.Outcomes.{known, outcome_of, item_of};
-ghost use Rattle.load_memory.specs.Pairs.{pair_of, look, primed, IsSameMap, AreApart};
-ghost use Rattle.load_memory.specs.Parts.{look_in, HasOwnKeys};
+ghost use Rattle.load_memory.specs.Pairs.{pair_of, look, primed, IsSameMap, AreApart, IsWithout, is_key, unless_failed, IsUnfailed, IsWith};
+ghost use Rattle.load_memory.specs.Parts.{staged_of};
+ghost use Rattle.load_memory.specs.Replies.{reply_of, pairs_of};
+ghost use Rattle.load_memory.specs.Shelves.{IsOn, shown};
 
 use crate::key::{CacheKey, KeyMode};
 use crate::no_memory::NoMemory;
 use crate::outcome::{Item, Outcome};
+use crate::part::{Part, Staged, drop_failed_of, put_absent, take_out};
+use crate::reply::Reply;
+use crate::shelf::{Receipt, Shelf};
+use crate::store::{counts_of, has_failed, make_room, put_all, stage};
 use std::alloc::Global;
 use std::collections::HashMap;
 use std::marker::Model;
-
-/// One loader's part of the memory.
-type Part = HashMap<CacheKey, Outcome>;
 
 /// What is known of the keys of each loader. A contract sees the loaders' modes and the pairs.
 ///
@@ -24,6 +26,8 @@ pub struct Memory {
     modes: Vec<KeyMode>,
     parts: Vec<Part>,
     count: usize,
+    // whether some pair may be that of a batch that failed as a whole
+    failed: bool,
 }
 
 impl Model for Memory {
@@ -34,7 +38,7 @@ impl Model for Memory {
 
     ghost view = { λ m. record { modes = m.modes.items; pairs = pairs_from 0 m.parts.items } };
 
-    ghost invariant = { λ m. AreParts m.modes.items m.parts.items m.count };
+    ghost invariant = { λ m. AreParts m.modes.items m.parts.items m.count m.failed };
 }
 
 impl Memory {
@@ -50,6 +54,7 @@ impl Memory {
             modes,
             parts,
             count: 0,
+            failed: false,
         })
     }
 
@@ -102,37 +107,109 @@ impl Memory {
         ensures modes { self.new.modes ≡ self.old.modes }
         ensures kept { OnErr result (self.new ≡ self.old) }
     {
-        self.add(loader, key, Outcome::from(item))
-    }
-
-    fn add(&mut self, loader: usize, key: CacheKey, outcome: Outcome) -> Result<bool, NoMemory>
-        requires { loader < length self.old.modes }
-        ensures told { IfOk result (λ added. added ≡ is_none (look self.old.pairs loader (cache_of key))) }
-        ensures pairs { OnOk result (IsSameMap self.new.pairs
-            (primed self.old.pairs (pair_of loader (cache_of key) (outcome_of outcome)))) }
-        ensures modes { self.new.modes ≡ self.old.modes }
-        ensures kept { OnErr result (self.new ≡ self.old) }
-    {
         if self.parts[loader].contains_key(&key) {
             return Ok(false);
         }
         let count = self.count.checked_add(1).ok_or(NoMemory)?;
-        put_absent(&mut self.parts[loader], key, outcome)?;
+        put_absent(&mut self.parts[loader], key, Outcome::from(item))?;
         self.count = count;
         Ok(true)
     }
-}
 
-/// Puts a pair whose key is absent.
-fn put_absent(part: &mut Part, key: CacheKey, outcome: Outcome) -> Result<(), NoMemory>
-    requires { look_in part.old.entries (cache_of key) ≡ None }
-    ensures pairs { OnOk result ((q : KeyOf) → look_in part.new.entries q
-        ≡ (if same_key q (cache_of key) then Some (outcome_of outcome)
-        else look_in part.old.entries q)) }
-    ensures count { OnOk result (length part.new.entries ≡ length part.old.entries + 1) }
-    ensures own_keys { OnOk result (HasOwnKeys part.new) }
-    ensures kept { OnErr result (IsUnchanged part.old part.new) }
-{
-    part.insert(key, outcome)?;
-    Ok(())
+    /// Forgets what is known of a loader's key. Gives true where it was known.
+    pub fn clear(&mut self, loader: usize, key: &CacheKey) -> bool
+        requires { loader < length self.old.modes }
+        ensures told { result ≡ is_some (look self.old.pairs loader (cache_of key.now)) }
+        ensures pairs { IsWithout (is_key loader (cache_of key.now)) self.old.pairs self.new.pairs }
+        ensures modes { self.new.modes ≡ self.old.modes }
+    {
+        let removed = take_out(&mut self.parts[loader], key);
+        if removed {
+            self.count -= 1;
+        }
+        removed
+    }
+
+    /// Forgets what is known of the keys of one loader.
+    pub fn clear_all(&mut self, loader: usize)
+        requires { loader < length self.old.modes }
+        ensures pairs { IsWithout (λ l _. loader == l) self.old.pairs self.new.pairs }
+        ensures modes { self.new.modes ≡ self.old.modes }
+    {
+        self.count -= self.parts[loader].len();
+        self.parts[loader].clear();
+    }
+
+    /// Forgets the keys whose batch failed as a whole. Where no batch did since the last time, it looks
+    /// at no pair.
+    pub fn drop_failed(&mut self)
+        ensures pairs { IsUnfailed self.old.pairs self.new.pairs }
+        ensures modes { self.new.modes ≡ self.old.modes }
+    {
+        if !self.failed {
+            return;
+        }
+        for loader in 0..self.parts.len() {
+            self.drop_failed_at(loader);
+        }
+        self.failed = false;
+    }
+
+    fn drop_failed_at(&mut self, loader: usize)
+        requires { loader < length self.old.modes }
+        ensures pairs { (l : ℕ) (key : KeyOf) → look self.new.pairs l key
+            ≡ (if loader == l then unless_failed (look self.old.pairs l key) else look self.old.pairs l key) }
+        ensures modes { self.new.modes ≡ self.old.modes }
+    {
+        self.count -= drop_failed_of(&mut self.parts[loader]);
+    }
+
+    /// Adds the pairs of replies, one after another, whose keys are absent, of equal keys the first.
+    /// After a refused growth every key is known or not as before.
+    pub fn keep(&mut self, replies: &[Reply]) -> Result<(), NoMemory>
+        requires { All (λ (r : Reply). r.loader < length self.old.modes) replies.now }
+        ensures pairs { OnOk result (IsWith self.old.pairs
+            (pairs_of self.old.modes (map reply_of replies.now)) self.new.pairs) }
+        ensures modes { self.new.modes ≡ self.old.modes }
+        ensures kept { OnErr result (IsSameMap self.new.pairs self.old.pairs) }
+    {
+        let mut pairs = Vec::new(*self.modes.allocator());
+        for reply in replies {
+            stage(&mut pairs, self.mode(reply.loader), reply)?;
+        }
+        self.store(pairs)
+    }
+
+    /// Adds the pairs of the replies that receipts of this shelf show, as [`keep`](Memory::keep) does.
+    pub fn index(&mut self, shelf: &Shelf, receipts: &[Receipt]) -> Result<(), NoMemory>
+        requires shelf { All (IsOn shelf.now) receipts.now }
+        requires loaders { All (λ r. (shown r).loader < length self.old.modes) receipts.now }
+        ensures pairs { OnOk result (IsWith self.old.pairs
+            (pairs_of self.old.modes (map shown receipts.now)) self.new.pairs) }
+        ensures modes { self.new.modes ≡ self.old.modes }
+        ensures kept { OnErr result (IsSameMap self.new.pairs self.old.pairs) }
+    {
+        let mut pairs = Vec::new(*self.modes.allocator());
+        for receipt in receipts {
+            let reply = shelf.at(receipt);
+            stage(&mut pairs, self.mode(reply.loader), reply)?;
+        }
+        self.store(pairs)
+    }
+
+    fn store(&mut self, pairs: Vec<Staged>) -> Result<(), NoMemory>
+        requires { All (λ (s : Staged). s.loader < length self.old.modes) pairs.items }
+        ensures pairs { OnOk result (IsWith self.old.pairs (map staged_of pairs.items) self.new.pairs) }
+        ensures modes { self.new.modes ≡ self.old.modes }
+        ensures kept { OnErr result (IsSameMap self.new.pairs self.old.pairs) }
+    {
+        if self.count.checked_add(pairs.len()).is_none() {
+            return Err(NoMemory);
+        }
+        let counts = counts_of(*pairs.allocator(), &pairs, self.parts.len())?;
+        make_room(&mut self.parts, &counts)?;
+        self.failed |= has_failed(&pairs);
+        self.count += put_all(&mut self.parts, pairs);
+        Ok(())
+    }
 }

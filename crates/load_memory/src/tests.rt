@@ -1,3 +1,5 @@
+ghost use Rattle.std.specs.Prelude.{◌≡◌};
+
 use super::*;
 use std::alloc::{AllocError, Global};
 use std::test::Fail;
@@ -125,5 +127,98 @@ fn is_a_finite_map(rt: HostRuntime) -> Result<(), Fail> {
         let all = cache_key(alloc, &Key::All, KeyMode::Exact)?;
         assert!(rt; memory.get(loader, &all).is_none());
     }
+    Ok(())
+}
+
+fn is_known(alloc: Global, memory: &Memory, loader: usize, key: &str) -> Result<bool, Fail> {
+    if loader >= memory.modes().len() {
+        return Ok(false);
+    }
+    let cached = cache_key(alloc, &text(alloc, key)?, memory.mode(loader))?;
+    Ok(memory.get(loader, &cached).is_some())
+}
+
+/// A reply with a fault for each of two keys, of the whole batch or of each key.
+fn reply(alloc: Global, loader: usize, keys: [&str; 2], whole: bool) -> Result<Reply, Fail> {
+    let mut outcomes = Vec::new(alloc);
+    for key in keys {
+        let fault = String::from_str(alloc, key)?;
+        outcomes.push(if whole {
+            Outcome::BatchFault(fault)
+        } else {
+            Outcome::KeyFault(fault)
+        })?;
+    }
+    let [first, second] = keys;
+    let keys = vec![in alloc; text(alloc, first)?, text(alloc, second)?]?;
+    Ok(Reply {
+        loader,
+        keys,
+        outcomes,
+    })
+}
+
+fn two_loaders(alloc: Global) -> Result<Memory, Fail> {
+    let modes = [KeyMode::FoldAscii, KeyMode::Exact];
+    Ok(Memory::new(alloc, modes.to_vec(alloc)?)?)
+}
+
+/// Keeps replies, if there is a loader for each.
+fn keep_all(memory: &mut Memory, replies: &[Reply]) -> Result<bool, NoMemory>
+    ensures { memory.new.modes ≡ memory.old.modes }
+{
+    for reply in replies {
+        if reply.loader >= memory.modes().len() {
+            return Ok(false);
+        }
+    }
+    memory.keep(replies)?;
+    Ok(true)
+}
+
+#[test]
+fn keeps_and_clears(rt: HostRuntime) -> Result<(), Fail> {
+    let alloc = rt.alloc();
+    let mut memory = two_loaders(alloc)?;
+    assert!(rt; memory.modes().len() == 2);
+    let replies = [
+        reply(alloc, 0, ["a", "A"], false)?,
+        reply(alloc, 1, ["a", "A"], false)?,
+        reply(alloc, 0, ["b", "a"], true)?,
+    ];
+    assert!(rt; keep_all(&mut memory, &replies)?);
+    assert_eq!(rt; memory.len(), 4);
+    assert!(rt; is_known(alloc, &memory, 0, "B")?);
+    memory.drop_failed();
+    assert_eq!(rt; memory.len(), 3);
+    assert!(rt; is_known(alloc, &memory, 0, "a")?);
+    assert!(rt; !is_known(alloc, &memory, 0, "b")?);
+    let a = cache_key(alloc, &text(alloc, "a")?, KeyMode::Exact)?;
+    assert!(rt; memory.modes().len() == 2);
+    assert!(rt; memory.clear(1, &a));
+    assert!(rt; !memory.clear(1, &a));
+    assert!(rt; is_known(alloc, &memory, 1, "A")?);
+    assert!(rt; memory.modes().len() == 2);
+    memory.clear_all(1);
+    assert_eq!(rt; memory.len(), 1);
+    assert!(rt; is_known(alloc, &memory, 0, "a")?);
+    Ok(())
+}
+
+#[test]
+fn indexes_receipts(rt: HostRuntime) -> Result<(), Fail> {
+    let alloc = rt.alloc();
+    let mut memory = two_loaders(alloc)?;
+    assert!(rt; memory.modes().len() == 2);
+    let shelf = Shelf::new(alloc)?;
+    let Ok(receipt) = shelf.put(&rt, reply(alloc, 1, ["a", "b"], false)?) else {
+        return Err(Fail::from("no memory"));
+    };
+    assert_eq!(rt; shelf.at(&receipt).keys.len(), 2);
+    assert!(rt; shelf.at(&receipt).loader < memory.modes().len());
+    let receipts = vec![in alloc; receipt]?;
+    memory.index(&shelf, receipts.as_slice())?;
+    assert_eq!(rt; memory.len(), 2);
+    assert!(rt; is_known(alloc, &memory, 1, "b")?);
     Ok(())
 }

@@ -1,3 +1,4 @@
+pub mod MarkLaws
 pub mod PieceLaws
 pub mod ReplyLaws
 pub mod WantLaws

@@ -1,5 +1,5 @@
 -- What contracts see of a loader and of the entries of its log.
-use Rattle.std.specs.Prelude.{◌≡◌, ◌<◌, ◌⊎◌, ◌++◌, ℕ, Bool, false, List, Option, Some, None, map}
+use Rattle.std.specs.Prelude.{◌≡◌, ◌==◌, ◌<◌, ◌⊎◌, ◌++◌, ℕ, Bool, true, false, List, Option, Some, None, map, if◌then◌else◌}
 use Rattle.load_memory.specs.Keys.{KeyOf}
 use Rattle.load_memory.specs.declared.key.KeyMode.{KeyMode}
 use Rattle.load_queue.specs.Batches.{batches}
@@ -24,6 +24,14 @@ pub record LoaderOf (S : Type 0) : Type 0 where
 -- the loader once these keys are asked in this round: its log has gained an entry for each batch
 abbrev pub asked_in : {S : Type 0} → LoaderOf S → ℕ → List KeyOf → LoaderOf S
 asked_in l round keys = record l { log = l.log ++ map (entered round) (batches l.limit keys) }
+
+-- the entry, as stored if it is of this round
+abbrev pub marked : ℕ → AskedOf → AskedOf
+marked round entry = if entry.round == round then record entry { stored = true } else entry
+
+-- the loader once the outcomes of this round are stored
+abbrev pub stored_in : {S : Type 0} → LoaderOf S → ℕ → LoaderOf S
+stored_in l round = record l { log = map (marked round) l.log }
 
 -- a limit that no loader may have
 abbrev pub IsBadLimit : Option ℕ → Type 0

@@ -1,5 +1,5 @@
 //! A loader: a source with its name, its mode, its limit and its log.
-ghost use Rattle.std.specs.Prelude.{◌≡◌, ◌↔◌, [], IfOk, OnOk, OnErr, IsErrOf, map};
+ghost use Rattle.std.specs.Prelude.{◌≡◌, ◌↔◌, ◌<◌, ℕ, Some, [], IfOk, OnOk, OnErr, IsErrOf, map};
 ghost use Rattle.load_memory.specs.Keys.{key_of};
 ghost use Rattle.load_queue.specs.Batches.{AreBatches};
 ghost use Rattle.load_queue.specs.Orders.{orders_of};
@@ -81,7 +81,7 @@ impl<S> Model for Loader<S> {
 
 impl<S> Loader<S> {
     ghost use Rattle.load_queue.specs.Logs.{asked_of};
-    ghost use Rattle.load_queue.specs.Loaders.{asked_in};
+    ghost use Rattle.load_queue.specs.Loaders.{asked_in, stored_in};
 
     /// The name, as its source's table is called.
     pub fn name(&self) -> &str
@@ -90,9 +90,10 @@ impl<S> Loader<S> {
         self.name.as_str()
     }
 
-    /// How the loader's keys are compared.
+    /// How the loader's keys are compared. A contract also sees here that no loader's limit is 0.
     pub fn mode(&self) -> KeyMode
-        ensures { result ≡ self.now.mode }
+        ensures value { result ≡ self.now.mode }
+        ensures limited { (n : ℕ) → self.now.limit ≡ Some n → 0 < n }
     {
         self.mode
     }
@@ -128,6 +129,17 @@ impl<S> Loader<S> {
         let (orders, mut entries) = cut_keys(*self.log.allocator(), loader, round, keys, most)?;
         self.log.append(&mut entries)?;
         Ok(orders)
+    }
+
+    /// Marks the entries of a round as stored, and changes nothing else.
+    pub fn mark_stored(&mut self, round: u32)
+        ensures { self.new ≡ stored_in self.old round }
+    {
+        for entry in self.log.iter_mut() {
+            if entry.round == round {
+                entry.stored = true;
+            }
+        }
     }
 }
 

@@ -159,6 +159,22 @@ fn cuts_in_order(rt: HostRuntime) -> Result<(), Fail> {
     Ok(())
 }
 
+#[test]
+fn marks_one_round(rt: HostRuntime) -> Result<(), Fail> {
+    let alloc = rt.alloc();
+    let mut asked = loader(alloc, None, Some(1))?;
+    for round in [1, 2] {
+        let orders = asked.cut(0, round, numbered(alloc, 2)?.as_slice())?;
+        assert_eq!(rt; orders.len(), 2);
+    }
+    asked.mark_stored(2);
+    assert_eq!(rt; asked.log().len(), 4);
+    for entry in asked.log() {
+        assert_eq!(rt; entry.stored, entry.round == 2);
+    }
+    Ok(())
+}
+
 fn run_first(
     alloc: Global,
     items: Option<usize>,

@@ -1,5 +1,5 @@
 -- JSON arrays that are coerced item by item.
-use Rattle.std.proofs.Common.{◌≡◌, ◌∙◌, sym, ap, List, [], ◌∷◌, ◌++◌, map, Option, Some, None}
+use Rattle.std.proofs.Common.{◌≡◌, ◌∙◌, sym, ap, List, [], ◌∷◌, ◌++◌, map, Option, Some}
 use Rattle.serde_json.specs.Data.{Data, Items, item}
 use Rattle.gq_schema.specs.declared.input.Input as rust
 use Rattle.gq_schema.specs.Inputs.{Input, Inputs, input_of, before}

@@ -1,8 +1,8 @@
 -- Variables that are coerced one after the other.
-use Rattle.std.proofs.Common.{◌≡◌, ◌∙◌, sym, ap, ℕ, List, [], ◌∷◌, ◌++◌, map, Option, Some, None, Result, Ok, Err, refl, append_assoc}
+use Rattle.std.proofs.Common.{◌≡◌, ap, List, [], ◌∷◌, ◌++◌, Result, Ok, Err, refl}
 use Rattle.variable_values.specs.declared.variable.Variable as rust
 use Rattle.variable_values.specs.Variables.{VariableOf, variable_of, variables_of}
-use Rattle.variable_values.specs.Values.{ValueOf, FaultOf, before, and_then, variables_before}
+use Rattle.variable_values.specs.Values.{FaultOf, before, variables_before}
 
 append-one : (xs : List rust.Variable) (x : rust.Variable) (others : List VariableOf) → variables_of (xs ++ x ∷ []) ++ others ≡ variables_of xs ++ variable_of x ∷ others
 append-one [] x others = refl

@@ -4,11 +4,11 @@
 -- list of one. `null` is right where a type may be null. A number that is held as a float is never right, nor is an object.
 use Rattle.std.specs.Prelude.{ℕ, ℤ, pos, negsuc, Bool, ◌&&◌, ◌||◌, List, Option, Some, None, codes, bytes_eq, int_lt, int_le, if◌then◌else◌}
 use Rattle.std.specs.Fmt.{signed_decimal}
-use Rattle.serde_json.specs.Data.{Num, unsigned, negative, float, Data, null, boolean, number, string, array, object, Items, no_items, item, Members}
+use Rattle.serde_json.specs.Data.{Num, unsigned, negative, float, Data, null, boolean, number, string, array, object, Items, no_items, item}
 use Rattle.gq_parser.specs.Tree.{TypeTree, Named, ListOf}
 use Rattle.schema_syntax.specs.Tree.{Definition}
 use Rattle.gq_schema.specs.Types.{has_value}
-use Rattle.gq_schema.specs.Inputs.{Input, Null, Int, Text, Inputs, no_input}
+use Rattle.gq_schema.specs.Inputs.{Input, Null, Text, Inputs, no_input}
 use Rattle.gq_schema.specs.Coercion.{from_boolean, int_input, and_items, list_input, one_item}
 
 -- the least number of signed 32 bits, -(2 ^ 31)

@@ -2,3 +2,4 @@ pub mod Faults
 pub mod Sources
 pub mod Kept
 pub mod Worlds
+pub mod Requests

@@ -2,10 +2,11 @@
 //!
 //! The layer above may rely on this: [`World::new`] makes a world exactly where each part accepts,
 //! and names the first refusal otherwise; each loader of the bindings has its source, which is made
-//! without memory.
+//! without memory. [`World::plan`] gives the plan of a request over it, or the first fault.
 #![tactic(auto)]
 
 mod fault;
+mod request;
 mod sources;
 mod tables;
 #[cfg(test)]
@@ -13,4 +14,5 @@ mod tests;
 mod world;
 
 pub use fault::WorldFault;
+pub use request::RequestFault;
 pub use world::{MAX_LIMIT, World};

@@ -18,4 +18,5 @@ invariant_of-result c =
       lined_up = omega (arith, kept.many, c.loop-test.false, c.loop.auto.counter-end, c.len-end.ensures, c.args.modes.ok.0);
       own_keys = kept.own_keys;
       counted = rw kept.none refl;
+      unfailed = λ e l q. rw kept.none refl;
     }

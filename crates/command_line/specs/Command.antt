@@ -1,0 +1,28 @@
+-- The command that `clap` reads.
+use Rattle.std.specs.Prelude.{Some, true, pos, codes}
+use Rattle.clap.specs.Words.{App, Rule, new_app, new_rule, with_rule}
+use Rattle.clap.specs.declared.builder.action.ArgAction.TheVariants.{Append}
+use Rattle.clap.specs.declared.builder.value_parser.ValueParser.TheVariants as parser
+
+abbrev pub schema_rule : Rule
+schema_rule = record (new_rule (codes "schema")) { long = Some (codes "schema"); value_names = 1; required = true }
+
+abbrev pub bindings_rule : Rule
+bindings_rule = record (new_rule (codes "bindings")) { long = Some (codes "bindings"); value_names = 1; required = true }
+
+abbrev pub max_batch_rule : Rule
+max_batch_rule = record (new_rule (codes "max-batch")) { long = Some (codes "max-batch"); value_names = 1; parser = Some (parser.Signed (pos 1) (pos 65535)) }
+
+abbrev pub requests_rule : Rule
+requests_rule = record (new_rule (codes "REQUESTS")) { required = true }
+
+abbrev pub table_rule : Rule
+table_rule = record (new_rule (codes "NAME=F")) { action = Some Append }
+
+-- the program without its name
+abbrev pub unnamed : App
+unnamed = let a : App = new_app (codes "query_cli") in record a { top = record a.top { no_binary_name = true } }
+
+-- two files, a number if wanted, a file of requests, and any number of tables
+abbrev pub command_line : App
+command_line = with_rule (with_rule (with_rule (with_rule (with_rule unnamed schema_rule) bindings_rule) max_batch_rule) requests_rule) table_rule

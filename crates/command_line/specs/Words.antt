@@ -1,0 +1,99 @@
+-- The parts of a command line.
+use Rattle.std.specs.Prelude.{◌≡◌, ◌≢◌, ◌⊎◌, ◌<◌, ◌^◌, ℕ, List, [], ◌∷◌, ◌++◌, Option, Some, None, Any, codes, map, string_bytes, unwrap_or}
+use Rattle.std.specs.List.{All}
+use Rattle.std.specs.Option.{SomeIff}
+use Rattle.std.specs.Str.Parse.{IsNumeral, digits_value, without_leading_plus}
+use Rattle.clap.specs.Words.{Row, Kinds, IsAmong, all_of, first_of, one_of, fault_of, matches_of}
+use Rattle.clap.specs.declared.error.kind.ErrorKind.{ErrorKind}
+use Rattle.clap.specs.declared.error.kind.ErrorKind.TheVariants.{DisplayHelp, DisplayVersion, OutOfMemory}
+use Rattle.line_serving.specs.declared.fault.ServeFault.TheVariants as serve
+use Rattle.command_line.specs.Command.{command_line}
+use Rattle.command_line.specs.declared.stop.Stop.{Stop}
+use Rattle.command_line.specs.declared.stop.Stop.TheVariants as stop
+use Rattle.command_line.specs.declared.words.TableFile.{TableFile}
+use Rattle.command_line.specs.declared.words.Words.{Words}
+
+abbrev pub equals_sign : ℕ
+equals_sign = 61
+
+abbrev pub HasNoEquals : List ℕ → Type 0
+HasNoEquals text = All (λ b. b ≢ equals_sign) text
+
+-- the word of a table
+abbrev pub joined : TableFile → List ℕ
+joined t = string_bytes t.name ++ equals_sign ∷ string_bytes t.file
+
+-- the words name these tables, each cut at its first `=`
+pub record AreTables (words : List (List ℕ)) (tables : List TableFile) : Type 0 where
+  pub whole : map joined tables ≡ words
+  pub first : All (λ t. HasNoEquals (string_bytes t.name)) tables
+
+-- the text of a number in decimal, where there is one that fits
+abbrev pub IsNumber : Option (List ℕ) → Option ℕ → Type 0
+IsNumber None n = n ≡ None
+IsNumber (Some text) n = SomeIff n (IsNumeral 10 (without_leading_plus text) × (digits_value 10 (without_leading_plus text) < 2 ^ 32)) (digits_value 10 (without_leading_plus text))
+
+-- the text of an argument, empty where it has none
+abbrev pub text_at : List Row → List ℕ → List ℕ
+text_at rows id = unwrap_or (first_of id rows) []
+
+-- the words of the tables
+abbrev pub table_words : List Row → List (List ℕ)
+table_words rows = unwrap_or (all_of (codes "NAME=F") rows) []
+
+-- the parts of what `clap` reads
+pub record IsWords (rows : List Row) (words : Words) : Type 0 where
+  pub schema : string_bytes words.schema ≡ text_at rows (codes "schema")
+  pub bindings : string_bytes words.bindings ≡ text_at rows (codes "bindings")
+  pub max_batch : IsNumber (one_of (codes "max-batch") rows) words.max_batch
+  pub requests : string_bytes words.requests ≡ text_at rows (codes "REQUESTS")
+  pub tables : AreTables (table_words rows) words.tables.items
+
+-- `clap` takes the words, and these are their parts
+pub record IsRead (texts : List (List ℕ)) (words : Words) : Type 0 where
+  pub taken : fault_of command_line texts ≡ []
+  pub parts : IsWords (matches_of command_line texts) words
+
+-- the word of a table has no `=`
+pub record IsBadTable (rows : List Row) (text : List ℕ) : Type 0 where
+  pub said : text ≡ codes "bad table"
+  pub some : Any HasNoEquals (table_words rows)
+
+-- what is read has no parts
+abbrev pub IsUnread : List Row → Stop → Type 0
+IsUnread rows stop.Served = ⊥
+IsUnread rows (stop.Help text) = ⊥
+IsUnread rows (stop.Command text) = IsBadTable rows (string_bytes text)
+IsUnread rows (stop.World fault) = ⊥
+IsUnread rows (stop.Table fault) = ⊥
+IsUnread rows stop.File = ⊥
+IsUnread rows (stop.Serve fault) = fault ≡ serve.NoMemory
+
+-- help or the version was asked for
+abbrev pub IsShown : ErrorKind → Type 0
+IsShown kind = (kind ≡ DisplayHelp) ⊎ (kind ≡ DisplayVersion)
+
+-- how an error of this kind ends a run
+abbrev pub Refuses : ErrorKind → Stop → Type 0
+Refuses kind stop.Served = ⊥
+Refuses kind (stop.Help text) = IsShown kind
+Refuses kind (stop.Command text) = ¬ (IsShown kind) × (kind ≢ OutOfMemory)
+Refuses kind (stop.World fault) = ⊥
+Refuses kind (stop.Table fault) = ⊥
+Refuses kind stop.File = ⊥
+Refuses kind (stop.Serve fault) = fault ≡ serve.NoMemory
+
+-- `clap` shows help, or refuses the words
+abbrev pub IsRefusedWith : Kinds → Stop → Type 0
+IsRefusedWith kinds stop = (kind : ErrorKind) × IsAmong kind kinds × Refuses kind stop
+
+-- How words without parts end a run: by what `clap` says of them, or, where it takes them, for a table. Of memory this says nothing.
+abbrev pub IsRefused : List (List ℕ) → Stop → Type 0
+IsRefused texts stop.Served = ⊥
+IsRefused texts (stop.Help text) = IsRefusedWith (fault_of command_line texts) (stop.Help text)
+IsRefused texts (stop.Command text) = IsRefusedWith (fault_of command_line texts) (stop.Command text)
+    ⊎ ((fault_of command_line texts ≡ []) × IsBadTable (matches_of command_line texts) (string_bytes text))
+IsRefused texts (stop.World fault) = ⊥
+IsRefused texts (stop.Table fault) = ⊥
+IsRefused texts stop.File = ⊥
+IsRefused texts (stop.Serve fault) = fault ≡ serve.NoMemory

@@ -1,0 +1,75 @@
+//! What `clap` reads of the command line.
+
+ghost use Rattle.std.specs.Prelude.{◌≡◌, IfOk, false};
+ghost use Rattle.clap.specs.Words.{app_of, rule_of};
+ghost use Rattle.command_line.specs.Command.{command_line, schema_rule, bindings_rule, max_batch_rule, requests_rule, table_rule};
+
+use clap::{Arg, ArgAction, Command};
+use std::alloc::{AllocError, Global};
+
+// The option for a number of keys, at least 1 and at most 65,535.
+fn max_batch<'a>(alloc: Global) -> Arg<'a>
+    ensures rule { rule_of result ≡ max_batch_rule }
+    ensures local { result.global ≡ false }
+{
+    Arg::new(alloc, "max-batch")
+        .long("max-batch")
+        .value_name("N")
+        .help("At most how many keys one batch has")
+        .value_parser(clap::value_parser!(u32).range(1..=65_535))
+}
+
+// An option for a file.
+fn schema<'a>(alloc: Global) -> Arg<'a>
+    ensures rule { rule_of result ≡ schema_rule }
+    ensures local { result.global ≡ false }
+{
+    Arg::new(alloc, "schema")
+        .long("schema")
+        .value_name("F")
+        .help("The file of the schema")
+        .required(true)
+}
+
+fn bindings<'a>(alloc: Global) -> Arg<'a>
+    ensures rule { rule_of result ≡ bindings_rule }
+    ensures local { result.global ≡ false }
+{
+    Arg::new(alloc, "bindings")
+        .long("bindings")
+        .value_name("F")
+        .help("The file that says how the fields are answered")
+        .required(true)
+}
+
+fn requests<'a>(alloc: Global) -> Arg<'a>
+    ensures rule { rule_of result ≡ requests_rule }
+    ensures local { result.global ≡ false }
+{
+    Arg::new(alloc, "REQUESTS")
+        .required(true)
+        .help("The file of the request lines")
+}
+
+fn tables<'a>(alloc: Global) -> Arg<'a>
+    ensures rule { rule_of result ≡ table_rule }
+    ensures local { result.global ≡ false }
+{
+    Arg::new(alloc, "NAME=F")
+        .action(ArgAction::Append)
+        .help("A table by its name, and its CSV file")
+}
+
+/// The command, whose words begin after the program's name.
+pub fn command<'a>(alloc: Global) -> Result<Command<'a>, AllocError>
+    ensures { IfOk result (λ c. app_of c ≡ command_line) }
+{
+    Command::new(alloc, "query_cli")
+        .about("Answers GraphQL queries over tables, a request line by an answer line")
+        .no_binary_name(true)
+        .arg(schema(alloc))?
+        .arg(bindings(alloc))?
+        .arg(max_batch(alloc))?
+        .arg(requests(alloc))?
+        .arg(tables(alloc))
+}

@@ -1,0 +1,15 @@
+//! The command line: its words, and how a run ends.
+//!
+//! The layer above may rely on this: [`Words::read`] takes what `clap` takes of the command that `command_line`
+//! (`specs/Command.antt`) describes, part by part, and [`Stop::status`] and [`Stop::line`] are the exit status and the line
+//! on standard error of each way in which a run ends.
+#![tactic(auto)]
+
+mod command;
+mod stop;
+#[cfg(test)]
+mod tests;
+mod words;
+
+pub use stop::Stop;
+pub use words::{TableFile, Words};

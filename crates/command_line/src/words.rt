@@ -1,0 +1,147 @@
+//! The words of a command line.
+
+ghost use Rattle.std.specs.Prelude.{◌≡◌, ℕ, List, IfOk, IfErr, MatchOption, Any, codes, map, string_bytes};
+ghost use Rattle.clap.specs.Words.{found_of, kind_of, rows_of, one_of};
+ghost use Rattle.command_line.specs.Words.{HasNoEquals, joined, text_at, table_words, AreTables, IsNumber, IsWords, IsRead, IsRefused, IsUnread, Refuses};
+
+use crate::command::command;
+use crate::stop::Stop;
+use clap::error::ErrorKind;
+use clap::{ArgMatches, Error};
+use line_serving::ServeFault;
+use std::alloc::{AllocError, Global};
+
+/// A table by its name, and the file that it is in.
+#[derive(Debug, Drop)]
+pub struct TableFile {
+    pub name: String,
+    pub file: String,
+}
+
+/// The parts of a command line: `--schema F --bindings F [--max-batch N] REQUESTS [NAME=F]..`.
+#[derive(Debug, Drop)]
+pub struct Words {
+    /// The file of the schema.
+    pub schema: String,
+    /// The file of the bindings.
+    pub bindings: String,
+    /// At most how many keys one batch has, from 1 to 65,535; no bound where it isn't given.
+    pub max_batch: Option<u32>,
+    /// The file of the request lines.
+    pub requests: String,
+    /// The tables in the order of their words.
+    pub tables: Vec<TableFile>,
+}
+
+// How an error of `clap` ends a run.
+fn refusal(alloc: Global, error: &Error) -> Stop
+    ensures { Refuses (kind_of error.now) result }
+{
+    if error.kind() == ErrorKind::OutOfMemory {
+        return Stop::Serve(ServeFault::NoMemory);
+    }
+    let Ok(text) = error.to_string(alloc) else {
+        return Stop::Serve(ServeFault::NoMemory);
+    };
+    let Ok(text) = String::from_str(alloc, text.as_str().trim_end()) else {
+        return Stop::Serve(ServeFault::NoMemory);
+    };
+    if error.use_stderr() {
+        Stop::Command(text)
+    } else {
+        Stop::Help(text)
+    }
+}
+
+// The text of an argument, empty where it has none.
+fn text_of(alloc: Global, matches: &ArgMatches<'_>, id: &str) -> Result<String, AllocError>
+    ensures { IfOk result (λ text. string_bytes text ≡ text_at (rows_of (found_of matches.now)) id.now) }
+{
+    String::from_str(alloc, matches.get_str(id).unwrap_or(""))
+}
+
+// The number of keys of a batch.
+fn max_batch_of(matches: &ArgMatches<'_>) -> Option<u32>
+    ensures { IsNumber (one_of (codes "max-batch") (rows_of (found_of matches.now))) result }
+{
+    matches.get_one::<u32>("max-batch")
+}
+
+// The table that a word names, where it has a `=`.
+fn table_file(alloc: Global, word: &str) -> Result<Option<TableFile>, AllocError>
+    ensures { IfOk result (λ r. MatchOption r (HasNoEquals word.now)
+        (λ t. (joined t ≡ word.now) × HasNoEquals (string_bytes t.name))) }
+{
+    match word.split_once('=') {
+        Some((name, file)) => Ok(Some(TableFile {
+            name: String::from_str(alloc, name)?,
+            file: String::from_str(alloc, file)?,
+        })),
+        None => Ok(None),
+    }
+}
+
+// The tables that words name, where each has a `=`.
+fn table_files(alloc: Global, words: &[&str]) -> Result<Option<Vec<TableFile>>, AllocError>
+    ensures { IfOk result (λ r. MatchOption r (Any HasNoEquals (map (λ w. w.now) words.now))
+        (λ tables. AreTables (map (λ w. w.now) words.now) tables.items)) }
+{
+    let mut tables = Vec::new(alloc);
+    for word in words {
+        match table_file(alloc, word)? {
+            Some(table) => tables.push(table)?,
+            None => return Ok(None),
+        }
+    }
+    Ok(Some(tables))
+}
+
+// The tables, where the word of each has a `=`.
+fn tables_of(alloc: Global, matches: &ArgMatches<'_>) -> Result<Option<Vec<TableFile>>, AllocError>
+    ensures { IfOk result (λ r. MatchOption r (Any HasNoEquals (table_words (rows_of (found_of matches.now))))
+        (λ tables. AreTables (table_words (rows_of (found_of matches.now))) tables.items)) }
+{
+    match matches.get_strs("NAME=F") {
+        Some(words) => table_files(alloc, words),
+        None => Ok(Some(Vec::new(alloc))),
+    }
+}
+
+// The parts of what `clap` reads.
+fn words_of(alloc: Global, matches: &ArgMatches<'_>) -> Result<Words, Stop>
+    ensures ok { IfOk result (IsWords (rows_of (found_of matches.now))) }
+    ensures err { IfErr result (IsUnread (rows_of (found_of matches.now))) }
+{
+    let Some(tables) = tables_of(alloc, matches)? else {
+        return Err(Stop::Command(String::from_str(alloc, "bad table")?));
+    };
+    Ok(Words {
+        schema: text_of(alloc, matches, "schema")?,
+        bindings: text_of(alloc, matches, "bindings")?,
+        max_batch: max_batch_of(matches),
+        requests: text_of(alloc, matches, "REQUESTS")?,
+        tables,
+    })
+}
+
+impl Words {
+    /// Reads the words after the program's name.
+    ///
+    /// # Errors
+    ///
+    /// `Help` with the text of `clap` where help is asked for; `Command` with the text of `clap` where it refuses the words,
+    /// or with `bad table` where it takes them and the word of a table has no `=`; and `Serve` for want of memory.
+    pub fn read(alloc: Global, words: &[String]) -> Result<Words, Stop>
+        ensures ok { IfOk result (IsRead (map string_bytes words.now)) }
+        ensures err { IfErr result (IsRefused (map string_bytes words.now)) }
+    {
+        let command = command(alloc)?;
+        match command.try_get_matches_from(words) {
+            Ok(matches) => match words_of(alloc, &matches) {
+                Ok(words) => Ok(words),
+                Err(stop) => Err(stop),
+            },
+            Err(error) => Err(refusal(alloc, &error)),
+        }
+    }
+}

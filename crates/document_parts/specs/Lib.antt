@@ -1,0 +1,7 @@
+pub mod Broken
+pub mod Parts
+pub mod Parents
+pub mod Fragments
+pub mod Selections
+pub mod Uses
+pub mod Listing

@@ -1,0 +1,76 @@
+//! What breaks a rule, and which of several such is told.
+
+ghost use Rattle.std.specs.Prelude.{◌≡◌, None};
+ghost use Rattle.std.specs.Option.{option_map};
+ghost use Rattle.document_parts.specs.Broken.{broken_of, with_broken, with_broken_if};
+
+use gq_lexer::Place;
+
+/// A name as it is told.
+#[derive(Clone, Copy, Debug, PartialEq, Eq)]
+pub enum BrokenName<'d> {
+    /// The name alone.
+    Plain(&'d str),
+    /// A variable's name without the `$`, which is told with it.
+    Variable(&'d str),
+}
+
+/// What breaks a rule: what is named, and where it stands.
+#[derive(Clone, Copy, Debug, PartialEq, Eq)]
+pub struct Broken<'d> {
+    pub name: BrokenName<'d>,
+    pub place: Place,
+}
+
+impl<'d> Broken<'d> {
+    ghost use Rattle.document_parts.specs.Broken.{name_of};
+
+    /// A name that is told alone.
+    pub fn named(name: &'d str, place: Place) -> Broken<'d>
+        ensures name { name_of result.name ≡ name.now }
+        ensures place { result.place ≡ place }
+    {
+        Broken {
+            name: BrokenName::Plain(name),
+            place,
+        }
+    }
+}
+
+/// The earliest of what breaks a rule, over one pass; of several at one place the first that was met.
+#[derive(Clone, Copy, Debug)]
+pub struct Earliest<'d> {
+    pub found: Option<Broken<'d>>,
+}
+
+impl<'d> Earliest<'d> {
+    /// Nothing broken so far.
+    pub fn new() -> Earliest<'d>
+        ensures { option_map broken_of result.found ≡ None }
+    {
+        Earliest { found: None }
+    }
+
+    /// Keeps what is broken, where it stands before all so far.
+    pub fn add(&mut self, broken: Broken<'d>)
+        ensures { option_map broken_of self.new.found ≡ with_broken (option_map broken_of self.old.found) (broken_of broken.entry) }
+    {
+        match self.found {
+            Some(kept) => {
+                if broken.place.is_before(kept.place) {
+                    self.found = Some(broken);
+                }
+            }
+            None => self.found = Some(broken),
+        }
+    }
+
+    /// The same, if anything is broken.
+    pub fn add_if(&mut self, broken: Option<Broken<'d>>)
+        ensures { option_map broken_of self.new.found ≡ with_broken_if (option_map broken_of self.old.found) (option_map broken_of broken.entry) }
+    {
+        if let Some(broken) = broken {
+            self.add(broken);
+        }
+    }
+}

@@ -1,0 +1,28 @@
+//! The parts of a document over a schema: what all rules of validation look at (GraphQL specification of October 2021, section 5).
+//!
+//! The layer above may rely on this: [`Parts::new`] lists every field, spread, inline fragment, selection set, directive, argument,
+//! variable and use of a variable of a document, once, each with the operation or fragment that it stands in and with what the
+//! schema says of it (`specs/Listing.antt`). A rule is a pass over such a list, and what it tells is the [`Broken`] with the
+//! earliest place (`earliest`), which [`Earliest`] keeps. Nothing here rests on the places of a document being apart, nor on
+//! its names being unique.
+#![tactic(auto)]
+
+mod arguments;
+mod broken;
+mod built_in;
+mod fragments;
+mod listing;
+mod parents;
+mod part;
+mod parts;
+mod selections;
+#[cfg(test)]
+mod tests;
+
+pub use broken::{Broken, BrokenName, Earliest};
+pub use built_in::condition_arguments;
+pub use part::{
+    ArgumentList, ArgumentPart, DirectiveList, DirectiveLocation, FieldPart, InlinePart, Location,
+    Owner, SelectionPart, SetPart, SpreadPart, VariablePart, VariableUse,
+};
+pub use parts::Parts;

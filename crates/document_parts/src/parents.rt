@@ -1,0 +1,75 @@
+//! Parent types.
+
+ghost use Rattle.std.specs.Prelude.{◌≡◌};
+ghost use Rattle.std.specs.Option.{option_map, option_copied};
+ghost use Rattle.gq_parser.specs.Tree.{type_of, condition_of, condition_if};
+ghost use Rattle.schema_syntax.specs.Tree.{field_of};
+ghost use Rattle.gq_schema.specs.Types.{tree_of, core_of};
+ghost use Rattle.document_parts.specs.Parents.{composite_in, known_field, inside_operation, inside_field, inside_condition, inside_inline};
+
+use gq_parser::{TypeCondition, TypeRef};
+use gq_schema::{FieldDef, Schema};
+
+// The name at the core of a type.
+fn core(of_type: &TypeRef) -> &str
+    ensures { result.now ≡ (core_of (type_of of_type.now)).text }
+{
+    match of_type {
+        TypeRef::Named { name, .. } => name.as_str(),
+        TypeRef::List { item, .. } => core(item),
+    }
+}
+
+// The name, where it is that of a composite type.
+fn composite<'d>(schema: &Schema, name: &'d str) -> Option<&'d str>
+    ensures { option_copied result ≡ composite_in (tree_of schema.now) name.now }
+{
+    let kind = schema.kind_of(name)?;
+    if kind.is_leaf() { None } else { Some(name) }
+}
+
+/// The definition of a field of this name, where the parent type is known and has one.
+pub fn known_field<'d>(
+    schema: &'d Schema,
+    parent: Option<&'d str>,
+    name: &str,
+) -> Option<&'d FieldDef>
+    ensures { option_map field_of (option_copied result) ≡ known_field (tree_of schema.now) (option_copied parent.entry) name.now }
+{
+    schema.field(parent?, name)
+}
+
+/// The type that is selected inside an operation.
+pub fn inside_operation(schema: &Schema) -> Option<&str>
+    ensures { option_copied result ≡ inside_operation (tree_of schema.now) }
+{
+    Some(schema.root())
+}
+
+/// The type that is selected inside a field, where it is known.
+pub fn inside_field<'d>(schema: &Schema, definition: Option<&'d FieldDef>) -> Option<&'d str>
+    ensures { option_copied result ≡ inside_field (tree_of schema.now) (option_map field_of (option_copied definition.entry)) }
+{
+    composite(schema, core(&definition?.of_type))
+}
+
+/// The type that is selected inside a fragment, where it is known.
+pub fn inside_condition<'d>(schema: &Schema, condition: &'d TypeCondition) -> Option<&'d str>
+    ensures { option_copied result ≡ inside_condition (tree_of schema.now) (condition_of condition.now) }
+{
+    composite(schema, condition.name.as_str())
+}
+
+/// The type that is selected inside an inline fragment, where it is known.
+pub fn inside_inline<'d>(
+    schema: &Schema,
+    parent: Option<&'d str>,
+    condition: &'d Option<TypeCondition>,
+) -> Option<&'d str>
+    ensures { option_copied result ≡ inside_inline (tree_of schema.now) (option_copied parent.entry) (condition_if condition.now) }
+{
+    match condition {
+        Some(condition) => inside_condition(schema, condition),
+        None => parent,
+    }
+}

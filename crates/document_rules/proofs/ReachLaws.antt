@@ -1,0 +1,186 @@
+-- What the table of uses says of each use, and what an operation lacks by it.
+use Rattle.std.proofs.Common.{◌≡◌, ◌∙◌, ◌+◌, ◌<◌, ap, sym, refl, zero, suc, ℕ, Bool, true, false, not, ◌||◌, cond, eqb, List, [], ◌∷◌, Option, Some, None, length, get_or, map, slice_index, unwrap_or, bytes_eq, arith}
+use Rattle.std.specs.Prelude.{◌&&◌}
+use Rattle.std.specs.List.{list_any}
+use Rattle.std.specs.HashMap.{get_by}
+use Rattle.std.specs.Borrow.{Bor}
+use Rattle.std.proofs.lemmas.Bool.{eqb-true, eq-eqb, ne_eqb, false≢true}
+use Rattle.std.proofs.lemmas.Slice.Eq.{bytes_eq-Decides}
+use Rattle.gq_schema.specs.Places.{place_from}
+use Rattle.gq_parser.specs.Tree.{Operation, VariableDefinition}
+use Rattle.document_parts.specs.declared.part.Owner.{Owner}
+use Rattle.document_parts.specs.declared.part.Owner.TheVariants as owner
+use Rattle.document_parts.specs.Parts.{VariableUse}
+use Rattle.spread_graph.specs.Graphs.{GraphOf}
+use Rattle.spread_graph.specs.Reach.{is_among, reaches}
+use Rattle.document_rules.specs.declared.use_table.UseTable as rust
+use Rattle.document_rules.specs.Rows.{RowsOf, is_same_owner, row, row_at}
+use Rattle.document_rules.specs.VariableReach.{is_within, is_variable, defines}
+use Rattle.document_rules.specs.UsesDefined.{lacks}
+use Rattle.document_rules.specs.UseTable.{is_use, number_in, is_number, is_numbered, is_marked, AreFresh}
+use Rattle.document_rules.specs.UseRows.{no_use, use_at, rows_in, IsUseTable, is_among_rows}
+use Rattle.document_rules.proofs.UseLaws.{same_owner, is_same_owner-same}
+
+-- two tests that are true together are one
+pub same_tests : (a b : Bool) → (a ≡ true → b ≡ true) → (b ≡ true → a ≡ true) → a ≡ b
+same_tests true b there back = sym (there refl)
+same_tests false true there back = back refl
+same_tests false false there back = refl
+
+pub list_any-agree : {A : Type 0} (p q : A → Bool) (xs : List A) → ((x : A) → p x ≡ q x) → list_any p xs ≡ list_any q xs
+list_any-agree p q [] agree = refl
+list_any-agree p q (x ∷ xs) agree = rw (agree x, list_any-agree p q xs agree)
+
+list_any-never : {A : Type 0} (xs : List A) → list_any (λ (x : A). false) xs ≡ false
+list_any-never [] = refl
+list_any-never (x ∷ xs) = list_any-never xs
+
+-- ---- numbers
+
+get_or-map-within : {A B : Type 0} (f : A → B) (xs : List A) (k : ℕ) (d : B) (e : A) → k < length xs → get_or (map f xs) k d ≡ f (get_or xs k e)
+get_or-map-within f [] k d e within = absurd (omega arith)
+get_or-map-within f (x ∷ xs) zero d e within = refl
+get_or-map-within f (x ∷ xs) (suc k) d e within = get_or-map-within f xs k d e (omega arith)
+
+-- the first use that passes a test is there, where one passes
+record Passes (test : VariableUse → Bool) (n : ℕ) (uses : List VariableUse) (m : ℕ) : Type 0 where
+  pub at : ℕ
+  pub is : m ≡ n + at
+  pub passes : test (use_at uses at) ≡ true
+
+place_passes : (test : VariableUse → Bool) (n : ℕ) (uses : List VariableUse) (m : ℕ) → place_from n test uses ≡ Some m → Passes test n uses m
+place_passes test n [] m h = cc
+place_passes test n (u ∷ us) m h = step (test u) refl h (place_passes test (n + 1) us m) where
+  step : (b : Bool) → test u ≡ b → cond b (Some n) (place_from (n + 1) test us) ≡ Some m → (place_from (n + 1) test us ≡ Some m → Passes test (n + 1) us m) → Passes test n (u ∷ us) m
+  step true e h behind = record { at = 0; is = let same : n ≡ m = cc in omega arith; passes = e }
+  step false e h behind = let r = behind h in record { at = suc r.at; is = let same = r.is in omega arith; passes = r.passes }
+
+record Placed (test : VariableUse → Bool) (n : ℕ) (uses : List VariableUse) : Type 0 where
+  pub at : ℕ
+  pub is : place_from n test uses ≡ Some at
+
+place_there : (test : VariableUse → Bool) (n : ℕ) (uses : List VariableUse) (k : ℕ) → k < length uses → test (use_at uses k) ≡ true → Placed test n uses
+place_there test n [] k within passes = absurd (omega arith)
+place_there test n (u ∷ us) zero within passes = record { at = n; is = rw passes }
+place_there test n (u ∷ us) (suc k) within passes = step (test u) refl (place_there test (n + 1) us k (omega arith) passes) where
+  step : (b : Bool) → test u ≡ b → Placed test (n + 1) us → Placed test n (u ∷ us)
+  step true e r = record { at = n; is = rw e }
+  step false e r = record { at = r.at; is = rw e r.is }
+
+module _ (uses : List VariableUse) (table : rust.UseTable) (holds : IsUseTable uses table) (k : ℕ) (within : k < length uses) where
+  -- a name has the number of a use exactly where the use has the name
+  pub number-use : (q : List ℕ) → is_number (slice_index table.numbers.items k) (number_in uses q) ≡ bytes_eq q (use_at uses k).name
+  number-use q = same_tests _ _ there back where
+    name : List ℕ
+    name = (use_at uses k).name
+
+    placed : Placed (is_use name) 0 uses
+    placed = place_there (is_use name) 0 uses k within ((bytes_eq-Decides name name).1 refl)
+
+    numbered : slice_index table.numbers.items k ≡ placed.at
+    numbered = rw (holds.numbers, get_or-map-within (λ (u : VariableUse). unwrap_or (number_in uses u.name) 0) uses k 0 no_use within, placed.is)
+
+    there : is_number (slice_index table.numbers.items k) (number_in uses q) ≡ true → bytes_eq q name ≡ true
+    there h = by (number_in uses q) refl h where
+      by : (o : Option ℕ) → number_in uses q ≡ o → is_number (slice_index table.numbers.items k) o ≡ true → bytes_eq q name ≡ true
+      by None e h = absurd (false≢true h)
+      by (Some m) e h =
+          let same : placed.at ≡ m = sym numbered ∙ eqb-true (slice_index table.numbers.items k) m h in
+          let one = place_passes (is_use q) 0 uses m e in
+          let other = place_passes (is_use name) 0 uses placed.at placed.is in
+          let at : one.at ≡ other.at = let p = one.is in let r = other.is in omega arith in
+          let by_q : q ≡ (use_at uses one.at).name = (bytes_eq-Decides q (use_at uses one.at).name).0 one.passes in
+          let by_name : name ≡ (use_at uses other.at).name = (bytes_eq-Decides name (use_at uses other.at).name).0 other.passes in
+          (bytes_eq-Decides q name).1 (by_q ∙ (ap (λ j. (use_at uses j).name) at ∙ sym by_name))
+
+    back : bytes_eq q name ≡ true → is_number (slice_index table.numbers.items k) (number_in uses q) ≡ true
+    back h = rw ((bytes_eq-Decides q name).0 h, placed.is) (eq-eqb (slice_index table.numbers.items k) placed.at numbered)
+
+  -- the one that stands for a use stands in the row of the use's owner alone
+  pub stands_alone : (q : Owner) → is_among (slice_index table.stand_ins.items k) (row (rows_in table.rows) q) ≡ is_same_owner q (use_at uses k).owner
+  stands_alone q = same_tests _ _ there back where
+    s : ℕ
+    s = slice_index table.stand_ins.items k
+
+    own : (use_at uses s).owner ≡ (use_at uses k).owner
+    own = (holds.sound s (use_at uses k).owner (holds.stood k within)).1
+
+    there : is_among s (row (rows_in table.rows) q) ≡ true → is_same_owner q (use_at uses k).owner ≡ true
+    there h = rw (sym (holds.sound s q h).1 ∙ own) (is_same_owner-same (use_at uses k).owner)
+
+    back : is_same_owner q (use_at uses k).owner ≡ true → is_among s (row (rows_in table.rows) q) ≡ true
+    back h = rw (same_owner q (use_at uses k).owner h) (holds.stood k within)
+
+-- ---- an operation's step
+
+pub or-none : (b : Bool) → (b || false) ≡ b
+or-none true = refl
+or-none false = refl
+
+within_by : (g : GraphOf) (rows : RowsOf) (i s : ℕ) (reached : List ℕ) (o : Owner) → ((j : ℕ) → is_among j reached ≡ reaches g (owner.Operation i) j)
+    → ((q : Owner) → is_among s (row rows q) ≡ is_same_owner q o)
+    → (is_among s (row_at rows.operations i) || is_among_rows rows.fragments s reached) ≡ is_within g i o
+within_by g rows i s reached (owner.Operation k) walked alone =
+    rw (alone (owner.Operation i), list_any-agree (λ j. is_among s (row_at rows.fragments j)) (λ (j : ℕ). false) reached (λ j. alone (owner.Fragment j)), list_any-never reached) (or-none (eqb i k))
+within_by g rows i s reached (owner.Fragment f) walked alone =
+    rw (alone (owner.Operation i), list_any-agree (λ j. is_among s (row_at rows.fragments j)) (λ (j : ℕ). eqb j f) reached (λ j. alone (owner.Fragment j))) (walked f)
+
+lacks_by : (own rows marked noted : Bool) → ((rows && not marked) || ((own && not marked) || noted)) ≡ (((own || rows) && not marked) || noted)
+lacks_by true true true noted = refl
+lacks_by true true false noted = refl
+lacks_by true false true noted = refl
+lacks_by true false false noted = refl
+lacks_by false rows true noted = refl-by rows where
+  refl-by : (b : Bool) → ((b && false) || noted) ≡ ((b && false) || noted)
+  refl-by b = refl
+lacks_by false rows false noted = refl
+
+cond-fresh : (b : Bool) → cond b true false ≡ b
+cond-fresh true = refl
+cond-fresh false = refl
+
+cond-neither : (b : Bool) → cond b false false ≡ false
+cond-neither true = refl
+cond-neither false = refl
+
+-- what marking the variables of the operation of number i does
+abbrev pub Marked : (List ℕ → Option ℕ) → List VariableDefinition → ℕ → List (Option ℕ) → List (Option ℕ) → Type 0
+Marked number variables i old new = (m n : ℕ) → is_marked new m n ≡ cond (list_any (is_numbered number n) variables) (eqb m i) (is_marked old m n)
+
+pub fresh_more : (number : List ℕ → Option ℕ) (variables : List VariableDefinition) (i : ℕ) (old new : List (Option ℕ)) → Marked number variables i old new → AreFresh old i → AreFresh new (i + 1)
+fresh_more number variables i old new marked fresh m n later =
+    let other : eqb m i ≡ false = ne_eqb m i (λ e. omega arith) in
+    let before : is_marked old m n ≡ false = fresh m n (omega arith) in
+    marked m n ∙ rw (other, before) (cond-neither (list_any (is_numbered number n) variables))
+
+-- what was marked is what the operation defines
+pub marks_defined : (uses : List VariableUse) (table : rust.UseTable) → IsUseTable uses table → (k : ℕ) → k < length uses → (o : Operation) (i : ℕ) (old new : List (Option ℕ))
+    → Marked (λ q. get_by (λ (p : Bor (List ℕ)). bytes_eq q p.now) table.names) o.variables i old new → AreFresh old i
+    → is_marked new i (slice_index table.numbers.items (slice_index table.stand_ins.items k)) ≡ defines (use_at uses k).name o
+marks_defined uses table holds k within o i old new marked fresh =
+    let n = slice_index table.numbers.items k in
+    let number : List ℕ → Option ℕ = λ q. get_by (λ (p : Bor (List ℕ)). bytes_eq q p.now) table.names in
+    let self : eqb i i ≡ true = eq-eqb i i refl in
+    let before : is_marked old i n ≡ false = fresh i n (omega arith) in
+    ap (is_marked new i) (holds.alike k within) ∙ (marked i n ∙ (ap2 n number self before
+    ∙ list_any-agree (is_numbered number n) (is_variable (use_at uses k).name) o.variables
+    (λ v. ap (is_number n) (holds.names v.name) ∙ number-use uses table holds k within v.name))) where
+      ap2 : (n : ℕ) (number : List ℕ → Option ℕ) → eqb i i ≡ true → is_marked old i n ≡ false → cond (list_any (is_numbered number n) o.variables) (eqb i i) (is_marked old i n) ≡ list_any (is_numbered number n) o.variables
+      ap2 n number self before = rw (self, before) (cond-fresh (list_any (is_numbered number n) o.variables))
+
+-- what is noted of a use after the operation's own row and the rows that it reaches
+pub lacks_more : (g : GraphOf) (uses : List VariableUse) (table : rust.UseTable) → IsUseTable uses table → (k : ℕ) → k < length uses → (o : Operation) (i : ℕ) (old new : List (Option ℕ)) (reached : List ℕ) (noted own all : Bool)
+    → Marked (λ q. get_by (λ (p : Bor (List ℕ)). bytes_eq q p.now) table.names) o.variables i old new → AreFresh old i
+    → ((j : ℕ) → is_among j reached ≡ reaches g (owner.Operation i) j)
+    → own ≡ ((is_among (slice_index table.stand_ins.items k) (row_at (rows_in table.rows).operations i) && not (is_marked new i (slice_index table.numbers.items (slice_index table.stand_ins.items k)))) || noted)
+    → all ≡ ((is_among_rows (rows_in table.rows).fragments (slice_index table.stand_ins.items k) reached && not (is_marked new i (slice_index table.numbers.items (slice_index table.stand_ins.items k)))) || own)
+    → all ≡ (lacks g i o (use_at uses k) || noted)
+lacks_more g uses table holds k within o i old new reached noted own all marked fresh walked by_own by_all =
+    let s = slice_index table.stand_ins.items k in
+    let rows = rows_in table.rows in
+    let in_own = is_among s (row_at rows.operations i) in
+    let in_rows = is_among_rows rows.fragments s reached in
+    let mark = is_marked new i (slice_index table.numbers.items s) in
+    let there = within_by g rows i s reached (use_at uses k).owner walked (stands_alone uses table holds k within) in
+    let defined = marks_defined uses table holds k within o i old new marked fresh in
+    by_all ∙ (ap (λ b. (in_rows && not mark) || b) by_own ∙ (lacks_by in_own in_rows mark noted ∙ (ap (λ b. (b && not mark) || noted) there ∙ ap (λ b. (is_within g i (use_at uses k).owner && not b) || noted) defined)))

@@ -1,0 +1,22 @@
+-- Definitions, a file for each rule. Named and Repeated are shared; no public clause cites Scans, Rows and UseTable.
+pub mod Named
+pub mod Repeated
+pub mod Scans
+pub mod OperationNames
+pub mod LoneAnonymous
+pub mod ArgumentNames
+pub mod FragmentNames
+pub mod FragmentsUsed
+pub mod SpreadTargets
+pub mod DirectivesDefined
+pub mod DirectiveLocations
+pub mod DirectivesUnique
+pub mod VariableNames
+pub mod NotServed
+pub mod TooComplex
+pub mod VariableReach
+pub mod UsesDefined
+pub mod VariablesUsed
+pub mod Rows
+pub mod UseTable
+pub mod UseRows

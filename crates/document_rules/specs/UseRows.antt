@@ -1,0 +1,65 @@
+-- Uses in rows, by the operation or fragment that they stand in.
+use Rattle.std.specs.Prelude.{◌≡◌, ℕ, ◌+◌, ◌<◌, ◌==◌, Bool, true, List, length, [], Option, None, MatchOption, slice_index, slice_index_or, bytes_eq}
+use Rattle.std.specs.List.{list_any}
+use Rattle.std.specs.HashMap.{get_by}
+use Rattle.std.specs.Borrow.{Bor}
+use Rattle.document_parts.specs.declared.part.Owner.{Owner}
+use Rattle.document_parts.specs.declared.part.Owner.TheVariants as owner
+use Rattle.document_parts.specs.Parts.{VariableUse}
+use Rattle.spread_graph.specs.Reach.{is_among}
+use Rattle.document_rules.specs.declared.use_table.UseRows as rust-rows
+use Rattle.document_rules.specs.declared.use_table.UseTable as rust-table
+use Rattle.document_rules.specs.declared.use_table.Last as rust-last
+use Rattle.document_rules.specs.Rows.{rows_of, row_at, RowsOf, row}
+use Rattle.document_rules.specs.UseTable.{number_in, numbers_by}
+
+-- what is read behind the last use
+abbrev pub no_use : VariableUse
+no_use = record { owner = owner.Operation 0; place = record { line = 1; column = 1 }; name = []; location = None }
+
+abbrev pub use_at : List VariableUse → ℕ → VariableUse
+use_at uses k = slice_index_or uses k no_use
+
+abbrev pub rows_in : rust-rows.UseRows → RowsOf
+rows_in r = record { operations = rows_of r.operations.items; fragments = rows_of r.fragments.items }
+
+-- the use k stands in this owner's row
+abbrev pub IsIn : RowsOf → Owner → ℕ → Type 0
+IsIn rows o k = is_among k (row rows o) ≡ true
+
+-- the use k has this owner, and its name this number
+pub record Stands (uses : List VariableUse) (numbers : List ℕ) (o : Owner) (number k : ℕ) : Type 0 where
+  pub stands : (use_at uses k).owner ≡ o
+  pub numbered : slice_index numbers k ≡ number
+
+-- the rows have uses before k alone, each in its own owner's row, and the last ones of names are among them
+pub record IsUpTo (uses : List VariableUse) (numbers : List ℕ) (rows : RowsOf) (last : List (Option rust-last.Last)) (k : ℕ) : Type 0 where
+  pub sound : (s : ℕ) (o : Owner) → IsIn rows o s → (s < k) × ((use_at uses s).owner ≡ o)
+  pub lasts : (n : ℕ) → MatchOption (slice_index_or last n None) (Unit {0}) (λ (l : rust-last.Last). IsIn rows l.owner l.place × (slice_index numbers l.place ≡ n))
+
+-- the same one use further, for which s stands
+pub record IsNext (uses : List VariableUse) (numbers : List ℕ) (old new : RowsOf) (lasts : List (Option rust-last.Last)) (o : Owner) (number k s : ℕ) : Type 0 where
+  pub further : IsUpTo uses numbers new lasts (k + 1)
+  pub stands : IsIn new o s
+  pub numbered : slice_index numbers s ≡ number
+  pub kept : (t : ℕ) (q : Owner) → IsIn old q t → IsIn new q t
+
+-- what the table of uses holds
+pub record IsUseTable (uses : List VariableUse) (table : rust-table.UseTable) : Type 0 where
+  pub names : (q : List ℕ) → get_by (λ (k : Bor (List ℕ)). bytes_eq q k.now) table.names ≡ number_in uses q
+  pub numbers : table.numbers.items ≡ numbers_by (number_in uses) uses
+  pub sound : (s : ℕ) (o : Owner) → IsIn (rows_in table.rows) o s → (s < length uses) × ((use_at uses s).owner ≡ o)
+  pub stood : (k : ℕ) → k < length uses → IsIn (rows_in table.rows) (use_at uses k).owner (slice_index table.stand_ins.items k)
+  pub alike : (k : ℕ) → k < length uses → slice_index table.numbers.items (slice_index table.stand_ins.items k) ≡ slice_index table.numbers.items k
+
+-- the use stands in one of these rows
+abbrev pub is_among_rows : List (List ℕ) → ℕ → List ℕ → Bool
+is_among_rows rows s js = list_any (λ j. is_among s (row_at rows j)) js
+
+-- a use in the row has a name of this number
+abbrev pub is_number_among : List ℕ → ℕ → List ℕ → Bool
+is_number_among numbers n row = list_any (λ s. n == slice_index numbers s) row
+
+-- a use in one of these rows has a name of this number
+abbrev pub is_number_reached : List ℕ → ℕ → List (List ℕ) → List ℕ → Bool
+is_number_reached numbers n rows js = list_any (λ j. is_number_among numbers n (row_at rows j)) js

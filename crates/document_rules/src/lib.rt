@@ -1,0 +1,31 @@
+//! The rules of validation that need no types, and what isn't served (GraphQL specification of October 2021, section 5).
+//!
+//! The layer above may rely on this: a rule is a function of the parts of a document that lists all that breaks it, a file of
+//! `specs/` for each, and the call of its name gives the earliest of that list ([`Broken`](document_parts::Broken)), or nothing
+//! where the document keeps the rule. Nothing rests on the places of a document being apart, nor on another rule being kept.
+#![tactic(auto)]
+
+mod arguments;
+mod directives;
+mod fragments;
+mod growing;
+mod marking;
+mod names;
+mod operations;
+mod served;
+mod use_table;
+mod variables;
+
+pub use arguments::argument_uniqueness;
+pub use directives::{
+    directives_are_defined, directives_are_in_valid_locations, directives_are_unique_per_location,
+};
+pub use fragments::{
+    fragment_name_uniqueness, fragment_spread_target_defined, fragments_must_be_used,
+};
+pub use operations::{lone_anonymous_operation, operation_name_uniqueness};
+pub use served::{MOST_FIELDS, is_too_complex, not_served};
+pub use variables::{all_variable_uses_defined, all_variables_used, variable_uniqueness};
+
+#[cfg(test)]
+mod tests;

@@ -1,0 +1,53 @@
+//! What isn't served, and how much is.
+
+ghost use Rattle.std.specs.Prelude.{◌≡◌};
+ghost use Rattle.std.specs.Option.{option_map, option_copied};
+ghost use Rattle.document_parts.specs.Broken.{broken_of, earliest};
+ghost use Rattle.document_parts.specs.Parts.{parts_in};
+ghost use Rattle.document_rules.specs.NotServed.{other_kind, not_served};
+ghost use Rattle.document_rules.specs.TooComplex.{is_too_complex};
+
+use document_parts::{Broken, Earliest, Parts};
+use gq_parser::OperationKind;
+
+/// The most fields that a document may have, each counted once where it is written.
+pub const MOST_FIELDS: usize = 1_000;
+
+// The word of a kind that isn't served.
+fn other_kind(kind: OperationKind) -> Option<&'static str>
+    ensures { option_copied result ≡ other_kind kind }
+{
+    match kind {
+        OperationKind::Query => None,
+        OperationKind::Mutation => Some("mutation"),
+        OperationKind::Subscription => Some("subscription"),
+    }
+}
+
+/// An operation of another kind than query, told by its kind's word, or a field `__schema` or `__type` of introspection, told by
+/// its name at its first token.
+pub fn not_served<'d>(parts: &Parts<'d>) -> Option<Broken<'d>>
+    ensures { option_map broken_of result ≡ earliest (not_served (parts_in parts.now)) }
+{
+    let document = parts.document;
+    let mut earliest = Earliest::new();
+    for operation in &document.operations {
+        if let Some(word) = other_kind(operation.kind) {
+            earliest.add(Broken::named(word, operation.place));
+        }
+    }
+    for part in &parts.fields {
+        let name = part.field.name.as_str();
+        if matches!(name, "__schema" | "__type") {
+            earliest.add(Broken::named(name, part.field.place));
+        }
+    }
+    earliest.found
+}
+
+/// Whether the document has more than [`MOST_FIELDS`] fields, those of fragments included.
+pub fn is_too_complex(parts: &Parts) -> bool
+    ensures { result ≡ is_too_complex (parts_in parts.now) }
+{
+    parts.fields.len() > MOST_FIELDS
+}

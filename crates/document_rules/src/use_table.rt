@@ -1,0 +1,154 @@
+//! The uses of variables, by what they stand in and by their names.
+
+ghost use Rattle.std.specs.Prelude.{◌≡◌, ◌+◌, ◌++◌, ◌∷◌, [], ℕ, List, Some, None, IfOk, OnOk, bytes_eq, map, slice_index, if◌then◌else◌};
+ghost use Rattle.std.specs.HashMap.{get_by};
+ghost use Rattle.gq_schema.specs.Scan.{or_else};
+ghost use Rattle.document_parts.specs.Parts.{VariableUse as Use, use_of};
+ghost use Rattle.document_rules.specs.Rows.{is_same_owner, row};
+ghost use Rattle.document_rules.specs.UseTable.{number_in, numbers_by};
+ghost use Rattle.document_rules.specs.UseRows.{rows_in, IsUpTo, IsNext, Stands, IsUseTable};
+
+use crate::growing::{add_to_row, put};
+use document_parts::{Owner, VariableUse};
+use std::alloc::{AllocError, Global};
+use std::collections::HashMap;
+
+/// The number of each name: the place of its first use.
+pub type Numbers<'d> = HashMap<&'d str, usize>;
+
+// Notes the place of a use, unless one of its name stands earlier.
+fn note_use<'d>(names: &mut Numbers<'d>, name: &'d str, place: usize) -> Result<(), AllocError>
+    ensures { (q : List ℕ) → OnOk result (get_by (λ k. bytes_eq q k.now) names.new ≡ or_else (get_by (λ k. bytes_eq q k.now) names.old) (if bytes_eq q name.now then Some place else None)) }
+{
+    names.entry(name)?.or_insert(place);
+    Ok(())
+}
+
+fn first_uses<'d>(alloc: Global, uses: &[VariableUse<'d>]) -> Result<Numbers<'d>, AllocError>
+    ensures { IfOk result (λ names. (q : List ℕ) → get_by (λ k. bytes_eq q k.now) names ≡ number_in (map use_of uses.now) q) }
+{
+    let mut names: Numbers = HashMap::new(alloc);
+    for (place, part) in uses.iter().enumerate() {
+        note_use(&mut names, part.name, place)?;
+    }
+    Ok(names)
+}
+
+// Of each use the number of its name.
+fn numbers_of(
+    alloc: Global,
+    names: &Numbers,
+    uses: &[VariableUse],
+) -> Result<Vec<usize>, AllocError>
+    ensures { IfOk result (λ numbers. numbers.items ≡ numbers_by (λ q. get_by (λ k. bytes_eq q k.now) names.now) (map use_of uses.now)) }
+{
+    let mut numbers = Vec::with_capacity(alloc, uses.len())?;
+    for part in uses {
+        numbers.push(names.get(part.name).copied().unwrap_or(0))?;
+    }
+    Ok(numbers)
+}
+
+/// The number at a place, or 0.
+pub fn number_at(numbers: &[usize], place: usize) -> usize
+    ensures { result ≡ slice_index numbers.now place }
+{
+    numbers.get(place).copied().unwrap_or(0)
+}
+
+// Whether both are one operation or one fragment.
+fn is_same_owner(one: Owner, other: Owner) -> bool
+    ensures { result ≡ is_same_owner one other }
+{
+    match (one, other) {
+        (Owner::Operation(i), Owner::Operation(k)) => i == k,
+        (Owner::Operation(_), Owner::Fragment(_)) => false,
+        (Owner::Fragment(_), Owner::Operation(_)) => false,
+        (Owner::Fragment(i), Owner::Fragment(k)) => i == k,
+    }
+}
+
+/// Uses by the operation or fragment that they stand in.
+#[derive(Drop)]
+pub struct UseRows {
+    pub operations: Vec<Vec<usize>>,
+    pub fragments: Vec<Vec<usize>>,
+}
+
+impl UseRows {
+    fn add(&mut self, alloc: Global, owner: Owner, place: usize) -> Result<(), AllocError>
+        ensures { (o : _) → OnOk result (row (rows_in self.new) o ≡ (if is_same_owner o owner then row (rows_in self.old) o ++ place ∷ [] else row (rows_in self.old) o)) }
+    {
+        match owner {
+            Owner::Operation(i) => add_to_row(alloc, &mut self.operations, i, place)?,
+            Owner::Fragment(j) => add_to_row(alloc, &mut self.fragments, j, place)?,
+        }
+        Ok(())
+    }
+}
+
+/// The last use of a name that was put into a row.
+#[derive(Clone, Copy)]
+struct Last {
+    owner: Owner,
+    place: usize,
+}
+
+// The use that stands in the rows for one that comes next: itself, unless the last use of its name stands in the same operation or
+// fragment.
+fn stand_in(
+    alloc: Global,
+    rows: &mut UseRows,
+    lasts: &mut Vec<Option<Last>>,
+    owner: Owner,
+    number: usize,
+    place: usize,
+) -> Result<usize, AllocError>
+    ensures { (uses : List Use) (numbers : List ℕ) → Stands uses numbers owner number place → IsUpTo uses numbers (rows_in rows.old) lasts.old.items place → IfOk result (λ s. IsNext uses numbers (rows_in rows.old) (rows_in rows.new) lasts.new.items owner number place s) }
+{
+    if let Some(Some(last)) = lasts.get(number) {
+        if is_same_owner(last.owner, owner) {
+            return Ok(last.place);
+        }
+    }
+    put(lasts, None, number, Some(Last { owner, place }))?;
+    rows.add(alloc, owner, place)?;
+    Ok(place)
+}
+
+/// The uses of variables, by what they stand in and by their names. A use goes by its place in the document's list.
+#[derive(Drop)]
+pub struct UseTable<'d> {
+    pub names: Numbers<'d>,
+    /// Of each use the number of its name.
+    pub numbers: Vec<usize>,
+    /// Of each use the one that stands in the rows for it: one of its name, in the same operation or fragment.
+    pub stand_ins: Vec<usize>,
+    pub rows: UseRows,
+}
+
+impl<'d> UseTable<'d> {
+    pub fn new(alloc: Global, uses: &[VariableUse<'d>]) -> Result<UseTable<'d>, AllocError>
+        ensures { IfOk result (λ table. IsUseTable (map use_of uses.now) table) }
+    {
+        let names = first_uses(alloc, uses)?;
+        let numbers = numbers_of(alloc, &names, uses)?;
+        let mut rows = UseRows {
+            operations: Vec::new(alloc),
+            fragments: Vec::new(alloc),
+        };
+        let mut lasts: Vec<Option<Last>> = Vec::new(alloc);
+        let mut stand_ins = Vec::with_capacity(alloc, uses.len())?;
+        for (place, part) in uses.iter().enumerate() {
+            let number = number_at(&numbers, place);
+            let stand = stand_in(alloc, &mut rows, &mut lasts, part.owner, number, place)?;
+            stand_ins.push(stand)?;
+        }
+        Ok(UseTable {
+            names,
+            numbers,
+            stand_ins,
+            rows,
+        })
+    }
+}

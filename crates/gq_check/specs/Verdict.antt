@@ -1,0 +1,167 @@
+-- The verdict on a document over a schema (section 5): nothing where it is valid, else the first fault in this order: what isn't
+-- served; the rules in the order of their sections' numbers, compared part by part; too many levels; too many fields. Of one
+-- rule the earliest place is told. Field Selection Merging (section 5.3.2) is not among them yet; it will come last.
+use Rattle.std.specs.Prelude.{◌≡◌, ℕ, List, Option, Some, None, option_map, string_bytes, if◌then◌else◌}
+use Rattle.gq_lexer.specs.declared.place.Place.{Place}
+use Rattle.gq_parser.specs.Tree.{Document}
+use Rattle.schema_syntax.specs.Tree.{Definition}
+use Rattle.gq_schema.specs.Scan.{or_else}
+use Rattle.document_parts.specs.Broken.{BrokenOf, earliest}
+use Rattle.document_parts.specs.Parts.{PartsOf}
+use Rattle.document_parts.specs.Listing.{parts_of}
+use Rattle.document_rules.specs.OperationNames.{operation_name_uniqueness}
+use Rattle.document_rules.specs.LoneAnonymous.{lone_anonymous_operation}
+use Rattle.document_rules.specs.ArgumentNames.{argument_uniqueness}
+use Rattle.document_rules.specs.FragmentNames.{fragment_name_uniqueness}
+use Rattle.document_rules.specs.FragmentsUsed.{fragments_must_be_used}
+use Rattle.document_rules.specs.SpreadTargets.{fragment_spread_target_defined}
+use Rattle.document_rules.specs.DirectivesDefined.{directives_are_defined}
+use Rattle.document_rules.specs.DirectiveLocations.{directives_are_in_valid_locations}
+use Rattle.document_rules.specs.DirectivesUnique.{directives_are_unique_per_location}
+use Rattle.document_rules.specs.VariableNames.{variable_uniqueness}
+use Rattle.document_rules.specs.UsesDefined.{all_variable_uses_defined}
+use Rattle.document_rules.specs.VariablesUsed.{all_variables_used}
+use Rattle.document_rules.specs.NotServed.{not_served}
+use Rattle.document_rules.specs.TooComplex.{is_too_complex}
+use Rattle.typed_rules.specs.FieldSelections.{unknown_fields}
+use Rattle.typed_rules.specs.LeafSelections.{misfit_fields}
+use Rattle.typed_rules.specs.ArgumentNames.{unknown_arguments}
+use Rattle.typed_rules.specs.RequiredArguments.{missing_arguments}
+use Rattle.typed_rules.specs.TypeExistence.{unknown_types}
+use Rattle.typed_rules.specs.CompositeTypes.{leaf_types}
+use Rattle.typed_rules.specs.PossibleSpreads.{impossible_spreads}
+use Rattle.typed_rules.specs.CorrectValues.{wrong_values}
+use Rattle.typed_rules.specs.InputVariables.{non_input_variables}
+use Rattle.typed_rules.specs.AllowedUsages.{forbidden_usages}
+use Rattle.spread_graph.specs.Rules.{fragment_cycles, too_deep}
+use Rattle.gq_check.specs.declared.fault.Rule.{Rule}
+use Rattle.gq_check.specs.declared.fault.Rule.TheVariants as rule
+use Rattle.gq_check.specs.declared.fault.CheckFault.{CheckFault}
+use Rattle.gq_check.specs.declared.fault.CheckFault.TheVariants as check
+
+-- why a document is not valid
+pub data FaultOf : Type 0 where
+  -- what breaks a rule: its name and its place
+  Breaks : Rule → List ℕ → Place → FaultOf
+  TooComplex : FaultOf
+  TooDeep : Place → FaultOf
+  NotServed : List ℕ → Place → FaultOf
+
+abbrev pub breaks : Rule → BrokenOf → FaultOf
+breaks r b = Breaks r b.name b.place
+
+-- what is told of a rule, of all that breaks it
+abbrev pub told : Rule → List BrokenOf → Option FaultOf
+told r broken = option_map (breaks r) (earliest broken)
+
+-- ---- the rules, by what they speak of
+
+abbrev pub served_fault : PartsOf → Option FaultOf
+served_fault p = option_map (λ (b : BrokenOf). NotServed b.name b.place) (earliest (not_served p))
+
+-- section 5.2
+abbrev pub operations_fault : PartsOf → Option FaultOf
+operations_fault p =
+    or_else (told rule.OperationNameUniqueness (operation_name_uniqueness p))
+    (told rule.LoneAnonymousOperation (lone_anonymous_operation p))
+
+-- section 5.3, without Field Selection Merging
+abbrev pub fields_fault : PartsOf → Option FaultOf
+fields_fault p =
+    or_else (told rule.FieldSelections (unknown_fields p))
+    (told rule.LeafFieldSelections (misfit_fields p))
+
+-- section 5.4
+abbrev pub arguments_fault : PartsOf → Option FaultOf
+arguments_fault p =
+    or_else (told rule.ArgumentNames (unknown_arguments p))
+    (or_else (told rule.ArgumentUniqueness (argument_uniqueness p))
+    (told rule.RequiredArguments (missing_arguments p)))
+
+-- section 5.5.1
+abbrev pub fragments_fault : PartsOf → Option FaultOf
+fragments_fault p =
+    or_else (told rule.FragmentNameUniqueness (fragment_name_uniqueness p))
+    (or_else (told rule.FragmentSpreadTypeExistence (unknown_types p))
+    (or_else (told rule.FragmentsOnCompositeTypes (leaf_types p))
+    (told rule.FragmentsMustBeUsed (fragments_must_be_used p))))
+
+-- section 5.5.2
+abbrev pub spreads_fault : PartsOf → Option FaultOf
+spreads_fault p =
+    or_else (told rule.FragmentSpreadTargetDefined (fragment_spread_target_defined p))
+    (or_else (told rule.FragmentSpreadsMustNotFormCycles (fragment_cycles p))
+    (told rule.FragmentSpreadIsPossible (impossible_spreads p)))
+
+-- section 5.6
+abbrev pub values_fault : PartsOf → Option FaultOf
+values_fault p = told rule.ValuesOfCorrectType (wrong_values p)
+
+-- section 5.7
+abbrev pub directives_fault : PartsOf → Option FaultOf
+directives_fault p =
+    or_else (told rule.DirectivesAreDefined (directives_are_defined p))
+    (or_else (told rule.DirectivesAreInValidLocations (directives_are_in_valid_locations p))
+    (told rule.DirectivesAreUniquePerLocation (directives_are_unique_per_location p)))
+
+-- section 5.8
+abbrev pub variables_fault : PartsOf → Option FaultOf
+variables_fault p =
+    or_else (told rule.VariableUniqueness (variable_uniqueness p))
+    (or_else (told rule.VariablesAreInputTypes (non_input_variables p))
+    (or_else (told rule.AllVariableUsesDefined (all_variable_uses_defined p))
+    (or_else (told rule.AllVariablesUsed (all_variables_used p))
+    (told rule.AllVariableUsagesAreAllowed (forbidden_usages p)))))
+
+-- ---- all of them
+
+-- what isn't served, and the rules
+abbrev pub rules_fault : PartsOf → Option FaultOf
+rules_fault p =
+    or_else (served_fault p)
+    (or_else (operations_fault p)
+    (or_else (fields_fault p)
+    (or_else (arguments_fault p)
+    (or_else (fragments_fault p)
+    (or_else (spreads_fault p)
+    (or_else (values_fault p)
+    (or_else (directives_fault p) (variables_fault p))))))))
+
+-- too many levels, too many fields
+abbrev pub limits_fault : PartsOf → Option FaultOf
+limits_fault p =
+    or_else (option_map (λ (b : BrokenOf). TooDeep b.place) (earliest (too_deep p)))
+    (if is_too_complex p then Some TooComplex else None)
+
+abbrev pub first_fault : PartsOf → Option FaultOf
+first_fault p = or_else (rules_fault p) (limits_fault p)
+
+-- the verdict on a document, by its parts
+abbrev pub IsVerdictOf : PartsOf → Option FaultOf → Type 0
+IsVerdictOf p v = v ≡ first_fault p
+
+-- the verdict on a document over the definitions of a schema
+abbrev pub IsVerdict : List Definition → Document → Option FaultOf → Type 0
+IsVerdict defs d v = IsVerdictOf (parts_of defs d) v
+
+-- The document is valid.
+abbrev pub IsValid : List Definition → Document → Type 0
+IsValid defs d = IsVerdict defs d None
+
+-- ---- what the program tells
+
+-- what a fault says; want of memory says nothing
+abbrev pub fault_of : CheckFault → Option FaultOf
+fault_of (check.Rule r name p) = Some (Breaks r (string_bytes name) p)
+fault_of check.TooComplex = Some TooComplex
+fault_of (check.TooDeep p) = Some (TooDeep p)
+fault_of (check.NotServed name p) = Some (NotServed (string_bytes name) p)
+fault_of check.NoMemory = None
+
+-- the fault that is told where verdicts are these; of memory this says nothing
+abbrev pub IsCheckFault : (Option FaultOf → Type 0) → CheckFault → Type 0
+IsCheckFault verdict (check.Rule r name p) = verdict (Some (Breaks r (string_bytes name) p))
+IsCheckFault verdict check.TooComplex = verdict (Some TooComplex)
+IsCheckFault verdict (check.TooDeep p) = verdict (Some (TooDeep p))
+IsCheckFault verdict (check.NotServed name p) = verdict (Some (NotServed (string_bytes name) p))
+IsCheckFault verdict check.NoMemory = Unit {0}

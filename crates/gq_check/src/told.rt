@@ -1,0 +1,58 @@
+//! What is told of a document.
+
+ghost use Rattle.std.specs.Prelude.{◌≡◌, Some, IfOk, string_bytes};
+ghost use Rattle.document_parts.specs.Broken.{name_of};
+ghost use Rattle.gq_check.specs.Verdict.{fault_of};
+
+use crate::fault::{CheckFault, Rule};
+use document_parts::{Broken, BrokenName};
+use gq_lexer::Place;
+use std::alloc::{AllocError, Global};
+
+/// A fault that borrows its document.
+#[derive(Clone, Copy, Debug)]
+pub enum Told<'d> {
+    Breaks(Rule, Broken<'d>),
+    TooComplex,
+    TooDeep(Place),
+    NotServed(Broken<'d>),
+}
+
+// The name as it is printed.
+fn printed(alloc: Global, name: BrokenName<'_>) -> Result<String, AllocError>
+    ensures { IfOk result (λ text. string_bytes text ≡ name_of name.entry) }
+{
+    match name {
+        BrokenName::Plain(name) => String::from_str(alloc, name),
+        BrokenName::Variable(name) => format!(in alloc; "${name}"),
+    }
+}
+
+impl Told<'_> {
+    ghost use Rattle.gq_check.specs.Told.{told_of};
+
+    /// The fault, with its own name.
+    pub fn to_fault(self, alloc: Global) -> Result<CheckFault, AllocError>
+        ensures { IfOk result (λ fault. fault_of fault ≡ Some (told_of self.entry)) }
+    {
+        match self {
+            Told::Breaks(rule, broken) => {
+                let name = printed(alloc, broken.name)?;
+                Ok(CheckFault::Rule {
+                    rule,
+                    name,
+                    place: broken.place,
+                })
+            }
+            Told::TooComplex => Ok(CheckFault::TooComplex),
+            Told::TooDeep(place) => Ok(CheckFault::TooDeep(place)),
+            Told::NotServed(broken) => {
+                let name = printed(alloc, broken.name)?;
+                Ok(CheckFault::NotServed {
+                    name,
+                    place: broken.place,
+                })
+            }
+        }
+    }
+}

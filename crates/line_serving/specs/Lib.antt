@@ -1,0 +1,5 @@
+pub mod Devices
+pub mod Lines
+pub mod Output
+pub mod Serving
+pub mod Faults

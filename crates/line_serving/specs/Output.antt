@@ -1,0 +1,38 @@
+-- What is written for an input, and how it goes out.
+use Rattle.std.specs.Prelude.{◌≡◌, ℕ, List, [], ◌∷◌, ◌++◌, Option}
+use Rattle.std.specs.Io.KnownBytes.{Appends}
+use Rattle.line_serving.specs.Lines.{ended, lines_of}
+
+-- the bytes are an answer of each line in order, each with a line feed
+abbrev pub AreAnswers : (List ℕ → List ℕ → Type 0) → List (List ℕ) → List ℕ → Type 0
+AreAnswers Answers [] out = out ≡ []
+AreAnswers Answers (line ∷ lines) out = (text : List ℕ) × (more : List ℕ) × Answers line text × AreAnswers Answers lines more × (out ≡ ended text ++ more)
+
+-- an answer of this line, and then its line feed
+abbrev pub WithAnswer : (List ℕ → List ℕ → Type 0) → List ℕ → (List ℕ → Type 0) → Type 0
+WithAnswer Answers line P = (text : List ℕ) × Answers line text × P (ended text)
+
+-- answers of these lines
+abbrev pub WithAnswers : (List ℕ → List ℕ → Type 0) → List (List ℕ) → (List ℕ → Type 0) → Type 0
+WithAnswers Answers lines P = (out : List ℕ) × AreAnswers Answers lines out × P out
+
+-- Program output: what is written for an input
+abbrev pub IsOutput : (List ℕ → List ℕ → Type 0) → List ℕ → List ℕ → Type 0
+IsOutput Answers input out = AreAnswers Answers (lines_of input) out
+
+-- `gone` went out of what was pending and the text behind it, and the rest is pending later
+pub record SendsSome (old new : Option (List ℕ)) (pending later text gone : List ℕ) : Type 0 where
+  pub went : Appends old new gone
+  pub left : gone ++ later ≡ pending ++ text
+
+-- the text was sent, or is pending
+abbrev pub Sends : Option (List ℕ) → List ℕ → Option (List ℕ) → List ℕ → List ℕ → Type 0
+Sends old pending new later text = (gone : List ℕ) × SendsSome old new pending later text gone
+
+-- a front of the text went out
+pub record Cuts (old new : Option (List ℕ)) (text out rest : List ℕ) : Type 0 where
+  pub front : text ≡ out ++ rest
+  pub went : Appends old new out
+
+abbrev pub IsCut : Option (List ℕ) → Option (List ℕ) → List ℕ → Type 0
+IsCut old new text = (out : List ℕ) × (rest : List ℕ) × Cuts old new text out rest

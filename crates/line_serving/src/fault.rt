@@ -1,0 +1,62 @@
+//! Why serving stops.
+
+ghost use Rattle.std.specs.Prelude.{◌≡◌};
+ghost use Rattle.line_serving.specs.Faults.{code_and_name};
+
+use std::alloc::AllocError;
+use std::error::Error as StdError;
+use std::fmt;
+use thiserror::Error;
+
+/// A growth was refused.
+#[derive(Clone, Copy, Debug, PartialEq, Eq, Error)]
+#[error("out of memory")]
+pub struct NoMemory;
+
+impl From<AllocError> for NoMemory {
+    fn from(_error: AllocError) -> NoMemory {
+        NoMemory
+    }
+}
+
+/// Why lines were left unanswered. It is printed as its code and its name.
+#[derive(Clone, Copy, Debug, PartialEq, Eq)]
+pub enum ServeFault {
+    /// A line has more than 4,194,304 bytes before its line feed.
+    LineTooLong,
+    /// The reader failed or met a bound.
+    ReadFault,
+    /// The writer failed, took no byte or met a bound.
+    WriteFault,
+    /// A growth was refused.
+    NoMemory,
+}
+
+impl ServeFault {
+    /// The code and the name, as a program prints them for its user: `X1 LineTooLong`.
+    pub fn code_and_name(&self) -> &'static str
+        ensures { result.now ≡ code_and_name self.now }
+    {
+        match self {
+            ServeFault::LineTooLong => "X1 LineTooLong",
+            ServeFault::ReadFault => "X2 ReadFault",
+            ServeFault::WriteFault => "X3 WriteFault",
+            ServeFault::NoMemory => "X4 NoMemory",
+        }
+    }
+}
+
+impl fmt::Display for ServeFault {
+    fn fmt<W: fmt::Write>(&self, f: &mut fmt::Formatter<W>) -> fmt::Result {
+        let text = self.code_and_name();
+        write!(f, "{text}")
+    }
+}
+
+impl StdError for ServeFault {}
+
+impl From<NoMemory> for ServeFault {
+    fn from(_fault: NoMemory) -> ServeFault {
+        ServeFault::NoMemory
+    }
+}

@@ -1,0 +1,174 @@
+//! Serving: each line is answered by a line.
+
+ghost use Rattle.std.specs.Prelude.{◌≡◌, ℕ, List, [], ◌++◌, ◌<◌, ◌≤◌, ◌+◌, ◌^◌, ⊤, length, OnOk, IfOk, IfErr, vec_len};
+ghost use Rattle.std.specs.Io.KnownBytes.{Appends, Consumes, IsAtEnd};
+ghost use Rattle.line_serving.specs.Devices.{bound, counted, device_of, faults_of, calls_of, given_of};
+ghost use Rattle.line_serving.specs.Output.{Sends, IsCut};
+ghost use Rattle.line_serving.specs.Serving.{AtFault, IsAnswered, Fails, faults_at};
+
+use crate::answerer::Answerer;
+use crate::device::Counted;
+use crate::fault::{NoMemory, ServeFault};
+use crate::feed::{feed, finish};
+use crate::output::{close, send};
+use std::alloc::Global;
+use std::io::{Read, Write};
+
+/// How many bytes are read at a time.
+const BLOCK: usize = 65_536;
+
+// A block to read into.
+fn new_block(alloc: Global) -> Result<Vec<u8>, NoMemory>
+    ensures { IfOk result (λ block. vec_len block ≡ 65536) }
+{
+    Ok(vec![in alloc; 0u8; BLOCK]?)
+}
+
+// Reads to the end, and answers each line. What is pending may not be written yet, but it is before each further read, so
+// that who asks by a pipe sees an answer before the next question.
+fn serve_lines<A: Answerer, R: Read, W: Write>(
+    alloc: Global,
+    answerer: &A,
+    reader: &mut Counted<R>,
+    writer: &mut Counted<W>,
+    pending: &mut Vec<u8>,
+    block: &mut [u8],
+) -> Result<u64, ServeFault>
+    requires nothing { pending.old.items ≡ [] }
+    requires room { length block.old ≡ 65536 }
+    ensures ok { IfOk result (λ n. (text : List ℕ) × Consumes (R.remaining (device_of reader.old)) (R.remaining (device_of reader.new)) text
+        × IsAtEnd (R.remaining (device_of reader.new))
+        × IsAnswered (A.answered_by answerer.now) text n
+        (Sends (W.contents (device_of writer.old)) [] (W.contents (device_of writer.new)) pending.new.items)) }
+    ensures err { IfErr result (λ fault. (text : List ℕ) × Consumes (R.remaining (device_of reader.old)) (R.remaining (device_of reader.new)) text
+        × Fails (A.answered_by answerer.now) text
+        (Sends (W.contents (device_of writer.old)) [] (W.contents (device_of writer.new)) pending.new.items)
+        (IsCut (W.contents (device_of writer.old)) (W.contents (device_of writer.new)))
+        (R.remaining (device_of reader.new))
+        fault) }
+    ensures read { faults_of reader.new ≡ faults_at result ServeFault.ReadFault (faults_of reader.old) }
+    ensures written { faults_of writer.new ≡ faults_at result ServeFault.WriteFault (faults_of writer.old) }
+    ensures bounded { OnOk result ((calls_of reader.new ≤ bound) × (given_of reader.new < bound)) }
+    ensures grown { (calls_of reader.old ≤ calls_of reader.new) × (given_of reader.old ≤ given_of reader.new) }
+{
+    let mut held = Vec::new(alloc);
+    let mut count = 0u64;
+    loop {
+        let n = match reader.read(block) {
+            Ok(n) => n,
+            Err(_) => return Err(ServeFault::ReadFault),
+        };
+        if n == 0 {
+            match finish(alloc, answerer, writer, pending, &held, count) {
+                Ok(total) => return Ok(total),
+                Err(fault) => return Err(fault),
+            }
+        }
+        match feed(alloc, answerer, writer, pending, &mut held, &block[..n]) {
+            Ok(more) => count += more as u64,
+            Err(fault) => return Err(fault),
+        }
+        match send(writer, pending) {
+            Ok(()) => {}
+            Err(_) => return Err(ServeFault::WriteFault),
+        }
+    }
+}
+
+// Reads to the end, and answers each line. What is pending may not be written yet.
+fn serve_blocks<A: Answerer, R: Read, W: Write>(
+    alloc: Global,
+    answerer: &A,
+    reader: &mut Counted<R>,
+    writer: &mut Counted<W>,
+    pending: &mut Vec<u8>,
+) -> Result<u64, ServeFault>
+    requires { pending.old.items ≡ [] }
+    ensures ok { IfOk result (λ n. (text : List ℕ) × Consumes (R.remaining (device_of reader.old)) (R.remaining (device_of reader.new)) text
+        × IsAtEnd (R.remaining (device_of reader.new))
+        × IsAnswered (A.answered_by answerer.now) text n
+        (Sends (W.contents (device_of writer.old)) [] (W.contents (device_of writer.new)) pending.new.items)) }
+    ensures err { IfErr result (λ fault. (text : List ℕ) × Consumes (R.remaining (device_of reader.old)) (R.remaining (device_of reader.new)) text
+        × Fails (A.answered_by answerer.now) text
+        (Sends (W.contents (device_of writer.old)) [] (W.contents (device_of writer.new)) pending.new.items)
+        (IsCut (W.contents (device_of writer.old)) (W.contents (device_of writer.new)))
+        (R.remaining (device_of reader.new))
+        fault) }
+    ensures read { faults_of reader.new ≡ faults_at result ServeFault.ReadFault (faults_of reader.old) }
+    ensures written { faults_of writer.new ≡ faults_at result ServeFault.WriteFault (faults_of writer.old) }
+    ensures bounded { OnOk result ((calls_of reader.new ≤ bound) × (given_of reader.new < bound)) }
+    ensures grown { (calls_of reader.old ≤ calls_of reader.new) × (given_of reader.old ≤ given_of reader.new) }
+{
+    let mut block = match new_block(alloc) {
+        Ok(block) => block,
+        Err(_) => return Err(ServeFault::NoMemory),
+    };
+    match serve_lines(alloc, answerer, reader, writer, pending, &mut block) {
+        Ok(count) => Ok(count),
+        Err(fault) => Err(fault),
+    }
+}
+
+/// Answers each line of the reader by a line to the writer, and says how many there were. A line ends at a line feed or at
+/// the end of the input; a last line feed begins no further line. The writer is flushed once, at the end, after a fault of
+/// the reader, a line that is too long and want of memory too.
+///
+/// # Errors
+///
+/// `LineTooLong` for a line of more than 4,194,304 bytes, `ReadFault`, `WriteFault` and `NoMemory`. How far the reader was
+/// read then isn't said. Where the writer fails after another fault, that is `WriteFault`.
+pub fn serve<A: Answerer, R: Read, W: Write>(
+    alloc: Global,
+    answerer: &A,
+    reader: &mut Counted<R>,
+    writer: &mut Counted<W>,
+) -> Result<u64, ServeFault>
+    // All of the input was read, and what was written is the output of its lines.
+    ensures ok { IfOk result (λ n. (text : List ℕ) × Consumes (R.remaining (device_of reader.old)) (R.remaining (device_of reader.new)) text
+        × IsAtEnd (R.remaining (device_of reader.new))
+        × IsAnswered (A.answered_by answerer.now) text n (Appends (W.contents (device_of writer.old)) (W.contents (device_of writer.new)))) }
+
+    // After a fault the answers of the lines before it were written, or a front of them where the writer failed.
+    ensures err { IfErr result (λ fault. (text : List ℕ) × Consumes (R.remaining (device_of reader.old)) (R.remaining (device_of reader.new)) text
+        × Fails (A.answered_by answerer.now) text
+        (Appends (W.contents (device_of writer.old)) (W.contents (device_of writer.new)))
+        (IsCut (W.contents (device_of writer.old)) (W.contents (device_of writer.new)))
+        (R.remaining (device_of reader.new))
+        fault) }
+
+    // The writer's fault comes exactly where the writer counted one.
+    ensures written { faults_of writer.new ≡ faults_at result ServeFault.WriteFault (faults_of writer.old) }
+
+    // The reader's fault comes only where the reader counted one, and it counts no other.
+    ensures read { OnOk result (faults_of reader.new ≡ faults_of reader.old) }
+    ensures read_fault { IfErr result (λ fault. AtFault fault
+        (faults_of reader.new ≡ faults_of reader.old)
+        (faults_of reader.new ≡ counted (faults_of reader.old))
+        (⊤)
+        (faults_of reader.new ≡ faults_of reader.old)) }
+
+    // Past a bound of the reader no input is served to its end.
+    ensures bounded { OnOk result ((calls_of reader.new ≤ bound) × (given_of reader.new < bound)) }
+    ensures grown { (calls_of reader.old ≤ calls_of reader.new) × (given_of reader.old ≤ given_of reader.new) }
+{
+    let mut pending = Vec::new(alloc);
+    match serve_blocks(alloc, answerer, reader, writer, &mut pending) {
+        Ok(count) => match close(writer, &mut pending) {
+            Ok(()) => Ok(count),
+            Err(_) => Err(ServeFault::WriteFault),
+        },
+        Err(ServeFault::WriteFault) => Err(ServeFault::WriteFault),
+        Err(ServeFault::LineTooLong) => match close(writer, &mut pending) {
+            Ok(()) => Err(ServeFault::LineTooLong),
+            Err(_) => Err(ServeFault::WriteFault),
+        },
+        Err(ServeFault::ReadFault) => match close(writer, &mut pending) {
+            Ok(()) => Err(ServeFault::ReadFault),
+            Err(_) => Err(ServeFault::WriteFault),
+        },
+        Err(ServeFault::NoMemory) => match close(writer, &mut pending) {
+            Ok(()) => Err(ServeFault::NoMemory),
+            Err(_) => Err(ServeFault::WriteFault),
+        },
+    }
+}

@@ -1,0 +1,109 @@
+//! Storing many pairs, all or none.
+ghost use Rattle.std.specs.Prelude.{◌≡◌, ◌<◌, ◌≤◌, ◌+◌, ◌++◌, false, ℕ, All, map, length, IfOk, OnOk, slice_index};
+ghost use Rattle.load_memory.specs.Keys.{key_of};
+ghost use Rattle.load_memory.specs.Outcomes.{outcome_of};
+ghost use Rattle.load_memory.specs.Pairs.{IsSameMap, IsWith};
+ghost use Rattle.load_memory.specs.Parts.{HaveOwnKeys, HaveRoom, room_at, count_at, pairs_from, staged_of, AreUnfailed};
+ghost use Rattle.load_memory.specs.Replies.{reply_pairs};
+
+use crate::key::{KeyMode, cache_key};
+use crate::no_memory::NoMemory;
+use crate::part::{Part, Staged, put};
+use crate::reply::Reply;
+use std::alloc::Global;
+
+/// Adds the pairs of a reply, place by place, to those that are to be stored.
+pub(crate) fn stage(pairs: &mut Vec<Staged>, mode: KeyMode, reply: &Reply) -> Result<(), NoMemory>
+    ensures { OnOk result (map staged_of pairs.new.items ≡ map staged_of pairs.old.items
+        ++ reply_pairs mode reply.now.loader (map key_of reply.now.keys.items)
+        (map outcome_of reply.now.outcomes.items)) }
+{
+    let alloc = *pairs.allocator();
+    let mut outcomes = reply.outcomes.iter();
+    for key in reply.keys.iter() {
+        let Some(outcome) = outcomes.next() else {
+            return Ok(());
+        };
+        pairs.push(Staged {
+            loader: reply.loader,
+            key: cache_key(alloc, key, mode)?,
+            outcome: outcome.clone()?,
+        })?;
+    }
+    Ok(())
+}
+
+/// Whether some of the pairs are of a batch that failed as a whole.
+pub(crate) fn has_failed(pairs: &[Staged]) -> bool
+    ensures { result ≡ false → AreUnfailed (map staged_of pairs.now) }
+{
+    for pair in pairs {
+        if pair.outcome.has_failed() {
+            return true;
+        }
+    }
+    false
+}
+
+/// How many of the pairs are of each of so many loaders.
+pub(crate) fn counts_of(
+    alloc: Global,
+    pairs: &[Staged],
+    loaders: usize,
+) -> Result<Vec<usize>, NoMemory>
+    requires { All (λ (s : Staged). s.loader < loaders) pairs.now }
+    ensures lined_up { IfOk result (λ v. length v.items ≡ loaders) }
+    ensures counts { IfOk result (λ v. (loader : ℕ) → loader < loaders
+        → slice_index v.items loader ≡ count_at loader pairs.now) }
+{
+    let mut counts = vec![in alloc; 0usize; loaders]?;
+    for pair in pairs {
+        counts[pair.loader] += 1;
+    }
+    Ok(counts)
+}
+
+/// Makes room for so many pairs more in each part. What the parts say stays, also after a refused
+/// growth.
+pub(crate) fn make_room(parts: &mut Vec<Part>, counts: &[usize]) -> Result<(), NoMemory>
+    requires lined_up { length counts.now ≡ length parts.old.items }
+    requires own_keys { HaveOwnKeys parts.old.items }
+    ensures lined_up { length parts.new.items ≡ length parts.old.items }
+    ensures own_keys { HaveOwnKeys parts.new.items }
+    ensures pairs { IsSameMap (pairs_from 0 parts.new.items) (pairs_from 0 parts.old.items) }
+    ensures count { length (pairs_from 0 parts.new.items) ≡ length (pairs_from 0 parts.old.items) }
+    ensures room { OnOk result ((loader : ℕ) → loader < length parts.old.items
+        → slice_index counts.now loader ≤ room_at parts.new.items loader) }
+{
+    for loader in 0..parts.len() {
+        parts[loader].reserve(counts[loader])?;
+    }
+    Ok(())
+}
+
+/// Stores the pairs whose keys are absent, of equal keys the first, where there is room for all. Gives
+/// how many it stored.
+pub(crate) fn put_all(parts: &mut Vec<Part>, pairs: Vec<Staged>) -> usize
+    requires room { HaveRoom parts.old.items pairs.items }
+    requires loaders { All (λ (s : Staged). s.loader < length parts.old.items) pairs.items }
+    requires own_keys { HaveOwnKeys parts.old.items }
+    ensures lined_up { length parts.new.items ≡ length parts.old.items }
+    ensures own_keys { HaveOwnKeys parts.new.items }
+    ensures pairs { IsWith (pairs_from 0 parts.old.items) (map staged_of pairs.items)
+        (pairs_from 0 parts.new.items) }
+    ensures count { length (pairs_from 0 parts.new.items) ≡ length (pairs_from 0 parts.old.items) + result }
+    ensures most { result ≤ length pairs.items }
+{
+    let mut added = 0;
+    for pair in pairs {
+        let Staged {
+            loader,
+            key,
+            outcome,
+        } = pair;
+        if put(&mut parts[loader], key, outcome) {
+            added += 1;
+        }
+    }
+    added
+}

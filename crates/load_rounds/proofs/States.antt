@@ -1,0 +1,112 @@
+-- The state of a session after its fields were changed.
+use Rattle.std.proofs.Common.{◌≡◌, ◌≢◌, ℕ, zero, suc, ◌<◌, ◌≤◌, ◌+◌, Bool, true, false, List, [], ◌∷◌, ◌++◌, map, length, refl, ap, ◌∙◌, sym, arith, Some, Result, Ok, Err}
+use Rattle.std.proofs.Math.Path.{fun_ext}
+use Rattle.std.proofs.lemmas.List.{length-map}
+use Rattle.std.specs.Prelude.{All, slice_get, nat_lt, if◌then◌else◌, OnErr}
+use Rattle.load_memory.specs.Keys.{KeyOf, folded, mode_at}
+use Rattle.load_memory.specs.Outcomes.{OutcomeOf}
+use Rattle.load_memory.specs.Pairs.{MemoryOf, PairOf, look, unless_failed, IsUnfailed, IsWith, IsSameMap}
+use Rattle.load_memory.specs.Replies.{ReplyOf, pairs_of}
+use Rattle.load_memory.specs.declared.key.KeyMode.{KeyMode}
+use Rattle.load_memory.proofs.ReplyPairs.{mode-at}
+use Rattle.load_queue.specs.Answers.{AnswerOf}
+use Rattle.load_queue.specs.Loaders.{LoaderOf, stored_in}
+use Rattle.load_queue.specs.Wanted.{WantedOf, keys_wanted}
+use Rattle.execution.specs.Loads.{Load, Memory}
+use Rattle.execution.specs.Front.{keys_for}
+use Rattle.execution.specs.Rounds.{RuleOf, rule_of, modes_of, orders_of, may_at, AreReplies, AreLimited, after_round, stored, without_failed}
+use Rattle.execution.specs.Sessions.{Asked, Lost, Forgot}
+use Rattle.load_rounds.specs.Sessions.{StateOf, rules_of, logged_from, made, asked, after_step, of_first, AreNumbered, IsSession}
+use Rattle.load_rounds.specs.Rounds.{orders_by, first_keys, Enters, AreWanted}
+use Rattle.load_rounds.proofs.Cutting.{rules-logged, logged-same, logged-past, orders-same, orders-past, first-some, length-logged}
+use Rattle.load_rounds.proofs.Numbering.{enters-numbered, logged-numbered, made-one, marked-round, orders-loads, keys-first}
+
+pub cached : (modes own : List KeyMode) (loader : ℕ) (mode : KeyMode) (k key : KeyOf) → own ≡ modes → slice_get own loader ≡ Some mode → k ≡ folded mode key → k ≡ folded (mode_at modes loader) key
+cached modes own loader mode k key same at is = rw (mode-at modes loader mode (rw same at at)) is
+
+-- two memories that say the same
+pub same-memory : (M N : Memory) → ((loader : ℕ) (key : KeyOf) → M loader key ≡ N loader key) → M ≡ N
+same-memory M N same = fun_ext (λ loader. fun_ext (λ key. same loader key))
+
+module _ {S : Type 0} where
+  abbrev pub state : List (LoaderOf S) → Memory → ℕ → StateOf S
+  state loaders memory rounds = record { loaders = loaders; memory = memory; rounds = rounds }
+
+  pub state-is : (ls others : List (LoaderOf S)) (M N : Memory) (r s : ℕ) → ls ≡ others → M ≡ N → r ≡ s → state ls M r ≡ state others N s
+  state-is ls others M N r s a b c = rw (a, b, c) refl
+
+  -- the fields after something was entered
+  pub entered-session : (round before after : ℕ) (keys : ℕ → List KeyOf) (old new : List (LoaderOf S)) (memory later : MemoryOf) → round ≡ before + 1 → IsSession old memory before → Enters round keys old new before after → later.modes ≡ memory.modes → IsSession new later after
+  entered-session round before after keys old new memory later next is h same =
+      let rules : map rule_of new ≡ map rule_of old = ap (map rule_of) h.loaders ∙ rules-logged false round 0 keys old in
+      record {
+        modes = same ∙ is.modes ∙ ap modes_of (sym rules);
+        limited = rw rules is.limited;
+        numbered = enters-numbered round before after keys old new next h is.numbered;
+      }
+
+  -- the same, once the round is marked
+  module _ (round before after : ℕ) (keys : ℕ → List KeyOf) (old cut new : List (LoaderOf S)) (memory later : MemoryOf) (next : round ≡ before + 1) (is : IsSession old memory before) (h : Enters round keys old cut before after) (marks : new ≡ map (λ l. stored_in l round) cut) where
+    pub marked-loaders : new ≡ logged_from 0 true round keys old
+    marked-loaders = marks ∙ ap (map (λ l. stored_in l round)) h.loaders ∙ marked-round round before 0 keys old (omega (arith, next)) is.numbered
+
+    pub marked-session : later.modes ≡ memory.modes → IsSession new later after
+    marked-session same =
+        let rules : map rule_of new ≡ map rule_of old = ap (map rule_of) marked-loaders ∙ rules-logged true round 0 keys old in
+        let counted = h.rounds in
+        record {
+          modes = same ∙ is.modes ∙ ap modes_of (sym rules);
+          limited = rw rules is.limited;
+          numbered = rw marked-loaders (logged-numbered true round before after 0 keys old (omega (arith, counted)) (λ ne. omega (arith, counted, next, made-one (orders_by 0 (map rule_of old) keys) ne)) is.numbered);
+        }
+
+  module _ (keys : ℕ → List KeyOf) (loads : List Load) (old : List (LoaderOf S)) (wanted : (m : ℕ) → m < length old → keys m ≡ keys_for m loads) where
+    pub wanted-orders : orders_by 0 (map rule_of old) keys ≡ orders_of (map rule_of old) loads
+    wanted-orders = orders-same 0 keys (λ m. keys_for m loads) (map rule_of old) (λ m le lt. wanted m (omega (arith, lt, length-map old rule_of))) ∙ orders-loads 0 (map rule_of old) loads
+
+    wanted-logged : (stored : Bool) (round : ℕ) → logged_from 0 stored round keys old ≡ logged_from 0 stored round (λ m. keys_for m loads) old
+    wanted-logged stored round = logged-same stored round 0 keys (λ m. keys_for m loads) old (λ m le lt. wanted m (omega (arith, lt)))
+
+    first-wanted : (n m : ℕ) → m < length old → first_keys n keys m ≡ keys_for m (of_first n loads)
+    first-wanted n m lt = go (nat_lt m n) refl ∙ sym (keys-first n m loads) where
+      go : (b : Bool) → nat_lt m n ≡ b → (if b then keys m else []) ≡ (if b then keys_for m loads else [])
+      go true e = wanted m lt
+      go false e = refl
+
+    -- the round ran
+    pub state-ran : (round before after : ℕ) (cut new : List (LoaderOf S)) (memory later : MemoryOf) (replies : List ReplyOf) → round ≡ before + 1 → IsSession old memory before → Enters round keys old cut before after → new ≡ map (λ l. stored_in l round) cut
+        → IsWith memory.pairs (pairs_of memory.modes replies) later.pairs → state new (look later.pairs) after ≡ after_step (state old (look memory.pairs) before) (Asked loads replies)
+    state-ran round before after cut new memory later replies next is h marks kept =
+        state-is new (logged_from 0 true (before + 1) (λ m. keys_for m loads) old) (look later.pairs) (after_round (map rule_of old) (look memory.pairs) replies) after (before + made (orders_of (map rule_of old) loads))
+        (marked-loaders round before after keys old cut new memory later next is h marks ∙ wanted-logged true round ∙ ap (λ n. logged_from 0 true n (λ m. keys_for m loads) old) next)
+        (same-memory (look later.pairs) (after_round (map rule_of old) (look memory.pairs) replies) (λ l k. rw (← is.modes) (kept l k)))
+        (h.rounds ∙ ap (λ os. before + made os) wanted-orders)
+
+    -- the round was lost, with the batches of the first loaders entered
+    pub state-lost : (round before after n : ℕ) (cut : List (LoaderOf S)) (memory later : MemoryOf) → round ≡ before + 1 → Enters round (first_keys n keys) old cut before after → IsSameMap later.pairs memory.pairs
+        → state cut (look later.pairs) after ≡ after_step (state old (look memory.pairs) before) (Lost (of_first n loads))
+    state-lost round before after n cut memory later next h same =
+        let keys-same = logged-same false round 0 (first_keys n keys) (λ m. keys_for m (of_first n loads)) old (λ m le lt. first-wanted n m (omega (arith, lt))) in
+        let orders = orders-same 0 (first_keys n keys) (λ m. keys_for m (of_first n loads)) (map rule_of old) (λ m le lt. first-wanted n m (omega (arith, lt, length-map old rule_of))) ∙ orders-loads 0 (map rule_of old) (of_first n loads) in
+        state-is cut (logged_from 0 false (before + 1) (λ m. keys_for m (of_first n loads)) old) (look later.pairs) (look memory.pairs) after (before + made (orders_of (map rule_of old) (of_first n loads)))
+        (h.loaders ∙ keys-same ∙ ap (λ i. logged_from 0 false i (λ m. keys_for m (of_first n loads)) old) next)
+        (same-memory (look later.pairs) (look memory.pairs) same)
+        (h.rounds ∙ ap (λ os. before + made os) orders)
+
+  -- all were entered
+  pub enters-first : (round before after : ℕ) (keys : ℕ → List KeyOf) (old new : List (LoaderOf S)) → Enters round keys old new before after → Enters round (first_keys (length old) keys) old new before after
+  enters-first round before after keys old new h =
+      let same = logged-same false round 0 keys (first_keys (length old) keys) old (λ m le lt. sym (first-some keys (length old) m (omega (arith, lt)))) in
+      let orders = orders-same 0 keys (first_keys (length old) keys) (map rule_of old) (λ m le lt. sym (first-some keys (length old) m (omega (arith, lt, length-map old rule_of)))) in
+      record { loaders = h.loaders ∙ same; rounds = h.rounds ∙ ap (λ os. before + made os) orders }
+
+  -- nothing was entered
+  pub enters-nothing : (round before : ℕ) (keys : ℕ → List KeyOf) (old : List (LoaderOf S)) → Enters round (first_keys 0 keys) old old before before
+  enters-nothing round before keys old = record {
+    loaders = sym (logged-past false round 0 0 keys old (omega arith));
+    rounds = rw (orders-past 0 0 keys (map rule_of old) (omega arith)) (omega arith);
+  }
+
+pub on-err : {T E P : Type 0} (r : Result T E) → P → OnErr r P
+on-err (Ok x) h = tt
+on-err (Err e) h = h

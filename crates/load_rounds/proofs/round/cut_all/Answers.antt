@@ -1,0 +1,89 @@
+use Rattle.std.proofs.Common.{◌≡◌, ◌≢◌, ◌<◌, ◌+◌, ◌++◌, ℕ, List, [], map, length, ap, ◌∙◌, sym, arith, refl, false, Result, Ok, Err, ◌⊎◌, inl, inr, ◌≤◌}
+use Rattle.std.specs.Prelude.{OnErr, slice_set, vec_len}
+use Rattle.std.proofs.lemmas.Bool.{eqb-true, eqb-false}
+use Rattle.std.proofs.lemmas.List.{length-map}
+use Rattle.load_rounds.proofs.Running.{none-left}
+use Rattle.load_memory.specs.Keys.{KeyOf, key_of}
+use Rattle.load_queue.specs.Batches.{batches}
+use Rattle.load_queue.specs.Orders.{order_of}
+use Rattle.load_queue.specs.Wanted.{keys_wanted}
+use Rattle.execution.specs.Rounds.{rule_of}
+use Rattle.load_rounds.specs.Rounds.{orders_by, first_keys, Enters}
+use Rattle.load_rounds.specs.Sessions.{logged}
+use Rattle.load_rounds.proofs.Cutting.{orders-past, logged-past, length-logged, enters-kept, enters-cut, more-orders, enters-all, orders-same, first-some}
+use Rattle.load_rounds.proofs.round.cut_all.Goals as goal
+use Rattle.load_rounds.proofs.round.cut_all.Goals.{then-not-is_empty, else-not-is_empty}
+
+on-err : {T E P : Type 0} (r : Result T E) → P → OnErr r P
+on-err (Ok x) h = tt
+on-err (Err e) h = h
+
+pub loop-loader-init : goal.loop-loader-init
+loop-loader-init g c =
+    let keys = keys_wanted c.args.wants.now in
+    let old = c.args.loaders.now.items in
+    let none = orders-past 0 0 keys (map rule_of old) (omega arith) in
+    record {
+      orders = c.new-orders.ensures.items ∙ sym none;
+      entered = record { loaders = sym (logged-past false c.args.round 0 0 keys old (omega arith)); rounds = rw none (omega arith) };
+    }
+
+pub returns-in_err-more-clause-lost : goal.returns-in_err-more-clause-lost
+returns-in_err-more-clause-lost g c =
+    let keys = keys_wanted c.args.wants.now in
+    let i = c.loop-loader.loader in
+    on-err c.from_residual.result
+    (i, enters-kept c.args.round i (first_keys i keys) c.args.loaders.now.items c.loop-loader.loaders.items c.args.rounds.now c.loop-loader.rounds c.index_mut.result.now c.cut.new.self c.loop-loader.invariant.entered c.index_mut.ensures.value c.in_err-more.ensures.kept)
+
+pub returns-in_err-append-clause-lost : goal.returns-in_err-append-clause-lost
+returns-in_err-append-clause-lost g c =
+    let keys = keys_wanted c.args.wants.now in
+    let i = c.loop-loader.loader in
+    let lt : i < length c.loop-loader.loaders.items = omega (arith, c.loop-loader-test.true, c.len-loader-end.ensures, c.args.loaders.now.ok.0, ap length c.loop-loader.invariant.entered.loaders, length-logged false c.args.round 0 (first_keys i keys) c.args.loaders.now.items) in
+    let more = c.in_ok-more.more.items in
+    let size : length more ≡ vec_len c.in_ok-more.more = omega (arith, c.in_ok-more.more.ok.0) in
+    let either : ((more ≢ []) × (c.if-not-is_empty.rounds ≡ c.args.round)) ⊎ ((more ≡ []) × (c.if-not-is_empty.rounds ≡ c.loop-loader.rounds)) = elim c.if-not-is_empty.branch [
+      | then-not-is_empty w ↦ inl (λ h. eqb-false (vec_len c.in_ok-more.more) 0 (sym c.is_empty.ensures ∙ w.if-not-is_empty.true) (sym size ∙ ap length h), w.rounds-is)
+      | else-not-is_empty w ↦ inr (none-left more (size ∙ eqb-true (vec_len c.in_ok-more.more) 0 (sym c.is_empty.ensures ∙ w.if-not-is_empty.false)), w.rounds-is)
+    ] in
+    let grown = enters-cut c.args.round i keys c.args.loaders.now.items c.loop-loader.loaders.items c.args.rounds.now c.loop-loader.rounds c.if-not-is_empty.rounds c.loop-loader.invariant.entered c.index_mut.result.now c.cut.new.self lt c.index_mut.ensures.value
+    (map key_of c.keys.result.now) c.keys.ensures c.in_ok-more.ensures.entered more c.in_ok-more.ensures.orders either c.requires.next in
+    on-err c.from_residual-in_err-append.result (i + 1, grown)
+
+pub loop-loader-preserved : goal.loop-loader-preserved
+loop-loader-preserved g c =
+    let keys = keys_wanted c.args.wants.now in
+    let i = c.loop-loader.loader in
+    let lt : i < length c.loop-loader.loaders.items = omega (arith, c.loop-loader-test.true, c.len-loader-end.ensures, c.args.loaders.now.ok.0, ap length c.loop-loader.invariant.entered.loaders, length-logged false c.args.round 0 (first_keys i keys) c.args.loaders.now.items) in
+    let more = c.in_ok-more.more.items in
+    let size : length more ≡ vec_len c.in_ok-more.more = omega (arith, c.in_ok-more.more.ok.0) in
+    let either : ((more ≢ []) × (c.if-not-is_empty.rounds ≡ c.args.round)) ⊎ ((more ≡ []) × (c.if-not-is_empty.rounds ≡ c.loop-loader.rounds)) = elim c.if-not-is_empty.branch [
+      | then-not-is_empty w ↦ inl (λ h. eqb-false (vec_len c.in_ok-more.more) 0 (sym c.is_empty.ensures ∙ w.if-not-is_empty.true) (sym size ∙ ap length h), w.rounds-is)
+      | else-not-is_empty w ↦ inr (none-left more (size ∙ eqb-true (vec_len c.in_ok-more.more) 0 (sym c.is_empty.ensures ∙ w.if-not-is_empty.false)), w.rounds-is)
+    ] in
+    let grown = enters-cut c.args.round i keys c.args.loaders.now.items c.loop-loader.loaders.items c.args.rounds.now c.loop-loader.rounds c.if-not-is_empty.rounds c.loop-loader.invariant.entered c.index_mut.result.now c.cut.new.self lt c.index_mut.ensures.value
+    (map key_of c.keys.result.now) c.keys.ensures c.in_ok-more.ensures.entered more c.in_ok-more.ensures.orders either c.requires.next in
+    let old = c.args.loaders.now.items in
+    let d = c.index_mut.result.now in
+    let next = more-orders c.args.round i keys old c.loop-loader.loaders.items c.args.rounds.now c.loop-loader.rounds c.loop-loader.invariant.entered d c.cut.new.self lt c.index_mut.ensures.value (rw c.keys.ensures at c.in_ok-more.ensures.entered) in
+    let own : more ≡ map (order_of i) (batches d.limit (keys i)) = rw c.keys.ensures at c.in_ok-more.ensures.orders in
+    record {
+      orders = c.in_ok-append.ensures.items ∙ ap (λ os. os ++ more) c.loop-loader.invariant.orders ∙ ap (λ os. orders_by 0 (map rule_of old) (first_keys i keys) ++ os) own ∙ sym next;
+      entered = grown;
+    }
+
+pub returns-clause-orders : goal.returns-clause-orders
+returns-clause-orders g c =
+    let keys = keys_wanted c.args.wants.now in
+    let n : ℕ = c.loop-loader.loader in
+    let old = c.args.loaders.now.items in
+    let all : length old ≤ n = omega (arith, c.loop-loader-test.false, c.len-loader-end.ensures, c.args.loaders.now.ok.0) in
+    c.loop-loader.invariant.orders ∙ orders-same 0 (first_keys n keys) keys (map rule_of old) (λ m le lt. first-some keys n m (omega (arith, lt, all, length-map old rule_of)))
+
+pub returns-clause-entered : goal.returns-clause-entered
+returns-clause-entered g c =
+    let keys = keys_wanted c.args.wants.now in
+    let n : ℕ = c.loop-loader.loader in
+    let old = c.args.loaders.now.items in
+    let all : length old ≤ n = omega (arith, c.loop-loader-test.false, c.len-loader-end.ensures, c.args.loaders.now.ok.0) in
+    enters-all c.args.round n keys old c.loop-loader.loaders.items c.args.rounds.now c.loop-loader.rounds all c.loop-loader.invariant.entered

@@ -1,0 +1,11 @@
+use Rattle.std.proofs.Common.{◌≡◌, map}
+use Rattle.load_queue.specs.Wanted.{keys_wanted}
+use Rattle.execution.specs.Rounds.{rule_of}
+use Rattle.load_rounds.specs.Rounds.{orders_by, first_keys, Enters}
+use Rattle.load_rounds.proofs.round.cut_all.Given as goal
+
+abbrev pub invariant-loop-loader : goal.invariant-loop-loader
+invariant-loop-loader g l = record {
+  orders : l.orders.items ≡ orders_by 0 (map rule_of l.fn.loaders.items) (first_keys l.loader (keys_wanted l.wants));
+  entered : Enters l.round (first_keys l.loader (keys_wanted l.wants)) l.fn.loaders.items l.loaders.items l.fn.rounds l.rounds;
+}

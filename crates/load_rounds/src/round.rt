@@ -1,0 +1,67 @@
+//! One round in turn: the batches of what is wanted are entered in the logs, each is asked, and all are stored.
+ghost use Rattle.std.specs.Prelude.{◌≡◌, ◌<◌, ◌+◌, ℕ, All, map, length, IfOk, OnOk, OnErr};
+ghost use Rattle.load_memory.specs.Replies.{reply_of};
+ghost use Rattle.load_queue.specs.Loaders.{stored_in};
+ghost use Rattle.load_queue.specs.Wanted.{keys_wanted};
+ghost use Rattle.load_queue.specs.Orders.{OrderOf};
+ghost use Rattle.execution.specs.Rounds.{rule_of, may_at, AreReplies};
+ghost use Rattle.load_rounds.specs.Rounds.{orders_by, first_keys, Enters};
+
+use load_memory::{NoMemory, Reply};
+use load_queue::{Asks, Loader, Order, Wants};
+use std::alloc::Global;
+
+/// Enters the batches of what is wanted in the logs of their loaders, as asked in this round, and gives their
+/// orders. The round is counted as soon as there is an order of it. After a refused growth the batches of the
+/// first loaders are entered, perhaps of none.
+pub(crate) fn cut_all<S>(
+    loaders: &mut Vec<Loader<S>>,
+    rounds: &mut u32,
+    round: u32,
+    wants: &Wants,
+) -> Result<Vec<Order>, NoMemory>
+    requires lined_up { length wants.now ≡ length loaders.old.items }
+    requires next { round ≡ rounds.old + 1 }
+    ensures orders { IfOk result (λ orders. orders.items
+        ≡ orders_by 0 (map rule_of loaders.old.items) (keys_wanted wants.now)) }
+    ensures entered { OnOk result (Enters round (keys_wanted wants.now)
+        loaders.old.items loaders.new.items rounds.old rounds.new) }
+    ensures lost { OnErr result ((n : ℕ) × Enters round (first_keys n (keys_wanted wants.now))
+        loaders.old.items loaders.new.items rounds.old rounds.new) }
+{
+    let mut orders = Vec::new(*loaders.allocator());
+    for loader in 0..loaders.len() {
+        let mut more = loaders[loader].cut(loader, round, wants.keys(loader))?;
+        if !more.is_empty() {
+            *rounds = round;
+        }
+        orders.append(&mut more)?;
+    }
+    Ok(orders)
+}
+
+/// Runs orders one after another.
+pub(crate) fn run_all<S: Asks>(
+    alloc: Global,
+    orders: Vec<Order>,
+    loaders: &[Loader<S>],
+) -> Result<Vec<Reply>, NoMemory>
+    requires { All (λ (o : OrderOf). o.loader < length loaders.now) orders.items }
+    ensures { IfOk result (λ replies.
+        AreReplies (may_at S.may_tell loaders.now) orders.items (map reply_of replies.items)) }
+{
+    let mut replies = Vec::with_capacity(alloc, orders.len())?;
+    for order in orders {
+        replies.push(order.run(alloc, loaders)?)?;
+    }
+    Ok(replies)
+}
+
+/// Marks the entries of a round as stored.
+pub(crate) fn mark_all<S>(loaders: &mut Vec<Loader<S>>, round: u32)
+    ensures { loaders.new.items ≡ map (λ l. stored_in l round) loaders.old.items }
+{
+    for loader in 0..loaders.len() {
+        loaders[loader].mark_stored(round);
+    }
+}

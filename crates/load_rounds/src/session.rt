@@ -1,0 +1,236 @@
+//! Sessions, and the calls that need no plan.
+ghost use Rattle.std.specs.Prelude.{◌≡◌, ◌<◌, ◌≤◌, ◌↔◌, ℕ, List, [], ◌∷◌, All, map, length, IfOk, OnOk, OnErr, IsErrOf, is_some, is_none, Some, option_map, option_copied, slice_get};
+ghost use Rattle.load_memory.specs.Keys.{key_of};
+ghost use Rattle.load_memory.specs.Outcomes.{outcome_of, known, item_of};
+ghost use Rattle.load_memory.specs.Pairs.{look, pair_of};
+ghost use Rattle.load_queue.specs.Logs.{asked_of};
+ghost use Rattle.load_queue.specs.Wanted.{WantedOf, nothing_wanted};
+ghost use Rattle.execution.specs.Loads.{Load, read};
+ghost use Rattle.execution.specs.Front.{front_of_keys};
+ghost use Rattle.execution.specs.Rounds.{AreLimited, without_failed};
+ghost use Rattle.execution.specs.Sessions.{Forgot, Primed, Cleared, ClearedAll, Lost, Asked};
+ghost use Rattle.load_rounds.specs.Rounds.{AreWanted};
+
+use crate::fault::SessionFault;
+use crate::keys::{known_outcomes, missing_keys};
+use crate::round::{cut_all, mark_all, run_all};
+use load_memory::{Item, Key, Memory, NoMemory, Outcome, cache_key};
+use load_queue::{Asked, Asks, Loader, Wants};
+use std::alloc::Global;
+use std::marker::Model;
+
+/// Loaders, and what is known of their keys. A contract sees the loaders with their logs, the pairs that are
+/// known, and how many rounds were made.
+#[derive(Drop)]
+pub struct Session<S> {
+    loaders: Vec<Loader<S>>,
+    memory: Memory,
+    rounds: u32,
+}
+
+impl<S> Model for Session<S> {
+    ghost use Rattle.load_rounds.specs.Sessions.{SessionOf, IsSession};
+
+    ghost Value = { SessionOf S };
+
+    ghost view = { λ s. record { loaders = s.loaders.items; pairs = s.memory.pairs; rounds = s.rounds } };
+
+    ghost invariant = { λ s. IsSession s.loaders.items s.memory s.rounds };
+}
+
+impl<S> Session<S> {
+    ghost use Rattle.load_rounds.specs.Sessions.{session_modes, rules_of, state_of, after_step, after_steps};
+    ghost use Rattle.load_rounds.specs.Calls.{cell_at};
+
+    pub(crate) fn alloc(&self) -> Global {
+        *self.loaders.allocator()
+    }
+
+    /// Forgets the failed batches. A contract also sees here that no loader's limit is 0.
+    pub(crate) fn forget(&mut self)
+        ensures after { state_of self.new ≡ after_step (state_of self.old) Forgot }
+        ensures limited { AreLimited (rules_of (state_of self.old)) }
+    {
+        self.memory.drop_failed();
+    }
+
+    /// Nothing is wanted of the loaders.
+    pub(crate) fn nothing_wanted(&self) -> Result<Wants, NoMemory>
+        ensures { IfOk result (λ wants. wants ≡ map nothing_wanted (session_modes (state_of self.now))) }
+    {
+        Wants::new(self.alloc(), &self.memory)
+    }
+
+    /// What is known of the loaders' keys.
+    pub fn memory(&self) -> &Memory
+        ensures pairs { result.now.pairs ≡ self.now.pairs }
+        ensures modes { result.now.modes ≡ session_modes (state_of self.now) }
+    {
+        &self.memory
+    }
+
+    /// The loaders, in order of number.
+    pub fn loaders(&self) -> &[Loader<S>]
+        ensures { result.now ≡ self.now.loaders }
+    {
+        self.loaders.as_slice()
+    }
+
+    /// What was asked of a loader, oldest first. There is no log past the last loader.
+    pub fn logs(&self, loader: usize) -> Option<&[Asked]>
+        ensures { option_map (map asked_of) (option_copied result)
+            ≡ option_map (λ l. l.log) (slice_get self.now.loaders loader) }
+    {
+        match self.loaders.get(loader) {
+            Some(loader) => Some(loader.log()),
+            None => None,
+        }
+    }
+
+    /// Adds what is known of a loader's key, after failed batches are forgotten. Gives true where the key was
+    /// absent. Where it was there, its outcome stays.
+    pub fn prime(&mut self, loader: usize, key: &Key, item: Item) -> Result<bool, SessionFault>
+        ensures no_loader { IsErrOf result SessionFault.NoSuchLoader ↔ (length self.old.loaders ≤ loader) }
+        ensures refused { IsErrOf result SessionFault.NoSuchLoader → self.new ≡ self.old }
+        ensures no_memory { IsErrOf result SessionFault.NoMemory → state_of self.new ≡ after_steps (state_of self.old) (Forgot ∷ []) }
+        ensures told { IfOk result (λ added. added
+            ≡ is_none (without_failed (look self.old.pairs) loader (cell_at (state_of self.old) loader (key_of key.now)).1)) }
+        ensures after { OnOk result (state_of self.new ≡ after_steps (state_of self.old) (Forgot
+            ∷ Primed (pair_of loader (cell_at (state_of self.old) loader (key_of key.now)).1 (known (item_of item))) ∷ [])) }
+    {
+        if loader >= self.loaders.len() {
+            return Err(SessionFault::NoSuchLoader);
+        }
+        self.memory.drop_failed();
+        let mode = self.memory.mode(loader);
+        let key = cache_key(*self.loaders.allocator(), key, mode)?;
+        Ok(self.memory.prime(loader, key, item)?)
+    }
+
+    /// Forgets what is known of a loader's key, after failed batches are forgotten. Gives true where it was
+    /// known.
+    pub fn clear(&mut self, loader: usize, key: &Key) -> Result<bool, SessionFault>
+        ensures no_loader { IsErrOf result SessionFault.NoSuchLoader ↔ (length self.old.loaders ≤ loader) }
+        ensures refused { IsErrOf result SessionFault.NoSuchLoader → self.new ≡ self.old }
+        ensures no_memory { IsErrOf result SessionFault.NoMemory → state_of self.new ≡ after_steps (state_of self.old) (Forgot ∷ []) }
+        ensures told { IfOk result (λ there. there
+            ≡ is_some (without_failed (look self.old.pairs) loader (cell_at (state_of self.old) loader (key_of key.now)).1)) }
+        ensures after { OnOk result (state_of self.new ≡ after_steps (state_of self.old) (Forgot
+            ∷ Cleared (cell_at (state_of self.old) loader (key_of key.now)) ∷ [])) }
+    {
+        if loader >= self.loaders.len() {
+            return Err(SessionFault::NoSuchLoader);
+        }
+        self.memory.drop_failed();
+        let mode = self.memory.mode(loader);
+        let key = cache_key(*self.loaders.allocator(), key, mode)?;
+        Ok(self.memory.clear(loader, &key))
+    }
+
+    /// Forgets what is known of one loader's keys, after failed batches are forgotten. It takes no memory: its
+    /// one fault is [`NoSuchLoader`](SessionFault::NoSuchLoader).
+    pub fn clear_all(&mut self, loader: usize) -> Result<(), SessionFault>
+        ensures no_loader { IsErrOf result SessionFault.NoSuchLoader ↔ (length self.old.loaders ≤ loader) }
+        ensures refused { OnErr result (self.new ≡ self.old) }
+        ensures no_other { IsErrOf result SessionFault.NoMemory → ⊥ }
+        ensures after { OnOk result (state_of self.new ≡ after_steps (state_of self.old) (Forgot ∷ ClearedAll loader ∷ [])) }
+    {
+        if loader >= self.loaders.len() {
+            return Err(SessionFault::NoSuchLoader);
+        }
+        self.memory.drop_failed();
+        self.memory.clear_all(loader);
+        Ok(())
+    }
+}
+
+impl<S: Drop> Session<S> {
+    /// A session that knows nothing, over loaders that have asked nothing. They are numbered from 0.
+    pub fn new(alloc: Global, loaders: Vec<Loader<S>>) -> Result<Session<S>, NoMemory>
+        requires { All (λ l. l.log ≡ []) loaders.items }
+        ensures { IfOk result (λ s. s ≡ record { loaders = loaders.items; pairs = []; rounds = 0 }) }
+    {
+        let mut modes = Vec::with_capacity(alloc, loaders.len())?;
+        for loader in loaders.iter() {
+            modes.push(loader.mode())?;
+        }
+        let memory = Memory::new(alloc, modes)?;
+        Ok(Session {
+            loaders,
+            memory,
+            rounds: 0,
+        })
+    }
+}
+
+impl<S: Asks> Session<S> {
+    ghost use Rattle.load_rounds.specs.Sessions.{state_of, session_modes};
+    ghost use Rattle.load_rounds.specs.Calls.{asked_for, AsksOnce, RoundRan, RoundLost, IsLoaded, IsStopped};
+
+    /// What comes of a loader's key, after failed batches are forgotten: what is known of it, and else what its
+    /// source answers in a round of this one key, which is then known. It copies the outcome.
+    pub fn load(&mut self, loader: usize, key: Key) -> Result<Outcome, SessionFault>
+        ensures no_loader { IsErrOf result SessionFault.NoSuchLoader ↔ (length self.old.loaders ≤ loader) }
+        ensures refused { IsErrOf result SessionFault.NoSuchLoader → self.new ≡ self.old }
+        ensures no_memory { IsErrOf result SessionFault.NoMemory → IsStopped S.may_tell (state_of self.old)
+            (state_of self.new) (asked_for (state_of self.old) loader (key_of key ∷ [])) }
+        ensures loaded { IfOk result (λ outcome. IsLoaded S.may_tell (state_of self.old) (state_of self.new) loader
+            (key_of key ∷ []) (outcome_of outcome ∷ [])) }
+    {
+        let keys = [key];
+        let mut outcomes = self.load_many(loader, &keys)?;
+        match outcomes.pop() {
+            Some(outcome) => Ok(outcome),
+            None => unreachable!(),
+        }
+    }
+
+    /// What comes of keys of a loader, place by place, as [`load`](Session::load) does of one. The keys that
+    /// aren't known are asked in one round, of equal cache keys the first.
+    pub fn load_many(&mut self, loader: usize, keys: &[Key]) -> Result<Vec<Outcome>, SessionFault>
+        ensures no_loader { IsErrOf result SessionFault.NoSuchLoader ↔ (length self.old.loaders ≤ loader) }
+        ensures refused { IsErrOf result SessionFault.NoSuchLoader → self.new ≡ self.old }
+        ensures no_memory { IsErrOf result SessionFault.NoMemory → IsStopped S.may_tell (state_of self.old)
+            (state_of self.new) (asked_for (state_of self.old) loader (map key_of keys.now)) }
+        ensures loaded { IfOk result (λ outcomes. IsLoaded S.may_tell (state_of self.old) (state_of self.new) loader
+            (map key_of keys.now) (map outcome_of outcomes.items)) }
+    {
+        if loader >= self.loaders.len() {
+            return Err(SessionFault::NoSuchLoader);
+        }
+        self.memory.drop_failed();
+        self.ask_missing(loader, keys)?;
+        Ok(known_outcomes(*self.loaders.allocator(), &self.memory, loader, keys)?)
+    }
+
+    /// Asks those of the keys that aren't known in one round, if there are some.
+    fn ask_missing(&mut self, loader: usize, keys: &[Key]) -> Result<(), NoMemory>
+        requires { loader < length self.old.loaders }
+        ensures ran { OnOk result (AsksOnce S.may_tell (state_of self.old) (state_of self.new)
+            (front_of_keys (session_modes (state_of self.old)) loader (map key_of keys.now) (look self.old.pairs))) }
+        ensures lost { OnErr result (RoundLost (state_of self.old) (state_of self.new)
+            (front_of_keys (session_modes (state_of self.old)) loader (map key_of keys.now) (look self.old.pairs))) }
+    {
+        let wants = missing_keys(*self.loaders.allocator(), &self.memory, loader, keys)?;
+        if wants.keys(loader).is_empty() {
+            return Ok(());
+        }
+        self.ask(&wants)
+    }
+
+    /// Asks what is wanted, in one round in turn, and stores the replies.
+    pub(crate) fn ask(&mut self, wants: &Wants) -> Result<(), NoMemory>
+        requires { length wants.now ≡ length self.old.loaders }
+        ensures ran { (loads : List Load) → AreWanted wants.now loads
+            → OnOk result (RoundRan S.may_tell (state_of self.old) (state_of self.new) loads) }
+        ensures lost { (loads : List Load) → AreWanted wants.now loads
+            → OnErr result (RoundLost (state_of self.old) (state_of self.new) loads) }
+    {
+        let round = self.rounds.checked_add(1).ok_or(NoMemory)?;
+        let orders = cut_all(&mut self.loaders, &mut self.rounds, round, wants)?;
+        let replies = run_all(*self.loaders.allocator(), orders, &self.loaders)?;
+        self.memory.keep(&replies)?;
+        mark_all(&mut self.loaders, round);
+        Ok(())
+    }
+}

@@ -1,0 +1,54 @@
+//! The fields of a document as numbers, and what the rule asks of two of them.
+ghost use Rattle.std.specs.Prelude.{◌≡◌};
+ghost use Rattle.merge_table.specs.Numbered.{have_one_key, are_alike, may_meet, do_agree};
+
+use crate::row::Row;
+
+/// A field of a document. Of each attribute equal numbers stand for what is equal.
+#[derive(Drop)]
+pub struct Field {
+    /// The response key.
+    pub key: u32,
+    /// The field's name.
+    pub name: u32,
+    /// The arguments, as a set of names and values.
+    pub arguments: u32,
+    /// The parent type.
+    pub parent: u32,
+    /// Whether the parent type is an object type.
+    pub object: bool,
+    /// The return type: its lists and `!`, and its name where it is a leaf.
+    pub shape: u32,
+    /// The fields of its selection set, with those of the fragments that it enters.
+    pub members: Row,
+}
+
+impl Field {
+    /// Whether the response keys are equal.
+    pub(crate) fn has_one_key(&self, other: &Field) -> bool
+        ensures { result ≡ have_one_key self.now other.now }
+    {
+        self.key == other.key
+    }
+
+    /// Whether the return types are alike.
+    pub(crate) fn is_alike(&self, other: &Field) -> bool
+        ensures { result ≡ are_alike self.now other.now }
+    {
+        self.shape == other.shape
+    }
+
+    /// Whether both parent types are equal, or either isn't an object type.
+    pub(crate) fn may_meet(&self, other: &Field) -> bool
+        ensures { result ≡ may_meet self.now other.now }
+    {
+        self.parent == other.parent || (!self.object || !other.object)
+    }
+
+    /// Whether names and arguments are equal.
+    pub(crate) fn agrees(&self, other: &Field) -> bool
+        ensures { result ≡ do_agree self.now other.now }
+    {
+        self.name == other.name && self.arguments == other.arguments
+    }
+}

@@ -1,0 +1,89 @@
+//! Sets of fields, a bit for each number.
+ghost use Rattle.std.specs.Prelude.{◌≡◌, ◌<◌, ℕ, ◌||◌, ◌==◌, false, MatchBool};
+ghost use Rattle.merge_table.specs.Sets.{has, Meets, AllBelow};
+
+use std::marker::Model;
+
+/// The words of a row.
+const WORDS: usize = 16;
+
+/// A set of fields by their numbers, which are below 1,024.
+///
+/// A contract sees its words, and asks them by `has`.
+#[derive(Drop)]
+pub struct Row {
+    words: [u64; WORDS],
+}
+
+impl Model for Row {
+    ghost use Rattle.std.specs.Prelude.{ℕ, List};
+
+    ghost Value = { List ℕ };
+
+    ghost view = { λ r. r.words };
+}
+
+fn has_bit(words: &[u64; WORDS], i: usize) -> bool
+    requires { i < 1024 }
+    ensures { result ≡ has words.now i }
+{
+    (words[i / 64] >> (i % 64)) & 1 == 1
+}
+
+impl Row {
+    /// A row without any field.
+    pub fn new() -> Row
+        ensures { (i : ℕ) → has result i ≡ false }
+    {
+        Row { words: [0; WORDS] }
+    }
+
+    /// Whether the row has a field.
+    pub fn has(&self, field: usize) -> bool
+        requires { field < 1024 }
+        ensures { result ≡ has self.now field }
+    {
+        has_bit(&self.words, field)
+    }
+
+    /// Adds a field.
+    pub fn insert(&mut self, field: usize)
+        requires { field < 1024 }
+        ensures { (i : ℕ) → has self.new i ≡ (has self.old i || (i == field)) }
+    {
+        self.words[field / 64] |= 1 << (field % 64);
+    }
+
+    /// Adds all fields of another row.
+    pub fn add_all(&mut self, other: &Row)
+        ensures { (i : ℕ) → has self.new i ≡ (has self.old i || has other.now i) }
+    {
+        for k in 0..WORDS {
+            self.words[k] |= other.words[k];
+        }
+    }
+
+    /// Whether two rows have a field in common.
+    pub fn meets(&self, other: &Row) -> bool
+        ensures { Meets self.now other.now result }
+    {
+        for k in 0..WORDS {
+            if self.words[k] & other.words[k] != 0 {
+                return true;
+            }
+        }
+        false
+    }
+
+    /// Whether all fields of the row are below a number.
+    pub fn is_below(&self, n: usize) -> bool
+        ensures { MatchBool result (AllBelow self.now n) (AllBelow self.now n → ⊥) }
+    {
+        for field in n..64 * WORDS {
+            if has_bit(&self.words, field) {
+                return false;
+            }
+        }
+        true
+    }
+}

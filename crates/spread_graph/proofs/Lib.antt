@@ -1,0 +1,5 @@
+pub mod ReachLaws
+pub mod RowLaws
+pub mod WalkLaws
+pub mod RankLaws
+pub mod LevelLaws

@@ -1,0 +1,9 @@
+pub mod Graphs
+pub mod Rows
+pub mod Reach
+pub mod Walks
+pub mod Ranks
+pub mod Levels
+pub mod Known
+pub mod Tables
+pub mod Rules

@@ -1,0 +1,123 @@
+//! Fragments that reach themselves.
+
+ghost use Rattle.std.specs.Prelude.{◌≡◌, IfOk, IsTrue, Some, None};
+ghost use Rattle.std.specs.Option.{option_map};
+ghost use Rattle.gq_parser.specs.Tree.{document_of};
+ghost use Rattle.document_parts.specs.Broken.{broken_of, earliest};
+ghost use Rattle.document_parts.specs.Parts.{parts_in};
+ghost use Rattle.spread_graph.specs.Graphs.{graph_of};
+ghost use Rattle.spread_graph.specs.Reach.{is_cyclic};
+ghost use Rattle.spread_graph.specs.Ranks.{rank_of, are_at_most, are_under, IsOrdered};
+ghost use Rattle.spread_graph.specs.Rules.{stands_first, fragment_cycles};
+
+use crate::components::components;
+use crate::graph::Graph;
+use crate::walk::Walk;
+use document_parts::{Broken, Earliest, Owner, Parts};
+use gq_lexer::Place;
+use std::alloc::{AllocError, Global};
+
+fn rank_of(ranks: &[usize], fragment: usize) -> usize
+    ensures { result ≡ rank_of ranks.now fragment }
+{
+    match ranks.get(fragment) {
+        Some(rank) => *rank,
+        None => 0,
+    }
+}
+
+fn are_at_most(ranks: &[usize], rank: usize, fragments: &[usize]) -> bool
+    ensures { result ≡ are_at_most ranks.now rank fragments.now }
+{
+    for fragment in fragments {
+        if rank_of(ranks, *fragment) > rank {
+            return false;
+        }
+    }
+    true
+}
+
+fn are_under(ranks: &[usize], rank: usize, fragments: &[usize]) -> bool
+    ensures { result ≡ are_under ranks.now rank fragments.now }
+{
+    for fragment in fragments {
+        if rank_of(ranks, *fragment) >= rank {
+            return false;
+        }
+    }
+    true
+}
+
+// Whether what each fragment spreads has at most its rank.
+fn is_ordered(ranks: &[usize], graph: &Graph) -> bool
+    ensures { IsTrue result → IsOrdered ranks.now graph.now }
+{
+    for fragment in 0..graph.len() {
+        let row = graph.row(Owner::Fragment(fragment));
+        if !are_at_most(ranks, rank_of(ranks, fragment), row) {
+            return false;
+        }
+    }
+    true
+}
+
+// Whether a fragment reaches itself. None does that is above all that it spreads; from any other it takes a walk.
+fn is_cyclic(
+    walk: &mut Walk,
+    ranks: &[usize],
+    graph: &Graph,
+    fragment: usize,
+) -> Result<bool, AllocError>
+    requires { IsOrdered ranks.now graph.now }
+    ensures { IfOk result (λ cyclic. cyclic ≡ is_cyclic graph.now fragment) }
+{
+    let owner = Owner::Fragment(fragment);
+    if are_under(ranks, rank_of(ranks, fragment), graph.row(owner)) {
+        return Ok(false);
+    }
+    walk.walk_from(graph, owner)?;
+    Ok(walk.reached().contains(&fragment))
+}
+
+// Whether what is broken at this place would stand before all so far.
+fn stands_first(earliest: &Earliest, place: Place) -> bool
+    ensures { result ≡ stands_first (option_map broken_of earliest.now.found) place }
+{
+    match earliest.found {
+        Some(kept) => place.is_before(kept.place),
+        None => true,
+    }
+}
+
+// Ranks that are ordered; where those that were found are not, as never happens, all alike.
+fn ranks(alloc: Global, graph: &Graph) -> Result<Vec<usize>, AllocError>
+    ensures { IfOk result (λ ranks. IsOrdered ranks.items graph.now) }
+{
+    let ranks = components(alloc, graph)?;
+    if is_ordered(&ranks, graph) {
+        return Ok(ranks);
+    }
+    Ok(Vec::new(alloc))
+}
+
+/// Fragment Spreads Must Not Form Cycles: the earliest fragment that reaches itself (section 5.5.2.2).
+///
+/// Linear in the spreads where no fragment does, and where the first in the list that does is the earliest.
+pub fn fragment_cycles<'d>(
+    alloc: Global,
+    parts: &Parts<'d>,
+    graph: &Graph,
+) -> Result<Option<Broken<'d>>, AllocError>
+    requires { graph.now ≡ graph_of (parts_in parts.now) }
+    ensures { IfOk result (λ broken. option_map broken_of broken ≡ earliest (fragment_cycles (parts_in parts.now))) }
+{
+    let ranks = ranks(alloc, graph)?;
+    let mut walk = Walk::new(alloc);
+    let mut earliest = Earliest::new();
+    for (i, fragment) in parts.document.fragments.iter().enumerate() {
+        if stands_first(&earliest, fragment.place) && is_cyclic(&mut walk, &ranks, graph, i)? {
+            earliest.add(Broken::named(fragment.name.as_str(), fragment.place));
+        }
+    }
+    Ok(earliest.found)
+}

@@ -1,0 +1,122 @@
+//! What operations and fragments spread.
+
+ghost use Rattle.std.specs.Prelude.{◌≡◌, true, [], OnOk, IfOk, length, map, replicate};
+ghost use Rattle.document_parts.specs.Parts.{spread_part_of, parts_in};
+ghost use Rattle.spread_graph.specs.Graphs.{operation_number, fragment_number, with_target, with_spread, graph_of, row};
+ghost use Rattle.spread_graph.specs.Reach.{are_known};
+ghost use Rattle.spread_graph.specs.Rows.{rows_in};
+
+use document_parts::{Owner, Parts, SpreadPart};
+use std::alloc::{AllocError, Global};
+use std::marker::Model;
+
+/// What each of several spreads.
+type Rows = Vec<Vec<usize>>;
+
+/// The fragments that each operation and each fragment of a document spreads, by their numbers from 0.
+#[derive(Drop)]
+pub struct Graph {
+    operations: Rows,
+    fragments: Rows,
+}
+
+impl Model for Graph {
+    ghost use Rattle.std.specs.Prelude.{◌≡◌, true};
+    ghost use Rattle.spread_graph.specs.Graphs.{GraphOf};
+    ghost use Rattle.spread_graph.specs.Reach.{are_known};
+    ghost use Rattle.spread_graph.specs.Rows.{rows_in};
+
+    ghost Value = { GraphOf };
+
+    ghost view = { λ g. record { operations = rows_in g.operations.items; fragments = rows_in g.fragments.items } };
+
+    ghost invariant = { λ g. are_known (record { operations = rows_in g.operations.items; fragments = rows_in g.fragments.items }) ≡ true };
+}
+
+// So many that spread nothing.
+fn empty_rows(alloc: Global, count: usize) -> Result<Rows, AllocError>
+    ensures { IfOk result (λ rows. rows_in rows.items ≡ replicate count []) }
+{
+    let mut rows = Vec::with_capacity(alloc, count)?;
+    for _ in 0..count {
+        rows.push(Vec::new(alloc))?;
+    }
+    Ok(rows)
+}
+
+// Adds a target to a row.
+fn add_target(rows: &mut Rows, number: usize, target: usize) -> Result<(), AllocError>
+    ensures { OnOk result (rows_in rows.new.items ≡ with_target (rows_in rows.old.items) number target) }
+{
+    match rows.get_mut(number) {
+        Some(row) => {
+            row.push(target)?;
+            Ok(())
+        }
+        None => Ok(()),
+    }
+}
+
+// Adds what a spread gives, where there are so many fragments.
+fn add_spread(
+    count: usize,
+    spread: &SpreadPart,
+    operations: &mut Rows,
+    fragments: &mut Rows,
+) -> Result<(), AllocError>
+    ensures operations { OnOk result (rows_in operations.new.items ≡ with_spread count operation_number (rows_in operations.old.items) (spread_part_of spread.now)) }
+    ensures fragments { OnOk result (rows_in fragments.new.items ≡ with_spread count fragment_number (rows_in fragments.old.items) (spread_part_of spread.now)) }
+{
+    match spread.target {
+        Some(target) => {
+            if target >= count {
+                return Ok(());
+            }
+            match spread.owner {
+                Owner::Operation(number) => add_target(operations, number, target),
+                Owner::Fragment(number) => add_target(fragments, number, target),
+            }
+        }
+        None => Ok(()),
+    }
+}
+
+impl Graph {
+    /// The graph of a document's parts.
+    pub fn new(alloc: Global, parts: &Parts) -> Result<Graph, AllocError>
+        ensures { IfOk result (λ graph. graph ≡ graph_of (parts_in parts.now)) }
+    {
+        let count = parts.document.fragments.len();
+        let mut operations = empty_rows(alloc, parts.document.operations.len())?;
+        let mut fragments = empty_rows(alloc, count)?;
+        for spread in &parts.spreads {
+            add_spread(count, spread, &mut operations, &mut fragments)?;
+        }
+        Ok(Graph {
+            operations,
+            fragments,
+        })
+    }
+
+    /// The number of fragments.
+    pub fn len(&self) -> usize
+        ensures { result ≡ length self.now.fragments }
+    {
+        self.fragments.len()
+    }
+
+    /// What an operation or a fragment spreads, in the order of the text.
+    pub fn row(&self, owner: Owner) -> &[usize]
+        ensures row { result.now ≡ row self.now owner }
+        ensures known { are_known self.now ≡ true }
+    {
+        let row = match owner {
+            Owner::Operation(number) => self.operations.get(number),
+            Owner::Fragment(number) => self.fragments.get(number),
+        };
+        match row {
+            Some(row) => row,
+            None => &[],
+        }
+    }
+}

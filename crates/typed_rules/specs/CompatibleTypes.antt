@@ -1,0 +1,30 @@
+-- Which types of variables fit which locations (section 5.8.5).
+use Rattle.std.specs.Prelude.{Bool, true, false, ◌&&◌, ◌||◌, not, Option, Some, None, bytes_eq, if◌then◌else◌}
+use Rattle.gq_parser.specs.Tree.{TypeTree, Named, ListOf, Value, Null}
+use Rattle.gq_schema.specs.Types.{is_non_null}
+
+-- The type of a variable, which stands first, fits that of a location (AreTypesCompatible): a non-null location needs a
+-- non-null variable, a location that may be null takes either; list goes with list, and items likewise; else the names are equal.
+abbrev pub are_compatible : TypeTree → TypeTree → Bool
+are_compatible (Named p n strict) (Named q m wanted) = (strict || not wanted) && bytes_eq n m
+are_compatible (ListOf p t strict) (ListOf q u wanted) = (strict || not wanted) && are_compatible t u
+are_compatible _ _ = false
+
+-- the type without the `!` at its end
+abbrev pub nullable : TypeTree → TypeTree
+nullable (Named p n strict) = Named p n false
+nullable (ListOf p t strict) = ListOf p t false
+
+-- there is a default, and it isn't `null`
+abbrev pub is_non_null_default : Option Value → Bool
+is_non_null_default None = false
+is_non_null_default (Some (Null p)) = false
+is_non_null_default (Some _) = true
+
+-- A variable of a type, with its default, may stand at a location of a type, which may have a default
+-- (IsVariableUsageAllowed).
+abbrev pub is_allowed : TypeTree → Option Value → TypeTree → Bool → Bool
+is_allowed variable default location has_default =
+    if is_non_null location && not (is_non_null variable)
+    then (is_non_null_default default || has_default) && are_compatible variable (nullable location)
+    else are_compatible variable location

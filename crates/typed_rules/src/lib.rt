@@ -1,0 +1,35 @@
+//! The rules of validation that speak of types, fields, arguments, values and the types of variables (GraphQL
+//! specification of October 2021, section 5).
+//!
+//! The layer above may rely on this: each rule is a function that tells what breaks it with the earliest place, of the list that its
+//! definition in `specs/` gives. Nothing rests on the other rules being kept: a rule that needs something unknown passes over it.
+#![tactic(auto)]
+
+mod compatible_types;
+mod forbidden_usages;
+mod impossible_spreads;
+mod leaf_types;
+mod misfit_fields;
+mod missing_arguments;
+mod non_input_variables;
+mod references;
+mod unknown_arguments;
+mod unknown_fields;
+mod unknown_types;
+mod use_places;
+mod variables;
+mod wrong_values;
+
+pub use forbidden_usages::variable_usages;
+pub use impossible_spreads::possible_spreads;
+pub use leaf_types::composite_types;
+pub use misfit_fields::leaf_selections;
+pub use missing_arguments::required_arguments;
+pub use non_input_variables::input_variables;
+pub use unknown_arguments::argument_names;
+pub use unknown_fields::field_selections;
+pub use unknown_types::type_existence;
+pub use wrong_values::correct_values;
+
+#[cfg(test)]
+mod tests;

@@ -1,0 +1,77 @@
+//! Required Arguments (section 5.4.2.1).
+
+ghost use Rattle.std.specs.Prelude.{◌≡◌};
+ghost use Rattle.std.specs.Option.{option_map, option_copied};
+ghost use Rattle.gq_parser.specs.Tree.{literal_of, arguments_of};
+ghost use Rattle.schema_syntax.specs.Tree as schema;
+ghost use Rattle.gq_schema.specs.Implements.{is_required};
+ghost use Rattle.document_parts.specs.Broken.{broken_of, earliest};
+ghost use Rattle.document_parts.specs.Parts.{argument_list_of, parts_in};
+ghost use Rattle.typed_rules.specs.RequiredArguments.{is_null, is_given, is_missing, first_missing, missing_argument, missing_arguments};
+
+use crate::references::is_non_null;
+use document_parts::{ArgumentList, Broken, Earliest, Parts};
+use gq_parser::{Argument, Literal, Value};
+use gq_schema::ArgDef;
+
+fn is_null(literal: &Literal) -> bool
+    ensures { result ≡ is_null (literal_of literal.now) }
+{
+    matches!(literal.value, Value::Null)
+}
+
+fn is_required(argument: &ArgDef) -> bool
+    ensures { result ≡ is_required (schema.argument_of argument.now) }
+{
+    is_non_null(&argument.of_type) && argument.default.is_none()
+}
+
+// Whether an argument of a name is given, and the first of the name isn't the literal `null`.
+fn is_given(arguments: &[Argument], name: &str) -> bool
+    ensures { result ≡ is_given (arguments_of arguments.now) name.now }
+{
+    for argument in arguments {
+        if name == argument.name.as_str() {
+            return !is_null(&argument.value);
+        }
+    }
+    false
+}
+
+fn is_missing(arguments: &[Argument], argument: &ArgDef) -> bool
+    ensures { result ≡ is_missing (arguments_of arguments.now) (schema.argument_of argument.now) }
+{
+    is_required(argument) && !is_given(arguments, argument.name.text.as_str())
+}
+
+// The name of the first argument of these that is missing.
+fn first_missing<'d>(defined: &'d [ArgDef], arguments: &[Argument]) -> Option<&'d str>
+    ensures { option_copied result ≡ first_missing (schema.arguments_of defined.now) (arguments_of arguments.now) }
+{
+    for argument in defined {
+        if is_missing(arguments, argument) {
+            return Some(argument.name.text.as_str());
+        }
+    }
+    None
+}
+
+fn missing_argument<'d>(list: &ArgumentList<'d>) -> Option<Broken<'d>>
+    ensures { option_map broken_of result ≡ missing_argument (argument_list_of list.now) }
+{
+    let name = first_missing(list.definitions?, list.arguments)?;
+    Some(Broken::named(name, list.place))
+}
+
+/// The earliest field or directive where a non-null argument without a default is missing, or is the literal `null`: the
+/// first such argument by definition, at the place of the field or directive (section 5.4.2.1).
+#[tactic(auto, using(crate::proofs::Keeping::keep_next))]
+pub fn required_arguments<'d>(parts: &Parts<'d>) -> Option<Broken<'d>>
+    ensures { option_map broken_of result ≡ earliest (missing_arguments (parts_in parts.now)) }
+{
+    let mut earliest = Earliest::new();
+    for list in &parts.argument_lists {
+        earliest.add_if(missing_argument(list));
+    }
+    earliest.found
+}

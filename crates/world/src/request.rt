@@ -1,0 +1,131 @@
+//! The plans of requests.
+
+ghost use Rattle.std.specs.Prelude.{◌≡◌, IfOk, IfErr, string_bytes};
+ghost use Rattle.std.specs.Option.{option_map};
+ghost use Rattle.serde_json.specs.View.{view};
+ghost use Rattle.gq_schema.specs.Types.{tree_of};
+ghost use Rattle.gq_check.specs.Plans.{plan_of};
+ghost use Rattle.world.specs.Requests.{IsPlanOf, IsRequestFault, token_message, parse_message, request_message, request_place};
+
+use crate::world::World;
+use gq_check::{CheckFault, Plan, PrepareFault, check, prepare};
+use gq_lexer::{LexFault, Place};
+use gq_parser::{ParseFault, parse};
+use serde_json::Value;
+use std::alloc::{AllocError, Global};
+
+/// Why a request has no plan.
+#[derive(Debug, Drop)]
+pub enum RequestFault {
+    /// The query is no document.
+    Parse(ParseFault),
+    /// The document is not valid.
+    Check(CheckFault),
+    /// There is no such operation, or its variables have no values.
+    Prepare(PrepareFault),
+}
+
+fn token_message(fault: &LexFault) -> &'static str
+    ensures { result.now ≡ token_message fault.now }
+{
+    match fault {
+        LexFault::TooLong => "document too long",
+        LexFault::BadCharacter(_) => "bad character",
+        LexFault::UnterminatedString(_) => "unterminated string",
+        LexFault::BadEscape(_) => "bad escape",
+        LexFault::BadNumber(_) => "bad number",
+        LexFault::NoMemory => "out of memory",
+    }
+}
+
+fn parse_message(fault: &ParseFault) -> &'static str
+    ensures { result.now ≡ parse_message fault.now }
+{
+    match fault {
+        ParseFault::Lex(fault) => token_message(fault),
+        ParseFault::Unexpected(_) => "unexpected token",
+        ParseFault::UnexpectedEnd(_) => "unexpected end",
+        ParseFault::TooDeep(_) => "too deep",
+        ParseFault::NoMemory => "out of memory",
+    }
+}
+
+impl RequestFault {
+    ghost use Rattle.world.specs.Requests.{is_want_of_memory, request_message, request_place};
+
+    /// Whether memory was refused. Every other fault is told to the client.
+    pub fn is_want_of_memory(&self) -> bool
+        ensures { result ≡ is_want_of_memory self.now }
+    {
+        matches!(
+            self,
+            RequestFault::Parse(ParseFault::NoMemory)
+                | RequestFault::Check(CheckFault::NoMemory)
+                | RequestFault::Prepare(PrepareFault::NoMemory)
+        )
+    }
+
+    /// The message that a client reads.
+    pub fn message(&self, alloc: Global) -> Result<String, AllocError>
+        ensures { IfOk result (λ message. string_bytes message ≡ request_message self.now) }
+    {
+        match self {
+            RequestFault::Parse(fault) => String::from_str(alloc, parse_message(fault)),
+            RequestFault::Check(fault) => fault.to_string(alloc),
+            RequestFault::Prepare(fault) => fault.to_string(alloc),
+        }
+    }
+
+    /// The place that a client is shown, if there is one.
+    pub fn place(&self) -> Option<Place>
+        ensures { result ≡ request_place self.now }
+    {
+        match self {
+            RequestFault::Parse(fault) => fault.place(),
+            RequestFault::Check(fault) => fault.place(),
+            RequestFault::Prepare(_) => None,
+        }
+    }
+}
+
+impl World {
+    /// The plan of a request: its query is parsed and checked, and the operation of this name, or the only one, is prepared
+    /// with the values that are given for its variables.
+    ///
+    /// # Errors
+    ///
+    /// [`Parse`](RequestFault::Parse), else [`Check`](RequestFault::Check), else [`Prepare`](RequestFault::Prepare), each
+    /// with its fault, which may be want of memory.
+    pub fn plan(
+        &self,
+        alloc: Global,
+        query: &str,
+        operation_name: Option<&str>,
+        variables: &Value,
+    ) -> Result<Plan<'_>, RequestFault>
+        ensures schema { IfOk result (λ plan. plan.definitions ≡ self.now.definitions) }
+        ensures bindings { IfOk result (λ plan. plan.bindings ≡ self.now.bindings) }
+        ensures ok { IfOk result (λ plan. IsPlanOf (tree_of self.now.definitions) query.now (option_map (λ name. name.now) operation_name.entry) (view variables.now) (plan_of plan)) }
+        ensures err { IfErr result (IsRequestFault (tree_of self.now.definitions) query.now (option_map (λ name. name.now) operation_name.entry) (view variables.now)) }
+    {
+        let document = match parse(alloc, query) {
+            Ok(document) => document,
+            Err(fault) => return Err(RequestFault::Parse(fault)),
+        };
+        let checked = match check(alloc, self.schema(), document) {
+            Ok(checked) => checked,
+            Err(fault) => return Err(RequestFault::Check(fault)),
+        };
+        match prepare(
+            alloc,
+            self.schema(),
+            self.bindings(),
+            checked,
+            operation_name,
+            variables,
+        ) {
+            Ok(plan) => Ok(plan),
+            Err(fault) => Err(RequestFault::Prepare(fault)),
+        }
+    }
+}
