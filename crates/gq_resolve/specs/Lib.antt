@@ -2,3 +2,4 @@ pub mod Answered
 pub mod Evaluated
 pub mod States
 pub mod Cells
+pub mod Completing

@@ -84,7 +84,8 @@ fn own_response(
     }
 }
 
-fn is_null(response: &Response) -> bool
+/// Whether it is null.
+pub fn is_null(response: &Response) -> bool
     ensures { result ≡ is_null_response (response_of response.now) }
 {
     match response {

@@ -9,15 +9,19 @@ mod answer;
 mod answered;
 mod build;
 mod cells;
+mod completing;
 mod evaluation;
 mod finish;
 mod no_memory;
 mod reading;
 mod state;
+#[cfg(test)]
+mod tests;
 mod waiting;
 
 pub use answer::answer_text;
 pub use answered::Answered;
+pub use completing::{Completed, complete};
 pub use evaluation::evaluate;
 pub use no_memory::NoMemory;
 pub use plan_program::{ArgFault, Args, Group, arguments_of, collect};

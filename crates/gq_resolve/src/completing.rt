@@ -1,0 +1,43 @@
+//! Completion of one position (section 6.4.3).
+
+ghost use Rattle.std.specs.Prelude.{◌≡◌};
+ghost use Rattle.gq_parser.specs.Tree.{type_of};
+ghost use Rattle.gq_schema.specs.Types.{is_non_null};
+ghost use Rattle.gq_resolve.specs.Answered.{response_of};
+ghost use Rattle.gq_resolve.specs.Completing.{complete, completed_of};
+
+use crate::finish::is_null;
+use answer_json::Response;
+use gq_parser::TypeRef;
+
+/// What a position completes to.
+#[derive(Debug, Drop)]
+pub enum Completed {
+    /// A response that isn't null.
+    Value(Response),
+    /// A null that stays where it is.
+    Null,
+    /// A null that goes on to the position above (section 6.4.4).
+    NullAbove {
+        /// Whether this position adds an error.
+        new: bool,
+    },
+}
+
+/// Completes a response at a type. A null of non-null type adds an error, unless the position has one: it is `faulted`.
+pub fn complete(ty: &TypeRef, response: Response, faulted: bool) -> Completed
+    ensures { completed_of result ≡ complete (is_non_null (type_of ty.now)) (response_of response) faulted }
+{
+    if !is_null(&response) {
+        return Completed::Value(response);
+    }
+    let non_null = match ty {
+        TypeRef::Named { non_null, .. } => *non_null,
+        TypeRef::List { non_null, .. } => *non_null,
+    };
+    if non_null {
+        Completed::NullAbove { new: !faulted }
+    } else {
+        Completed::Null
+    }
+}
