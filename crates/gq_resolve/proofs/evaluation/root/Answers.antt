@@ -24,7 +24,7 @@ returns c =
     let set : SelectionSet = c.args.plan.now.operation.selection_set in
     let chosen : Selections = selections_in (set_of set) in
     let ss : map_selections c.deref.result.now ≡ chosen =
-    ap map_selections (c.deref.ensures.value ∙ ap (λ (o : Operation). o.selection_set.selections.items) c.operation.ensures) ∙ sym (ap selections_in (of_set set.place set.selections)) in
+    ap map_selections (c.deref.ensures.value ∙ ap (λ (o : Operation). o.selection_set.selections.items) c.operation.ensures.same) ∙ sym (ap selections_in (of_set set.place set.selections)) in
     let root : c.root-ty.result.now ≡ root_in plan.definitions = c.root-ty.ensures ∙ ap (λ (ds : List Definition). root_in (tree_of ds)) c.schema.ensures in
     let ps : all_prepared_seen c.in_ok-prepared.prepared.items ≡ root_prepared plan =
     c.in_ok-prepared.ensures ∙ ap (all_prepared plan c.root-ty.result.now) (c.in_ok-groups.ensures ∙ ap (collect plan c.root-ty.result.now) ss)
