@@ -15,8 +15,6 @@ mod finish;
 mod no_memory;
 mod reading;
 mod state;
-#[cfg(test)]
-mod tests;
 mod waiting;
 
 pub use answer::answer_text;

@@ -1,10 +1,9 @@
 //! What no clause says: the sample world, printed faults, and that calls succeed.
-use crate::{MAX_LIMIT, RequestFault, World, WorldFault};
+use crate::{MAX_LIMIT, World, WorldFault};
 use csv_source::{CsvSource, Table};
 use gq_lexer::Place;
 use gq_schema::SchemaFault;
 use load_memory::{Cell, Key};
-use serde_json::Value;
 use std::alloc::{AllocError, Global};
 use std::test::Fail;
 
@@ -227,62 +226,6 @@ fn places(rt: HostRuntime) -> Result<(), Fail> {
     for (schema, bindings, want) in cases {
         let made = world_of(alloc, schema, bindings, &TABLES[..4], None)?;
         assert_eq!(rt; place_of(made), want, "{bindings}");
-    }
-    Ok(())
-}
-
-// The message of a refusal, and its line and column where it has a place.
-fn refusal(alloc: Global, fault: &RequestFault) -> Result<String, AllocError> {
-    let message = fault.message(alloc)?;
-    match fault.place() {
-        Some(place) => {
-            let line = place.line;
-            let column = place.column;
-            format!(in alloc; "{message} at {line}:{column}")
-        }
-        None => Ok(message),
-    }
-}
-
-#[test]
-fn plans(rt: HostRuntime) -> Result<(), Fail> {
-    let alloc = rt.alloc();
-    let world = world_of(alloc, SCHEMA, BINDINGS, &TABLES[..4], None)??;
-    let two = "query A{users{id}} query B{users{id}}";
-    let cases = [
-        ("{user(id:1){name}}", None, "{}", "plan of 6 loaders"),
-        ("{}", None, "{}", "unexpected token at 1:2"),
-        ("", None, "{}", "unexpected end at 1:1"),
-        (
-            "{user(id:\"\"\"1",
-            None,
-            "{}",
-            "unterminated string at 1:10",
-        ),
-        (
-            "{user(id:1){age}}",
-            None,
-            "{}",
-            "5.3.1 Field Selections: age at 1:13",
-        ),
-        (two, None, "{}", "operation name needed"),
-        (two, Some("C"), "[]", "no operation named C"),
-        (two, Some("B"), "[]", "variables must be an object"),
-        (two, Some("B"), "null", "plan of 6 loaders"),
-    ];
-    for (query, name, variables, want) in cases {
-        let variables = Value::from_str(alloc, variables)?;
-        let text = match world.plan(alloc, query, name, &variables) {
-            Ok(plan) => {
-                let loaders = plan.loaders();
-                format!(in alloc; "plan of {loaders} loaders")?
-            }
-            Err(fault) => {
-                assert!(rt; !fault.is_want_of_memory());
-                refusal(alloc, &fault)?
-            }
-        };
-        assert_eq!(rt; text.as_str(), want, "{query}");
     }
     Ok(())
 }
