@@ -1,8 +1,9 @@
 //! Validation and preparation: from a document and a schema to a plan (GraphQL specification of October 2021, sections 5 and
 //! 6.1).
 //!
-//! The layer above may rely on this: a [`Checked`] is a document that keeps every rule of validation over its schema, and
-//! [`check`] names the first fault of every other document, which is its one verdict ([`one_verdict`]). A [`Plan`] is an
+//! The layer above may rely on this: a [`Checked`] is a document that keeps every rule of validation over its schema but Field
+//! Selection Merging, which isn't asked yet, and [`check`] names the first fault of every other document, which is its one
+//! verdict ([`one_verdict`]). A [`Plan`] is an
 //! operation of such a document with the values of its variables, and [`prepare`] says why there is none. A plan's look-ups
 //! take no memory.
 #![tactic(auto)]
