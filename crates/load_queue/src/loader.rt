@@ -1,7 +1,9 @@
 //! A loader: a source with its name, its mode, its limit and its log.
-ghost use Rattle.std.specs.Prelude.{◌≡◌, ◌↔◌, ◌<◌, ℕ, Some, [], IfOk, OnOk, OnErr, IsErrOf, map};
+ghost use Rattle.std.specs.Prelude.{◌≡◌, ◌↔◌, ◌<◌, ℕ, Some, [], All, IfOk, OnOk, OnErr, IsErrOf, map, take};
 ghost use Rattle.load_memory.specs.Keys.{key_of};
 ghost use Rattle.load_queue.specs.Batches.{AreBatches};
+ghost use Rattle.load_queue.specs.Loaders.{AskedOf, marked};
+ghost use Rattle.load_queue.specs.Logs.{asked_of};
 ghost use Rattle.load_queue.specs.Orders.{orders_of};
 
 use crate::cut::{cut_keys, piece_length};
@@ -59,12 +61,15 @@ pub struct Loader<S> {
     mode: KeyMode,
     limit: Option<u32>,
     log: Vec<Asked>,
+    // the latest round of the log, and how many entries stand before its first
+    latest: u32,
+    earlier: usize,
 }
 
 impl<S> Model for Loader<S> {
     ghost use Rattle.std.specs.Prelude.{map, string_bytes, ◌≢◌, Some, ◌<◌, ℕ, ◌≡◌};
     ghost use Rattle.load_queue.specs.Loaders.{LoaderOf};
-    ghost use Rattle.load_queue.specs.Logs.{asked_of};
+    ghost use Rattle.load_queue.specs.Logs.{asked_of, IsLoader};
 
     ghost Value = { LoaderOf S };
 
@@ -76,7 +81,19 @@ impl<S> Model for Loader<S> {
       log = map asked_of l.log.items;
     } };
 
-    ghost invariant = { λ l. (n : ℕ) → l.limit ≡ Some n → 0 < n };
+    ghost invariant = { λ l. IsLoader l.limit l.latest l.earlier (map asked_of l.log.items) };
+}
+
+// Marks those entries of the log that are of this round, none of which stands before the first to look at.
+fn mark(log: &mut Vec<Asked>, first: usize, round: u32)
+    requires { All (λ (a : AskedOf). a.round ≡ round → ⊥) (take first (map asked_of log.old.items)) }
+    ensures { map asked_of log.new.items ≡ map (marked round) (map asked_of log.old.items) }
+{
+    for index in first..log.len() {
+        if log[index].round == round {
+            log[index].stored = true;
+        }
+    }
 }
 
 impl<S> Loader<S> {
@@ -127,19 +144,26 @@ impl<S> Loader<S> {
     {
         let most = piece_length(self.limit, keys);
         let (orders, mut entries) = cut_keys(*self.log.allocator(), loader, round, keys, most)?;
+        let earlier = self.log.len();
         self.log.append(&mut entries)?;
+        if self.latest < round {
+            self.latest = round;
+            self.earlier = earlier;
+        }
         Ok(orders)
     }
 
-    /// Marks the entries of a round as stored, and changes nothing else.
+    /// Marks the entries of a round as stored, and changes nothing else. For the latest round it looks at no
+    /// entry before that round's first.
     pub fn mark_stored(&mut self, round: u32)
         ensures { self.new ≡ stored_in self.old round }
     {
-        for entry in self.log.iter_mut() {
-            if entry.round == round {
-                entry.stored = true;
-            }
-        }
+        let first = if self.latest <= round {
+            self.earlier
+        } else {
+            0
+        };
+        mark(&mut self.log, first, round);
     }
 }
 
@@ -171,6 +195,8 @@ impl<S: Drop> Loader<S> {
             mode,
             limit: max,
             log: Vec::new(alloc),
+            latest: 0,
+            earlier: 0,
         })
     }
 }
