@@ -16,8 +16,6 @@ mod parents;
 mod part;
 mod parts;
 mod selections;
-#[cfg(test)]
-mod tests;
 
 pub use broken::{Broken, BrokenName, Earliest};
 pub use built_in::condition_arguments;

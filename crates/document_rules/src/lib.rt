@@ -26,6 +26,3 @@ pub use fragments::{
 pub use operations::{lone_anonymous_operation, operation_name_uniqueness};
 pub use served::{MOST_FIELDS, is_too_complex, not_served};
 pub use variables::{all_variable_uses_defined, all_variables_used, variable_uniqueness};
-
-#[cfg(test)]
-mod tests;

@@ -26,6 +26,3 @@ pub use tree::{
     Argument, Directive, Document, Field, Fragment, Inline, Literal, Operation, OperationKind,
     Selection, SelectionSet, Spread, TypeCondition, TypeRef, Value, VariableDefinition,
 };
-
-#[cfg(test)]
-mod tests;

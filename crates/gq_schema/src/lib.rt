@@ -19,8 +19,6 @@ mod reading;
 mod references;
 mod rules;
 mod schema;
-#[cfg(test)]
-mod tests;
 mod type_names;
 mod types;
 

@@ -16,6 +16,3 @@ pub use tree::{
     ArgumentDefinition, Definition, EnumDefinition, FieldDefinition, InterfaceDefinition, Name,
     ObjectDefinition, SchemaDefinition, SchemaDocument, UnionDefinition,
 };
-
-#[cfg(test)]
-mod tests;

@@ -12,8 +12,6 @@ mod cycles;
 mod graph;
 mod law;
 mod levels;
-#[cfg(test)]
-mod tests;
 mod walk;
 
 pub use cycles::fragment_cycles;

@@ -1,6 +1,8 @@
-use super::*;
+//! Schemas and bindings.
+
 use gq_lexer::Place;
 use gq_parser::{Selection, parse};
+use gq_schema::*;
 use std::alloc::Global;
 use std::test::Fail;
 
@@ -237,31 +239,61 @@ type User implements Named { id: ID! name: String! best: User
 type Bot implements Named { id: ID! name: String! model: String }
 type Post { id: ID! author: User! title: String! }";
 
+// The kind of each name, in a word.
+fn kind_name(schema: &Schema, name: &str) -> &'static str {
+    match schema.kind_of(name) {
+        Some(TypeKind::Interface) => "interface",
+        Some(TypeKind::Scalar) => "scalar",
+        Some(_) => "other",
+        None => "none",
+    }
+}
+
 #[test]
-fn sample(rt: HostRuntime) -> Result<(), Fail> {
+fn kinds(rt: HostRuntime) -> Result<(), Fail> {
     let schema = Schema::read(rt.alloc(), SAMPLE).map_err(|_| "no schema")?;
     assert_eq!(rt; schema.root(), "Query");
-    assert_eq!(rt; schema.kind_of("Named"), Some(TypeKind::Interface));
-    assert_eq!(rt; schema.kind_of("ID"), Some(TypeKind::Scalar));
-    assert_eq!(rt; schema.kind_of("Cat"), None);
-    let liked = schema.field("User", "liked").ok_or("no field")?;
-    assert_eq!(rt; liked.name.text.as_str(), "liked");
-    assert!(rt; schema.field("User", "model").is_none());
-    assert!(rt; schema.field("Cat", "name").is_none());
+    for (name, kind) in [("Named", "interface"), ("ID", "scalar"), ("Cat", "none")] {
+        assert_eq!(rt; kind_name(&schema, name), kind, "{name}");
+    }
+    Ok(())
+}
+
+#[test]
+fn fields(rt: HostRuntime) -> Result<(), Fail> {
+    let schema = Schema::read(rt.alloc(), SAMPLE).map_err(|_| "no schema")?;
     let user = schema.field("Query", "user").ok_or("no field")?;
-    assert_eq!(rt; user.arguments.len(), 1);
-    let possible = schema.possible_types("Named").ok_or("no types")?;
-    assert_eq!(rt; possible.len(), 2);
-    assert_eq!(rt; possible[0].as_str(), "User");
-    assert_eq!(rt; possible[1].as_str(), "Bot");
-    assert_eq!(rt; schema.possible_types("Post").ok_or("no types")?.len(), 1);
-    assert!(rt; schema.possible_types("ID").is_none());
-    assert!(rt; schema.possible_types("Cat").is_none());
-    assert!(rt; schema.can_be("Named", "Bot"));
-    assert!(rt; !schema.can_be("Named", "Post"));
     let named = schema.field("Query", "named").ok_or("no field")?;
+    assert_eq!(rt; user.arguments.len(), 1);
     assert!(rt; schema.is_covariant(&user.of_type, &named.of_type));
     assert!(rt; !schema.is_covariant(&named.of_type, &user.of_type));
+    for (of, name, there) in [
+        ("User", "liked", true),
+        ("User", "model", false),
+        ("Cat", "name", false),
+    ] {
+        assert_eq!(rt; schema.field(of, name).is_some(), there, "{of}.{name}");
+    }
+    Ok(())
+}
+
+#[test]
+fn possible_types(rt: HostRuntime) -> Result<(), Fail> {
+    let schema = Schema::read(rt.alloc(), SAMPLE).map_err(|_| "no schema")?;
+    let possible = schema.possible_types("Named").ok_or("no types")?;
+    for (at, name) in ["User", "Bot"].iter().enumerate() {
+        assert_eq!(rt; possible.get(at).map(|it| it.as_str()), Some(*name));
+    }
+    assert_eq!(rt; possible.len(), 2);
+    for (name, count) in [("Post", Some(1)), ("ID", None), ("Cat", None)] {
+        assert_eq!(rt;
+            schema.possible_types(name).map(|it| it.len()),
+            count,
+            "{name}"
+        );
+    }
+    assert!(rt; schema.can_be("Named", "Bot"));
+    assert!(rt; !schema.can_be("Named", "Post"));
     Ok(())
 }
 
@@ -284,7 +316,7 @@ fn unions(rt: HostRuntime) -> Result<(), Fail> {
 }
 
 // What the default of a variable gives at the variable's type, and whether it is right there.
-fn coerced(alloc: Global, variable: &str) -> Result<(Option<Input>, bool), Fail> {
+fn coerced(alloc: Global, variable: &str) -> Result<String, Fail> {
     let schema = Schema::read(alloc, "enum E{A B} type Query{a:Int}").map_err(|_| "no schema")?;
     let text = format!(in alloc; "query($v:{variable}){{a}}")?;
     let document = parse(alloc, text.as_str()).map_err(|_| "no document")?;
@@ -292,47 +324,41 @@ fn coerced(alloc: Global, variable: &str) -> Result<(Option<Input>, bool), Fail>
     let variable = operation.variables.first().ok_or("no variable")?;
     let default = variable.default.as_ref().ok_or("no default")?;
     let right = accepts(&schema, &variable.of_type, default);
-    Ok((coerce(alloc, &schema, &variable.of_type, default)?, right))
+    let value = coerce(alloc, &schema, &variable.of_type, default)?;
+    Ok(format!(in alloc; "{value:?} {right}")?)
 }
+
+// A type with a literal, and its value with whether the type accepts it.
+const COERCIONS: &[(&str, &str)] = &[
+    ("Int=-12", "Some(Int(-12)) true"),
+    ("Int=2147483648", "None false"),
+    ("ID=-0", "Some(Text(\"-0\")) true"),
+    ("ID=99999999999", "Some(Text(\"99999999999\")) true"),
+    ("ID=\"\\u0041\"", "Some(Text(\"A\")) true"),
+    ("String=1", "None false"),
+    ("Boolean=false", "Some(Bool(false)) true"),
+    ("E=B", "Some(Text(\"B\")) true"),
+    ("E=C", "None false"),
+    ("Int! =null", "None false"),
+    ("[Int!]=null", "Some(Null) true"),
+    ("[Int!]=[null]", "None false"),
+    ("[Int!]=7", "Some(List([Int(7)])) true"),
+    ("[Int]! =[1,null]", "Some(List([Int(1), Null])) true"),
+    ("[[Int]]=[\"a\"]", "None false"),
+    ("[[Int]]=[1]", "Some(List([List([Int(1)])])) true"),
+    ("Int={a:1}", "None false"),
+    ("Query=1", "None false"),
+];
 
 #[test]
 fn coercion(rt: HostRuntime) -> Result<(), Fail> {
-    let alloc = rt.alloc();
-    let text = |text: &str| Ok::<Input, Fail>(Input::Text(String::from_str(alloc, text)?));
-    assert_eq!(rt; coerced(alloc, "Int=-12")?, (Some(Input::Int(-12)), true));
-    assert_eq!(rt; coerced(alloc, "Int=2147483648")?, (None, false));
-    assert_eq!(rt; coerced(alloc, "ID=-0")?, (Some(text("-0")?), true));
-    assert_eq!(rt;
-        coerced(alloc, "ID=99999999999")?,
-        (Some(text("99999999999")?), true)
-    );
-    assert_eq!(rt; coerced(alloc, "ID=\"\\u0041\"")?, (Some(text("A")?), true));
-    assert_eq!(rt; coerced(alloc, "String=1")?, (None, false));
-    assert_eq!(rt;
-        coerced(alloc, "Boolean=false")?,
-        (Some(Input::Bool(false)), true)
-    );
-    assert_eq!(rt; coerced(alloc, "E=B")?, (Some(text("B")?), true));
-    assert_eq!(rt; coerced(alloc, "E=C")?, (None, false));
-    assert_eq!(rt; coerced(alloc, "Int! =null")?, (None, false));
-    assert_eq!(rt; coerced(alloc, "[Int!]=null")?, (Some(Input::Null), true));
-    assert_eq!(rt; coerced(alloc, "[Int!]=[null]")?, (None, false));
-    let one = vec![in alloc; Input::Int(7)]?;
-    assert_eq!(rt; coerced(alloc, "[Int!]=7")?, (Some(Input::List(one)), true));
-    let two = vec![in alloc; Input::Int(1), Input::Null]?;
-    assert_eq!(rt;
-        coerced(alloc, "[Int]! =[1,null]")?,
-        (Some(Input::List(two)), true)
-    );
-    assert_eq!(rt; coerced(alloc, "[[Int]]=[\"a\"]")?, (None, false));
-    let inner = vec![in alloc; Input::Int(1)]?;
-    let outer = vec![in alloc; Input::List(inner)]?;
-    assert_eq!(rt;
-        coerced(alloc, "[[Int]]=[1]")?,
-        (Some(Input::List(outer)), true)
-    );
-    assert_eq!(rt; coerced(alloc, "Int={a:1}")?, (None, false));
-    assert_eq!(rt; coerced(alloc, "Query=1")?, (None, false));
+    for (literal, wanted) in COERCIONS {
+        assert_eq!(rt;
+            coerced(rt.alloc(), literal)?.as_str(),
+            *wanted,
+            "{literal}"
+        );
+    }
     Ok(())
 }
 

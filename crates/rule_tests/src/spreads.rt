@@ -1,4 +1,6 @@
-use super::*;
+//! What spreads reach.
+
+use spread_graph::*;
 use document_parts::{BrokenName, Owner, Parts, condition_arguments};
 use gq_parser::parse;
 use gq_schema::Schema;

@@ -1,5 +1,7 @@
-use super::*;
+//! Documents.
+
 use gq_lexer::{LexFault, Place};
+use gq_parser::*;
 use slow::Slow;
 use std::alloc::Global;
 use std::process::Abort;
@@ -220,80 +222,134 @@ const PLACES: &str = "query Q(
 fragment F on
   T { g }";
 
-#[test]
-fn places(rt: HostRuntime) -> Result<(), Fail> {
-    let document = parse(rt.alloc(), PLACES)?;
-    let operation = first(&document.operations)?;
-    let variable = first(&operation.variables)?;
-    let TypeRef::List {
-        place: list,
-        item,
-        non_null,
-    } = &variable.of_type
-    else {
+/// A part of the document, and the line and the column where it stands.
+type At = (&'static str, Place, u32, u32);
+
+fn expect_places(rt: &impl Abort, parts: &[At]) -> Result<(), Fail> {
+    for &(name, place, line, column) in parts {
+        assert_eq!(rt; place, Place { line, column }, "{name}");
+    }
+    Ok(())
+}
+
+fn expect_type_places(rt: &impl Abort, of_type: &TypeRef) -> Result<(), Fail> {
+    let TypeRef::List { place, item, .. } = of_type else {
         return Err("a list")?;
     };
-    assert!(rt; !*non_null);
-    let TypeRef::Named {
-        place: named,
-        non_null,
-        ..
-    } = &**item
-    else {
+    let TypeRef::Named { place: named, .. } = &**item else {
         return Err("a name")?;
     };
-    assert!(rt; *non_null);
+    expect_places(rt, &[("list", *place, 2, 7), ("name", *named, 2, 8)])
+}
+
+fn expect_default_places(rt: &impl Abort, variable: &VariableDefinition) -> Result<(), Fail> {
     let default = variable.default.as_ref().ok_or("a default")?;
     let Value::List(items) = &default.value else {
         return Err("a list")?;
     };
-    let number = first(items)?;
-    assert!(rt; matches!(&number.value, Value::Int(text) if text.as_str() == "-1"));
-    let set = &operation.selection_set;
-    let Selection::Field(field) = first(&set.selections)? else {
-        return Err("a field")?;
-    };
-    assert_eq!(rt; field.alias.as_ref().map(|alias| alias.as_str()), Some("b"));
-    assert_eq!(rt; field.name.as_str(), "c");
+    expect_places(
+        rt,
+        &[
+            ("variable", variable.place, 2, 3),
+            ("default", default.place, 2, 16),
+            ("number", first(items)?.place, 3, 5),
+        ],
+    )
+}
+
+fn expect_operation_places(rt: &impl Abort, operation: &Operation) -> Result<(), Fail> {
+    expect_places(
+        rt,
+        &[
+            ("operation", operation.place, 1, 1),
+            ("directive", first(&operation.directives)?.place, 3, 10),
+            ("set", operation.selection_set.place, 3, 13),
+        ],
+    )
+}
+
+fn expect_field_places(rt: &impl Abort, field: &Field, below: &SelectionSet) -> Result<(), Fail> {
     let argument = first(&field.arguments)?;
-    let below = field.selection_set.as_ref().ok_or("a set")?;
-    let Selection::Spread(spread) = first(&below.selections)? else {
-        return Err("a spread")?;
-    };
-    let Selection::Inline(inline) = below.selections.get(1).ok_or("one more")? else {
-        return Err("an inline fragment")?;
-    };
+    expect_places(
+        rt,
+        &[
+            ("field", field.place, 4, 3),
+            ("argument", argument.place, 5, 5),
+            ("value", argument.value.place, 5, 8),
+            ("set below", below.place, 5, 12),
+        ],
+    )
+}
+
+fn expect_spread_places(rt: &impl Abort, spread: &Spread) -> Result<(), Fail> {
+    let directive = first(&spread.directives)?;
+    expect_places(
+        rt,
+        &[
+            ("spread", spread.place, 6, 5),
+            ("spread's directive", directive.place, 6, 11),
+        ],
+    )
+}
+
+fn expect_inline_places(rt: &impl Abort, inline: &Inline) -> Result<(), Fail> {
     let condition = inline.condition.as_ref().ok_or("a condition")?;
-    let fragment = first(&document.fragments)?;
-    let cases = [
-        ("operation", operation.place, 1, 1),
-        ("variable", variable.place, 2, 3),
-        ("list", *list, 2, 7),
-        ("name", *named, 2, 8),
-        ("default", default.place, 2, 16),
-        ("number", number.place, 3, 5),
-        ("directive", first(&operation.directives)?.place, 3, 10),
-        ("set", set.place, 3, 13),
-        ("field", field.place, 4, 3),
-        ("argument", argument.place, 5, 5),
-        ("value", argument.value.place, 5, 8),
-        ("set below", below.place, 5, 12),
-        ("spread", spread.place, 6, 5),
-        (
-            "spread's directive",
-            first(&spread.directives)?.place,
-            6,
-            11,
-        ),
-        ("inline", inline.place, 7, 5),
-        ("condition", condition.place, 8, 10),
-        ("inline set", inline.selection_set.place, 8, 12),
-        ("fragment", fragment.place, 11, 1),
-        ("fragment's condition", fragment.condition.place, 12, 3),
-        ("fragment's set", fragment.selection_set.place, 12, 5),
-    ];
-    for (name, place, line, column) in cases {
-        assert_eq!(rt; place, Place { line, column }, "{name}");
+    expect_places(
+        rt,
+        &[
+            ("inline", inline.place, 7, 5),
+            ("condition", condition.place, 8, 10),
+            ("inline set", inline.selection_set.place, 8, 12),
+        ],
+    )
+}
+
+fn expect_fragment_places(rt: &impl Abort, fragment: &Fragment) -> Result<(), Fail> {
+    expect_places(
+        rt,
+        &[
+            ("fragment", fragment.place, 11, 1),
+            ("fragment's condition", fragment.condition.place, 12, 3),
+            ("fragment's set", fragment.selection_set.place, 12, 5),
+        ],
+    )
+}
+
+fn expect_field(rt: &impl Abort, field: &Field) -> Result<(), Fail> {
+    let below = field.selection_set.as_ref().ok_or("a set")?;
+    expect_field_places(rt, field, below)?;
+    for selection in below.selections.iter() {
+        match selection {
+            Selection::Field(_) => return Err("no field")?,
+            Selection::Spread(spread) => expect_spread_places(rt, spread)?,
+            Selection::Inline(inline) => expect_inline_places(rt, inline)?,
+        }
     }
     Ok(())
+}
+
+#[test]
+fn places_of_definitions(rt: HostRuntime) -> Result<(), Fail> {
+    let document = parse(rt.alloc(), PLACES)?;
+    let operation = first(&document.operations)?;
+    expect_operation_places(&rt, operation)?;
+    expect_fragment_places(&rt, first(&document.fragments)?)
+}
+
+#[test]
+fn places_of_variables(rt: HostRuntime) -> Result<(), Fail> {
+    let document = parse(rt.alloc(), PLACES)?;
+    let variable = first(&first(&document.operations)?.variables)?;
+    expect_default_places(&rt, variable)?;
+    expect_type_places(&rt, &variable.of_type)
+}
+
+#[test]
+fn places_of_selections(rt: HostRuntime) -> Result<(), Fail> {
+    let document = parse(rt.alloc(), PLACES)?;
+    let operation = first(&document.operations)?;
+    match first(&operation.selection_set.selections)? {
+        Selection::Field(field) => expect_field(&rt, field),
+        _ => Err("a field")?,
+    }
 }

@@ -1,5 +1,7 @@
-use super::*;
+//! Schema texts.
+
 use gq_lexer::Place;
+use schema_syntax::*;
 use slow::Slow;
 use std::alloc::Global;
 use std::process::Abort;

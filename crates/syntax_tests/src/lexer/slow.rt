@@ -3,7 +3,7 @@
 
 ghost use Rattle.std.specs.Prelude.{◌≤◌, length, IfSome};
 
-use crate::token::{Kind, Punct};
+use gq_lexer::{Kind, Punct};
 use std::alloc::{AllocFailed, Global};
 
 /// What a slow token is, and where it stands.

@@ -1,5 +1,5 @@
 use Rattle.std.proofs.Common.{◌+◌, ◌*◌}
-use Rattle.gq_parser.proofs.tests.slow.Slow.+slow.Given as goal
+use Rattle.syntax_tests.proofs.schema.slow.Slow.+slow.Given as goal
 
 abbrev pub decreases-ends : goal.decreases-ends
 decreases-ends l = l.depth * 2

@@ -1,4 +1,6 @@
-use super::*;
+//! Parts of documents.
+
+use document_parts::*;
 use gq_lexer::Place;
 use gq_parser::parse;
 use gq_schema::Schema;

@@ -1,0 +1,10 @@
+//! Tests of `gq_lexer`, `gq_parser` and `schema_syntax`, of what no clause says: plain slow readers beside the real ones, printed
+//! texts, and each public call once. They stand apart from those crates so that the gate proves each of them once.
+#![tactic(auto)]
+
+#[cfg(test)]
+mod lexer;
+#[cfg(test)]
+mod parser;
+#[cfg(test)]
+mod schema;
