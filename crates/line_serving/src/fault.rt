@@ -47,6 +47,10 @@ impl ServeFault {
 }
 
 impl fmt::Display for ServeFault {
+    ghost use Rattle.std.specs.Prelude.{Some};
+
+    ghost output = { λ fault. Some (code_and_name fault) };
+
     fn fmt<W: fmt::Write>(&self, f: &mut fmt::Formatter<W>) -> fmt::Result {
         let text = self.code_and_name();
         write!(f, "{text}")
@@ -56,6 +60,10 @@ impl fmt::Display for ServeFault {
 impl StdError for ServeFault {}
 
 impl From<NoMemory> for ServeFault {
+    ghost use Rattle.line_serving.specs.declared.fault.ServeFault.TheVariants.{NoMemory};
+
+    ghost from_gives = { λ _ e. e ≡ NoMemory };
+
     fn from(_fault: NoMemory) -> ServeFault {
         ServeFault::NoMemory
     }
