@@ -4,7 +4,8 @@ use Rattle.std.specs.Prelude.{Bool}
 use Rattle.document_parts.specs.Broken.{BrokenOf, earliest}
 use Rattle.document_parts.specs.Parts.{PartsOf}
 use Rattle.merge_table.specs.Merging.{Fields, CanMerge, Breaks, KeyMerges, IsFirst, breaks, later}
-use Rattle.field_merging.specs.Members.{SetOf, is_in}
+use Rattle.merge_table.specs.Numbered.{is_in}
+use Rattle.selection_members.specs.Members.{SetOf}
 use Rattle.field_merging.specs.Rule.{AreBroken, none, merges, fails, IsMerging}
 
 module _ {F : Type 0} (D : Fields F) (ms : F → Bool) where

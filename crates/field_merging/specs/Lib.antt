@@ -1,3 +1,6 @@
+pub mod Attributes
 pub mod Compare
 pub mod Members
+pub mod Numbered
 pub mod Rule
+pub mod Told

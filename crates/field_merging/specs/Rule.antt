@@ -4,7 +4,9 @@ use Rattle.document_parts.specs.Broken.{BrokenOf, earliest}
 use Rattle.document_parts.specs.Parts.{PartsOf}
 use Rattle.merge_table.specs.Merging.{Fields, CanMerge, IsFirst}
 use Rattle.field_merging.specs.Compare.{response_key}
-use Rattle.field_merging.specs.Members.{SetOf, at, is_in, fields_of, sets_of}
+use Rattle.merge_table.specs.Numbered.{is_in}
+use Rattle.selection_members.specs.Members.{SetOf, sets_of}
+use Rattle.field_merging.specs.Members.{at, fields_of}
 
 -- Of these sets, those that can't be merged: for each the place of its `{` and the first response key, in order of first meeting,
 -- with a failing pair.

@@ -1,5 +1,7 @@
 pub mod Bits
+pub mod ClashLaws
 pub mod MergeLaws
 pub mod ReachLaws
+pub mod RenumberLaws
 pub mod SetLaws
 pub mod TableLaws

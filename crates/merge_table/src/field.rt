@@ -8,17 +8,17 @@ use crate::row::Row;
 #[derive(Drop)]
 pub struct Field {
     /// The response key.
-    pub key: u32,
+    pub key: usize,
     /// The field's name.
-    pub name: u32,
+    pub name: usize,
     /// The arguments, as a set of names and values.
-    pub arguments: u32,
+    pub arguments: usize,
     /// The parent type.
-    pub parent: u32,
+    pub parent: usize,
     /// Whether the parent type is an object type.
     pub object: bool,
     /// The return type: its lists and `!`, and its name where it is a leaf.
-    pub shape: u32,
+    pub shape: usize,
     /// The fields of its selection set, with those of the fragments that it enters.
     pub members: Row,
 }

@@ -8,6 +8,7 @@
 #![tactic(auto)]
 
 mod field;
+mod keys;
 mod merge;
 mod row;
 mod sets;
@@ -16,6 +17,7 @@ mod table;
 mod tests;
 
 pub use field::Field;
+pub use keys::failing_keys;
 pub use merge::{failing_pairs, first_failing, is_in_order};
 pub use row::Row;
 pub use sets::{Entry, Reached, are_known, reached_sets};

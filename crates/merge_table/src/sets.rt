@@ -1,9 +1,10 @@
 //! Many selection sets, each with its fields and those that fail with one of them.
 ghost use Rattle.std.specs.Prelude.{◌≡◌, ◌<◌, ◌≤◌, ◌++◌, [], ◌∷◌, ℕ, List, length, IfOk, true, MatchBool};
 ghost use Rattle.merge_table.specs.Merging.{Merges};
+ghost use Rattle.merge_table.specs.Clashes.{has_clash};
 ghost use Rattle.merge_table.specs.Entered.{IsReached, AreKnown, AllKnown, set_members, all_members, AreReached};
 ghost use Rattle.merge_table.specs.Numbered.{fields_of, is_in};
-ghost use Rattle.merge_table.specs.Table.{IsBelow, TellsAll};
+ghost use Rattle.merge_table.specs.Table.{fail, IsBelow, TellsAll};
 
 use crate::field::Field;
 use crate::row::Row;
@@ -29,7 +30,8 @@ pub struct Reached {
 impl Reached {
     ghost use Rattle.merge_table.specs.Entered.{Refuses};
 
-    fn new() -> Reached
+    /// Nothing in it.
+    pub fn new() -> Reached
         ensures { (rows : List (List ℕ)) → IsReached rows [] result }
     {
         Reached {
@@ -39,7 +41,7 @@ impl Reached {
     }
 
     /// Adds a field, with those that fail with it.
-    fn add_field(&mut self, rows: &[Row], field: usize)
+    pub fn add_field(&mut self, rows: &[Row], field: usize)
         requires known { field < length rows.now }
         requires most { length rows.now ≤ 1024 }
         requires below { IsBelow rows.now }
@@ -52,11 +54,18 @@ impl Reached {
     }
 
     /// Adds what another set has.
-    fn add_all(&mut self, other: &Reached)
+    pub fn add_all(&mut self, other: &Reached)
         ensures { (rows : List (List ℕ)) (ms ns : List ℕ) → IsReached rows ms self.old → IsReached rows ns other.now → IsReached rows (ms ++ ns) self.new }
     {
         self.members.add_all(&other.members);
         self.marks.add_all(&other.marks);
+    }
+
+    /// Whether two of its fields fail.
+    pub fn has_clash(&self) -> bool
+        ensures { (rows : List (List ℕ)) (ms : List ℕ) → IsReached rows ms self.now → result ≡ has_clash (fail rows) ms }
+    {
+        self.members.meets(&self.marks)
     }
 
     /// Whether the set can't be merged.

@@ -6,26 +6,26 @@ use super::*;
 use std::alloc::{AllocError, Global};
 
 // the parent types
-const DOG: u32 = 0;
+const DOG: usize = 0;
 
-const CAT: u32 = 1;
+const CAT: usize = 1;
 
-const PET: u32 = 2;
+const PET: usize = 2;
 
 // the response keys and names
-const NAME: u32 = 0;
+const NAME: usize = 0;
 
-const NICKNAME: u32 = 1;
+const NICKNAME: usize = 1;
 
-const OWNER: u32 = 2;
+const OWNER: usize = 2;
 
 // the return types
-const STRING: u32 = 0;
+const STRING: usize = 0;
 
-const INT: u32 = 1;
+const INT: usize = 1;
 
 /// A field without arguments, with the selection set of these members.
-fn field(key: u32, name: u32, parent: u32, members: &[usize]) -> Field {
+fn field(key: usize, name: usize, parent: usize, members: &[usize]) -> Field {
     let mut row = Row::new();
     for m in members {
         if *m < 1024 {

@@ -1,0 +1,42 @@
+-- The fields of a document under their numbers in the table of pairs.
+use Rattle.std.specs.Prelude.{◌≡◌, ◌<◌, ◌≤◌, ◌+◌, ℕ, List, [], ◌∷◌, length, Option, Some, slice_get}
+use Rattle.merge_table.specs.declared.field.Field as table
+use Rattle.merge_table.specs.Numbered.{is_in}
+use Rattle.merge_table.specs.Sets.{has}
+use Rattle.gq_parser.specs.Tree.{Fragment}
+use Rattle.selection_members.specs.Members.{count_in, count_below, members_below}
+use Rattle.selection_members.specs.Walks.{to, renumbered}
+use Rattle.document_parts.specs.Parts.{FieldPart, PartsOf}
+use Rattle.field_merging.specs.declared.attributes.Attribute.TheVariants.{Key, Selected, Parent, Shape}
+use Rattle.field_merging.specs.Attributes.{number_of}
+use Rattle.field_merging.specs.Compare.{is_object_parent}
+
+-- what the table says of the field of the number a, where `spread` gives the members of fragments
+pub record IsNumbered (p : PartsOf) (numbers : List ℕ) (spread : List ℕ → List ℕ) (a : ℕ) (f : FieldPart) (x : table.Field) : Type 0 where
+  pub key : x.key ≡ number_of Key p.definitions p.fields f
+  pub name : x.name ≡ number_of Selected p.definitions p.fields f
+  pub arguments : x.arguments ≡ 0
+  pub parent : x.parent ≡ number_of Parent p.definitions p.fields f
+  pub object : x.object ≡ is_object_parent p.definitions f
+  pub shape : x.shape ≡ number_of Shape p.definitions p.fields f
+  pub members : (i : ℕ) → has x.members i ≡ is_in (renumbered numbers (members_below spread (a + 1) f.below)) i
+
+-- the fields of a table are those of these numbers, in this order
+abbrev pub AreNumbered : PartsOf → List ℕ → (List ℕ → List ℕ) → List ℕ → List table.Field → Type 0
+AreNumbered p numbers spread [] [] = Unit {0}
+AreNumbered p numbers spread (a ∷ order) (x ∷ fields) = ((f : FieldPart) → slice_get p.fields a ≡ Some f → IsNumbered p numbers spread a f x) × AreNumbered p numbers spread order fields
+AreNumbered p numbers spread [] (x ∷ fields) = ⊥
+AreNumbered p numbers spread (a ∷ order) [] = ⊥
+
+-- the fields of fragments, each counted where it is written
+abbrev pub count_fragments : List Fragment → ℕ
+count_fragments [] = 0
+count_fragments (f ∷ fs) = count_in f.selection_set + count_fragments fs
+
+-- the fields below each of these have numbers of these
+abbrev pub AreInside : List FieldPart → Type 0
+AreInside fields = (a : ℕ) (f : FieldPart) → slice_get fields a ≡ Some f → (a + 1) + count_below f.below ≤ length fields
+
+-- the order has each field of the document at its number
+abbrev pub IsInverse : List ℕ → List ℕ → ℕ → Type 0
+IsInverse order numbers n = (a : ℕ) → a < n → slice_get order (to numbers a) ≡ Some a

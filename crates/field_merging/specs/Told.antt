@@ -1,0 +1,28 @@
+-- Which sets of a document are told, where it is known which pairs of fields clash.
+use Rattle.std.specs.Prelude.{ℕ, Bool, List, length, Option, filter_map}
+use Rattle.std.specs.Option.{option_map}
+use Rattle.document_parts.specs.Broken.{BrokenOf}
+use Rattle.document_parts.specs.Parts.{PartsOf}
+use Rattle.merge_table.specs.Clashes.{first_clash}
+use Rattle.merge_table.specs.Merging.{Merges}
+use Rattle.merge_table.specs.Numbered as of_table
+use Rattle.merge_table.specs.Table.{TellsAll}
+use Rattle.merge_table.specs.declared.field.Field as table
+use Rattle.merge_table.specs.declared.sets.Reached.{Reached}
+use Rattle.selection_members.specs.Fragments.{place_in}
+use Rattle.selection_members.specs.Members.{SetOf, members_of_fragment}
+use Rattle.selection_members.specs.Walks.{Knows}
+use Rattle.field_merging.specs.Numbered.{AreNumbered}
+
+-- the set, where two of its fields clash, with the first response key of one that does
+abbrev pub told_set : (ℕ → ℕ → Bool) → (ℕ → ℕ → Bool) → (ℕ → List ℕ) → SetOf → Option BrokenOf
+told_set one_key clash key s = option_map (λ f. record { name = key f; place = s.place }) (first_clash one_key clash s.members)
+
+abbrev pub told_sets : (ℕ → ℕ → Bool) → (ℕ → ℕ → Bool) → (ℕ → List ℕ) → List SetOf → List BrokenOf
+told_sets one_key clash key sets = filter_map (told_set one_key clash key) sets
+
+-- what is known where the fields of a document have been compared under their numbers
+pub record AreCompared (p : PartsOf) (numbers order : List ℕ) (fields : List table.Field) (rows : List (List ℕ)) (fragments : List (Option Reached)) : Type 0 where
+  pub numbered : AreNumbered p numbers (members_of_fragment p.document) order fields
+  pub told : TellsAll (Merges (of_table.fields_of fields)) (of_table.fields_of fields) (length fields) rows
+  pub known : Knows rows numbers fragments (place_in p.document.fragments) (members_of_fragment p.document)

@@ -1,0 +1,117 @@
+//! What is known of a document before its fields are compared.
+
+ghost use Rattle.std.specs.Prelude.{◌≡◌, ◌≤◌, ◌<◌, ◌+◌, ℕ, List, length, IfOk};
+ghost use Rattle.gq_parser.specs.Tree.{document_of};
+ghost use Rattle.merge_table.specs.Numbered.{AreInOrder};
+ghost use Rattle.merge_table.specs.Table.{IsBelow};
+ghost use Rattle.selection_members.specs.Fragments.{place_in, AreTargets};
+ghost use Rattle.selection_members.specs.Members.{count_operations, members_of_fragment, starts_from};
+ghost use Rattle.selection_members.specs.Walks.{to, Knows, IsFixed};
+ghost use Rattle.document_parts.specs.Parts.{parts_in};
+ghost use Rattle.field_merging.specs.Numbered.{count_fragments, AreInside, IsInverse, AreNumbered};
+
+use crate::counting::{are_inside, document_fields};
+use crate::fields::numbered_fields;
+use crate::places::Numbering;
+use crate::ranks::Ranks;
+use document_parts::Parts;
+use merge_table::{Field, Row, is_in_order};
+use selection_members::{Source, Targets, is_ranked, known_fragments};
+use std::alloc::{AllocError, Global};
+
+/// What is known of a document whose fragments don't reach themselves.
+#[derive(Clone, Copy)]
+pub struct Grounds<'a, 'd> {
+    pub parts: &'a Parts<'d>,
+    pub targets: &'a Targets<'d>,
+    pub starts: &'a [usize],
+    pub order: &'a [usize],
+    pub numbers: &'a [usize],
+    ghost few: { length order.now ≤ 1024 },
+    ghost whole: { length numbers.now ≡ length order.now },
+    ghost all: { length order.now ≡ length (parts_in parts.now).fields },
+    ghost inverse: { IsInverse order.now numbers.now (length order.now) },
+    ghost named: { AreTargets (document_of parts.now.document.now).fragments targets.now },
+    ghost started: { starts.now ≡ starts_from (count_operations (document_of parts.now.document.now).operations) (document_of parts.now.document.now).fragments },
+    ghost counted: { count_operations (document_of parts.now.document.now).operations + count_fragments (document_of parts.now.document.now).fragments ≤ length (parts_in parts.now).fields },
+    ghost inside: { AreInside (parts_in parts.now).fields },
+    ghost fixed: { IsFixed (members_of_fragment (document_of parts.now.document.now)) (document_of parts.now.document.now) },
+}
+
+/// What these rest on, where it holds.
+///
+/// # Errors
+///
+/// Also where it doesn't: where a fragment reaches itself, or where the fields aren't those of the document.
+pub fn grounds_of<'a, 'd>(
+    parts: &'a Parts<'d>,
+    targets: &'a Targets<'d>,
+    starts: &'a [usize],
+    numbering: &'a Numbering,
+    ranks: &Ranks,
+) -> Result<Grounds<'a, 'd>, AllocError>
+    requires named { AreTargets (document_of parts.now.document.now).fragments targets.now }
+    requires started { starts.now ≡ starts_from (count_operations (document_of parts.now.document.now).operations) (document_of parts.now.document.now).fragments }
+    ensures { IfOk result (λ grounds. grounds.parts.now ≡ parts.now) }
+{
+    if numbering.order.len() != parts.fields.len() {
+        return Err(AllocError);
+    }
+    if document_fields(parts.document)? > parts.fields.len() {
+        return Err(AllocError);
+    }
+    if !are_inside(&parts.fields)? {
+        return Err(AllocError);
+    }
+    if !is_ranked(&ranks.places, targets, &parts.document.fragments) {
+        return Err(AllocError);
+    }
+    Ok(Grounds {
+        parts,
+        targets,
+        starts,
+        order: &numbering.order,
+        numbers: &numbering.numbers,
+    })
+}
+
+// So many rows without any field.
+fn blank_rows(alloc: Global, count: usize) -> Result<Vec<Row>, AllocError>
+    ensures len { IfOk result (λ rows. length rows.items ≡ count) }
+    ensures below { IfOk result (λ rows. IsBelow rows.items) }
+{
+    let mut rows = Vec::with_capacity(alloc, count)?;
+    for _ in 0..count {
+        rows.push(Row::new())?;
+    }
+    Ok(rows)
+}
+
+/// The fields of a document in the table of pairs; `fragments` are the fragments in the order in which they are learned.
+///
+/// # Errors
+///
+/// Also where a field comes before one that its selection set has.
+pub fn fields_in_order(
+    alloc: Global,
+    grounds: &Grounds,
+    fragments: &[usize],
+) -> Result<Vec<Field>, AllocError>
+    ensures numbered { IfOk result (λ fields. AreNumbered (parts_in grounds.now.parts.now) grounds.now.numbers.now (members_of_fragment (document_of grounds.now.parts.now.document.now)) grounds.now.order.now fields.items) }
+    ensures order { IfOk result (λ fields. AreInOrder fields.items) }
+{
+    let blank = blank_rows(alloc, grounds.order.len())?;
+    let source = Source {
+        document: grounds.parts.document,
+        targets: grounds.targets,
+        starts: grounds.starts,
+        numbers: grounds.numbers,
+        rows: &blank,
+    };
+    let members = known_fragments(alloc, &source, fragments)?;
+    let fields = numbered_fields(alloc, &source, &members, grounds.parts, grounds.order)?;
+    if !is_in_order(&fields) {
+        return Err(AllocError);
+    }
+    Ok(fields)
+}

@@ -1,0 +1,11 @@
+use Rattle.std.proofs.Common.{ℕ, ◌<◌, ◌≤◌, ◌≡◌, true, false, length}
+use Rattle.merge_table.specs.Clashes.{TestsKey}
+use Rattle.merge_table.specs.Numbered.{fields_of}
+use Rattle.merge_table.specs.Sets.{has}
+use Rattle.merge_table.proofs.keys.failing_keys.Given as goal
+
+abbrev pub invariant-loop-f : goal.invariant-loop-f
+invariant-loop-f l = record {
+  told : (c : ℕ) → c < l.f → TestsKey (fields_of l.fields).one_key l.reached.members l.reached.marks (length l.fields) c (has l.keys c);
+  later : (c : ℕ) → l.f ≤ c → has l.keys c ≡ false;
+}

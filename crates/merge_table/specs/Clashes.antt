@@ -1,0 +1,29 @@
+-- Which fields of a set clash, and the first of them whose response key has a clash. A set is a list of its fields in order of first meeting.
+use Rattle.std.specs.Prelude.{◌≡◌, ◌<◌, ℕ, Bool, true, false, ◌&&◌, List, Option}
+use Rattle.std.specs.List.{list_any, find}
+use Rattle.merge_table.specs.Sets.{has}
+
+-- a field with the response key of field f clashes with another of the set
+abbrev pub key_clashes : (ℕ → ℕ → Bool) → (ℕ → ℕ → Bool) → List ℕ → ℕ → Bool
+key_clashes one_key clash ms f = list_any (λ a. one_key a f && list_any (clash a) ms) ms
+
+-- the first of a set whose response key has a clash
+abbrev pub first_clash : (ℕ → ℕ → Bool) → (ℕ → ℕ → Bool) → List ℕ → Option ℕ
+first_clash one_key clash ms = find (key_clashes one_key clash ms) ms
+
+-- a marked member with the response key of field f
+pub record MarkedKey (one_key : ℕ → ℕ → Bool) (members marks : List ℕ) (n f : ℕ) : Type 0 where
+  pub one : ℕ
+  pub below : one < n
+  pub key : one_key one f ≡ true
+  pub member : has members one ≡ true
+  pub mark : has marks one ≡ true
+
+-- a test tells whether there is one
+pub record TestsKey (one_key : ℕ → ℕ → Bool) (members marks : List ℕ) (n f : ℕ) (told : Bool) : Type 0 where
+  pub found : told ≡ true → MarkedKey one_key members marks n f
+  pub none : told ≡ false → MarkedKey one_key members marks n f → ⊥
+
+-- two of a set clash
+abbrev pub has_clash : (ℕ → ℕ → Bool) → List ℕ → Bool
+has_clash clash ms = list_any (λ a. list_any (clash a) ms) ms

@@ -1,0 +1,51 @@
+//! The response keys that keep a set from being merged.
+ghost use Rattle.std.specs.Prelude.{◌≡◌, ◌≢◌, ◌<◌, ◌≤◌, ℕ, List, length, true, false};
+ghost use Rattle.merge_table.specs.Clashes.{TestsKey, key_clashes};
+ghost use Rattle.merge_table.specs.Entered.{IsReached};
+ghost use Rattle.merge_table.specs.Numbered.{fields_of, is_in};
+ghost use Rattle.merge_table.specs.Sets.{has};
+ghost use Rattle.merge_table.specs.Table.{fail};
+
+use crate::field::Field;
+use crate::row::Row;
+use crate::sets::Reached;
+use crate::table::is_one_key;
+
+/// Whether a marked member has the response key of field `f`.
+fn has_failing_key(fields: &[Field], reached: &Reached, f: usize) -> bool
+    requires f { f < length fields.now }
+    requires most { length fields.now ≤ 1024 }
+    ensures { TestsKey (fields_of fields.now).one_key reached.now.members reached.now.marks (length fields.now) f result }
+{
+    for a in 0..fields.len() {
+        if is_one_key(fields, a, f) && reached.members.has(a) && reached.marks.has(a) {
+            return true;
+        }
+    }
+    false
+}
+
+/// Enters field `f` among those whose response key fails.
+fn note_key(keys: &mut Row, fields: &[Field], reached: &Reached, f: usize)
+    requires f { f < length fields.now }
+    requires most { length fields.now ≤ 1024 }
+    requires absent { has keys.old f ≡ false }
+    ensures others { (a : ℕ) → a ≢ f → has keys.new a ≡ has keys.old a }
+    ensures own { TestsKey (fields_of fields.now).one_key reached.now.members reached.now.marks (length fields.now) f (has keys.new f) }
+{
+    if has_failing_key(fields, reached, f) {
+        keys.insert(f);
+    }
+}
+
+/// The fields that have the response key of a member that fails with another: those that keep the set from being merged.
+pub fn failing_keys(fields: &[Field], reached: &Reached) -> Row
+    requires most { length fields.now ≤ 1024 }
+    ensures { (rows : List (List ℕ)) (ms : List ℕ) → ((c : ℕ) → is_in ms c ≡ true → c < length fields.now) → IsReached rows ms reached.now → (f : ℕ) → f < length fields.now → has result f ≡ key_clashes (fields_of fields.now).one_key (fail rows) ms f }
+{
+    let mut keys = Row::new();
+    for f in 0..fields.len() {
+        note_key(&mut keys, fields, reached, f);
+    }
+    keys
+}

@@ -1,0 +1,45 @@
+-- What sets have, as their selections are entered.
+use Rattle.std.proofs.Common.{◌≡◌, ◌∙◌, sym, ap, subst, refl, ℕ, suc, ◌+◌, ◌<◌, List, [], ◌∷◌, ◌++◌, map, length, get_or, drop, drop-cons, add-one, append_assoc, append-nil, Option, Some, None, IfSome}
+use Rattle.std.proofs.lemmas.List.{map-append}
+use Rattle.gq_parser.specs.Tree.{Selection, Selections, and_selection}
+use Rattle.merge_table.specs.declared.sets.Reached.{Reached}
+use Rattle.merge_table.specs.Entered.{IsReached}
+use Rattle.selection_members.specs.Members.{count_from, members_from, members_among}
+use Rattle.selection_members.specs.Walks.{to, renumbered, known_at, KnowsAt, Knows}
+
+pub knows-known : (rows : List (List ℕ)) (numbers : List ℕ) (fragments : List (Option Reached)) (place : List ℕ → Option ℕ) (spread : List ℕ → List ℕ) (name : List ℕ) (j : ℕ) (r : Reached)
+    → Knows rows numbers fragments place spread → place name ≡ Some j → known_at fragments j ≡ Some r → IsReached rows (renumbered numbers (spread name)) r
+knows-known rows numbers fragments place spread name j r knows at known =
+    let here : IfSome (known_at fragments j) (IsReached rows (renumbered numbers (spread name))) = subst (KnowsAt rows numbers fragments (spread name)) at (knows name) in
+    subst (λ (o : Option Reached). IfSome o (IsReached rows (renumbered numbers (spread name)))) known here
+
+pub knows-none : (rows : List (List ℕ)) (numbers : List ℕ) (fragments : List (Option Reached)) (place : List ℕ → Option ℕ) (spread : List ℕ → List ℕ) (name : List ℕ)
+    → Knows rows numbers fragments place spread → place name ≡ None → spread name ≡ []
+knows-none rows numbers fragments place spread name knows at = subst (KnowsAt rows numbers fragments (spread name)) at (knows name)
+
+-- renumbered members stay apart as they are joined
+pub joined-members : (rows : List (List ℕ)) (numbers ms ns : List ℕ) (r : Reached) → IsReached rows (renumbered numbers ms ++ renumbered numbers ns) r → IsReached rows (renumbered numbers (ms ++ ns)) r
+joined-members rows numbers ms ns r is = rw (map-append (to numbers) ms ns) is
+
+pub no-members : (rows : List (List ℕ)) (numbers ms ns : List ℕ) (r : Reached) → ns ≡ [] → IsReached rows (renumbered numbers ms) r → IsReached rows (renumbered numbers (ms ++ ns)) r
+no-members rows numbers ms ns r none is = rw (none, append-nil ms) is
+
+-- The members so far, where these selections are left and the next field has the number n.
+pub record Entered (rows : List (List ℕ)) (numbers all : List ℕ) (spread : List ℕ → List ℕ) (n : ℕ) (rest : Selections) (r : Reached) : Type 0 where
+  pub done : List ℕ
+  pub whole : done ++ members_among spread n rest ≡ all
+  pub is : IsReached rows (renumbered numbers done) r
+
+pub entered-more : (rows : List (List ℕ)) (numbers all : List ℕ) (spread : List ℕ → List ℕ) (n m : ℕ) (s : Selection) (rest : Selections) (r q : Reached)
+    → (e : Entered rows numbers all spread n (and_selection s rest) r) → m ≡ n + count_from s
+    → (IsReached rows (renumbered numbers e.done) r → IsReached rows (renumbered numbers (e.done ++ members_from spread n s)) q)
+    → Entered rows numbers all spread m rest q
+entered-more rows numbers all spread n m s rest r q e next enters = record {
+  done = e.done ++ members_from spread n s;
+  whole = append_assoc e.done (members_from spread n s) (members_among spread m rest) ∙ (rw next e.whole);
+  is = enters e.is;
+}
+
+-- what is left at a place: the element there, and then what is left behind it
+pub drop-next : {A : Type 0} (xs ys : List A) (i : ℕ) (x : A) → xs ≡ ys → i < length xs → x ≡ get_or xs i x → drop i ys ≡ x ∷ drop (i + 1) ys
+drop-next xs ys i x same lt is = rw (← same, add-one) (drop-cons xs i x lt ∙ ap (λ y. y ∷ drop (suc i) xs) (sym is))

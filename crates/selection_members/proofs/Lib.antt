@@ -1,0 +1,6 @@
+pub mod Entering
+pub mod FirstLaws
+pub mod Learning
+pub mod RankedLaws
+pub mod Below
+pub mod Clashing

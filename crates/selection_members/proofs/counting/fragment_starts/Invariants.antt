@@ -1,0 +1,8 @@
+use Rattle.std.proofs.Common.{◌≡◌, ◌++◌, drop, map}
+use Rattle.gq_parser.specs.Tree.{fragment_of}
+use Rattle.selection_members.specs.Members.{starts_from}
+use Rattle.selection_members.proofs.counting.fragment_starts.Given as goal
+
+abbrev pub invariant-loop-fragment : goal.invariant-loop-fragment
+invariant-loop-fragment l =
+    l.starts.items ++ starts_from l.next (map fragment_of (drop l.fragment-index l.fragments)) ≡ starts_from l.first (map fragment_of l.fragments)

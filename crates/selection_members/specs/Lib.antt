@@ -1,0 +1,5 @@
+pub mod Fragments
+pub mod Meeting
+pub mod Members
+pub mod Ranked
+pub mod Walks

@@ -1,0 +1,17 @@
+-- Where the first member of a set that passes a test is met.
+use Rattle.std.specs.Prelude.{◌≡◌, ℕ, Bool, List, Option, Some, None, IsSome, find}
+use Rattle.selection_members.specs.declared.meeting.Met.{Met}
+use Rattle.selection_members.specs.declared.meeting.Met.TheVariants.{Field, Fragment}
+
+-- it is the first in the fragment of a name, which has one
+pub record IsIn (place : List ℕ → Option ℕ) (spread : List ℕ → List ℕ) (test : ℕ → Bool) (found : Option ℕ) (j : ℕ) : Type 0 where
+  pub name : List ℕ
+  pub at : place name ≡ Some j
+  pub same : found ≡ find test (spread name)
+  pub some : IsSome found
+
+-- what is said of the first that passes
+abbrev pub IsMet : (List ℕ → Option ℕ) → (List ℕ → List ℕ) → (ℕ → Bool) → Option ℕ → Option Met → Type 0
+IsMet place spread test found None = found ≡ None
+IsMet place spread test found (Some (Field n)) = found ≡ Some n
+IsMet place spread test found (Some (Fragment j)) = IsIn place spread test found j

@@ -1,0 +1,28 @@
+//! The members of selection sets: the fields that each has in all, with those of the fragments that it enters (GraphQL
+//! specification of October 2021, section 5.3.2).
+//!
+//! The layer above may rely on this: fields are numbered in the order in which they are written (`specs/Members.antt`), and have
+//! other numbers in a table of pairs. [`known_fragments`] says what each fragment has, [`reached_in`] what a set has, and
+//! [`add_clashing`] adds exactly the sets in which two fields fail. [`first_member`] finds the first member of a set among some
+//! fields, without a list of the members, which can be exponential. That rests on what a fragment's members are, which
+//! [`is_ranked`] shows for documents whose fragments don't reach themselves. Each call takes a time linear in what it walks through,
+//! times the depth of the nesting.
+#![tactic(auto)]
+
+mod counting;
+mod first;
+mod fragments;
+mod meeting;
+mod ranked;
+mod targets;
+mod visiting;
+mod walk;
+
+pub use counting::{fields_from, fields_in, fragment_starts};
+pub use first::first_member;
+pub use fragments::{Source, known_fragments};
+pub use meeting::{Met, first_met};
+pub use ranked::is_ranked;
+pub use targets::{Targets, fragment_targets};
+pub use visiting::{ClashingSet, add_clashing};
+pub use walk::{Walk, reached_in};
