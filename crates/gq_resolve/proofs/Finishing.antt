@@ -216,3 +216,22 @@ list-whole plan non_null place ss i path before after parts pulled le f = subst 
 pub object-whole : (plan : PlanOf) (cs : List (rust.Spot × State)) (i : ℕ) (path : List Part) (before after : List ErrorOf) (parts : ResponsesOf) (pulled : Bool) → length cs ≤ i
     → Finishes (fields_held plan (take i cs)) path before parts after pulled → Finishes (fields_held plan cs) path before parts after pulled
 object-whole plan cs i path before after parts pulled le f = subst (λ xs. Finishes (fields_held plan xs) path before parts after pulled) (take_all i cs le) f
+
+-- ---- loops that take their parts out
+
+pub get-self : {A : Type 0} (xs : List A) (i : ℕ) (d : A) → i < length xs → get_or xs i d ≡ get_or xs i (get_or xs i d)
+get-self [] i d lt = absurd (omega arith)
+get-self (x ∷ xs) zero d lt = refl
+get-self (x ∷ xs) (suc i) d lt = get-self xs i d (omega arith)
+
+pub list-ended : (plan : PlanOf) (non_null : Bool) (place : Place) (before ss : List State) (i : ℕ) (path : List Part) (old new : List ErrorOf) (parts : ResponsesOf) (pulled : Bool) → before ≡ ss → length before ≤ i
+    → (any_open (items_held plan non_null place 0 before) ≡ false → Finishes (items_held plan non_null place 0 (take i before)) path old parts new pulled)
+    → any_open (items_held plan non_null place 0 ss) ≡ false → Finishes (items_held plan non_null place 0 ss) path old parts new pulled
+list-ended plan non_null place before ss i path old new parts pulled same le f =
+    subst (λ (xs : List State). any_open (items_held plan non_null place 0 xs) ≡ false → Finishes (items_held plan non_null place 0 xs) path old parts new pulled) same (λ shut. list-whole plan non_null place before i path old new parts pulled le (f shut))
+
+pub object-ended : (plan : PlanOf) (before cs : List (rust.Spot × State)) (i : ℕ) (path : List Part) (old new : List ErrorOf) (parts : ResponsesOf) (pulled : Bool) → before ≡ cs → length before ≤ i
+    → (any_open (fields_held plan before) ≡ false → Finishes (fields_held plan (take i before)) path old parts new pulled)
+    → any_open (fields_held plan cs) ≡ false → Finishes (fields_held plan cs) path old parts new pulled
+object-ended plan before cs i path old new parts pulled same le f =
+    subst (λ (xs : List (rust.Spot × State)). any_open (fields_held plan xs) ≡ false → Finishes (fields_held plan xs) path old parts new pulled) same (λ shut. object-whole plan before i path old new parts pulled le (f shut))

@@ -5,3 +5,4 @@ pub mod Finishing
 pub mod Loaders
 pub mod Evaluating
 pub mod Texts
+pub mod Shaping

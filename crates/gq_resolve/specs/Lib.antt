@@ -3,3 +3,4 @@ pub mod Evaluated
 pub mod States
 pub mod Cells
 pub mod Completing
+pub mod Shapes

@@ -1,6 +1,6 @@
 //! States that are built as far as the memory goes.
 
-ghost use Rattle.std.specs.Prelude.{◌≡◌, IfOk, map, option_map};
+ghost use Rattle.std.specs.Prelude.{◌≡◌, IfOk, OnOk, map, option_map};
 ghost use Rattle.std.specs.Arc.{arc_value};
 ghost use Rattle.load_memory.specs.Keys.{key_of};
 ghost use Rattle.load_memory.specs.Rows.{cell_of};
@@ -8,21 +8,19 @@ ghost use Rattle.load_memory.specs.Outcomes.{outcome_of};
 ghost use Rattle.execution.specs.Program.{Read};
 ghost use Rattle.execution.specs.Residual.{rest};
 ghost use Rattle.gq_check.specs.Plans.{plan_of};
-ghost use Rattle.plan_program.specs.Seen.{fields_seen};
 ghost use Rattle.plan_program.specs.Prepared.{own_seen, key_from_seen, keys_seen, below_seen, asked_seen, prepared_seen, all_prepared_seen};
 ghost use Rattle.plan_program.specs.PlanPrograms.{with_rows, read_from, read_cell, read_if, first_object, all_objects, joined_objects, row_object, list_of, asked_program, prepared_program, object_program};
+ghost use Rattle.gq_resolve.specs.Shapes.{below_in, Fits, Keeps};
 ghost use Rattle.gq_resolve.specs.States.{told, then_rows, program_of, spot_of};
 
 use crate::cells::{TypeOf, cell_value, type_of_row};
 use crate::no_memory::NoMemory;
 use crate::reading::told;
+use crate::shapes::Shapes;
 use crate::state::{Items, Spot, State, Then};
 use gq_check::Plan;
-use gq_parser::Field;
 use load_memory::{Cell, Key, Memory, Outcome, Row};
-use plan_program::{
-    Asked, Below, KeyFrom, Own, Prepared, collect_below, no_column_message, prepare,
-};
+use plan_program::{Asked, Below, KeyFrom, Own, Prepared, no_column_message};
 use std::alloc::{AllocError, Global};
 use std::sync::Arc;
 
@@ -97,6 +95,7 @@ fn asked<'p>(
             Ok(State::Done(own))
         }
         Asked::First { loader, key, below } => {
+            let mut shapes = Shapes::new(alloc, below);
             read_from(
                 alloc,
                 plan,
@@ -105,11 +104,12 @@ fn asked<'p>(
                 *loader,
                 key,
                 Then::First,
-                below,
+                &mut shapes,
                 row,
             )
         }
         Asked::All { loader, key, below } => {
+            let mut shapes = Shapes::new(alloc, below);
             read_from(
                 alloc,
                 plan,
@@ -118,7 +118,7 @@ fn asked<'p>(
                 *loader,
                 key,
                 Then::All,
-                below,
+                &mut shapes,
                 row,
             )
         }
@@ -126,7 +126,10 @@ fn asked<'p>(
             loader,
             keys,
             below,
-        } => each(alloc, plan, memory, levels, *loader, keys, below),
+        } => {
+            let mut shapes = Shapes::new(alloc, below);
+            each(alloc, plan, memory, levels, *loader, keys, &mut shapes)
+        }
         Asked::Joined {
             loader,
             key,
@@ -138,7 +141,18 @@ fn asked<'p>(
                 second: *second,
                 column: *column,
             };
-            read_from(alloc, plan, memory, levels, *loader, key, next, below, row)
+            let mut shapes = Shapes::new(alloc, below);
+            read_from(
+                alloc,
+                plan,
+                memory,
+                levels,
+                *loader,
+                key,
+                next,
+                &mut shapes,
+                row,
+            )
         }
     }
 }
@@ -153,19 +167,20 @@ fn read_from<'p>(
     loader: usize,
     key: &KeyFrom<'p>,
     next: Then<'p>,
-    below: &Arc<Below<'p>>,
+    shapes: &mut Shapes<'_, 'p>,
     row: &Row,
 ) -> Result<State<'p>, NoMemory>
-    ensures { IfOk result (λ state. program_of (plan_of plan.now) state ≡ rest (read_from loader (key_from_seen key.now) row.now (then_rows (plan_of plan.now) levels next.entry (below_seen (arc_value below.now)))) (told memory.now)) }
+    ensures keeps { OnOk result (Keeps (plan_of plan.now) shapes.old shapes.new) }
+    ensures state { IfOk result (λ state. Fits (plan_of plan.now) shapes.old → program_of (plan_of plan.now) state ≡ rest (read_from loader (key_from_seen key.now) row.now (then_rows (plan_of plan.now) levels next.entry (below_in shapes.old))) (told memory.now)) }
 {
     match key {
         KeyFrom::Fixed(key) => {
             let key = key.clone()?;
-            read(alloc, plan, memory, levels, loader, key, next, below)
+            read(alloc, plan, memory, levels, loader, key, next, shapes)
         }
         KeyFrom::Column(column) => {
             read_cell(
-                alloc, plan, memory, levels, loader, column, next, below, row,
+                alloc, plan, memory, levels, loader, column, next, shapes, row,
             )
         }
     }
@@ -181,17 +196,18 @@ fn read_cell<'p>(
     loader: usize,
     column: &str,
     next: Then<'p>,
-    below: &Arc<Below<'p>>,
+    shapes: &mut Shapes<'_, 'p>,
     row: &Row,
 ) -> Result<State<'p>, NoMemory>
-    ensures { IfOk result (λ state. program_of (plan_of plan.now) state ≡ rest (read_cell loader column.now (cell_of row.now column.now) (then_rows (plan_of plan.now) levels next.entry (below_seen (arc_value below.now)))) (told memory.now)) }
+    ensures keeps { OnOk result (Keeps (plan_of plan.now) shapes.old shapes.new) }
+    ensures state { IfOk result (λ state. Fits (plan_of plan.now) shapes.old → program_of (plan_of plan.now) state ≡ rest (read_cell loader column.now (cell_of row.now column.now) (then_rows (plan_of plan.now) levels next.entry (below_in shapes.old))) (told memory.now)) }
 {
     match row.get(column) {
         Cell::NoColumn => Ok(State::Done(Own::Fault(no_column_message(alloc, column)?))),
         Cell::Null => Ok(State::Done(Own::Null)),
         Cell::Text(text) => {
             let key = Key::Text(String::from_str(alloc, text)?);
-            read(alloc, plan, memory, levels, loader, key, next, below)
+            read(alloc, plan, memory, levels, loader, key, next, shapes)
         }
     }
 }
@@ -206,18 +222,19 @@ pub fn read<'p>(
     loader: usize,
     key: Key,
     next: Then<'p>,
-    below: &Arc<Below<'p>>,
+    shapes: &mut Shapes<'_, 'p>,
 ) -> Result<State<'p>, NoMemory>
-    ensures { IfOk result (λ state. program_of (plan_of plan.now) state ≡ rest (Read (record { loader = loader; key = key_of key }) (with_rows (then_rows (plan_of plan.now) levels next.entry (below_seen (arc_value below.now))))) (told memory.now)) }
+    ensures keeps { OnOk result (Keeps (plan_of plan.now) shapes.old shapes.new) }
+    ensures state { IfOk result (λ state. Fits (plan_of plan.now) shapes.old → program_of (plan_of plan.now) state ≡ rest (Read (record { loader = loader; key = key_of key }) (with_rows (then_rows (plan_of plan.now) levels next.entry (below_in shapes.old)))) (told memory.now)) }
 {
     match told(alloc, memory, loader, &key)? {
-        Some(outcome) => go_on(alloc, plan, memory, levels, next, below, outcome),
+        Some(outcome) => go_on(alloc, plan, memory, levels, next, shapes, outcome),
         None => Ok(State::Waits {
             loader,
             key,
             next,
             levels,
-            below: Arc::try_clone(below)?,
+            below: Arc::try_clone(shapes.below)?,
         }),
     }
 }
@@ -230,17 +247,18 @@ fn go_on<'p>(
     memory: &Memory,
     levels: u32,
     next: Then<'p>,
-    below: &Arc<Below<'p>>,
+    shapes: &mut Shapes<'_, 'p>,
     outcome: &Outcome,
 ) -> Result<State<'p>, NoMemory>
-    ensures { IfOk result (λ state. program_of (plan_of plan.now) state ≡ rest (with_rows (then_rows (plan_of plan.now) levels next.entry (below_seen (arc_value below.now))) (outcome_of outcome.now)) (told memory.now)) }
+    ensures keeps { OnOk result (Keeps (plan_of plan.now) shapes.old shapes.new) }
+    ensures state { IfOk result (λ state. Fits (plan_of plan.now) shapes.old → program_of (plan_of plan.now) state ≡ rest (with_rows (then_rows (plan_of plan.now) levels next.entry (below_in shapes.old)) (outcome_of outcome.now)) (told memory.now)) }
 {
     match outcome {
         Outcome::Rows(rows) => match next {
-            Then::First => first(alloc, plan, memory, levels, below, rows),
-            Then::All => all(alloc, plan, memory, levels, below, rows),
+            Then::First => first(alloc, plan, memory, levels, shapes, rows),
+            Then::All => all(alloc, plan, memory, levels, shapes, rows),
             Then::Joined { second, column } => {
-                joined(alloc, plan, memory, levels, below, second, column, rows)
+                joined(alloc, plan, memory, levels, shapes, second, column, rows)
             }
         },
         Outcome::KeyFault(text) => Ok(State::Done(Own::Fault(text.clone()?))),
@@ -255,14 +273,15 @@ fn first<'p>(
     plan: &'p Plan<'_>,
     memory: &Memory,
     levels: u32,
-    below: &Below<'p>,
+    shapes: &mut Shapes<'_, 'p>,
     rows: &[Row],
 ) -> Result<State<'p>, NoMemory>
-    ensures { IfOk result (λ state. program_of (plan_of plan.now) state ≡ rest (first_object (plan_of plan.now).definitions (object_program (plan_of plan.now) levels) (below_seen below.now) rows.now) (told memory.now)) }
+    ensures keeps { OnOk result (Keeps (plan_of plan.now) shapes.old shapes.new) }
+    ensures state { IfOk result (λ state. Fits (plan_of plan.now) shapes.old → program_of (plan_of plan.now) state ≡ rest (first_object (plan_of plan.now).definitions (object_program (plan_of plan.now) levels) (below_in shapes.old) rows.now) (told memory.now)) }
 {
     match rows {
         [] => Ok(State::Done(Own::Null)),
-        [row, ..] => row_object(alloc, plan, memory, levels, below, row),
+        [row, ..] => row_object(alloc, plan, memory, levels, shapes, row),
     }
 }
 
@@ -273,17 +292,18 @@ fn all<'p>(
     plan: &'p Plan<'_>,
     memory: &Memory,
     levels: u32,
-    below: &Below<'p>,
+    shapes: &mut Shapes<'_, 'p>,
     rows: &[Row],
 ) -> Result<State<'p>, NoMemory>
-    ensures { IfOk result (λ state. program_of (plan_of plan.now) state ≡ rest (all_objects (plan_of plan.now).definitions (object_program (plan_of plan.now) levels) (below_seen below.now) rows.now) (told memory.now)) }
+    ensures keeps { OnOk result (Keeps (plan_of plan.now) shapes.old shapes.new) }
+    ensures state { IfOk result (λ state. Fits (plan_of plan.now) shapes.old → program_of (plan_of plan.now) state ≡ rest (all_objects (plan_of plan.now).definitions (object_program (plan_of plan.now) levels) (below_in shapes.old) rows.now) (told memory.now)) }
 {
     let mut children = Vec::with_capacity(alloc, rows.len())?;
     for row in rows {
-        let child = row_object(alloc, plan, memory, levels, below, row)?;
+        let child = row_object(alloc, plan, memory, levels, shapes, row)?;
         children.push(child)?;
     }
-    Ok(State::List(items_of(below), children))
+    Ok(State::List(items_of(shapes.below), children))
 }
 
 // A place for each row, read by its own key.
@@ -293,12 +313,13 @@ fn joined<'p>(
     plan: &'p Plan<'_>,
     memory: &Memory,
     levels: u32,
-    below: &Arc<Below<'p>>,
+    shapes: &mut Shapes<'_, 'p>,
     second: usize,
     column: &'p str,
     rows: &[Row],
 ) -> Result<State<'p>, NoMemory>
-    ensures { IfOk result (λ state. program_of (plan_of plan.now) state ≡ rest (joined_objects (plan_of plan.now).definitions (object_program (plan_of plan.now) levels) (below_seen (arc_value below.now)) second column.now rows.now) (told memory.now)) }
+    ensures keeps { OnOk result (Keeps (plan_of plan.now) shapes.old shapes.new) }
+    ensures state { IfOk result (λ state. Fits (plan_of plan.now) shapes.old → program_of (plan_of plan.now) state ≡ rest (joined_objects (plan_of plan.now).definitions (object_program (plan_of plan.now) levels) (below_in shapes.old) second column.now rows.now) (told memory.now)) }
 {
     let mut children = Vec::with_capacity(alloc, rows.len())?;
     for row in rows {
@@ -310,12 +331,12 @@ fn joined<'p>(
             second,
             column,
             Then::First,
-            below,
+            shapes,
             row,
         )?;
         children.push(child)?;
     }
-    Ok(State::List(items_of(below), children))
+    Ok(State::List(items_of(shapes.below), children))
 }
 
 // A place for each key.
@@ -327,16 +348,16 @@ fn each<'p>(
     levels: u32,
     loader: usize,
     keys: &[Option<Key>],
-    below: &Arc<Below<'p>>,
+    shapes: &mut Shapes<'_, 'p>,
 ) -> Result<State<'p>, NoMemory>
-    ensures { IfOk result (λ state. program_of (plan_of plan.now) state ≡ rest (list_of (below_seen (arc_value below.now)) (map (read_if loader (first_object (plan_of plan.now).definitions (object_program (plan_of plan.now) levels) (below_seen (arc_value below.now)))) (keys_seen keys.now))) (told memory.now)) }
+    ensures { IfOk result (λ state. Fits (plan_of plan.now) shapes.old → program_of (plan_of plan.now) state ≡ rest (list_of (below_in shapes.old) (map (read_if loader (first_object (plan_of plan.now).definitions (object_program (plan_of plan.now) levels) (below_in shapes.old))) (keys_seen keys.now))) (told memory.now)) }
 {
     let mut children = Vec::with_capacity(alloc, keys.len())?;
     for key in keys {
-        let child = read_if(alloc, plan, memory, levels, loader, key, below)?;
+        let child = read_if(alloc, plan, memory, levels, loader, key, shapes)?;
         children.push(child)?;
     }
-    Ok(State::List(items_of(below), children))
+    Ok(State::List(items_of(shapes.below), children))
 }
 
 // The first row of a key, if there is one.
@@ -348,14 +369,24 @@ fn read_if<'p>(
     levels: u32,
     loader: usize,
     key: &Option<Key>,
-    below: &Arc<Below<'p>>,
+    shapes: &mut Shapes<'_, 'p>,
 ) -> Result<State<'p>, NoMemory>
-    ensures { IfOk result (λ state. program_of (plan_of plan.now) state ≡ rest (read_if loader (first_object (plan_of plan.now).definitions (object_program (plan_of plan.now) levels) (below_seen (arc_value below.now))) (option_map key_of key.now)) (told memory.now)) }
+    ensures keeps { OnOk result (Keeps (plan_of plan.now) shapes.old shapes.new) }
+    ensures state { IfOk result (λ state. Fits (plan_of plan.now) shapes.old → program_of (plan_of plan.now) state ≡ rest (read_if loader (first_object (plan_of plan.now).definitions (object_program (plan_of plan.now) levels) (below_in shapes.old)) (option_map key_of key.now)) (told memory.now)) }
 {
     match key {
         Some(key) => {
             let key = key.clone()?;
-            read(alloc, plan, memory, levels, loader, key, Then::First, below)
+            read(
+                alloc,
+                plan,
+                memory,
+                levels,
+                loader,
+                key,
+                Then::First,
+                shapes,
+            )
         }
         None => Ok(State::Done(Own::Null)),
     }
@@ -368,13 +399,14 @@ fn row_object<'p>(
     plan: &'p Plan<'_>,
     memory: &Memory,
     levels: u32,
-    below: &Below<'p>,
+    shapes: &mut Shapes<'_, 'p>,
     row: &Row,
 ) -> Result<State<'p>, NoMemory>
-    ensures { IfOk result (λ state. program_of (plan_of plan.now) state ≡ rest (row_object (plan_of plan.now).definitions (object_program (plan_of plan.now) levels) (below_seen below.now) row.now) (told memory.now)) }
+    ensures keeps { OnOk result (Keeps (plan_of plan.now) shapes.old shapes.new) }
+    ensures state { IfOk result (λ state. Fits (plan_of plan.now) shapes.old → program_of (plan_of plan.now) state ≡ rest (row_object (plan_of plan.now).definitions (object_program (plan_of plan.now) levels) (below_in shapes.old) row.now) (told memory.now)) }
 {
-    match type_of_row(alloc, plan.schema(), below.type_name, row)? {
-        TypeOf::Object(ty) => typed_object(alloc, plan, memory, levels, ty, &below.fields, row),
+    match type_of_row(alloc, plan.schema(), shapes.below.type_name, row)? {
+        TypeOf::Object(ty) => typed_object(alloc, plan, memory, levels, shapes, ty, row),
         TypeOf::Fault(text) => Ok(State::Done(Own::Fault(text))),
     }
 }
@@ -386,16 +418,23 @@ fn typed_object<'p>(
     plan: &'p Plan<'_>,
     memory: &Memory,
     levels: u32,
+    shapes: &mut Shapes<'_, 'p>,
     ty: &str,
-    fields: &[&'p Field],
     row: &Row,
 ) -> Result<State<'p>, NoMemory>
-    ensures { IfOk result (λ state. program_of (plan_of plan.now) state ≡ rest (object_program (plan_of plan.now) levels ty.now (fields_seen fields.now) row.now) (told memory.now)) }
+    ensures keeps { OnOk result (Keeps (plan_of plan.now) shapes.old shapes.new) }
+    ensures state { IfOk result (λ state. Fits (plan_of plan.now) shapes.old → program_of (plan_of plan.now) state ≡ rest (object_program (plan_of plan.now) levels ty.now (below_in shapes.old).fields row.now) (told memory.now)) }
 {
     if levels == 0 {
         return Ok(State::Done(Own::Null));
     }
-    let groups = collect_below(alloc, plan, ty, fields)?;
-    let prepared = prepare(alloc, plan, ty, groups)?;
-    object(alloc, plan, memory, levels - 1, &prepared, row)
+    let place = shapes.place_of(alloc, plan, ty)?;
+    object(
+        alloc,
+        plan,
+        memory,
+        levels - 1,
+        &shapes.met[place].prepared,
+        row,
+    )
 }

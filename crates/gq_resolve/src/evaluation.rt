@@ -44,8 +44,8 @@ fn root<'p>(alloc: Global, plan: &'p Plan<'_>, memory: &Memory) -> Result<State<
 }
 
 // The answer of a state in which nothing waits.
-fn answered(alloc: Global, plan: &Plan<'_>, state: &State<'_>) -> Result<Answered, NoMemory>
-    ensures { IfOk result (λ answered. is_open (tree_of (plan_of plan.now) state.now) ≡ false → answered_of answered ≡ completed (tree_of (plan_of plan.now) state.now)) }
+fn answered(alloc: Global, plan: &Plan<'_>, state: State<'_>) -> Result<Answered, NoMemory>
+    ensures { IfOk result (λ answered. is_open (tree_of (plan_of plan.now) state.entry) ≡ false → answered_of answered ≡ completed (tree_of (plan_of plan.now) state.entry)) }
 {
     let mut steps = Vec::new(alloc);
     let mut errors = Vec::new(alloc);
@@ -98,7 +98,8 @@ pub fn evaluate(
     let state = root(alloc, plan, memory)?;
     let loads = loads_of(alloc, plan, &state)?;
     if loads.is_empty() {
-        let answered = answered(alloc, plan, &state)?;
+        drop(loads);
+        let answered = answered(alloc, plan, state)?;
         return Ok(Poll::Ready(answered));
     }
     let loaders = memory.modes().len();

@@ -16,6 +16,7 @@ use gq_check::Plan;
 use gq_lexer::Place;
 use plan_program::Own;
 use std::alloc::{AllocError, Global};
+use std::mem;
 
 fn path_part(alloc: Global, step: Step<'_>) -> Result<PathPart, AllocError>
     ensures { IfOk result (λ part. part_of part ≡ step_of step.entry) }
@@ -57,19 +58,19 @@ fn put_error(
 // A position with nothing below it.
 fn own_response(
     alloc: Global,
-    own: &Own,
+    own: Own,
     non_null: bool,
     place: Place,
     steps: &[Step<'_>],
     errors: &mut Vec<FieldError>,
 ) -> Result<Response, NoMemory>
-    ensures response { IfOk result (λ r. response_of r ≡ response (At (own_seen own.now))) }
-    ensures errors { OnOk result (errors_of errors.new.items ≡ errors_of errors.old.items ++ errors_at non_null place (steps_of steps.now) (At (own_seen own.now))) }
+    ensures response { IfOk result (λ r. response_of r ≡ response (At (own_seen own))) }
+    ensures errors { OnOk result (errors_of errors.new.items ≡ errors_of errors.old.items ++ errors_at non_null place (steps_of steps.now) (At (own_seen own))) }
 {
     match own {
-        Own::Text(text) => Ok(Response::Text(text.clone()?)),
-        Own::Int(number) => Ok(Response::Int(*number)),
-        Own::Bool(value) => Ok(Response::Bool(*value)),
+        Own::Text(text) => Ok(Response::Text(text)),
+        Own::Int(number) => Ok(Response::Int(number)),
+        Own::Bool(value) => Ok(Response::Bool(value)),
         Own::Null => {
             if non_null {
                 let message = String::from_str(alloc, "null where the type is non-null")?;
@@ -78,7 +79,7 @@ fn own_response(
             Ok(Response::Null)
         }
         Own::Fault(text) => {
-            put_error(alloc, text.clone()?, place, steps, errors)?;
+            put_error(alloc, text, place, steps, errors)?;
             Ok(Response::Null)
         }
     }
@@ -103,21 +104,21 @@ pub fn is_null(response: &Response) -> bool
 pub fn finished<'p>(
     alloc: Global,
     plan: &Plan<'_>,
-    state: &State<'p>,
+    state: State<'p>,
     non_null: bool,
     place: Place,
     steps: &mut Vec<Step<'p>>,
     errors: &mut Vec<FieldError>,
 ) -> Result<Response, NoMemory>
-    ensures response { IfOk result (λ r. is_open (tree_of (plan_of plan.now) state.now) ≡ false → response_of r ≡ response (tree_of (plan_of plan.now) state.now)) }
-    ensures errors { OnOk result (is_open (tree_of (plan_of plan.now) state.now) ≡ false → errors_of errors.new.items ≡ errors_of errors.old.items ++ errors_at non_null place (steps_of steps.old.items) (tree_of (plan_of plan.now) state.now)) }
+    ensures response { IfOk result (λ r. is_open (tree_of (plan_of plan.now) state.entry) ≡ false → response_of r ≡ response (tree_of (plan_of plan.now) state.entry)) }
+    ensures errors { OnOk result (is_open (tree_of (plan_of plan.now) state.entry) ≡ false → errors_of errors.new.items ≡ errors_of errors.old.items ++ errors_at non_null place (steps_of steps.old.items) (tree_of (plan_of plan.now) state.entry)) }
     ensures steps { OnOk result (steps.new.items ≡ steps.old.items) }
 {
     match state {
         State::Waits { .. } => Ok(Response::Null),
         State::Done(own) => own_response(alloc, own, non_null, place, steps, errors),
         State::List(items, children) => {
-            finished_list(alloc, plan, *items, children, steps, errors)
+            finished_list(alloc, plan, items, children, steps, errors)
         }
         State::Object(children) => finished_object(alloc, plan, children, steps, errors),
     }
@@ -129,22 +130,23 @@ fn finished_list<'p>(
     alloc: Global,
     plan: &Plan<'_>,
     items: Items,
-    children: &[State<'p>],
+    mut children: Vec<State<'p>>,
     steps: &mut Vec<Step<'p>>,
     errors: &mut Vec<FieldError>,
 ) -> Result<Response, NoMemory>
-    ensures response { IfOk result (λ r. any_open (items_held (plan_of plan.now) items.non_null items.place 0 children.now) ≡ false → response_of r ≡ response (Over ListOf (items_held (plan_of plan.now) items.non_null items.place 0 children.now))) }
-    ensures errors { OnOk result (any_open (items_held (plan_of plan.now) items.non_null items.place 0 children.now) ≡ false → errors_of errors.new.items ≡ errors_of errors.old.items ++ all_errors (steps_of steps.old.items) (items_held (plan_of plan.now) items.non_null items.place 0 children.now)) }
+    ensures response { IfOk result (λ r. any_open (items_held (plan_of plan.now) items.non_null items.place 0 children.entry.items) ≡ false → response_of r ≡ response (Over ListOf (items_held (plan_of plan.now) items.non_null items.place 0 children.entry.items))) }
+    ensures errors { OnOk result (any_open (items_held (plan_of plan.now) items.non_null items.place 0 children.entry.items) ≡ false → errors_of errors.new.items ≡ errors_of errors.old.items ++ all_errors (steps_of steps.old.items) (items_held (plan_of plan.now) items.non_null items.place 0 children.entry.items)) }
     ensures steps { OnOk result (steps.new.items ≡ steps.old.items) }
 {
     let mut parts = Vec::with_capacity(alloc, children.len())?;
     let mut pulled = false;
-    for (i, child) in children.iter().enumerate() {
-        steps.push(Step::Item(i))?;
+    for child in children.iter_mut() {
+        let state = mem::replace(child, State::Done(Own::Null));
+        steps.push(Step::Item(parts.len()))?;
         let part = finished(
             alloc,
             plan,
-            child,
+            state,
             items.non_null,
             items.place,
             steps,
@@ -166,20 +168,22 @@ fn finished_list<'p>(
 fn finished_object<'p>(
     alloc: Global,
     plan: &Plan<'_>,
-    children: &[(Spot<'p>, State<'p>)],
+    mut children: Vec<(Spot<'p>, State<'p>)>,
     steps: &mut Vec<Step<'p>>,
     errors: &mut Vec<FieldError>,
 ) -> Result<Response, NoMemory>
-    ensures response { IfOk result (λ r. any_open (fields_held (plan_of plan.now) children.now) ≡ false → response_of r ≡ response (Over ObjectOf (fields_held (plan_of plan.now) children.now))) }
-    ensures errors { OnOk result (any_open (fields_held (plan_of plan.now) children.now) ≡ false → errors_of errors.new.items ≡ errors_of errors.old.items ++ all_errors (steps_of steps.old.items) (fields_held (plan_of plan.now) children.now)) }
+    ensures response { IfOk result (λ r. any_open (fields_held (plan_of plan.now) children.entry.items) ≡ false → response_of r ≡ response (Over ObjectOf (fields_held (plan_of plan.now) children.entry.items))) }
+    ensures errors { OnOk result (any_open (fields_held (plan_of plan.now) children.entry.items) ≡ false → errors_of errors.new.items ≡ errors_of errors.old.items ++ all_errors (steps_of steps.old.items) (fields_held (plan_of plan.now) children.entry.items)) }
     ensures steps { OnOk result (steps.new.items ≡ steps.old.items) }
 {
     let mut parts = Vec::with_capacity(alloc, children.len())?;
     let mut pulled = false;
-    for (spot, child) in children {
+    for (spot, child) in children.iter_mut() {
+        let spot = *spot;
+        let state = mem::replace(child, State::Done(Own::Null));
         let key = String::from_str(alloc, spot.key)?;
         steps.push(Step::Key(spot.key))?;
-        let part = finished(alloc, plan, child, spot.non_null, spot.place, steps, errors)?;
+        let part = finished(alloc, plan, state, spot.non_null, spot.place, steps, errors)?;
         steps.pop();
         pulled = pulled || (spot.non_null && is_null(&part));
         parts.push((key, part))?;

@@ -14,6 +14,7 @@ mod evaluation;
 mod finish;
 mod no_memory;
 mod reading;
+mod shapes;
 mod state;
 mod waiting;
 

@@ -1,13 +1,13 @@
 use Rattle.std.proofs.Common.{◌≡◌, ℕ, ◌+◌, ◌*◌, take, map, Option}
 use Rattle.std.specs.Option.{option_map}
-use Rattle.std.specs.Arc.{arc_value}
 use Rattle.load_memory.specs.Keys.{key_of}
 use Rattle.load_memory.specs.Rows.{RowOf, cell_of}
 use Rattle.load_memory.specs.declared.key.Key.{Key}
 use Rattle.execution.specs.Residual.{rest}
 use Rattle.gq_check.specs.Plans.{plan_of}
-use Rattle.plan_program.specs.Prepared.{below_seen, all_prepared_seen}
+use Rattle.plan_program.specs.Prepared.{all_prepared_seen}
 use Rattle.plan_program.specs.PlanPrograms.{fields_of, asked_program, object_program, row_object, read_cell, read_if, first_object}
+use Rattle.gq_resolve.specs.Shapes.{below_in, Fits, Keeps}
 use Rattle.gq_resolve.specs.States.{told, program_of}
 use Rattle.gq_resolve.specs.declared.state.Then.{Then}
 use Rattle.gq_resolve.specs.declared.state.Then.TheVariants.{First, All, Joined}
@@ -65,14 +65,20 @@ invariant-object-loop-field l =
 
 abbrev pub invariant-all-loop-row : goal.invariant-all-loop-row
 invariant-all-loop-row l =
-    map (program_of (plan_of l.plan)) l.children.items ≡ map (λ (r : RowOf). rest (row_object (plan_of l.plan).definitions (object_program (plan_of l.plan) l.levels) (below_seen l.below) r) (told l.memory)) (take l.row-index l.rows)
+    Keeps (plan_of l.plan) l.fn.shapes l.shapes
+    × (Fits (plan_of l.plan) l.fn.shapes
+    → map (program_of (plan_of l.plan)) l.children.items ≡ map (λ (r : RowOf). rest (row_object (plan_of l.plan).definitions (object_program (plan_of l.plan) l.levels) (below_in l.fn.shapes) r) (told l.memory)) (take l.row-index l.rows))
 
 abbrev pub invariant-joined-loop-row : goal.invariant-joined-loop-row
 invariant-joined-loop-row l =
-    map (program_of (plan_of l.plan)) l.children.items
-    ≡ map (λ (r : RowOf). rest (read_cell l.second l.column (cell_of r l.column) (first_object (plan_of l.plan).definitions (object_program (plan_of l.plan) l.levels) (below_seen (arc_value l.below)))) (told l.memory)) (take l.row-index l.rows)
+    Keeps (plan_of l.plan) l.fn.shapes l.shapes
+    × (Fits (plan_of l.plan) l.fn.shapes
+    → map (program_of (plan_of l.plan)) l.children.items
+    ≡ map (λ (r : RowOf). rest (read_cell l.second l.column (cell_of r l.column) (first_object (plan_of l.plan).definitions (object_program (plan_of l.plan) l.levels) (below_in l.fn.shapes))) (told l.memory)) (take l.row-index l.rows))
 
 abbrev pub invariant-each-loop-key : goal.invariant-each-loop-key
 invariant-each-loop-key l =
-    map (program_of (plan_of l.plan)) l.children.items
-    ≡ map (λ (k : Option Key). rest (read_if l.loader (first_object (plan_of l.plan).definitions (object_program (plan_of l.plan) l.levels) (below_seen (arc_value l.below))) (option_map key_of k)) (told l.memory)) (take l.key-index l.keys)
+    Keeps (plan_of l.plan) l.fn.shapes l.shapes
+    × (Fits (plan_of l.plan) l.fn.shapes
+    → map (program_of (plan_of l.plan)) l.children.items
+    ≡ map (λ (k : Option Key). rest (read_if l.loader (first_object (plan_of l.plan).definitions (object_program (plan_of l.plan) l.levels) (below_in l.fn.shapes)) (option_map key_of k)) (told l.memory)) (take l.key-index l.keys))
