@@ -1,8 +1,15 @@
-pub mod Answering
 pub mod Cutting
+pub mod Following
+pub mod Gaining
+pub mod Histories
 pub mod Keyed
 pub mod Lacking
 pub mod Numbering
 pub mod Onces
+pub mod PairSources
+pub mod Polls
 pub mod Running
+pub mod Runs
 pub mod States
+pub mod Stepping
+pub mod Twice

@@ -61,7 +61,7 @@ module _ {S : Type 0} where
     pub wanted-orders : orders_by 0 (map rule_of old) keys ≡ orders_of (map rule_of old) loads
     wanted-orders = orders-same 0 keys (λ m. keys_for m loads) (map rule_of old) (λ m le lt. wanted m (omega (arith, lt, length-map old rule_of))) ∙ orders-loads 0 (map rule_of old) loads
 
-    wanted-logged : (stored : Bool) (round : ℕ) → logged_from 0 stored round keys old ≡ logged_from 0 stored round (λ m. keys_for m loads) old
+    pub wanted-logged : (stored : Bool) (round : ℕ) → logged_from 0 stored round keys old ≡ logged_from 0 stored round (λ m. keys_for m loads) old
     wanted-logged stored round = logged-same stored round 0 keys (λ m. keys_for m loads) old (λ m le lt. wanted m (omega (arith, lt)))
 
     first-wanted : (n m : ℕ) → m < length old → first_keys n keys m ≡ keys_for m (of_first n loads)

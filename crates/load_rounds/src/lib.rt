@@ -4,19 +4,28 @@
 //! (`execution::specs::Sessions`), which its contract names: failed batches are forgotten, a round asks exactly
 //! what is needed and missing, a key is primed or cleared. The memory and the logs are those after these steps,
 //! and nothing else changes.
+//!
+//! Answers come in turn ([`Session::answer`]), or in rounds that the caller runs ([`Session::begin`]): a run gives the
+//! orders of each round and takes their replies in any order. Each call's contract says what has been done since the
+//! run was begun (`specs::Runs`, `IsRun`), and in the end that is what an answer in turn says.
 #![tactic(auto)]
 
 pub mod answer;
+pub mod answering;
 pub mod execute;
 pub mod fault;
 mod keys;
+pub mod law;
 mod plan;
 mod round;
+pub mod run;
 pub mod session;
 #[cfg(test)]
 mod tests;
 
 pub use answer::Answer;
+pub use answering::Answering;
 pub use execute::Execute;
 pub use fault::SessionFault;
+pub use run::{Next, Run, Stage};
 pub use session::Session;

@@ -3,19 +3,20 @@ ghost use Rattle.std.specs.Prelude.{◌≡◌, ◌<◌, ◌≤◌, ◌↔◌, �
 ghost use Rattle.load_memory.specs.Keys.{key_of};
 ghost use Rattle.load_memory.specs.Outcomes.{outcome_of, known, item_of};
 ghost use Rattle.load_memory.specs.Pairs.{look, pair_of};
+ghost use Rattle.load_memory.specs.Shelves.{IsOn, shown};
 ghost use Rattle.load_queue.specs.Logs.{asked_of};
 ghost use Rattle.load_queue.specs.Wanted.{WantedOf, nothing_wanted};
 ghost use Rattle.execution.specs.Loads.{Load, read};
 ghost use Rattle.execution.specs.Front.{front_of_keys};
-ghost use Rattle.execution.specs.Rounds.{AreLimited, without_failed};
+ghost use Rattle.execution.specs.Rounds.{AreLimited, orders_of, without_failed};
 ghost use Rattle.execution.specs.Sessions.{Forgot, Primed, Cleared, ClearedAll, Lost, Asked};
 ghost use Rattle.load_rounds.specs.Rounds.{AreWanted};
 
 use crate::fault::SessionFault;
 use crate::keys::{known_outcomes, missing_keys};
 use crate::round::{cut_all, mark_all, run_all};
-use load_memory::{Item, Key, Memory, NoMemory, Outcome, cache_key};
-use load_queue::{Asked, Asks, Loader, Wants};
+use load_memory::{Item, Key, Memory, NoMemory, Outcome, Receipt, Shelf, cache_key};
+use load_queue::{Asked, Asks, Loader, Order, Wants};
 use std::alloc::Global;
 use std::marker::Model;
 
@@ -39,8 +40,9 @@ impl<S> Model for Session<S> {
 }
 
 impl<S> Session<S> {
-    ghost use Rattle.load_rounds.specs.Sessions.{session_modes, rules_of, state_of, after_step, after_steps};
-    ghost use Rattle.load_rounds.specs.Calls.{cell_at};
+    ghost use Rattle.load_rounds.specs.Sessions.{session_modes, rules_of, state_of, after_step, after_steps, AreNumbered};
+    ghost use Rattle.load_rounds.specs.Calls.{cell_at, RoundLost};
+    ghost use Rattle.load_rounds.specs.Runs.{received};
 
     pub(crate) fn alloc(&self) -> Global {
         *self.loaders.allocator()
@@ -54,6 +56,13 @@ impl<S> Session<S> {
         self.memory.drop_failed();
     }
 
+    // No loader's limit is 0.
+    pub(crate) fn limits(&self)
+        ensures { AreLimited (rules_of (state_of self.now)) }
+    {
+        let _ = &self.memory;
+    }
+
     /// Nothing is wanted of the loaders.
     pub(crate) fn nothing_wanted(&self) -> Result<Wants, NoMemory>
         ensures { IfOk result (λ wants. wants ≡ map nothing_wanted (session_modes (state_of self.now))) }
@@ -61,9 +70,40 @@ impl<S> Session<S> {
         Wants::new(self.alloc(), &self.memory)
     }
 
-    /// What is known of the loaders' keys.
+    /// Enters the batches of what is wanted in the logs, as the next round, and gives their orders. A contract also
+    /// sees here that the entries bear the numbers of rounds that were made.
+    pub(crate) fn cut(&mut self, wants: &Wants) -> Result<Vec<Order>, NoMemory>
+        requires { length wants.now ≡ length self.old.loaders }
+        ensures orders { (loads : List Load) → AreWanted wants.now loads
+            → IfOk result (λ orders. orders.items ≡ orders_of (rules_of (state_of self.old)) loads) }
+        ensures entered { (loads : List Load) → AreWanted wants.now loads
+            → OnOk result (state_of self.new ≡ after_step (state_of self.old) (Lost loads)) }
+        ensures lost { (loads : List Load) → AreWanted wants.now loads
+            → OnErr result (RoundLost (state_of self.old) (state_of self.new) loads) }
+        ensures numbered { AreNumbered self.old.rounds self.old.loaders }
+    {
+        let round = self.rounds.checked_add(1).ok_or(NoMemory)?;
+        cut_all(&mut self.loaders, &mut self.rounds, round, wants)
+    }
+
+    /// Stores the replies to the latest round, which receipts show in any order, and marks its entries. A contract
+    /// also sees here that no loader's limit is 0.
+    pub(crate) fn receive(&mut self, shelf: &Shelf, receipts: &[Receipt]) -> Result<(), NoMemory>
+        requires shelf { All (IsOn shelf.now) receipts.now }
+        requires loaders { All (λ r. (shown r).loader < length self.old.loaders) receipts.now }
+        ensures received { OnOk result (state_of self.new ≡ received (state_of self.old) (map shown receipts.now)) }
+        ensures kept { OnErr result (state_of self.new ≡ state_of self.old) }
+        ensures limited { AreLimited (rules_of (state_of self.old)) }
+    {
+        self.memory.index(shelf, receipts)?;
+        mark_all(&mut self.loaders, self.rounds);
+        Ok(())
+    }
+
+    /// What is known of the loaders' keys. A contract also sees here that no loader's limit is 0.
     pub fn memory(&self) -> &Memory
         ensures pairs { result.now.pairs ≡ self.now.pairs }
+        ensures limited { AreLimited (rules_of (state_of self.now)) }
         ensures modes { result.now.modes ≡ session_modes (state_of self.now) }
     {
         &self.memory

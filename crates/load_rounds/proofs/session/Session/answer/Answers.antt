@@ -5,15 +5,12 @@ use Rattle.load_memory.proofs.PartLaws.{SomeIff-at}
 use Rattle.load_queue.specs.Wanted.{nothing_wanted}
 use Rattle.execution.specs.Program.{Program}
 use Rattle.execution.specs.Front.{front}
-use Rattle.execution.specs.Rounds.{RuleOf, rule_of, modes_of}
-use Rattle.load_rounds.specs.Sessions.{StateOf, state_of, session_modes, rules_of}
-use Rattle.load_rounds.proofs.Answering.{nothing-modes, wants-are, in-none, in-more, in-all}
+use Rattle.execution.specs.Rounds.{modes_of}
+use Rattle.load_rounds.specs.Sessions.{state_of, session_modes}
+use Rattle.load_rounds.proofs.Following.{nothing-modes, wants-are, rules-size, in-none, in-more, in-all}
 use Rattle.load_rounds.proofs.Lacking.{length-wanting}
 use Rattle.load_rounds.proofs.States.{on-err}
 use Rattle.load_rounds.proofs.session.Session.answer.Goals as goal
-
-rules-size : {S : Type 0} (s : StateOf S) → length (session_modes s) ≡ length s.loaders
-rules-size s = length-map (rules_of s) (λ (r : RuleOf). r.mode) ∙ length-map s.loaders rule_of
 
 pub loop-wants-init : goal.loop-wants-init
 loop-wants-init g c = in-none g.S.Asks.may_tell (state_of c.args.self.now) (state_of c.forget.new.self) (g.P.Execute.program c.args.plan.now) c.forget.ensures.after

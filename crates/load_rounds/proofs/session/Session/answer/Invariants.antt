@@ -1,6 +1,6 @@
 use Rattle.std.proofs.Common.{◌-◌, ◌^◌}
 use Rattle.load_rounds.specs.Sessions.{state_of}
-use Rattle.load_rounds.proofs.Answering.{InRounds}
+use Rattle.load_rounds.proofs.Following.{InRounds}
 use Rattle.load_rounds.proofs.session.Session.answer.Given as goal
 
 abbrev pub invariant-loop-wants : goal.invariant-loop-wants

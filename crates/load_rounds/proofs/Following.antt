@@ -24,12 +24,16 @@ use Rattle.load_rounds.specs.Rounds.{AreWanted}
 use Rattle.load_rounds.specs.Calls.{RoundRan}
 use Rattle.load_rounds.specs.Executes.{asked_steps, MakesRounds, IsAnswer}
 use Rattle.load_rounds.proofs.Numbering.{source-at}
+pub use Rattle.load_rounds.proofs.Stepping.{SameSources}
 use Rattle.load_rounds.proofs.Onces.{ran-rules}
 use Rattle.load_rounds.proofs.Lacking.{length-wanting}
 
 pub nothing-modes : (modes : List KeyMode) → modes_wanted (map nothing_wanted modes) ≡ modes
 nothing-modes [] = refl
 nothing-modes (m ∷ ms) = ap (λ ns. m ∷ ns) (nothing-modes ms)
+
+pub rules-size : {S : Type 0} (s : StateOf S) → length (session_modes s) ≡ length s.loaders
+rules-size s = length-map (rules_of s) (λ (r : RuleOf). r.mode) ∙ length-map s.loaders rule_of
 
 -- wants of the front alone
 pub wants-are : (modes : List KeyMode) (p : Program) (M : Memory) (wants : List WantedOf) → wants ≡ wanting (map nothing_wanted modes) (front modes p M) → AreWanted wants (front modes p M)
@@ -38,12 +42,8 @@ wants-are modes p M wants is m lt =
     let below : m < length modes = omega (arith, lt, ap length is, length-wanting (map nothing_wanted modes) (front modes p M), length-map modes nothing_wanted) in
     ap (λ ws. keys_wanted ws m) (is ∙ wanting-firsts modes (map nothing_wanted modes) ls (nothing-modes modes)) ∙ wanting-front modes ls m below
 
--- the same sources, whatever the logs are
-abbrev pub SameSources : {S : Type 0} → List (LoaderOf S) → List (LoaderOf S) → Type 0
-SameSources {S} old cur = (i : ℕ) (x : LoaderOf S) → slice_get cur i ≡ Some x → (y : LoaderOf S) × (slice_get old i ≡ Some y) × (x.source ≡ y.source)
-
 module _ {S : Type 0} (may : S → List KeyOf → AnswerOf → Type 0) where
-  replies-over : (old cur : List (LoaderOf S)) → SameSources old cur → (os : List OrderOf) (rs : List ReplyOf) → AreReplies (may_at may cur) os rs → AreReplies (may_at may old) os rs
+  pub replies-over : (old cur : List (LoaderOf S)) → SameSources old cur → (os : List OrderOf) (rs : List ReplyOf) → AreReplies (may_at may cur) os rs → AreReplies (may_at may old) os rs
   replies-over old cur same [] [] h = tt
   replies-over old cur same [] (r ∷ rs) h = absurd h
   replies-over old cur same (o ∷ os) [] h = absurd h

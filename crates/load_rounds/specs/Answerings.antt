@@ -1,0 +1,77 @@
+-- What an answering future does, poll by poll.
+use Rattle.std.specs.Prelude.{◌≡◌, ◌≢◌, ◌≤◌, ℕ, List, [], ◌+◌, length, Option, Some, None, Result, IfOk, OnErr, String, string_bytes}
+use Rattle.load_memory.specs.Keys.{KeyOf}
+use Rattle.load_memory.specs.Pairs.{look}
+use Rattle.load_memory.specs.Replies.{ReplyOf}
+use Rattle.load_memory.specs.declared.no_memory.NoMemory.{NoMemory}
+use Rattle.load_queue.specs.Answers.{AnswerOf}
+use Rattle.execution.specs.Loads.{read}
+use Rattle.execution.specs.Program.{Program, chain}
+use Rattle.execution.specs.Completion.{AnsweredOf}
+use Rattle.execution.specs.Executed.{exec}
+use Rattle.execution.specs.Front.{front}
+use Rattle.execution.specs.Sessions.{Forgot}
+use Rattle.futures.specs.declared.task.Poll.{Poll}
+use Rattle.futures.specs.declared.task.Poll.TheVariants.{Ready, Pending}
+use Rattle.std.specs.declared.alloc.Global.{Global}
+use Rattle.load_rounds.specs.Sessions.{SessionOf, StateOf, state_of, session_modes, after_step}
+use Rattle.load_rounds.specs.Calls.{RoundRan}
+use Rattle.load_rounds.specs.Executes.{MakesRounds, IsAnswer, StopsAnswering}
+use Rattle.load_rounds.specs.declared.answer.Answer.{Answer}
+use Rattle.load_rounds.specs.declared.answering.Progress.{Progress}
+use Rattle.load_rounds.specs.declared.answering.Progress.TheVariants.{Unpolled, Polled, Over}
+
+module _ {S : Type 0} where
+  -- the rounds so far, one for each poll
+  abbrev pub rounds_of : Progress S → ℕ
+  rounds_of (Unpolled s) = 0
+  rounds_of (Polled s rounds) = rounds
+  rounds_of Over = 0
+
+  -- where the next poll begins: at first failed batches are forgotten
+  abbrev pub begun : Progress S → Option (StateOf S)
+  begun (Unpolled s) = Some (after_step (state_of s) Forgot)
+  begun (Polled s rounds) = Some (state_of s)
+  begun Over = None
+
+  module _ (may : S → List KeyOf → AnswerOf → Type 0) where
+    -- one turn: the text where nothing is missing, and then nothing has changed; else exactly one round, which asked the front
+    abbrev pub Turned : (AnsweredOf → List ℕ) → StateOf S → StateOf S → Program → Poll (String Global) → Type 0
+    Turned text_of old new p (Ready text) =
+        (new ≡ old) × (front (session_modes old) p old.memory ≡ []) × (answered : AnsweredOf) × (exec p (read (session_modes old) old.memory) ≡ Some answered) × (string_bytes text ≡ text_of answered)
+    Turned text_of old new p Pending =
+        (front (session_modes old) p old.memory ≢ []) × RoundRan may old new (front (session_modes old) p old.memory)
+
+    -- this many rounds were made, each with the front's batches, after failed batches were forgotten
+    pub record HasMade (old cur : StateOf S) (p : Program) (rounds : ℕ) : Type 0 where
+      pub log : List (List ReplyOf)
+      pub made : MakesRounds may old cur p log
+      pub counted : length log ≡ rounds
+
+    -- it hasn't answered, and its session has the loaders that are asked
+    abbrev pub CanPoll : ℕ → Program → Progress S → Type 0
+    CanPoll loaders p (Unpolled s) = loaders ≤ length s.loaders
+    CanPoll loaders p (Polled s rounds) = (loaders ≤ length s.loaders) × (old : StateOf S) × HasMade old (state_of s) p rounds
+    CanPoll loaders p Over = ⊥
+
+    -- the session that is handed back, and what `answer` says of it and of the answer
+    abbrev pub IsOutput : StateOf S → Program → (AnsweredOf → List ℕ) → SessionOf S × Result Answer NoMemory → Type 0
+    IsOutput old p text_of out =
+        IfOk out.1 (λ a. IsAnswer may old (state_of out.0) p text_of (string_bytes a.text) a.rounds) × OnErr out.1 (StopsAnswering may old (state_of out.0) p)
+
+    -- what comes of it: an output for the session that was handed in, from whichever state the rounds so far were made
+    abbrev pub Gives : Program → (AnsweredOf → List ℕ) → Progress S → SessionOf S × Result Answer NoMemory → Type 0
+    Gives p text_of (Unpolled s) out = IsOutput (state_of s) p text_of out
+    Gives p text_of (Polled s rounds) out = (old : StateOf S) → HasMade old (state_of s) p rounds → IsOutput old p text_of out
+    Gives p text_of Over out = ⊥
+
+    -- A poll that was pending has made exactly one round, which asked the front, and this isn't empty. So many polls are within
+    -- the load chain over the memory after it.
+    pub record PollRan (p : Program) (old new : Progress S) : Type 0 where
+      pub before : StateOf S
+      pub after : SessionOf S
+      pub begins : begun old ≡ Some before
+      pub ends : new ≡ Polled after (rounds_of old + 1)
+      pub lacks : front (session_modes before) p before.memory ≢ []
+      pub ran : RoundRan may before (state_of after) (front (session_modes before) p before.memory)
+      pub within : rounds_of new ≤ chain p (read (session_modes (state_of after)) (look after.pairs))

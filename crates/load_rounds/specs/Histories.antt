@@ -1,0 +1,119 @@
+-- Calls of a session, one after another: the steps that they make, and what the logs gain by them.
+use Rattle.std.specs.Prelude.{◌≡◌, ◌==◌, ◌⊎◌, ℕ, Bool, false, List, [], ◌∷◌, ◌++◌, map, length, drop, Option, Some, None, slice_get}
+use Rattle.std.specs.List.{filter}
+use Rattle.load_memory.specs.Keys.{KeyOf}
+use Rattle.load_memory.specs.Outcomes.{OutcomeOf, batch_fault}
+use Rattle.load_memory.specs.Pairs.{PairOf}
+use Rattle.load_memory.specs.Replies.{ReplyOf}
+use Rattle.load_memory.specs.declared.key.KeyMode.{KeyMode}
+use Rattle.load_queue.specs.Answers.{AnswerOf}
+use Rattle.load_queue.specs.Loaders.{LoaderOf, AskedOf}
+use Rattle.execution.specs.Loads.{IsOneOf}
+use Rattle.execution.specs.Program.{Program}
+use Rattle.execution.specs.Completion.{AnsweredOf}
+use Rattle.execution.specs.Sessions.{Step, Forgot, Asked, Lost, Primed, Cleared, ClearedAll, Cell, key_cell, is_cell}
+use Rattle.load_rounds.specs.Sessions.{StateOf, session_modes, after_steps, MayBe}
+use Rattle.load_rounds.specs.Calls.{asked_for, IsLoaded, IsStopped}
+use Rattle.load_rounds.specs.Executes.{IsAnswer, StopsAnswering}
+
+-- A call that a session didn't refuse for its loader's number: `load` or `load_many` of a loader's keys, `prime` of a pair,
+-- `clear` of a cell, `clear_all` of a loader, `answer` or an answering future of a program; and a `prime` or a `clear` at
+-- which memory was wanted.
+pub data Call : Type 0 where
+  Loading : ℕ → List KeyOf → Call
+  Priming : PairOf → Call
+  Clearing : Cell → Call
+  ClearingAll : ℕ → Call
+  Executing : Program → Call
+  Stopping : Call
+
+-- the call clears this cell
+abbrev pub clears_at : Cell → Call → Bool
+clears_at cell (Loading loader keys) = false
+clears_at cell (Priming pair) = false
+clears_at cell (Clearing c) = is_cell c cell
+clears_at cell (ClearingAll loader) = loader == cell.0
+clears_at cell (Executing p) = false
+clears_at cell Stopping = false
+
+-- rounds alone, stored or lost
+abbrev pub AreAsking : List Step → Type 0
+AreAsking [] = Unit {0}
+AreAsking (Asked loads replies ∷ steps) = AreAsking steps
+AreAsking (Lost loads ∷ steps) = AreAsking steps
+AreAsking (Forgot ∷ steps) = ⊥
+AreAsking (Primed pair ∷ steps) = ⊥
+AreAsking (Cleared cell ∷ steps) = ⊥
+AreAsking (ClearedAll loader ∷ steps) = ⊥
+
+-- the steps of a call once failed batches are forgotten
+abbrev pub IsMadeOf : Call → List Step → Type 0
+IsMadeOf (Loading loader keys) steps = AreAsking steps
+IsMadeOf (Priming pair) steps = steps ≡ Primed pair ∷ []
+IsMadeOf (Clearing cell) steps = steps ≡ Cleared cell ∷ []
+IsMadeOf (ClearingAll loader) steps = steps ≡ ClearedAll loader ∷ []
+IsMadeOf (Executing p) steps = AreAsking steps
+IsMadeOf Stopping steps = steps ≡ []
+
+-- the steps of calls, one after another
+abbrev pub AreMadeOf : List Call → List Step → Type 0
+AreMadeOf [] steps = steps ≡ []
+AreMadeOf (call ∷ calls) steps = (own : List Step) × (more : List Step) × (steps ≡ Forgot ∷ (own ++ more)) × IsMadeOf call own × AreMadeOf calls more
+
+-- the replies of each round that was stored
+abbrev pub replies_of : List Step → List (List ReplyOf)
+replies_of [] = []
+replies_of (Asked loads replies ∷ steps) = replies ∷ replies_of steps
+replies_of (Lost loads ∷ steps) = replies_of steps
+replies_of (Forgot ∷ steps) = replies_of steps
+replies_of (Primed pair ∷ steps) = replies_of steps
+replies_of (Cleared cell ∷ steps) = replies_of steps
+replies_of (ClearedAll loader ∷ steps) = replies_of steps
+
+-- the cells of what entries of a loader's log asked
+abbrev pub entered_cells : List KeyMode → ℕ → List AskedOf → List Cell
+entered_cells modes loader [] = []
+entered_cells modes loader (e ∷ es) = map (key_cell modes loader) e.keys ++ entered_cells modes loader es
+
+module _ {S : Type 0} where
+  abbrev pub log_in : Option (LoaderOf S) → List AskedOf
+  log_in None = []
+  log_in (Some l) = l.log
+
+  abbrev pub log_of : StateOf S → ℕ → List AskedOf
+  log_of s loader = log_in (slice_get s.loaders loader)
+
+  -- what the log of a loader gained from a state to another, and that of it which is stored
+  abbrev pub gained : ℕ → StateOf S → StateOf S → List AskedOf
+  gained loader old new = drop (length (log_of old loader)) (log_of new loader)
+
+  abbrev pub stored_gained : ℕ → StateOf S → StateOf S → List AskedOf
+  stored_gained loader old new = filter (λ e. e.stored) (gained loader old new)
+
+  -- the cell was asked in a round that was stored
+  abbrev pub IsEntered : Cell → StateOf S → StateOf S → Type 0
+  IsEntered cell old new = IsOneOf cell (entered_cells (session_modes old) cell.0 (stored_gained cell.0 old new))
+
+  -- what is known of the cell is the fault of its whole batch
+  abbrev pub IsFailedAt : Cell → StateOf S → Type 0
+  IsFailedAt cell s = (text : List ℕ) × (s.memory cell.0 cell.1 ≡ Some (batch_fault text))
+
+  module _ (may : S → List KeyOf → AnswerOf → Type 0) where
+    -- steps that may be, from a state to another: each round asked loads that the memory lacked, of equal cache keys the first
+    pub record Leads (old : StateOf S) (steps : List Step) (new : StateOf S) : Type 0 where
+      pub after : new ≡ after_steps old steps
+      pub may_be : MayBe may old steps
+
+    -- what the contract of the call says of the states before and after it
+    abbrev pub IsCall : Call → StateOf S → StateOf S → Type 0
+    IsCall (Loading loader keys) old new = ((outcomes : List OutcomeOf) × IsLoaded may old new loader keys outcomes) ⊎ IsStopped may old new (asked_for old loader keys)
+    IsCall (Priming pair) old new = new ≡ after_steps old (Forgot ∷ Primed pair ∷ [])
+    IsCall (Clearing cell) old new = new ≡ after_steps old (Forgot ∷ Cleared cell ∷ [])
+    IsCall (ClearingAll loader) old new = new ≡ after_steps old (Forgot ∷ ClearedAll loader ∷ [])
+    IsCall (Executing p) old new = ((text_of : AnsweredOf → List ℕ) × (text : List ℕ) × (rounds : ℕ) × IsAnswer may old new p text_of text rounds) ⊎ StopsAnswering may old new p
+    IsCall Stopping old new = new ≡ after_steps old (Forgot ∷ [])
+
+    -- calls one after another
+    abbrev pub AreCalls : List Call → StateOf S → StateOf S → Type 0
+    AreCalls [] old new = new ≡ old
+    AreCalls (call ∷ calls) old new = (mid : StateOf S) × IsCall call old mid × AreCalls calls mid new

@@ -1,0 +1,109 @@
+-- Rounds by hand: what contracts see of a run, what its calls do to a session, and what was done since it was begun.
+use Rattle.std.specs.Prelude.{◌≡◌, ◌≢◌, ◌⊎◌, ◌+◌, ℕ, List, [], map, length, Some, IsPermutation, string_bytes}
+use Rattle.load_memory.specs.Keys.{KeyOf}
+use Rattle.load_memory.specs.Replies.{ReplyOf}
+use Rattle.load_queue.specs.Answers.{AnswerOf}
+use Rattle.load_queue.specs.Loaders.{stored_in}
+use Rattle.load_queue.specs.Orders.{OrderOf}
+use Rattle.execution.specs.Loads.{Load, read}
+use Rattle.execution.specs.Program.{Program}
+use Rattle.execution.specs.Completion.{AnsweredOf}
+use Rattle.execution.specs.Executed.{exec}
+use Rattle.execution.specs.Front.{front}
+use Rattle.execution.specs.Rounds.{orders_of, AreReplies, after_round}
+use Rattle.execution.specs.Sessions.{Lost}
+use Rattle.load_rounds.specs.declared.run.Next.{Next}
+use Rattle.load_rounds.specs.declared.run.Next.TheVariants as next
+use Rattle.load_rounds.specs.declared.run.Stage.{Stage}
+use Rattle.load_rounds.specs.declared.run.Stage.TheVariants.{Ready, Out, Finished, Failed}
+use Rattle.load_rounds.specs.Sessions.{StateOf, rules_of, session_modes, after_step, AreNumbered}
+use Rattle.load_rounds.specs.Calls.{RoundLost}
+use Rattle.load_rounds.specs.Executes.{MakesRounds, IsAnswer, StopsAnswering}
+
+-- what is executed, how many rounds were asked for it, with one that is out, and what may be done next
+pub record RunOf (P : Type 0) : Type 0 where
+  pub plan : P
+  pub rounds : ℕ
+  pub stage : Stage
+
+abbrev pub run_of : {P : Type 0} → P → ℕ → Stage → RunOf P
+run_of plan rounds stage = record { plan = plan; rounds = rounds; stage = stage }
+
+-- one reply to each order, in whatever order the replies are
+pub record AreReceived (may : ℕ → List KeyOf → AnswerOf → Type 0) (orders : List OrderOf) (shown : List ReplyOf) : Type 0 where
+  pub replies : List ReplyOf
+  pub fit : AreReplies may orders replies
+  pub moved : IsPermutation replies shown
+
+module _ {S : Type 0} where
+  -- what a program needs and the session lacks
+  abbrev pub front_in : StateOf S → Program → List Load
+  front_in s p = front (session_modes s) p s.memory
+
+  -- its batches, in order of the loaders
+  abbrev pub orders_in : StateOf S → Program → List OrderOf
+  orders_in s p = orders_of (rules_of s) (front_in s p)
+
+  -- the state once the replies to the latest round are stored: its entries are marked, and those of no other round
+  abbrev pub received : StateOf S → List ReplyOf → StateOf S
+  received s replies = record {
+    loaders = map (λ l. stored_in l s.rounds) s.loaders;
+    memory = after_round (rules_of s) s.memory replies;
+    rounds = s.rounds;
+  }
+
+  -- Nothing is missing: the text is that of the execution over the memory, and nothing changes.
+  pub record IsLast (p : Program) (text_of : AnsweredOf → List ℕ) (old new : StateOf S) (text : List ℕ) : Type 0 where
+    pub complete : front_in old p ≡ []
+    pub answered : AnsweredOf
+    pub executed : exec p (read (session_modes old) old.memory) ≡ Some answered
+    pub told : text ≡ text_of answered
+    pub same : new ≡ old
+
+  -- Something is missing: the orders are the batches of all that is, entered under the number of the session's next round and
+  -- not stored. This round is counted.
+  pub record IsRound (p : Program) (old new : StateOf S) (orders : List OrderOf) : Type 0 where
+    pub lacks : front_in old p ≢ []
+    pub batches : orders ≡ orders_in old p
+    pub entered : new ≡ after_step old (Lost (front_in old p))
+    pub counted : new.rounds ≡ old.rounds + 1
+
+  -- after want of memory: nothing was entered, or the batches of the first loaders were
+  abbrev pub IsUnasked : Program → StateOf S → StateOf S → Type 0
+  IsUnasked p old new = (new ≡ old) ⊎ RoundLost old new (front_in old p)
+
+  -- what comes next, by what is missing
+  abbrev pub IsNext : {P : Type 0} → Program → (AnsweredOf → List ℕ) → RunOf P → RunOf P → StateOf S → StateOf S → Next → Type 0
+  IsNext p text_of run later old new (next.Finished answer) =
+      IsLast p text_of old new (string_bytes answer.text) × (answer.rounds ≡ run.rounds) × (later ≡ run_of run.plan run.rounds Finished)
+  IsNext p text_of run later old new (next.Round orders) = IsRound p old new orders.items × (later ≡ run_of run.plan (run.rounds + 1) Out)
+
+  module _ (may : S → List KeyOf → AnswerOf → Type 0) (p : Program) where
+    -- so many rounds were made since the run was begun, and none is out
+    pub record IsBetween (begun now : StateOf S) (rounds : ℕ) : Type 0 where
+      pub log : List (List ReplyOf)
+      pub made : MakesRounds may begun now p log
+      pub counted : length log ≡ rounds
+
+    -- and then one more was asked, which is out
+    pub record IsOut (begun now : StateOf S) (rounds : ℕ) : Type 0 where
+      pub before : StateOf S
+      pub made : ℕ
+      pub between : IsBetween begun before made
+      pub one_more : rounds ≡ made + 1
+      pub numbered : AreNumbered before.rounds before.loaders
+      pub lacks : front_in before p ≢ []
+      pub entered : now ≡ after_step before (Lost (front_in before p))
+      pub counted : now.rounds ≡ before.rounds + 1
+
+    -- the session as a run of this stage that was begun on it has left it
+    abbrev pub IsRun : StateOf S → StateOf S → ℕ → Stage → Type 0
+    IsRun begun now rounds Ready = IsBetween begun now rounds
+    IsRun begun now rounds Out = IsOut begun now rounds
+    IsRun begun now rounds Finished = IsBetween begun now rounds × (front_in now p ≡ [])
+    IsRun begun now rounds Failed = StopsAnswering may begun now p
+
+    -- the answer of a run is that of an answer in turn
+    abbrev pub AnswersRun : (AnsweredOf → List ℕ) → StateOf S → StateOf S → Next → Type 0
+    AnswersRun text_of begun now (next.Finished answer) = IsAnswer may begun now p text_of (string_bytes answer.text) answer.rounds
+    AnswersRun text_of begun now (next.Round orders) = Unit {0}

@@ -1,0 +1,158 @@
+//! Rounds by hand: an answer on its way, whose rounds the caller runs.
+ghost use Rattle.std.specs.Prelude.{◌≡◌, ◌≤◌, ◌<◌, ◌^◌, List, All, map, length, IfOk, OnOk, OnErr, IsPermutation};
+ghost use Rattle.load_memory.specs.Shelves.{IsOn, shown};
+ghost use Rattle.execution.specs.Rounds.{may_at};
+ghost use Rattle.execution.specs.Sessions.{Forgot};
+
+use crate::answer::Answer;
+use crate::execute::Execute;
+use crate::session::Session;
+use futures::task::Poll;
+use load_memory::{NoMemory, Receipt, Shelf};
+use load_queue::{Asks, Order};
+use std::marker::Model;
+
+/// What may be done next with a run.
+#[derive(Clone, Copy, Debug, PartialEq, Eq)]
+pub enum Stage {
+    /// [`next_round`](Run::next_round) may be called.
+    Ready,
+    /// A round is out, whose receipts [`take`](Run::take) wants.
+    Out,
+    /// The answer was given: it is only dropped.
+    Finished,
+    /// A growth was refused: it is only dropped.
+    Failed,
+}
+
+/// What comes next of a run.
+#[derive(Drop)]
+pub enum Next {
+    /// Nothing is missing any more.
+    Finished(Answer),
+    /// The orders of the next round, by number of loader and then by piece.
+    Round(Vec<Order>),
+}
+
+/// An answer on its way over a session, whose rounds the caller runs. A contract sees what is executed, how many
+/// rounds it has asked, with one that is out, and its stage.
+///
+/// A run that is dropped while a round is out loses that round: its batches stay in the logs as not stored.
+#[derive(Drop)]
+pub struct Run<'p, P> {
+    plan: &'p P,
+    rounds: u32,
+    stage: Stage,
+}
+
+impl<'p, P> Model for Run<'p, P> {
+    ghost use Rattle.std.specs.Prelude.{◌<◌, ◌^◌};
+    ghost use Rattle.load_rounds.specs.Runs.{RunOf};
+
+    ghost Value = { RunOf P };
+
+    ghost view = { λ r. record { plan = r.plan.now; rounds = r.rounds; stage = r.stage } };
+
+    ghost invariant = { λ r. r.rounds < 2 ^ 32 };
+}
+
+impl<S: Asks> Session<S> {
+    ghost use Rattle.load_rounds.specs.Sessions.{state_of, after_step};
+    ghost use Rattle.load_rounds.specs.Runs.{run_of, IsRun};
+
+    /// Begins to answer a plan, whose rounds the caller runs. Failed batches are forgotten.
+    pub fn begin<'p, P: Execute>(&mut self, plan: &'p P) -> Result<Run<'p, P>, NoMemory>
+        requires { P.loaders plan.now ≤ length self.old.loaders }
+        ensures run { IfOk result (λ run. run ≡ run_of plan.now 0 Stage.Ready) }
+        ensures begun { IfOk result (λ run. IsRun S.may_tell (P.program plan.now) (state_of self.old) (state_of self.new) 0 Stage.Ready) }
+        ensures forgot { state_of self.new ≡ after_step (state_of self.old) Forgot }
+    {
+        self.forget();
+        Ok(Run {
+            plan,
+            rounds: 0,
+            stage: Stage::Ready,
+        })
+    }
+}
+
+impl<'p, P> Run<'p, P> {
+    /// What may be done next.
+    pub fn stage(&self) -> Stage
+        ensures { result ≡ self.now.stage }
+    {
+        self.stage
+    }
+}
+
+impl<'p, P: Execute> Run<'p, P> {
+    ghost use Rattle.load_memory.specs.Replies.{ReplyOf};
+    ghost use Rattle.execution.specs.Rounds.{AreReplies};
+    ghost use Rattle.load_rounds.specs.Sessions.{StateOf, state_of};
+    ghost use Rattle.load_rounds.specs.Runs.{run_of, orders_in, received, AreReceived, IsNext, IsRun, AnswersRun, IsUnasked};
+
+    /// The answer where nothing is missing any more, and else the orders of the next round, which is then out.
+    ///
+    /// After a refused growth the session is as it was, or the round is lost, with the batches of the first loaders
+    /// entered in the logs.
+    pub fn next_round<S: Asks>(&mut self, session: &mut Session<S>) -> Result<Next, NoMemory>
+        requires ready { self.old.stage ≡ Stage.Ready }
+        requires loaders { P.loaders self.old.plan ≤ length session.old.loaders }
+        ensures next { IfOk result (IsNext (P.program self.old.plan) (P.text_of self.old.plan) self.old self.new (state_of session.old) (state_of session.new)) }
+        ensures bounded { self.new.rounds < 2 ^ 32 }
+        ensures failed { OnErr result (self.new ≡ run_of self.old.plan self.old.rounds Stage.Failed) }
+        ensures lost { OnErr result (IsUnasked (P.program self.old.plan) (state_of session.old) (state_of session.new)) }
+        ensures run { (begun : StateOf S) → IsRun S.may_tell (P.program self.old.plan) begun (state_of session.old) self.old.rounds Stage.Ready
+            → IsRun S.may_tell (P.program self.old.plan) begun (state_of session.new) self.new.rounds self.new.stage }
+        ensures answer { (begun : StateOf S) → IsRun S.may_tell (P.program self.old.plan) begun (state_of session.old) self.old.rounds Stage.Ready
+            → IfOk result (AnswersRun S.may_tell (P.program self.old.plan) (P.text_of self.old.plan) begun (state_of session.new)) }
+    {
+        self.stage = Stage::Failed;
+        let mut wants = session.nothing_wanted()?;
+        match self
+            .plan
+            .execute(session.alloc(), session.memory(), &mut wants)?
+        {
+            Poll::Ready(text) => {
+                self.stage = Stage::Finished;
+                let rounds = self.rounds;
+                Ok(Next::Finished(Answer { text, rounds }))
+            }
+            Poll::Pending => {
+                let rounds = self.rounds.checked_add(1).ok_or(NoMemory)?;
+                let orders = session.cut(&wants)?;
+                self.rounds = rounds;
+                self.stage = Stage::Out;
+                Ok(Next::Round(orders))
+            }
+        }
+    }
+
+    /// Takes the replies to the round that is out, which receipts of a shelf show in any order, and stores them.
+    ///
+    /// After a refused growth the session is as it was: the round is lost.
+    pub fn take<S: Asks>(
+        &mut self,
+        session: &mut Session<S>,
+        shelf: &Shelf,
+        receipts: &[Receipt],
+    ) -> Result<(), NoMemory>
+        requires out { self.old.stage ≡ Stage.Out }
+        requires shelf { All (IsOn shelf.now) receipts.now }
+        requires round { AreReceived (may_at S.may_tell session.old.loaders) (orders_in (state_of session.old) (P.program self.old.plan)) (map shown receipts.now) }
+        ensures taken { OnOk result (state_of session.new ≡ received (state_of session.old) (map shown receipts.now)) }
+        ensures ordered { (replies : List ReplyOf)
+            → AreReplies (may_at S.may_tell session.old.loaders) (orders_in (state_of session.old) (P.program self.old.plan)) replies
+            → IsPermutation replies (map shown receipts.now) → OnOk result (state_of session.new ≡ received (state_of session.old) replies) }
+        ensures ready { OnOk result (self.new ≡ run_of self.old.plan self.old.rounds Stage.Ready) }
+        ensures lost { OnErr result (state_of session.new ≡ state_of session.old) }
+        ensures failed { OnErr result (self.new ≡ run_of self.old.plan self.old.rounds Stage.Failed) }
+        ensures run { (begun : StateOf S) → IsRun S.may_tell (P.program self.old.plan) begun (state_of session.old) self.old.rounds Stage.Out
+            → IsRun S.may_tell (P.program self.old.plan) begun (state_of session.new) self.new.rounds self.new.stage }
+    {
+        self.stage = Stage::Failed;
+        session.receive(shelf, receipts)?;
+        self.stage = Stage::Ready;
+        Ok(())
+    }
+}
