@@ -1,5 +1,5 @@
 -- Which texts and tables are a world, and why others are none.
-use Rattle.std.specs.Prelude.{◌≡◌, ◌≤◌, ◌⊎◌, ℕ, List, Option, Some, None, Result, Ok, Err}
+use Rattle.std.specs.Prelude.{◌≡◌, ◌≤◌, ◌⊎◌, ℕ, List, length, Option, Some, None, Result, Ok, Err}
 use Rattle.schema_syntax.specs.Tree.{Definition}
 use Rattle.schema_syntax.specs.declared.tree.Definition as rust
 use Rattle.gq_schema.specs.Types.{tree_of}
@@ -25,6 +25,11 @@ pub record WorldOf : Type 0 where
 abbrev pub IsLimit : Option ℕ → Type 0
 IsLimit None = Unit {0}
 IsLimit (Some n) = (1 ≤ n) × (n ≤ 65535)
+
+-- what holds of every world: the limit fits, and each loader of the bindings has its source
+pub record HasSources (w : WorldOf) : Type 0 where
+  pub fits : IsLimit w.limit
+  pub each : length w.sources ≡ length w.bindings.loaders
 
 -- the bindings that a text says over a schema, with no table given twice
 pub record IsRead (defs : List Definition) (text : List ℕ) (tables : List TableOf) (b : BindingsOf) : Type 0 where

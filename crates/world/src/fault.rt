@@ -64,6 +64,10 @@ impl WorldFault {
 }
 
 impl fmt::Display for WorldFault {
+    ghost use Rattle.std.specs.Prelude.{Some};
+
+    ghost output = { λ fault. Some (code_and_name fault) };
+
     fn fmt<W: fmt::Write>(&self, f: &mut fmt::Formatter<W>) -> fmt::Result {
         let text = self.code_and_name();
         write!(f, "{text}")

@@ -36,13 +36,15 @@ impl Model for World {
     ghost use Rattle.gq_parser.specs.contracts.tree.TypeRef as type_ref;
     ghost use Rattle.gq_parser.specs.contracts.tree.Literal as literal;
     ghost use Rattle.world.specs.Kept.{source_of};
-    ghost use Rattle.world.specs.Worlds.{WorldOf};
+    ghost use Rattle.world.specs.Worlds.{WorldOf, HasSources};
 
     ghost Value = { WorldOf };
 
     ghost coded = { Prim.hlevel (codes, type_ref.the_row.coded, literal.the_row.coded) };
 
     ghost view = { λ w. record { definitions = w.schema; bindings = w.bindings; limit = w.limit; sources = map source_of w.sources.items } };
+
+    ghost invariant = { λ w. HasSources (record { definitions = w.schema; bindings = w.bindings; limit = w.limit; sources = map source_of w.sources.items }) };
 }
 
 // A limit that may be set, if there is one.
@@ -103,6 +105,7 @@ impl World {
         tables: Vec<(String, Table)>,
         limit: Option<u32>,
     ) -> Result<World, WorldFault>
+        requires { IsLimit limit }
         ensures ok { IfOk result (λ w. IsWorldOver (tree_of schema) bindings.now (map table_of tables.items) w) }
         ensures limit { IfOk result (λ w. w.limit ≡ limit) }
         ensures err { IfErr result (IsRefusalOver (tree_of schema) bindings.now (map table_of tables.items)) }
@@ -134,14 +137,16 @@ impl World {
 
     /// At most how many keys one batch has, from 1 to [`MAX_LIMIT`]; no bound where there is none.
     pub fn limit(&self) -> Option<u32>
-        ensures { result ≡ self.now.limit }
+        ensures value { result ≡ self.now.limit }
+        ensures fits { IsLimit self.now.limit }
     {
         self.limit
     }
 
     /// How many loaders there are. They are numbered from 0 in the order of their lines.
     pub fn loaders(&self) -> usize
-        ensures { result ≡ length self.now.sources }
+        ensures sources { result ≡ length self.now.sources }
+        ensures bindings { result ≡ length self.now.bindings.loaders }
     {
         self.sources.len()
     }

@@ -4,7 +4,8 @@ use Rattle.std.proofs.lemmas.Result.{err_from_is_err_and}
 use Rattle.gq_schema.specs.Types.{tree_of}
 use Rattle.world.specs.Sources.{table_of, sheet_named, sources_for}
 use Rattle.world.specs.Worlds.{IsRead}
-use Rattle.world.proofs.Loaders.{sources_for-same}
+use Rattle.world.specs.Kept.{source_of}
+use Rattle.world.proofs.Loaders.{sources_for-same, sources_for-length}
 use Rattle.world.proofs.Worlds.{from-loaders}
 use Rattle.world.proofs.world.World.over.Goals as goal
 
@@ -24,3 +25,9 @@ returns-clause-ok c =
       read = record { accepts = c.in_ok-bindings.ensures.ok; once = c.in_ok-tables.ensures.once };
       answered = sym (sources_for-same _ (sheet_named tables) c.in_ok-tables.ensures.found c.in_ok-bindings.bindings.loaders) ∙ (ap (sources_for (get_by_text c.in_ok-tables.tables)) (sym c.loaders.ensures) ∙ c.in_ok-sources.ensures.ok);
     }
+
+pub invariant_of-result : goal.invariant_of-result
+invariant_of-result c = record {
+  fits = c.requires;
+  each = sources_for-length (get_by_text c.in_ok-tables.tables) c.in_ok-bindings.bindings.loaders (map source_of c.in_ok-sources.sources.items) (ap (sources_for (get_by_text c.in_ok-tables.tables)) (sym c.loaders.ensures) ∙ c.in_ok-sources.ensures.ok);
+}

@@ -1,0 +1,5 @@
+pub mod Direct
+pub mod Loading
+pub mod OneFault
+pub mod OneAnswer
+pub mod Requests

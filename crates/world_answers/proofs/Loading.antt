@@ -1,0 +1,55 @@
+-- The loaders of a world, one more at a time.
+use Rattle.std.proofs.Common.{◌≡◌, ◌<◌, ◌≤◌, ◌+◌, ℕ, zero, suc, List, [], ◌∷◌, ◌++◌, All, map, length, take, get_or, Option, refl, sym, ap, ◌∙◌, add-one, arith}
+use Rattle.std.proofs.lemmas.List.{length-map, get_or-map, take_all}
+use Rattle.std.proofs.lemmas.List.Elements.{All-nil, All-cons}
+use Rattle.csv_source.specs.Tables.{SourceOf}
+use Rattle.gq_schema.specs.BindingsTree as bindings
+use Rattle.load_queue.specs.Loaders.{LoaderOf}
+use Rattle.load_rounds.specs.Sessions.{SessionOf}
+use Rattle.world.specs.Worlds.{WorldOf}
+use Rattle.world_answers.specs.Sessions.{loader_over, loaders_over, session_over}
+
+module _ (limit : Option ℕ) where
+  pub take-over : (lines : List bindings.LoaderOf) (sources : List SourceOf) (n : ℕ) (d : bindings.LoaderOf) (e : SourceOf) → length sources ≡ length lines → n < length lines
+      → take (suc n) (loaders_over limit lines sources) ≡ take n (loaders_over limit lines sources) ++ loader_over limit (get_or lines n d).name (get_or sources n e) ∷ []
+  take-over [] sources n d e same lt = absurd (omega arith)
+  take-over (line ∷ lines) [] n d e same lt = absurd (cc same)
+  take-over (line ∷ lines) (source ∷ sources) zero d e same lt = refl
+  take-over (line ∷ lines) (source ∷ sources) (suc n) d e same lt =
+      let below : n < length lines = omega arith in
+      ap (λ ls. loader_over limit line.name source ∷ ls) (take-over lines sources n d e (cc same) below)
+
+  pub quiet-over : (lines : List bindings.LoaderOf) (sources : List SourceOf) → All (λ (l : LoaderOf SourceOf). l.log ≡ []) (loaders_over limit lines sources)
+  quiet-over [] sources = All-nil (λ (l : LoaderOf SourceOf). l.log ≡ [])
+  quiet-over (line ∷ lines) [] = All-nil (λ (l : LoaderOf SourceOf). l.log ≡ [])
+  quiet-over (line ∷ lines) (source ∷ sources) = All-cons (λ (l : LoaderOf SourceOf). l.log ≡ []) (loader_over limit line.name source) (loaders_over limit lines sources) refl (quiet-over lines sources)
+
+  pub length-over : (lines : List bindings.LoaderOf) (sources : List SourceOf) → length sources ≡ length lines → length (loaders_over limit lines sources) ≡ length lines
+  length-over [] sources e = refl
+  length-over (line ∷ lines) [] e = absurd (cc e)
+  length-over (line ∷ lines) (source ∷ sources) e = ap suc (length-over lines sources (cc e))
+
+  module _ {X : Type 0} (seen : X → bindings.LoaderOf) where
+    -- one loader more
+    pub built-more : (raw : List X) (item : X) (lines : List bindings.LoaderOf) (sources : List SourceOf) (n : ℕ) (d : SourceOf) (done new : List (LoaderOf SourceOf)) (l : LoaderOf SourceOf) (name : List ℕ) → map seen raw ≡ lines → length sources ≡ length lines → n < length raw
+        → item ≡ get_or raw n item → done ≡ take n (loaders_over limit lines sources) → name ≡ (seen item).name → l ≡ loader_over limit name (get_or sources n d) → new ≡ done ++ l ∷ [] → new ≡ take (n + 1) (loaders_over limit lines sources)
+    built-more raw item lines sources n d done new l name are same lt is built named made added =
+        let below : n < length lines = omega (arith, lt, ap length are, length-map raw seen) in
+        let line : get_or lines n (seen item) ≡ seen item = ap (λ ls. get_or ls n (seen item)) (sym are) ∙ get_or-map seen raw n item (seen item) lt ∙ ap seen (sym is) in
+        let whole : take (suc n) (loaders_over limit lines sources) ≡ take n (loaders_over limit lines sources) ++ loader_over limit (seen item).name (get_or sources n d) ∷ [] =
+        rw line at (take-over lines sources n (seen item) d same below) in
+        rw add-one (added ∙ ap (λ ls. ls ++ l ∷ []) built ∙ ap (λ x. take n (loaders_over limit lines sources) ++ x ∷ []) (made ∙ ap (λ q. loader_over limit q (get_or sources n d)) named) ∙ sym whole)
+
+    -- all of them
+    pub built-all : (raw : List X) (lines : List bindings.LoaderOf) (sources : List SourceOf) (n : ℕ) (done : List (LoaderOf SourceOf)) → map seen raw ≡ lines → length sources ≡ length lines → length raw ≤ n → done ≡ take n (loaders_over limit lines sources)
+        → done ≡ loaders_over limit lines sources
+    built-all raw lines sources n done are same ge built =
+        let enough : length (loaders_over limit lines sources) ≤ n = omega (arith, length-over lines sources same, ap length are, length-map raw seen) in
+        built ∙ take_all n (loaders_over limit lines sources) enough
+
+-- a session of a world has the loaders of its bindings
+pub enough : (w : WorldOf) (session : SessionOf SourceOf) (b : bindings.BindingsOf) → b ≡ w.bindings → length w.sources ≡ length w.bindings.loaders → session ≡ session_over w → length b.loaders ≤ length session.loaders
+enough w session b same each is =
+    let most : length session.loaders ≡ length w.bindings.loaders = ap (λ (s : SessionOf SourceOf). length s.loaders) is ∙ length-over w.limit w.bindings.loaders w.sources each in
+    let own : length b.loaders ≡ length w.bindings.loaders = ap (λ (x : bindings.BindingsOf). length x.loaders) same in
+    omega (arith, most, own)

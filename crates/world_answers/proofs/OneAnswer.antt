@@ -1,0 +1,199 @@
+-- A line has at most one answer.
+use Rattle.std.proofs.Common.{◌≡◌, ◌≢◌, ℕ, Bool, true, false, List, ◌++◌, Option, Some, None, codes, refl, sym, ap, subst, ◌∙◌, string_bytes}
+use Rattle.std.specs.Prelude.{Result, Ok, Err}
+use Rattle.gq_lexer.specs.declared.place.Place.{Place}
+use Rattle.gq_parser.specs.declared.fault.ParseFault.{ParseFault}
+use Rattle.gq_parser.specs.declared.fault.ParseFault.TheVariants as parse
+use Rattle.gq_parser.specs.Fault.{IsDocumentOf, IsFault, place_of_parse_fault}
+use Rattle.gq_parser.specs.Tree.{Operation, Fragment, Document}
+use Rattle.schema_syntax.specs.Tree.{Definition}
+use Rattle.gq_schema.specs.BindingsTree.{BindingsOf}
+use Rattle.gq_schema.specs.Types.{tree_of}
+use Rattle.variable_values.specs.Variables.{VariableOf}
+use Rattle.gq_check.specs.declared.fault.CheckFault.{CheckFault}
+use Rattle.gq_check.specs.declared.fault.CheckFault.TheVariants as check
+use Rattle.gq_check.specs.declared.fault.PrepareFault.{PrepareFault}
+use Rattle.gq_check.specs.declared.fault.PrepareFault.TheVariants as prepare
+use Rattle.gq_check.specs.Plans.{PlanOf}
+use Rattle.gq_check.specs.Prepared as prepared
+use Rattle.gq_check.specs.Texts.{section_of, title_of, check_message, check_place, prepare_message}
+use Rattle.gq_check.specs.Verdict.{FaultOf, Breaks, TooComplex, TooDeep, NotServed, IsVerdict, IsCheckFault, fault_of}
+use Rattle.execution.specs.Completion.{AnsweredOf}
+use Rattle.request_line.specs.Requests.{RequestOf, IsRequest}
+use Rattle.gq_resolve.specs.Answered.{answer_text}
+use Rattle.world.specs.declared.request.RequestFault.{RequestFault}
+use Rattle.world.specs.declared.request.RequestFault.TheVariants as fault
+use Rattle.world.specs.Requests.{parse_message, request_message, request_place, is_want_of_memory}
+use Rattle.world.specs.Worlds.{WorldOf}
+use Rattle.world_answers.specs.Answers.{values_of, IsPlanned, IsFaulty, IsExecuted, direct_execution, refusal_text, AnswersRequest, faulty, planned, IsAnswer, no_request, request}
+use Rattle.world_answers.proofs.OneFault.{one_fault, document_or_fault, one_document}
+
+same_value : {X : Type 0} (x y : X) → Some x ≡ Some y → x ≡ y
+same_value x y e = cc e
+
+abbrev Wanted : Type 0
+Wanted = Result prepared.PreparedOf prepared.FaultOf
+
+same_ok : (x y : prepared.PreparedOf) → ◌≡◌ {A = Wanted} (Ok x) (Ok y) → x ≡ y
+same_ok x y e = cc e
+
+same_err : (x y : prepared.FaultOf) → ◌≡◌ {A = Wanted} (Err x) (Err y) → x ≡ y
+same_err x y e = cc e
+
+ok_or_err : (x : prepared.PreparedOf) (e : prepared.FaultOf) → ◌≡◌ {A = Wanted} (Ok x) (Err e) → ⊥
+ok_or_err x e h = cc h
+
+-- ---- the text of a fault follows from what it says
+
+abbrev verdict_message : Option FaultOf → List ℕ
+verdict_message None = codes "out of memory"
+verdict_message (Some (Breaks r name p)) = section_of r ++ codes " " ++ title_of r ++ codes ": " ++ name
+verdict_message (Some TooComplex) = codes "too complex"
+verdict_message (Some (TooDeep p)) = codes "too many levels"
+verdict_message (Some (NotServed name p)) = codes "not served: " ++ name
+
+abbrev verdict_place : Option FaultOf → Option Place
+verdict_place None = None
+verdict_place (Some (Breaks r name p)) = Some p
+verdict_place (Some TooComplex) = None
+verdict_place (Some (TooDeep p)) = Some p
+verdict_place (Some (NotServed name p)) = Some p
+
+check-message : (e : CheckFault) → check_message e ≡ verdict_message (fault_of e)
+check-message (check.Rule r name p) = refl
+check-message check.TooComplex = refl
+check-message (check.TooDeep p) = refl
+check-message (check.NotServed name p) = refl
+check-message check.NoMemory = refl
+
+check-place : (e : CheckFault) → check_place e ≡ verdict_place (fault_of e)
+check-place (check.Rule r name p) = refl
+check-place check.TooComplex = refl
+check-place (check.TooDeep p) = refl
+check-place (check.NotServed name p) = refl
+check-place check.NoMemory = refl
+
+-- the verdict that is told
+check-verdict : (defs : List Definition) (d : Document) (e : CheckFault) → is_want_of_memory (fault.Check e) ≡ false → IsCheckFault (IsVerdict defs d) e → (v : FaultOf) × (fault_of e ≡ Some v) × IsVerdict defs d (Some v)
+check-verdict defs d (check.Rule r name p) some h = (Breaks r (string_bytes name) p, refl, h)
+check-verdict defs d check.TooComplex some h = (TooComplex, refl, h)
+check-verdict defs d (check.TooDeep p) some h = (TooDeep p, refl, h)
+check-verdict defs d (check.NotServed name p) some h = (NotServed (string_bytes name) p, refl, h)
+check-verdict defs d check.NoMemory some h = absurd (cc some)
+
+abbrev prepared_message : prepared.FaultOf → List ℕ
+prepared_message (prepared.no_such_operation name) = codes "no operation named " ++ name
+prepared_message prepared.operation_needed = codes "operation name needed"
+prepared_message prepared.variables_not_object = codes "variables must be an object"
+prepared_message (prepared.bad_variable name) = codes "bad value for variable $" ++ name
+
+-- what is told where a plan is wanted
+prepare-told : (want : Wanted) (e : PrepareFault) → is_want_of_memory (fault.Prepare e) ≡ false → prepared.IsPrepareFault want e → (f : prepared.FaultOf) × (want ≡ Err f) × (prepare_message e ≡ prepared_message f)
+prepare-told want (prepare.NoSuchOperation name) some h = (prepared.no_such_operation (string_bytes name), h, refl)
+prepare-told want prepare.OperationNeeded some h = (prepared.operation_needed, h, refl)
+prepare-told want prepare.VariablesNotObject some h = (prepared.variables_not_object, h, refl)
+prepare-told want (prepare.BadVariable name) some h = (prepared.bad_variable (string_bytes name), h, refl)
+prepare-told want prepare.NoMemory some h = absurd (cc some)
+
+parse-some : (e : ParseFault) → is_want_of_memory (fault.Parse e) ≡ false → e ≢ parse.NoMemory
+parse-some (parse.Lex f) some h = cc h
+parse-some (parse.Unexpected p) some h = cc h
+parse-some (parse.UnexpectedEnd p) some h = cc h
+parse-some (parse.TooDeep p) some h = cc h
+parse-some parse.NoMemory some h = absurd (cc some)
+
+-- ---- one fault
+
+-- two faults are told alike
+pub record Alike (f g : RequestFault) : Type 0 where
+  pub message : request_message f ≡ request_message g
+  pub place : request_place f ≡ request_place g
+
+-- a document has one verdict
+abbrev pub OneVerdict : Type 0
+OneVerdict = (ds : List Definition) (d : Document) (v u : Option FaultOf) → IsVerdict ds d v → IsVerdict ds d u → v ≡ u
+
+module _ (verdict : OneVerdict) (w : WorldOf) (r : RequestOf) where
+  abbrev defs : List Definition
+  defs = tree_of w.definitions
+
+  abbrev wanted : Document → Wanted
+  wanted d = prepared.prepared defs d.operations r.operation_name (values_of r.variables)
+
+  -- a query that is a document has no fault of another document's verdict
+  valid-or-check : (d e : Document) (f : CheckFault) → IsDocumentOf r.query d → IsDocumentOf r.query e → IsVerdict defs d None → is_want_of_memory (fault.Check f) ≡ false → IsCheckFault (IsVerdict defs e) f → ⊥
+  valid-or-check d e f h k valid some told =
+      let v = check-verdict defs e f some told in
+      let first : IsVerdict defs d (Some v.0) = subst (λ z. IsVerdict defs z (Some v.0)) (one_document r.query e d k h) v.2 in
+      none-some v.0 (verdict defs d None (Some v.0) valid first)
+    where
+      none-some : (x : FaultOf) → None ≡ Some x → ⊥
+      none-some x e = cc e
+
+  faults-alike : (f g : RequestFault) → IsFaulty w r f → IsFaulty w r g → Alike f g
+  faults-alike (fault.Parse e) (fault.Parse d) h k =
+      let same : e ≡ d = one_fault r.query e d (parse-some e h.told) (parse-some d k.told) h.faulty k.faulty in
+      record { message = ap parse_message same; place = ap place_of_parse_fault same }
+  faults-alike (fault.Parse e) (fault.Check d) h k = absurd (document_or_fault r.query k.faulty.document e (parse-some e h.told) k.faulty.says h.faulty)
+  faults-alike (fault.Parse e) (fault.Prepare d) h k = absurd (document_or_fault r.query k.faulty.document e (parse-some e h.told) k.faulty.says h.faulty)
+  faults-alike (fault.Check e) (fault.Parse d) h k = absurd (document_or_fault r.query h.faulty.document d (parse-some d k.told) h.faulty.says k.faulty)
+  faults-alike (fault.Check e) (fault.Check d) h k =
+      let v = check-verdict defs h.faulty.document e h.told h.faulty.fault in
+      let u = check-verdict defs k.faulty.document d k.told k.faulty.fault in
+      let other : IsVerdict defs h.faulty.document (Some u.0) = subst (λ z. IsVerdict defs z (Some u.0)) (one_document r.query k.faulty.document h.faulty.document k.faulty.says h.faulty.says) u.2 in
+      let same : fault_of e ≡ fault_of d = v.1 ∙ verdict defs h.faulty.document (Some v.0) (Some u.0) v.2 other ∙ sym u.1 in
+      record {
+        message = check-message e ∙ ap verdict_message same ∙ sym (check-message d);
+        place = check-place e ∙ ap verdict_place same ∙ sym (check-place d);
+      }
+  faults-alike (fault.Check e) (fault.Prepare d) h k = absurd (valid-or-check k.faulty.document h.faulty.document e k.faulty.says h.faulty.says k.faulty.valid h.told h.faulty.fault)
+  faults-alike (fault.Prepare e) (fault.Parse d) h k = absurd (document_or_fault r.query h.faulty.document d (parse-some d k.told) h.faulty.says k.faulty)
+  faults-alike (fault.Prepare e) (fault.Check d) h k = absurd (valid-or-check h.faulty.document k.faulty.document d h.faulty.says k.faulty.says h.faulty.valid k.told k.faulty.fault)
+  faults-alike (fault.Prepare e) (fault.Prepare d) h k =
+      let v = prepare-told (wanted h.faulty.document) e h.told h.faulty.fault in
+      let u = prepare-told (wanted k.faulty.document) d k.told k.faulty.fault in
+      let other : wanted h.faulty.document ≡ Err u.0 = ap wanted (one_document r.query h.faulty.document k.faulty.document h.faulty.says k.faulty.says) ∙ u.1 in
+      record { message = v.2 ∙ ap prepared_message (same_err v.0 u.0 (sym v.1 ∙ other)) ∙ sym u.2; place = refl }
+
+  -- ---- one plan
+
+  faulty-or-planned : (f : RequestFault) (plan : PlanOf) → IsFaulty w r f → IsPlanned w r plan → ⊥
+  faulty-or-planned (fault.Parse e) plan h k = document_or_fault r.query k.planned.document e (parse-some e h.told) k.planned.says h.faulty
+  faulty-or-planned (fault.Check e) plan h k = valid-or-check k.planned.document h.faulty.document e k.planned.says h.faulty.says k.planned.valid h.told h.faulty.fault
+  faulty-or-planned (fault.Prepare e) plan h k =
+      let v = prepare-told (wanted h.faulty.document) e h.told h.faulty.fault in
+      ok_or_err (record { operation = plan.operation; variables = plan.variables }) v.0 (sym k.planned.prepared ∙ ap wanted (one_document r.query k.planned.document h.faulty.document k.planned.says h.faulty.says) ∙ v.1)
+
+  one-plan : (p q : PlanOf) → IsPlanned w r p → IsPlanned w r q → p ≡ q
+  one-plan p q h k =
+      let same : h.planned.document ≡ k.planned.document = one_document r.query h.planned.document k.planned.document h.planned.says k.planned.says in
+      let one : prepared.PreparedOf = record { operation = p.operation; variables = p.variables } in
+      let other : prepared.PreparedOf = record { operation = q.operation; variables = q.variables } in
+      let chosen : one ≡ other = same_ok one other (sym h.planned.prepared ∙ ap wanted same ∙ k.planned.prepared) in
+      let make : List Definition → BindingsOf → prepared.PreparedOf → List Fragment → PlanOf = λ ds bs o fs. record { definitions = ds; bindings = bs; operation = o.operation; fragments = fs; variables = o.variables } in
+      ap (λ ds. make ds p.bindings one p.fragments) (h.definitions ∙ sym k.definitions)
+      ∙ ap (λ bs. make q.definitions bs one p.fragments) (h.bindings ∙ sym k.bindings)
+      ∙ ap (λ o. make q.definitions q.bindings o p.fragments) chosen
+      ∙ ap (λ fs. make q.definitions q.bindings other fs) (h.planned.fragments ∙ ap (λ (d : Document). d.fragments) same ∙ sym k.planned.fragments)
+
+  -- ---- one text
+
+  executed-one : (p : PlanOf) (text other : List ℕ) → IsExecuted w p text → IsExecuted w p other → text ≡ other
+  executed-one p text other h k = h.told ∙ ap answer_text (same_value h.answered k.answered (sym h.executed ∙ k.executed)) ∙ sym k.told
+
+  answers-one : (text other : List ℕ) → AnswersRequest w r text → AnswersRequest w r other → text ≡ other
+  answers-one text other (faulty {fault = f} h e) (faulty {fault = g} k d) =
+      let same = faults-alike f g h k in
+      e ∙ ap (λ m. refusal_text m (request_place f)) same.message ∙ ap (refusal_text (request_message g)) same.place ∙ sym d
+  answers-one text other (faulty {fault = f} h e) (planned {plan = q} k d) = absurd (faulty-or-planned f q h k)
+  answers-one text other (planned {plan = p} h e) (faulty {fault = g} k d) = absurd (faulty-or-planned g p k h)
+  answers-one text other (planned {plan = p} h e) (planned {plan = q} k d) = executed-one p text other e (subst (λ z. IsExecuted w z other) (one-plan q p k h) d)
+
+one-request : (line : List ℕ) (p q : RequestOf) → IsRequest line p → IsRequest line q → p ≡ q
+one-request line p q h k = same_value p q (sym h.members ∙ k.members)
+
+pub one_answer : OneVerdict → (w : WorldOf) (line text other : List ℕ) → IsAnswer w line text → IsAnswer w line other → text ≡ other
+one_answer verdict w line text other (no_request h e) (no_request k d) = e ∙ sym d
+one_answer verdict w line text other (no_request h e) (request {r = q} k d) = absurd (h q k)
+one_answer verdict w line text other (request {r = q} h e) (no_request k d) = absurd (k q h)
+one_answer verdict w line text other (request {r = p} h e) (request {r = q} k d) = answers-one verdict w p text other e (subst (λ z. AnswersRequest w z other) (one-request line q p k h) d)

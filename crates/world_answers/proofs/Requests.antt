@@ -1,0 +1,38 @@
+-- What a request asks, from its parts.
+use Rattle.std.proofs.Common.{◌≡◌, ℕ, false, List, Option, Some, None, refl, sym, ap, subst, ◌∙◌}
+use Rattle.std.specs.Borrow.{Bor}
+use Rattle.std.specs.Option.{option_map, option_and_then, unwrap_or}
+use Rattle.std.specs.Prelude.{IsUtf8}
+use Rattle.serde_json.specs.Data.{Data, null}
+use Rattle.serde_json.specs.Read.{read}
+use Rattle.serde_json.specs.View.{view, view_step}
+use Rattle.serde_json.specs.declared.value.Value.{Value, fold-roll-Value}
+use Rattle.serde_json.specs.declared.value.Value.TheOpen.{Value-F}
+use Rattle.serde_json.specs.declared.value.Value.TheVariants as value
+use Rattle.gq_schema.specs.Types.{tree_of}
+use Rattle.gq_check.specs.Plans.{PlanParts, plan_of}
+use Rattle.request_line.specs.Requests.{RequestOf, IsRequest, asked}
+use Rattle.world.specs.declared.request.RequestFault.{RequestFault}
+use Rattle.world.specs.Requests.{IsPlanOf, IsRequestFault, is_want_of_memory, request_message, request_place}
+use Rattle.world.specs.Worlds.{WorldOf}
+use Rattle.world_answers.specs.Answers.{values_of, IsExecuted, refusal_text, AnswersRequest, faulty, planned}
+
+pub null-view : view value.Null ≡ null
+null-view = ap view (sym value.rolls-Null) ∙ fold-roll-Value Data view_step Value-F.Null
+
+pub values-are : (variables : Option (Bor Value)) (none chosen : Bor Value) → chosen ≡ unwrap_or variables none → view none.now ≡ null → view chosen.now ≡ values_of (option_map (λ v. view v.now) variables)
+values-are None none chosen is e = ap (λ v. view v.now) is ∙ e
+values-are (Some v) none chosen is e = ap (λ v. view v.now) is
+
+pub planned-text : (w : WorldOf) (r : RequestOf) (plan : PlanParts) (given : Data) (text : List ℕ) → given ≡ values_of r.variables → plan.definitions ≡ w.definitions → plan.bindings ≡ w.bindings
+    → IsPlanOf (tree_of w.definitions) r.query r.operation_name given (plan_of plan) → IsExecuted w (plan_of plan) text → AnswersRequest w r text
+planned-text w r plan given text v d b is x =
+    planned (record { definitions = ap tree_of d; bindings = b; planned = subst (λ z. IsPlanOf (tree_of w.definitions) r.query r.operation_name z (plan_of plan)) v is }) x
+
+pub faulty-text : (w : WorldOf) (r : RequestOf) (fault : RequestFault) (given : Data) (text : List ℕ) → given ≡ values_of r.variables → IsRequestFault (tree_of w.definitions) r.query r.operation_name given fault
+    → is_want_of_memory fault ≡ false → text ≡ refusal_text (request_message fault) (request_place fault) → AnswersRequest w r text
+faulty-text w r fault given text v is some told =
+    faulty (record { told = some; faulty = subst (λ z. IsRequestFault (tree_of w.definitions) r.query r.operation_name z fault) v is }) told
+
+pub request-read : (line : List ℕ) (d : Data) (r : RequestOf) → IsUtf8 line → read line ≡ Some d → Some r ≡ asked d → IsRequest line r
+request-read line d r text reads asks = record { text = text; members = ap (option_and_then asked) reads ∙ sym asks }

@@ -1,0 +1,7 @@
+use Rattle.world_answers.proofs.serving.serve.Goals as goal
+
+pub returns-in-Ok-clause-ok : goal.returns-in-Ok-clause-ok
+returns-in-Ok-clause-ok g c = rw c.new.ensures at c.in-Ok.ensures.ok
+
+pub returns-in-Err-clause-err : goal.returns-in-Err-clause-err
+returns-in-Err-clause-err g c = rw c.new.ensures at c.in-Err.ensures.err

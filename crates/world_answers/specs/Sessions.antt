@@ -1,0 +1,21 @@
+-- The session of a world.
+use Rattle.std.specs.Prelude.{ℕ, List, [], ◌∷◌, Option}
+use Rattle.gq_schema.specs.BindingsTree as bindings
+use Rattle.csv_source.specs.Tables.{SourceOf}
+use Rattle.load_queue.specs.Loaders.{LoaderOf}
+use Rattle.load_rounds.specs.Sessions.{SessionOf}
+use Rattle.world.specs.Worlds.{WorldOf}
+
+-- the loader of a name over its source: it compares keys as the source does, and has asked nothing
+abbrev pub loader_over : Option ℕ → List ℕ → SourceOf → LoaderOf SourceOf
+loader_over limit name source = record { name = name; source = source; mode = source.mode; limit = limit; log = [] }
+
+-- the loaders of lines over their sources, in order
+abbrev pub loaders_over : Option ℕ → List bindings.LoaderOf → List SourceOf → List (LoaderOf SourceOf)
+loaders_over limit [] sources = []
+loaders_over limit (line ∷ lines) [] = []
+loaders_over limit (line ∷ lines) (source ∷ sources) = loader_over limit line.name source ∷ loaders_over limit lines sources
+
+-- the session of a world: the loaders of its bindings over its sources, and nothing is known
+abbrev pub session_over : WorldOf → SessionOf SourceOf
+session_over w = record { loaders = loaders_over w.limit w.bindings.loaders w.sources; pairs = []; rounds = 0 }

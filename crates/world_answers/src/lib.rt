@@ -1,0 +1,17 @@
+//! The answers of request lines over a world.
+//!
+//! The layer above may rely on this: [`serve`] writes to each line of its input the one text that answers it over a
+//! [`World`](world::World). The text is a refusal, or that of direct execution, where each load is answered at once by the
+//! rows of its key (`specs/Answers.antt`): no memory, round, batch or limit changes it.
+//! [`Sessions`] gives the session of a world, of which each line has its own.
+#![tactic(auto)]
+
+mod answers;
+mod law;
+mod serving;
+mod sessions;
+
+pub use answers::LineAnswers;
+pub use law::one_answer;
+pub use serving::serve;
+pub use sessions::Sessions;

@@ -1,0 +1,62 @@
+//! Request lines over a world, answered one after another.
+
+ghost use Rattle.std.specs.Prelude.{◌≡◌, ℕ, List, ◌<◌, ◌≤◌, ⊤, OnOk, IfOk, IfErr};
+ghost use Rattle.std.specs.Io.KnownBytes.{Appends, Consumes, IsAtEnd};
+ghost use Rattle.line_serving.specs.Devices.{bound, counted, device_of, faults_of, calls_of, given_of};
+ghost use Rattle.line_serving.specs.Output.{IsCut};
+ghost use Rattle.line_serving.specs.Serving.{AtFault, IsAnswered, Fails, faults_at};
+ghost use Rattle.world_answers.specs.Answers.{IsAnswer};
+
+use crate::answers::LineAnswers;
+use line_serving::{Counted, ServeFault, serve as serve_lines};
+use std::alloc::Global;
+use std::io::{Read, Write};
+use world::World;
+
+/// Answers each request line of the reader by a line to the writer, and says how many there were. A line ends at a line feed
+/// or at the end of the input; a last line feed begins no further line. The writer is flushed once, at the end, after a fault
+/// of the reader, a line that is too long and want of memory too.
+///
+/// # Errors
+///
+/// `LineTooLong` for a line of more than 4,194,304 bytes, `ReadFault`, `WriteFault` and `NoMemory`. How far the reader was
+/// read then isn't said. Where the writer fails after another fault, that is `WriteFault`.
+pub fn serve<R: Read, W: Write>(
+    alloc: Global,
+    world: &World,
+    reader: &mut Counted<R>,
+    writer: &mut Counted<W>,
+) -> Result<u64, ServeFault>
+    // All of the input was read, and what was written is the answer of each of its lines over the world, in order.
+    ensures ok { IfOk result (λ n. (text : List ℕ) × Consumes (R.remaining (device_of reader.old)) (R.remaining (device_of reader.new)) text
+        × IsAtEnd (R.remaining (device_of reader.new))
+        × IsAnswered (IsAnswer world.now) text n (Appends (W.contents (device_of writer.old)) (W.contents (device_of writer.new)))) }
+
+    // After a fault the answers of the lines before it were written, or a front of them where the writer failed.
+    ensures err { IfErr result (λ fault. (text : List ℕ) × Consumes (R.remaining (device_of reader.old)) (R.remaining (device_of reader.new)) text
+        × Fails (IsAnswer world.now) text
+        (Appends (W.contents (device_of writer.old)) (W.contents (device_of writer.new)))
+        (IsCut (W.contents (device_of writer.old)) (W.contents (device_of writer.new)))
+        (R.remaining (device_of reader.new))
+        fault) }
+
+    // The writer's fault comes exactly where the writer counted one.
+    ensures written { faults_of writer.new ≡ faults_at result ServeFault.WriteFault (faults_of writer.old) }
+
+    // The reader's fault comes only where the reader counted one, and it counts no other.
+    ensures read { OnOk result (faults_of reader.new ≡ faults_of reader.old) }
+    ensures read_fault { IfErr result (λ fault. AtFault fault
+        (faults_of reader.new ≡ faults_of reader.old)
+        (faults_of reader.new ≡ counted (faults_of reader.old))
+        (⊤)
+        (faults_of reader.new ≡ faults_of reader.old)) }
+
+    // Past a bound of the reader no input is served to its end.
+    ensures bounded { OnOk result ((calls_of reader.new ≤ bound) × (given_of reader.new < bound)) }
+    ensures grown { (calls_of reader.old ≤ calls_of reader.new) × (given_of reader.old ≤ given_of reader.new) }
+{
+    match serve_lines(alloc, &LineAnswers::new(world), reader, writer) {
+        Ok(count) => Ok(count),
+        Err(fault) => Err(fault),
+    }
+}
