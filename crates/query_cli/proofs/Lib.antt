@@ -1,7 +1,1 @@
-pub mod Known
-pub mod Lines
-pub mod Names
-pub mod Answering
-pub mod Runs
-pub mod OneFault
-pub mod OneAnswer
+pub mod Written

@@ -1,35 +1,28 @@
-//! Answers the first line of standard input, a request, by one line on standard output.
+//! The program: it answers GraphQL requests over tables, a request line by an answer line.
 //!
-//! A request is a JSON object with a string `query`, which asks for a user of a built-in table. The exit status is 0; 4 where
-//! the line is too long or standard input or output fails, and 5 where memory is refused, with one line on standard error.
+//! Without words it serves the built-in sample world from standard input; with words it serves the files that they name. What
+//! it wrote is the output of the lines that it read (`specs/Runs.antt`), and how it ends is a [`Stop`]: one line on standard
+//! error at most, and the exit status.
 #![tactic(auto)]
 
-mod answer;
-mod data;
-mod fault;
-mod form;
-mod input;
-mod law;
-mod output;
-mod request;
-mod rules;
 mod run;
-mod world;
 
-use run::run;
+use command_line::Stop;
+use line_serving::Counted;
+use run::{program_words, run};
 use std::io;
 use std::process::ExitCode;
 
-#[cfg(test)]
-mod tests;
-
 fn main(rt: HostRuntime) -> ExitCode {
-    match run(rt.alloc(), &mut rt.reader(), &mut io::writer(&rt)) {
-        Ok(()) => ExitCode::from(0),
-        Err(fault) => {
-            let line = fault.line();
-            let _ = eprintln!(rt; "{line}");
-            ExitCode::from(fault.status())
-        }
+    let mut input = Counted::new(rt.reader());
+    let mut output = Counted::new(io::writer(&rt));
+    let stop = match program_words(&rt) {
+        Ok(words) => run(&rt, &words, &mut input, &mut output),
+        Err(stop) => stop,
+    };
+    let line = stop.line();
+    if !line.is_empty() {
+        let _ = eprintln!(rt; "{line}");
     }
+    ExitCode::from(stop.status())
 }

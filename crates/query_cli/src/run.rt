@@ -1,67 +1,137 @@
 //! A run of the program.
 
-ghost use Rattle.std.specs.Prelude.{◌≡◌, ◌++◌, ◌∷◌, [], ℕ, List, Some, IfOk, string_bytes, vec_len};
-ghost use Rattle.query_cli.specs.IsAnswer.{IsAnswer};
-ghost use Rattle.query_cli.specs.Line.{line_feed};
-ghost use Rattle.query_cli.specs.Run.{IsAnswered, IsRun};
+ghost use Rattle.std.specs.Prelude.{[], ◌∷◌, ◌++◌, map, IfErr, OnOk, OnErr, string_bytes};
+ghost use Rattle.std.specs.Io.KnownBytes.{Appends};
+ghost use Rattle.line_serving.specs.Devices.{device_of};
+ghost use Rattle.line_serving.specs.Lines.{line_feed};
+ghost use Rattle.line_serving.specs.Output.{IsCut};
+ghost use Rattle.query_cli.specs.Runs.{IsServed, IsShown, IsSampleRun, IsFilesRun, IsRun, IsWordless};
 
-use crate::answer::answer_line;
-use crate::fault::Fault;
-use crate::input::read_line;
-use crate::output::write_out;
-use load_memory::NoMemory;
+use command_line::{Stop, Words};
+use line_serving::{Counted, DeviceFault, ServeFault};
 use std::alloc::Global;
-use std::io::{Read, Write};
+use std::env;
+use std::io::{ErrorKind, Read, Write};
+use std::rt::{Env, Files};
+use world::World;
+use world_answers::serve;
+use world_files::{open_requests, open_world, sample_world};
 
-/// How many bytes are read at a time.
-const BLOCK: usize = 65_536;
+/// What `clap` says of words that are no text.
+const NOT_TEXT: &str = "error: invalid UTF-8 was detected in one or more arguments";
 
-/// A block to read into.
-fn new_block(alloc: Global) -> Result<Vec<u8>, NoMemory>
-    ensures { IfOk result (λ block. vec_len block ≡ 65536) }
-{
-    Ok(vec![in alloc; 0u8; BLOCK]?)
-}
-
-/// The answer of a line, with a line feed.
-fn answer_whole(alloc: Global, line: &[u8]) -> Result<String, NoMemory>
-    ensures { IfOk result (λ text. (answer : List ℕ) × IsAnswer line.now answer × (string_bytes text ≡ answer ++ line_feed ∷ [])) }
-{
-    let mut text = answer_line(alloc, line)?;
-    text.push_str("\n")?;
-    Ok(text)
-}
-
-/// Writes the answer of a line.
-fn write_answer<W: Write>(alloc: Global, line: &[u8], writer: &mut W) -> Result<(), Fault>
-    ensures { IsAnswered line.now (W.contents writer.old) (W.contents writer.new) result }
-{
-    let Ok(text) = answer_whole(alloc, line) else {
-        return Err(Fault::NoMemory);
-    };
-    match write_out(writer, text.as_bytes()) {
-        Ok(()) => Ok(()),
-        Err(_) => Err(Fault::WriteFault),
-    }
-}
-
-/// Answers the first line of an input. An input without any byte has no line, and nothing is written for it.
+/// The words after the program's name.
 ///
 /// # Errors
 ///
-/// After `WriteFault` a front of the answer was written, after any other fault nothing. How far the input was read is not
-/// said.
-pub fn run<R: Read, W: Write>(alloc: Global, reader: &mut R, writer: &mut W) -> Result<(), Fault>
-    // This speaks of readers that tell their bytes.
-    ensures { (input : List ℕ) → R.remaining reader.old ≡ Some input
-        → IsRun input (W.contents writer.old) (W.contents writer.new) result }
+/// `Command` where one of them is no UTF-8, and want of memory.
+pub fn program_words<R: Env + AllocGlobal>(rt: &R) -> Result<Vec<String>, Stop>
+    ensures { IfErr result IsWordless }
 {
-    let Ok(mut block) = new_block(alloc) else {
-        return Err(Fault::NoMemory);
+    let words = match env::args(rt) {
+        Ok(words) => words,
+        Err(error) if error.kind() == ErrorKind::OutOfMemory => {
+            return Err(Stop::Serve(ServeFault::NoMemory));
+        }
+        Err(_) => return Err(Stop::Command(String::from_str(rt.alloc(), NOT_TEXT)?)),
     };
-    match read_line(alloc, reader, &mut block) {
-        Ok(None) => Ok(()),
-        Ok(Some(line)) => write_answer(alloc, &line, writer),
+    Ok(words.skip(1).collect(rt.alloc())?)
+}
+
+/// Serves the lines of a reader over a world.
+fn serve_world<R: Read, W: Write>(
+    alloc: Global,
+    world: &World,
+    reader: &mut Counted<R>,
+    writer: &mut Counted<W>,
+) -> Stop
+    ensures { IsServed world.now (R.remaining (device_of reader.old)) (R.remaining (device_of reader.new))
+        (W.contents (device_of writer.old)) (W.contents (device_of writer.new)) result }
+{
+    match serve(alloc, world, reader, writer) {
+        Ok(_) => Stop::Served,
+        Err(fault) => Stop::Serve(fault),
+    }
+}
+
+/// Serves the lines of a reader over the sample world.
+fn run_sample<R: Read, W: Write>(
+    alloc: Global,
+    reader: &mut Counted<R>,
+    writer: &mut Counted<W>,
+) -> Stop
+    ensures { IsSampleRun (R.remaining (device_of reader.old)) (R.remaining (device_of reader.new))
+        (W.contents (device_of writer.old)) (W.contents (device_of writer.new)) result }
+{
+    match sample_world(alloc) {
+        Ok(world) => serve_world(alloc, &world, reader, writer),
+        Err(stop) => stop,
+    }
+}
+
+/// Serves the request lines of a file over the world of the other files.
+fn run_files<R: Files + AllocGlobal, W: Write>(
+    rt: &R,
+    words: &Words,
+    writer: &mut Counted<W>,
+) -> Stop
+    ensures { IsFilesRun words.now (W.contents (device_of writer.old)) (W.contents (device_of writer.new)) result }
+{
+    let world = match open_world(rt, words) {
+        Ok(world) => world,
+        Err(stop) => return stop,
+    };
+    match open_requests(rt, words) {
+        Ok(file) => serve_world(rt.alloc(), &world, &mut Counted::new(file), writer),
+        Err(stop) => stop,
+    }
+}
+
+// Writes a text and a line feed, and flushes.
+#[tactic(auto, using(crate::proofs::Written::using_written))]
+fn write_line<W: Write>(writer: &mut Counted<W>, text: &str) -> Result<(), DeviceFault>
+    ensures ok { OnOk result (Appends (W.contents (device_of writer.old)) (W.contents (device_of writer.new)) (text.now ++ line_feed ∷ [])) }
+    ensures err { OnErr result (IsCut (W.contents (device_of writer.old)) (W.contents (device_of writer.new)) (text.now ++ line_feed ∷ [])) }
+{
+    match writer.write_whole(text.as_bytes()) {
+        Ok(()) => match writer.write_whole(b"\n") {
+            Ok(()) => match writer.flush() {
+                Ok(()) => Ok(()),
+                Err(fault) => Err(fault),
+            },
+            Err(fault) => Err(fault),
+        },
         Err(fault) => Err(fault),
+    }
+}
+
+/// Writes help.
+fn show<W: Write>(writer: &mut Counted<W>, text: String) -> Stop
+    ensures { IsShown (string_bytes text) (W.contents (device_of writer.old)) (W.contents (device_of writer.new)) result }
+{
+    match write_line(writer, text.as_str()) {
+        Ok(()) => Stop::Help(text),
+        Err(_) => Stop::Serve(ServeFault::WriteFault),
+    }
+}
+
+/// A run of the words after the program's name. Without any it serves the sample world from the reader; else it serves the
+/// files that the words name, and reads nothing of the reader. Help is written to the writer.
+pub fn run<R: Files + AllocGlobal, I: Read, W: Write>(
+    rt: &R,
+    words: &[String],
+    reader: &mut Counted<I>,
+    writer: &mut Counted<W>,
+) -> Stop
+    ensures { IsRun (map string_bytes words.now) (I.remaining (device_of reader.old)) (I.remaining (device_of reader.new))
+        (W.contents (device_of writer.old)) (W.contents (device_of writer.new)) result }
+{
+    if words.is_empty() {
+        return run_sample(rt.alloc(), reader, writer);
+    }
+    match Words::read(rt.alloc(), words) {
+        Ok(words) => run_files(rt, &words, writer),
+        Err(Stop::Help(text)) => show(writer, text),
+        Err(stop) => stop,
     }
 }

@@ -1,0 +1,83 @@
+-- What a run of the program writes, and how it ends.
+use Rattle.std.specs.Prelude.{◌≡◌, ◌⊎◌, ℕ, List, [], ◌∷◌, ◌++◌, Option, None, codes, string_bytes}
+use Rattle.std.specs.Io.KnownBytes.{Appends, Keeps, Consumes, IsAtEnd}
+use Rattle.line_serving.specs.declared.fault.ServeFault.TheVariants as serve
+use Rattle.line_serving.specs.Lines.{line_feed}
+use Rattle.line_serving.specs.Output.{IsCut}
+use Rattle.line_serving.specs.Serving.{IsAnswered, Fails}
+use Rattle.command_line.specs.declared.stop.Stop.{Stop}
+use Rattle.command_line.specs.declared.stop.Stop.TheVariants as stop
+use Rattle.command_line.specs.declared.words.Words.{Words}
+use Rattle.command_line.specs.Words.{IsRead, IsRefused}
+use Rattle.world.specs.Sources.{TableOf}
+use Rattle.world.specs.Worlds.{WorldOf, IsWorld}
+use Rattle.world_files.specs.Opening.{IsUnmade}
+use Rattle.world_answers.specs.Answers.{IsAnswer}
+
+-- The lines of a reader were served over a world. All of the input was read, and what was written is the output of its lines; or
+-- serving stopped at a fault.
+abbrev pub IsServed : WorldOf → Option (List ℕ) → Option (List ℕ) → Option (List ℕ) → Option (List ℕ) → Stop → Type 0
+IsServed world unread rest old new stop.Served = (text : List ℕ) × (lines : ℕ) × Consumes unread rest text × IsAtEnd rest
+    × IsAnswered (IsAnswer world) text lines (Appends old new)
+IsServed world unread rest old new (stop.Serve fault) = (text : List ℕ) × Consumes unread rest text
+    × Fails (IsAnswer world) text (Appends old new) (IsCut old new) rest fault
+IsServed world unread rest old new (stop.Help text) = ⊥
+IsServed world unread rest old new (stop.Command text) = ⊥
+IsServed world unread rest old new (stop.World fault) = ⊥
+IsServed world unread rest old new (stop.Table fault) = ⊥
+IsServed world unread rest old new stop.File = ⊥
+
+-- the world of texts and tables that were read
+abbrev pub IsWorldOfSome : Option ℕ → WorldOf → Type 0
+IsWorldOfSome max world = (schema : List ℕ) × (bindings : List ℕ) × (tables : List TableOf) × IsWorld schema bindings tables max world
+
+-- no world or no request lines were to be had, and nothing was written
+pub record IsUnserved (max : Option ℕ) (old new : Option (List ℕ)) (end : Stop) : Type 0 where
+  pub unmade : IsUnmade max end
+  pub kept : Keeps old new
+
+-- the lines of the reader were served over a world without a limit, or there was no world and nothing was read
+abbrev pub IsSampleRun : Option (List ℕ) → Option (List ℕ) → Option (List ℕ) → Option (List ℕ) → Stop → Type 0
+IsSampleRun unread rest old new end = ((world : WorldOf) × IsWorldOfSome None world × IsServed world unread rest old new end)
+    ⊎ (Keeps unread rest × IsUnserved None old new end)
+
+-- the request lines of a file were served over the world of the other files; what the files hold isn't known
+abbrev pub IsFilesRun : Words → Option (List ℕ) → Option (List ℕ) → Stop → Type 0
+IsFilesRun words old new end = ((world : WorldOf) × (unread : Option (List ℕ)) × (rest : Option (List ℕ)) × IsWorldOfSome words.max_batch world
+    × IsServed world unread rest old new end)
+    ⊎ IsUnserved words.max_batch old new end
+
+-- the help was written with a line feed, or a front of it went out
+abbrev pub IsShown : List ℕ → Option (List ℕ) → Option (List ℕ) → Stop → Type 0
+IsShown help old new (stop.Help text) = (string_bytes text ≡ help) × Appends old new (help ++ line_feed ∷ [])
+IsShown help old new (stop.Serve fault) = (fault ≡ serve.WriteFault) × IsCut old new (help ++ line_feed ∷ [])
+IsShown help old new stop.Served = ⊥
+IsShown help old new (stop.Command text) = ⊥
+IsShown help old new (stop.World fault) = ⊥
+IsShown help old new (stop.Table fault) = ⊥
+IsShown help old new stop.File = ⊥
+
+-- words that are refused end the run, and help is shown
+abbrev pub IsTold : Stop → Option (List ℕ) → Option (List ℕ) → Stop → Type 0
+IsTold (stop.Help text) old new end = IsShown (string_bytes text) old new end
+IsTold refusal old new end = (end ≡ refusal) × Keeps old new
+
+-- a run of words: of the files that they name, where they are read, or else of what is said of them
+abbrev pub IsWordsRun : List (List ℕ) → Option (List ℕ) → Option (List ℕ) → Stop → Type 0
+IsWordsRun texts old new end = ((words : Words) × IsRead texts words × IsFilesRun words old new end)
+    ⊎ ((refusal : Stop) × IsRefused texts refusal × IsTold refusal old new end)
+
+-- Without words the sample world is served from the reader. Else nothing is read of it.
+abbrev pub IsRun : List (List ℕ) → Option (List ℕ) → Option (List ℕ) → Option (List ℕ) → Option (List ℕ) → Stop → Type 0
+IsRun [] unread rest old new end = IsSampleRun unread rest old new end
+IsRun (word ∷ words) unread rest old new end = Keeps unread rest × IsWordsRun (word ∷ words) old new end
+
+-- why the program has no words
+abbrev pub IsWordless : Stop → Type 0
+IsWordless (stop.Command text) = string_bytes text ≡ codes "error: invalid UTF-8 was detected in one or more arguments"
+IsWordless (stop.Serve fault) = fault ≡ serve.NoMemory
+IsWordless (stop.Help text) = ⊥
+IsWordless stop.Served = ⊥
+IsWordless (stop.World fault) = ⊥
+IsWordless (stop.Table fault) = ⊥
+IsWordless stop.File = ⊥
