@@ -1,5 +1,5 @@
 #!/usr/bin/env python3
-"""Writes a world of so many users, with several posts each, and request files over it, into the current folder.
+"""Writes a world of so many users and posts, and request files over it, into the current folder.
 
 The files are schema.graphql, bindings.txt, users.csv, posts.csv, likes.csv and one NAME.jsonl for each load that README.md
 names. The same words give the same files."""
@@ -8,9 +8,8 @@ import random
 import sys
 
 users = int(sys.argv[1]) if len(sys.argv) > 1 else 1000
-posts_each = int(sys.argv[2]) if len(sys.argv) > 2 else 5
+posts = int(sys.argv[2]) if len(sys.argv) > 2 else 50000
 draw = random.Random(1)
-posts = users * posts_each
 
 SCHEMA = """type Query {
   user(id: ID!): User
