@@ -1,6 +1,6 @@
 //! What no clause says: that the definitions tell what is meant, by documents that break each rule and documents that keep it.
-use document_rules::*;
 use document_parts::{Broken, BrokenName, Parts, condition_arguments};
+use document_rules::*;
 use gq_parser::parse;
 use gq_schema::Schema;
 use spread_graph::Graph;

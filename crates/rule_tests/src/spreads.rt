@@ -1,9 +1,9 @@
 //! What spreads reach.
 
-use spread_graph::*;
 use document_parts::{BrokenName, Owner, Parts, condition_arguments};
 use gq_parser::parse;
 use gq_schema::Schema;
+use spread_graph::*;
 use std::alloc::{AllocGlobal, Global};
 use std::process::Abort;
 use std::test::Fail;
