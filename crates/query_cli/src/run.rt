@@ -5,7 +5,7 @@ ghost use Rattle.std.specs.Io.KnownBytes.{Appends};
 ghost use Rattle.line_serving.specs.Devices.{device_of};
 ghost use Rattle.line_serving.specs.Lines.{line_feed};
 ghost use Rattle.line_serving.specs.Output.{IsCut};
-ghost use Rattle.query_cli.specs.Runs.{IsServed, IsShown, IsSampleRun, IsFilesRun, IsRun, IsWordless};
+ghost use Rattle.query_cli.specs.Runs.{IsServed, IsShown, IsTold, IsSampleRun, IsFilesRun, IsRun, IsWordless};
 
 use command_line::{Stop, Words};
 use line_serving::{Counted, DeviceFault, ServeFault};
@@ -115,6 +115,21 @@ fn show<W: Write>(writer: &mut Counted<W>, text: String) -> Stop
     }
 }
 
+/// Ends a run whose words are refused. Help is written to the writer; of the others the end says all.
+fn tell<W: Write>(stop: Stop, writer: &mut Counted<W>) -> Stop
+    ensures { IsTold stop (W.contents (device_of writer.old)) (W.contents (device_of writer.new)) result }
+{
+    match stop {
+        Stop::Help(text) => show(writer, text),
+        Stop::Served => Stop::Served,
+        Stop::Command(text) => Stop::Command(text),
+        Stop::World(fault) => Stop::World(fault),
+        Stop::Table(fault) => Stop::Table(fault),
+        Stop::File => Stop::File,
+        Stop::Serve(fault) => Stop::Serve(fault),
+    }
+}
+
 /// A run of the words after the program's name. Without any it serves the sample world from the reader; else it serves the
 /// files that the words name, and reads nothing of the reader. Help is written to the writer.
 pub fn run<R: Files + AllocGlobal, I: Read, W: Write>(
@@ -131,7 +146,6 @@ pub fn run<R: Files + AllocGlobal, I: Read, W: Write>(
     }
     match Words::read(rt.alloc(), words) {
         Ok(words) => run_files(rt, &words, writer),
-        Err(Stop::Help(text)) => show(writer, text),
-        Err(stop) => stop,
+        Err(stop) => tell(stop, writer),
     }
 }
