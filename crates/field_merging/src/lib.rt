@@ -14,6 +14,7 @@ mod counting;
 mod fields;
 mod grounds;
 mod law;
+mod merging;
 mod places;
 mod ranks;
 
@@ -23,5 +24,6 @@ pub use counting::{document_fields, operation_fields};
 pub use fields::numbered_fields;
 pub use grounds::{Grounds, fields_in_order, grounds_of};
 pub use law::one_set_is_told;
+pub use merging::field_merging;
 pub use places::{Numbering, field_order, placed};
 pub use ranks::{Ranks, rank_fragments};
