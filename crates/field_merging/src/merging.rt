@@ -1,20 +1,15 @@
 //! The rule (section 5.3.2).
 
-ghost use Rattle.std.specs.Prelude.{◌≡◌, ◌<◌, ◌++◌, ℕ, true, List, length, filter, map, IfOk, OnOk};
+ghost use Rattle.std.specs.Prelude.{◌≡◌, ◌<◌, ℕ, true, length, IfOk};
 ghost use Rattle.std.specs.Option.{option_map};
-ghost use Rattle.gq_parser.specs.Tree.{document_of, operation_of, fragment_of};
+ghost use Rattle.gq_parser.specs.Tree.{document_of};
 ghost use Rattle.merge_table.specs.Clashes.{first_clash};
-ghost use Rattle.merge_table.specs.Merging.{Merges};
-ghost use Rattle.merge_table.specs.Numbered as table;
 ghost use Rattle.merge_table.specs.Numbered.{is_in};
-ghost use Rattle.merge_table.specs.Table.{IsBelow, TellsAll};
-ghost use Rattle.selection_members.specs.Fragments.{place_in, target_at};
-ghost use Rattle.selection_members.specs.Members.{count_operations, members_of_fragment, operation_sets, fragment_sets, sets_of};
-ghost use Rattle.selection_members.specs.Walks.{Knows, clash, is_clashing, clashing_of};
+ghost use Rattle.selection_members.specs.Members.{members_of_fragment};
+ghost use Rattle.selection_members.specs.Walks.{clash, clashing_of};
 ghost use Rattle.document_parts.specs.Broken.{broken_of};
 ghost use Rattle.document_parts.specs.Parts.{parts_in};
 ghost use Rattle.field_merging.specs.Members.{fields_of};
-ghost use Rattle.field_merging.specs.Numbered.{AreNumbered};
 ghost use Rattle.field_merging.specs.Rule.{IsMerging, key_of};
 ghost use Rattle.field_merging.specs.Told.{told_set, AreCompared};
 
@@ -25,11 +20,10 @@ use crate::grounds::{Grounds, fields_in_order, grounds_of};
 use crate::places::{field_order, placed};
 use crate::ranks::rank_fragments;
 use document_parts::{Broken, Earliest, Parts};
-use gq_parser::{Fragment, Operation};
-use merge_table::{Field, Reached, Row, failing_keys, failing_pairs};
+use merge_table::{failing_keys, failing_pairs};
 use selection_members::{
-    ClashingSet, Source, Walk, add_clashing, fields_in, first_member, fragment_starts,
-    fragment_targets, known_fragments, reached_in,
+    ClashingSet, Source, Walk, first_member, fragment_starts, fragment_targets, known_fragments,
+    reached_in,
 };
 use spread_graph::Graph;
 use std::alloc::{AllocError, Global};

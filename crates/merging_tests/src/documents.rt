@@ -7,6 +7,8 @@ use spread_graph::Graph;
 use std::alloc::Global;
 use std::test::Fail;
 
+mod slow;
+
 // The types of the specification's examples, with some fields more.
 const SCHEMA: &str = "type Query { dog: Dog pet: Pet }
 enum DogCommand { SIT DOWN HEEL }
@@ -146,6 +148,21 @@ fn documents(rt: HostRuntime) -> Result<(), Fail> {
     let schema = Schema::read(alloc, SCHEMA)?;
     for (text, want) in DOCUMENTS {
         let found = told(alloc, &schema, text)?;
+        assert_eq!(rt; found.as_str(), *want, "{text}");
+    }
+    Ok(())
+}
+
+// The same by a slow program.
+#[test]
+fn documents_beside_the_slow_program(rt: HostRuntime) -> Result<(), Fail> {
+    let alloc = rt.alloc();
+    let schema = Schema::read(alloc, SCHEMA)?;
+    let condition = condition_arguments(alloc)?;
+    for (text, want) in DOCUMENTS {
+        let document = parse(alloc, text)?;
+        let parts = Parts::new(alloc, &schema, &condition, &document)?;
+        let found = printed(alloc, slow::field_merging(alloc, &parts)?)?;
         assert_eq!(rt; found.as_str(), *want, "{text}");
     }
     Ok(())
