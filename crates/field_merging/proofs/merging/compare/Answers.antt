@@ -1,5 +1,4 @@
-use Rattle.std.proofs.Common.{◌≡◌, sym, ap, subst, ◌<◌, ◌≤◌, ◌+◌, ℕ, length, arith}
-use Rattle.gq_parser.specs.Tree.{document_of}
+use Rattle.std.proofs.Common.{sym, ap, subst, length, arith}
 use Rattle.merge_table.specs.Table.{IsBelow}
 use Rattle.selection_members.specs.Members.{members_of_fragment}
 use Rattle.document_parts.specs.Parts.{parts_in}
