@@ -1,12 +1,12 @@
 -- What is told of a document whose fields have been compared under their numbers.
-use Rattle.std.proofs.Common.{◌≡◌, ◌∙◌, sym, ap, subst, refl, ℕ, zero, suc, ◌+◌, ◌<◌, ◌≤◌, Bool, true, false, ◌||◌, ◌&&◌, ◌==◌, cond, List, [], ◌∷◌, ◌++◌, length, map, drop, get_or, append_assoc, Option, Some, None, inl, inr, arith}
+use Rattle.std.proofs.Common.{◌≡◌, ◌∙◌, sym, ap, refl, ℕ, zero, suc, ◌+◌, ◌<◌, ◌≤◌, Bool, true, false, ◌||◌, ◌&&◌, ◌==◌, cond, List, [], ◌∷◌, ◌++◌, length, map, drop, get_or, append_assoc, Option, Some, None, arith}
 use Rattle.std.specs.Prelude.{slice_get, slice_index_or, filter, filter_map, find, fold}
 use Rattle.std.specs.List.{list_any}
 use Rattle.std.proofs.lemmas.List.Elements.{filter-append}
 use Rattle.std.proofs.lemmas.Bool.{both_ways, or_left, or_right, eq-eqb}
 use Rattle.gq_parser.specs.Tree.{Below, nothing_below, below, Fragment}
 use Rattle.document_parts.specs.Broken.{BrokenOf, with_broken, with_broken_if, earliest}
-use Rattle.document_parts.specs.Parts.{FieldPart, PartsOf}
+use Rattle.document_parts.specs.Parts.{PartsOf}
 use Rattle.merge_table.specs.declared.field.Field as table
 use Rattle.merge_table.specs.Merging.{Fields, Merges}
 use Rattle.merge_table.specs.Clashes.{key_clashes, first_clash, has_clash}
@@ -20,10 +20,10 @@ use Rattle.selection_members.specs.Walks.{to, clash, is_clashing, is_key}
 use Rattle.selection_members.proofs.Entering.{drop-next}
 use Rattle.selection_members.proofs.Below as under
 use Rattle.selection_members.proofs.Below.{AllUnder, AreFields, in-under, spread-under, document-fields}
-use Rattle.field_merging.specs.Compare.{have_one_key, response_key}
-use Rattle.field_merging.specs.Members.{at, test_at, members_at, fields_of}
+use Rattle.field_merging.specs.Compare.{have_one_key}
+use Rattle.field_merging.specs.Members.{members_at, fields_of}
 use Rattle.field_merging.specs.Numbered.{AreNumbered, IsInverse, AreInside, count_fragments}
-use Rattle.field_merging.specs.Rule.{IsMerging, FieldMerging, key_of}
+use Rattle.field_merging.specs.Rule.{IsMerging, key_of}
 use Rattle.field_merging.specs.Told.{told_set, told_sets}
 use Rattle.field_merging.proofs.Classes.{same-key}
 use Rattle.field_merging.proofs.Twins.{there, at-is, test-is, renumbers}

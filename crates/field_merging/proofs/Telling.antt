@@ -1,11 +1,6 @@
 -- The sets that are told are those that can't be merged.
-use Rattle.std.proofs.Common.{◌≡◌, ◌∙◌, sym, ap, subst, refl, ℕ, ◌<◌, Bool, true, false, ◌||◌, ◌&&◌, List, [], ◌∷◌, length, Option, Some, None, map}
-use Rattle.std.specs.Prelude.{filter_map}
-use Rattle.std.specs.Option.{option_map}
-use Rattle.document_parts.specs.Broken.{BrokenOf}
-use Rattle.document_parts.specs.Parts.{PartsOf}
-use Rattle.merge_table.specs.Merging.{Fields, CanMerge, Merges, IsFirst}
-use Rattle.merge_table.specs.Numbered.{is_in}
+use Rattle.std.proofs.Common.{◌≡◌, refl, ℕ, ◌<◌, Bool, true, List, [], ◌∷◌, Option, Some, None}
+use Rattle.merge_table.specs.Merging.{Fields, Merges}
 use Rattle.merge_table.specs.Clashes.{first_clash}
 use Rattle.merge_table.specs.Renumbered.{IsRenumbered}
 use Rattle.merge_table.specs.Table.{Tells, TellsAll}
@@ -15,7 +10,7 @@ use Rattle.selection_members.specs.Members.{SetOf}
 use Rattle.selection_members.specs.Walks.{to, clash}
 use Rattle.selection_members.proofs.Below.{AreFields}
 use Rattle.field_merging.specs.Rule.{AreBroken, none, merges, fails}
-use Rattle.field_merging.specs.Told.{told_set, told_sets}
+use Rattle.field_merging.specs.Told.{told_sets}
 
 module _ (D : Fields ℕ) (n : ℕ) (clashes : ℕ → ℕ → Bool) (key : ℕ → List ℕ) (reflexive : (a : ℕ) → a < n → D.one_key a a ≡ true) (told : (a b : ℕ) → a < n → b < n → Tells (Merges D) D a b (clashes a b)) where
   pub told-broken : (sets : List SetOf) → AreFields n sets → AreBroken D key sets (told_sets D.one_key clashes key sets)

@@ -1,7 +1,6 @@
 -- The table of pairs sees what the rule sees.
-use Rattle.std.proofs.Common.{◌≡◌, ◌∙◌, sym, ap, ap₂, subst, refl, ℕ, zero, suc, ◌+◌, ◌<◌, Bool, true, false, not, ◌||◌, ◌&&◌, ◌==◌, List, [], ◌∷◌, ◌++◌, map, length, Option, Some, None, bytes_eq, arith}
+use Rattle.std.proofs.Common.{◌≡◌, ◌∙◌, sym, ap, subst, refl, ℕ, zero, suc, ◌+◌, ◌<◌, Bool, true, false, ◌&&◌, ◌==◌, List, [], ◌∷◌, ◌++◌, map, length, Some, arith}
 use Rattle.std.specs.Prelude.{slice_get, slice_index_or}
-use Rattle.std.proofs.lemmas.Bool.{and_parts}
 use Rattle.document_parts.specs.Parts.{FieldPart, PartsOf}
 use Rattle.merge_table.specs.declared.field.Field as table
 use Rattle.merge_table.specs.Merging.{Fields}
@@ -9,14 +8,12 @@ use Rattle.merge_table.specs.Numbered as numbered
 use Rattle.merge_table.specs.Numbered.{is_in}
 use Rattle.merge_table.specs.Sets.{has}
 use Rattle.merge_table.specs.Renumbered.{IsRenumbered}
-use Rattle.merge_table.proofs.ClashLaws.{both-true}
-use Rattle.argument_sets.specs.Same.{same_arguments}
 use Rattle.selection_members.specs.Members.{members_below, members_of_fragment}
-use Rattle.selection_members.specs.Walks.{to, renumbered}
+use Rattle.selection_members.specs.Walks.{to}
 use Rattle.field_merging.specs.declared.attributes.Attribute.{Attribute}
 use Rattle.field_merging.specs.declared.attributes.Attribute.TheVariants.{Key, Selected, Parent, Shape}
 use Rattle.field_merging.specs.Attributes.{are_same, number_of}
-use Rattle.field_merging.specs.Compare.{have_one_key, are_alike, may_meet, do_agree, same_parent, is_object_parent}
+use Rattle.field_merging.specs.Compare.{have_one_key, are_alike, may_meet, do_agree, same_parent}
 use Rattle.field_merging.specs.Members.{at, test_at, members_at, fields_of}
 use Rattle.field_merging.specs.Numbered.{IsNumbered, AreNumbered, IsInverse}
 use Rattle.field_merging.proofs.Classes.{number-same}

@@ -1,5 +1,5 @@
 -- Of a document's broken sets one is told.
-use Rattle.std.proofs.Common.{◌≡◌, ◌∙◌, sym, ap, subst, ℕ, List, [], ◌∷◌, Option, Some, None, refl, ◌⊎◌, inl, inr}
+use Rattle.std.proofs.Common.{◌≡◌, ◌∙◌, sym, ap, subst, ℕ, List, [], ◌∷◌, Option, refl, ◌⊎◌, inl, inr}
 use Rattle.std.specs.Prelude.{Bool}
 use Rattle.document_parts.specs.Broken.{BrokenOf, earliest}
 use Rattle.document_parts.specs.Parts.{PartsOf}

@@ -1,8 +1,8 @@
 -- What the rule compares of two fields, and the number that stands for it: that of the first field that has the same.
-use Rattle.std.specs.Prelude.{ℕ, Bool, List, Option, unwrap_or}
+use Rattle.std.specs.Prelude.{ℕ, Bool, List, unwrap_or}
 use Rattle.schema_syntax.specs.Tree.{Definition}
 use Rattle.gq_schema.specs.Places.{place_from}
-use Rattle.document_parts.specs.Parts.{FieldPart, PartsOf}
+use Rattle.document_parts.specs.Parts.{FieldPart}
 use Rattle.field_merging.specs.declared.attributes.Attribute.{Attribute}
 use Rattle.field_merging.specs.declared.attributes.Attribute.TheVariants.{Key, Selected, Parent, Shape}
 use Rattle.field_merging.specs.Compare.{have_one_key, do_agree, same_parent, are_alike}

@@ -1,5 +1,5 @@
 -- The fields of a document under their numbers in the table of pairs.
-use Rattle.std.specs.Prelude.{◌≡◌, ◌<◌, ◌≤◌, ◌+◌, ℕ, List, [], ◌∷◌, length, Option, Some, slice_get}
+use Rattle.std.specs.Prelude.{◌≡◌, ◌<◌, ◌≤◌, ◌+◌, ℕ, List, [], ◌∷◌, length, Some, slice_get}
 use Rattle.merge_table.specs.declared.field.Field as table
 use Rattle.merge_table.specs.Numbered.{is_in}
 use Rattle.merge_table.specs.Sets.{has}

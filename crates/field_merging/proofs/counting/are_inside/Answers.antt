@@ -1,10 +1,8 @@
-use Rattle.std.proofs.Common.{◌≡◌, ◌∙◌, sym, ap, subst, refl, ◌≤◌, ◌<◌, ◌+◌, ℕ, Some, length, map, inl, inr, arith}
+use Rattle.std.proofs.Common.{◌≡◌, subst, ◌+◌, ℕ, Some, length, map, inl, inr, arith}
 use Rattle.std.specs.Prelude.{slice_get}
 use Rattle.std.proofs.lemmas.Bool.{cases_lt}
 use Rattle.std.proofs.lemmas.List.{length-map}
-use Rattle.std.proofs.lemmas.Option.{slice_get-map}
 use Rattle.selection_members.specs.Members.{count_below}
-use Rattle.document_parts.specs.Parts as listed
 use Rattle.document_parts.specs.Parts.{field_part_of}
 use Rattle.field_merging.proofs.Joining.{got-below, got-read}
 use Rattle.field_merging.proofs.counting.are_inside.Goals as goal

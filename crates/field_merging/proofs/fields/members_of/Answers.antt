@@ -1,4 +1,4 @@
-use Rattle.std.proofs.Common.{◌≡◌, ◌∙◌, sym, ap, subst, ◌+◌, ℕ, arith}
+use Rattle.std.proofs.Common.{◌≡◌, sym, subst, ◌+◌, arith}
 use Rattle.gq_parser.specs.Tree.{set_of}
 use Rattle.merge_table.specs.Entered.{IsReached}
 use Rattle.selection_members.specs.Fragments.{target_at}

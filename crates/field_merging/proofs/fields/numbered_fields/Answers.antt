@@ -1,6 +1,5 @@
-use Rattle.std.proofs.Common.{◌≡◌, ◌+◌, ℕ, List, [], ◌∷◌, ◌++◌, take, get_or, take-suc, add-one, arith}
+use Rattle.std.proofs.Common.{◌≡◌, ◌+◌, [], ◌∷◌, ◌++◌, take, get_or, take-suc, add-one}
 use Rattle.document_parts.specs.Parts.{parts_in}
-use Rattle.field_merging.specs.Numbered.{AreNumbered}
 use Rattle.field_merging.proofs.Twins.{numbered-push}
 use Rattle.field_merging.proofs.fields.numbered_fields.Goals as goal
 

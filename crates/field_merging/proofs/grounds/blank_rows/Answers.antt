@@ -1,4 +1,4 @@
-use Rattle.std.proofs.Common.{◌≡◌, ◌∙◌, sym, ap, subst, refl, ◌≤◌, ◌<◌, ◌+◌, ◌++◌, [], ◌∷◌, ℕ, true, false, length, arith}
+use Rattle.std.proofs.Common.{◌∙◌, ap, refl, ◌+◌, ℕ, length, arith}
 use Rattle.std.proofs.lemmas.Bool.{both_ways}
 use Rattle.merge_table.specs.Table.{entry}
 use Rattle.merge_table.proofs.Bits.{has-empty}

@@ -1,7 +1,5 @@
-use Rattle.std.proofs.Common.{◌≡◌, ◌∙◌, sym, ap, subst, refl, ◌≤◌, ◌<◌, ◌+◌, ℕ, List, length, map, arith}
-use Rattle.std.proofs.lemmas.List.{length-map}
+use Rattle.std.proofs.Common.{refl}
 use Rattle.gq_parser.specs.Tree.{document_of}
-use Rattle.document_parts.specs.Parts.{field_part_of}
 use Rattle.selection_members.specs.Fragments.{target_at}
 use Rattle.selection_members.proofs.RankedLaws.{ranked-fixed}
 use Rattle.field_merging.proofs.grounds.grounds_of.Goals as goal
