@@ -1,5 +1,5 @@
-use Rattle.std.proofs.Common.{◌≡◌, ◌∙◌, sym, ap, subst, ℕ, ◌<◌, true, List, length, arith}
-use Rattle.std.specs.Prelude.{Option, find}
+use Rattle.std.proofs.Common.{◌≡◌, ◌∙◌, sym, subst, ℕ, ◌<◌, true, List, length, arith}
+use Rattle.std.specs.Prelude.{find}
 use Rattle.std.proofs.lemmas.Result.{IfOk-weaker}
 use Rattle.gq_parser.specs.Tree.{set_of}
 use Rattle.merge_table.specs.Clashes.{first_clash}
@@ -36,5 +36,5 @@ returns c = λ under.
     let knows : Knows rows numbers compared.fragments.now (target_at grounds.targets.now) spread = λ q. subst (KnowsAt rows numbers compared.fragments.now (spread q)) (sym (grounds.named q)) (c.requires.compared.known q) in
     let keys = c.failing_keys-keys.ensures rows (renumbered numbers ms) (numbered-below numbers order ms (length p.fields) (length compared.fields.now) grounds.inverse grounds.all compared.all under) (c.in_ok-reached.ensures spread knows) in
     let same : find (is_key c.failing_keys-keys.result numbers) ms ≡ first_clash (fields_of p).one_key (clash rows numbers) ms =
-        first-same p numbers order compared.fields.now rows c.requires.compared.numbered grounds.inverse grounds.all grounds.inside grounds.counted compared.all c.requires.compared.told ms c.failing_keys-keys.result under keys in
+    first-same p numbers order compared.fields.now rows c.requires.compared.numbered grounds.inverse grounds.all grounds.inside grounds.counted compared.all c.requires.compared.told ms c.failing_keys-keys.result under keys in
     IfOk-weaker c.first_member.result (λ f. f ≡ find (is_key c.failing_keys-keys.result numbers) ms) (λ f. f ≡ first_clash (fields_of p).one_key (clash rows numbers) ms) (λ f e. e ∙ same) (c.first_member.ensures spread c.requires.compared.known grounds.fixed)
