@@ -1,13 +1,9 @@
 -- First faults.
-use Rattle.std.proofs.Common.{◌≡◌, ◌∙◌, ◌≤◌, sym, subst, refl, ℕ, Bool, true, false, cond, Option, Some, None, arith}
-use Rattle.std.specs.Prelude.{option_map, nat_lt}
-use Rattle.document_parts.specs.Broken.{BrokenOf}
-use Rattle.document_parts.specs.Parts.{PartsOf}
+use Rattle.std.proofs.Common.{◌≡◌, sym, subst, Option, Some, None}
 use Rattle.gq_schema.specs.Scan.{or_else}
 use Rattle.gq_check.specs.declared.fault.CheckFault.{CheckFault}
 use Rattle.gq_check.specs.declared.fault.CheckFault.TheVariants as check
-use Rattle.gq_check.specs.declared.fault.Rule.TheVariants as rule
-use Rattle.gq_check.specs.Verdict.{FaultOf, TooComplex, breaks, first_fault, fault_of, IsCheckFault}
+use Rattle.gq_check.specs.Verdict.{FaultOf, fault_of, IsCheckFault}
 
 -- where neither of two answers is there, the first isn't
 pub first-none : {A : Type 0} (a b : Option A) → or_else a b ≡ None → a ≡ None

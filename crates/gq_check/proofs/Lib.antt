@@ -1,3 +1,4 @@
 pub mod Faults
 pub mod Planning
 pub mod Unique
+pub mod Validity

@@ -4,3 +4,4 @@ pub mod Texts
 pub mod Verdict
 pub mod Told
 pub mod Planned
+pub mod Valid

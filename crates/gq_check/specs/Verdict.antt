@@ -1,6 +1,6 @@
 -- The verdict on a document over a schema (section 5): nothing where it is valid, else the first fault in this order: what isn't
--- served; the rules in the order of their sections' numbers, compared part by part; too many levels; too many fields. Of one
--- rule the earliest place is told. Field Selection Merging (section 5.3.2) is not among them yet; it will come last.
+-- served; the rules but Field Selection Merging in the order of their sections' numbers, compared part by part; too many levels;
+-- too many fields; Field Selection Merging. Of one rule the earliest place is told.
 use Rattle.std.specs.Prelude.{◌≡◌, ℕ, List, Option, Some, None, option_map, string_bytes, if◌then◌else◌}
 use Rattle.gq_lexer.specs.declared.place.Place.{Place}
 use Rattle.gq_parser.specs.Tree.{Document}
@@ -34,6 +34,7 @@ use Rattle.typed_rules.specs.CorrectValues.{wrong_values}
 use Rattle.typed_rules.specs.InputVariables.{non_input_variables}
 use Rattle.typed_rules.specs.AllowedUsages.{forbidden_usages}
 use Rattle.spread_graph.specs.Rules.{fragment_cycles, too_deep}
+use Rattle.field_merging.specs.Rule.{IsMerging}
 use Rattle.gq_check.specs.declared.fault.Rule.{Rule}
 use Rattle.gq_check.specs.declared.fault.Rule.TheVariants as rule
 use Rattle.gq_check.specs.declared.fault.CheckFault.{CheckFault}
@@ -65,7 +66,7 @@ operations_fault p =
     or_else (told rule.OperationNameUniqueness (operation_name_uniqueness p))
     (told rule.LoneAnonymousOperation (lone_anonymous_operation p))
 
--- section 5.3, without Field Selection Merging
+-- section 5.3, but Field Selection Merging (section 5.3.2), which comes last
 abbrev pub fields_fault : PartsOf → Option FaultOf
 fields_fault p =
     or_else (told rule.FieldSelections (unknown_fields p))
@@ -113,7 +114,7 @@ variables_fault p =
     (or_else (told rule.AllVariablesUsed (all_variables_used p))
     (told rule.AllVariableUsagesAreAllowed (forbidden_usages p)))))
 
--- ---- all of them
+-- ---- all of them but Field Selection Merging
 
 -- what isn't served, and the rules
 abbrev pub rules_fault : PartsOf → Option FaultOf
@@ -136,9 +137,20 @@ limits_fault p =
 abbrev pub first_fault : PartsOf → Option FaultOf
 first_fault p = or_else (rules_fault p) (limits_fault p)
 
+-- ---- all of them
+
+-- what is told of Field Selection Merging
+abbrev pub IsMergingFault : PartsOf → Option FaultOf → Type 0
+IsMergingFault p v = (broken : Option BrokenOf) × IsMerging p broken × (v ≡ option_map (breaks rule.FieldSelectionMerging) broken)
+
+-- the verdict, where this is the first of all other faults
+abbrev pub IsVerdictAfter : PartsOf → Option FaultOf → Option FaultOf → Type 0
+IsVerdictAfter p (Some f) v = v ≡ Some f
+IsVerdictAfter p None v = IsMergingFault p v
+
 -- the verdict on a document, by its parts
 abbrev pub IsVerdictOf : PartsOf → Option FaultOf → Type 0
-IsVerdictOf p v = v ≡ first_fault p
+IsVerdictOf p v = IsVerdictAfter p (first_fault p) v
 
 -- the verdict on a document over the definitions of a schema
 abbrev pub IsVerdict : List Definition → Document → Option FaultOf → Type 0

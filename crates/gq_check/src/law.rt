@@ -1,12 +1,24 @@
 //! What holds of verdicts.
 
-ghost use Rattle.std.specs.Prelude.{◌≡◌, List, Option};
+ghost use Rattle.std.specs.Prelude.{◌≡◌, ◌↔◌, List, Option};
 ghost use Rattle.gq_parser.specs.Tree as trees;
 ghost use Rattle.schema_syntax.specs.Tree as schema;
-ghost use Rattle.gq_check.specs.Verdict.{FaultOf, IsVerdict};
+ghost use Rattle.document_parts.specs.Listing.{parts_of};
+ghost use Rattle.gq_check.specs.Valid.{KeepsRules};
+ghost use Rattle.gq_check.specs.Verdict.{FaultOf, IsVerdict, IsValid};
+
+use field_merging::one_set_is_told;
 
 /// A document has at most one verdict over a schema. So [`check`](crate::check) tells a fault only where the document is not
 /// valid.
 pub fn one_verdict()
     ensures { (defs : List schema.Definition) (d : trees.Document) (v w : Option FaultOf) → IsVerdict defs d v → IsVerdict defs d w → v ≡ w }
+{
+    one_set_is_told();
+}
+
+/// A document is valid exactly where it keeps every rule. So [`check`](crate::check) accepts a document only where nothing of it
+/// breaks a rule, and tells a fault only where something does.
+pub fn valid_documents()
+    ensures { (defs : List schema.Definition) (d : trees.Document) → IsValid defs d ↔ KeepsRules (parts_of defs d) }
 {}

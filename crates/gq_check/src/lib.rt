@@ -1,11 +1,10 @@
 //! Validation and preparation: from a document and a schema to a plan (GraphQL specification of October 2021, sections 5 and
 //! 6.1).
 //!
-//! The layer above may rely on this: a [`Checked`] is a document that keeps every rule of validation over its schema but Field
-//! Selection Merging, which isn't asked yet, and [`check`] names the first fault of every other document, which is its one
-//! verdict ([`one_verdict`]). A [`Plan`] is an
-//! operation of such a document with the values of its variables, and [`prepare`] says why there is none. A plan's look-ups
-//! take no memory.
+//! The layer above may rely on this: a [`Checked`] is a document that keeps every rule of validation over its schema
+//! ([`valid_documents`]), and [`check`] names the first fault of every other document, which is its one verdict
+//! ([`one_verdict`]). A [`Plan`] is an operation of such a document with the values of its variables, and [`prepare`] says why
+//! there is none. A plan's look-ups take no memory.
 #![tactic(auto)]
 
 mod checked;
@@ -25,7 +24,7 @@ mod variables;
 
 pub use checked::Checked;
 pub use fault::{CheckFault, PrepareFault, Rule};
-pub use law::one_verdict;
+pub use law::{one_verdict, valid_documents};
 pub use plan::Plan;
 pub use preparation::prepare;
 pub use validation::check;

@@ -6,7 +6,7 @@ ghost use Rattle.document_parts.specs.Parts.{parts_in};
 ghost use Rattle.spread_graph.specs.Graphs.{graph_of};
 ghost use Rattle.spread_graph.specs.Rules.{fragment_cycles};
 ghost use Rattle.gq_check.specs.Told.{told_of};
-ghost use Rattle.gq_check.specs.Verdict.{served_fault, operations_fault, fields_fault, arguments_fault, fragments_fault, spreads_fault, values_fault, directives_fault, variables_fault, rules_fault, limits_fault, first_fault, breaks, IsVerdictOf};
+ghost use Rattle.gq_check.specs.Verdict.{served_fault, operations_fault, fields_fault, arguments_fault, fragments_fault, spreads_fault, values_fault, directives_fault, variables_fault, rules_fault, limits_fault, first_fault, breaks, IsMergingFault, IsVerdictOf};
 
 use crate::fault::Rule;
 use crate::told::Told;
@@ -18,6 +18,7 @@ use document_rules::{
     is_too_complex, lone_anonymous_operation, not_served, operation_name_uniqueness,
     variable_uniqueness,
 };
+use field_merging::field_merging;
 use spread_graph::{Graph, fragment_cycles, too_deep};
 use std::alloc::{AllocError, Global};
 use typed_rules::{
@@ -201,6 +202,7 @@ fn limits_fault<'d>(
     Ok(None)
 }
 
+// The first fault but those of Field Selection Merging.
 fn first_fault<'d>(
     alloc: Global,
     parts: &Parts<'d>,
@@ -215,6 +217,18 @@ fn first_fault<'d>(
     }
 }
 
+// Field Selection Merging.
+fn merging_fault<'d>(
+    alloc: Global,
+    parts: &Parts<'d>,
+    graph: &Graph,
+) -> Result<Option<Told<'d>>, AllocError>
+    ensures { IfOk result (λ fault. IsMergingFault (parts_in parts.now) (option_map told_of fault)) }
+{
+    let broken = field_merging(alloc, parts, graph)?;
+    Ok(told(Rule::FieldSelectionMerging, broken))
+}
+
 /// The verdict on a document, by its parts and what its fragments spread.
 pub fn verdict<'d>(
     alloc: Global,
@@ -224,5 +238,8 @@ pub fn verdict<'d>(
     requires { graph.now ≡ graph_of (parts_in parts.now) }
     ensures { IfOk result (λ fault. IsVerdictOf (parts_in parts.now) (option_map told_of fault)) }
 {
-    first_fault(alloc, parts, graph)
+    match first_fault(alloc, parts, graph)? {
+        Some(fault) => Ok(Some(fault)),
+        None => Ok(merging_fault(alloc, parts, graph)?),
+    }
 }

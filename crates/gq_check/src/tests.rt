@@ -178,6 +178,184 @@ fn fragments_directives_and_variables(rt: HostRuntime) -> Result<(), Fail> {
     Ok(())
 }
 
+#[test]
+fn merging_of_fields(rt: HostRuntime) -> Result<(), Fail> {
+    let alloc = rt.alloc();
+    let schema = Schema::read(alloc, SCHEMA)?;
+    let cases = [
+        (
+            "{user(id:1){name name:id}}",
+            "5.3.2 Field Selection Merging: name at 1:12",
+        ),
+        (
+            "{user(id:1){best{name} best{name:id}}}",
+            "5.3.2 Field Selection Merging: best at 1:12",
+        ),
+        (
+            "{user(id:1){best{name name:id}}}",
+            "5.3.2 Field Selection Merging: name at 1:17",
+        ),
+        (
+            "{user(id:1){best{best{best{name}}} best{best{best{name:id}}}}}",
+            "5.3.2 Field Selection Merging: best at 1:12",
+        ),
+        (
+            "{user(id:1){best{x:name x:id} y:name y:id}}",
+            "5.3.2 Field Selection Merging: y at 1:12",
+        ),
+        (
+            "{user(id:1){b:id a:id a:name b:name}}",
+            "5.3.2 Field Selection Merging: b at 1:12",
+        ),
+        (
+            "{user(id:1){posts{x:title} liked{x:id} posts{x:id}}}",
+            "5.3.2 Field Selection Merging: posts at 1:12",
+        ),
+        (
+            "{user(id:1){name@skip(if:true) name:id}}",
+            "5.3.2 Field Selection Merging: name at 1:12",
+        ),
+        (
+            "{a:user(id:1){id} a:users{id}}",
+            "5.3.2 Field Selection Merging: a at 1:1",
+        ),
+        ("{user(id:1){name name} user(id:1){best{id}}}", "valid"),
+    ];
+    for (query, want) in cases {
+        let text = verdict(alloc, &schema, query)?;
+        assert_eq!(rt; text.as_str(), want, "{query}");
+    }
+    Ok(())
+}
+
+#[test]
+fn merging_of_arguments(rt: HostRuntime) -> Result<(), Fail> {
+    let alloc = rt.alloc();
+    let schema = Schema::read(alloc, SCHEMA)?;
+    let cases = [
+        (
+            "{user(id:1){id} user(id:2){id}}",
+            "5.3.2 Field Selection Merging: user at 1:1",
+        ),
+        (
+            "{user(id:1){id} user(id:\"1\"){id}}",
+            "5.3.2 Field Selection Merging: user at 1:1",
+        ),
+        (
+            "query($i:ID!,$j:ID!){user(id:$i){id} user(id:$j){id}}",
+            "5.3.2 Field Selection Merging: user at 1:21",
+        ),
+        (
+            "{usersByIds(ids:[1,2]){id} usersByIds(ids:[2,1]){id}}",
+            "5.3.2 Field Selection Merging: usersByIds at 1:1",
+        ),
+        (
+            "{usersByIds(ids:[1,2]){id} usersByIds(ids:[1 2]){name}}",
+            "valid",
+        ),
+    ];
+    for (query, want) in cases {
+        let text = verdict(alloc, &schema, query)?;
+        assert_eq!(rt; text.as_str(), want, "{query}");
+    }
+    Ok(())
+}
+
+#[test]
+fn merging_through_fragments(rt: HostRuntime) -> Result<(), Fail> {
+    let alloc = rt.alloc();
+    let schema = Schema::read(alloc, SCHEMA)?;
+    let cases = [
+        (
+            "{user(id:1){...F ...G}} fragment F on User{name} fragment G on User{name:id}",
+            "5.3.2 Field Selection Merging: name at 1:12",
+        ),
+        (
+            "{user(id:1){...F id}} fragment F on User{id:name}",
+            "5.3.2 Field Selection Merging: id at 1:12",
+        ),
+        (
+            "{user(id:1){...F ...F}} fragment F on User{name ...G} fragment G on User{name}",
+            "valid",
+        ),
+        (
+            "fragment F on User{best{name name:id}} {user(id:1){...F}}",
+            "5.3.2 Field Selection Merging: name at 1:24",
+        ),
+        (
+            "{user(id:1){...F best{name}}} fragment F on User{best{...G}} fragment G on User{name:id}",
+            "5.3.2 Field Selection Merging: best at 1:12",
+        ),
+        (
+            "{user(id:1){...{name} ...{name:id}}}",
+            "5.3.2 Field Selection Merging: name at 1:12",
+        ),
+        (
+            "{named(id:1){...on User{x:id} ...on Bot{x:model}}}",
+            "5.3.2 Field Selection Merging: x at 1:13",
+        ),
+        (
+            "{named(id:1){...on User{x:name} ...on Bot{x:model}}}",
+            "5.3.2 Field Selection Merging: x at 1:13",
+        ),
+        (
+            "{named(id:1){...on User{x:best{id}} ...on Bot{x:name}}}",
+            "5.3.2 Field Selection Merging: x at 1:13",
+        ),
+        ("{named(id:1){...on User{x:id} ...on Bot{x:id}}}", "valid"),
+        (
+            "{named(id:1){...on User{x:name} ...on Bot{x:__typename}}}",
+            "valid",
+        ),
+        (
+            "{named(id:1){...on User{x:__typename} x:name}}",
+            "5.3.2 Field Selection Merging: x at 1:13",
+        ),
+        (
+            "{named(id:1){...on User{x:name y:id} ...on Bot{y:model x:__typename x:name}}}",
+            "5.3.2 Field Selection Merging: x at 1:13",
+        ),
+    ];
+    for (query, want) in cases {
+        let text = verdict(alloc, &schema, query)?;
+        assert_eq!(rt; text.as_str(), want, "{query}");
+    }
+    Ok(())
+}
+
+#[test]
+fn merging_comes_last(rt: HostRuntime) -> Result<(), Fail> {
+    let alloc = rt.alloc();
+    let schema = Schema::read(alloc, SCHEMA)?;
+    let cases = [
+        (
+            "{user(id:1){name name:id}} mutation M{a}",
+            "not served: mutation at 1:28",
+        ),
+        (
+            "{user(id:1){name name:id age}}",
+            "5.3.1 Field Selections: age at 1:26",
+        ),
+        (
+            "{user(id:1){name name:id} users}",
+            "5.3.3 Leaf Field Selections: users at 1:27",
+        ),
+        (
+            "{user(id:1){...F}} fragment F on User{name name:id best{...F}}",
+            "5.5.2.2 Fragment Spreads Must Not Form Cycles: F at 1:20",
+        ),
+        (
+            "query($i:ID){user(id:1){name name:id}}",
+            "5.8.4 All Variables Used: i at 1:7",
+        ),
+    ];
+    for (query, want) in cases {
+        let text = verdict(alloc, &schema, query)?;
+        assert_eq!(rt; text.as_str(), want, "{query}");
+    }
+    Ok(())
+}
+
 // `front`, `part` as often as this, and `back`.
 fn repeated(
     alloc: Global,
@@ -194,10 +372,10 @@ fn repeated(
     Ok(text)
 }
 
-// `k` nested `best` round an `id`, in a fragment.
-fn nested(alloc: Global, k: usize) -> Result<String, AllocError> {
+// `k` nested `best` round this selection, in a fragment.
+fn nested(alloc: Global, k: usize, selection: &str) -> Result<String, AllocError> {
     let front = "{user(id:1){...F}} fragment F on User{";
-    let mut text = repeated(alloc, front, "best{", k, "id")?;
+    let mut text = repeated(alloc, front, "best{", k, selection)?;
     for _ in 0..k {
         text.push_str("}")?;
     }
@@ -206,18 +384,39 @@ fn nested(alloc: Global, k: usize) -> Result<String, AllocError> {
 }
 
 #[test]
-fn limits(rt: HostRuntime) -> Result<(), Fail> {
+fn many_fields(rt: HostRuntime) -> Result<(), Fail> {
     let alloc = rt.alloc();
     let schema = Schema::read(alloc, SCHEMA)?;
-    for (times, want) in [(999, "valid"), (1_000, "too complex")] {
-        let query = repeated(alloc, "{user(id:1){", "id ", times, "}}")?;
+    let unmerged = "5.3.2 Field Selection Merging: id at 1:12";
+    let cases = [
+        (999, "}}", "valid"),
+        (1_000, "}}", "too complex"),
+        (998, "id:name}}", unmerged),
+        (999, "id:name}}", "too complex"),
+    ];
+    for (times, back, want) in cases {
+        let query = repeated(alloc, "{user(id:1){", "id ", times, back)?;
         let text = verdict(alloc, &schema, &query)?;
-        assert_eq!(rt; text.as_str(), want, "{times} fields");
+        assert_eq!(rt; text.as_str(), want, "{times} fields before {back}");
     }
-    for (k, want) in [(126, "valid"), (127, "too many levels at 1:1")] {
-        let query = nested(alloc, k)?;
+    Ok(())
+}
+
+#[test]
+fn many_levels(rt: HostRuntime) -> Result<(), Fail> {
+    let alloc = rt.alloc();
+    let schema = Schema::read(alloc, SCHEMA)?;
+    let deepest = "5.3.2 Field Selection Merging: id at 1:668";
+    let cases = [
+        (126, "id", "valid"),
+        (127, "id", "too many levels at 1:1"),
+        (126, "id id:name", deepest),
+        (127, "id id:name", "too many levels at 1:1"),
+    ];
+    for (k, selection, want) in cases {
+        let query = nested(alloc, k, selection)?;
         let text = verdict(alloc, &schema, &query)?;
-        assert_eq!(rt; text.as_str(), want, "{k} levels");
+        assert_eq!(rt; text.as_str(), want, "{k} levels round {selection}");
     }
     Ok(())
 }

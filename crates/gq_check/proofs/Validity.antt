@@ -1,0 +1,237 @@
+-- What a valid document keeps.
+use Rattle.std.proofs.Common.{◌≡◌, ◌∙◌, sym, ap, subst, refl, ℕ, Bool, true, false, List, [], ◌∷◌, Option, Some, None, if◌then◌else◌}
+use Rattle.std.specs.Prelude.{option_map, fold, All}
+use Rattle.std.proofs.lemmas.List.Elements.{All-nil, All-cons, All-head, All-tail}
+use Rattle.gq_schema.specs.Scan.{or_else}
+use Rattle.document_parts.specs.Broken.{BrokenOf, earlier, with_broken, earliest}
+use Rattle.document_parts.specs.Parts.{PartsOf}
+use Rattle.document_rules.specs.OperationNames.{operation_name_uniqueness}
+use Rattle.document_rules.specs.LoneAnonymous.{lone_anonymous_operation}
+use Rattle.document_rules.specs.ArgumentNames.{argument_uniqueness}
+use Rattle.document_rules.specs.FragmentNames.{fragment_name_uniqueness}
+use Rattle.document_rules.specs.FragmentsUsed.{fragments_must_be_used}
+use Rattle.document_rules.specs.SpreadTargets.{fragment_spread_target_defined}
+use Rattle.document_rules.specs.DirectivesDefined.{directives_are_defined}
+use Rattle.document_rules.specs.DirectiveLocations.{directives_are_in_valid_locations}
+use Rattle.document_rules.specs.DirectivesUnique.{directives_are_unique_per_location}
+use Rattle.document_rules.specs.VariableNames.{variable_uniqueness}
+use Rattle.document_rules.specs.UsesDefined.{all_variable_uses_defined}
+use Rattle.document_rules.specs.VariablesUsed.{all_variables_used}
+use Rattle.document_rules.specs.NotServed.{not_served}
+use Rattle.document_rules.specs.TooComplex.{is_too_complex}
+use Rattle.typed_rules.specs.FieldSelections.{unknown_fields}
+use Rattle.typed_rules.specs.LeafSelections.{misfit_fields}
+use Rattle.typed_rules.specs.ArgumentNames.{unknown_arguments}
+use Rattle.typed_rules.specs.RequiredArguments.{missing_arguments}
+use Rattle.typed_rules.specs.TypeExistence.{unknown_types}
+use Rattle.typed_rules.specs.CompositeTypes.{leaf_types}
+use Rattle.typed_rules.specs.PossibleSpreads.{impossible_spreads}
+use Rattle.typed_rules.specs.CorrectValues.{wrong_values}
+use Rattle.typed_rules.specs.InputVariables.{non_input_variables}
+use Rattle.typed_rules.specs.AllowedUsages.{forbidden_usages}
+use Rattle.spread_graph.specs.Rules.{fragment_cycles, too_deep}
+use Rattle.merge_table.specs.Merging.{Fields, CanMerge}
+use Rattle.merge_table.specs.Numbered.{is_in}
+use Rattle.selection_members.specs.Members.{SetOf, sets_of}
+use Rattle.field_merging.specs.Members.{fields_of}
+use Rattle.field_merging.specs.Rule.{AreBroken, none, merges, fails, key_of}
+use Rattle.gq_check.specs.declared.fault.Rule.TheVariants as rule
+use Rattle.gq_check.proofs.Faults.{first-none, second-none}
+use Rattle.gq_check.specs.Valid.{CanBeMerged, KeepsRules}
+use Rattle.gq_check.specs.Verdict.{FaultOf, TooComplex, TooDeep, NotServed, breaks, told, served_fault, operations_fault, fields_fault, arguments_fault, fragments_fault, spreads_fault, values_fault, directives_fault, variables_fault, rules_fault, limits_fault, first_fault, IsMergingFault, IsVerdictAfter}
+
+-- ---- what is told where nothing is broken
+
+fold-some : (b : BrokenOf) (bs : List BrokenOf) → fold with_broken (Some b) bs ≡ None → ⊥
+fold-some b [] e = cc e
+fold-some b (c ∷ bs) e = fold-some (earlier b c) bs e
+
+nothing-broken : (bs : List BrokenOf) → earliest bs ≡ None → bs ≡ []
+nothing-broken [] e = refl
+nothing-broken (b ∷ bs) e = absurd (fold-some b bs e)
+
+unmapped : {A B : Type 0} (f : A → B) (o : Option A) → option_map f o ≡ None → o ≡ None
+unmapped f None e = refl
+unmapped f (Some x) e = absurd (cc e)
+
+-- nothing is told, so nothing is broken
+kept : (f : BrokenOf → FaultOf) (bs : List BrokenOf) → option_map f (earliest bs) ≡ None → bs ≡ []
+kept f bs e = nothing-broken bs (unmapped f (earliest bs) e)
+
+-- nothing is broken, so nothing is told
+untold : (f : BrokenOf → FaultOf) (bs : List BrokenOf) → bs ≡ [] → option_map f (earliest bs) ≡ None
+untold f bs e = ap (λ (b : List BrokenOf). option_map f (earliest b)) e
+
+parted : {A : Type 0} (a b : Option A) → or_else a b ≡ None → (a ≡ None) × (b ≡ None)
+parted a b e = (first-none a b e, second-none a b e)
+
+together : {A : Type 0} (a b : Option A) → a ≡ None → b ≡ None → or_else a b ≡ None
+together (Some x) b e h = absurd (cc e)
+together None b e h = h
+
+-- ---- the limit on fields
+
+abbrev complex : Bool → Option FaultOf
+complex b = if b then Some TooComplex else None
+
+few : (b : Bool) → complex b ≡ None → b ≡ false
+few true e = absurd (cc e)
+few false e = refl
+
+-- ---- the selection sets
+
+module _ (D : Fields ℕ) (key : ℕ → List ℕ) where
+  abbrev Merges : SetOf → Type 0
+  Merges s = CanMerge D (is_in s.members)
+
+  all-merge : (ss : List SetOf) (bs : List BrokenOf) → AreBroken D key ss bs → bs ≡ [] → All Merges ss
+  all-merge [] bs none e = All-nil Merges
+  all-merge (s ∷ ss) bs (merges m r) e = All-cons Merges s ss m (all-merge ss bs r e)
+  all-merge (s ∷ ss) bs (fails n i r) e = absurd (cc e)
+
+  none-broken : (ss : List SetOf) → All Merges ss → AreBroken D key ss []
+  none-broken [] h = none
+  none-broken (s ∷ ss) h = merges (All-head Merges s ss h) (none-broken ss (All-tail Merges s ss h))
+
+merging-kept : (p : PartsOf) → IsMergingFault p None → CanBeMerged p
+merging-kept p h =
+    all-merge (fields_of p) (key_of p) (sets_of p.document) h.1.0 h.1.1
+    (nothing-broken h.1.0 (sym h.1.2 ∙ unmapped (breaks rule.FieldSelectionMerging) h.0 (sym h.2)))
+
+merging-untold : (p : PartsOf) → CanBeMerged p → IsMergingFault p None
+merging-untold p h = (None, ([], none-broken (fields_of p) (key_of p) (sets_of p.document) h, refl), refl)
+
+-- ---- all rules
+
+abbrev not_served_fault : BrokenOf → FaultOf
+not_served_fault b = NotServed b.name b.place
+
+abbrev too_deep_fault : BrokenOf → FaultOf
+too_deep_fault b = TooDeep b.place
+
+-- nothing is told in all, so nothing is told before field merging, nor of it
+alone : (p : PartsOf) (first : Option FaultOf) → IsVerdictAfter p first None → (first ≡ None) × IsMergingFault p None
+alone p (Some f) h = absurd (cc h)
+alone p None h = (refl, h)
+
+pub valid-keeps : (p : PartsOf) → IsVerdictAfter p (first_fault p) None → KeepsRules p
+valid-keeps p h =
+    let only = alone p (first_fault p) h in
+    let whole = parted (rules_fault p) (limits_fault p) only.0 in
+    let served = parted (served_fault p) _ whole.0 in
+    let operations = parted (operations_fault p) _ served.1 in
+    let fields = parted (fields_fault p) _ operations.1 in
+    let arguments = parted (arguments_fault p) _ fields.1 in
+    let fragments = parted (fragments_fault p) _ arguments.1 in
+    let spreads = parted (spreads_fault p) _ fragments.1 in
+    let values = parted (values_fault p) _ spreads.1 in
+    let directives = parted (directives_fault p) _ values.1 in
+    let at_operation_names = parted (told rule.OperationNameUniqueness (operation_name_uniqueness p)) _ operations.0 in
+    let at_selected_fields = parted (told rule.FieldSelections (unknown_fields p)) _ fields.0 in
+    let at_argument_names = parted (told rule.ArgumentNames (unknown_arguments p)) _ arguments.0 in
+    let at_arguments_once = parted (told rule.ArgumentUniqueness (argument_uniqueness p)) _ at_argument_names.1 in
+    let at_fragment_names = parted (told rule.FragmentNameUniqueness (fragment_name_uniqueness p)) _ fragments.0 in
+    let at_fragment_types = parted (told rule.FragmentSpreadTypeExistence (unknown_types p)) _ at_fragment_names.1 in
+    let at_composite_types = parted (told rule.FragmentsOnCompositeTypes (leaf_types p)) _ at_fragment_types.1 in
+    let at_spread_targets = parted (told rule.FragmentSpreadTargetDefined (fragment_spread_target_defined p)) _ spreads.0 in
+    let at_cycles = parted (told rule.FragmentSpreadsMustNotFormCycles (fragment_cycles p)) _ at_spread_targets.1 in
+    let at_known_directives = parted (told rule.DirectivesAreDefined (directives_are_defined p)) _ directives.0 in
+    let at_directive_locations = parted (told rule.DirectivesAreInValidLocations (directives_are_in_valid_locations p)) _ at_known_directives.1 in
+    let at_variables_once = parted (told rule.VariableUniqueness (variable_uniqueness p)) _ directives.1 in
+    let at_input_types = parted (told rule.VariablesAreInputTypes (non_input_variables p)) _ at_variables_once.1 in
+    let at_uses_defined = parted (told rule.AllVariableUsesDefined (all_variable_uses_defined p)) _ at_input_types.1 in
+    let at_variables_used = parted (told rule.AllVariablesUsed (all_variables_used p)) _ at_uses_defined.1 in
+    let limits = parted (option_map too_deep_fault (earliest (too_deep p))) _ whole.1 in
+    record {
+      served = kept not_served_fault (not_served p) served.0;
+      operation_names = kept (breaks rule.OperationNameUniqueness) (operation_name_uniqueness p) at_operation_names.0;
+      lone_operation = kept (breaks rule.LoneAnonymousOperation) (lone_anonymous_operation p) at_operation_names.1;
+      selected_fields = kept (breaks rule.FieldSelections) (unknown_fields p) at_selected_fields.0;
+      leaves = kept (breaks rule.LeafFieldSelections) (misfit_fields p) at_selected_fields.1;
+      argument_names = kept (breaks rule.ArgumentNames) (unknown_arguments p) at_argument_names.0;
+      arguments_once = kept (breaks rule.ArgumentUniqueness) (argument_uniqueness p) at_arguments_once.0;
+      required_arguments = kept (breaks rule.RequiredArguments) (missing_arguments p) at_arguments_once.1;
+      fragment_names = kept (breaks rule.FragmentNameUniqueness) (fragment_name_uniqueness p) at_fragment_names.0;
+      fragment_types = kept (breaks rule.FragmentSpreadTypeExistence) (unknown_types p) at_fragment_types.0;
+      composite_types = kept (breaks rule.FragmentsOnCompositeTypes) (leaf_types p) at_composite_types.0;
+      fragments_used = kept (breaks rule.FragmentsMustBeUsed) (fragments_must_be_used p) at_composite_types.1;
+      spread_targets = kept (breaks rule.FragmentSpreadTargetDefined) (fragment_spread_target_defined p) at_spread_targets.0;
+      cycles = kept (breaks rule.FragmentSpreadsMustNotFormCycles) (fragment_cycles p) at_cycles.0;
+      possible_spreads = kept (breaks rule.FragmentSpreadIsPossible) (impossible_spreads p) at_cycles.1;
+      values = kept (breaks rule.ValuesOfCorrectType) (wrong_values p) values.0;
+      known_directives = kept (breaks rule.DirectivesAreDefined) (directives_are_defined p) at_known_directives.0;
+      directive_locations = kept (breaks rule.DirectivesAreInValidLocations) (directives_are_in_valid_locations p) at_directive_locations.0;
+      directives_once = kept (breaks rule.DirectivesAreUniquePerLocation) (directives_are_unique_per_location p) at_directive_locations.1;
+      variables_once = kept (breaks rule.VariableUniqueness) (variable_uniqueness p) at_variables_once.0;
+      input_types = kept (breaks rule.VariablesAreInputTypes) (non_input_variables p) at_input_types.0;
+      uses_defined = kept (breaks rule.AllVariableUsesDefined) (all_variable_uses_defined p) at_uses_defined.0;
+      variables_used = kept (breaks rule.AllVariablesUsed) (all_variables_used p) at_variables_used.0;
+      allowed_usages = kept (breaks rule.AllVariableUsagesAreAllowed) (forbidden_usages p) at_variables_used.1;
+      levels = kept too_deep_fault (too_deep p) limits.0;
+      few_fields = few (is_too_complex p) limits.1;
+      merging = merging-kept p only.1;
+    }
+
+no-operations : (p : PartsOf) → KeepsRules p → operations_fault p ≡ None
+no-operations p k =
+    together _ _ (untold (breaks rule.OperationNameUniqueness) (operation_name_uniqueness p) k.operation_names)
+    (untold (breaks rule.LoneAnonymousOperation) (lone_anonymous_operation p) k.lone_operation)
+
+no-fields : (p : PartsOf) → KeepsRules p → fields_fault p ≡ None
+no-fields p k =
+    together _ _ (untold (breaks rule.FieldSelections) (unknown_fields p) k.selected_fields)
+    (untold (breaks rule.LeafFieldSelections) (misfit_fields p) k.leaves)
+
+no-arguments : (p : PartsOf) → KeepsRules p → arguments_fault p ≡ None
+no-arguments p k =
+    together _ _ (untold (breaks rule.ArgumentNames) (unknown_arguments p) k.argument_names)
+    (together _ _ (untold (breaks rule.ArgumentUniqueness) (argument_uniqueness p) k.arguments_once)
+    (untold (breaks rule.RequiredArguments) (missing_arguments p) k.required_arguments))
+
+no-fragments : (p : PartsOf) → KeepsRules p → fragments_fault p ≡ None
+no-fragments p k =
+    together _ _ (untold (breaks rule.FragmentNameUniqueness) (fragment_name_uniqueness p) k.fragment_names)
+    (together _ _ (untold (breaks rule.FragmentSpreadTypeExistence) (unknown_types p) k.fragment_types)
+    (together _ _ (untold (breaks rule.FragmentsOnCompositeTypes) (leaf_types p) k.composite_types)
+    (untold (breaks rule.FragmentsMustBeUsed) (fragments_must_be_used p) k.fragments_used)))
+
+no-spreads : (p : PartsOf) → KeepsRules p → spreads_fault p ≡ None
+no-spreads p k =
+    together _ _ (untold (breaks rule.FragmentSpreadTargetDefined) (fragment_spread_target_defined p) k.spread_targets)
+    (together _ _ (untold (breaks rule.FragmentSpreadsMustNotFormCycles) (fragment_cycles p) k.cycles)
+    (untold (breaks rule.FragmentSpreadIsPossible) (impossible_spreads p) k.possible_spreads))
+
+no-values : (p : PartsOf) → KeepsRules p → values_fault p ≡ None
+no-values p k =
+    untold (breaks rule.ValuesOfCorrectType) (wrong_values p) k.values
+
+no-directives : (p : PartsOf) → KeepsRules p → directives_fault p ≡ None
+no-directives p k =
+    together _ _ (untold (breaks rule.DirectivesAreDefined) (directives_are_defined p) k.known_directives)
+    (together _ _ (untold (breaks rule.DirectivesAreInValidLocations) (directives_are_in_valid_locations p) k.directive_locations)
+    (untold (breaks rule.DirectivesAreUniquePerLocation) (directives_are_unique_per_location p) k.directives_once))
+
+no-variables : (p : PartsOf) → KeepsRules p → variables_fault p ≡ None
+no-variables p k =
+    together _ _ (untold (breaks rule.VariableUniqueness) (variable_uniqueness p) k.variables_once)
+    (together _ _ (untold (breaks rule.VariablesAreInputTypes) (non_input_variables p) k.input_types)
+    (together _ _ (untold (breaks rule.AllVariableUsesDefined) (all_variable_uses_defined p) k.uses_defined)
+    (together _ _ (untold (breaks rule.AllVariablesUsed) (all_variables_used p) k.variables_used)
+    (untold (breaks rule.AllVariableUsagesAreAllowed) (forbidden_usages p) k.allowed_usages))))
+
+no-rules : (p : PartsOf) → KeepsRules p → rules_fault p ≡ None
+no-rules p k =
+    together _ _ (untold not_served_fault (not_served p) k.served)
+    (together _ _ (no-operations p k)
+    (together _ _ (no-fields p k)
+    (together _ _ (no-arguments p k)
+    (together _ _ (no-fragments p k)
+    (together _ _ (no-spreads p k)
+    (together _ _ (no-values p k)
+    (together _ _ (no-directives p k) (no-variables p k))))))))
+
+pub keeps-valid : (p : PartsOf) → KeepsRules p → IsVerdictAfter p (first_fault p) None
+keeps-valid p k =
+    let limits = together _ _ (untold too_deep_fault (too_deep p) k.levels) (ap complex k.few_fields) in
+    let first = together _ _ (no-rules p k) limits in
+    subst (λ (f : Option FaultOf). IsVerdictAfter p f None) (sym first) (merging-untold p k.merging)
