@@ -1,7 +1,6 @@
 //! States that are built as far as the memory goes.
 
 ghost use Rattle.std.specs.Prelude.{◌≡◌, IfOk, OnOk, map, option_map};
-ghost use Rattle.std.specs.Arc.{arc_value};
 ghost use Rattle.load_memory.specs.Keys.{key_of};
 ghost use Rattle.load_memory.specs.Rows.{cell_of};
 ghost use Rattle.load_memory.specs.Outcomes.{outcome_of};
@@ -10,13 +9,13 @@ ghost use Rattle.execution.specs.Residual.{rest};
 ghost use Rattle.gq_check.specs.Plans.{plan_of};
 ghost use Rattle.plan_program.specs.Prepared.{own_seen, key_from_seen, keys_seen, below_seen, asked_seen, prepared_seen, all_prepared_seen};
 ghost use Rattle.plan_program.specs.PlanPrograms.{with_rows, read_from, read_cell, read_if, first_object, all_objects, joined_objects, row_object, list_of, asked_program, prepared_program, object_program};
-ghost use Rattle.gq_resolve.specs.Shapes.{below_in, Fits, Keeps};
+ghost use Rattle.gq_resolve.specs.Shapes.{below_in, prepared_in, AskedFits, MembersFit, Fits, Keeps, KeepsAsked, KeepsMembers};
 ghost use Rattle.gq_resolve.specs.States.{told, then_rows, program_of, spot_of};
 
 use crate::cells::{TypeOf, cell_value, type_of_row};
 use crate::no_memory::NoMemory;
 use crate::reading::told;
-use crate::shapes::Shapes;
+use crate::shapes::{Member, Shape, place_of};
 use crate::state::{Items, Spot, State, Then};
 use gq_check::Plan;
 use load_memory::{Cell, Key, Memory, Outcome, Row};
@@ -56,22 +55,25 @@ fn copied_own(own: &Own) -> Result<Own, AllocError>
     }
 }
 
-/// An object over a row, from its prepared groups, with so many levels of objects below it.
+/// An object over a row, from the groups of its type, with so many levels of objects below it.
 #[cycle(build)]
 pub fn object<'p>(
     alloc: Global,
     plan: &'p Plan<'_>,
     memory: &Memory,
     levels: u32,
-    prepared: &[Prepared<'p>],
+    members: &mut [Member<'p>],
     row: &Row,
 ) -> Result<State<'p>, NoMemory>
-    ensures { IfOk result (λ state. program_of (plan_of plan.now) state ≡ rest (prepared_program (plan_of plan.now).definitions (object_program (plan_of plan.now) levels) (all_prepared_seen prepared.now) row.now) (told memory.now)) }
+    ensures keeps { OnOk result (KeepsMembers (plan_of plan.now) members.old members.new) }
+    ensures state { IfOk result (λ state. MembersFit (Fits (plan_of plan.now) levels) members.old → program_of (plan_of plan.now) state ≡ rest (prepared_program (plan_of plan.now).definitions (object_program (plan_of plan.now) levels) (all_prepared_seen (prepared_in members.old)) row.now) (told memory.now)) }
 {
-    let mut children = Vec::with_capacity(alloc, prepared.len())?;
-    for field in prepared {
-        let child = asked(alloc, plan, memory, levels, &field.asked, row)?;
-        children.push((field_spot(field), child))?;
+    let mut children = Vec::with_capacity(alloc, members.len())?;
+    for member in members.iter_mut() {
+        let spot = field_spot(&member.prepared);
+        let group = &member.prepared.asked;
+        let child = asked(alloc, plan, memory, levels, group, &mut member.met, row)?;
+        children.push((spot, child))?;
     }
     Ok(State::Object(children))
 }
@@ -84,9 +86,11 @@ fn asked<'p>(
     memory: &Memory,
     levels: u32,
     asked: &Asked<'p>,
+    met: &mut Vec<Shape<'p>>,
     row: &Row,
 ) -> Result<State<'p>, NoMemory>
-    ensures { IfOk result (λ state. program_of (plan_of plan.now) state ≡ rest (asked_program (plan_of plan.now).definitions (object_program (plan_of plan.now) levels) row.now (asked_seen asked.now)) (told memory.now)) }
+    ensures keeps { OnOk result (KeepsAsked (plan_of plan.now) (asked_seen asked.now) met.old.items met.new.items) }
+    ensures state { IfOk result (λ state. AskedFits (Fits (plan_of plan.now) levels) (asked_seen asked.now) met.old.items → program_of (plan_of plan.now) state ≡ rest (asked_program (plan_of plan.now).definitions (object_program (plan_of plan.now) levels) row.now (asked_seen asked.now)) (told memory.now)) }
 {
     match asked {
         Asked::Known(own) => Ok(State::Done(copied_own(own)?)),
@@ -95,41 +99,22 @@ fn asked<'p>(
             Ok(State::Done(own))
         }
         Asked::First { loader, key, below } => {
-            let mut shapes = Shapes::new(alloc, below);
+            let next = Then::First;
             read_from(
-                alloc,
-                plan,
-                memory,
-                levels,
-                *loader,
-                key,
-                Then::First,
-                &mut shapes,
-                row,
+                alloc, plan, memory, levels, *loader, key, next, below, met, row,
             )
         }
         Asked::All { loader, key, below } => {
-            let mut shapes = Shapes::new(alloc, below);
+            let next = Then::All;
             read_from(
-                alloc,
-                plan,
-                memory,
-                levels,
-                *loader,
-                key,
-                Then::All,
-                &mut shapes,
-                row,
+                alloc, plan, memory, levels, *loader, key, next, below, met, row,
             )
         }
         Asked::Each {
             loader,
             keys,
             below,
-        } => {
-            let mut shapes = Shapes::new(alloc, below);
-            each(alloc, plan, memory, levels, *loader, keys, &mut shapes)
-        }
+        } => each(alloc, plan, memory, levels, *loader, keys, below, met),
         Asked::Joined {
             loader,
             key,
@@ -141,17 +126,8 @@ fn asked<'p>(
                 second: *second,
                 column: *column,
             };
-            let mut shapes = Shapes::new(alloc, below);
             read_from(
-                alloc,
-                plan,
-                memory,
-                levels,
-                *loader,
-                key,
-                next,
-                &mut shapes,
-                row,
+                alloc, plan, memory, levels, *loader, key, next, below, met, row,
             )
         }
     }
@@ -167,20 +143,21 @@ fn read_from<'p>(
     loader: usize,
     key: &KeyFrom<'p>,
     next: Then<'p>,
-    shapes: &mut Shapes<'_, 'p>,
+    below: &Arc<Below<'p>>,
+    met: &mut Vec<Shape<'p>>,
     row: &Row,
 ) -> Result<State<'p>, NoMemory>
-    ensures keeps { OnOk result (Keeps (plan_of plan.now) shapes.old shapes.new) }
-    ensures state { IfOk result (λ state. Fits (plan_of plan.now) shapes.old → program_of (plan_of plan.now) state ≡ rest (read_from loader (key_from_seen key.now) row.now (then_rows (plan_of plan.now) levels next.entry (below_in shapes.old))) (told memory.now)) }
+    ensures keeps { OnOk result (Keeps (plan_of plan.now) (below_in below.now) met.old.items met.new.items) }
+    ensures state { IfOk result (λ state. Fits (plan_of plan.now) levels (below_in below.now) met.old.items → program_of (plan_of plan.now) state ≡ rest (read_from loader (key_from_seen key.now) row.now (then_rows (plan_of plan.now) levels next.entry (below_in below.now))) (told memory.now)) }
 {
     match key {
         KeyFrom::Fixed(key) => {
             let key = key.clone()?;
-            read(alloc, plan, memory, levels, loader, key, next, shapes)
+            read(alloc, plan, memory, levels, loader, key, next, below, met)
         }
         KeyFrom::Column(column) => {
             read_cell(
-                alloc, plan, memory, levels, loader, column, next, shapes, row,
+                alloc, plan, memory, levels, loader, column, next, below, met, row,
             )
         }
     }
@@ -196,18 +173,19 @@ fn read_cell<'p>(
     loader: usize,
     column: &str,
     next: Then<'p>,
-    shapes: &mut Shapes<'_, 'p>,
+    below: &Arc<Below<'p>>,
+    met: &mut Vec<Shape<'p>>,
     row: &Row,
 ) -> Result<State<'p>, NoMemory>
-    ensures keeps { OnOk result (Keeps (plan_of plan.now) shapes.old shapes.new) }
-    ensures state { IfOk result (λ state. Fits (plan_of plan.now) shapes.old → program_of (plan_of plan.now) state ≡ rest (read_cell loader column.now (cell_of row.now column.now) (then_rows (plan_of plan.now) levels next.entry (below_in shapes.old))) (told memory.now)) }
+    ensures keeps { OnOk result (Keeps (plan_of plan.now) (below_in below.now) met.old.items met.new.items) }
+    ensures state { IfOk result (λ state. Fits (plan_of plan.now) levels (below_in below.now) met.old.items → program_of (plan_of plan.now) state ≡ rest (read_cell loader column.now (cell_of row.now column.now) (then_rows (plan_of plan.now) levels next.entry (below_in below.now))) (told memory.now)) }
 {
     match row.get(column) {
         Cell::NoColumn => Ok(State::Done(Own::Fault(no_column_message(alloc, column)?))),
         Cell::Null => Ok(State::Done(Own::Null)),
         Cell::Text(text) => {
             let key = Key::Text(String::from_str(alloc, text)?);
-            read(alloc, plan, memory, levels, loader, key, next, shapes)
+            read(alloc, plan, memory, levels, loader, key, next, below, met)
         }
     }
 }
@@ -222,19 +200,20 @@ pub fn read<'p>(
     loader: usize,
     key: Key,
     next: Then<'p>,
-    shapes: &mut Shapes<'_, 'p>,
+    below: &Arc<Below<'p>>,
+    met: &mut Vec<Shape<'p>>,
 ) -> Result<State<'p>, NoMemory>
-    ensures keeps { OnOk result (Keeps (plan_of plan.now) shapes.old shapes.new) }
-    ensures state { IfOk result (λ state. Fits (plan_of plan.now) shapes.old → program_of (plan_of plan.now) state ≡ rest (Read (record { loader = loader; key = key_of key }) (with_rows (then_rows (plan_of plan.now) levels next.entry (below_in shapes.old)))) (told memory.now)) }
+    ensures keeps { OnOk result (Keeps (plan_of plan.now) (below_in below.now) met.old.items met.new.items) }
+    ensures state { IfOk result (λ state. Fits (plan_of plan.now) levels (below_in below.now) met.old.items → program_of (plan_of plan.now) state ≡ rest (Read (record { loader = loader; key = key_of key }) (with_rows (then_rows (plan_of plan.now) levels next.entry (below_in below.now)))) (told memory.now)) }
 {
     match told(alloc, memory, loader, &key)? {
-        Some(outcome) => go_on(alloc, plan, memory, levels, next, shapes, outcome),
+        Some(outcome) => go_on(alloc, plan, memory, levels, next, below, met, outcome),
         None => Ok(State::Waits {
             loader,
             key,
             next,
             levels,
-            below: Arc::try_clone(shapes.below)?,
+            below: Arc::try_clone(below)?,
         }),
     }
 }
@@ -247,18 +226,21 @@ fn go_on<'p>(
     memory: &Memory,
     levels: u32,
     next: Then<'p>,
-    shapes: &mut Shapes<'_, 'p>,
+    below: &Arc<Below<'p>>,
+    met: &mut Vec<Shape<'p>>,
     outcome: &Outcome,
 ) -> Result<State<'p>, NoMemory>
-    ensures keeps { OnOk result (Keeps (plan_of plan.now) shapes.old shapes.new) }
-    ensures state { IfOk result (λ state. Fits (plan_of plan.now) shapes.old → program_of (plan_of plan.now) state ≡ rest (with_rows (then_rows (plan_of plan.now) levels next.entry (below_in shapes.old)) (outcome_of outcome.now)) (told memory.now)) }
+    ensures keeps { OnOk result (Keeps (plan_of plan.now) (below_in below.now) met.old.items met.new.items) }
+    ensures state { IfOk result (λ state. Fits (plan_of plan.now) levels (below_in below.now) met.old.items → program_of (plan_of plan.now) state ≡ rest (with_rows (then_rows (plan_of plan.now) levels next.entry (below_in below.now)) (outcome_of outcome.now)) (told memory.now)) }
 {
     match outcome {
         Outcome::Rows(rows) => match next {
-            Then::First => first(alloc, plan, memory, levels, shapes, rows),
-            Then::All => all(alloc, plan, memory, levels, shapes, rows),
+            Then::First => first(alloc, plan, memory, levels, below, met, rows),
+            Then::All => all(alloc, plan, memory, levels, below, met, rows),
             Then::Joined { second, column } => {
-                joined(alloc, plan, memory, levels, shapes, second, column, rows)
+                joined(
+                    alloc, plan, memory, levels, below, met, second, column, rows,
+                )
             }
         },
         Outcome::KeyFault(text) => Ok(State::Done(Own::Fault(text.clone()?))),
@@ -273,15 +255,16 @@ fn first<'p>(
     plan: &'p Plan<'_>,
     memory: &Memory,
     levels: u32,
-    shapes: &mut Shapes<'_, 'p>,
+    below: &Arc<Below<'p>>,
+    met: &mut Vec<Shape<'p>>,
     rows: &[Row],
 ) -> Result<State<'p>, NoMemory>
-    ensures keeps { OnOk result (Keeps (plan_of plan.now) shapes.old shapes.new) }
-    ensures state { IfOk result (λ state. Fits (plan_of plan.now) shapes.old → program_of (plan_of plan.now) state ≡ rest (first_object (plan_of plan.now).definitions (object_program (plan_of plan.now) levels) (below_in shapes.old) rows.now) (told memory.now)) }
+    ensures keeps { OnOk result (Keeps (plan_of plan.now) (below_in below.now) met.old.items met.new.items) }
+    ensures state { IfOk result (λ state. Fits (plan_of plan.now) levels (below_in below.now) met.old.items → program_of (plan_of plan.now) state ≡ rest (first_object (plan_of plan.now).definitions (object_program (plan_of plan.now) levels) (below_in below.now) rows.now) (told memory.now)) }
 {
     match rows {
         [] => Ok(State::Done(Own::Null)),
-        [row, ..] => row_object(alloc, plan, memory, levels, shapes, row),
+        [row, ..] => row_object(alloc, plan, memory, levels, below, met, row),
     }
 }
 
@@ -292,18 +275,19 @@ fn all<'p>(
     plan: &'p Plan<'_>,
     memory: &Memory,
     levels: u32,
-    shapes: &mut Shapes<'_, 'p>,
+    below: &Arc<Below<'p>>,
+    met: &mut Vec<Shape<'p>>,
     rows: &[Row],
 ) -> Result<State<'p>, NoMemory>
-    ensures keeps { OnOk result (Keeps (plan_of plan.now) shapes.old shapes.new) }
-    ensures state { IfOk result (λ state. Fits (plan_of plan.now) shapes.old → program_of (plan_of plan.now) state ≡ rest (all_objects (plan_of plan.now).definitions (object_program (plan_of plan.now) levels) (below_in shapes.old) rows.now) (told memory.now)) }
+    ensures keeps { OnOk result (Keeps (plan_of plan.now) (below_in below.now) met.old.items met.new.items) }
+    ensures state { IfOk result (λ state. Fits (plan_of plan.now) levels (below_in below.now) met.old.items → program_of (plan_of plan.now) state ≡ rest (all_objects (plan_of plan.now).definitions (object_program (plan_of plan.now) levels) (below_in below.now) rows.now) (told memory.now)) }
 {
     let mut children = Vec::with_capacity(alloc, rows.len())?;
     for row in rows {
-        let child = row_object(alloc, plan, memory, levels, shapes, row)?;
+        let child = row_object(alloc, plan, memory, levels, below, met, row)?;
         children.push(child)?;
     }
-    Ok(State::List(items_of(shapes.below), children))
+    Ok(State::List(items_of(below), children))
 }
 
 // A place for each row, read by its own key.
@@ -313,13 +297,14 @@ fn joined<'p>(
     plan: &'p Plan<'_>,
     memory: &Memory,
     levels: u32,
-    shapes: &mut Shapes<'_, 'p>,
+    below: &Arc<Below<'p>>,
+    met: &mut Vec<Shape<'p>>,
     second: usize,
     column: &'p str,
     rows: &[Row],
 ) -> Result<State<'p>, NoMemory>
-    ensures keeps { OnOk result (Keeps (plan_of plan.now) shapes.old shapes.new) }
-    ensures state { IfOk result (λ state. Fits (plan_of plan.now) shapes.old → program_of (plan_of plan.now) state ≡ rest (joined_objects (plan_of plan.now).definitions (object_program (plan_of plan.now) levels) (below_in shapes.old) second column.now rows.now) (told memory.now)) }
+    ensures keeps { OnOk result (Keeps (plan_of plan.now) (below_in below.now) met.old.items met.new.items) }
+    ensures state { IfOk result (λ state. Fits (plan_of plan.now) levels (below_in below.now) met.old.items → program_of (plan_of plan.now) state ≡ rest (joined_objects (plan_of plan.now).definitions (object_program (plan_of plan.now) levels) (below_in below.now) second column.now rows.now) (told memory.now)) }
 {
     let mut children = Vec::with_capacity(alloc, rows.len())?;
     for row in rows {
@@ -331,12 +316,13 @@ fn joined<'p>(
             second,
             column,
             Then::First,
-            shapes,
+            below,
+            met,
             row,
         )?;
         children.push(child)?;
     }
-    Ok(State::List(items_of(shapes.below), children))
+    Ok(State::List(items_of(below), children))
 }
 
 // A place for each key.
@@ -348,16 +334,18 @@ fn each<'p>(
     levels: u32,
     loader: usize,
     keys: &[Option<Key>],
-    shapes: &mut Shapes<'_, 'p>,
+    below: &Arc<Below<'p>>,
+    met: &mut Vec<Shape<'p>>,
 ) -> Result<State<'p>, NoMemory>
-    ensures { IfOk result (λ state. Fits (plan_of plan.now) shapes.old → program_of (plan_of plan.now) state ≡ rest (list_of (below_in shapes.old) (map (read_if loader (first_object (plan_of plan.now).definitions (object_program (plan_of plan.now) levels) (below_in shapes.old))) (keys_seen keys.now))) (told memory.now)) }
+    ensures keeps { OnOk result (Keeps (plan_of plan.now) (below_in below.now) met.old.items met.new.items) }
+    ensures state { IfOk result (λ state. Fits (plan_of plan.now) levels (below_in below.now) met.old.items → program_of (plan_of plan.now) state ≡ rest (list_of (below_in below.now) (map (read_if loader (first_object (plan_of plan.now).definitions (object_program (plan_of plan.now) levels) (below_in below.now))) (keys_seen keys.now))) (told memory.now)) }
 {
     let mut children = Vec::with_capacity(alloc, keys.len())?;
     for key in keys {
-        let child = read_if(alloc, plan, memory, levels, loader, key, shapes)?;
+        let child = read_if(alloc, plan, memory, levels, loader, key, below, met)?;
         children.push(child)?;
     }
-    Ok(State::List(items_of(shapes.below), children))
+    Ok(State::List(items_of(below), children))
 }
 
 // The first row of a key, if there is one.
@@ -369,10 +357,11 @@ fn read_if<'p>(
     levels: u32,
     loader: usize,
     key: &Option<Key>,
-    shapes: &mut Shapes<'_, 'p>,
+    below: &Arc<Below<'p>>,
+    met: &mut Vec<Shape<'p>>,
 ) -> Result<State<'p>, NoMemory>
-    ensures keeps { OnOk result (Keeps (plan_of plan.now) shapes.old shapes.new) }
-    ensures state { IfOk result (λ state. Fits (plan_of plan.now) shapes.old → program_of (plan_of plan.now) state ≡ rest (read_if loader (first_object (plan_of plan.now).definitions (object_program (plan_of plan.now) levels) (below_in shapes.old)) (option_map key_of key.now)) (told memory.now)) }
+    ensures keeps { OnOk result (Keeps (plan_of plan.now) (below_in below.now) met.old.items met.new.items) }
+    ensures state { IfOk result (λ state. Fits (plan_of plan.now) levels (below_in below.now) met.old.items → program_of (plan_of plan.now) state ≡ rest (read_if loader (first_object (plan_of plan.now).definitions (object_program (plan_of plan.now) levels) (below_in below.now)) (option_map key_of key.now)) (told memory.now)) }
 {
     match key {
         Some(key) => {
@@ -385,7 +374,8 @@ fn read_if<'p>(
                 loader,
                 key,
                 Then::First,
-                shapes,
+                below,
+                met,
             )
         }
         None => Ok(State::Done(Own::Null)),
@@ -399,14 +389,15 @@ fn row_object<'p>(
     plan: &'p Plan<'_>,
     memory: &Memory,
     levels: u32,
-    shapes: &mut Shapes<'_, 'p>,
+    below: &Arc<Below<'p>>,
+    met: &mut Vec<Shape<'p>>,
     row: &Row,
 ) -> Result<State<'p>, NoMemory>
-    ensures keeps { OnOk result (Keeps (plan_of plan.now) shapes.old shapes.new) }
-    ensures state { IfOk result (λ state. Fits (plan_of plan.now) shapes.old → program_of (plan_of plan.now) state ≡ rest (row_object (plan_of plan.now).definitions (object_program (plan_of plan.now) levels) (below_in shapes.old) row.now) (told memory.now)) }
+    ensures keeps { OnOk result (Keeps (plan_of plan.now) (below_in below.now) met.old.items met.new.items) }
+    ensures state { IfOk result (λ state. Fits (plan_of plan.now) levels (below_in below.now) met.old.items → program_of (plan_of plan.now) state ≡ rest (row_object (plan_of plan.now).definitions (object_program (plan_of plan.now) levels) (below_in below.now) row.now) (told memory.now)) }
 {
-    match type_of_row(alloc, plan.schema(), shapes.below.type_name, row)? {
-        TypeOf::Object(ty) => typed_object(alloc, plan, memory, levels, shapes, ty, row),
+    match type_of_row(alloc, plan.schema(), below.type_name, row)? {
+        TypeOf::Object(ty) => typed_object(alloc, plan, memory, levels, below, met, ty, row),
         TypeOf::Fault(text) => Ok(State::Done(Own::Fault(text))),
     }
 }
@@ -418,23 +409,18 @@ fn typed_object<'p>(
     plan: &'p Plan<'_>,
     memory: &Memory,
     levels: u32,
-    shapes: &mut Shapes<'_, 'p>,
+    below: &Arc<Below<'p>>,
+    met: &mut Vec<Shape<'p>>,
     ty: &str,
     row: &Row,
 ) -> Result<State<'p>, NoMemory>
-    ensures keeps { OnOk result (Keeps (plan_of plan.now) shapes.old shapes.new) }
-    ensures state { IfOk result (λ state. Fits (plan_of plan.now) shapes.old → program_of (plan_of plan.now) state ≡ rest (object_program (plan_of plan.now) levels ty.now (below_in shapes.old).fields row.now) (told memory.now)) }
+    ensures keeps { OnOk result (Keeps (plan_of plan.now) (below_in below.now) met.old.items met.new.items) }
+    ensures state { IfOk result (λ state. Fits (plan_of plan.now) levels (below_in below.now) met.old.items → program_of (plan_of plan.now) state ≡ rest (object_program (plan_of plan.now) levels ty.now (below_in below.now).fields row.now) (told memory.now)) }
 {
     if levels == 0 {
         return Ok(State::Done(Own::Null));
     }
-    let place = shapes.place_of(alloc, plan, ty)?;
-    object(
-        alloc,
-        plan,
-        memory,
-        levels - 1,
-        &shapes.met[place].prepared,
-        row,
-    )
+    let place = place_of(alloc, plan, below, met, ty)?;
+    let members = &mut met[place].members;
+    object(alloc, plan, memory, levels - 1, members, row)
 }

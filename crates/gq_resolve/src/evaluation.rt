@@ -18,6 +18,7 @@ use crate::answered::Answered;
 use crate::build::object;
 use crate::finish::finished;
 use crate::no_memory::NoMemory;
+use crate::shapes::members_of;
 use crate::state::State;
 use crate::waiting::{Load, loads_of};
 use futures::task::Poll;
@@ -39,8 +40,9 @@ fn root<'p>(alloc: Global, plan: &'p Plan<'_>, memory: &Memory) -> Result<State<
     let selections = &plan.operation().selection_set.selections;
     let groups = collect(alloc, plan, ty, selections)?;
     let prepared = prepare(alloc, plan, ty, groups)?;
+    let mut members = members_of(alloc, prepared)?;
     let row = Row::new(alloc, &[])?;
-    object(alloc, plan, memory, MOST_LEVELS, &prepared, &row)
+    object(alloc, plan, memory, MOST_LEVELS, &mut members, &row)
 }
 
 // The answer of a state in which nothing waits.

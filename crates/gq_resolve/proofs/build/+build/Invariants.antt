@@ -7,7 +7,7 @@ use Rattle.execution.specs.Residual.{rest}
 use Rattle.gq_check.specs.Plans.{plan_of}
 use Rattle.plan_program.specs.Prepared.{all_prepared_seen}
 use Rattle.plan_program.specs.PlanPrograms.{fields_of, asked_program, object_program, row_object, read_cell, read_if, first_object}
-use Rattle.gq_resolve.specs.Shapes.{below_in, Fits, Keeps}
+use Rattle.gq_resolve.specs.Shapes.{below_in, prepared_in, MembersFit, Fits, Keeps, KeepsMembers}
 use Rattle.gq_resolve.specs.States.{told, program_of}
 use Rattle.gq_resolve.specs.declared.state.Then.{Then}
 use Rattle.gq_resolve.specs.declared.state.Then.TheVariants.{First, All, Joined}
@@ -59,26 +59,28 @@ decreases-asked l = 20 * l.levels + 13
 abbrev pub decreases-object : goal.decreases-object
 decreases-object l = 20 * l.levels + 14
 
-abbrev pub invariant-object-loop-field : goal.invariant-object-loop-field
-invariant-object-loop-field l =
-    Gathers (plan_of l.plan) (told l.memory) (fields_of (asked_program (plan_of l.plan).definitions (object_program (plan_of l.plan) l.levels) l.row) (all_prepared_seen (take l.field-index l.prepared))) l.children.items
+abbrev pub invariant-object-loop-member : goal.invariant-object-loop-member
+invariant-object-loop-member l =
+    KeepsMembers (plan_of l.plan) l.fn.members l.members
+    × (MembersFit (Fits (plan_of l.plan) l.levels) l.fn.members
+    → Gathers (plan_of l.plan) (told l.memory) (fields_of (asked_program (plan_of l.plan).definitions (object_program (plan_of l.plan) l.levels) l.row) (all_prepared_seen (take l.member-index (prepared_in l.fn.members)))) l.children.items)
 
 abbrev pub invariant-all-loop-row : goal.invariant-all-loop-row
 invariant-all-loop-row l =
-    Keeps (plan_of l.plan) l.fn.shapes l.shapes
-    × (Fits (plan_of l.plan) l.fn.shapes
-    → map (program_of (plan_of l.plan)) l.children.items ≡ map (λ (r : RowOf). rest (row_object (plan_of l.plan).definitions (object_program (plan_of l.plan) l.levels) (below_in l.fn.shapes) r) (told l.memory)) (take l.row-index l.rows))
+    Keeps (plan_of l.plan) (below_in l.below) l.fn.met.items l.met.items
+    × (Fits (plan_of l.plan) l.levels (below_in l.below) l.fn.met.items
+    → map (program_of (plan_of l.plan)) l.children.items ≡ map (λ (r : RowOf). rest (row_object (plan_of l.plan).definitions (object_program (plan_of l.plan) l.levels) (below_in l.below) r) (told l.memory)) (take l.row-index l.rows))
 
 abbrev pub invariant-joined-loop-row : goal.invariant-joined-loop-row
 invariant-joined-loop-row l =
-    Keeps (plan_of l.plan) l.fn.shapes l.shapes
-    × (Fits (plan_of l.plan) l.fn.shapes
+    Keeps (plan_of l.plan) (below_in l.below) l.fn.met.items l.met.items
+    × (Fits (plan_of l.plan) l.levels (below_in l.below) l.fn.met.items
     → map (program_of (plan_of l.plan)) l.children.items
-    ≡ map (λ (r : RowOf). rest (read_cell l.second l.column (cell_of r l.column) (first_object (plan_of l.plan).definitions (object_program (plan_of l.plan) l.levels) (below_in l.fn.shapes))) (told l.memory)) (take l.row-index l.rows))
+    ≡ map (λ (r : RowOf). rest (read_cell l.second l.column (cell_of r l.column) (first_object (plan_of l.plan).definitions (object_program (plan_of l.plan) l.levels) (below_in l.below))) (told l.memory)) (take l.row-index l.rows))
 
 abbrev pub invariant-each-loop-key : goal.invariant-each-loop-key
 invariant-each-loop-key l =
-    Keeps (plan_of l.plan) l.fn.shapes l.shapes
-    × (Fits (plan_of l.plan) l.fn.shapes
+    Keeps (plan_of l.plan) (below_in l.below) l.fn.met.items l.met.items
+    × (Fits (plan_of l.plan) l.levels (below_in l.below) l.fn.met.items
     → map (program_of (plan_of l.plan)) l.children.items
-    ≡ map (λ (k : Option Key). rest (read_if l.loader (first_object (plan_of l.plan).definitions (object_program (plan_of l.plan) l.levels) (below_in l.fn.shapes)) (option_map key_of k)) (told l.memory)) (take l.key-index l.keys))
+    ≡ map (λ (k : Option Key). rest (read_if l.loader (first_object (plan_of l.plan).definitions (object_program (plan_of l.plan) l.levels) (below_in l.below)) (option_map key_of k)) (told l.memory)) (take l.key-index l.keys))

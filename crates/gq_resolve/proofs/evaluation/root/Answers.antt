@@ -1,21 +1,19 @@
 use Rattle.std.proofs.Common.{◌≡◌, ℕ, ◌∙◌, ap, sym, List, [], subst}
-use Rattle.std.specs.Prelude.{IfOk}
 use Rattle.gq_parser.specs.declared.tree.SelectionSet.{SelectionSet}
 use Rattle.gq_parser.specs.declared.tree.Operation.{Operation}
 use Rattle.gq_parser.specs.Tree.{Selections, set_of, map_selections}
 use Rattle.gq_parser.proofs.Views.{of_set}
 use Rattle.schema_syntax.specs.declared.tree.Definition.{Definition}
 use Rattle.gq_schema.specs.Types.{tree_of, root_in}
-use Rattle.load_memory.specs.Rows.{RowOf}
-use Rattle.execution.specs.Residual.{rest}
 use Rattle.gq_check.specs.Plans.{PlanOf, plan_of}
-use Rattle.plan_program.specs.declared.prepared.Prepared.{Prepared}
-use Rattle.plan_program.specs.Asked.{PreparedOf, all_prepared}
+use Rattle.plan_program.specs.Asked.{all_prepared}
 use Rattle.plan_program.specs.Groups.{selections_in, collect}
 use Rattle.plan_program.specs.Prepared.{all_prepared_seen}
-use Rattle.plan_program.specs.PlanPrograms.{root_prepared, prepared_program, object_program, most_levels}
-use Rattle.gq_resolve.specs.declared.state.State.{State}
-use Rattle.gq_resolve.specs.States.{told, program_of}
+use Rattle.plan_program.specs.PlanPrograms.{root_prepared, most_levels}
+use Rattle.gq_resolve.specs.States.{told}
+use Rattle.gq_resolve.specs.Shapes.{prepared_in, MembersFit, Fits}
+use Rattle.gq_resolve.specs.declared.shapes.Member.{Member}
+use Rattle.gq_resolve.proofs.Shaping.{nothing-fits, rooted}
 use Rattle.gq_resolve.proofs.evaluation.root.Goals as goal
 
 pub returns : goal.returns
@@ -29,8 +27,8 @@ returns c =
     let ps : all_prepared_seen c.in_ok-prepared.prepared.items ≡ root_prepared plan =
     c.in_ok-prepared.ensures ∙ ap (all_prepared plan c.root-ty.result.now) (c.in_ok-groups.ensures ∙ ap (collect plan c.root-ty.result.now) ss)
     ∙ ap (λ (ty : List ℕ). all_prepared plan ty (collect plan ty chosen)) root in
-    let Q : List PreparedOf → RowOf → Type 0 = λ (qs : List PreparedOf). λ (row : RowOf).
-    IfOk c.object.result (λ (s : State). program_of plan s ≡ rest (prepared_program plan.definitions (object_program plan most_levels) qs row) (told c.args.memory.now)) in
-    subst (λ (qs : List PreparedOf). Q qs []) ps
-    (subst (λ (xs : List Prepared). Q (all_prepared_seen xs) []) c.deref-2.ensures.value
-    (subst (λ (row : RowOf). Q (all_prepared_seen c.deref-2.result.now) row) c.in_ok-row.ensures c.object.ensures))
+    let lent : List Member = c.deref_mut.result.now in
+    let all : all_prepared_seen (prepared_in lent) ≡ root_prepared plan =
+    ap (λ (ms : List Member). all_prepared_seen (prepared_in ms)) c.deref_mut.ensures.value ∙ ap all_prepared_seen c.in_ok-members.ensures.prepared ∙ ps in
+    let fits : MembersFit (Fits plan most_levels) lent = subst (MembersFit (Fits plan most_levels)) (sym c.deref_mut.ensures.value) (nothing-fits plan most_levels c.in_ok-members.members.items c.in_ok-members.ensures.met) in
+    rooted plan (told c.args.memory.now) most_levels (all_prepared_seen (prepared_in lent)) (root_prepared plan) _ [] c.object.result fits all c.in_ok-row.ensures c.object.ensures.state
