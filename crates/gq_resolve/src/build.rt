@@ -1,14 +1,15 @@
 //! States that are built as far as the memory goes.
 
 ghost use Rattle.std.specs.Prelude.{◌≡◌, IfOk, OnOk, map, option_map};
+ghost use Rattle.gq_parser.specs.Tree.{type_of};
 ghost use Rattle.load_memory.specs.Keys.{key_of};
 ghost use Rattle.load_memory.specs.Rows.{cell_of};
 ghost use Rattle.load_memory.specs.Outcomes.{outcome_of};
-ghost use Rattle.execution.specs.Program.{Read};
+ghost use Rattle.execution.specs.Program.{Is, Read};
 ghost use Rattle.execution.specs.Residual.{rest};
 ghost use Rattle.gq_check.specs.Plans.{plan_of};
 ghost use Rattle.plan_program.specs.Prepared.{own_seen, key_from_seen, keys_seen, below_seen, asked_seen, prepared_seen, all_prepared_seen};
-ghost use Rattle.plan_program.specs.PlanPrograms.{with_rows, read_from, read_cell, read_if, first_object, all_objects, joined_objects, row_object, list_of, asked_program, prepared_program, object_program};
+ghost use Rattle.plan_program.specs.PlanPrograms.{with_rows, cell_value, read_from, read_cell, read_if, first_object, all_objects, joined_objects, row_object, list_of, asked_program, prepared_program, object_program};
 ghost use Rattle.gq_resolve.specs.Shapes.{below_in, prepared_in, AskedFits, MembersFit, Fits, Keeps, KeepsAsked, KeepsMembers};
 ghost use Rattle.gq_resolve.specs.States.{told, then_rows, program_of, spot_of};
 
@@ -18,6 +19,7 @@ use crate::reading::told;
 use crate::shapes::{Member, Shape, place_of};
 use crate::state::{Items, Spot, State, Then};
 use gq_check::Plan;
+use gq_parser::TypeRef;
 use load_memory::{Cell, Key, Memory, Outcome, Row};
 use plan_program::{Asked, Below, KeyFrom, Own, Prepared, no_column_message};
 use std::alloc::{AllocError, Global};
@@ -53,6 +55,20 @@ fn copied_own(own: &Own) -> Result<Own, AllocError>
         Own::Null => Ok(Own::Null),
         Own::Fault(text) => Ok(Own::Fault(text.clone()?)),
     }
+}
+
+// The own value of a column's field.
+fn cell<'p>(
+    alloc: Global,
+    plan: &Plan<'_>,
+    column: &str,
+    ty: &TypeRef,
+    row: &Row,
+) -> Result<State<'p>, NoMemory>
+    ensures { IfOk result (λ state. program_of (plan_of plan.now) state ≡ Is (cell_value (plan_of plan.now).definitions column.now (type_of ty.now) (cell_of row.now column.now))) }
+{
+    let own = cell_value(alloc, plan.schema(), column, ty, row)?;
+    Ok(State::Done(own))
 }
 
 /// An object over a row, from the groups of its type, with so many levels of objects below it.
@@ -94,21 +110,12 @@ fn asked<'p>(
 {
     match asked {
         Asked::Known(own) => Ok(State::Done(copied_own(own)?)),
-        Asked::Cell { column, ty } => {
-            let own = cell_value(alloc, plan.schema(), column, ty, row)?;
-            Ok(State::Done(own))
-        }
+        Asked::Cell { column, ty } => cell(alloc, plan, column, ty, row),
         Asked::First { loader, key, below } => {
-            let next = Then::First;
-            read_from(
-                alloc, plan, memory, levels, *loader, key, next, below, met, row,
-            )
+            first_from(alloc, plan, memory, levels, *loader, key, below, met, row)
         }
         Asked::All { loader, key, below } => {
-            let next = Then::All;
-            read_from(
-                alloc, plan, memory, levels, *loader, key, next, below, met, row,
-            )
+            all_from(alloc, plan, memory, levels, *loader, key, below, met, row)
         }
         Asked::Each {
             loader,
@@ -121,16 +128,78 @@ fn asked<'p>(
             second,
             column,
             below,
-        } => {
-            let next = Then::Joined {
-                second: *second,
-                column: *column,
-            };
-            read_from(
-                alloc, plan, memory, levels, *loader, key, next, below, met, row,
-            )
-        }
+        } => joined_from(
+            alloc, plan, memory, levels, *loader, key, *second, *column, below, met, row,
+        ),
     }
+}
+
+// The first of the rows of a load.
+#[cycle(build)]
+fn first_from<'p>(
+    alloc: Global,
+    plan: &'p Plan<'_>,
+    memory: &Memory,
+    levels: u32,
+    loader: usize,
+    key: &KeyFrom<'p>,
+    below: &Arc<Below<'p>>,
+    met: &mut Vec<Shape<'p>>,
+    row: &Row,
+) -> Result<State<'p>, NoMemory>
+    ensures keeps { OnOk result (Keeps (plan_of plan.now) (below_in below.now) met.old.items met.new.items) }
+    ensures state { IfOk result (λ state. Fits (plan_of plan.now) levels (below_in below.now) met.old.items → program_of (plan_of plan.now) state ≡ rest (read_from loader (key_from_seen key.now) row.now (first_object (plan_of plan.now).definitions (object_program (plan_of plan.now) levels) (below_in below.now))) (told memory.now)) }
+{
+    let next = Then::First;
+    read_from(
+        alloc, plan, memory, levels, loader, key, next, below, met, row,
+    )
+}
+
+// All rows of a load.
+#[cycle(build)]
+fn all_from<'p>(
+    alloc: Global,
+    plan: &'p Plan<'_>,
+    memory: &Memory,
+    levels: u32,
+    loader: usize,
+    key: &KeyFrom<'p>,
+    below: &Arc<Below<'p>>,
+    met: &mut Vec<Shape<'p>>,
+    row: &Row,
+) -> Result<State<'p>, NoMemory>
+    ensures keeps { OnOk result (Keeps (plan_of plan.now) (below_in below.now) met.old.items met.new.items) }
+    ensures state { IfOk result (λ state. Fits (plan_of plan.now) levels (below_in below.now) met.old.items → program_of (plan_of plan.now) state ≡ rest (read_from loader (key_from_seen key.now) row.now (all_objects (plan_of plan.now).definitions (object_program (plan_of plan.now) levels) (below_in below.now))) (told memory.now)) }
+{
+    let next = Then::All;
+    read_from(
+        alloc, plan, memory, levels, loader, key, next, below, met, row,
+    )
+}
+
+// The rows of a load, and for each of them a row of the second loader.
+#[cycle(build)]
+fn joined_from<'p>(
+    alloc: Global,
+    plan: &'p Plan<'_>,
+    memory: &Memory,
+    levels: u32,
+    loader: usize,
+    key: &KeyFrom<'p>,
+    second: usize,
+    column: &'p str,
+    below: &Arc<Below<'p>>,
+    met: &mut Vec<Shape<'p>>,
+    row: &Row,
+) -> Result<State<'p>, NoMemory>
+    ensures keeps { OnOk result (Keeps (plan_of plan.now) (below_in below.now) met.old.items met.new.items) }
+    ensures state { IfOk result (λ state. Fits (plan_of plan.now) levels (below_in below.now) met.old.items → program_of (plan_of plan.now) state ≡ rest (read_from loader (key_from_seen key.now) row.now (joined_objects (plan_of plan.now).definitions (object_program (plan_of plan.now) levels) (below_in below.now) second column.now)) (told memory.now)) }
+{
+    let next = Then::Joined { second, column };
+    read_from(
+        alloc, plan, memory, levels, loader, key, next, below, met, row,
+    )
 }
 
 // A load by a key that may stand in the row.

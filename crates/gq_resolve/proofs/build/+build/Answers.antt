@@ -37,16 +37,16 @@ object-returns-clause-state t c =
     (members-end c.args.members.now c.loop-member.member-index c.loop-member-test.false) (c.loop-member.invariant.1 fits)
 
 pub asked-returns-in-First-clause-keeps : goal.asked-returns-in-First-clause-keeps
-asked-returns-in-First-clause-keeps t c = rw c.in-First.is c.read_from.ensures.keeps
+asked-returns-in-First-clause-keeps t c = rw c.in-First.is c.first_from.ensures.keeps
 
 pub asked-returns-in-First-clause-state : goal.asked-returns-in-First-clause-state
-asked-returns-in-First-clause-state t c = rw c.in-First.is c.read_from.ensures.state
+asked-returns-in-First-clause-state t c = rw c.in-First.is c.first_from.ensures.state
 
 pub asked-returns-in-All-clause-keeps : goal.asked-returns-in-All-clause-keeps
-asked-returns-in-All-clause-keeps t c = rw c.in-All.is c.read_from-in-All.ensures.keeps
+asked-returns-in-All-clause-keeps t c = rw c.in-All.is c.all_from.ensures.keeps
 
 pub asked-returns-in-All-clause-state : goal.asked-returns-in-All-clause-state
-asked-returns-in-All-clause-state t c = rw c.in-All.is c.read_from-in-All.ensures.state
+asked-returns-in-All-clause-state t c = rw c.in-All.is c.all_from.ensures.state
 
 pub asked-returns-in-Each-clause-keeps : goal.asked-returns-in-Each-clause-keeps
 asked-returns-in-Each-clause-keeps t c = rw c.in-Each.is c.each.ensures.keeps
@@ -55,10 +55,10 @@ pub asked-returns-in-Each-clause-state : goal.asked-returns-in-Each-clause-state
 asked-returns-in-Each-clause-state t c = rw (c.in-Each.is, ← c.deref.ensures.value) c.each.ensures.state
 
 pub asked-returns-in-Joined-clause-keeps : goal.asked-returns-in-Joined-clause-keeps
-asked-returns-in-Joined-clause-keeps t c = rw c.in-Joined.is c.read_from-in-Joined.ensures.keeps
+asked-returns-in-Joined-clause-keeps t c = rw c.in-Joined.is c.joined_from.ensures.keeps
 
 pub asked-returns-in-Joined-clause-state : goal.asked-returns-in-Joined-clause-state
-asked-returns-in-Joined-clause-state t c = rw c.in-Joined.is c.read_from-in-Joined.ensures.state
+asked-returns-in-Joined-clause-state t c = rw c.in-Joined.is c.joined_from.ensures.state
 
 pub all-loop-row-preserved : goal.all-loop-row-preserved
 all-loop-row-preserved t c =

@@ -53,11 +53,20 @@ decreases-joined l = 20 * l.levels + 6
 abbrev pub decreases-read_from : goal.decreases-read_from
 decreases-read_from l = 20 * l.levels + 6 + rank_of l.next
 
+abbrev pub decreases-first_from : goal.decreases-first_from
+decreases-first_from l = 20 * l.levels + 13
+
+abbrev pub decreases-all_from : goal.decreases-all_from
+decreases-all_from l = 20 * l.levels + 13
+
+abbrev pub decreases-joined_from : goal.decreases-joined_from
+decreases-joined_from l = 20 * l.levels + 13
+
 abbrev pub decreases-asked : goal.decreases-asked
-decreases-asked l = 20 * l.levels + 13
+decreases-asked l = 20 * l.levels + 14
 
 abbrev pub decreases-object : goal.decreases-object
-decreases-object l = 20 * l.levels + 14
+decreases-object l = 20 * l.levels + 15
 
 abbrev pub invariant-object-loop-member : goal.invariant-object-loop-member
 invariant-object-loop-member l =
