@@ -2,6 +2,7 @@
 
 use argument_sets::are_same_arguments;
 use document_parts::{Broken, Earliest, FieldPart, Parts};
+use gq_lexer::Place;
 use gq_parser::{Selection, SelectionSet, TypeRef};
 use gq_schema::{Schema, TypeKind};
 use std::alloc::{AllocError, Global};
@@ -9,27 +10,19 @@ use std::alloc::{AllocError, Global};
 // More than a selection of any document here stands inside another, with those that fragments enter.
 const DEPTH: usize = 12;
 
-type Fields<'a, 'd> = Vec<&'a FieldPart<'d>>;
-
 // Adds the fields of a set, with those of the fragments that it enters.
-fn collect<'a, 'd>(
-    parts: &'a Parts<'d>,
+fn collect<'d>(
+    parts: &Parts<'d>,
     set: &SelectionSet,
     depth: usize,
-    fields: &mut Fields<'a, 'd>,
+    fields: &mut Vec<FieldPart<'d>>,
 ) -> Result<(), AllocError> {
     if depth == 0 {
         return Ok(());
     }
     for selection in &set.selections {
         match selection {
-            Selection::Field(field) => {
-                for part in &parts.fields {
-                    if part.field.place == field.place {
-                        fields.push(part)?;
-                    }
-                }
-            }
+            Selection::Field(field) => add_at(parts, field.place, fields)?,
             Selection::Inline(inline) => {
                 collect(parts, &inline.selection_set, depth - 1, fields)?;
             }
@@ -45,18 +38,33 @@ fn collect<'a, 'd>(
     Ok(())
 }
 
+// Adds the field of a place.
+fn add_at<'d>(
+    parts: &Parts<'d>,
+    place: Place,
+    fields: &mut Vec<FieldPart<'d>>,
+) -> Result<(), AllocError> {
+    for part in &parts.fields {
+        if part.field.place == place {
+            fields.push(*part)?;
+        }
+    }
+    Ok(())
+}
+
 // The fields of the joined sets of two fields.
-fn joined<'a, 'd>(
+fn joined<'d>(
     alloc: Global,
-    parts: &'a Parts<'d>,
+    parts: &Parts<'d>,
     one: &FieldPart,
     other: &FieldPart,
-) -> Result<Fields<'a, 'd>, AllocError> {
+) -> Result<Vec<FieldPart<'d>>, AllocError> {
     let mut fields = Vec::new(alloc);
-    for part in [one, other] {
-        if let Some(set) = &part.field.selection_set {
-            collect(parts, set, DEPTH, &mut fields)?;
-        }
+    if let Some(set) = &one.field.selection_set {
+        collect(parts, set, DEPTH, &mut fields)?;
+    }
+    if let Some(set) = &other.field.selection_set {
+        collect(parts, set, DEPTH, &mut fields)?;
     }
     Ok(fields)
 }
@@ -118,9 +126,9 @@ fn same_shape(
         return Ok(alike);
     }
     let fields = joined(alloc, parts, one, other)?;
-    for one in &fields {
-        for other in &fields {
-            if is_pair(one, other) && !same_shape(alloc, parts, one, other, depth - 1)? {
+    for first in &fields {
+        for second in &fields {
+            if is_pair(first, second) && !same_shape(alloc, parts, first, second, depth - 1)? {
                 return Ok(false);
             }
         }
@@ -160,9 +168,9 @@ fn merges(
         return Ok(false);
     }
     let fields = joined(alloc, parts, one, other)?;
-    for one in &fields {
-        for other in &fields {
-            if is_pair(one, other) && !merges(alloc, parts, one, other, depth - 1)? {
+    for first in &fields {
+        for second in &fields {
+            if is_pair(first, second) && !merges(alloc, parts, first, second, depth - 1)? {
                 return Ok(false);
             }
         }
