@@ -3,4 +3,6 @@
 #![tactic(auto)]
 
 #[cfg(test)]
+mod bindings;
+#[cfg(test)]
 mod schema;
