@@ -1,4 +1,4 @@
-//! Schemas and bindings.
+//! Schemas.
 
 use gq_lexer::Place;
 use gq_parser::{Selection, parse};

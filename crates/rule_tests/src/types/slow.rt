@@ -1,0 +1,123 @@
+//! Plain slow programs, each beside the real body.
+
+use super::{Rule, SCHEMA, told};
+use gq_schema::Schema;
+use std::alloc::Global;
+use std::process::Abort;
+use std::test::Fail;
+
+/// The item type of a list type.
+fn item_of(of_type: &str) -> Option<&str> {
+    of_type.strip_prefix("[")?.strip_suffix("]")
+}
+
+/// AreTypesCompatible (section 5.8.5), word by word over the types' texts, in at most so many steps.
+fn are_compatible(steps: u8, variable: &str, location: &str) -> bool {
+    if steps == 0 {
+        return false;
+    }
+    if let Some(location) = location.strip_suffix("!") {
+        return match variable.strip_suffix("!") {
+            Some(variable) => are_compatible(steps - 1, variable, location),
+            None => false,
+        };
+    }
+    if let Some(variable) = variable.strip_suffix("!") {
+        return are_compatible(steps - 1, variable, location);
+    }
+    match (item_of(variable), item_of(location)) {
+        (Some(variable), Some(location)) => are_compatible(steps - 1, variable, location),
+        (None, None) => variable == location,
+        _ => false,
+    }
+}
+
+/// IsVariableUsageAllowed (section 5.8.5), with the default's text, which is empty where there is none.
+fn is_usage_allowed(variable: &str, default: &str, location: &str, has_default: bool) -> bool {
+    if let Some(nullable) = location.strip_suffix("!") {
+        if variable.strip_suffix("!").is_none() {
+            let has_value = !default.is_empty() && default != "=null";
+            if !has_value && !has_default {
+                return false;
+            }
+            return are_compatible(8, variable, nullable);
+        }
+    }
+    are_compatible(8, variable, location)
+}
+
+/// Types of variables and, but for lists of lists, of arguments.
+const TYPES: &[&str] = &[
+    "A", "A!", "B", "B!", "[A]", "[A]!", "[A!]", "[A!]!", "[B]", "[B!]!", "[[A]]", "[[A]!]",
+    "[[A!]!]!",
+];
+
+const DEFAULTS: &[&str] = &["", "=null", "=1"];
+
+// A schema with an argument of a type, with a default or not.
+fn schema(alloc: Global, location: &str, has_default: bool) -> Result<Schema, Fail> {
+    let default = match (has_default, location.starts_with('[')) {
+        (false, _) => "",
+        (true, false) => "=X",
+        (true, true) => "=[]",
+    };
+    let text = format!(in alloc;
+        "enum A{{X}} enum B{{X}} type Query{{f(a:{location}{default}):Int}}"
+    )?;
+    Ok(Schema::read(alloc, &text)?)
+}
+
+// Compares the rule with the slow program at each variable, with a location of one type.
+fn compare_at<R: AllocGlobal + Abort>(
+    rt: &R,
+    location: &str,
+    has_default: bool,
+) -> Result<(), Fail> {
+    let schema = schema(rt.alloc(), location, has_default)?;
+    for variable in TYPES {
+        for default in DEFAULTS {
+            let text = format!(in rt.alloc(); "query($v:{variable}{default}){{f(a:$v)}}")?;
+            let found = told(rt.alloc(), &schema, Rule::VariableUsages, &text)?;
+            let slow = is_usage_allowed(variable, default, location, has_default);
+            let is_kept = found.as_str() == "kept";
+            assert_eq!(rt; is_kept, slow, "{text} at {location}");
+        }
+    }
+    Ok(())
+}
+
+#[test]
+fn usages(rt: HostRuntime) -> Result<(), Fail> {
+    for location in &TYPES[..10] {
+        compare_at(&rt, location, false)?;
+        compare_at(&rt, location, true)?;
+    }
+    Ok(())
+}
+
+/// The possible object types of each composite type of the schema (section 5.5.2.3).
+const POSSIBLE: &[(&str, &[&str])] = &[
+    ("Query", &["Query"]),
+    ("Named", &["User", "Bot"]),
+    ("Lone", &[]),
+    ("User", &["User"]),
+    ("Bot", &["Bot"]),
+    ("Post", &["Post"]),
+    ("Any", &["User", "Post"]),
+];
+
+#[test]
+fn overlaps(rt: HostRuntime) -> Result<(), Fail> {
+    let schema = Schema::read(rt.alloc(), SCHEMA)?;
+    for (one, objects) in POSSIBLE {
+        for (other, others) in POSSIBLE {
+            let slow = objects.iter().any(|object| others.contains(object));
+            let text = format!(in rt.alloc();
+                "fragment F on {one}{{...on {other}{{__typename}}}}"
+            )?;
+            let found = told(rt.alloc(), &schema, Rule::PossibleSpreads, &text)?;
+            assert_eq!(rt; found.as_str() == "kept", slow, "{one} and {other}");
+        }
+    }
+    Ok(())
+}
