@@ -1,0 +1,4 @@
+pub mod Entered
+pub mod Leveled
+pub mod Expanded
+pub mod Valid
