@@ -1,42 +1,29 @@
 -- A plan's operation has no path of more fields than its program has levels.
 use Rattle.std.proofs.Common.{◌≡◌, ◌∙◌, sym, ap, subst, refl, ℕ, zero, suc, ◌+◌, ◌<◌, ◌≤◌, Bool, true, false, List, [], ◌∷◌, length, Option, Some, None, Result, Ok, Err, find, arith, if◌then◌else◌}
-use Rattle.std.specs.Prelude.{nat_lt, filter_map, fold, option_map}
+use Rattle.std.specs.Prelude.{nat_lt, filter_map}
 use Rattle.std.specs.List.{cons_option}
 use Rattle.gq_parser.specs.Tree.{Operation, Fragment, Document}
 use Rattle.schema_syntax.specs.Tree.{Definition}
 use Rattle.serde_json.specs.Data.{Data}
-use Rattle.document_parts.specs.Broken.{BrokenOf, with_broken, earliest}
+use Rattle.document_parts.specs.Broken.{BrokenOf}
 use Rattle.document_parts.specs.Listing.{parts_of}
-use Rattle.document_parts.specs.Parts.{PartsOf}
 use Rattle.spread_graph.specs.Graphs.{GraphOf, graph_of}
 use Rattle.spread_graph.specs.Reach.{is_cyclic}
 use Rattle.spread_graph.specs.Levels.{levels_named, levels_expanded, levels_of}
-use Rattle.spread_graph.specs.Rules.{cycles_among, fragment_cycles, deep_operation, too_deep}
+use Rattle.spread_graph.specs.Rules.{cycles_among, deep_operation}
 use Rattle.variable_values.specs.Variables.{VariableOf}
 use Rattle.variable_values.specs.Values as values
 use Rattle.gq_check.specs.Plans.{PlanOf}
 use Rattle.gq_check.specs.Planned.{IsPlan}
 use Rattle.gq_check.specs.Prepared.{PreparedOf, FaultOf as Fault, is_operation, found_operation, chosen_operation, with_variables, prepared_operation, prepared}
-use Rattle.gq_check.specs.Verdict.{first_fault, rules_fault, limits_fault, served_fault, operations_fault, fields_fault, arguments_fault, fragments_fault, spreads_fault}
-use Rattle.gq_check.proofs.Faults.{first-none, second-none}
+use Rattle.gq_check.specs.Valid.{KeepsRules}
+use Rattle.gq_check.proofs.Validity.{valid-keeps}
 use Rattle.plan_program.specs.PlanPrograms.{most_levels, plan_program}
 use Rattle.plan_laws.specs.Levels.{program_with}
 use Rattle.plan_laws.proofs.Leveled.{AreLevels, more-levels}
 use Rattle.plan_laws.proofs.Expanded.{levels-hold}
 
--- ---- nothing is broken where nothing is told
-
-none-told : {A B : Type 0} (f : A → B) (o : Option A) → option_map f o ≡ None → o ≡ None
-none-told f None h = refl
-none-told f (Some x) h = absurd (cc h)
-
-kept-some : (bs : List BrokenOf) (b : BrokenOf) → fold with_broken (Some b) bs ≡ None → ⊥
-kept-some [] b h = cc h
-kept-some (c ∷ cs) b h = kept-some cs _ h
-
-none-broken : (bs : List BrokenOf) → earliest bs ≡ None → bs ≡ []
-none-broken [] h = refl
-none-broken (b ∷ bs) h = absurd (kept-some bs b h)
+-- ---- what a valid document keeps
 
 -- no fragment is on a cycle
 no-cycles : (g : GraphOf) (j : ℕ) (fs : List Fragment) → cycles_among g j fs ≡ [] → (x : ℕ) → x < length fs → is_cyclic g (j + x) ≡ false
@@ -110,36 +97,16 @@ shallow fs (p ∷ os) o (there i) h = shallow fs os o i (rest-of (deep_operation
     rest-of None k = k
     rest-of (Some b) k = absurd (cc k)
 
--- ---- what a valid document keeps
-
-valid-cycles : (p : PartsOf) → first_fault p ≡ None → fragment_cycles p ≡ []
-valid-cycles p h =
-    let rules = first-none (rules_fault p) (limits_fault p) h in
-    let a = second-none (served_fault p) _ rules in
-    let b = second-none (operations_fault p) _ a in
-    let c = second-none (fields_fault p) _ b in
-    let d = second-none (arguments_fault p) _ c in
-    let e = second-none (fragments_fault p) _ d in
-    let f = first-none (spreads_fault p) _ e in
-    let g = second-none _ _ f in
-    let i = first-none _ _ g in
-    none-broken (fragment_cycles p) (none-told _ (earliest (fragment_cycles p)) i)
-
-valid-levels : (p : PartsOf) → first_fault p ≡ None → too_deep p ≡ []
-valid-levels p h =
-    let limits = second-none (rules_fault p) (limits_fault p) h in
-    none-broken (too_deep p) (none-told _ (earliest (too_deep p)) (first-none _ _ limits))
-
 -- the program of a plan is the same over any more levels
 pub plan-levels : (plan : PlanOf) → IsPlan plan → (levels : ℕ) → most_levels ≤ levels → program_with plan levels ≡ plan_program plan
 plan-levels plan is levels le =
     let d : Document = is.document in
-    let fine : first_fault (parts_of plan.definitions is.document) ≡ None = sym is.valid in
+    let keeps : KeepsRules (parts_of plan.definitions is.document) = valid-keeps (parts_of plan.definitions is.document) is.valid in
     let free : (k : ℕ) → k < length is.document.fragments → is_cyclic (graph_of (parts_of plan.definitions is.document)) k ≡ false =
-    λ k lt. let e : 0 + k ≡ k = omega arith in ap (is_cyclic (graph_of (parts_of plan.definitions is.document))) (sym e) ∙ no-cycles (graph_of (parts_of plan.definitions is.document)) 0 is.document.fragments (valid-cycles (parts_of plan.definitions is.document) fine) k lt in
+    λ k lt. let e : 0 + k ≡ k = omega arith in ap (is_cyclic (graph_of (parts_of plan.definitions is.document))) (sym e) ∙ no-cycles (graph_of (parts_of plan.definitions is.document)) 0 is.document.fragments keeps.cycles k lt in
     let spread : List ℕ → ℕ = levels_named (levels_expanded (length is.document.fragments) is.document.fragments) is.document.fragments in
     let held : AreLevels is.document.fragments (levels_named (levels_expanded (length is.document.fragments) is.document.fragments) is.document.fragments) = levels-hold plan.definitions is.document free in
     let P : List Fragment → Type 0 = λ fs. AreLevels fs (levels_named (levels_expanded (length is.document.fragments) is.document.fragments) is.document.fragments) in
     let among = prepared-among plan.definitions is.document.operations is.name is.given (record { operation = plan.operation; variables = plan.variables }) is.prepares in
-    let few = shallow is.document.fragments is.document.operations plan.operation among (valid-levels (parts_of plan.definitions is.document) fine) in
+    let few = shallow is.document.fragments is.document.operations plan.operation among keeps.levels in
     more-levels plan (levels_named (levels_expanded (length is.document.fragments) is.document.fragments) is.document.fragments) (subst P (sym is.same) held) levels few le
