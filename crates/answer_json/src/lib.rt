@@ -13,6 +13,3 @@ mod response;
 pub use answer::{write_answer, write_refusal};
 pub use memory::NoMemory;
 pub use response::{FieldError, PathPart, Response};
-
-#[cfg(test)]
-mod tests;

@@ -12,8 +12,6 @@ mod cut;
 mod form;
 mod lines;
 mod statement;
-#[cfg(test)]
-mod tests;
 mod text;
 mod words;
 

@@ -11,8 +11,6 @@ pub mod law;
 mod read;
 pub mod source;
 pub mod table;
-#[cfg(test)]
-mod tests;
 
 pub use fault::TableFault;
 pub use index::ColumnIndex;

@@ -5,8 +5,6 @@ mod fields;
 mod forms;
 mod loaders;
 mod read;
-#[cfg(test)]
-mod tests;
 mod types;
 
 pub use binding::{Binding, By, KeySource, LoaderLine};

@@ -12,8 +12,6 @@ mod feed;
 mod lines;
 mod output;
 mod serving;
-#[cfg(test)]
-mod tests;
 
 pub use answerer::Answerer;
 pub use device::{Counted, DeviceFault};

@@ -12,8 +12,6 @@ pub mod order;
 mod outcomes;
 pub mod per_key;
 pub mod source;
-#[cfg(test)]
-mod tests;
 pub mod wants;
 
 pub use loader::{Asked, Loader, QueueFault};

@@ -13,8 +13,6 @@ mod merge;
 mod row;
 mod sets;
 mod table;
-#[cfg(test)]
-mod tests;
 
 pub use field::Field;
 pub use keys::failing_keys;

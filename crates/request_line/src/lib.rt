@@ -6,7 +6,5 @@
 #![tactic(auto)]
 
 mod request;
-#[cfg(test)]
-mod tests;
 
 pub use request::{NoMemory, Request, read_value};

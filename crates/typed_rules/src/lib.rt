@@ -30,6 +30,3 @@ pub use unknown_arguments::argument_names;
 pub use unknown_fields::field_selections;
 pub use unknown_types::type_existence;
 pub use wrong_values::correct_values;
-
-#[cfg(test)]
-mod tests;

@@ -9,8 +9,6 @@
 mod coerced;
 mod fault;
 mod json;
-#[cfg(test)]
-mod tests;
 mod variable;
 
 pub use coerced::coerce_variables;
