@@ -16,8 +16,6 @@ mod places;
 mod plan;
 mod preparation;
 mod rules;
-#[cfg(test)]
-mod tests;
 mod told;
 mod validation;
 mod variables;

@@ -1,5 +1,5 @@
 //! What no clause says: that calls succeed, and the faults of worked examples as they are printed.
-use crate::{CheckFault, PrepareFault, check, prepare};
+use gq_check::{CheckFault, PrepareFault, check, prepare};
 use gq_parser::{Document, parse};
 use gq_schema::{Bindings, Input, Schema};
 use serde_json::Value;
