@@ -26,26 +26,24 @@ fn fault_of(outcome: Option<&Outcome>) -> Option<&str> {
 fn folds_ascii_alone(rt: HostRuntime) -> Result<(), Fail> {
     let alloc = rt.alloc();
     let mixed = cache_key(alloc, &text(alloc, "AbÄ")?, KeyMode::FoldAscii)?;
-    assert_eq!(rt;
-        mixed,
-        cache_key(alloc, &text(alloc, "abÄ")?, KeyMode::FoldAscii)?
-    );
-    assert_eq!(rt;
-        mixed,
-        cache_key(alloc, &text(alloc, "abÄ")?, KeyMode::Exact)?
-    );
-    assert_ne!(rt;
-        mixed,
-        cache_key(alloc, &text(alloc, "abä")?, KeyMode::FoldAscii)?
-    );
-    assert_ne!(rt;
-        mixed,
-        cache_key(alloc, &text(alloc, "AbÄ")?, KeyMode::Exact)?
-    );
-    assert_ne!(rt;
-        cache_key(alloc, &Key::All, KeyMode::Exact)?,
-        cache_key(alloc, &text(alloc, "")?, KeyMode::Exact)?
-    );
+    for (other, mode, is_same) in [
+        ("abÄ", KeyMode::FoldAscii, true),
+        ("abÄ", KeyMode::Exact, true),
+        ("abä", KeyMode::FoldAscii, false),
+        ("AbÄ", KeyMode::Exact, false),
+    ] {
+        let cached = cache_key(alloc, &text(alloc, other)?, mode)?;
+        assert_eq!(rt; cached == mixed, is_same, "{other} {mode:?}");
+    }
+    Ok(())
+}
+
+#[test]
+fn all_is_no_text(rt: HostRuntime) -> Result<(), Fail> {
+    let alloc = rt.alloc();
+    let all = cache_key(alloc, &Key::All, KeyMode::Exact)?;
+    let empty = cache_key(alloc, &text(alloc, "")?, KeyMode::Exact)?;
+    assert_ne!(rt; all, empty);
     Ok(())
 }
 
