@@ -7,6 +7,8 @@
 
 mod command;
 mod stop;
+#[cfg(test)]
+mod tests;
 mod words;
 
 pub use stop::Stop;

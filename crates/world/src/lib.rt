@@ -9,6 +9,8 @@ mod fault;
 mod request;
 mod sources;
 mod tables;
+#[cfg(test)]
+mod tests;
 mod world;
 
 pub use fault::WorldFault;
