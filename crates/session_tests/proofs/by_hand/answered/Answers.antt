@@ -1,23 +1,3 @@
--- proofs/tests/all_put/Invariants.antt
-use Rattle.std.proofs.Common.{◌≡◌, ◌++◌, map}
-use Rattle.load_memory.specs.Replies.{reply_of}
-use Rattle.load_memory.specs.Shelves.{shown}
-use Rattle.load_rounds.proofs.tests.all_put.Given as goal
-
-abbrev pub invariant-loop-reply : goal.invariant-loop-reply
-invariant-loop-reply g l = map shown l.receipts.items ++ map reply_of l.reply-iterator.rest.items ≡ map reply_of l.fn.replies.items
--- proofs/tests/all_run/Answers.antt
-use Rattle.std.proofs.Common.{map}
-use Rattle.std.proofs.lemmas.List.Sorted.{IsPermutation-map}
-use Rattle.load_memory.specs.Replies.{reply_of}
-use Rattle.load_memory.specs.Shelves.{shown}
-use Rattle.load_rounds.proofs.tests.all_run.Goals as goal
-
-pub returns-clause-received : goal.returns-clause-received
-returns-clause-received g c =
-    let moved = IsPermutation-map shown c.in_ok-receipts.receipts.items c.reverse.new.self.items c.reverse.ensures.permutation in
-    record { replies = map reply_of c.in_ok-replies.replies.items; fit = c.in_ok-replies.ensures; moved = rw c.in_ok-receipts.ensures.shown at moved }
--- proofs/tests/answered_by_hand/Answers.antt
 use Rattle.std.proofs.Common.{◌≡◌, ◌<◌, ◌≤◌, ◌+◌, ◌∙◌, ℕ, map, length, ap, sym, arith}
 use Rattle.load_memory.specs.Shelves.{shown}
 use Rattle.load_queue.specs.Orders.{OrderOf}
@@ -25,7 +5,7 @@ use Rattle.execution.specs.Program.{Program}
 use Rattle.load_rounds.specs.Sessions.{state_of}
 use Rattle.load_rounds.specs.Runs.{RunOf, IsRound}
 use Rattle.load_rounds.proofs.Runs.{between-loaders, round-below, round-orders}
-use Rattle.load_rounds.proofs.tests.answered_by_hand.Goals as goal
+use Rattle.session_tests.proofs.by_hand.answered.Goals as goal
 
 pub next_round-requires-clause-loaders : goal.next_round-requires-clause-loaders
 next_round-requires-clause-loaders g c =
@@ -40,8 +20,8 @@ returns-in-Finished g c =
     let done = c.in_ok-answer.ensures.answer (state_of c.args.session.now) between in
     rw (c.in-Finished.is, same) at done
 
-pub all_run-requires : goal.all_run-requires
-all_run-requires g c =
+pub received-requires : goal.received-requires
+received-requires g c =
     let p : Program = g.P.Execute.program c.loop-answer.run.plan in
     let next = rw c.in-Round.is at c.in_ok-answer.ensures.next in
     rw c.loaders.ensures (round-below p (state_of c.loop-answer.session) (state_of c.next_round.new.session) c.in-Round.orders.items next.0)
@@ -60,18 +40,3 @@ loop-answer-smaller g c =
     let more : c.next_round.new.self.rounds ≡ c.loop-answer.run.rounds + 1 = ap (λ (r : RunOf _). r.rounds) next.1 in
     let kept : c.take.new.self.rounds ≡ c.next_round.new.self.rounds = ap (λ (r : RunOf _). r.rounds) c.in_ok-take-in-Round.ensures.ready in
     omega (arith, more, kept, c.next_round.ensures.bounded)
--- proofs/tests/answered_by_hand/Invariants.antt
-use Rattle.std.proofs.Common.{◌≡◌, ◌≤◌, ◌-◌, ◌^◌, length}
-use Rattle.load_rounds.specs.declared.run.Stage.TheVariants.{Ready}
-use Rattle.load_rounds.specs.Sessions.{state_of}
-use Rattle.load_rounds.specs.Runs.{run_of, IsBetween}
-use Rattle.load_rounds.proofs.tests.answered_by_hand.Given as goal
-
-abbrev pub invariant-loop-answer : goal.invariant-loop-answer
-invariant-loop-answer g l = record {
-  run : l.run ≡ run_of l.plan l.run.rounds Ready;
-  between : IsBetween g.S.Asks.may_tell (g.P.Execute.program l.plan) (state_of l.fn.session) (state_of l.session) l.run.rounds;
-}
-
-abbrev pub decreases-loop-answer : goal.decreases-loop-answer
-decreases-loop-answer g l = 2 ^ 32 - l.run.rounds
