@@ -6,3 +6,4 @@ pub mod Loaders
 pub mod Evaluating
 pub mod Texts
 pub mod Shaping
+pub mod Walking
