@@ -111,9 +111,9 @@ on-ok (Ok x) f p = f p
 on-ok (Err e) f p = tt
 
 -- brackets around what was put between them
-pub puts-around : {E : Type 0} (r : Result (Unit {0}) E) (kind : Kind) (w : Walked) (a b c d : Output) → Puts (alone (opening kind ∷ [])) a b → Puts w b c → OnOk r (Puts (alone (closing kind ∷ [])) c d) → OnOk r (Puts (around kind w) a d)
+pub puts-around : {E F : Type 0} (r : Result (Unit {0}) E) (kind : Kind) (w : Walked) (a b c d : Output) → Puts (alone (opening kind ∷ [])) a b → (F → Puts w b c) → OnOk r (Puts (alone (closing kind ∷ [])) c d) → OnOk r (F → Puts (around kind w) a d)
 puts-around r kind w a b c d p q s =
-    on-ok r (λ t. puts-then (alone (opening kind ∷ [])) (joined w (alone (closing kind ∷ []))) a b d p (puts-then w (alone (closing kind ∷ [])) b c d q t)) s
+    on-ok r (λ t f. puts-then (alone (opening kind ∷ [])) (joined w (alone (closing kind ∷ []))) a b d p (puts-then w (alone (closing kind ∷ [])) b c d (q f) t)) s
 
 -- ---- own values
 
@@ -194,16 +194,21 @@ pub typed-put : {E : Type 0} (plan : PlanOf) (R : Reader) (strict : Bool) (level
     → ((k : ℕ) → Fits plan (suc k) below old → prepared_at ss place ≡ type_prepared plan below ty)
     → OnOk r (MembersFit (Fits plan n) members → Puts (walked false (prepared_program plan.definitions (object_program plan n) (all_prepared_seen (prepared_in members)) row) R) a b)
     → OnOk r (Fits plan levels below old → Puts (walked strict (object_program plan levels ty below.fields row) R) a b)
-typed-put plan R strict levels n ty below row old ss place d members (Ok x) above lt is lent kept there h = λ fits.
+typed-put plan R strict levels n ty below row old ss place d members (Ok x) a b above lt is lent kept there h = λ fits.
     let fitted : Fits plan (suc n) below old = subst (λ (k : ℕ). Fits plan k below old) above fits in
     let here : IsShape plan (Fits plan n) below d = subst (IsShape plan (Fits plan n) below) (sym is) (shape-there plan (Fits plan n) below ss place d lt (kept (suc n) fitted)) in
     let all : all_prepared_seen (prepared_in members) ≡ type_prepared plan below ty =
     ap (λ (ms : List Member). all_prepared_seen (prepared_in ms)) lent ∙ ap (λ (s : Shape). all_prepared_seen (prepared_in (out-Shape s).members.items)) is ∙ sym (prepared-there ss place d lt) ∙ there n fitted in
     subst (λ (k : ℕ). Puts (walked strict (object_program plan k ty below.fields row) R) a b) (sym above)
     (subst (λ (qs : List PreparedOf). Puts (walked false (prepared_program plan.definitions (object_program plan n) qs row) R) a b) all (h (subst (MembersFit (Fits plan n)) (sym lent) here.1)))
-typed-put plan R strict levels n ty below row old ss place d members (Err e) above lt is lent kept there h = tt
+typed-put plan R strict levels n ty below row old ss place d members (Err e) a b above lt is lent kept there h = tt
 
 -- ---- in the end
+
+read-missing : (strict : Bool) (load : Load) (next : OutcomeOf → Program) (R : Reader) (r : Option OutcomeOf) → R load ≡ r → ((o : OutcomeOf) → (walked strict (next o) R).missing ≡ needs (rest (next o) R) unanswered)
+    → (walked strict (Read load next) R).missing ≡ needs (rest (Read load next) R) unanswered
+read-missing strict load next R None e ih = rw e refl
+read-missing strict load next R (Some o) e ih = rw e (ih o)
 
 mutual
   -- what it lacks is what is left of the program waits for
@@ -211,11 +216,6 @@ mutual
   missing-walked strict (Is own) R = own-missing strict own
   missing-walked strict (Read load next) R = read-missing strict load next R (R load) refl (λ o. missing-walked strict (next o) R)
   missing-walked strict (Under kind below) R = append-none (all_walked kind below R).missing ∙ all-missing kind below R
-
-  read-missing : (strict : Bool) (load : Load) (next : OutcomeOf → Program) (R : Reader) (r : Option OutcomeOf) → R load ≡ r → ((o : OutcomeOf) → (walked strict (next o) R).missing ≡ needs (rest (next o) R) unanswered)
-      → (walked strict (Read load next) R).missing ≡ needs (rest (Read load next) R) unanswered
-  read-missing strict load next R None e ih = rw e refl
-  read-missing strict load next R (Some o) e ih = rw e (ih o)
 
   pub all-missing : (kind : Kind) (ps : Programs) (R : Reader) → (all_walked kind ps R).missing ≡ all_needs (all_rest ps R) unanswered
   all-missing kind End R = refl
