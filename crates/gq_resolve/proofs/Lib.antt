@@ -7,3 +7,4 @@ pub mod Evaluating
 pub mod Texts
 pub mod Shaping
 pub mod Walking
+pub mod WrittenTexts

@@ -115,6 +115,13 @@ pub puts-around : {E F : Type 0} (r : Result (Unit {0}) E) (kind : Kind) (w : Wa
 puts-around r kind w a b c d p q s =
     on-ok r (λ t f. puts-then (alone (opening kind ∷ [])) (joined w (alone (closing kind ∷ []))) a b d p (puts-then w (alone (closing kind ∷ [])) b c d (q f) t)) s
 
+-- the member `data` of an answer
+pub puts-data : {E : Type 0} (r : Result (Unit {0}) E) (w : Walked) (a b c d e : Output) → Puts (alone (begin_object ∷ [])) a b → Puts (alone (key (codes "data") ∷ [])) b c → Puts w c d → OnOk r (Puts (alone (end_object ∷ [])) d e) → OnOk r (Puts (data_walked w) a e)
+puts-data r w a b c d e p q s t =
+    let name : Walked = alone (key (codes "data") ∷ []) in
+    let last : Walked = alone (end_object ∷ []) in
+    on-ok r (λ u. puts-then (alone (begin_object ∷ [])) (joined name (joined w last)) a b e p (puts-then name (joined w last) b c e q (puts-then w last c d e s u))) t
+
 -- ---- own values
 
 pub own-missing : (strict : Bool) (own : Own) → (own_walked strict own).missing ≡ []
@@ -202,6 +209,13 @@ typed-put plan R strict levels n ty below row old ss place d members (Ok x) a b 
     subst (λ (k : ℕ). Puts (walked strict (object_program plan k ty below.fields row) R) a b) (sym above)
     (subst (λ (qs : List PreparedOf). Puts (walked false (prepared_program plan.definitions (object_program plan n) qs row) R) a b) all (h (subst (MembersFit (Fits plan n)) (sym lent) here.1)))
 typed-put plan R strict levels n ty below row old ss place d members (Err e) a b above lt is lent kept there h = tt
+
+-- an object over no row, where something fits, which does
+pub rooted-put : {F : Type 0} (plan : PlanOf) (R : Reader) (levels : ℕ) (qs all : List PreparedOf) (row none : RowOf) (a b : Output) → F → qs ≡ all → row ≡ none
+    → (F → Puts (walked false (prepared_program plan.definitions (object_program plan levels) qs row) R) a b) → Puts (walked false (prepared_program plan.definitions (object_program plan levels) all none) R) a b
+rooted-put plan R levels qs all row none a b f e g h =
+    subst (λ (r : RowOf). Puts (walked false (prepared_program plan.definitions (object_program plan levels) all r) R) a b) g
+    (subst (λ (ps : List PreparedOf). Puts (walked false (prepared_program plan.definitions (object_program plan levels) ps row) R) a b) e (h f))
 
 -- ---- in the end
 

@@ -53,8 +53,8 @@ fn any_text(alloc: Global, plan: &Plan<'_>, memory: &Memory) -> Result<String, N
 
 fn want_missing(missing: Vec<Missing>, loaders: usize, wants: &mut Wants) -> Result<(), NoMemory>
     requires { loaders ≡ length wants.old }
-    ensures ok { OnOk result (wants.new ≡ wanting wants.old (lacked missing.entry.items)) }
-    ensures part { OnErr result (AddsPart wants.old wants.new (lacked missing.entry.items)) }
+    ensures ok { OnOk result (wants.new ≡ wanting wants.old (lacked missing.items)) }
+    ensures part { OnErr result (AddsPart wants.old wants.new (lacked missing.items)) }
 {
     for (loader, key) in missing {
         want(loader, key, loaders, wants)?;

@@ -109,7 +109,7 @@ each-returns-clause-puts t c =
     let f : Option Key → Program = λ (k : Option Key). read (option_map key_of k) in
     puts-around c.put-2.result ListOf (all_walked ListOf (places below.item_non_null below.place 0 (map read (map (λ (k : Option Key). option_map key_of k) c.args.keys.now))) R) c.args.out.now c.put.new.self c.loop-key.out c.put-2.new.self c.in_ok-put.ensures
     (λ fits. subst (λ (ps : List Program). Puts (all_walked ListOf (places below.item_non_null below.place 0 ps) R) c.put.new.self c.loop-key.out) (sym (map-map read (λ (k : Option Key). option_map key_of k) c.args.keys.now))
-        (items-put R below.item_non_null below.place f c.args.keys.now c.loop-key.key-index c.put.new.self c.loop-key.out c.loop-key-test.false (c.loop-key.invariant.1 fits))) c.put-2.ensures
+    (items-put R below.item_non_null below.place f c.args.keys.now c.loop-key.key-index c.put.new.self c.loop-key.out c.loop-key-test.false (c.loop-key.invariant.1 fits))) c.put-2.ensures
 
 pub typed_object-returns-clause-keeps : goal.typed_object-returns-clause-keeps
 typed_object-returns-clause-keeps t c =
