@@ -1,5 +1,5 @@
 -- What an execution to text comes to.
-use Rattle.std.proofs.Common.{◌≡◌, ℕ, ◌≤◌, Bool, true, false, List, [], ◌++◌, length, refl, sym, ap, ◌∙◌, Some}
+use Rattle.std.proofs.Common.{◌≡◌, ℕ, ◌≤◌, true, false, List, [], ◌++◌, length, sym, ap, ◌∙◌, Some}
 use Rattle.json.specs.Print.{print}
 use Rattle.load_memory.specs.Pairs.{MemoryOf}
 use Rattle.execution.specs.Loads.{Reader}

@@ -9,7 +9,6 @@ use Rattle.execution.specs.Front.{missing, wanting}
 use Rattle.gq_check.specs.Plans.{PlanOf, plan_of}
 use Rattle.plan_program.specs.PlanPrograms.{plan_program}
 use Rattle.gq_resolve.specs.Evaluated.{reader, AddsPart}
-use Rattle.gq_resolve.specs.Walked.{lacked}
 use Rattle.gq_resolve.proofs.Evaluating.{front-some, no-items, wants-front, on_err}
 use Rattle.gq_resolve.proofs.WrittenTexts.{lacks-missing, completed-text, plain-text}
 use Rattle.gq_resolve.proofs.executing.execute_text.Goals as goal

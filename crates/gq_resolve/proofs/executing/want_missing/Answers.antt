@@ -1,4 +1,4 @@
-use Rattle.std.proofs.Common.{◌≡◌, ◌∙◌, ℕ, List, [], ◌∷◌, ◌++◌, ap, sym, append_assoc}
+use Rattle.std.proofs.Common.{◌∙◌, ℕ, List, [], ◌∷◌, ◌++◌, ap, sym, append_assoc}
 use Rattle.std.proofs.lemmas.List.{map-append}
 use Rattle.load_memory.specs.Keys.{key_of}
 use Rattle.load_memory.specs.declared.key.Key.{Key}

@@ -1,4 +1,4 @@
-use Rattle.std.proofs.Common.{ℕ, Bool, ◌-◌, arith, sym, ap, subst, map, List, Option}
+use Rattle.std.proofs.Common.{ℕ, ◌-◌, arith, sym, ap, subst, map, List, Option}
 use Rattle.std.specs.Option.{option_map}
 use Rattle.load_memory.specs.Keys.{KeyOf, key_of}
 use Rattle.load_memory.specs.Rows.{cell_of, RowOf as Row}
