@@ -78,7 +78,7 @@ places-done plan R below f items xs i v le strict at g =
 
 -- ---- fields of an object
 
-fields-append : (f : AskedOf → Program) (xs : List Prepared) (x : Prepared)
+pub fields-append : (f : AskedOf → Program) (xs : List Prepared) (x : Prepared)
     → fields_of f (all_prepared_seen (xs ++ x ∷ [])) ≡ chained (fields_of f (all_prepared_seen xs)) (With (prepared_seen x).spot (f (prepared_seen x).asked) End)
 fields-append f [] x = refl
 fields-append f (y ∷ xs) x = rw (fields-append f xs x) refl

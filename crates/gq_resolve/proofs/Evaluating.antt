@@ -66,6 +66,10 @@ wanting-append : (ws : List WantedOf) (xs ys : List Load) → wanting ws (xs ++ 
 wanting-append ws [] ys = refl
 wanting-append ws (x ∷ xs) ys = wanting-append (with_wanted ws x.loader x.key) xs ys
 
+-- one more
+pub wants-one : (old now new : List WantedOf) (ls : List Load) (l : Load) → now ≡ wanting old ls → new ≡ with_wanted now l.loader l.key → new ≡ wanting old (ls ++ l ∷ [])
+wants-one old now new ls l h k = k ∙ ap (λ w. with_wanted w l.loader l.key) h ∙ sym (wanting-append old ls (l ∷ []))
+
 seen-more : {X : Type 0} (f : X → Load) (xs : List X) (i : ℕ) (x : X) → i < length xs → x ≡ get_or xs i x → map f (take (i + 1) xs) ≡ map f (take i xs) ++ f x ∷ []
 seen-more f xs i x lt is = ap (map f) (take_more xs i x lt ∙ ap (λ y. take i xs ++ y ∷ []) (sym is)) ∙ push f (take i xs) x
   where

@@ -6,3 +6,5 @@ pub mod Loaders
 pub mod Evaluating
 pub mod Texts
 pub mod Shaping
+pub mod Walking
+pub mod WrittenTexts

@@ -99,12 +99,12 @@ member-there F [] i d lt f = absurd (omega arith)
 member-there F (m ∷ ms) zero d lt f = f.0
 member-there F (m ∷ ms) (suc i) d lt f = member-there F ms i d (omega arith) f.1
 
-prepared-got : (ms : List Member) (i : ℕ) (d : Member) (p : Prepared) → i < length ms → get_or (prepared_in ms) i p ≡ (out-Member (get_or ms i d)).prepared
+pub prepared-got : (ms : List Member) (i : ℕ) (d : Member) (p : Prepared) → i < length ms → get_or (prepared_in ms) i p ≡ (out-Member (get_or ms i d)).prepared
 prepared-got [] i d p lt = absurd (omega arith)
 prepared-got (m ∷ ms) zero d p lt = refl
 prepared-got (m ∷ ms) (suc i) d p lt = prepared-got ms i d p (omega arith)
 
-prepared-length : (ms : List Member) → length (prepared_in ms) ≡ length ms
+pub prepared-length : (ms : List Member) → length (prepared_in ms) ≡ length ms
 prepared-length [] = refl
 prepared-length (m ∷ ms) = ap suc (prepared-length ms)
 
@@ -136,12 +136,12 @@ type-there ss i s lt is = at ss i s lt ∙ ap (λ (x : Shape). string_bytes (out
     at (x ∷ xs) zero d l = refl
     at (x ∷ xs) (suc n) d l = at xs n d (omega arith)
 
-prepared-there : (ss : List Shape) (i : ℕ) (d : Shape) → i < length ss → prepared_at ss i ≡ all_prepared_seen (prepared_in (out-Shape (get_or ss i d)).members.items)
+pub prepared-there : (ss : List Shape) (i : ℕ) (d : Shape) → i < length ss → prepared_at ss i ≡ all_prepared_seen (prepared_in (out-Shape (get_or ss i d)).members.items)
 prepared-there [] i d lt = absurd (omega arith)
 prepared-there (s ∷ ss) zero d lt = refl
 prepared-there (s ∷ ss) (suc i) d lt = prepared-there ss i d (omega arith)
 
-shape-there : (plan : PlanOf) (F : Fitting) (below : BelowOf) (ss : List Shape) (i : ℕ) (d : Shape) → i < length ss → AreShapes plan F below ss → IsShape plan F below (get_or ss i d)
+pub shape-there : (plan : PlanOf) (F : Fitting) (below : BelowOf) (ss : List Shape) (i : ℕ) (d : Shape) → i < length ss → AreShapes plan F below ss → IsShape plan F below (get_or ss i d)
 shape-there plan F below [] i d lt f = absurd (omega arith)
 shape-there plan F below (s ∷ ss) zero d lt f = f.0
 shape-there plan F below (s ∷ ss) (suc i) d lt f = shape-there plan F below ss i d (omega arith) f.1

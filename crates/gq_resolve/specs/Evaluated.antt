@@ -1,16 +1,18 @@
 -- What an evaluation answers, and what it adds to the wants.
-use Rattle.std.specs.Prelude.{◌≡◌, ◌≢◌, ◌≤◌, List, [], ◌++◌, length, Some}
+use Rattle.std.specs.Prelude.{◌≡◌, ◌≢◌, ◌≤◌, List, [], ◌++◌, length, Some, String, string_bytes}
+use Rattle.std.specs.declared.alloc.Global.{Global}
 use Rattle.load_memory.specs.Pairs.{MemoryOf, look}
 use Rattle.load_queue.specs.Wanted.{WantedOf}
 use Rattle.execution.specs.Loads.{Load, Reader, read}
 use Rattle.execution.specs.Program.{Program}
+use Rattle.execution.specs.Completion.{AnsweredOf}
 use Rattle.execution.specs.Executed.{exec}
 use Rattle.execution.specs.Front.{front, wanting, modes_wanted}
 use Rattle.futures.specs.declared.task.Poll.{Poll}
 use Rattle.futures.specs.declared.task.Poll.TheVariants.{Ready, Pending}
 use Rattle.gq_check.specs.Plans.{PlanOf}
 use Rattle.gq_resolve.specs.declared.answered.Answered.{Answered}
-use Rattle.gq_resolve.specs.Answered.{answered_of}
+use Rattle.gq_resolve.specs.Answered.{answered_of, answer_text}
 
 -- what a memory says of a load
 abbrev pub reader : MemoryOf → Reader
@@ -24,6 +26,11 @@ front_over m p = front m.modes p (look m.pairs)
 abbrev pub IsEvaluated : List WantedOf → List WantedOf → Program → MemoryOf → Poll Answered → Type 0
 IsEvaluated old new p m (Ready a) = (front_over m p ≡ []) × (exec p (reader m) ≡ Some (answered_of a)) × (new ≡ old)
 IsEvaluated old new p m Pending = (front_over m p ≢ []) × (new ≡ wanting old (front_over m p))
+
+-- the same with the text of the execution
+abbrev pub IsWritten : List WantedOf → List WantedOf → Program → MemoryOf → Poll (String Global) → Type 0
+IsWritten old new p m (Ready text) = (front_over m p ≡ []) × (answered : AnsweredOf) × (exec p (reader m) ≡ Some answered) × (string_bytes text ≡ answer_text answered) × (new ≡ old)
+IsWritten old new p m Pending = (front_over m p ≢ []) × (new ≡ wanting old (front_over m p))
 
 -- The wants are the old ones, to which the first of these loads were added.
 pub record AddsPart (old new : List WantedOf) (loads : List Load) : Type 0 where

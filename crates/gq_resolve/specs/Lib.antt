@@ -4,3 +4,4 @@ pub mod States
 pub mod Cells
 pub mod Completing
 pub mod Shapes
+pub mod Walked

@@ -7,7 +7,7 @@ ghost use Rattle.gq_schema.specs.Types.{tree_of};
 ghost use Rattle.gq_schema.specs.BindingsTypes.{is_object_type};
 ghost use Rattle.gq_schema.specs.Coercion.{int_of};
 ghost use Rattle.load_memory.specs.Rows.{cell_of};
-ghost use Rattle.execution.specs.Program.{Value};
+ghost use Rattle.execution.specs.Program.{Int, Boolean, Value};
 ghost use Rattle.plan_program.specs.Texts.{is_int_text, is_unsigned_text};
 ghost use Rattle.plan_program.specs.PlanPrograms.{boolean_of, int_leaf, named_leaf, leaf_of, or_bad, cell_value, typename, told_type, type_of_row};
 ghost use Rattle.plan_program.specs.Prepared.{own_seen};
@@ -65,28 +65,45 @@ fn int_of(text: &str) -> Option<i32>
     text.parse::<i32>().ok()
 }
 
-fn int_leaf(text: &str) -> Option<Own>
-    ensures { option_map own_seen result ≡ option_map (λ leaf. Value leaf) (int_leaf text.now) }
+/// The number of an Int's text.
+pub fn int_of_leaf(text: &str) -> Option<i32>
+    ensures { option_map (λ number. Int number) result ≡ int_leaf text.now }
 {
     if !is_int_text(text.as_bytes()) {
         return None;
     }
-    match int_of(text) {
+    int_of(text)
+}
+
+fn int_leaf(text: &str) -> Option<Own>
+    ensures { option_map own_seen result ≡ option_map (λ leaf. Value leaf) (int_leaf text.now) }
+{
+    match int_of_leaf(text) {
         Some(number) => Some(Own::Int(number)),
         None => None,
     }
 }
 
+/// The value of a Boolean's text.
+pub fn boolean_of(text: &str) -> Option<bool>
+    ensures { option_map (λ value. Boolean value) result ≡ boolean_of text.now }
+{
+    if text == "true" {
+        return Some(true);
+    }
+    if text == "false" {
+        return Some(false);
+    }
+    None
+}
+
 fn boolean_leaf(text: &str) -> Option<Own>
     ensures { option_map own_seen result ≡ option_map (λ leaf. Value leaf) (boolean_of text.now) }
 {
-    if text == "true" {
-        return Some(Own::Bool(true));
+    match boolean_of(text) {
+        Some(value) => Some(Own::Bool(value)),
+        None => None,
     }
-    if text == "false" {
-        return Some(Own::Bool(false));
-    }
-    None
 }
 
 // What a text is at the type of this name.

@@ -9,16 +9,18 @@ ghost use Rattle.execution.specs.Executed.{completed};
 ghost use Rattle.execution.specs.Residual.{rest};
 ghost use Rattle.execution.specs.Front.{missing, wanting};
 ghost use Rattle.gq_check.specs.Plans.{plan_of};
-ghost use Rattle.plan_program.specs.PlanPrograms.{plan_program};
+ghost use Rattle.plan_program.specs.Prepared.{all_prepared_seen};
+ghost use Rattle.plan_program.specs.PlanPrograms.{root_prepared, plan_program};
 ghost use Rattle.gq_resolve.specs.Answered.{answered_of};
 ghost use Rattle.gq_resolve.specs.Evaluated.{reader, IsEvaluated, AddsPart, CanEvaluate};
+ghost use Rattle.gq_resolve.specs.Shapes.{prepared_in, NothingMet};
 ghost use Rattle.gq_resolve.specs.States.{told, program_of, tree_of, loads_seen};
 
 use crate::answered::Answered;
 use crate::build::object;
 use crate::finish::finished;
 use crate::no_memory::NoMemory;
-use crate::shapes::members_of;
+use crate::shapes::{Member, members_of};
 use crate::state::State;
 use crate::waiting::{Load, loads_of};
 use futures::task::Poll;
@@ -30,23 +32,31 @@ use plan_program::{collect, prepare};
 use std::alloc::Global;
 
 /// How many levels of objects a plan has at most below its root.
-const MOST_LEVELS: u32 = 128;
+pub const MOST_LEVELS: u32 = 128;
 
-// The root object, which has no row (section 6.2.1).
-fn root<'p>(alloc: Global, plan: &'p Plan<'_>, memory: &Memory) -> Result<State<'p>, NoMemory>
-    ensures { IfOk result (λ state. program_of (plan_of plan.now) state ≡ rest (plan_program (plan_of plan.now)) (told memory.now)) }
+/// The groups of the root object (section 6.2.1).
+pub fn root_members<'p>(alloc: Global, plan: &'p Plan<'_>) -> Result<Vec<Member<'p>>, NoMemory>
+    ensures prepared { IfOk result (λ members. all_prepared_seen (prepared_in members.items) ≡ root_prepared (plan_of plan.now)) }
+    ensures met { IfOk result (λ members. NothingMet members.items) }
 {
     let ty = plan.schema().root();
     let selections = &plan.operation().selection_set.selections;
     let groups = collect(alloc, plan, ty, selections)?;
     let prepared = prepare(alloc, plan, ty, groups)?;
-    let mut members = members_of(alloc, prepared)?;
+    members_of(alloc, prepared)
+}
+
+/// The root object, which has no row (section 6.2.1).
+pub fn root<'p>(alloc: Global, plan: &'p Plan<'_>, memory: &Memory) -> Result<State<'p>, NoMemory>
+    ensures { IfOk result (λ state. program_of (plan_of plan.now) state ≡ rest (plan_program (plan_of plan.now)) (told memory.now)) }
+{
+    let mut members = root_members(alloc, plan)?;
     let row = Row::new(alloc, &[])?;
     object(alloc, plan, memory, MOST_LEVELS, &mut members, &row)
 }
 
-// The answer of a state in which nothing waits.
-fn answered(alloc: Global, plan: &Plan<'_>, state: State<'_>) -> Result<Answered, NoMemory>
+/// The answer of a state in which nothing waits.
+pub fn answered(alloc: Global, plan: &Plan<'_>, state: State<'_>) -> Result<Answered, NoMemory>
     ensures { IfOk result (λ answered. is_open (tree_of (plan_of plan.now) state.entry) ≡ false → answered_of answered ≡ completed (tree_of (plan_of plan.now) state.entry)) }
 {
     let mut steps = Vec::new(alloc);
@@ -56,14 +66,15 @@ fn answered(alloc: Global, plan: &Plan<'_>, state: State<'_>) -> Result<Answered
     Ok(Answered { response, errors })
 }
 
-fn want(loader: usize, key: &Key, loaders: usize, wants: &mut Wants) -> Result<(), NoMemory>
+/// Adds a load, where there is such a loader.
+pub fn want(loader: usize, key: Key, loaders: usize, wants: &mut Wants) -> Result<(), NoMemory>
     requires { loaders ≡ length wants.old }
-    ensures ok { OnOk result (wants.new ≡ with_wanted wants.old loader (key_of key.now)) }
+    ensures ok { OnOk result (wants.new ≡ with_wanted wants.old loader (key_of key)) }
     ensures loaders { length wants.new ≡ length wants.old }
     ensures kept { OnErr result (wants.new ≡ wants.old) }
 {
     if loader < loaders {
-        wants.add(loader, key.clone()?)?;
+        wants.add(loader, key)?;
     }
     Ok(())
 }
@@ -74,7 +85,7 @@ fn want_all(loads: &[Load<'_>], loaders: usize, wants: &mut Wants) -> Result<(),
     ensures part { OnErr result (AddsPart wants.old wants.new (loads_seen loads.now)) }
 {
     for (loader, key) in loads {
-        want(*loader, *key, loaders, wants)?;
+        want(*loader, (*key).clone()?, loaders, wants)?;
     }
     Ok(())
 }

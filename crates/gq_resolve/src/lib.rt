@@ -2,7 +2,8 @@
 //! plan is ready with its answer, or waits for exactly the loads that it needs and the memory lacks.
 //!
 //! The layer above may rely on this: [`evaluate`] is ready with the execution of the plan's program
-//! (`plan_program::specs::PlanPrograms`) where nothing is missing, and else adds the front to the wants.
+//! (`plan_program::specs::PlanPrograms`) where nothing is missing, and else adds the front to the wants. [`execute_text`] does
+//! the same with the text of the answer, and builds nothing where there are no errors.
 #![tactic(auto)]
 
 mod answer;
@@ -11,16 +12,20 @@ mod build;
 mod cells;
 mod completing;
 mod evaluation;
+mod executing;
 mod finish;
 mod no_memory;
 mod reading;
 mod shapes;
 mod state;
 mod waiting;
+mod walk;
+mod writing;
 
 pub use answer::answer_text;
 pub use answered::Answered;
 pub use completing::{Completed, complete};
 pub use evaluation::evaluate;
+pub use executing::execute_text;
 pub use no_memory::NoMemory;
 pub use plan_program::{ArgFault, Args, Group, arguments_of, collect};

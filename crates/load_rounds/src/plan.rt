@@ -8,7 +8,7 @@ ghost use Rattle.load_rounds.specs.PlanLoads.{plan-loads};
 use crate::execute::Execute;
 use futures::task::Poll;
 use gq_check::Plan;
-use gq_resolve::{answer_text, evaluate};
+use gq_resolve::execute_text;
 use load_memory::{Memory, NoMemory};
 use load_queue::Wants;
 use std::alloc::Global;
@@ -28,15 +28,9 @@ impl<'a> Execute for Plan<'a> {
         memory: &Memory,
         wants: &mut Wants,
     ) -> Result<Poll<String>, NoMemory> {
-        let Ok(polled) = evaluate(alloc, self, memory, wants) else {
-            return Err(NoMemory);
-        };
-        match polled {
-            Poll::Ready(answered) => match answer_text(alloc, &answered) {
-                Ok(text) => Ok(Poll::Ready(text)),
-                Err(_) => Err(NoMemory),
-            },
-            Poll::Pending => Ok(Poll::Pending),
+        match execute_text(alloc, self, memory, wants) {
+            Ok(polled) => Ok(polled),
+            Err(_) => Err(NoMemory),
         }
     }
 }

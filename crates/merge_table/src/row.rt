@@ -79,9 +79,14 @@ impl Row {
     pub fn is_below(&self, n: usize) -> bool
         ensures { MatchBool result (AllBelow self.now n) (AllBelow self.now n → ⊥) }
     {
-        for field in n..64 * WORDS {
-            if has_bit(&self.words, field) {
+        let mut field = n;
+        while field < 64 * WORDS {
+            if self.words[field / 64] == 0 {
+                field = (field / 64 + 1) * 64;
+            } else if has_bit(&self.words, field) {
                 return false;
+            } else {
+                field += 1;
             }
         }
         true

@@ -5,7 +5,7 @@ ghost use Rattle.gq_check.specs.Plans.{plan_of};
 use futures::task::Poll;
 use gq_check::{Plan, check, prepare};
 use gq_parser::parse;
-use gq_resolve::{answer_text, evaluate};
+use gq_resolve::{answer_text, evaluate, execute_text};
 use gq_schema::{Bindings, Schema};
 use load_memory::{Cell, Item, Key, KeyMode, Memory, Row, cache_key};
 use load_queue::Wants;
@@ -130,8 +130,8 @@ fn wanted(alloc: Global, loaders: usize, wants: &Wants) -> Result<String, Fail>
     Ok(text)
 }
 
-// The answer of a plan, or what it waits for.
-fn polled(alloc: Global, plan: &Plan<'_>, memory: &Memory) -> Result<String, Fail>
+// The answer of a plan, or what it waits for, by building it.
+fn evaluated(alloc: Global, plan: &Plan<'_>, memory: &Memory) -> Result<String, Fail>
     requires { length (plan_of plan.now).bindings.loaders ≤ length memory.now.modes }
 {
     let mut wants = Wants::new(alloc, memory)?;
@@ -139,6 +139,29 @@ fn polled(alloc: Global, plan: &Plan<'_>, memory: &Memory) -> Result<String, Fai
         Poll::Ready(answered) => Ok(answer_text(alloc, &answered)?),
         Poll::Pending => wanted(alloc, memory.modes().len(), &wants),
     }
+}
+
+// The same, written straight from the rows.
+fn written(alloc: Global, plan: &Plan<'_>, memory: &Memory) -> Result<String, Fail>
+    requires { length (plan_of plan.now).bindings.loaders ≤ length memory.now.modes }
+{
+    let mut wants = Wants::new(alloc, memory)?;
+    match execute_text(alloc, plan, memory, &mut wants)? {
+        Poll::Ready(text) => Ok(text),
+        Poll::Pending => wanted(alloc, memory.modes().len(), &wants),
+    }
+}
+
+// What both ways give.
+fn polled(alloc: Global, plan: &Plan<'_>, memory: &Memory) -> Result<String, Fail>
+    requires { length (plan_of plan.now).bindings.loaders ≤ length memory.now.modes }
+{
+    let text = written(alloc, plan, memory)?;
+    let other = evaluated(alloc, plan, memory)?;
+    if text.as_str() == other.as_str() {
+        return Ok(text);
+    }
+    Ok(format!(in alloc; "written {text}, evaluated {other}")?)
 }
 
 /// The answer of a query with its variables over a memory of a world, or what it waits for.
