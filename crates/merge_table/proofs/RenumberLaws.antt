@@ -1,5 +1,5 @@
 -- What holds of fields under one numbering holds of them under another.
-use Rattle.std.proofs.Common.{◌≡◌, ◌≢◌, ◌∙◌, sym, ap, subst, refl, ℕ, ◌<◌, Bool, true, false, ◌||◌, ◌==◌, List, [], ◌∷◌, map, inl, inr, ◌⊎◌}
+use Rattle.std.proofs.Common.{◌≡◌, ◌∙◌, sym, ap, subst, refl, ℕ, ◌<◌, Bool, true, false, ◌==◌, List, [], ◌∷◌, map, inl, inr, ◌⊎◌}
 use Rattle.std.proofs.lemmas.Bool.{or_cases, or_left, or_right, both_ways, eqb-true, eq-eqb}
 use Rattle.merge_table.specs.Merging.{Fields, IsPair, joined, SameShape, same, CanMerge, merges, Merges}
 use Rattle.merge_table.specs.Numbered.{is_in}

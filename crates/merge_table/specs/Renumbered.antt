@@ -1,5 +1,5 @@
 -- The fields of a document under other numbers.
-use Rattle.std.specs.Prelude.{◌≡◌, ℕ, ◌<◌, Bool, true, List, map}
+use Rattle.std.specs.Prelude.{◌≡◌, ℕ, ◌<◌, true, List, map}
 use Rattle.merge_table.specs.Merging.{Fields}
 use Rattle.merge_table.specs.Numbered.{is_in}
 

@@ -8,7 +8,7 @@ ghost use Rattle.merge_table.specs.Table.{fail, IsBelow, TellsAll};
 
 use crate::field::Field;
 use crate::row::Row;
-use crate::table::marks_of;
+use crate::table::marks_of_field;
 use std::alloc::{AllocError, Global};
 
 /// What a selection set has: a field, or another set that it enters, as that of a fragment.
@@ -47,10 +47,8 @@ impl Reached {
         requires below { IsBelow rows.now }
         ensures { (ms : List ℕ) → IsReached rows.now ms self.old → IsReached rows.now (ms ++ field ∷ []) self.new }
     {
-        let mut only = Row::new();
-        only.insert(field);
         self.members.insert(field);
-        self.marks.add_all(&marks_of(rows, &only));
+        self.marks.add_all(&marks_of_field(rows, field));
     }
 
     /// Adds what another set has.

@@ -1,7 +1,7 @@
 //! Which pairs of fields fail, by a table of pairs.
-ghost use Rattle.std.specs.Prelude.{◌≡◌, ◌≢◌, ◌<◌, ◌≤◌, ◌||◌, ◌&&◌, ◌==◌, ◌+◌, ℕ, length, IfOk, true, false};
+ghost use Rattle.std.specs.Prelude.{◌≡◌, ◌≢◌, ◌<◌, ◌≤◌, ◌||◌, ◌&&◌, ◌==◌, ◌+◌, ℕ, [], ◌∷◌, length, IfOk, true, false};
 ghost use Rattle.merge_table.specs.Sets.{has, Meets};
-ghost use Rattle.merge_table.specs.Numbered.{fields_of, members_at, AreInOrder};
+ghost use Rattle.merge_table.specs.Numbered.{fields_of, members_at, is_in, AreInOrder};
 ghost use Rattle.merge_table.specs.Table.{fail, entry, IsBelow, TellsAll, Holds, IsReady, fails_itself, asks_members, AreMarks, TestsJoined, fails_with, TestsPair};
 
 use crate::field::Field;
@@ -33,11 +33,30 @@ pub fn marks_of(rows: &[Row], members: &Row) -> Row
     ensures { AreMarks rows.now (has members.now) result }
 {
     let mut marks = Row::new();
+    if members.is_below(0) {
+        return marks;
+    }
     for d in 0..rows.len() {
         if members.has(d) {
             marks.add_all(&rows[d]);
         }
         if rows[d].meets(members) {
+            marks.insert(d);
+        }
+    }
+    marks
+}
+
+/// The fields that fail with one field.
+pub fn marks_of_field(rows: &[Row], field: usize) -> Row
+    requires known { field < length rows.now }
+    requires most { length rows.now ≤ 1024 }
+    ensures { AreMarks rows.now (is_in (field ∷ [])) result }
+{
+    let mut marks = Row::new();
+    marks.add_all(&rows[field]);
+    for d in 0..rows.len() {
+        if rows[d].has(field) {
             marks.insert(d);
         }
     }

@@ -1,4 +1,4 @@
-use Rattle.std.proofs.Common.{ℕ, ◌<◌, ◌≤◌, ◌≡◌, true, false, length}
+use Rattle.std.proofs.Common.{ℕ, ◌<◌, ◌≤◌, ◌≡◌, false, length}
 use Rattle.merge_table.specs.Clashes.{TestsKey}
 use Rattle.merge_table.specs.Numbered.{fields_of}
 use Rattle.merge_table.specs.Sets.{has}

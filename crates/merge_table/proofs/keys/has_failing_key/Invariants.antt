@@ -1,4 +1,4 @@
-use Rattle.std.proofs.Common.{ℕ, ◌<◌, ◌≡◌, true, false, length}
+use Rattle.std.proofs.Common.{ℕ, ◌<◌, ◌≡◌, true, false}
 use Rattle.merge_table.specs.Numbered.{fields_of}
 use Rattle.merge_table.specs.Sets.{has}
 use Rattle.merge_table.proofs.keys.has_failing_key.Given as goal

@@ -1,6 +1,14 @@
 use Rattle.std.proofs.Common.{arith}
+use Rattle.std.proofs.lemmas.Bool.{both_ways}
+use Rattle.merge_table.specs.Sets.{has}
 use Rattle.merge_table.proofs.TableLaws.{marks-all}
 use Rattle.merge_table.proofs.table.marks_of.Goals as goal
+
+pub returns-then-is_below : goal.returns-then-is_below
+returns-then-is_below c = record {
+  only = λ k e. absurd (both_ways (has c.new-marks.result k) (c.new-marks.ensures k) e);
+  all = λ k d m e. let less = c.if-is_below.ensures d m in absurd (omega (arith, less));
+}
 
 pub returns : goal.returns
 returns c = record {

@@ -1,4 +1,4 @@
-use Rattle.std.proofs.Common.{◌≡◌, ◌<◌, ◌≤◌, ℕ, ◌/◌, true, false, inl, inr, arith, sym, ◌∙◌}
+use Rattle.std.proofs.Common.{◌≡◌, true, inl, inr, arith, sym, ◌∙◌}
 use Rattle.std.proofs.lemmas.Bool.{cases_lt, both_ways}
 use Rattle.merge_table.specs.Sets.{has}
 use Rattle.merge_table.proofs.Bits.{has-within, has-zero}
