@@ -13,7 +13,7 @@ use crate::fault::{NoMemory, ServeFault};
 use std::alloc::Global;
 use std::io::Write;
 
-/// From how many pending bytes on they are written before more are added.
+/// From how many pending bytes on they are written before more are added. A text of so many is written without being added.
 const PENDING: usize = 65_536;
 
 /// Writes what is pending.
@@ -31,11 +31,11 @@ pub fn send<W: Write>(writer: &mut Counted<W>, pending: &mut Vec<u8>) -> Result<
     }
 }
 
-// Adds a text to what is pending, where there is room.
+// Adds a short text to what is pending, where there is room.
 fn keep(pending: &mut Vec<u8>, text: &[u8]) -> bool
     ensures { pending.new.items ≡ (if result then pending.old.items ++ text.now else pending.old.items) }
 {
-    pending.len() < PENDING && pending.extend_from_slice(text).is_ok()
+    pending.len() < PENDING && text.len() < PENDING && pending.extend_from_slice(text).is_ok()
 }
 
 // Writes a text after what is pending, now or later.
