@@ -3,3 +3,6 @@ pub mod RowLaws
 pub mod WalkLaws
 pub mod RankLaws
 pub mod LevelLaws
+pub mod BatchLaws
+pub mod ReacherLaws
+pub mod MissingLaws
