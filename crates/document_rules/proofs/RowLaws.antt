@@ -1,5 +1,5 @@
 -- Rows that grow.
-use Rattle.std.proofs.Common.{◌≡◌, ◌<◌, ◌≤◌, ap, refl, zero, suc, ℕ, cond, eqb, List, [], ◌∷◌, ◌++◌, length, get_or, set, Vec, arith}
+use Rattle.std.proofs.Common.{◌≡◌, ◌<◌, refl, zero, suc, ℕ, cond, eqb, List, [], ◌∷◌, ◌++◌, length, get_or, set, Vec, arith}
 use Rattle.std.proofs.Math.Dec.{eqb-suc-zero, eqb-zero-suc, eqb-suc-suc}
 use Rattle.std.specs.declared.alloc.Global.{Global}
 use Rattle.document_rules.specs.Rows.{rows_of, row_at}
@@ -19,14 +19,3 @@ row_at-put (row ∷ rows) zero zero v d number within is = is
 row_at-put (row ∷ rows) zero (suc i) v d number within is = rw (eqb-suc-zero i)
 row_at-put (row ∷ rows) (suc at) zero v d number within is = rw (eqb-zero-suc at)
 row_at-put (row ∷ rows) (suc at) (suc i) v d number within is = rw (eqb-suc-suc i at) (row_at-put rows at i v d number (omega arith) is)
-
--- the row at a place
-pub row_at-get : (rows : List (Vec ℕ Global)) (i : ℕ) (v : Vec ℕ Global) → i < length rows → v ≡ get_or rows i v → v.items ≡ row_at (rows_of rows) i
-row_at-get [] i v within is = absurd (omega arith)
-row_at-get (row ∷ rows) zero v within is = ap (λ (w : Vec ℕ Global). w.items) is
-row_at-get (row ∷ rows) (suc i) v within is = row_at-get rows i v (omega arith) is
-
-pub row_at-past : (rows : List (Vec ℕ Global)) (i : ℕ) → length rows ≤ i → [] ≡ row_at (rows_of rows) i
-row_at-past [] i past = refl
-row_at-past (row ∷ rows) zero past = absurd (omega arith)
-row_at-past (row ∷ rows) (suc i) past = row_at-past rows i (omega arith)

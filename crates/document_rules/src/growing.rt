@@ -1,20 +1,9 @@
-//! Lists that grow to the places that are written.
+//! Rows that grow.
 
-ghost use Rattle.std.specs.Prelude.{◌≡◌, ◌==◌, ◌++◌, ◌∷◌, [], ℕ, OnOk, slice_index_or, if◌then◌else◌};
+ghost use Rattle.std.specs.Prelude.{◌≡◌, ◌==◌, ◌++◌, ◌∷◌, [], ℕ, OnOk, if◌then◌else◌};
 ghost use Rattle.document_rules.specs.Rows.{rows_of, row_at};
 
 use std::alloc::{AllocError, Global};
-
-/// Puts a value at a place, with `rest` at the places before it that weren't there.
-pub fn put<T: Copy>(items: &mut Vec<T>, rest: T, at: usize, value: T) -> Result<(), AllocError>
-    ensures { (n : ℕ) → OnOk result (slice_index_or items.new.items n rest ≡ (if n == at then value else slice_index_or items.old.items n rest)) }
-{
-    while items.len() <= at {
-        items.push(rest)?;
-    }
-    items[at] = value;
-    Ok(())
-}
 
 /// Puts a number at the end of a row; rows that weren't there are empty.
 pub fn add_to_row(
