@@ -1,5 +1,4 @@
 pub mod ScanLaws
-pub mod RowLaws
 pub mod UseLaws
 pub mod LackLaws
 pub mod ReachLaws

@@ -9,7 +9,6 @@ mod arguments;
 mod batches;
 mod directives;
 mod fragments;
-mod growing;
 mod names;
 mod operations;
 mod served;

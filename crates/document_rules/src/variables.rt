@@ -21,7 +21,7 @@ use crate::names::add_repeated;
 use crate::use_table::{Numbers, UseTable, number_at};
 use document_parts::{Broken, Earliest, Parts};
 use gq_parser::Operation;
-use spread_graph::{BATCH, BatchSet, Graph, edges_of, reachers};
+use spread_graph::{BatchSet, Graph, batch_from, edges_of, reachers};
 use std::alloc::{AllocError, Global};
 
 /// Variable Uniqueness (section 5.8.1): a variable whose name an earlier one of its operation has.
@@ -39,15 +39,6 @@ pub fn variable_uniqueness<'d>(
     Ok(earliest.found)
 }
 
-// How many operations the batch has that begins at a place.
-fn batch_from(first: usize, operations: &[Operation]) -> usize
-    requires { first < length operations.now }
-    ensures count { (0 < result) × (result ≤ 64) }
-    ensures within { first + result ≤ length operations.now }
-{
-    BATCH.min(operations.len() - first)
-}
-
 // The uses that stand for those which an operation reaches without defining their variables.
 fn lacking_uses(
     alloc: Global,
@@ -61,7 +52,7 @@ fn lacking_uses(
     let mut lacking = Vec::new(alloc);
     let mut first = 0;
     while first < operations.len() {
-        let count = batch_from(first, operations);
+        let count = batch_from(first, operations.len());
         let reached = reachers(alloc, graph, &edges, first, count)?;
         note_lacking(
             alloc,
@@ -163,7 +154,7 @@ pub fn all_variables_used<'d>(
     let mut earliest = Earliest::new();
     let mut first = 0;
     while first < operations.len() {
-        let count = batch_from(first, operations);
+        let count = batch_from(first, operations.len());
         let reached = reachers(alloc, graph, &edges, first, count)?;
         add_unused_of_batch(
             alloc,

@@ -1,9 +1,10 @@
 -- Sets of operations of a batch, as what they have.
-use Rattle.std.proofs.Common.{◌≡◌, ◌∙◌, sym, ap, refl, ℕ, zero, suc, ◌*◌, ◌%◌, ◌^◌, ◌<◌, max, true, false, ◌||◌, eqb, bit_or, w64, arith, ⊎_elim}
-use Rattle.std.specs.Int.{bit_at}
+use Rattle.std.proofs.Common.{◌≡◌, ◌∙◌, sym, ap, refl, ℕ, zero, suc, ◌*◌, ◌-◌, ◌%◌, ◌^◌, ◌<◌, max, Bool, true, false, not, ◌||◌, eqb, bit_or, bit_and, w64, arith, ⊎_elim}
+use Rattle.std.specs.Int.{bit_at, bit_not}
+use Rattle.std.specs.Prelude.{◌&&◌}
 use Rattle.std.proofs.lemmas.Bool.{false≢true, eqb-true, eqb-false, eq-eqb, ne_eqb, cases_eq}
 use Rattle.std.proofs.lemmas.Nat.{le_or_r}
-use Rattle.std.proofs.lemmas.Nat.Bits.{bit_at-zero, bit_at_or, bit_at-lt, bit_at_set_same, bit_at_set_other, same_from_bits}
+use Rattle.std.proofs.lemmas.Nat.Bits.{bit_at-zero, bit_at_or, bit_at-lt, bit_at_set_same, bit_at_set_other, same_from_bits, bit_at_clear_same, bit_at_clear_other, bit_at_ones}
 use Rattle.spread_graph.specs.declared.batch.BatchSet.{BatchSet}
 use Rattle.spread_graph.specs.Batches.{has, is_within, both, no_operations}
 
@@ -50,3 +51,15 @@ within-from s t all = eq-eqb (bit_or s.bits t.bits) t.bits (same_from_bits (bit_
 -- where it isn't within another, both are more than that one
 pub not-within-more : (s t : BatchSet) → is_within s t ≡ false → t.bits < (both s t).bits
 not-within-more s t not = let more = le_or_r s.bits t.bits in let differs = eqb-false (bit_or s.bits t.bits) t.bits not in ⊎_elim (λ e. absurd (differs e)) (λ n. omega (arith, more, n)) (cases_eq (bit_or s.bits t.bits) t.bits)
+
+-- without one, cleared by its bit
+pub has-without : (s t : BatchSet) (k i : ℕ) → k < 64 → i < 64 → t.bits ≡ bit_and s.bits (bit_not w64 (1 * 2 ^ k % 2 ^ 64)) → has t i ≡ (not (eqb i k) && has s i)
+has-without s t k i within lt is = ⊎_elim same other (cases_eq i k) where
+  same : i ≡ k → has t i ≡ (not (eqb i k) && has s i)
+  same e = ap (λ n. eqb (bit_at n i) 1) is ∙ (ap (λ n. eqb (bit_at (bit_and s.bits (bit_not w64 (1 * 2 ^ k % 2 ^ 64))) n) 1) e ∙ (ap (λ n. eqb n 1) (bit_at_clear_same w64 s.bits k within) ∙ sym (ap (λ b. not b && has s i) (eq-eqb i k e))))
+
+  other : (i ≡ k → ⊥) → has t i ≡ (not (eqb i k) && has s i)
+  other n = ap (λ n. eqb (bit_at n i) 1) is ∙ (ap (λ n. eqb n 1) (bit_at_clear_other w64 s.bits k within i lt n) ∙ sym (ap (λ b. not b && has s i) (ne_eqb i k n)))
+
+pub has-all : (t : BatchSet) (i : ℕ) → i < 64 → t.bits ≡ 2 ^ 64 - 1 → has t i ≡ true
+has-all t i lt is = ap (λ n. eqb (bit_at n i) 1) is ∙ ap (λ n. eqb n 1) (bit_at_ones 64 i lt)

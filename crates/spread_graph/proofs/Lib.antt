@@ -6,3 +6,4 @@ pub mod LevelLaws
 pub mod BatchLaws
 pub mod ReacherLaws
 pub mod MissingLaws
+pub mod GrowLaws

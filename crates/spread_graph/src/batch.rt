@@ -1,10 +1,19 @@
 //! Sets of operations, of 64 in a row at a time.
 
-ghost use Rattle.std.specs.Prelude.{◌≡◌, ◌==◌, ◌||◌, ◌<◌, ℕ};
+ghost use Rattle.std.specs.Prelude.{◌≡◌, ◌==◌, ◌||◌, ◌&&◌, ◌<◌, ◌≤◌, ◌+◌, ℕ, true, not};
 ghost use Rattle.spread_graph.specs.Batches.{has, is_within, both, IsOfBatch, no_operations};
 
-/// How many operations a batch has.
-pub const BATCH: usize = 64;
+/// How many operations a batch has at most.
+const BATCH: usize = 64;
+
+/// How many operations the batch has that begins at a place, where there are so many in all.
+pub fn batch_from(first: usize, all: usize) -> usize
+    requires { first < all }
+    ensures count { (0 < result) × (result ≤ 64) }
+    ensures within { first + result ≤ all }
+{
+    BATCH.min(all - first)
+}
 
 /// Some of the operations of a batch, by their numbers in it from 0.
 #[derive(Clone, Copy)]
@@ -18,6 +27,13 @@ impl BatchSet {
         ensures { result ≡ no_operations }
     {
         BatchSet { bits: 0 }
+    }
+
+    /// All of them.
+    pub fn all() -> BatchSet
+        ensures { (i : ℕ) → i < 64 → has result i ≡ true }
+    {
+        BatchSet { bits: u64::MAX }
     }
 
     /// One of them alone.
@@ -35,6 +51,16 @@ impl BatchSet {
     {
         BatchSet {
             bits: self.bits | 1u64 << number,
+        }
+    }
+
+    /// These without one.
+    pub fn without(self, number: usize) -> BatchSet
+        requires { number < 64 }
+        ensures { (i : ℕ) → i < 64 → has result i ≡ (not (i == number) && has self i) }
+    {
+        BatchSet {
+            bits: self.bits & !(1u64 << number),
         }
     }
 

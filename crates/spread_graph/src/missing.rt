@@ -1,34 +1,13 @@
 //! Places in rows that operations of a batch reach, where a set lacks one of those.
 
-ghost use Rattle.std.specs.Prelude.{◌≡◌, ◌≤◌, ◌<◌, ◌==◌, ◌||◌, ◌&&◌, ◌^◌, ℕ, not, false, length, slice_index, slice_index_or, OnOk, if◌then◌else◌};
-ghost use Rattle.spread_graph.specs.Graphs.{row_at};
+ghost use Rattle.std.specs.Prelude.{◌≡◌, ◌≤◌, ◌<◌, ◌||◌, ◌&&◌, ◌^◌, ℕ, not, false, length, slice_index, slice_index_or, OnOk};
 ghost use Rattle.spread_graph.specs.Reach.{is_among};
 ghost use Rattle.spread_graph.specs.Rows.{rows_in};
 ghost use Rattle.spread_graph.specs.Batches.{set_at, is_within, any_below, is_missing_in, is_missing_at};
 
 use crate::batch::BatchSet;
+use crate::rows::{put, row_of};
 use std::alloc::AllocError;
-
-/// Puts a value at a place, with `rest` at the places before it that weren't there.
-pub fn put<T: Copy>(items: &mut Vec<T>, rest: T, at: usize, value: T) -> Result<(), AllocError>
-    ensures { (n : ℕ) → OnOk result (slice_index_or items.new.items n rest ≡ (if n == at then value else slice_index_or items.old.items n rest)) }
-{
-    while items.len() <= at {
-        items.push(rest)?;
-    }
-    items[at] = value;
-    Ok(())
-}
-
-/// A row, empty where there is none of this number.
-pub fn row_of(rows: &[Vec<usize>], i: usize) -> &[usize]
-    ensures { result.now ≡ row_at (rows_in rows.now) i }
-{
-    match rows.get(i) {
-        Some(row) => row.as_slice(),
-        None => &[],
-    }
-}
 
 /// The set of a number, empty where there is none.
 pub fn set_of(sets: &[BatchSet], number: usize) -> BatchSet

@@ -1,7 +1,7 @@
 use Rattle.std.proofs.Common.{◌∙◌, ◌++◌, ◌∷◌, [], ap, ℕ, Vec, arith}
 use Rattle.std.specs.declared.alloc.Global.{Global}
-use Rattle.document_rules.proofs.RowLaws.{row_at-pad, row_at-put}
-use Rattle.document_rules.proofs.growing.add_to_row.Goals as goal
+use Rattle.spread_graph.proofs.GrowLaws.{row_at-pad, row_at-put}
+use Rattle.spread_graph.proofs.rows.add_to_row.Goals as goal
 
 pub loop-alloc-preserved : goal.loop-alloc-preserved
 loop-alloc-preserved c = λ i.
