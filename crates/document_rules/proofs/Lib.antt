@@ -1,6 +1,6 @@
 pub mod ScanLaws
-pub mod RowLaws
 pub mod UseLaws
-pub mod MarkLaws
+pub mod LackLaws
 pub mod ReachLaws
 pub mod UsedLaws
+pub mod SetLaws

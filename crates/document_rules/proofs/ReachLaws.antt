@@ -1,24 +1,20 @@
 -- What the table of uses says of each use, and what an operation lacks by it.
-use Rattle.std.proofs.Common.{◌≡◌, ◌∙◌, ◌+◌, ◌<◌, ap, sym, refl, zero, suc, ℕ, Bool, true, false, not, ◌||◌, cond, eqb, List, [], ◌∷◌, Option, Some, None, length, get_or, map, slice_index, unwrap_or, bytes_eq, arith}
-use Rattle.std.specs.Prelude.{◌&&◌}
+use Rattle.std.proofs.Common.{◌≡◌, ◌∙◌, ◌+◌, ◌<◌, ap, sym, refl, zero, suc, ℕ, Bool, true, false, ◌||◌, cond, List, [], ◌∷◌, Option, Some, None, length, get_or, map, slice_index, unwrap_or, bytes_eq, arith}
 use Rattle.std.specs.List.{list_any}
 use Rattle.std.specs.HashMap.{get_by}
 use Rattle.std.specs.Borrow.{Bor}
-use Rattle.std.proofs.lemmas.Bool.{eqb-true, eq-eqb, ne_eqb, false≢true}
+use Rattle.std.proofs.lemmas.Bool.{eqb-true, eq-eqb, false≢true}
 use Rattle.std.proofs.lemmas.Slice.Eq.{bytes_eq-Decides}
 use Rattle.gq_schema.specs.Places.{place_from}
-use Rattle.gq_parser.specs.Tree.{Operation, VariableDefinition}
+use Rattle.gq_parser.specs.Tree.{Operation}
 use Rattle.document_parts.specs.declared.part.Owner.{Owner}
-use Rattle.document_parts.specs.declared.part.Owner.TheVariants as owner
 use Rattle.document_parts.specs.Parts.{VariableUse}
-use Rattle.spread_graph.specs.Graphs.{GraphOf}
-use Rattle.spread_graph.specs.Reach.{is_among, reaches}
+use Rattle.spread_graph.specs.Reach.{is_among}
 use Rattle.document_rules.specs.declared.use_table.UseTable as rust
-use Rattle.document_rules.specs.Rows.{RowsOf, is_same_owner, row, row_at}
-use Rattle.document_rules.specs.VariableReach.{is_within, is_variable, defines}
-use Rattle.document_rules.specs.UsesDefined.{lacks}
-use Rattle.document_rules.specs.UseTable.{is_use, number_in, is_number, is_numbered, is_marked, AreFresh}
-use Rattle.document_rules.specs.UseRows.{no_use, use_at, rows_in, IsUseTable, is_among_rows}
+use Rattle.document_rules.specs.Rows.{is_same_owner, row}
+use Rattle.document_rules.specs.VariableReach.{is_variable, defines}
+use Rattle.document_rules.specs.UseTable.{is_use, number_in, is_number, is_numbered}
+use Rattle.document_rules.specs.UseRows.{no_use, use_at, rows_in, IsUseTable}
 use Rattle.document_rules.proofs.UseLaws.{same_owner, is_same_owner-same}
 
 -- two tests that are true together are one
@@ -30,10 +26,6 @@ same_tests false false there back = refl
 pub list_any-agree : {A : Type 0} (p q : A → Bool) (xs : List A) → ((x : A) → p x ≡ q x) → list_any p xs ≡ list_any q xs
 list_any-agree p q [] agree = refl
 list_any-agree p q (x ∷ xs) agree = rw (agree x, list_any-agree p q xs agree)
-
-list_any-never : {A : Type 0} (xs : List A) → list_any (λ (x : A). false) xs ≡ false
-list_any-never [] = refl
-list_any-never (x ∷ xs) = list_any-never xs
 
 -- ---- numbers
 
@@ -111,76 +103,17 @@ module _ (uses : List VariableUse) (table : rust.UseTable) (holds : IsUseTable u
     back : is_same_owner q (use_at uses k).owner ≡ true → is_among s (row (rows_in table.rows) q) ≡ true
     back h = rw (same_owner q (use_at uses k).owner h) (holds.stood k within)
 
--- ---- an operation's step
+-- ---- the same of operations
 
 pub or-none : (b : Bool) → (b || false) ≡ b
 or-none true = refl
 or-none false = refl
 
-within_by : (g : GraphOf) (rows : RowsOf) (i s : ℕ) (reached : List ℕ) (o : Owner) → ((j : ℕ) → is_among j reached ≡ reaches g (owner.Operation i) j)
-    → ((q : Owner) → is_among s (row rows q) ≡ is_same_owner q o)
-    → (is_among s (row_at rows.operations i) || is_among_rows rows.fragments s reached) ≡ is_within g i o
-within_by g rows i s reached (owner.Operation k) walked alone =
-    rw (alone (owner.Operation i), list_any-agree (λ j. is_among s (row_at rows.fragments j)) (λ (j : ℕ). false) reached (λ j. alone (owner.Fragment j)), list_any-never reached) (or-none (eqb i k))
-within_by g rows i s reached (owner.Fragment f) walked alone =
-    rw (alone (owner.Operation i), list_any-agree (λ j. is_among s (row_at rows.fragments j)) (λ (j : ℕ). eqb j f) reached (λ j. alone (owner.Fragment j))) (walked f)
-
-lacks_by : (own rows marked noted : Bool) → ((rows && not marked) || ((own && not marked) || noted)) ≡ (((own || rows) && not marked) || noted)
-lacks_by true true true noted = refl
-lacks_by true true false noted = refl
-lacks_by true false true noted = refl
-lacks_by true false false noted = refl
-lacks_by false rows true noted = refl-by rows where
-  refl-by : (b : Bool) → ((b && false) || noted) ≡ ((b && false) || noted)
-  refl-by b = refl
-lacks_by false rows false noted = refl
-
-cond-fresh : (b : Bool) → cond b true false ≡ b
-cond-fresh true = refl
-cond-fresh false = refl
-
-cond-neither : (b : Bool) → cond b false false ≡ false
-cond-neither true = refl
-cond-neither false = refl
-
--- what marking the variables of the operation of number i does
-abbrev pub Marked : (List ℕ → Option ℕ) → List VariableDefinition → ℕ → List (Option ℕ) → List (Option ℕ) → Type 0
-Marked number variables i old new = (m n : ℕ) → is_marked new m n ≡ cond (list_any (is_numbered number n) variables) (eqb m i) (is_marked old m n)
-
-pub fresh_more : (number : List ℕ → Option ℕ) (variables : List VariableDefinition) (i : ℕ) (old new : List (Option ℕ)) → Marked number variables i old new → AreFresh old i → AreFresh new (i + 1)
-fresh_more number variables i old new marked fresh m n later =
-    let other : eqb m i ≡ false = ne_eqb m i (λ e. omega arith) in
-    let before : is_marked old m n ≡ false = fresh m n (omega arith) in
-    marked m n ∙ rw (other, before) (cond-neither (list_any (is_numbered number n) variables))
-
--- what was marked is what the operation defines
-pub marks_defined : (uses : List VariableUse) (table : rust.UseTable) → IsUseTable uses table → (k : ℕ) → k < length uses → (o : Operation) (i : ℕ) (old new : List (Option ℕ))
-    → Marked (λ q. get_by (λ (p : Bor (List ℕ)). bytes_eq q p.now) table.names) o.variables i old new → AreFresh old i
-    → is_marked new i (slice_index table.numbers.items (slice_index table.stand_ins.items k)) ≡ defines (use_at uses k).name o
-marks_defined uses table holds k within o i old new marked fresh =
-    let n = slice_index table.numbers.items k in
+-- an operation defines a variable with the number of a use's name exactly where it defines the use's variable
+pub defines-use : (uses : List VariableUse) (table : rust.UseTable) → IsUseTable uses table → (k : ℕ) → k < length uses → (o : Operation)
+    → list_any (is_numbered (λ q. get_by (λ (p : Bor (List ℕ)). bytes_eq q p.now) table.names) (slice_index table.numbers.items (slice_index table.stand_ins.items k))) o.variables ≡ defines (use_at uses k).name o
+defines-use uses table holds k within o =
     let number : List ℕ → Option ℕ = λ q. get_by (λ (p : Bor (List ℕ)). bytes_eq q p.now) table.names in
-    let self : eqb i i ≡ true = eq-eqb i i refl in
-    let before : is_marked old i n ≡ false = fresh i n (omega arith) in
-    ap (is_marked new i) (holds.alike k within) ∙ (marked i n ∙ (ap2 n number self before
-    ∙ list_any-agree (is_numbered number n) (is_variable (use_at uses k).name) o.variables
-    (λ v. ap (is_number n) (holds.names v.name) ∙ number-use uses table holds k within v.name))) where
-      ap2 : (n : ℕ) (number : List ℕ → Option ℕ) → eqb i i ≡ true → is_marked old i n ≡ false → cond (list_any (is_numbered number n) o.variables) (eqb i i) (is_marked old i n) ≡ list_any (is_numbered number n) o.variables
-      ap2 n number self before = rw (self, before) (cond-fresh (list_any (is_numbered number n) o.variables))
-
--- what is noted of a use after the operation's own row and the rows that it reaches
-pub lacks_more : (g : GraphOf) (uses : List VariableUse) (table : rust.UseTable) → IsUseTable uses table → (k : ℕ) → k < length uses → (o : Operation) (i : ℕ) (old new : List (Option ℕ)) (reached : List ℕ) (noted own all : Bool)
-    → Marked (λ q. get_by (λ (p : Bor (List ℕ)). bytes_eq q p.now) table.names) o.variables i old new → AreFresh old i
-    → ((j : ℕ) → is_among j reached ≡ reaches g (owner.Operation i) j)
-    → own ≡ ((is_among (slice_index table.stand_ins.items k) (row_at (rows_in table.rows).operations i) && not (is_marked new i (slice_index table.numbers.items (slice_index table.stand_ins.items k)))) || noted)
-    → all ≡ ((is_among_rows (rows_in table.rows).fragments (slice_index table.stand_ins.items k) reached && not (is_marked new i (slice_index table.numbers.items (slice_index table.stand_ins.items k)))) || own)
-    → all ≡ (lacks g i o (use_at uses k) || noted)
-lacks_more g uses table holds k within o i old new reached noted own all marked fresh walked by_own by_all =
-    let s = slice_index table.stand_ins.items k in
-    let rows = rows_in table.rows in
-    let in_own = is_among s (row_at rows.operations i) in
-    let in_rows = is_among_rows rows.fragments s reached in
-    let mark = is_marked new i (slice_index table.numbers.items s) in
-    let there = within_by g rows i s reached (use_at uses k).owner walked (stands_alone uses table holds k within) in
-    let defined = marks_defined uses table holds k within o i old new marked fresh in
-    by_all ∙ (ap (λ b. (in_rows && not mark) || b) by_own ∙ (lacks_by in_own in_rows mark noted ∙ (ap (λ b. (b && not mark) || noted) there ∙ ap (λ b. (is_within g i (use_at uses k).owner && not b) || noted) defined)))
+    ap (λ (n : ℕ). list_any (is_numbered number n) o.variables) (holds.alike k within)
+    ∙ list_any-agree (is_numbered number (slice_index table.numbers.items k)) (is_variable (use_at uses k).name) o.variables
+    (λ v. ap (is_number (slice_index table.numbers.items k)) (holds.names v.name) ∙ number-use uses table holds k within v.name)

@@ -1,17 +1,12 @@
 -- Rows of numbers, one for each operation and one for each fragment, by their numbers from 0.
-use Rattle.std.specs.Prelude.{ℕ, zero, suc, ◌==◌, Bool, false, List, [], ◌∷◌, map, Vec}
+use Rattle.std.specs.Prelude.{ℕ, ◌==◌, Bool, false, List, map, Vec}
 use Rattle.std.specs.declared.alloc.Global.{Global}
 use Rattle.document_parts.specs.declared.part.Owner.{Owner}
 use Rattle.document_parts.specs.declared.part.Owner.TheVariants as owner
+pub use Rattle.spread_graph.specs.Graphs.{row_at}
 
 abbrev pub rows_of : List (Vec ℕ Global) → List (List ℕ)
 rows_of rows = map (λ row. row.items) rows
-
--- the row of a number, empty where there is none
-abbrev pub row_at : List (List ℕ) → ℕ → List ℕ
-row_at [] i = []
-row_at (row ∷ rows) zero = row
-row_at (row ∷ rows) (suc i) = row_at rows i
 
 pub record RowsOf : Type 0 where
   pub operations : List (List ℕ)

@@ -1,17 +1,21 @@
 -- Uses in rows, by the operation or fragment that they stand in.
-use Rattle.std.specs.Prelude.{◌≡◌, ℕ, ◌+◌, ◌<◌, ◌==◌, Bool, true, List, length, [], Option, None, MatchOption, slice_index, slice_index_or, bytes_eq}
+use Rattle.std.specs.Prelude.{◌≡◌, ℕ, ◌+◌, ◌<◌, ◌==◌, ◌||◌, ◌&&◌, Bool, true, false, List, length, [], Option, None, MatchOption, slice_index, slice_index_or, slice_get, bytes_eq}
 use Rattle.std.specs.List.{list_any}
 use Rattle.std.specs.HashMap.{get_by}
 use Rattle.std.specs.Borrow.{Bor}
+use Rattle.std.specs.Option.{option_map_or}
+use Rattle.gq_parser.specs.Tree.{Operation}
 use Rattle.document_parts.specs.declared.part.Owner.{Owner}
 use Rattle.document_parts.specs.declared.part.Owner.TheVariants as owner
 use Rattle.document_parts.specs.Parts.{VariableUse}
+use Rattle.spread_graph.specs.declared.batch.BatchSet.{BatchSet}
+use Rattle.spread_graph.specs.Batches.{has, set_at, any_below}
 use Rattle.spread_graph.specs.Reach.{is_among}
 use Rattle.document_rules.specs.declared.use_table.UseRows as rust-rows
 use Rattle.document_rules.specs.declared.use_table.UseTable as rust-table
 use Rattle.document_rules.specs.declared.use_table.Last as rust-last
 use Rattle.document_rules.specs.Rows.{rows_of, row_at, RowsOf, row}
-use Rattle.document_rules.specs.UseTable.{number_in, numbers_by}
+use Rattle.document_rules.specs.UseTable.{number_in, numbers_by, is_numbered}
 
 -- what is read behind the last use
 abbrev pub no_use : VariableUse
@@ -52,14 +56,24 @@ pub record IsUseTable (uses : List VariableUse) (table : rust-table.UseTable) : 
   pub stood : (k : ℕ) → k < length uses → IsIn (rows_in table.rows) (use_at uses k).owner (slice_index table.stand_ins.items k)
   pub alike : (k : ℕ) → k < length uses → slice_index table.numbers.items (slice_index table.stand_ins.items k) ≡ slice_index table.numbers.items k
 
--- the use stands in one of these rows
-abbrev pub is_among_rows : List (List ℕ) → ℕ → List ℕ → Bool
-is_among_rows rows s js = list_any (λ j. is_among s (row_at rows j)) js
-
 -- a use in the row has a name of this number
 abbrev pub is_number_among : List ℕ → ℕ → List ℕ → Bool
 is_number_among numbers n row = list_any (λ s. n == slice_index numbers s) row
 
--- a use in one of these rows has a name of this number
-abbrev pub is_number_reached : List ℕ → ℕ → List (List ℕ) → List ℕ → Bool
-is_number_reached numbers n rows js = list_any (λ j. is_number_among numbers n (row_at rows j)) js
+-- a use in the row of the fragment j has a name of this number, and the operation of the number m in a batch reaches the fragment
+abbrev pub is_used_in : List ℕ → ℕ → List (List ℕ) → List BatchSet → ℕ → ℕ → Bool
+is_used_in numbers n rows reached m j = is_number_among numbers n (row_at rows j) && has (set_at reached j) m
+
+-- a use in the row of the operation of the number i in a batch has a name of this number, and that operation is the one of the number m
+abbrev pub is_used_at : List ℕ → ℕ → List (List ℕ) → ℕ → ℕ → ℕ → Bool
+is_used_at numbers n rows first m i = is_number_among numbers n (row_at rows (first + i)) && m == i
+
+-- a use of a name of this number stands in a fragment that the operation of the number m in a batch reaches, or in itself
+abbrev pub has_number : rust-table.UseTable → ℕ → ℕ → List BatchSet → ℕ → ℕ → Bool
+has_number table first count reached m n =
+    any_below (is_used_in table.numbers.items n (rows_in table.rows).fragments reached m) (length reached)
+    || any_below (is_used_at table.numbers.items n (rows_in table.rows).operations first m) count
+
+-- the operation of this number has a variable whose name has the number n
+abbrev pub defines_at : (List ℕ → Option ℕ) → ℕ → List Operation → ℕ → Bool
+defines_at number n operations k = option_map_or (λ (o : Operation). list_any (is_numbered number n) o.variables) (slice_get operations k) false

@@ -6,10 +6,9 @@
 #![tactic(auto)]
 
 mod arguments;
+mod batches;
 mod directives;
 mod fragments;
-mod growing;
-mod marking;
 mod names;
 mod operations;
 mod served;

@@ -8,8 +8,8 @@ ghost use Rattle.document_rules.specs.Rows.{is_same_owner, row};
 ghost use Rattle.document_rules.specs.UseTable.{number_in, numbers_by};
 ghost use Rattle.document_rules.specs.UseRows.{rows_in, IsUpTo, IsNext, Stands, IsUseTable};
 
-use crate::growing::{add_to_row, put};
 use document_parts::{Owner, VariableUse};
+use spread_graph::{add_to_row, put};
 use std::alloc::{AllocError, Global};
 use std::collections::HashMap;
 

@@ -1,29 +1,27 @@
 //! The rules on variables that need no types (section 5.8).
 
-ghost use Rattle.std.specs.Prelude.{◌≡◌, ◌<◌, ℕ, List, false, not, IfOk, length, map, filter, bytes_eq, slice_index, slice_index_or};
+ghost use Rattle.std.specs.Prelude.{◌≡◌, ◌<◌, ◌≤◌, ◌+◌, ◌^◌, ℕ, List, false, not, IfOk, OnOk, length, map, filter, drop, bytes_eq, slice_index, slice_index_or};
 ghost use Rattle.std.specs.HashMap.{get_by};
 ghost use Rattle.std.specs.Option.{option_map};
-ghost use Rattle.gq_parser.specs.Tree.{operation_of, document_of};
+ghost use Rattle.gq_parser.specs.Tree.{operation_of};
 ghost use Rattle.document_parts.specs.Broken.{broken_of, earliest};
 ghost use Rattle.document_parts.specs.Parts.{VariableUse as Use, parts_in};
-ghost use Rattle.spread_graph.specs.Graphs.{graph_of};
+ghost use Rattle.spread_graph.specs.Graphs.{GraphOf, graph_of};
+ghost use Rattle.spread_graph.specs.Batches.{AreReachers};
 ghost use Rattle.document_rules.specs.VariableNames.{variable_uniqueness};
 ghost use Rattle.document_rules.specs.UsesDefined.{one_lacks, all_variable_uses_defined};
 ghost use Rattle.document_rules.specs.Named.{named_variable};
-ghost use Rattle.document_rules.specs.Scans.{Tells};
-ghost use Rattle.document_rules.specs.VariablesUsed.{all_variables_used};
-ghost use Rattle.document_rules.specs.UseTable.{is_marked_if};
+ghost use Rattle.document_rules.specs.Scans.{Tells, with_all};
+ghost use Rattle.document_rules.specs.VariablesUsed.{unused_variables, all_variables_used};
+ghost use Rattle.document_rules.specs.UseTable.{has_if};
 ghost use Rattle.document_rules.specs.UseRows.{use_at, IsUseTable};
 
-use crate::marking::{
-    Marks, is_marked_if, mark_all_uses, mark_defined, mark_uses, note_all_lacking, note_lacking,
-    row_of,
-};
+use crate::batches::{has_if, note_lacking, used};
 use crate::names::add_repeated;
 use crate::use_table::{Numbers, UseTable, number_at};
-use document_parts::{Broken, Earliest, Owner, Parts};
-use gq_parser::{Document, Operation};
-use spread_graph::{Graph, Walk};
+use document_parts::{Broken, Earliest, Parts};
+use gq_parser::Operation;
+use spread_graph::{BatchSet, Graph, batch_from, edges_of, reachers};
 use std::alloc::{AllocError, Global};
 
 /// Variable Uniqueness (section 5.8.1): a variable whose name an earlier one of its operation has.
@@ -44,29 +42,28 @@ pub fn variable_uniqueness<'d>(
 // The uses that stand for those which an operation reaches without defining their variables.
 fn lacking_uses(
     alloc: Global,
-    document: &Document,
+    operations: &[Operation],
     graph: &Graph,
     table: &UseTable,
 ) -> Result<Vec<bool>, AllocError>
-    ensures { (uses : List Use) → IsUseTable uses table.now → IfOk result (λ lacking. (k : ℕ) → k < length uses → slice_index_or lacking.items (slice_index table.now.stand_ins.items k) false ≡ one_lacks graph.now 0 (document_of document.now).operations (use_at uses k)) }
+    ensures { (uses : List Use) → IsUseTable uses table.now → IfOk result (λ lacking. (k : ℕ) → k < length uses → slice_index_or lacking.items (slice_index table.now.stand_ins.items k) false ≡ one_lacks graph.now 0 (map operation_of operations.now) (use_at uses k)) }
 {
+    let edges = edges_of(alloc, graph)?;
     let mut lacking = Vec::new(alloc);
-    let mut marks: Marks = Vec::new(alloc);
-    let mut walk = Walk::new(alloc);
-    for (i, operation) in document.operations.iter().enumerate() {
-        mark_defined(&table.names, operation, i, &mut marks)?;
-        walk.walk_from(graph, Owner::Operation(i))?;
-        let own = row_of(&table.rows.operations, i);
-        note_lacking(own, &table.numbers, &marks, i, &mut lacking)?;
-        let rows = &table.rows.fragments;
-        note_all_lacking(
-            rows,
-            walk.reached(),
-            &table.numbers,
-            &marks,
-            i,
+    let mut first = 0;
+    while first < operations.len() {
+        let count = batch_from(first, operations.len());
+        let reached = reachers(alloc, graph, &edges, first, count)?;
+        note_lacking(
+            alloc,
+            operations,
+            table,
+            first,
+            count,
+            &reached,
             &mut lacking,
         )?;
+        first += count;
     }
     Ok(lacking)
 }
@@ -89,7 +86,7 @@ pub fn all_variable_uses_defined<'d>(
     ensures { IfOk result (λ broken. option_map broken_of broken ≡ earliest (all_variable_uses_defined (parts_in parts.now))) }
 {
     let table = UseTable::new(alloc, &parts.uses)?;
-    let lacking = lacking_uses(alloc, parts.document, graph, &table)?;
+    let lacking = lacking_uses(alloc, &parts.document.operations, graph, &table)?;
     let mut earliest = Earliest::new();
     for (place, part) in parts.uses.iter().enumerate() {
         if is_noted(&lacking, number_at(&table.stand_ins, place)) {
@@ -99,22 +96,47 @@ pub fn all_variable_uses_defined<'d>(
     Ok(earliest.found)
 }
 
-// Tells of the variables of the operation of number `i` whose names' numbers it hasn't marked.
-fn add_unmarked<'d>(
+// Tells of the variables of an operation whose names' sets don't have its number in the batch.
+fn add_unused<'d>(
     operation: &'d Operation,
     names: &Numbers,
-    marks: &[Option<usize>],
-    i: usize,
+    used: &[BatchSet],
+    number: usize,
     earliest: &mut Earliest<'d>,
 )
-    ensures { Tells earliest.old earliest.new (map named_variable (filter (λ v. not (is_marked_if marks.now i (get_by (λ k. bytes_eq v.name k.now) names.now))) (operation_of operation.now).variables)) }
+    requires { number < 64 }
+    ensures { Tells earliest.old earliest.new (map named_variable (filter (λ v. not (has_if used.now number (get_by (λ k. bytes_eq v.name k.now) names.now))) (operation_of operation.now).variables)) }
 {
     for variable in &operation.variables {
-        let number = names.get(variable.name.as_str()).copied();
-        if !is_marked_if(marks, i, number) {
+        let name = names.get(variable.name.as_str()).copied();
+        if !has_if(used, number, name) {
             earliest.add(Broken::named(variable.name.as_str(), variable.place));
         }
     }
+}
+
+// Tells of the variables of a batch of operations that reach no use of them.
+fn add_unused_of_batch<'d>(
+    alloc: Global,
+    operations: &'d [Operation],
+    table: &UseTable,
+    first: usize,
+    count: usize,
+    reached: &[BatchSet],
+    earliest: &mut Earliest<'d>,
+) -> Result<(), AllocError>
+    requires first { first < 2 ^ 63 }
+    requires count { count ≤ 64 }
+    requires within { first + count ≤ length operations.now }
+    ensures { (g : GraphOf) (uses : List Use) → IsUseTable uses table.now → AreReachers g first count reached.now →
+        OnOk result (with_all earliest.new (unused_variables g uses (first + count) (drop (first + count) (map operation_of operations.now))) ≡ with_all earliest.old (unused_variables g uses first (drop first (map operation_of operations.now)))) }
+{
+    let used = used(alloc, table, first, count, reached)?;
+    for number in 0..count {
+        let operation = &operations[first + number];
+        add_unused(operation, &table.names, &used, number, earliest);
+    }
+    Ok(())
 }
 
 /// All Variables Used (section 5.8.4): a variable of an operation that reaches no use of it, in itself or in fragments.
@@ -126,18 +148,24 @@ pub fn all_variables_used<'d>(
     requires { graph.now ≡ graph_of (parts_in parts.now) }
     ensures { IfOk result (λ broken. option_map broken_of broken ≡ earliest (all_variables_used (parts_in parts.now))) }
 {
-    let document = parts.document;
+    let operations = parts.document.operations.as_slice();
     let table = UseTable::new(alloc, &parts.uses)?;
-    let mut marks: Marks = Vec::new(alloc);
-    let mut walk = Walk::new(alloc);
+    let edges = edges_of(alloc, graph)?;
     let mut earliest = Earliest::new();
-    for (i, operation) in document.operations.iter().enumerate() {
-        let own = row_of(&table.rows.operations, i);
-        mark_uses(own, &table.numbers, i, &mut marks)?;
-        walk.walk_from(graph, Owner::Operation(i))?;
-        let rows = &table.rows.fragments;
-        mark_all_uses(rows, walk.reached(), &table.numbers, i, &mut marks)?;
-        add_unmarked(operation, &table.names, &marks, i, &mut earliest);
+    let mut first = 0;
+    while first < operations.len() {
+        let count = batch_from(first, operations.len());
+        let reached = reachers(alloc, graph, &edges, first, count)?;
+        add_unused_of_batch(
+            alloc,
+            operations,
+            &table,
+            first,
+            count,
+            &reached,
+            &mut earliest,
+        )?;
+        first += count;
     }
     Ok(earliest.found)
 }

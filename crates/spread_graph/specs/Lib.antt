@@ -7,3 +7,4 @@ pub mod Levels
 pub mod Known
 pub mod Tables
 pub mod Rules
+pub mod Batches

@@ -146,3 +146,15 @@ pub fn components(alloc: Global, graph: &Graph) -> Result<Vec<usize>, AllocError
     }
     Ok(ranks)
 }
+
+/// The fragments by their ranks, so that each comes after those that it spreads, where there is no cycle. Nothing is claimed of it.
+pub fn order(alloc: Global, graph: &Graph) -> Result<Vec<usize>, AllocError> {
+    let ranks = components(alloc, graph)?;
+    let mut order = vec![in alloc; 0usize; ranks.len()]?;
+    for (fragment, rank) in ranks.iter().enumerate() {
+        if let Some(place) = order.get_mut(rank.saturating_sub(1)) {
+            *place = fragment;
+        }
+    }
+    Ok(order)
+}

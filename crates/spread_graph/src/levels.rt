@@ -11,7 +11,7 @@ ghost use Rattle.spread_graph.specs.Levels.{levels_expanded};
 ghost use Rattle.spread_graph.specs.Tables.{Agrees, IsFull, IsSettled, expanded_table};
 ghost use Rattle.spread_graph.specs.Rules.{deep_operation, too_deep};
 
-use crate::components::components;
+use crate::components::order;
 use crate::graph::Graph;
 use document_parts::{Broken, Earliest, Parts};
 use gq_parser::{Operation, Selection, SelectionSet};
@@ -91,18 +91,6 @@ fn learn(parts: &Parts, table: &mut Table, number: usize)
         }
         None => {}
     }
-}
-
-// The fragments by their ranks, so that each comes after those that it spreads, where there is no cycle. Nothing is claimed of it.
-fn order(alloc: Global, graph: &Graph) -> Result<Vec<usize>, AllocError> {
-    let ranks = components(alloc, graph)?;
-    let mut order = vec![in alloc; 0usize; ranks.len()]?;
-    for (fragment, rank) in ranks.iter().enumerate() {
-        if let Some(place) = order.get_mut(rank.saturating_sub(1)) {
-            *place = fragment;
-        }
-    }
-    Ok(order)
 }
 
 // The levels of fragments, each taken once after those that it spreads. In a document with cycles some stay unknown.

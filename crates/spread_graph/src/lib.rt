@@ -7,15 +7,25 @@
 //! fields one inside another.
 #![tactic(auto)]
 
+mod batch;
 mod components;
 mod cycles;
+mod edges;
 mod graph;
 mod law;
 mod levels;
+mod missing;
+mod reaching;
+mod rows;
 mod walk;
 
+pub use batch::{BatchSet, batch_from};
 pub use cycles::fragment_cycles;
+pub use edges::{Edge, edges_of};
 pub use graph::Graph;
 pub use law::reached_by_spreads;
 pub use levels::too_deep;
+pub use missing::{note_missing_in_fragments, note_missing_in_operations, set_of};
+pub use reaching::reachers;
+pub use rows::{add_to_row, put, row_of};
 pub use walk::Walk;

@@ -1,2 +1,4 @@
 pub mod Keeping
-pub mod MarkLaws
+pub mod PlaceLaws
+pub mod KindLaws
+pub mod AllowLaws

@@ -15,5 +15,4 @@ pub mod CompatibleTypes
 pub mod AllowedUsages
 -- What the search for forbidden uses keeps.
 pub mod UsePlaces
-pub mod Variables
-pub mod Marks
+pub mod UseKinds

@@ -8,8 +8,8 @@ ghost use Rattle.typed_rules.specs.CompatibleTypes.{are_compatible, nullable, is
 use crate::references::is_non_null;
 use gq_parser::{Literal, TypeRef, Value};
 
-// Whether a variable's type fits a location's.
-fn are_compatible(variable: &TypeRef, location: &TypeRef) -> bool
+/// Whether a variable's type fits a location's.
+pub fn are_compatible(variable: &TypeRef, location: &TypeRef) -> bool
     ensures { result ≡ are_compatible (type_of variable.now) (type_of location.now) }
 {
     match (variable, location) {

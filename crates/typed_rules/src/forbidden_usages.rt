@@ -1,78 +1,87 @@
 //! All Variable Usages Are Allowed (section 5.8.5).
 
-ghost use Rattle.std.specs.Prelude.{◌≡◌, ◌&&◌, List, IfOk, length, false, nat_eq, replicate, vec_len};
-ghost use Rattle.std.specs.List.{list_any};
+ghost use Rattle.std.specs.Prelude.{◌≡◌, ◌≤◌, ◌<◌, ◌+◌, ◌^◌, ◌||◌, ℕ, IfOk, OnOk, length, map, drop, false, slice_index_or};
 ghost use Rattle.std.specs.Option.{option_map};
-ghost use Rattle.gq_parser.specs.Tree.{VariableDefinition, document_of};
+ghost use Rattle.gq_parser.specs.Tree.{document_of};
 ghost use Rattle.document_parts.specs.Broken.{broken_of, earliest};
-ghost use Rattle.document_parts.specs.Parts.{parts_in};
-ghost use Rattle.spread_graph.specs.Graphs.{graph_of};
-ghost use Rattle.typed_rules.specs.AllowedUsages.{forbids, is_part, is_forbidden, forbidden_usages};
-ghost use Rattle.typed_rules.specs.Marks.{Marks};
+ghost use Rattle.document_parts.specs.Parts.{use_of, parts_in};
+ghost use Rattle.spread_graph.specs.Graphs.{GraphOf, graph_of};
+ghost use Rattle.spread_graph.specs.Batches.{AreReachers};
+ghost use Rattle.typed_rules.specs.AllowedUsages.{is_forbidden, forbidden_usages};
+ghost use Rattle.typed_rules.specs.UseKinds.{use_at, AreKinds};
 ghost use Rattle.typed_rules.specs.UsePlaces.{ArePlaces};
-ghost use Rattle.typed_rules.specs.Variables.{AreVariables};
 
+use crate::allowed_uses::allowed;
+use crate::use_kinds::UseKinds;
 use crate::use_places::UsePlaces;
-use crate::variables::{Variables, forbids, variables_of};
-use document_parts::{Broken, Earliest, Owner, Parts, VariableUse};
-use spread_graph::{Graph, Walk};
+use document_parts::{Broken, Earliest, Parts};
+use spread_graph::{
+    BatchSet, Graph, batch_from, edges_of, note_missing_in_fragments, note_missing_in_operations,
+    reachers,
+};
 use std::alloc::{AllocError, Global};
 
-// Marks those of these uses that stand where their variable may not.
-fn mark(marks: &mut Vec<bool>, places: &[usize], uses: &[VariableUse], variables: &Variables)
-    requires { vec_len marks.old ≡ length uses.now }
-    ensures len { vec_len marks.new ≡ vec_len marks.old }
-    ensures marks { (vs : List VariableDefinition) → AreVariables variables.now vs → Marks marks.old.items marks.new.items uses.now (λ k u. list_any (nat_eq k) places.now && forbids vs u) }
-{
-    for place in places {
-        if let Some(part) = uses.get(*place) {
-            if forbids(variables, part) {
-                marks[*place] = true;
-            }
-        }
-    }
+/// Where the uses of variables stand, and which stand for others of their kind.
+#[derive(Drop)]
+struct UseTable<'d> {
+    places: UsePlaces,
+    kinds: UseKinds<'d>,
 }
 
-// Marks the uses in an operation, and in what it reaches, that stand where its variables may not. The walk is for the
-// operation.
-fn mark_operation(
+// Marks the uses that an operation of a batch, so many from the first on, has as parts and forbids.
+fn mark_batch(
+    alloc: Global,
+    parts: &Parts,
+    table: &UseTable,
+    first: usize,
+    count: usize,
+    reached: &[BatchSet],
     marks: &mut Vec<bool>,
-    number: usize,
-    walk: &Walk,
-    places: &UsePlaces,
-    uses: &[VariableUse],
-    variables: &Variables,
-)
-    requires len { vec_len marks.old ≡ length uses.now }
-    requires places { ArePlaces places.now uses.now }
-    ensures len { vec_len marks.new ≡ vec_len marks.old }
-    ensures marks { (vs : List VariableDefinition) → AreVariables variables.now vs → Marks marks.old.items marks.new.items uses.now (λ k u. is_part number walk.now u.owner && forbids vs u) }
+) -> Result<(), AllocError>
+    requires first { first < 2 ^ 63 }
+    requires count { count ≤ 64 }
+    requires within { first + count ≤ length parts.now.document.now.operations.items }
+    requires places { ArePlaces table.now.places parts.now.uses.items }
+    requires kinds { AreKinds table.now.kinds (map use_of parts.now.uses.items) }
+    ensures { (g : GraphOf) (k : ℕ) → AreReachers g first count reached.now → k < length parts.now.uses.items →
+        OnOk result ((slice_index_or marks.new.items k false || is_forbidden g (first + count) (drop (first + count) (document_of parts.now.document.now).operations) (use_at (map use_of parts.now.uses.items) k))
+        ≡ (slice_index_or marks.old.items k false || is_forbidden g first (drop first (document_of parts.now.document.now).operations) (use_at (map use_of parts.now.uses.items) k))) }
 {
-    let own = places.of(Owner::Operation(number));
-    mark(marks, own, uses, variables);
-    for fragment in walk.reached() {
-        let others = places.of(Owner::Fragment(*fragment));
-        mark(marks, others, uses, variables);
-    }
+    let operations = &parts.document.operations;
+    let sets = allowed(alloc, &table.kinds, &parts.uses, operations, first, count)?;
+    let kinds = &table.kinds.stand_ins;
+    let places = &table.places;
+    note_missing_in_operations(&places.operations, first, count, kinds, &sets, marks)?;
+    note_missing_in_fragments(&places.fragments, reached, kinds, &sets, marks)?;
+    Ok(())
 }
 
-// The uses that an operation forbids, one mark for each use.
+// The uses that an operation forbids, a mark for each.
 fn forbidden_marks(alloc: Global, parts: &Parts, graph: &Graph) -> Result<Vec<bool>, AllocError>
-    ensures len { IfOk result (λ marks. vec_len marks ≡ length parts.now.uses.items) }
-    ensures marks { IfOk result (λ marks. Marks (replicate (length parts.now.uses.items) false) marks.items parts.now.uses.items (λ k u. is_forbidden graph.now 0 (document_of parts.now.document.now).operations u)) }
+    ensures { IfOk result (λ marks. (k : ℕ) → k < length parts.now.uses.items → slice_index_or marks.items k false ≡ is_forbidden graph.now 0 (document_of parts.now.document.now).operations (use_at (map use_of parts.now.uses.items) k)) }
 {
-    let places = UsePlaces::new(alloc, &parts.uses)?;
-    let mut marks = vec![in alloc; false; parts.uses.len()]?;
-    let mut walk = Walk::new(alloc);
-    for (number, operation) in parts.document.operations.iter().enumerate() {
-        if operation.variables.is_empty() {
-            continue;
-        }
-        let variables = variables_of(alloc, &operation.variables)?;
-        walk.walk_from(graph, Owner::Operation(number))?;
-        mark_operation(&mut marks, number, &walk, &places, &parts.uses, &variables);
+    let table = UseTable {
+        places: UsePlaces::new(alloc, &parts.uses)?,
+        kinds: UseKinds::new(alloc, &parts.uses)?,
+    };
+    let edges = edges_of(alloc, graph)?;
+    let operations = parts.document.operations.len();
+    let mut marks = Vec::new(alloc);
+    let mut first = 0;
+    while first < operations {
+        let count = batch_from(first, operations);
+        let reached = reachers(alloc, graph, &edges, first, count)?;
+        mark_batch(alloc, parts, &table, first, count, &reached, &mut marks)?;
+        first += count;
     }
     Ok(marks)
+}
+
+// Whether a place is marked.
+fn is_marked(marks: &[bool], place: usize) -> bool
+    ensures { result ≡ slice_index_or marks.now place false }
+{
+    marks.get(place).copied().unwrap_or(false)
 }
 
 /// The earliest use of a variable that some operation, which has the use as a part, doesn't allow where it stands: in the
@@ -87,10 +96,13 @@ pub fn variable_usages<'d>(
     requires { graph.now ≡ graph_of (parts_in parts.now) }
     ensures { IfOk result (λ broken. option_map broken_of broken ≡ earliest (forbidden_usages (parts_in parts.now))) }
 {
+    if parts.uses.is_empty() {
+        return Ok(None);
+    }
     let marks = forbidden_marks(alloc, parts, graph)?;
     let mut earliest = Earliest::new();
     for (place, part) in parts.uses.iter().enumerate() {
-        if marks[place] {
+        if is_marked(&marks, place) {
             earliest.add(Broken::named(part.name, part.place));
         }
     }

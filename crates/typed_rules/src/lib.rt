@@ -5,6 +5,7 @@
 //! definition in `specs/` gives. Nothing rests on the other rules being kept: a rule that needs something unknown passes over it.
 #![tactic(auto)]
 
+mod allowed_uses;
 mod compatible_types;
 mod forbidden_usages;
 mod impossible_spreads;
@@ -16,8 +17,8 @@ mod references;
 mod unknown_arguments;
 mod unknown_fields;
 mod unknown_types;
+mod use_kinds;
 mod use_places;
-mod variables;
 mod wrong_values;
 
 pub use forbidden_usages::variable_usages;

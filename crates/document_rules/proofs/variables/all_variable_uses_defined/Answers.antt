@@ -18,7 +18,7 @@ loop-place-preserved c =
     let holds = rw c.deref.ensures.value at c.in_ok-table.ensures in
     let within = rw c.deref-part-items.ensures.value at c.loop-place-test.true in
     let is = rw c.deref-part-items.ensures.value at c.part-item.is in
-    let lacking = c.in_ok-lacking.ensures (map use_of uses) holds k (omega (arith, within, length-map uses use_of)) in
+    let lacking = rw c.deref-2.ensures.value at (c.in_ok-lacking.ensures (map use_of uses) holds k (omega (arith, within, length-map uses use_of))) in
     let noted = rw (c.number_at.ensures, c.deref-in-loop-place.ensures.value, c.deref-in-loop-place-2.ensures.value) at c.is_noted.ensures in
     let known : c.is_noted.result ≡ one_lacks g 0 operations (use_of item) = noted ∙ (lacking ∙ ap (one_lacks g 0 operations) (use_at-map uses k item within is)) in
     grind (arith, common_steps, known)

@@ -1,13 +1,14 @@
-use Rattle.std.proofs.Common.{◌≡◌, ℕ, ◌<◌, ◌||◌, false, length, vec_len, get_or, drop, map}
-use Rattle.gq_parser.specs.Tree.{operation_of}
-use Rattle.document_parts.specs.declared.part.VariableUse.{VariableUse}
+use Rattle.std.proofs.Common.{◌≡◌, ◌-◌, ◌<◌, ◌||◌, ℕ, false, length, map, drop, slice_index_or}
+use Rattle.gq_parser.specs.Tree.{document_of}
 use Rattle.document_parts.specs.Parts.{use_of}
 use Rattle.typed_rules.specs.AllowedUsages.{is_forbidden}
+use Rattle.typed_rules.specs.UseKinds.{use_at}
 use Rattle.typed_rules.proofs.forbidden_usages.forbidden_marks.Given as goal
 
-abbrev pub invariant-loop-number : goal.invariant-loop-number
-invariant-loop-number l = record {
-  len : vec_len l.marks ≡ length l.parts.uses.items;
-  each : (k : ℕ) (d : VariableUse) → k < length l.parts.uses.items
-      → (get_or l.marks.items k false || is_forbidden l.graph l.number (map operation_of (drop l.number l.parts.document.now.operations.items)) (use_of (get_or l.parts.uses.items k d))) ≡ is_forbidden l.graph 0 (map operation_of l.parts.document.now.operations.items) (use_of (get_or l.parts.uses.items k d));
-}
+abbrev pub invariant-loop-first : goal.invariant-loop-first
+invariant-loop-first l = (k : ℕ) → k < length l.parts.uses.items →
+    (slice_index_or l.marks.items k false || is_forbidden l.graph l.first (drop l.first (document_of l.parts.document.now).operations) (use_at (map use_of l.parts.uses.items) k))
+    ≡ is_forbidden l.graph 0 (document_of l.parts.document.now).operations (use_at (map use_of l.parts.uses.items) k)
+
+abbrev pub decreases-loop-first : goal.decreases-loop-first
+decreases-loop-first l = l.operations - l.first

@@ -1,11 +1,12 @@
 use Rattle.std.proofs.Common.{◌≡◌, ℕ, ◌<◌, ◌≤◌, false, get_or}
 use Rattle.document_parts.specs.declared.part.Owner.{Owner}
 use Rattle.document_parts.specs.declared.part.VariableUse.{VariableUse}
-use Rattle.typed_rules.specs.UsePlaces.{is_same_owner, is_place}
+use Rattle.spread_graph.specs.Reach.{is_among}
+use Rattle.typed_rules.specs.UsePlaces.{is_same_owner, row}
 use Rattle.typed_rules.proofs.use_places.UsePlaces.new.Given as goal
 
 abbrev pub invariant-loop-i : goal.invariant-loop-i
 invariant-loop-i l = record {
-  within : (o : Owner) (k : ℕ) (d : VariableUse) → k < l.i → is_place l.places o k ≡ is_same_owner o (get_or l.uses k d).owner;
-  beyond : (o : Owner) (k : ℕ) → l.i ≤ k → is_place l.places o k ≡ false;
+  within : (o : Owner) (k : ℕ) (d : VariableUse) → k < l.i → is_among k (row l.places o) ≡ is_same_owner o (get_or l.uses k d).owner;
+  beyond : (o : Owner) (k : ℕ) → l.i ≤ k → is_among k (row l.places o) ≡ false;
 }

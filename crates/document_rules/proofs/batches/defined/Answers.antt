@@ -1,0 +1,22 @@
+use Rattle.std.proofs.Common.{◌+◌, ◌<◌, ap, sym, false, ℕ, List, Option, length, map, bytes_eq, arith}
+use Rattle.std.specs.List.{list_any}
+use Rattle.std.specs.Option.{option_map_or}
+use Rattle.std.specs.HashMap.{get_by}
+use Rattle.std.specs.Borrow.{Bor}
+use Rattle.gq_parser.specs.Tree.{Operation, operation_of}
+use Rattle.spread_graph.specs.Batches.{has, set_at}
+use Rattle.document_rules.specs.UseTable.{is_numbered}
+use Rattle.document_rules.specs.UseRows.{defines_at}
+use Rattle.document_rules.proofs.SetLaws.{below_step, slice_get-seen}
+use Rattle.document_rules.proofs.batches.defined.Goals as goal
+
+pub loop-number-preserved : goal.loop-number-preserved
+loop-number-preserved c = λ n m.
+    let number : List ℕ → Option ℕ = λ q. get_by (λ (p : Bor (List ℕ)). bytes_eq q p.now) c.args.names.now in
+    let all = c.args.operations.now in
+    let i = c.loop-number.number in
+    let item = c.index-operations-first.result in
+    let within : c.args.first + i < length all = omega arith in
+    let is = slice_get-seen operation_of all (c.args.first + i) item within c.index-operations-first.is in
+    let here = sym (ap (λ (p : Option Operation). option_map_or (λ (q : Operation). list_any (is_numbered number n) q.variables) p false) is) in
+    below_step (λ k. defines_at number n (map operation_of all) (c.args.first + k)) m i _ (has (set_at c.loop-number.sets.items n) m) _ (c.in_ok-add_defined.ensures n m) here (c.loop-number.invariant n m)

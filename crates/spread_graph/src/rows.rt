@@ -1,0 +1,44 @@
+//! Lists and rows that grow to the places that are written.
+
+ghost use Rattle.std.specs.Prelude.{◌≡◌, ◌==◌, ◌++◌, ◌∷◌, [], ℕ, OnOk, slice_index_or, if◌then◌else◌};
+ghost use Rattle.spread_graph.specs.Graphs.{row_at};
+ghost use Rattle.spread_graph.specs.Rows.{rows_in};
+
+use std::alloc::{AllocError, Global};
+
+/// Puts a value at a place, with `rest` at the places before it that weren't there.
+pub fn put<T: Copy>(items: &mut Vec<T>, rest: T, at: usize, value: T) -> Result<(), AllocError>
+    ensures { (n : ℕ) → OnOk result (slice_index_or items.new.items n rest ≡ (if n == at then value else slice_index_or items.old.items n rest)) }
+{
+    while items.len() <= at {
+        items.push(rest)?;
+    }
+    items[at] = value;
+    Ok(())
+}
+
+/// A row, empty where there is none of this number.
+pub fn row_of(rows: &[Vec<usize>], i: usize) -> &[usize]
+    ensures { result.now ≡ row_at (rows_in rows.now) i }
+{
+    match rows.get(i) {
+        Some(row) => row.as_slice(),
+        None => &[],
+    }
+}
+
+/// Puts a number at the end of a row; rows that weren't there are empty.
+pub fn add_to_row(
+    alloc: Global,
+    rows: &mut Vec<Vec<usize>>,
+    row: usize,
+    number: usize,
+) -> Result<(), AllocError>
+    ensures { (i : ℕ) → OnOk result (row_at (rows_in rows.new.items) i ≡ (if i == row then row_at (rows_in rows.old.items) i ++ number ∷ [] else row_at (rows_in rows.old.items) i)) }
+{
+    while rows.len() <= row {
+        rows.push(Vec::new(alloc))?;
+    }
+    rows[row].push(number)?;
+    Ok(())
+}

@@ -1,0 +1,18 @@
+use Rattle.std.proofs.Common.{◌≡◌, ◌<◌, ◌≤◌, ℕ, true, false, not, eqb, drop, length, map}
+use Rattle.gq_parser.specs.Tree.{variable_of}
+use Rattle.document_parts.specs.Parts.{use_of}
+use Rattle.spread_graph.specs.Batches.{has, set_at}
+use Rattle.typed_rules.specs.AllowedUsages.{forbids}
+use Rattle.typed_rules.specs.UseKinds.{use_at, IsKind}
+use Rattle.typed_rules.proofs.allowed_uses.allow_by_operation.Given as goal
+
+abbrev pub invariant-loop-left : goal.invariant-loop-left
+invariant-loop-left l = record {
+  within : l.left ≤ length l.variables;
+  own : (r : ℕ) → r < length l.uses → IsKind l.kinds.known (map use_of l.uses) r → has (set_at l.initial.sets.items r) l.number ≡ true →
+      has (set_at l.sets.items r) l.number ≡ not (forbids (map variable_of (drop l.left l.variables)) (use_at (map use_of l.uses) r));
+  others : (r m : ℕ) → r < length l.uses → m < 64 → eqb m l.number ≡ false → has (set_at l.sets.items r) m ≡ has (set_at l.initial.sets.items r) m;
+}
+
+abbrev pub decreases-loop-left : goal.decreases-loop-left
+decreases-loop-left l = l.left
