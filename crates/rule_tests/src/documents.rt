@@ -1,10 +1,13 @@
 //! What no clause says: that the definitions tell what is meant, by documents that break each rule and documents that keep it.
+use crate::expect;
 use document_parts::{Broken, BrokenName, Parts, condition_arguments};
 use document_rules::*;
+use gq_lexer::Place;
 use gq_parser::parse;
 use gq_schema::Schema;
 use spread_graph::Graph;
-use std::alloc::Global;
+use std::alloc::{AllocError, AllocGlobal, Global};
+use std::process::Abort;
 use std::test::Fail;
 
 mod slow;
@@ -178,106 +181,136 @@ fn broken<'d>(alloc: Global, rule: Rule, parts: &Parts<'d>) -> Result<Option<Bro
         Rule::DirectiveLocations => directives_are_in_valid_locations(parts),
         Rule::DirectivesUnique => directives_are_unique_per_location(alloc, parts)?,
         Rule::VariableNames => variable_uniqueness(alloc, parts)?,
-        Rule::UsesDefined => {
-            let graph = Graph::new(alloc, parts)?;
-            all_variable_uses_defined(alloc, parts, &graph)?
-        }
-        Rule::VariablesUsed => {
-            let graph = Graph::new(alloc, parts)?;
-            all_variables_used(alloc, parts, &graph)?
-        }
+        Rule::UsesDefined => all_variable_uses_defined(alloc, parts, &Graph::new(alloc, parts)?)?,
+        Rule::VariablesUsed => all_variables_used(alloc, parts, &Graph::new(alloc, parts)?)?,
         Rule::NotServed => not_served(parts),
     })
 }
 
+// The rules that a slow program is beside.
+const SLOW_RULES: &[Rule] = &[
+    Rule::OperationNames,
+    Rule::ArgumentNames,
+    Rule::FragmentNames,
+    Rule::DirectivesUnique,
+    Rule::VariableNames,
+    Rule::UsesDefined,
+    Rule::VariablesUsed,
+];
+
+// What the slow program for a rule tells of a document.
+fn slowly_broken<'d>(
+    alloc: Global,
+    rule: Rule,
+    parts: &Parts<'d>,
+) -> Result<Option<Broken<'d>>, AllocError> {
+    let lists = match rule {
+        Rule::UsesDefined => return slow::undefined_use(alloc, parts),
+        Rule::VariablesUsed => return slow::unused_variable(alloc, parts),
+        Rule::OperationNames => slow::operation_names(alloc, parts)?,
+        Rule::ArgumentNames => slow::argument_names(alloc, parts)?,
+        Rule::FragmentNames => slow::fragment_names(alloc, parts)?,
+        Rule::DirectivesUnique => slow::directive_names(alloc, parts)?,
+        _ => slow::variable_names(alloc, parts)?,
+    };
+    Ok(slow::earliest_repeated(&lists))
+}
+
 // How it is printed, with its place.
-fn printed(alloc: Global, broken: Option<Broken>) -> Result<String, Fail> {
+fn printed(alloc: Global, broken: Option<Broken>) -> Result<String, AllocError> {
     let Some(broken) = broken else {
-        return Ok(String::from_str(alloc, "kept")?);
+        return String::from_str(alloc, "kept");
     };
     let name = match broken.name {
         BrokenName::Plain(name) => name,
         BrokenName::Variable(name) => name,
     };
-    let place = broken.place;
-    Ok(format!(in alloc; "{name} {}:{}", place.line, place.column)?)
+    let Place { line, column } = broken.place;
+    format!(in alloc; "{name} {line}:{column}")
+}
+
+// Who tells what is broken.
+#[derive(Clone, Copy)]
+enum Teller {
+    TheRule,
+    SlowProgram,
+}
+
+// What is told of a rule on a document.
+fn told(
+    alloc: Global,
+    schema: &Schema,
+    teller: Teller,
+    rule: Rule,
+    text: &str,
+) -> Result<String, Fail> {
+    let document = parse(alloc, text)?;
+    let condition = condition_arguments(alloc)?;
+    let parts = Parts::new(alloc, schema, &condition, &document)?;
+    let broken = match teller {
+        Teller::TheRule => broken(alloc, rule, &parts)?,
+        Teller::SlowProgram => slowly_broken(alloc, rule, &parts)?,
+    };
+    Ok(printed(alloc, broken)?)
 }
 
 #[test]
 fn documents(rt: HostRuntime) -> Result<(), Fail> {
-    let alloc = rt.alloc();
-    let schema = Schema::read(alloc, SCHEMA)?;
-    let condition = condition_arguments(alloc)?;
+    let schema = Schema::read(rt.alloc(), SCHEMA)?;
     for (rule, text, want) in DOCUMENTS {
-        let document = parse(alloc, text)?;
-        let parts = Parts::new(alloc, &schema, &condition, &document)?;
-        let told = printed(alloc, broken(alloc, *rule, &parts)?)?;
-        assert_eq!(rt; told.as_str(), *want, "{text}");
+        let found = told(rt.alloc(), &schema, Teller::TheRule, *rule, text)?;
+        expect(&rt, &found, want, text);
     }
     Ok(())
 }
 
-// Each rule on uses of variables, on each of the documents, beside a slow program for its definition.
-#[test]
-fn uses_beside_the_slow_program(rt: HostRuntime) -> Result<(), Fail> {
-    let alloc = rt.alloc();
-    let schema = Schema::read(alloc, SCHEMA)?;
-    let condition = condition_arguments(alloc)?;
+// A rule tells of each of the documents what the slow program for its definition does.
+fn compare<R: AllocGlobal + Abort>(rt: &R, rule: Rule) -> Result<(), Fail> {
+    let schema = Schema::read(rt.alloc(), SCHEMA)?;
     for (_, text, _) in DOCUMENTS {
-        let document = parse(alloc, text)?;
-        let parts = Parts::new(alloc, &schema, &condition, &document)?;
-        let told = printed(alloc, broken(alloc, Rule::UsesDefined, &parts)?)?;
-        let want = printed(alloc, slow::undefined_use(alloc, &parts)?)?;
-        assert_eq!(rt; told.as_str(), want.as_str(), "{text}");
-        let told = printed(alloc, broken(alloc, Rule::VariablesUsed, &parts)?)?;
-        let want = printed(alloc, slow::unused_variable(alloc, &parts)?)?;
-        assert_eq!(rt; told.as_str(), want.as_str(), "{text}");
+        let found = told(rt.alloc(), &schema, Teller::TheRule, rule, text)?;
+        let want = told(rt.alloc(), &schema, Teller::SlowProgram, rule, text)?;
+        expect(rt, &found, &want, text);
     }
     Ok(())
 }
 
-// Each rule on repeated names, on each of the documents, beside a slow program for its definition.
 #[test]
-fn names_beside_the_slow_program(rt: HostRuntime) -> Result<(), Fail> {
-    let alloc = rt.alloc();
-    let schema = Schema::read(alloc, SCHEMA)?;
-    let condition = condition_arguments(alloc)?;
-    for (_, text, _) in DOCUMENTS {
-        let document = parse(alloc, text)?;
-        let parts = Parts::new(alloc, &schema, &condition, &document)?;
-        let names = [
-            (Rule::OperationNames, slow::operation_names(alloc, &parts)?),
-            (Rule::ArgumentNames, slow::argument_names(alloc, &parts)?),
-            (Rule::FragmentNames, slow::fragment_names(alloc, &parts)?),
-            (
-                Rule::DirectivesUnique,
-                slow::directive_names(alloc, &parts)?,
-            ),
-            (Rule::VariableNames, slow::variable_names(alloc, &parts)?),
-        ];
-        for (rule, lists) in &names {
-            let told = printed(alloc, broken(alloc, *rule, &parts)?)?;
-            let want = printed(alloc, slow::earliest_repeated(lists))?;
-            assert_eq!(rt; told.as_str(), want.as_str(), "{text}");
-        }
+fn beside_the_slow_programs(rt: HostRuntime) -> Result<(), Fail> {
+    for rule in SLOW_RULES {
+        compare(&rt, *rule)?;
     }
     Ok(())
+}
+
+// A document with so many fields.
+fn fields(alloc: Global, count: usize) -> Result<String, AllocError> {
+    let mut text = String::from_str(alloc, "{...F} fragment F on Query{")?;
+    for _ in 0..count {
+        text.push_str("a ")?;
+    }
+    text.push('}')?;
+    Ok(text)
+}
+
+// Whether a document is too complex.
+fn complexity(alloc: Global, text: &str) -> Result<&'static str, Fail> {
+    let schema = Schema::read(alloc, SCHEMA)?;
+    let condition = condition_arguments(alloc)?;
+    let document = parse(alloc, text)?;
+    let parts = Parts::new(alloc, &schema, &condition, &document)?;
+    Ok(if is_too_complex(&parts) {
+        "too complex"
+    } else {
+        "served"
+    })
 }
 
 #[test]
 fn a_thousand_fields(rt: HostRuntime) -> Result<(), Fail> {
-    let alloc = rt.alloc();
-    let schema = Schema::read(alloc, SCHEMA)?;
-    let condition = condition_arguments(alloc)?;
-    for (fields, want) in [(MOST_FIELDS, false), (MOST_FIELDS + 1, true)] {
-        let mut text = String::from_str(alloc, "{...F} fragment F on Query{")?;
-        for _ in 0..fields {
-            text.push_str("a ")?;
-        }
-        text.push('}')?;
-        let document = parse(alloc, &text)?;
-        let parts = Parts::new(alloc, &schema, &condition, &document)?;
-        assert_eq!(rt; is_too_complex(&parts), want, "{fields} fields");
+    for (count, want) in [(MOST_FIELDS, "served"), (MOST_FIELDS + 1, "too complex")] {
+        let text = fields(rt.alloc(), count)?;
+        expect(&rt, complexity(rt.alloc(), &text)?, want, want);
     }
     Ok(())
 }

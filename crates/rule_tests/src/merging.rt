@@ -2,8 +2,10 @@
 ghost use Rattle.std.specs.Prelude.{MatchBool};
 ghost use Rattle.merge_table.specs.Numbered.{AreBelow};
 
+use crate::expect;
 use merge_table::*;
-use std::alloc::{AllocError, Global};
+use std::alloc::{AllocError, AllocGlobal, Global};
+use std::process::Abort;
 
 // the parent types
 const DOG: usize = 0;
@@ -24,23 +26,39 @@ const STRING: usize = 0;
 
 const INT: usize = 1;
 
-/// A field without arguments, with the selection set of these members.
-fn field(key: usize, name: usize, parent: usize, members: &[usize]) -> Field {
+/// A field: its response key, its name, its parent, its arguments, the type that it returns and the members of its selection
+/// set.
+type Line = (usize, usize, usize, usize, usize, &'static [usize]);
+
+fn field(line: &Line) -> Field {
+    let (key, name, parent, arguments, shape, members) = *line;
+    Field {
+        key,
+        name,
+        arguments,
+        parent,
+        object: parent != PET,
+        shape,
+        members: row(members),
+    }
+}
+
+fn row(members: &[usize]) -> Row {
     let mut row = Row::new();
     for m in members {
         if *m < 1024 {
             row.insert(*m);
         }
     }
-    Field {
-        key,
-        name,
-        arguments: 0,
-        parent,
-        object: parent != PET,
-        shape: STRING,
-        members: row,
+    row
+}
+
+fn fields_of(alloc: Global, lines: &[Line]) -> Result<Vec<Field>, AllocError> {
+    let mut fields = Vec::with_capacity(alloc, lines.len())?;
+    for line in lines {
+        fields.push(field(line))?;
     }
+    Ok(fields)
 }
 
 fn are_below(members: &[usize], n: usize) -> bool
@@ -52,166 +70,263 @@ fn are_below(members: &[usize], n: usize) -> bool
     }
 }
 
-/// The first member whose response key has a failing pair. `None` outside is for fields that are not
-/// in order.
-fn first(
-    alloc: Global,
-    fields: &[Field],
-    members: &[usize],
-) -> Result<Option<Option<usize>>, AllocError> {
+/// What is told of members.
+fn told(alloc: Global, fields: &[Field], members: &[usize]) -> Result<String, AllocError> {
     if fields.len() > 1024 || !is_in_order(fields) || !are_below(members, fields.len()) {
-        return Ok(None);
+        return String::from_str(alloc, "not in order");
     }
     let rows = failing_pairs(alloc, fields)?;
-    Ok(Some(first_failing(fields, &rows, members)))
+    let first = first_failing(fields, &rows, members);
+    printed(alloc, first)
 }
+
+/// The first member whose response key has a failing pair, as it is printed.
+fn printed(alloc: Global, first: Option<usize>) -> Result<String, AllocError> {
+    match first {
+        Some(member) => format!(in alloc; "{member} fails"),
+        None => String::from_str(alloc, "all merge"),
+    }
+}
+
+/// Fields, members of a set of them, and what is told.
+type Cases = &'static [(&'static [Line], &'static [usize], &'static str)];
+
+fn expect_all<R: AllocGlobal + Abort>(rt: &R, cases: Cases) -> Result<(), AllocError> {
+    for (lines, members, want) in cases {
+        let fields = fields_of(rt.alloc(), lines)?;
+        let found = told(rt.alloc(), fields.as_slice(), members)?;
+        expect(rt, &found, want, want);
+    }
+    Ok(())
+}
+
+/// `name: nickname name` of a dog.
+const OTHER: &[Line] = &[
+    (NAME, NICKNAME, DOG, 0, STRING, &[]),
+    (NAME, NAME, DOG, 0, STRING, &[]),
+];
+
+const ONE_NAME: Cases = &[
+    // name name: one field twice
+    (
+        &[
+            (NAME, NAME, DOG, 0, STRING, &[]),
+            (NAME, NAME, DOG, 0, STRING, &[]),
+        ],
+        &[0, 1],
+        "all merge",
+    ),
+    (OTHER, &[0, 1], "0 fails"),
+    (OTHER, &[0], "all merge"),
+    // other keys
+    (
+        &[
+            (NAME, NAME, DOG, 0, STRING, &[]),
+            (NICKNAME, NICKNAME, DOG, 0, STRING, &[]),
+        ],
+        &[0, 1],
+        "all merge",
+    ),
+];
 
 #[test]
 fn one_key_wants_one_name(rt: HostRuntime) -> Result<(), AllocError> {
-    let alloc = rt.alloc();
-    // name name: one field twice
-    let same = [field(NAME, NAME, DOG, &[]), field(NAME, NAME, DOG, &[])];
-    assert!(rt; first(alloc, &same, &[0, 1])? == Some(None));
-    // name: nickname name
-    let other = [field(NAME, NICKNAME, DOG, &[]), field(NAME, NAME, DOG, &[])];
-    assert!(rt; first(alloc, &other, &[0, 1])? == Some(Some(0)));
-    assert!(rt; first(alloc, &other, &[0])? == Some(None));
-    // other keys
-    let apart = [
-        field(NAME, NAME, DOG, &[]),
-        field(NICKNAME, NICKNAME, DOG, &[]),
-    ];
-    assert!(rt; first(alloc, &apart, &[0, 1])? == Some(None));
-    Ok(())
+    expect_all(&rt, ONE_NAME)
 }
+
+const ONE_SET_OF_ARGUMENTS: Cases = &[(
+    &[
+        (NAME, NAME, DOG, 0, STRING, &[]),
+        (NAME, NAME, DOG, 1, STRING, &[]),
+    ],
+    &[0, 1],
+    "0 fails",
+)];
 
 #[test]
 fn one_key_wants_one_set_of_arguments(rt: HostRuntime) -> Result<(), AllocError> {
-    let alloc = rt.alloc();
-    let mut sits = field(NAME, NAME, DOG, &[]);
-    sits.arguments = 1;
-    let commands = [field(NAME, NAME, DOG, &[]), sits];
-    assert!(rt; first(alloc, &commands, &[0, 1])? == Some(Some(0)));
-    Ok(())
+    expect_all(&rt, ONE_SET_OF_ARGUMENTS)
 }
+
+const OTHER_OBJECTS: Cases = &[
+    // ... on Dog { name: nickname } ... on Cat { name }
+    (
+        &[
+            (NAME, NICKNAME, DOG, 0, STRING, &[]),
+            (NAME, NAME, CAT, 0, STRING, &[]),
+        ],
+        &[0, 1],
+        "all merge",
+    ),
+    // an interface may be either
+    (
+        &[
+            (NAME, NICKNAME, DOG, 0, STRING, &[]),
+            (NAME, NAME, PET, 0, STRING, &[]),
+        ],
+        &[0, 1],
+        "0 fails",
+    ),
+    // but not in the type that they return
+    (
+        &[
+            (NAME, NAME, DOG, 0, STRING, &[]),
+            (NAME, NAME, CAT, 0, INT, &[]),
+        ],
+        &[0, 1],
+        "0 fails",
+    ),
+];
 
 #[test]
 fn other_objects_may_differ(rt: HostRuntime) -> Result<(), AllocError> {
-    let alloc = rt.alloc();
-    // ... on Dog { name: nickname } ... on Cat { name }
-    let objects = [field(NAME, NICKNAME, DOG, &[]), field(NAME, NAME, CAT, &[])];
-    assert!(rt; first(alloc, &objects, &[0, 1])? == Some(None));
-    // an interface may be either
-    let mixed = [field(NAME, NICKNAME, DOG, &[]), field(NAME, NAME, PET, &[])];
-    assert!(rt; first(alloc, &mixed, &[0, 1])? == Some(Some(0)));
-    // but not in the type that they return
-    let mut lives = field(NAME, NAME, CAT, &[]);
-    lives.shape = INT;
-    let shapes = [field(NAME, NAME, DOG, &[]), lives];
-    assert!(rt; first(alloc, &shapes, &[0, 1])? == Some(Some(0)));
-    Ok(())
+    expect_all(&rt, OTHER_OBJECTS)
 }
+
+/// `owner { owner { name } } owner { owner { name: nickname } }`
+const DEEP: &[Line] = &[
+    (NAME, NAME, DOG, 0, STRING, &[]),
+    (OWNER, OWNER, DOG, 0, STRING, &[0]),
+    (OWNER, OWNER, DOG, 0, STRING, &[1]),
+    (NAME, NICKNAME, DOG, 0, STRING, &[]),
+    (OWNER, OWNER, DOG, 0, STRING, &[3]),
+    (OWNER, OWNER, DOG, 0, STRING, &[4]),
+];
+
+const DOWN: Cases = &[
+    (DEEP, &[2, 5], "2 fails"),
+    (DEEP, &[2], "all merge"),
+    (DEEP, &[0, 3], "0 fails"),
+    // a field whose own set comes after it
+    (
+        &[
+            (OWNER, OWNER, DOG, 0, STRING, &[1]),
+            (NAME, NAME, DOG, 0, STRING, &[]),
+        ],
+        &[0],
+        "not in order",
+    ),
+];
 
 #[test]
 fn merging_goes_down(rt: HostRuntime) -> Result<(), AllocError> {
-    let alloc = rt.alloc();
-    // owner { owner { name } } owner { owner { name: nickname } }
-    let deep = [
-        field(NAME, NAME, DOG, &[]),
-        field(OWNER, OWNER, DOG, &[0]),
-        field(OWNER, OWNER, DOG, &[1]),
-        field(NAME, NICKNAME, DOG, &[]),
-        field(OWNER, OWNER, DOG, &[3]),
-        field(OWNER, OWNER, DOG, &[4]),
-    ];
-    assert!(rt; first(alloc, &deep, &[2, 5])? == Some(Some(2)));
-    assert!(rt; first(alloc, &deep, &[2])? == Some(None));
-    assert!(rt; first(alloc, &deep, &[0, 3])? == Some(Some(0)));
-    // a field whose own set comes after it
-    let loose = [field(OWNER, OWNER, DOG, &[1]), field(NAME, NAME, DOG, &[])];
-    assert!(rt; first(alloc, &loose, &[0])? == None);
-    Ok(())
+    expect_all(&rt, DOWN)
 }
+
+const KEYS: &[Line] = &[
+    (OWNER, OWNER, DOG, 0, STRING, &[]),
+    (NAME, NAME, DOG, 0, STRING, &[]),
+    (OWNER, OWNER, DOG, 0, STRING, &[]),
+    (NAME, NICKNAME, DOG, 0, STRING, &[]),
+];
+
+const FIRST_KEYS: Cases = &[
+    (KEYS, &[0, 1, 2, 3], "1 fails"),
+    (KEYS, &[3, 2, 1, 0], "3 fails"),
+    // the first field of the key merges with both that fail
+    (
+        &[
+            (NAME, NAME, CAT, 0, STRING, &[]),
+            (NAME, NAME, DOG, 0, STRING, &[]),
+            (NAME, NICKNAME, DOG, 0, STRING, &[]),
+        ],
+        &[0, 1, 2],
+        "0 fails",
+    ),
+];
 
 #[test]
 fn the_first_key_is_told(rt: HostRuntime) -> Result<(), AllocError> {
-    let alloc = rt.alloc();
-    let keys = [
-        field(OWNER, OWNER, DOG, &[]),
-        field(NAME, NAME, DOG, &[]),
-        field(OWNER, OWNER, DOG, &[]),
-        field(NAME, NICKNAME, DOG, &[]),
-    ];
-    assert!(rt; first(alloc, &keys, &[0, 1, 2, 3])? == Some(Some(1)));
-    assert!(rt; first(alloc, &keys, &[3, 2, 1, 0])? == Some(Some(3)));
-    // the first field of the key merges with both that fail
-    let later = [
-        field(NAME, NAME, CAT, &[]),
-        field(NAME, NAME, DOG, &[]),
-        field(NAME, NICKNAME, DOG, &[]),
-    ];
-    assert!(rt; first(alloc, &later, &[0, 1, 2])? == Some(Some(0)));
-    Ok(())
+    expect_all(&rt, FIRST_KEYS)
+}
+
+/// The numbers from one up to another.
+fn numbers(alloc: Global, from: usize, to: usize) -> Result<Vec<usize>, AllocError> {
+    let mut numbers = Vec::new(alloc);
+    for i in from..to {
+        numbers.push(i)?;
+    }
+    Ok(numbers)
+}
+
+/// 450 fields `name`, 450 fields `owner` that have all those as members, and one more that fails beside these.
+fn many_fields(alloc: Global) -> Result<Vec<Field>, AllocError> {
+    let names = numbers(alloc, 0, 450)?;
+    let mut fields = Vec::new(alloc);
+    for i in 0..901usize {
+        let key = if i < 450 { NAME } else { OWNER };
+        let name = if i == 900 { NAME } else { key };
+        let mut field = field(&(key, name, DOG, 0, STRING, &[]));
+        if key == OWNER && name == OWNER {
+            field.members = row(names.as_slice());
+        }
+        fields.push(field)?;
+    }
+    Ok(fields)
 }
 
 #[test]
 fn many_fields_of_one_key(rt: HostRuntime) -> Result<(), AllocError> {
-    let alloc = rt.alloc();
-    let mut fields = Vec::new(alloc);
-    let mut names = Vec::new(alloc);
-    for i in 0..450usize {
-        fields.push(field(NAME, NAME, DOG, &[]))?;
-        names.push(i)?;
+    let fields = many_fields(rt.alloc())?;
+    for (from, to, want) in [
+        (0, 450, "all merge"),
+        (450, 900, "all merge"),
+        (450, 901, "450 fails"),
+    ] {
+        let members = numbers(rt.alloc(), from, to)?;
+        let found = told(rt.alloc(), fields.as_slice(), members.as_slice())?;
+        expect(&rt, &found, want, want);
     }
-    assert!(rt; first(alloc, &fields, &names)? == Some(None));
-    let mut owners = Vec::new(alloc);
-    for i in 450..900usize {
-        fields.push(field(OWNER, OWNER, DOG, &names))?;
-        owners.push(i)?;
-    }
-    assert!(rt; first(alloc, &fields, &owners)? == Some(None));
-    fields.push(field(OWNER, NAME, DOG, &[]))?;
-    owners.push(900)?;
-    assert!(rt; first(alloc, &fields, &owners)? == Some(Some(450)));
     Ok(())
 }
 
-/// Of each set whether it can't be merged.
+/// The sets that can't be merged, by their numbers.
 fn failing_sets(
     alloc: Global,
     fields: &[Field],
     sets: &[Vec<Entry>],
-) -> Result<Option<Vec<bool>>, AllocError> {
+) -> Result<String, AllocError> {
     if fields.len() > 1024 || !is_in_order(fields) || !are_known(sets, fields.len()) {
-        return Ok(None);
+        return String::from_str(alloc, "not in order");
     }
     let rows = failing_pairs(alloc, fields)?;
-    let mut failing = Vec::new(alloc);
-    for set in &reached_sets(alloc, &rows, sets)? {
-        failing.push(set.is_failing(fields, &rows))?;
+    let mut failing = String::new(alloc);
+    for (number, set) in reached_sets(alloc, &rows, sets)?.iter().enumerate() {
+        if set.is_failing(fields, &rows) {
+            failing.push_str(format!(in alloc; "{number} fails;")?.as_str())?;
+        }
     }
-    Ok(Some(failing))
+    Ok(failing)
+}
+
+/// `fragment A { name } fragment B { name: nickname } { ...A ... { ...B owner } } { ...A }`
+const ENTRIES: &[&[Entry]] = &[
+    &[Entry::Field(0)],
+    &[Entry::Field(1)],
+    &[Entry::Set(1), Entry::Field(2)],
+    &[Entry::Set(0), Entry::Set(2)],
+    &[Entry::Set(0)],
+];
+
+const ENTERED: &[Line] = &[
+    (NAME, NAME, DOG, 0, STRING, &[]),
+    (NAME, NICKNAME, DOG, 0, STRING, &[]),
+    (OWNER, OWNER, DOG, 0, STRING, &[]),
+];
+
+fn sets_of(alloc: Global, entries: &[&[Entry]]) -> Result<Vec<Vec<Entry>>, AllocError> {
+    let mut sets = Vec::new(alloc);
+    for set in entries {
+        sets.push(set.to_vec(alloc)?)?;
+    }
+    Ok(sets)
 }
 
 #[test]
 fn sets_enter_others(rt: HostRuntime) -> Result<(), AllocError> {
-    let alloc = rt.alloc();
-    // fragment A { name } fragment B { name: nickname } { ...A ... { ...B owner } } { ...A }
-    let fields = [
-        field(NAME, NAME, DOG, &[]),
-        field(NAME, NICKNAME, DOG, &[]),
-        field(OWNER, OWNER, DOG, &[]),
-    ];
-    let sets = vec![in alloc;
-        vec![in alloc; Entry::Field(0)]?,
-        vec![in alloc; Entry::Field(1)]?,
-        vec![in alloc; Entry::Set(1), Entry::Field(2)]?,
-        vec![in alloc; Entry::Set(0), Entry::Set(2)]?,
-        vec![in alloc; Entry::Set(0)]?,
-    ]?;
-    let Some(failing) = failing_sets(alloc, &fields, &sets)? else {
-        panic!(rt; "the sets are in order");
-    };
-    assert!(rt; failing.as_slice() == &[false, false, false, true, false][..]);
+    let fields = fields_of(rt.alloc(), ENTERED)?;
+    let sets = sets_of(rt.alloc(), ENTRIES)?;
+    let found = failing_sets(rt.alloc(), fields.as_slice(), sets.as_slice())?;
+    expect(&rt, &found, "3 fails;", "sets");
     Ok(())
 }

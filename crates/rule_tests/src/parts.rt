@@ -1,5 +1,6 @@
 //! Parts of documents.
 
+use crate::expect;
 use document_parts::*;
 use gq_lexer::Place;
 use gq_parser::parse;
@@ -44,16 +45,27 @@ fn field_lines(alloc: Global, parts: &Parts, lines: &mut String) -> Result<(), F
     Ok(())
 }
 
-// Spreads with their targets, inline fragments, and the columns of selection sets.
-fn inner_lines(alloc: Global, parts: &Parts, lines: &mut String) -> Result<(), Fail> {
+// A number, or a dash.
+fn number_or_dash(alloc: Global, number: Option<usize>) -> Result<String, Fail> {
+    Ok(match number {
+        Some(number) => format!(in alloc; "{number}")?,
+        None => String::from_str(alloc, "-")?,
+    })
+}
+
+// Spreads with their targets.
+fn spread_lines(alloc: Global, parts: &Parts, lines: &mut String) -> Result<(), Fail> {
     for part in &parts.spreads {
         let owner = owner_text(alloc, part.owner)?;
-        let line = match part.target {
-            Some(target) => format!(in alloc; "{owner} {} {target}\n", part.spread.name)?,
-            None => format!(in alloc; "{owner} {} -\n", part.spread.name)?,
-        };
+        let target = number_or_dash(alloc, part.target)?;
+        let line = format!(in alloc; "{owner} {} {target}\n", part.spread.name)?;
         lines.push_str(line.as_str())?;
     }
+    Ok(())
+}
+
+// Inline fragments.
+fn inline_lines(alloc: Global, parts: &Parts, lines: &mut String) -> Result<(), Fail> {
     for part in &parts.inlines {
         let owner = owner_text(alloc, part.owner)?;
         let parent = text_or_dash(part.parent);
@@ -61,6 +73,11 @@ fn inner_lines(alloc: Global, parts: &Parts, lines: &mut String) -> Result<(), F
         let line = format!(in alloc; "{owner} {parent} {inside}\n")?;
         lines.push_str(line.as_str())?;
     }
+    Ok(())
+}
+
+// Selection sets with their columns.
+fn set_lines(alloc: Global, parts: &Parts, lines: &mut String) -> Result<(), Fail> {
     for part in &parts.sets {
         let owner = owner_text(alloc, part.owner)?;
         let parent = text_or_dash(part.parent);
@@ -82,73 +99,99 @@ fn location_name(location: DirectiveLocation) -> &'static str {
     }
 }
 
-// Directives by their locations, and arguments with their definitions.
-fn given_lines(alloc: Global, parts: &Parts, lines: &mut String) -> Result<(), Fail> {
+// Directives by their locations.
+fn directive_lines(alloc: Global, parts: &Parts, lines: &mut String) -> Result<(), Fail> {
     for part in &parts.directive_lists {
         let owner = owner_text(alloc, part.owner)?;
         let location = location_name(part.location);
         let line = format!(in alloc; "{owner} {location} {}\n", part.directives.len())?;
         lines.push_str(line.as_str())?;
     }
+    Ok(())
+}
+
+// Arguments with their definitions.
+fn argument_lines(alloc: Global, parts: &Parts, lines: &mut String) -> Result<(), Fail> {
     for part in &parts.arguments {
         let owner = owner_text(alloc, part.owner)?;
+        let name = part.argument.name.as_str();
         let known = part.definition.is_some();
-        let line = format!(in alloc;
-            "{owner} {} {} {known}\n",
-            part.argument.name, part.is_known
-        )?;
+        let line = format!(in alloc; "{owner} {name} {} {known}\n", part.is_known)?;
         lines.push_str(line.as_str())?;
     }
     Ok(())
+}
+
+// Where a use of a variable stands.
+fn use_kind(part: &VariableUse) -> &'static str {
+    match &part.location {
+        Some(location) if location.has_default => "default",
+        Some(_) => "location",
+        None => "-",
+    }
 }
 
 fn use_lines(alloc: Global, parts: &Parts, lines: &mut String) -> Result<(), Fail> {
     for part in &parts.uses {
         let owner = owner_text(alloc, part.owner)?;
-        let location = match part.location {
-            Some(location) => {
-                if location.has_default {
-                    "default"
-                } else {
-                    "location"
-                }
-            }
-            None => "-",
-        };
-        let line = format!(in alloc; "{owner} {} {} {location}\n", part.name, part.place.column)?;
+        let kind = use_kind(part);
+        let column = part.place.column;
+        let line = format!(in alloc; "{owner} {} {column} {kind}\n", part.name)?;
         lines.push_str(line.as_str())?;
     }
     Ok(())
 }
 
-/// Which lists are printed.
-#[derive(Clone, Copy)]
-enum Lists {
-    Fields,
-    Inner,
-    Given,
-    Uses,
+// The fragments `F` and `G` by their names, and how many variables there are.
+fn fragment_lines(alloc: Global, parts: &Parts, lines: &mut String) -> Result<(), Fail> {
+    let first = number_or_dash(alloc, parts.fragment("F"))?;
+    let second = number_or_dash(alloc, parts.fragment("G"))?;
+    let variables = parts.variables.len();
+    let line = format!(in alloc; "{first} {second} {variables}\n")?;
+    Ok(lines.push_str(line.as_str())?)
 }
 
-fn lines_of(alloc: Global, lists: Lists) -> Result<String, Fail> {
-    let schema = Schema::read(alloc, SCHEMA)?;
-    let condition = condition_arguments(alloc)?;
-    let document = parse(alloc, TEXT)?;
-    let parts = Parts::new(alloc, &schema, &condition, &document)?;
+/// Which list is printed.
+#[derive(Clone, Copy)]
+enum List {
+    Fields,
+    Spreads,
+    Inlines,
+    Sets,
+    Directives,
+    Arguments,
+    Uses,
+    Fragments,
+}
+
+fn list_of(alloc: Global, list: List, parts: &Parts) -> Result<String, Fail> {
     let mut lines = String::new(alloc);
-    match lists {
-        Lists::Fields => field_lines(alloc, &parts, &mut lines)?,
-        Lists::Inner => inner_lines(alloc, &parts, &mut lines)?,
-        Lists::Given => given_lines(alloc, &parts, &mut lines)?,
-        Lists::Uses => use_lines(alloc, &parts, &mut lines)?,
+    match list {
+        List::Fields => field_lines(alloc, parts, &mut lines)?,
+        List::Spreads => spread_lines(alloc, parts, &mut lines)?,
+        List::Inlines => inline_lines(alloc, parts, &mut lines)?,
+        List::Sets => set_lines(alloc, parts, &mut lines)?,
+        List::Directives => directive_lines(alloc, parts, &mut lines)?,
+        List::Arguments => argument_lines(alloc, parts, &mut lines)?,
+        List::Uses => use_lines(alloc, parts, &mut lines)?,
+        List::Fragments => fragment_lines(alloc, parts, &mut lines)?,
     }
     Ok(lines)
 }
 
-#[test]
-fn fields(rt: HostRuntime) -> Result<(), Fail> {
-    let lines = lines_of(rt.alloc(), Lists::Fields)?;
-    let wanted = "O0 Query a A true
+fn lines_of(alloc: Global, list: List) -> Result<String, Fail> {
+    let schema = Schema::read(alloc, SCHEMA)?;
+    let condition = condition_arguments(alloc)?;
+    let document = parse(alloc, TEXT)?;
+    let parts = Parts::new(alloc, &schema, &condition, &document)?;
+    list_of(alloc, list, &parts)
+}
+
+// Each list with its lines.
+const LISTS: &[(List, &str)] = &[
+    (
+        List::Fields,
+        "O0 Query a A true
 O0 A id - true
 O0 A b A true
 O0 N id - true
@@ -157,19 +200,13 @@ O0 Query i - true
 O0 - k - false
 F0 A __typename - false
 F1 - k - false
-";
-    assert_eq!(rt; lines.as_str(), wanted);
-    Ok(())
-}
-
-#[test]
-fn spreads_inlines_and_sets(rt: HostRuntime) -> Result<(), Fail> {
-    let lines = lines_of(rt.alloc(), Lists::Inner)?;
-    let wanted = "O0 F 0
-F1 G -
-O0 A N
-O0 A A
-O0 Query 22
+",
+    ),
+    (List::Spreads, "O0 F 0\nF1 G -\n"),
+    (List::Inlines, "O0 A N\nO0 A A\n"),
+    (
+        List::Sets,
+        "O0 Query 22
 F0 A 20
 F1 - 19
 O0 A 59
@@ -177,78 +214,75 @@ O0 A 77
 O0 N 88
 O0 A 99
 O0 - 123
-";
-    assert_eq!(rt; lines.as_str(), wanted);
-    Ok(())
-}
-
-#[test]
-fn directives_and_arguments(rt: HostRuntime) -> Result<(), Fail> {
-    let lines = lines_of(rt.alloc(), Lists::Given)?;
-    let wanted = "O0 variable 1
+",
+    ),
+    (
+        List::Directives,
+        "O0 variable 1
 O0 operation 1
 F0 fragment 1
 O0 field 1
 F0 field 1
-O0 x true true
+",
+    ),
+    (
+        List::Arguments,
+        "O0 x true true
 O0 y true true
 O0 z true true
 O0 o false false
 O0 if true true
 F0 no true false
-";
-    assert_eq!(rt; lines.as_str(), wanted);
-    Ok(())
-}
-
-#[test]
-fn uses(rt: HostRuntime) -> Result<(), Fail> {
-    let lines = lines_of(rt.alloc(), Lists::Uses)?;
-    let wanted = "O0 v 29 default
+",
+    ),
+    (
+        List::Uses,
+        "O0 v 29 default
 O0 w 40 location
 O0 o 110 -
 O0 s 55 location
 F0 z 50 -
-";
-    assert_eq!(rt; lines.as_str(), wanted);
-    Ok(())
-}
+",
+    ),
+    (List::Fragments, "0 - 1\n"),
+];
 
 #[test]
-fn earliest(rt: HostRuntime) -> Result<(), Fail> {
-    let place = |line: u32, column: u32| Place { line, column };
-    let mut earliest = Earliest::new();
-    assert!(rt; earliest.found.is_none());
-    earliest.add(Broken::named("b", place(2, 1)));
-    earliest.add_if(None);
-    earliest.add_if(Some(Broken::named("a", place(1, 9))));
-    earliest.add(Broken::named("later", place(1, 9)));
-    earliest.add(Broken::named("last", place(1, 10)));
-    match earliest.found {
-        Some(broken) => assert_eq!(rt; broken.place.column, 9),
-        None => assert!(rt; false),
+fn lists_of_parts(rt: HostRuntime) -> Result<(), Fail> {
+    for (list, want) in LISTS {
+        let found = lines_of(rt.alloc(), *list)?;
+        expect(&rt, &found, want, want);
     }
-    assert!(rt;
-        matches!(
-            earliest.found,
-            Some(Broken {
-                name: BrokenName::Plain("a"),
-                ..
-            })
-        )
-    );
     Ok(())
 }
 
+fn named(name: &str, line: u32, column: u32) -> Broken<'_> {
+    Broken::named(name, Place { line, column })
+}
+
+// The earliest of five.
+fn earliest_of_five() -> Option<Broken<'static>> {
+    let mut earliest = Earliest::new();
+    earliest.add(named("b", 2, 1));
+    earliest.add_if(None);
+    earliest.add_if(Some(named("a", 1, 9)));
+    earliest.add(named("later", 1, 9));
+    earliest.add(named("last", 1, 10));
+    earliest.found
+}
+
+fn name_of<'d>(broken: Option<Broken<'d>>) -> &'d str {
+    match broken {
+        Some(broken) => match broken.name {
+            BrokenName::Plain(name) => name,
+            BrokenName::Variable(_) => "a variable",
+        },
+        None => "none",
+    }
+}
+
 #[test]
-fn fragments_by_name(rt: HostRuntime) -> Result<(), Fail> {
-    let alloc = rt.alloc();
-    let schema = Schema::read(alloc, SCHEMA)?;
-    let condition = condition_arguments(alloc)?;
-    let document = parse(alloc, TEXT)?;
-    let parts = Parts::new(alloc, &schema, &condition, &document)?;
-    assert_eq!(rt; parts.fragment("F"), Some(0));
-    assert_eq!(rt; parts.fragment("G"), None);
-    assert_eq!(rt; parts.variables.len(), 1);
-    Ok(())
+fn earliest(rt: HostRuntime) {
+    expect(&rt, name_of(Earliest::new().found), "none", "nothing");
+    expect(&rt, name_of(earliest_of_five()), "a", "five");
 }

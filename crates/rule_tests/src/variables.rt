@@ -1,167 +1,211 @@
 //! Values of variables from JSON, and the texts of their faults.
-use gq_parser::parse;
+use crate::expect;
+use gq_parser::{Operation, parse};
 use gq_schema::Schema;
 use serde_json::Value;
-use std::alloc::Global;
+use std::alloc::{AllocError, AllocGlobal, Global};
+use std::process::Abort;
 use std::test::Fail;
-use variable_values::{VariableFault, coerce_variables};
+use variable_values::{Variable, VariableFault, coerce_variables};
 
 const SCHEMA: &str = "type Query { a: Int } enum E { A B }";
 
-// The variables of `query(DEFINITIONS){a}` over the schema, where this JSON is given: each name with its value, or the fault.
-fn printed(alloc: Global, definitions: &str, given: &str) -> Result<String, Fail> {
-    let schema = Schema::read(alloc, SCHEMA)?;
-    let text = format!(in alloc; "query({definitions}){{a}}")?;
-    let document = parse(alloc, &text)?;
-    let given = Value::from_str(alloc, given)?;
+// Each name with its value.
+fn printed(alloc: Global, variables: &[Variable]) -> Result<String, AllocError> {
     let mut printed = String::new(alloc);
-    for operation in &document.operations {
-        match coerce_variables(alloc, &schema, &operation.variables, &given) {
-            Ok(variables) => {
-                for variable in &variables {
-                    let name = variable.name.as_str();
-                    let value = &variable.value;
-                    let text = format!(in alloc; "{name}={value:?};")?;
-                    printed.push_str(&text)?;
-                }
-            }
-            Err(fault) => {
-                let text = format!(in alloc; "{fault}")?;
-                printed.push_str(&text)?;
-            }
-        }
+    for variable in variables {
+        let name = variable.name.as_str();
+        let value = &variable.value;
+        let text = format!(in alloc; "{name}={value:?};")?;
+        printed.push_str(&text)?;
     }
     Ok(printed)
 }
 
-// Each JSON value, given for `$i` of a type, with what is printed; an empty text is for a bad value.
-fn check_values(
-    rt: &impl std::process::Abort,
+// The variables of an operation where this JSON is given, or the fault.
+fn coerced(
     alloc: Global,
-    ty: &str,
-    cases: &[(&str, &str)],
-) -> Result<(), Fail> {
-    for (value, want) in cases {
-        let definitions = format!(in alloc; "$i:{ty}")?;
-        let given = format!(in alloc; "{{\"i\":{value}}}")?;
-        let text = printed(alloc, &definitions, &given)?;
-        if want.is_empty() {
-            assert_eq!(rt; text.as_str(), "bad value for variable $i", "{ty} {value}");
-        } else {
-            let all = format!(in alloc; "i={want};")?;
-            assert_eq!(rt; text.as_str(), all.as_str(), "{ty} {value}");
+    schema: &Schema,
+    operation: &Operation,
+    given: &str,
+) -> Result<String, Fail> {
+    let given = Value::from_str(alloc, given)?;
+    Ok(
+        match coerce_variables(alloc, schema, &operation.variables, &given) {
+            Ok(variables) => printed(alloc, variables.as_slice())?,
+            Err(fault) => format!(in alloc; "{fault}")?,
+        },
+    )
+}
+
+// The variables of `query(DEFINITIONS){a}` over the schema.
+fn told(alloc: Global, definitions: &str, given: &str) -> Result<String, Fail> {
+    let schema = Schema::read(alloc, SCHEMA)?;
+    let text = format!(in alloc; "query({definitions}){{a}}")?;
+    let document = parse(alloc, &text)?;
+    let operation = document.operations.first().ok_or("no operation")?;
+    coerced(alloc, &schema, operation, given)
+}
+
+// What a JSON value gives for `$i` of a type.
+fn told_value(alloc: Global, ty: &str, value: &str) -> Result<String, Fail> {
+    let definitions = format!(in alloc; "$i:{ty}")?;
+    let given = format!(in alloc; "{{\"i\":{value}}}")?;
+    told(alloc, &definitions, &given)
+}
+
+// Types, each with JSON values and what is printed.
+type Cases = &'static [(&'static str, &'static [(&'static str, &'static str)])];
+
+// Each JSON value of each type gives what is printed.
+fn check_values<R: AllocGlobal + Abort>(rt: &R, cases: Cases) -> Result<(), Fail> {
+    for (ty, values) in cases {
+        for (value, want) in *values {
+            let found = told_value(rt.alloc(), ty, value)?;
+            expect(rt, &found, want, value);
         }
     }
     Ok(())
 }
 
+const BAD: &str = "bad value for variable $i";
+
+const NUMBERS: Cases = &[
+    (
+        "Int",
+        &[
+            ("0", "i=Int(0);"),
+            ("-1", "i=Int(-1);"),
+            ("2147483647", "i=Int(2147483647);"),
+            ("2147483648", BAD),
+            ("-2147483648", "i=Int(-2147483648);"),
+            ("-2147483649", BAD),
+            ("-0", BAD),
+            ("1.0", BAD),
+            ("1.5", BAD),
+            ("1e3", BAD),
+            ("\"1\"", BAD),
+            ("true", BAD),
+            ("[1]", BAD),
+            ("{}", BAD),
+            ("null", "i=Null;"),
+        ],
+    ),
+    (
+        "ID!",
+        &[
+            ("0", "i=Text(\"0\");"),
+            ("-7", "i=Text(\"-7\");"),
+            ("18446744073709551615", "i=Text(\"18446744073709551615\");"),
+            ("18446744073709551616", BAD),
+            ("-9223372036854775808", "i=Text(\"-9223372036854775808\");"),
+            ("-9223372036854775809", BAD),
+            ("-0", BAD),
+            ("1.5", BAD),
+            ("\"x\"", "i=Text(\"x\");"),
+            ("\"\"", "i=Text(\"\");"),
+            ("false", BAD),
+        ],
+    ),
+];
+
 #[test]
 fn numbers(rt: HostRuntime) -> Result<(), Fail> {
-    let alloc = rt.alloc();
-    let ints = [
-        ("0", "Int(0)"),
-        ("-1", "Int(-1)"),
-        ("2147483647", "Int(2147483647)"),
-        ("2147483648", ""),
-        ("-2147483648", "Int(-2147483648)"),
-        ("-2147483649", ""),
-        ("-0", ""),
-        ("1.0", ""),
-        ("1.5", ""),
-        ("1e3", ""),
-        ("\"1\"", ""),
-        ("true", ""),
-        ("[1]", ""),
-        ("{}", ""),
-        ("null", "Null"),
-    ];
-    check_values(&rt, alloc, "Int", &ints)?;
-    let ids = [
-        ("0", "Text(\"0\")"),
-        ("-7", "Text(\"-7\")"),
-        ("18446744073709551615", "Text(\"18446744073709551615\")"),
-        ("18446744073709551616", ""),
-        ("-9223372036854775808", "Text(\"-9223372036854775808\")"),
-        ("-9223372036854775809", ""),
-        ("-0", ""),
-        ("1.5", ""),
-        ("\"x\"", "Text(\"x\")"),
-        ("\"\"", "Text(\"\")"),
-        ("false", ""),
-    ];
-    check_values(&rt, alloc, "ID!", &ids)
+    check_values(&rt, NUMBERS)
 }
+
+const OTHER_TYPES: Cases = &[
+    (
+        "String",
+        &[("\"x\"", "i=Text(\"x\");"), ("1", BAD), ("true", BAD)],
+    ),
+    (
+        "Boolean",
+        &[
+            ("true", "i=Bool(true);"),
+            ("false", "i=Bool(false);"),
+            ("\"true\"", BAD),
+            ("1", BAD),
+        ],
+    ),
+    (
+        "E",
+        &[
+            ("\"B\"", "i=Text(\"B\");"),
+            ("\"C\"", BAD),
+            ("\"\"", BAD),
+            ("1", BAD),
+            ("true", BAD),
+        ],
+    ),
+    (
+        "[Int]",
+        &[
+            ("[1,null,2]", "i=List([Int(1), Null, Int(2)]);"),
+            ("[]", "i=List([]);"),
+            ("3", "i=List([Int(3)]);"),
+            ("null", "i=Null;"),
+            ("[\"1\"]", BAD),
+            ("[[1]]", BAD),
+            ("\"1\"", BAD),
+            ("{}", BAD),
+        ],
+    ),
+    (
+        "[Int!]!",
+        &[
+            ("[1,null]", BAD),
+            ("null", BAD),
+            ("[1]", "i=List([Int(1)]);"),
+        ],
+    ),
+    (
+        "Query",
+        &[("1", BAD), ("\"A\"", BAD), ("{}", BAD), ("null", "i=Null;")],
+    ),
+];
 
 #[test]
 fn other_types(rt: HostRuntime) -> Result<(), Fail> {
-    let alloc = rt.alloc();
-    let strings = [("\"x\"", "Text(\"x\")"), ("1", ""), ("true", "")];
-    check_values(&rt, alloc, "String", &strings)?;
-    let booleans = [
-        ("true", "Bool(true)"),
-        ("false", "Bool(false)"),
-        ("\"true\"", ""),
-        ("1", ""),
-    ];
-    check_values(&rt, alloc, "Boolean", &booleans)?;
-    let enums = [
-        ("\"B\"", "Text(\"B\")"),
-        ("\"C\"", ""),
-        ("\"\"", ""),
-        ("1", ""),
-        ("true", ""),
-    ];
-    check_values(&rt, alloc, "E", &enums)?;
-    let lists = [
-        ("[1,null,2]", "List([Int(1), Null, Int(2)])"),
-        ("[]", "List([])"),
-        ("3", "List([Int(3)])"),
-        ("null", "Null"),
-        ("[\"1\"]", ""),
-        ("[[1]]", ""),
-        ("\"1\"", ""),
-        ("{}", ""),
-    ];
-    check_values(&rt, alloc, "[Int]", &lists)?;
-    let strict = [("[1,null]", ""), ("null", ""), ("[1]", "List([Int(1)])")];
-    check_values(&rt, alloc, "[Int!]!", &strict)?;
-    let unknown = [("1", ""), ("\"A\"", ""), ("{}", ""), ("null", "Null")];
-    check_values(&rt, alloc, "Query", &unknown)
+    check_values(&rt, OTHER_TYPES)
 }
+
+const BAD_A: &str = "bad value for variable $a";
+
+const NO_OBJECT: &str = "variables must be an object";
+
+// Definitions of variables, what is given, and what is printed.
+const VARIABLES: &[(&str, &str, &str)] = &[
+    ("$a:Int", "{}", ""),
+    ("$a:Int", "null", ""),
+    ("$a:Int=7", "{}", "a=Int(7);"),
+    ("$a:Int=7", "null", "a=Int(7);"),
+    ("$a:Int=7", "{\"a\":null}", "a=Null;"),
+    ("$a:Int=7", "{\"a\":8,\"other\":[]}", "a=Int(8);"),
+    ("$a:[E]=B", "{}", "a=List([Text(\"B\")]);"),
+    ("$a:Int=\"x\"", "{}", BAD_A),
+    ("$a:Int!", "{}", BAD_A),
+    ("$a:Int!", "{\"a\":null}", BAD_A),
+    ("$a:Int!=null", "{}", BAD_A),
+    ("$a:Int!$b:Int!", "{}", BAD_A),
+    ("$b:Int$a:Int!", "{\"b\":1}", BAD_A),
+    ("$a:Int$b:Int!", "{\"a\":\"x\"}", BAD_A),
+    (
+        "$b:Int$a:ID",
+        "{\"a\":\"y\",\"b\":2}",
+        "b=Int(2);a=Text(\"y\");",
+    ),
+    ("$a:Int", "[]", NO_OBJECT),
+    ("$a:Int", "\"{}\"", NO_OBJECT),
+    ("$a:Int!", "1", NO_OBJECT),
+    ("$a:Int!", "true", NO_OBJECT),
+];
 
 #[test]
 fn variables(rt: HostRuntime) -> Result<(), Fail> {
-    let alloc = rt.alloc();
-    let bad_a = "bad value for variable $a";
-    let no_object = "variables must be an object";
-    let cases = [
-        ("$a:Int", "{}", ""),
-        ("$a:Int", "null", ""),
-        ("$a:Int=7", "{}", "a=Int(7);"),
-        ("$a:Int=7", "null", "a=Int(7);"),
-        ("$a:Int=7", "{\"a\":null}", "a=Null;"),
-        ("$a:Int=7", "{\"a\":8,\"other\":[]}", "a=Int(8);"),
-        ("$a:[E]=B", "{}", "a=List([Text(\"B\")]);"),
-        ("$a:Int=\"x\"", "{}", bad_a),
-        ("$a:Int!", "{}", bad_a),
-        ("$a:Int!", "{\"a\":null}", bad_a),
-        ("$a:Int!=null", "{}", bad_a),
-        ("$a:Int!$b:Int!", "{}", bad_a),
-        ("$b:Int$a:Int!", "{\"b\":1}", bad_a),
-        ("$a:Int$b:Int!", "{\"a\":\"x\"}", bad_a),
-        (
-            "$b:Int$a:ID",
-            "{\"a\":\"y\",\"b\":2}",
-            "b=Int(2);a=Text(\"y\");",
-        ),
-        ("$a:Int", "[]", no_object),
-        ("$a:Int", "\"{}\"", no_object),
-        ("$a:Int!", "1", no_object),
-        ("$a:Int!", "true", no_object),
-    ];
-    for (definitions, given, want) in cases {
-        let text = printed(alloc, definitions, given)?;
-        assert_eq!(rt; text.as_str(), want, "{definitions} {given}");
+    for (definitions, given, want) in VARIABLES {
+        let found = told(rt.alloc(), definitions, given)?;
+        expect(&rt, &found, want, definitions);
     }
     Ok(())
 }
@@ -169,6 +213,6 @@ fn variables(rt: HostRuntime) -> Result<(), Fail> {
 #[test]
 fn texts_of_faults(rt: HostRuntime) -> Result<(), Fail> {
     let text = format!(in rt.alloc(); "{}", VariableFault::NoMemory)?;
-    assert_eq!(rt; text.as_str(), "out of memory");
+    expect(&rt, &text, "out of memory", "no memory");
     Ok(())
 }

@@ -1,5 +1,6 @@
 //! Documents.
 
+use crate::expect;
 use gq_lexer::{LexFault, Place};
 use gq_parser::*;
 use slow::Slow;
@@ -46,35 +47,80 @@ const WORDS: &[&str] = &[
     "fragment", "true", "1", "\"s\"",
 ];
 
-/// The words with a space after each are the document, or have the fault, that the slow recogniser says.
-fn compare(rt: &impl Abort, alloc: Global, words: &[&str]) -> Result<(), Fail> {
+/// The words with a space after each.
+fn joined(alloc: Global, words: &[&str]) -> Result<String, Fail> {
     let mut text = String::new(alloc);
-    let mut columns = Vec::new(alloc);
     for word in words {
-        columns.push(text.len().saturating_add(1))?;
         text.push_str(word)?;
         text.push_str(" ")?;
     }
+    Ok(text)
+}
+
+/// The column of a word, or of the end after the last one.
+fn column_of(words: &[&str], at: usize) -> usize {
+    let mut column = 1_usize;
+    for word in words.iter().take(at) {
+        column = column.saturating_add(word.len()).saturating_add(1);
+    }
+    column
+}
+
+/// What the slow recogniser says of words.
+fn slowly_told(alloc: Global, words: &[&str]) -> Result<String, Fail> {
     let mut slow = Slow::new(words);
     let ends = slow.ends(alloc, "Document", 0, 100)?;
-    let is_document = ends.contains(&words.len());
-    match parse(alloc, text.as_str()) {
-        Ok(_) => assert!(rt; is_document, "{text}"),
-        Err(ParseFault::Unexpected(place)) => {
-            assert!(rt; !is_document, "{text}");
-            let column = columns.get(slow.furthest).copied();
-            assert_eq!(rt; column, Some(place.column as usize), "{text}");
+    if ends.contains(&words.len()) {
+        return Ok(String::from_str(alloc, "a document")?);
+    }
+    let is_end = slow.furthest == words.len();
+    let name = if is_end {
+        "unexpected end"
+    } else {
+        "unexpected token"
+    };
+    let column = column_of(words, slow.furthest);
+    Ok(format!(in alloc; "{name} at 1:{column}")?)
+}
+
+/// What the parser says of a text.
+fn told(alloc: Global, text: &str) -> Result<String, Fail> {
+    Ok(match parse(alloc, text) {
+        Ok(_) => String::from_str(alloc, "a document")?,
+        Err(fault) => told_fault(alloc, &fault)?,
+    })
+}
+
+/// The message of a fault, and its place where it has one.
+fn told_fault(alloc: Global, fault: &ParseFault) -> Result<String, Fail> {
+    Ok(match fault.place() {
+        Some(Place { line, column }) => format!(in alloc; "{fault} at {line}:{column}")?,
+        None => format!(in alloc; "{fault}")?,
+    })
+}
+
+/// The words with a space after each are the document, or have the fault, that the slow recogniser says.
+fn compare(rt: &impl Abort, alloc: Global, words: &[&str]) -> Result<(), Fail> {
+    let text = joined(alloc, words)?;
+    let found = told(alloc, &text)?;
+    let wanted = slowly_told(alloc, words)?;
+    expect(rt, &found, &wanted, &text);
+    Ok(())
+}
+
+/// Each of the words in place of the one at a place.
+fn compare_with_another(
+    rt: &impl Abort,
+    alloc: Global,
+    document: &[&'static str],
+    at: usize,
+) -> Result<(), Fail> {
+    let mut words = document.to_vec(alloc)?;
+    for word in WORDS {
+        if let Some(old) = words.get_mut(at) {
+            *old = *word;
         }
-        Err(ParseFault::UnexpectedEnd(place)) => {
-            assert!(rt; !is_document, "{text}");
-            assert_eq!(rt; slow.furthest, words.len(), "{text}");
-            assert_eq!(rt;
-                place.column as usize,
-                text.len().saturating_add(1),
-                "{text}"
-            );
-        }
-        Err(_) => assert!(rt; false, "{text}"),
+        compare(rt, alloc, words.as_slice())?;
     }
     Ok(())
 }
@@ -84,39 +130,30 @@ fn agrees_with_the_slow_recogniser(rt: HostRuntime) -> Result<(), Fail> {
     for document in DOCUMENTS {
         compare(&rt, rt.alloc(), document)?;
         for at in 0..document.len() {
-            let mut words = document.to_vec(rt.alloc())?;
-            for word in WORDS {
-                if let Some(old) = words.get_mut(at) {
-                    *old = *word;
-                }
-                compare(&rt, rt.alloc(), words.as_slice())?;
-            }
+            compare_with_another(&rt, rt.alloc(), document, at)?;
         }
     }
     Ok(())
 }
 
+/// Texts with a fault, its message and its place.
+const FAULTS: &[(&str, &str)] = &[
+    ("{}", "unexpected token at 1:2"),
+    ("", "unexpected end at 1:1"),
+    ("# nothing\n", "unexpected end at 2:1"),
+    ("{user(id:\"\"\"1", "unterminated string at 1:10"),
+    ("{a}\n}", "unexpected token at 2:1"),
+    ("{a & b}", "unexpected token at 1:4"),
+    ("{a} extend", "unexpected token at 1:5"),
+    ("query ($a:A=$b) {a}", "unexpected token at 1:13"),
+    ("fragment on on T {a}", "unexpected token at 1:10"),
+];
+
 #[test]
 fn faults(rt: HostRuntime) -> Result<(), Fail> {
-    let cases = [
-        ("{}", "unexpected token", 1, 2),
-        ("", "unexpected end", 1, 1),
-        ("# nothing\n", "unexpected end", 2, 1),
-        ("{user(id:\"\"\"1", "unterminated string", 1, 10),
-        ("{a}\n}", "unexpected token", 2, 1),
-        ("{a & b}", "unexpected token", 1, 4),
-        ("{a} extend", "unexpected token", 1, 5),
-        ("query ($a:A=$b) {a}", "unexpected token", 1, 13),
-        ("fragment on on T {a}", "unexpected token", 1, 10),
-    ];
-    for (text, message, line, column) in cases {
-        let fault = parse(rt.alloc(), text).err().ok_or("a document")?;
-        assert_eq!(rt;
-            format!(in rt.alloc(); "{fault}")?.as_str(),
-            message,
-            "{text}"
-        );
-        assert_eq!(rt; fault.place(), Some(Place { line, column }), "{text}");
+    for (text, wanted) in FAULTS {
+        let found = told(rt.alloc(), text)?;
+        expect(&rt, &found, wanted, text);
     }
     Ok(())
 }
@@ -140,25 +177,40 @@ fn nested(
     Ok(text)
 }
 
+/// What stands before, between and after so many brackets `[` and `]`, and what is told of the document.
+const LISTS: &[(&str, u32, &str, &str, &str)] = &[
+    ("{a(b:", 126, "", ")}", "a document"),
+    ("{a(b:", 127, "", ")}", "too deep at 1:132"),
+    ("query($a:", 127, "A", "){a}", "a document"),
+    ("query($a:", 128, "A", "){a}", "too deep at 1:137"),
+];
+
 #[test]
-fn depth(rt: HostRuntime) -> Result<(), Fail> {
-    let a = rt.alloc();
-    parse(a, nested(a, "{a", "", "}", 128)?.as_str())?;
-    let lists = nested(a, "[", "", "]", 126)?;
-    parse(a, format!(in a; "{{a(b:{lists})}}")?.as_str())?;
-    let types = nested(a, "[", "A", "]", 127)?;
-    parse(a, format!(in a; "query($a:{types}){{a}}")?.as_str())?;
-    let cases = [
-        (nested(a, "{a", "", "}", 129)?, "too deep", 257),
-        (nested(a, "{a", "(", "}", 128)?, "too deep", 257),
-        (nested(a, "{a", "[", "}", 128)?, "unexpected token", 257),
-        (format!(in a; "{{a(b:[{lists}])}}")?, "too deep", 132),
-        (format!(in a; "query($a:[{types}]){{a}}")?, "too deep", 137),
-    ];
-    for (text, message, column) in cases {
-        let fault = parse(a, text.as_str()).err().ok_or("a document")?;
-        assert_eq!(rt; format!(in a; "{fault}")?.as_str(), message, "{text}");
-        assert_eq!(rt; fault.place(), Some(Place { line: 1, column }), "{text}");
+fn depth_of_lists(rt: HostRuntime) -> Result<(), Fail> {
+    let alloc = rt.alloc();
+    for (front, depth, middle, back, wanted) in LISTS {
+        let lists = nested(alloc, "[", middle, "]", *depth)?;
+        let text = format!(in alloc; "{front}{lists}{back}")?;
+        let found = told(alloc, &text)?;
+        expect(&rt, &found, wanted, &text);
+    }
+    Ok(())
+}
+
+/// How many sets in one another, what stands in the last of them, and what is told of the document.
+const SETS: &[(u32, &str, &str)] = &[
+    (128, "", "a document"),
+    (129, "", "too deep at 1:257"),
+    (128, "(", "too deep at 1:257"),
+    (128, "[", "unexpected token at 1:257"),
+];
+
+#[test]
+fn depth_of_sets(rt: HostRuntime) -> Result<(), Fail> {
+    for (depth, middle, wanted) in SETS {
+        let text = nested(rt.alloc(), "{a", middle, "}", *depth)?;
+        let found = told(rt.alloc(), &text)?;
+        expect(&rt, &found, wanted, &text);
     }
     Ok(())
 }
@@ -169,39 +221,51 @@ const WHOLE: &str =
 { a: b(c: $b) @if { ...F @s ...on T @i { d } ... { e } query type on } } \
 fragment F on on { fragment(fragment: fragment) } mutation { m } subscription on { s } { true }";
 
+/// How each definition of the document ends, but for the last one.
+const ENDS: &[&str] = &[
+    "query type on } }",
+    "(fragment: fragment) }",
+    "{ m }",
+    "{ s }",
+];
+
+/// Whether a prefix of the document ends after a definition, or after the space that follows it.
+fn is_between_definitions(text: &str) -> bool {
+    let text = text.trim_end();
+    for end in ENDS {
+        if text.ends_with(end) {
+            return true;
+        }
+    }
+    false
+}
+
+/// What is told of a prefix of a document, without a place.
+fn prefix_kind(alloc: Global, text: &str) -> &'static str {
+    match parse(alloc, text) {
+        Ok(_) => "a document",
+        Err(
+            ParseFault::Lex(
+                LexFault::UnterminatedString(_)
+                | LexFault::BadCharacter(_)
+                | LexFault::BadNumber(_),
+            )
+            | ParseFault::Unexpected(_)
+            | ParseFault::UnexpectedEnd(_),
+        ) => "a fault",
+        Err(_) => "another fault",
+    }
+}
+
 #[test]
 fn prefixes(rt: HostRuntime) -> Result<(), Fail> {
-    let mut open = 0_u32;
-    let mut ends = false;
-    let mut accepted = 0_u32;
-    for (at, c) in WHOLE.char_indices() {
+    for (at, _) in WHOLE.char_indices() {
         let text = WHOLE.get(..at).ok_or("a boundary")?;
-        match parse(rt.alloc(), text) {
-            Ok(_) => {
-                assert!(rt; ends && open == 0, "{text}");
-                accepted = accepted.saturating_add(1);
-            }
-            Err(
-                ParseFault::Lex(
-                    LexFault::UnterminatedString(_)
-                    | LexFault::BadCharacter(_)
-                    | LexFault::BadNumber(_),
-                ),
-            ) => {}
-            Err(ParseFault::Unexpected(_) | ParseFault::UnexpectedEnd(_)) => {}
-            Err(_) => assert!(rt; false, "{text}"),
-        }
-        if c == '{' {
-            open = open.saturating_add(1);
-        }
-        if c == '}' {
-            open = open.saturating_sub(1);
-        }
-        ends = c == '}' || (ends && c == ' ');
+        let is_document = is_between_definitions(text);
+        let wanted = if is_document { "a document" } else { "a fault" };
+        expect(&rt, prefix_kind(rt.alloc(), text), wanted, text);
     }
-    // After each definition but the last one, and after the space that follows it.
-    assert_eq!(rt; accepted, 8);
-    parse(rt.alloc(), WHOLE)?;
+    expect(&rt, prefix_kind(rt.alloc(), WHOLE), "a document", WHOLE);
     Ok(())
 }
 

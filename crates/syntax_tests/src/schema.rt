@@ -1,5 +1,6 @@
 //! Schema texts.
 
+use crate::expect;
 use gq_lexer::Place;
 use schema_syntax::*;
 use slow::Slow;
@@ -24,59 +25,78 @@ type A implements&I&J{f(\"a\" a:[Int!]=[1,{k:\"s\",l:[true null E -1.5]}] b:Bool
 interface I{type:I @deprecated(reason:\"\"\"y\"\"\") interface:I}
 type implements implements implements{implements:implements}";
 
+/// Texts, with their number of definitions.
+const ACCEPTED: &[(&str, &str)] = &[("", "0"), ("# no\n,", "0"), (SAMPLE, "5"), (WHOLE, "7")];
+
+/// How many definitions a text has.
+fn count(alloc: Global, text: &str) -> Result<String, Fail> {
+    let document = read(alloc, text)?;
+    let count = document.definitions.len();
+    Ok(format!(in alloc; "{count}")?)
+}
+
 #[test]
 fn accepts(rt: HostRuntime) -> Result<(), Fail> {
-    for (text, count) in [("", 0), ("# no\n,", 0), (SAMPLE, 5), (WHOLE, 7)] {
-        match read(rt.alloc(), text) {
-            Ok(document) => assert_eq!(rt; document.definitions.len(), count, "{text}"),
-            Err(fault) => assert!(rt; false, "{text}: {fault:?}"),
-        }
+    for (text, wanted) in ACCEPTED {
+        let found = count(rt.alloc(), text)?;
+        expect(&rt, &found, wanted, text);
     }
     Ok(())
 }
 
+/// Texts with a fault, and its place.
+const REFUSED: &[(&str, &str)] = &[
+    ("type Query{", "syntax at 1:12"),
+    ("\"a\"", "syntax at 1:4"),
+    ("type A{a:B!!}", "syntax at 1:12"),
+    ("enum E{true}", "syntax at 1:8"),
+    ("type A{a:@}", "syntax at 1:10"),
+    ("type A{a:Int @}", "syntax at 1:15"),
+    ("schema{name:A}", "syntax at 1:8"),
+    ("schema{query:Q query:R}", "syntax at 1:16"),
+    ("enum E implements I{A}", "syntax at 1:8"),
+    ("type A{a(b:Int={k:$v}):Int}", "syntax at 1:19"),
+    ("type \"a\" A{a:B}", "syntax at 1:6"),
+    ("type A{a:Int}\n}", "syntax at 2:1"),
+    ("type A{a:?}", "syntax at 1:10"),
+    ("type A{!?", "syntax at 1:8"),
+    ("type A{a:B}01", "syntax at 1:12"),
+    ("type A{a:Float \"}", "not served at 1:10"),
+    ("type Query{a:Float}", "not served at 1:14"),
+    ("scalar Date", "not served at 1:1"),
+    ("\"a\" extend type A{a:B}", "not served at 1:5"),
+    ("schema{query:Q mutation:M}", "not served at 1:16"),
+    ("schema{subscription:M}", "not served at 1:8"),
+    ("interface I implements J{a:Int}", "not served at 1:13"),
+    ("type A{a:[[Int]]}", "not served at 1:11"),
+    ("type @a A{a:Int}", "not served at 1:6"),
+    ("type A{a:Int @other}", "not served at 1:14"),
+    (
+        "type A{a:Int @deprecated @deprecated}",
+        "not served at 1:26",
+    ),
+    ("type A{a(b:A @deprecated):Int}", "not served at 1:14"),
+    ("enum Float{A}", "not served at 1:6"),
+    ("union U=A|Float", "not served at 1:11"),
+];
+
+/// What the reader says of a text, with the place of a fault.
+fn told(alloc: Global, text: &str) -> Result<String, Fail> {
+    let (name, place) = match read(alloc, text) {
+        Ok(_) => return Ok(String::from_str(alloc, "a schema")?),
+        Err(SyntaxFault::Syntax(place)) => ("syntax", place),
+        Err(SyntaxFault::NotServed(place)) => ("not served", place),
+        Err(SyntaxFault::NoMemory) => return Err("no memory")?,
+    };
+    let Place { line, column } = place;
+    Ok(format!(in alloc; "{name} at {line}:{column}")?)
+}
+
 #[test]
 fn refuses(rt: HostRuntime) -> Result<(), Fail> {
-    // whether it is a syntax fault, the line, the column, and the text
-    let cases = [
-        (true, 1, 12, "type Query{"),
-        (true, 1, 4, "\"a\""),
-        (true, 1, 12, "type A{a:B!!}"),
-        (true, 1, 8, "enum E{true}"),
-        (true, 1, 10, "type A{a:@}"),
-        (true, 1, 15, "type A{a:Int @}"),
-        (true, 1, 8, "schema{name:A}"),
-        (true, 1, 16, "schema{query:Q query:R}"),
-        (true, 1, 8, "enum E implements I{A}"),
-        (true, 1, 19, "type A{a(b:Int={k:$v}):Int}"),
-        (true, 1, 6, "type \"a\" A{a:B}"),
-        (true, 2, 1, "type A{a:Int}\n}"),
-        (true, 1, 10, "type A{a:?}"),
-        (true, 1, 8, "type A{!?"),
-        (true, 1, 12, "type A{a:B}01"),
-        (false, 1, 10, "type A{a:Float \"}"),
-        (false, 1, 14, "type Query{a:Float}"),
-        (false, 1, 1, "scalar Date"),
-        (false, 1, 5, "\"a\" extend type A{a:B}"),
-        (false, 1, 16, "schema{query:Q mutation:M}"),
-        (false, 1, 8, "schema{subscription:M}"),
-        (false, 1, 13, "interface I implements J{a:Int}"),
-        (false, 1, 11, "type A{a:[[Int]]}"),
-        (false, 1, 6, "type @a A{a:Int}"),
-        (false, 1, 14, "type A{a:Int @other}"),
-        (false, 1, 26, "type A{a:Int @deprecated @deprecated}"),
-        (false, 1, 14, "type A{a(b:A @deprecated):Int}"),
-        (false, 1, 6, "enum Float{A}"),
-        (false, 1, 11, "union U=A|Float"),
-    ];
-    for (syntax, line, column, text) in cases {
-        let place = match read(rt.alloc(), text) {
-            Ok(_) => None,
-            Err(SyntaxFault::Syntax(place)) => Some((true, place.line, place.column)),
-            Err(SyntaxFault::NotServed(place)) => Some((false, place.line, place.column)),
-            Err(SyntaxFault::NoMemory) => None,
-        };
-        assert_eq!(rt; place, Some((syntax, line, column)), "{text}");
+    for (text, wanted) in REFUSED {
+        let found = told(rt.alloc(), text)?;
+        expect(&rt, &found, wanted, text);
     }
     Ok(())
 }
@@ -208,41 +228,70 @@ const WORDS: &[&str] = &[
     "\"s\"",
 ];
 
-/// The column of the fault of a text, and whether it is a part of the language that isn't served.
-fn fault_of(alloc: Global, text: &str) -> Option<(bool, Place)> {
-    match read(alloc, text) {
-        Ok(_) => None,
-        Err(SyntaxFault::Syntax(place)) => Some((false, place)),
-        Err(SyntaxFault::NotServed(place)) => Some((true, place)),
-        Err(SyntaxFault::NoMemory) => None,
-    }
-}
-
-/// The words with a space after each are the schema, or have the fault, that the slow recogniser says. What isn't served is
-/// the first word that can't stand, or the `@` before it.
-fn compare(rt: &impl Abort, alloc: Global, words: &[&str]) -> Result<(), Fail> {
+/// The words with a space after each.
+fn joined(alloc: Global, words: &[&str]) -> Result<String, Fail> {
     let mut text = String::new(alloc);
-    let mut columns = Vec::new(alloc);
     for word in words {
-        columns.push(text.len().saturating_add(1))?;
         text.push_str(word)?;
         text.push_str(" ")?;
     }
-    columns.push(text.len().saturating_add(1))?;
+    Ok(text)
+}
+
+/// The column of a word, or of the end after the last one.
+fn column_of(words: &[&str], at: usize) -> usize {
+    let mut column = 1_usize;
+    for word in words.iter().take(at) {
+        column = column.saturating_add(word.len()).saturating_add(1);
+    }
+    column
+}
+
+/// Whether a fault stands where the slow recogniser stopped. What isn't served is the first word that can't stand, or the `@`
+/// before it.
+fn is_where_it_stopped(words: &[&str], furthest: usize, fault: &SyntaxFault) -> bool {
+    let (not_served, place) = match fault {
+        SyntaxFault::Syntax(place) => (false, place),
+        SyntaxFault::NotServed(place) => (true, place),
+        SyntaxFault::NoMemory => return false,
+    };
+    let column = place.column as usize;
+    let before = furthest.saturating_sub(1);
+    let is_sign = not_served && words.get(before).copied() == Some("@");
+    column == column_of(words, furthest) || (is_sign && column == column_of(words, before))
+}
+
+/// Whether the words with a space after each are the schema, or have the fault, that the slow recogniser says.
+fn agrees(alloc: Global, words: &[&str], text: &str) -> Result<bool, Fail> {
     let mut slow = Slow::new(words);
     let is_schema = slow.ends(alloc, "Document", 0, 100)?.contains(&words.len());
-    let Some((not_served, place)) = fault_of(alloc, text.as_str()) else {
-        assert!(rt; is_schema, "{text}");
-        return Ok(());
-    };
-    assert!(rt; !is_schema, "{text}");
-    let column = Some(place.column as usize);
-    let is_at_word = columns.get(slow.furthest).copied() == column;
-    let before = slow.furthest.saturating_sub(1);
-    let is_at_sign = not_served
-        && words.get(before).copied() == Some("@")
-        && columns.get(before).copied() == column;
-    assert!(rt; is_at_word || is_at_sign, "{text}");
+    Ok(match read(alloc, text) {
+        Ok(_) => is_schema,
+        Err(fault) => !is_schema && is_where_it_stopped(words, slow.furthest, &fault),
+    })
+}
+
+fn compare(rt: &impl Abort, alloc: Global, words: &[&str]) -> Result<(), Fail> {
+    let text = joined(alloc, words)?;
+    let agrees = agrees(alloc, words, &text)?;
+    assert!(rt; agrees, "{text}");
+    Ok(())
+}
+
+/// Each of the words in place of the one at a place.
+fn compare_with_another(
+    rt: &impl Abort,
+    alloc: Global,
+    schema: &[&'static str],
+    at: usize,
+) -> Result<(), Fail> {
+    let mut words = schema.to_vec(alloc)?;
+    for word in WORDS {
+        if let Some(old) = words.get_mut(at) {
+            *old = *word;
+        }
+        compare(rt, alloc, words.as_slice())?;
+    }
     Ok(())
 }
 
@@ -251,13 +300,7 @@ fn agrees_with_the_slow_recogniser(rt: HostRuntime) -> Result<(), Fail> {
     for schema in SCHEMAS {
         for at in 0..schema.len() {
             compare(&rt, rt.alloc(), &schema[..at])?;
-            let mut words = schema.to_vec(rt.alloc())?;
-            for word in WORDS {
-                if let Some(old) = words.get_mut(at) {
-                    *old = *word;
-                }
-                compare(&rt, rt.alloc(), words.as_slice())?;
-            }
+            compare_with_another(&rt, rt.alloc(), schema, at)?;
         }
         compare(&rt, rt.alloc(), schema)?;
     }
@@ -278,62 +321,89 @@ fn nested(alloc: Global, depth: u32) -> Result<String, Fail> {
 }
 
 #[test]
-fn limits(rt: HostRuntime) -> Result<(), Fail> {
-    let alloc = rt.alloc();
-    assert_eq!(rt; fault_of(alloc, nested(alloc, 126)?.as_str()), None);
-    let deep = Place {
-        line: 1,
-        column: 142,
-    };
-    assert_eq!(rt;
-        fault_of(alloc, nested(alloc, 127)?.as_str()),
-        Some((false, deep))
-    );
-    let mut text = String::with_capacity(alloc, 1_048_577)?;
-    for _ in 0..1_048_576 {
-        text.push_str(" ")?;
+fn levels(rt: HostRuntime) -> Result<(), Fail> {
+    for (depth, wanted) in [(126, "a schema"), (127, "syntax at 1:142")] {
+        let text = nested(rt.alloc(), depth)?;
+        let found = told(rt.alloc(), &text)?;
+        expect(&rt, &found, wanted, &text);
     }
-    assert_eq!(rt; fault_of(alloc, text.as_str()), None);
-    text.push_str(" ")?;
-    assert_eq!(rt; fault_of(alloc, text.as_str()), Some((false, Place::START)));
     Ok(())
+}
+
+/// So many spaces.
+fn spaces(alloc: Global, count: usize) -> Result<String, Fail> {
+    let mut text = String::new(alloc);
+    for _ in 0..count {
+        text.push(' ')?;
+    }
+    Ok(text)
+}
+
+#[test]
+fn lengths(rt: HostRuntime) -> Result<(), Fail> {
+    for (count, wanted) in [(1_048_576, "a schema"), (1_048_577, "syntax at 1:1")] {
+        let text = spaces(rt.alloc(), count)?;
+        let found = told(rt.alloc(), &text)?;
+        expect(&rt, &found, wanted, wanted);
+    }
+    Ok(())
+}
+
+/// A name with its place.
+fn told_name(alloc: Global, name: &Name) -> Result<String, Fail> {
+    let text = name.text.as_str();
+    let Place { line, column } = name.place;
+    Ok(format!(in alloc; "{text} at {line}:{column}")?)
+}
+
+/// The default of a field's last argument, if it is a Boolean.
+fn told_default(field: &FieldDefinition) -> &'static str {
+    let [_, second] = field.arguments.as_slice() else {
+        return "not two arguments";
+    };
+    match &second.default {
+        Some(default) => match default.value {
+            gq_parser::Value::Boolean(false) => "false",
+            _ => "another default",
+        },
+        None => "no default",
+    }
+}
+
+/// An object type's number of interfaces, and its first field with that field's first argument and last default.
+fn told_object(alloc: Global, object: &ObjectDefinition) -> Result<String, Fail> {
+    let interfaces = object.interfaces.len();
+    let field = object.fields.first().ok_or("no field")?;
+    let name = told_name(alloc, &field.name)?;
+    let argument = field.arguments.first().ok_or("no argument")?;
+    let argument = argument.name.text.as_str();
+    let default = told_default(field);
+    Ok(format!(in alloc; "{interfaces} {name} {argument} {default}")?)
+}
+
+/// What is told of the definition of this number.
+fn told_definition(alloc: Global, text: &str, at: usize) -> Result<String, Fail> {
+    let document = read(alloc, text)?;
+    match document.definitions.get(at) {
+        Some(Definition::Schema(schema)) => told_name(alloc, &schema.query),
+        Some(Definition::Object(object)) => told_object(alloc, object),
+        Some(Definition::Enum(values)) => {
+            let count = values.values.len();
+            Ok(format!(in alloc; "{count} values")?)
+        }
+        _ => Err("another definition")?,
+    }
 }
 
 #[test]
 fn parts_with_their_places(rt: HostRuntime) -> Result<(), Fail> {
-    let document = read(rt.alloc(), WHOLE).map_err(|_| "no schema")?;
-    let Some(Definition::Schema(schema)) = document.definitions.first() else {
-        return Err(Fail::from("no schema"));
-    };
-    assert_eq!(rt; schema.query.text.as_str(), "Q");
-    assert_eq!(rt;
-        schema.query.place,
-        Place {
-            line: 1,
-            column: 25
-        }
-    );
-    let Some(Definition::Enum(values)) = document.definitions.get(3) else {
-        return Err(Fail::from("no enum"));
-    };
-    assert_eq!(rt; values.values.len(), 4);
-    let Some(Definition::Object(object)) = document.definitions.get(4) else {
-        return Err(Fail::from("no object type"));
-    };
-    assert_eq!(rt; object.interfaces.len(), 2);
-    let field = object.fields.first().ok_or("no field")?;
-    assert_eq!(rt;
-        field.name.place,
-        Place {
-            line: 3,
-            column: 23
-        }
-    );
-    let [first, second] = field.arguments.as_slice() else {
-        return Err(Fail::from("not two arguments"));
-    };
-    assert_eq!(rt; first.name.text.as_str(), "a");
-    let default = second.default.as_ref().ok_or("no default")?;
-    assert!(rt; matches!(default.value, gq_parser::Value::Boolean(false)));
+    for (at, wanted) in [
+        (0, "Q at 1:25"),
+        (3, "4 values"),
+        (4, "2 f at 3:23 a false"),
+    ] {
+        let found = told_definition(rt.alloc(), WHOLE, at)?;
+        expect(&rt, &found, wanted, wanted);
+    }
     Ok(())
 }

@@ -67,6 +67,20 @@ fn schema(alloc: Global, location: &str, has_default: bool) -> Result<Schema, Fa
     Ok(Schema::read(alloc, &text)?)
 }
 
+// Whether a document keeps a rule, beside what the slow program says.
+fn expect_kept<R: AllocGlobal + Abort>(
+    rt: &R,
+    schema: &Schema,
+    rule: Rule,
+    text: &str,
+    slow: bool,
+) -> Result<(), Fail> {
+    let found = told(rt.alloc(), schema, rule, text)?;
+    let is_kept = found.as_str() == "kept";
+    assert_eq!(rt; is_kept, slow, "{text}");
+    Ok(())
+}
+
 // Compares the rule with the slow program at each variable, with a location of one type.
 fn compare_at<R: AllocGlobal + Abort>(
     rt: &R,
@@ -77,10 +91,8 @@ fn compare_at<R: AllocGlobal + Abort>(
     for variable in TYPES {
         for default in DEFAULTS {
             let text = format!(in rt.alloc(); "query($v:{variable}{default}){{f(a:$v)}}")?;
-            let found = told(rt.alloc(), &schema, Rule::VariableUsages, &text)?;
             let slow = is_usage_allowed(variable, default, location, has_default);
-            let is_kept = found.as_str() == "kept";
-            assert_eq!(rt; is_kept, slow, "{text} at {location}");
+            expect_kept(rt, &schema, Rule::VariableUsages, &text, slow)?;
         }
     }
     Ok(())
@@ -106,18 +118,21 @@ const POSSIBLE: &[(&str, &[&str])] = &[
     ("Any", &["User", "Post"]),
 ];
 
+// Compares the rule with the slow program at a spread from one type into each other.
+fn compare_from<R: AllocGlobal + Abort>(rt: &R, one: &str, objects: &[&str]) -> Result<(), Fail> {
+    let schema = Schema::read(rt.alloc(), SCHEMA)?;
+    for (other, others) in POSSIBLE {
+        let slow = objects.iter().any(|object| others.contains(object));
+        let text = format!(in rt.alloc(); "fragment F on {one}{{...on {other}{{__typename}}}}")?;
+        expect_kept(rt, &schema, Rule::PossibleSpreads, &text, slow)?;
+    }
+    Ok(())
+}
+
 #[test]
 fn overlaps(rt: HostRuntime) -> Result<(), Fail> {
-    let schema = Schema::read(rt.alloc(), SCHEMA)?;
     for (one, objects) in POSSIBLE {
-        for (other, others) in POSSIBLE {
-            let slow = objects.iter().any(|object| others.contains(object));
-            let text = format!(in rt.alloc();
-                "fragment F on {one}{{...on {other}{{__typename}}}}"
-            )?;
-            let found = told(rt.alloc(), &schema, Rule::PossibleSpreads, &text)?;
-            assert_eq!(rt; found.as_str() == "kept", slow, "{one} and {other}");
-        }
+        compare_from(&rt, one, objects)?;
     }
     Ok(())
 }
