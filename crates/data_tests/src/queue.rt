@@ -1,11 +1,12 @@
 //! Loaders, orders and wants, over sources that are told what to give.
-ghost use Rattle.std.specs.Prelude.{◌≡◌, ⊤, [], map, refl};
+ghost use Rattle.std.specs.Prelude.{◌≡◌, ◌≤◌, ⊤, [], map, refl, length, IfOk};
 ghost use Rattle.load_memory.specs.Outcomes.{rows};
 ghost use Rattle.load_memory.specs.declared.key.KeyMode.TheVariants.{Exact};
 ghost use Rattle.load_queue.specs.Answers.{given};
 
+use crate::expect;
 use load_memory::{Item, Key, KeyMode, Memory, NoMemory, Outcome, Reply};
-use load_queue::{FetchFault, Loader, PerKey, QueueFault, Source, Wants};
+use load_queue::{Asked, FetchFault, Loader, Order, PerKey, QueueFault, Source, Wants};
 use std::alloc::{AllocError, Global};
 use std::test::Fail;
 
@@ -72,10 +73,6 @@ fn numbered(alloc: Global, n: usize) -> Result<Vec<Key>, AllocError> {
     Ok(keys)
 }
 
-fn text(alloc: Global, t: &str) -> Result<Key, AllocError> {
-    Ok(Key::Text(String::from_str(alloc, t)?))
-}
-
 fn loader(
     alloc: Global,
     items: Option<usize>,
@@ -84,95 +81,150 @@ fn loader(
     Loader::new(alloc, "users", Scripted { items }, KeyMode::Exact, max)
 }
 
-fn fault_of(outcome: Option<&Outcome>) -> &str {
-    match outcome {
-        Some(Outcome::KeyFault(text)) => text.as_str(),
-        Some(Outcome::BatchFault(text)) => text.as_str(),
-        _ => "",
-    }
+/// What is told of a loader of this limit.
+fn told_loader(alloc: Global, max: u32) -> Result<String, Fail> {
+    Ok(match loader(alloc, None, Some(max)) {
+        Ok(made) => {
+            let name = made.name();
+            format!(in alloc; "{name} {:?} {}", made.mode(), made.log().len())?
+        }
+        Err(fault) => format!(in alloc; "{fault}")?,
+    })
 }
+
+const LIMITS: &[(u32, &str)] = &[
+    (0, "bad limit"),
+    (1, "users Exact 0"),
+    (65_535, "users Exact 0"),
+    (65_536, "bad limit"),
+];
 
 #[test]
 fn limits(rt: HostRuntime) -> Result<(), Fail> {
-    let alloc = rt.alloc();
-    for (max, taken) in [(0, false), (1, true), (65_535, true), (65_536, false)] {
-        match loader(alloc, None, Some(max)) {
-            Ok(made) => {
-                assert!(rt; taken, "{max}");
-                assert_eq!(rt; made.name(), "users");
-                assert_eq!(rt; made.mode(), KeyMode::Exact);
-                assert!(rt; made.log().is_empty());
-            }
-            Err(fault) => {
-                assert!(rt; !taken, "{max}");
-                assert_eq!(rt; fault, QueueFault::BadLimit);
-            }
-        }
+    for (max, want) in LIMITS {
+        let found = told_loader(rt.alloc(), *max)?;
+        expect(&rt, &found, want, want);
     }
     Ok(())
 }
 
-// Keys put one by one into the last piece, until it is full.
-fn pieces(alloc: Global, keys: &[Key], most: usize) -> Result<Vec<Vec<Key>>, AllocError> {
-    let mut all: Vec<Vec<Key>> = Vec::new(alloc);
-    let mut piece = Vec::new(alloc);
+fn key_text(key: &Key) -> &str {
+    match key {
+        Key::All => "all",
+        Key::Text(text) => text.as_str(),
+    }
+}
+
+/// Keys with a space after each, and a `;` after the last.
+fn keys_text(alloc: Global, keys: &[Key]) -> Result<String, NoMemory> {
+    let mut text = String::new(alloc);
     for key in keys {
-        piece.push(key.clone()?)?;
-        if piece.len() >= most {
-            all.push(piece)?;
-            piece = Vec::new(alloc);
+        text.push_str(key_text(key))?;
+        text.push(' ')?;
+    }
+    text.push(';')?;
+    Ok(text)
+}
+
+/// The numbers below `n`, put one by one into the last piece, until it is full.
+fn pieces(alloc: Global, n: usize, most: usize) -> Result<String, Fail> {
+    let mut text = String::new(alloc);
+    let mut last = 0_usize;
+    for i in 0..n {
+        let key = format!(in alloc; "{i} ")?;
+        text.push_str(&key)?;
+        last = last.saturating_add(1);
+        if last >= most {
+            text.push(';')?;
+            last = 0;
         }
     }
-    if !piece.is_empty() {
-        all.push(piece)?;
-    }
-    Ok(all)
+    text.push_str(if last == 0 { "" } else { ";" })?;
+    Ok(text)
 }
+
+/// The keys of orders.
+fn orders_text(alloc: Global, orders: &[Order], loader: usize) -> Result<String, Fail> {
+    let mut text = String::new(alloc);
+    for order in orders {
+        let keys = keys_text(alloc, order.keys())?;
+        text.push_str(&keys)?;
+        text.push_str(if order.loader() == loader { "" } else { "?" })?;
+    }
+    Ok(text)
+}
+
+/// The keys of a log's batches that are of a round and not stored.
+fn log_text(alloc: Global, log: &[Asked], round: u32) -> Result<String, Fail> {
+    let mut text = String::new(alloc);
+    for entry in log {
+        let keys = keys_text(alloc, entry.keys.as_slice())?;
+        text.push_str(&keys)?;
+        let is_so = entry.round == round && !entry.stored;
+        text.push_str(if is_so { "" } else { "?" })?;
+    }
+    Ok(text)
+}
+
+/// The orders for so many keys and the log, which have the same keys.
+fn cut(alloc: Global, n: usize, max: Option<u32>) -> Result<String, Fail> {
+    let mut asked = loader(alloc, None, max)?;
+    let orders = asked.cut(5, 7, numbered(alloc, n)?.as_slice())?;
+    let text = orders_text(alloc, orders.as_slice(), 5)?;
+    let log = log_text(alloc, asked.log(), 7)?;
+    if text.as_str() != log.as_str() {
+        return Err("another log")?;
+    }
+    Ok(text)
+}
+
+/// How many keys, a limit, and how many keys an order has at most.
+const CUTS: &[(usize, Option<u32>, usize)] = &[
+    (0, Some(2), 2),
+    (0, None, 9),
+    (3, Some(2), 2),
+    (4, Some(2), 2),
+    (3, Some(1), 1),
+    (2, Some(3), 3),
+    (3, None, 9),
+];
 
 #[test]
 fn cuts_in_order(rt: HostRuntime) -> Result<(), Fail> {
-    let alloc = rt.alloc();
-    for (n, max, most) in [
-        (0, Some(2), 2),
-        (0, None, 9),
-        (3, Some(2), 2),
-        (4, Some(2), 2),
-        (3, Some(1), 1),
-        (2, Some(3), 3),
-        (3, None, 9),
-    ] {
-        let keys = numbered(alloc, n)?;
-        let want = pieces(alloc, keys.as_slice(), most)?;
-        let mut asked = loader(alloc, Some(most), max)?;
-        let orders = asked.cut(5, 7, keys.as_slice())?;
-        assert_eq!(rt; orders.len(), want.len(), "{n} {most}");
-        for (order, piece) in orders.iter().zip(want.iter()) {
-            assert_eq!(rt; order.loader(), 5);
-            assert_eq!(rt; order.keys(), piece.as_slice(), "{n} {most}");
-        }
-        assert_eq!(rt; asked.log().len(), want.len());
-        for (entry, piece) in asked.log().iter().zip(want.iter()) {
-            assert_eq!(rt; entry.round, 7);
-            assert!(rt; !entry.stored);
-            assert_eq!(rt; entry.keys.as_slice(), piece.as_slice(), "{n} {most}");
-        }
+    for (n, max, most) in CUTS {
+        let found = cut(rt.alloc(), *n, *max)?;
+        let want = pieces(rt.alloc(), *n, *most)?;
+        expect(&rt, &found, &want, &want);
     }
     Ok(())
+}
+
+/// The rounds of a log, with a mark where the batch is stored.
+fn marks(alloc: Global, log: &[Asked]) -> Result<String, Fail> {
+    let mut text = String::new(alloc);
+    for entry in log {
+        let mark = if entry.stored { " stored" } else { "" };
+        let round = format!(in alloc; "{}{mark};", entry.round)?;
+        text.push_str(&round)?;
+    }
+    Ok(text)
+}
+
+/// The log of a loader that cut two keys in each of two rounds, of which the second is marked.
+fn marked(alloc: Global) -> Result<String, Fail> {
+    let mut asked = loader(alloc, None, Some(1))?;
+    let keys = numbered(alloc, 2)?;
+    for round in [1, 2] {
+        asked.cut(0, round, keys.as_slice())?;
+    }
+    asked.mark_stored(2);
+    marks(alloc, asked.log())
 }
 
 #[test]
 fn marks_one_round(rt: HostRuntime) -> Result<(), Fail> {
-    let alloc = rt.alloc();
-    let mut asked = loader(alloc, None, Some(1))?;
-    for round in [1, 2] {
-        let orders = asked.cut(0, round, numbered(alloc, 2)?.as_slice())?;
-        assert_eq!(rt; orders.len(), 2);
-    }
-    asked.mark_stored(2);
-    assert_eq!(rt; asked.log().len(), 4);
-    for entry in asked.log() {
-        assert_eq!(rt; entry.stored, entry.round == 2);
-    }
+    let found = marked(rt.alloc())?;
+    expect(&rt, &found, "1;1;2 stored;2 stored;", "two rounds");
     Ok(())
 }
 
@@ -191,57 +243,116 @@ fn run_first(alloc: Global, items: Option<usize>, keys: usize) -> Result<Option<
     Ok(None)
 }
 
+/// An outcome's fault, and whether it is the key's own or the batch's.
+fn outcome_text(outcome: &Outcome) -> (&'static str, &str) {
+    match outcome {
+        Outcome::KeyFault(text) => ("own", text.as_str()),
+        Outcome::BatchFault(text) => ("batch", text.as_str()),
+        Outcome::Rows(_) => ("", "rows"),
+    }
+}
+
+/// A reply: its loader, its keys and its outcomes.
+fn reply_text(alloc: Global, reply: &Reply) -> Result<String, Fail> {
+    let keys = keys_text(alloc, reply.keys.as_slice())?;
+    let mut text = format!(in alloc; "{}: {keys}", reply.loader)?;
+    for outcome in &reply.outcomes {
+        let (whose, fault) = outcome_text(outcome);
+        let outcome = format!(in alloc; " {whose} {fault};")?;
+        text.push_str(&outcome)?;
+    }
+    Ok(text)
+}
+
+/// How many items a source gives for three keys, if it doesn't fail, and what each key is told.
+const RUNS: &[(Option<usize>, &str)] = &[
+    (Some(3), "0: 0 1 2 ; own 0; own 1; own 2;"),
+    (
+        Some(2),
+        "0: 0 1 2 ; batch the source answered 2 results for 3 keys; batch the source answered 2 results for 3 keys; batch the source answered 2 results for 3 keys;",
+    ),
+    (
+        Some(12),
+        "0: 0 1 2 ; batch the source answered 12 results for 3 keys; batch the source answered 12 results for 3 keys; batch the source answered 12 results for 3 keys;",
+    ),
+    (
+        None,
+        "0: 0 1 2 ; batch no light; batch no light; batch no light;",
+    ),
+];
+
 #[test]
 fn runs_once(rt: HostRuntime) -> Result<(), Fail> {
-    let alloc = rt.alloc();
-    for (items, keys, want) in [
-        (Some(3), 3, ["0", "1", "2"]),
-        (Some(2), 3, ["the source answered 2 results for 3 keys"; 3]),
-        (
-            Some(12),
-            3,
-            ["the source answered 12 results for 3 keys"; 3],
-        ),
-        (None, 3, ["no light"; 3]),
-    ] {
-        let reply = run_first(alloc, items, keys)?.ok_or("no order")?;
-        assert_eq!(rt; reply.loader, 0);
-        assert_eq!(rt; reply.keys.as_slice(), numbered(alloc, keys)?.as_slice());
-        assert_eq!(rt; reply.outcomes.len(), 3);
-        for (i, text) in want.iter().enumerate() {
-            assert_eq!(rt; fault_of(reply.outcomes.get(i)), *text);
-        }
-        let own = matches!(reply.outcomes.get(0), Some(Outcome::KeyFault(_)));
-        assert_eq!(rt; own, items == Some(3));
+    for (items, want) in RUNS {
+        let reply = run_first(rt.alloc(), *items, 3)?.ok_or("no order")?;
+        let found = reply_text(rt.alloc(), &reply)?;
+        expect(&rt, &found, want, want);
     }
     Ok(())
 }
 
-#[test]
-fn wants_the_first_of_equals(rt: HostRuntime) -> Result<(), Fail> {
-    let alloc = rt.alloc();
+/// Keys that are wanted in turn, of loaders that compare bytes and letters, and whether they are new.
+const WANTED: &[(usize, Option<&str>, bool)] = &[
+    (0, Some("1"), true),
+    (0, Some("1"), false),
+    (1, Some("Ada"), true),
+    (1, Some("aDA"), false),
+    (0, Some("Ada"), true),
+    (0, Some("ada"), true),
+    (1, None, true),
+];
+
+/// Wants for a memory of two loaders.
+fn two_wants(alloc: Global) -> Result<Wants, Fail>
+    ensures { IfOk result (λ wants. 2 ≤ length wants) }
+{
     let modes = [KeyMode::Exact, KeyMode::FoldAscii];
     let memory = Memory::new(alloc, modes.to_vec(alloc)?)?;
-    assert!(rt; memory.modes().len() == 2);
-    let mut wants = Wants::new(alloc, &memory)?;
-    assert!(rt; wants.add(0, text(alloc, "1")?)?);
-    assert!(rt; !wants.add(0, text(alloc, "1")?)?);
-    assert!(rt; wants.add(1, text(alloc, "Ada")?)?);
-    assert!(rt; !wants.add(1, text(alloc, "aDA")?)?);
-    assert!(rt; wants.add(0, text(alloc, "Ada")?)?);
-    assert!(rt; wants.add(0, text(alloc, "ada")?)?);
-    assert!(rt; wants.add(1, Key::All)?);
-    let exact = [text(alloc, "1")?, text(alloc, "Ada")?, text(alloc, "ada")?];
-    assert_eq!(rt; wants.keys(0), exact.as_slice());
-    assert_eq!(rt; wants.keys(1), [text(alloc, "Ada")?, Key::All].as_slice());
+    if memory.modes().len() < 2 {
+        return Err("no loaders")?;
+    }
+    Ok(Wants::new(alloc, &memory)?)
+}
+
+/// Wants a key, if there is such a loader.
+fn want(alloc: Global, wants: &mut Wants, loader: usize, key: Option<&str>) -> Result<bool, Fail>
+    requires { 2 ≤ length wants.old }
+    ensures { length wants.new ≡ length wants.old }
+{
+    let key = match key {
+        Some(key) => Key::Text(String::from_str(alloc, key)?),
+        None => Key::All,
+    };
+    Ok(wants.add(if loader == 0 { 0 } else { 1 }, key)?)
+}
+
+/// The keys that are wanted of each loader.
+fn wanted_text(alloc: Global, wants: &Wants) -> Result<String, Fail>
+    requires { 2 ≤ length wants.now }
+{
+    let mut text = keys_text(alloc, wants.keys(0))?;
+    let second = keys_text(alloc, wants.keys(1))?;
+    text.push_str(&second)?;
+    Ok(text)
+}
+
+#[test]
+fn wants_the_first_of_equals(rt: HostRuntime) -> Result<(), Fail> {
+    let mut wants = two_wants(rt.alloc())?;
+    for asked in WANTED {
+        let (loader, key, is_new) = *asked;
+        let added = want(rt.alloc(), &mut wants, loader, key)?;
+        assert!(rt; added == is_new, "{loader}");
+    }
+    let found = wanted_text(rt.alloc(), &wants)?;
+    expect(&rt, &found, "1 Ada ada ;Ada all ;", "two loaders");
     Ok(())
 }
 
 #[test]
 fn answers_key_by_key(rt: HostRuntime) -> Result<(), Fail> {
-    let alloc = rt.alloc();
-    assert_eq!(rt; Empty.mode(), KeyMode::Exact);
-    let items = Empty.fetch(alloc, numbered(alloc, 2)?.as_slice())?;
-    assert_eq!(rt; items.len(), 2);
+    assert!(rt; Empty.mode() == KeyMode::Exact);
+    let items = Empty.fetch(rt.alloc(), numbered(rt.alloc(), 2)?.as_slice())?;
+    assert!(rt; items.len() == 2);
     Ok(())
 }

@@ -1,6 +1,6 @@
 //! The rules on variables that need no types (section 5.8).
 
-ghost use Rattle.std.specs.Prelude.{◌≡◌, ◌<◌, ◌≤◌, ◌+◌, ◌^◌, ℕ, List, false, not, IfOk, OnOk, length, map, filter, drop, bytes_eq, slice_index, slice_index_or};
+ghost use Rattle.std.specs.Prelude.{◌≡◌, ◌<◌, ◌≤◌, ◌+◌, ◌^◌, ℕ, List, [], false, not, IsTrue, IfOk, OnOk, length, map, filter, drop, bytes_eq, slice_index, slice_index_or};
 ghost use Rattle.std.specs.HashMap.{get_by};
 ghost use Rattle.std.specs.Option.{option_map};
 ghost use Rattle.gq_parser.specs.Tree.{operation_of};
@@ -85,6 +85,9 @@ pub fn all_variable_uses_defined<'d>(
     requires { graph.now ≡ graph_of (parts_in parts.now) }
     ensures { IfOk result (λ broken. option_map broken_of broken ≡ earliest (all_variable_uses_defined (parts_in parts.now))) }
 {
+    if parts.uses.is_empty() {
+        return Ok(None);
+    }
     let table = UseTable::new(alloc, &parts.uses)?;
     let lacking = lacking_uses(alloc, &parts.document.operations, graph, &table)?;
     let mut earliest = Earliest::new();
@@ -139,6 +142,18 @@ fn add_unused_of_batch<'d>(
     Ok(())
 }
 
+// Whether none of the operations has variables.
+fn has_no_variables(operations: &[Operation]) -> bool
+    ensures { IsTrue result → (g : GraphOf) (uses : List Use) (i : ℕ) → unused_variables g uses i (map operation_of operations.now) ≡ [] }
+{
+    for operation in operations {
+        if !operation.variables.is_empty() {
+            return false;
+        }
+    }
+    true
+}
+
 /// All Variables Used (section 5.8.4): a variable of an operation that reaches no use of it, in itself or in fragments.
 pub fn all_variables_used<'d>(
     alloc: Global,
@@ -149,6 +164,9 @@ pub fn all_variables_used<'d>(
     ensures { IfOk result (λ broken. option_map broken_of broken ≡ earliest (all_variables_used (parts_in parts.now))) }
 {
     let operations = parts.document.operations.as_slice();
+    if has_no_variables(operations) {
+        return Ok(None);
+    }
     let table = UseTable::new(alloc, &parts.uses)?;
     let edges = edges_of(alloc, graph)?;
     let mut earliest = Earliest::new();
