@@ -9,7 +9,7 @@ use std::test::Fail;
 use world::World;
 use world_answers::serve;
 
-/// Gives a text in pieces of at most 7 bytes, and fails at its end if it is to.
+/// Gives a text in pieces of at most 4,096 bytes, and fails at its end if it is to.
 #[derive(Drop)]
 struct Pieces<'a> {
     rest: &'a [u8],
@@ -21,7 +21,7 @@ impl Read for Pieces<'_> {
         if self.fails && self.rest.is_empty() {
             return Err(Error::from(ErrorKind::Other));
         }
-        let most = buf.len().min(7);
+        let most = buf.len().min(4_096);
         self.rest.read(&mut buf[..most])
     }
 }
@@ -52,31 +52,27 @@ impl Write for Narrow {
     }
 }
 
-/// How serving a world ends a run.
-fn run(
-    alloc: Global,
-    world: &World,
-    reader: &mut Counted<Pieces<'_>>,
-    writer: &mut Counted<&mut Narrow>,
-) -> Stop {
-    match serve(alloc, world, reader, writer) {
+/// Serves what a reader gives: how that ends a run, and the bytes that a writer with so much room has taken.
+fn run(alloc: Global, world: &World, input: Pieces<'_>, room: usize) -> (Stop, Vec<u8>) {
+    let bytes = Vec::new(alloc);
+    let mut narrow = Narrow { bytes, room };
+    let mut reader = Counted::new(input);
+    let mut writer = Counted::new(&mut narrow);
+    let stop = match serve(alloc, world, &mut reader, &mut writer) {
         Ok(_) => Stop::Served,
         Err(fault) => Stop::Serve(fault),
-    }
+    };
+    drop(writer);
+    (stop, narrow.bytes)
 }
 
 /// What is written when the sample world is served to a writer with so much room, and after it the status and the line of the
-/// end. The reader gives a text in pieces of 7 bytes, and fails then if it is to.
+/// end. The reader gives a text, and fails then if it is to.
 fn served(alloc: Global, text: &str, fails: bool, room: usize) -> Result<String, Fail> {
     let world = world(alloc)?;
-    let bytes = Vec::new(alloc);
-    let mut narrow = Narrow { bytes, room };
     let rest = text.as_bytes();
-    let mut reader = Counted::new(Pieces { rest, fails });
-    let mut writer = Counted::new(&mut narrow);
-    let stop = run(alloc, &world, &mut reader, &mut writer);
-    drop(writer);
-    let written = str::from_utf8(narrow.bytes.as_slice())?;
+    let (stop, bytes) = run(alloc, &world, Pieces { rest, fails }, room);
+    let written = str::from_utf8(bytes.as_slice())?;
     Ok(format!(in alloc; "{written}{} {}", stop.status(), stop.line())?)
 }
 
