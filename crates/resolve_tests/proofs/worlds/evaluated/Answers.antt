@@ -1,35 +1,16 @@
-use Rattle.std.proofs.Common.{◌≡◌, ◌∙◌, ap, subst, ℕ, zero, suc, List, [], ◌∷◌, map, length, refl, arith}
-use Rattle.load_memory.specs.Keys.{KeyOf}
+use Rattle.std.proofs.Common.{◌≡◌, ◌∙◌, ap, subst, List, length, arith}
 use Rattle.load_memory.specs.Pairs.{MemoryOf}
-use Rattle.load_memory.specs.declared.key.KeyMode.{KeyMode}
-use Rattle.load_queue.specs.Wanted.{WantedOf, nothing_wanted, with_wanted}
-use Rattle.execution.specs.Loads.{Load}
+use Rattle.load_queue.specs.Wanted.{WantedOf}
 use Rattle.execution.specs.Program.{Program}
-use Rattle.execution.specs.Front.{wanting, modes_wanted}
+use Rattle.execution.specs.Front.{modes_wanted}
 use Rattle.futures.specs.declared.task.Poll.{Poll}
 use Rattle.futures.specs.declared.task.Poll.TheVariants.{Pending}
 use Rattle.gq_check.specs.Plans.{plan_of}
 use Rattle.plan_program.specs.PlanPrograms.{plan_program}
 use Rattle.gq_resolve.specs.declared.answered.Answered.{Answered}
 use Rattle.gq_resolve.specs.Evaluated.{IsEvaluated, front_over}
-use Rattle.resolve_tests.proofs.worlds.polled.Goals as goal
-
-fresh-modes : (ms : List KeyMode) → modes_wanted (map nothing_wanted ms) ≡ ms
-fresh-modes [] = refl
-fresh-modes (m ∷ ms) = ap (λ ns. m ∷ ns) (fresh-modes ms)
-
-fresh-length : (ms : List KeyMode) → length (map nothing_wanted ms) ≡ length ms
-fresh-length [] = refl
-fresh-length (m ∷ ms) = ap suc (fresh-length ms)
-
-with-length : (ws : List WantedOf) (loader : ℕ) (key : KeyOf) → length (with_wanted ws loader key) ≡ length ws
-with-length [] loader key = refl
-with-length (w ∷ ws) zero key = refl
-with-length (w ∷ ws) (suc loader) key = ap suc (with-length ws loader key)
-
-wanting-length : (ws : List WantedOf) (ls : List Load) → length (wanting ws ls) ≡ length ws
-wanting-length ws [] = refl
-wanting-length ws (l ∷ ls) = wanting-length (with_wanted ws l.loader l.key) ls ∙ with-length ws l.loader l.key
+use Rattle.resolve_tests.proofs.Fresh.{fresh-modes, fresh-length, wanting-length}
+use Rattle.resolve_tests.proofs.worlds.evaluated.Goals as goal
 
 pending-length : (old new : List WantedOf) (p : Program) (m : MemoryOf) (polled : Poll Answered) → IsEvaluated old new p m polled → polled ≡ Pending → length new ≡ length old
 pending-length old new p m polled h e =
