@@ -1,5 +1,6 @@
 //! Bindings: the sample world's, and for each rule a line that keeps it and one that breaks it.
 
+use crate::expect;
 use gq_schema::{Bindings, Schema, SchemaFault};
 use std::alloc::{AllocError, Global};
 use std::test::Fail;
@@ -86,21 +87,27 @@ Named|name|None
 User|title|None
 Nobody|id|None";
 
+/// The loaders of bindings.
+fn loader_lines(alloc: Global, bindings: &Bindings) -> Result<String, Fail> {
+    let mut lines = String::new(alloc);
+    for loader in bindings.loaders() {
+        let line = format!(in alloc; "{} {} {:?}\n", loader.name, loader.table, loader.by)?;
+        lines.push_str(&line)?;
+    }
+    Ok(lines)
+}
+
 #[test]
 fn the_sample_world_is_accepted(rt: HostRuntime) -> Result<(), Fail> {
     let schema = Schema::read(rt.alloc(), SAMPLE)?;
     let text = text_with(rt.alloc(), 0, "")?;
     let bindings = Bindings::read(rt.alloc(), &schema, &text)?;
-    let mut loaders = String::new(rt.alloc());
-    for loader in bindings.loaders() {
-        let line = format!(in rt.alloc(); "{} {} {:?}\n", loader.name, loader.table, loader.by)?;
-        loaders.push_str(&line)?;
-    }
-    assert_eq!(rt; loaders.as_str(), LOADERS);
+    let loaders = loader_lines(rt.alloc(), &bindings)?;
+    expect(&rt, &loaders, LOADERS, "loaders");
     for case in BINDINGS.lines() {
         let (ty, field, wanted) = parts(case);
         let found = format!(in rt.alloc(); "{:?}", bindings.binding_of(ty, field))?;
-        assert_eq!(rt; found.as_str(), wanted, "{ty}.{field}");
+        expect(&rt, &found, wanted, case);
     }
     Ok(())
 }
@@ -149,15 +156,20 @@ const CASES: &str = "1|bindings 9|Some(1)
 15||Some(0)
 4||Some(13)";
 
+/// The bad line of the sample world's text with another line at a number.
+fn bad_line_with(alloc: Global, schema: &Schema, number: &str, line: &str) -> Result<String, Fail> {
+    let number = number.parse::<usize>().unwrap_or(0);
+    let text = text_with(alloc, number, line)?;
+    bad_line(alloc, schema, &text)
+}
+
 #[test]
 fn a_line_that_breaks_a_rule_is_the_bad_one(rt: HostRuntime) -> Result<(), Fail> {
     let schema = Schema::read(rt.alloc(), SAMPLE)?;
     for case in CASES.lines() {
         let (number, line, wanted) = parts(case);
-        let number = number.parse::<usize>().unwrap_or(0);
-        let text = text_with(rt.alloc(), number, line)?;
-        let found = bad_line(rt.alloc(), &schema, &text)?;
-        assert_eq!(rt; found.as_str(), wanted, "{case}");
+        let found = bad_line_with(rt.alloc(), &schema, number, line)?;
+        expect(&rt, &found, wanted, case);
     }
     Ok(())
 }
@@ -181,16 +193,21 @@ each l arg e|each l arg e|Some(4)
 one l arg i|via l arg i l c|None
 one l arg i|via l arg b l c|Some(5)";
 
+/// The bad line of a text with these forms.
+fn bad_form(alloc: Global, schema: &Schema, one: &str, list: &str) -> Result<String, Fail> {
+    let text = format!(in alloc;
+        "bindings 1\r\nloader l t by c fold\nloader all t\nfield Query.a {one}\nfield  Query.as  {list} \r\n"
+    )?;
+    bad_line(alloc, schema, &text)
+}
+
 #[test]
 fn types_of_fields_and_arguments(rt: HostRuntime) -> Result<(), Fail> {
     let schema = Schema::read(rt.alloc(), TYPED)?;
     for case in FORMS.lines() {
         let (one, list, wanted) = parts(case);
-        let text = format!(in rt.alloc();
-            "bindings 1\r\nloader l t by c fold\nloader all t\nfield Query.a {one}\nfield  Query.as  {list} \r\n"
-        )?;
-        let found = bad_line(rt.alloc(), &schema, &text)?;
-        assert_eq!(rt; found.as_str(), wanted, "{case}");
+        let found = bad_form(rt.alloc(), &schema, one, list)?;
+        expect(&rt, &found, wanted, case);
     }
     Ok(())
 }
@@ -200,18 +217,23 @@ const UNBOUND: &str = "type Query{n:Int}|field Query.n column n|Some(2)
 type Query{a:A} type A{names:[String]}|loader l t/field Query.a one l all|Some(0)
 type Query{a:A} type A{names:[String]}|loader l t/field Query.a one l all/field A.names column n|Some(4)";
 
+/// The bad line of a schema and such lines.
+fn bad_unbound(alloc: Global, schema: &str, lines: &str) -> Result<String, Fail> {
+    let schema = Schema::read(alloc, schema)?;
+    let mut text = String::from_str(alloc, "bindings 1")?;
+    for line in lines.split('/') {
+        text.push('\n')?;
+        text.push_str(line)?;
+    }
+    bad_line(alloc, &schema, &text)
+}
+
 #[test]
 fn fields_that_no_line_can_bind(rt: HostRuntime) -> Result<(), Fail> {
     for case in UNBOUND.lines() {
         let (schema, lines, wanted) = parts(case);
-        let schema = Schema::read(rt.alloc(), schema)?;
-        let mut text = String::from_str(rt.alloc(), "bindings 1")?;
-        for line in lines.split('/') {
-            text.push('\n')?;
-            text.push_str(line)?;
-        }
-        let found = bad_line(rt.alloc(), &schema, &text)?;
-        assert_eq!(rt; found.as_str(), wanted, "{case}");
+        let found = bad_unbound(rt.alloc(), schema, lines)?;
+        expect(&rt, &found, wanted, case);
     }
     Ok(())
 }
@@ -220,6 +242,6 @@ fn fields_that_no_line_can_bind(rt: HostRuntime) -> Result<(), Fail> {
 fn a_text_without_lines(rt: HostRuntime) -> Result<(), Fail> {
     let schema = Schema::read(rt.alloc(), SAMPLE)?;
     let found = bad_line(rt.alloc(), &schema, "")?;
-    assert_eq!(rt; found.as_str(), "Some(0)");
+    expect(&rt, &found, "Some(0)", "no line");
     Ok(())
 }
