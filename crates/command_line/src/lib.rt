@@ -7,8 +7,6 @@
 
 mod command;
 mod stop;
-#[cfg(test)]
-mod tests;
 mod words;
 
 pub use stop::Stop;

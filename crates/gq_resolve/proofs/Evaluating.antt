@@ -42,6 +42,13 @@ front-some m p n len some none = go (missing (reader m) (needs p (reader m))) le
     go [] e f = cc (sym some ∙ eq-eqb n 0 e)
     go (l ∷ ls) e f = cc f
 
+pub front-there : (m : MemoryOf) (p : Program) → missing (reader m) (needs p (reader m)) ≢ [] → front_over m p ≢ []
+front-there m p some none = go (missing (reader m) (needs p (reader m))) some none
+  where
+    go : (ls : List Load) → ls ≢ [] → firsts m.modes ls ≡ [] → ⊥
+    go [] ne e = ne refl
+    go (l ∷ ls) ne e = cc e
+
 pub no-items : {X : Type 0} (xs : List X) → length xs ≡ 0 → xs ≡ []
 no-items [] h = refl
 no-items (x ∷ xs) h = absurd (omega (arith, h))

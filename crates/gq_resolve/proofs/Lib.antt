@@ -6,5 +6,6 @@ pub mod Loaders
 pub mod Evaluating
 pub mod Texts
 pub mod Shaping
+pub mod Thinning
 pub mod Walking
 pub mod WrittenTexts

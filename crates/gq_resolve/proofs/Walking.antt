@@ -19,12 +19,13 @@ use Rattle.plan_program.specs.PlanPrograms.{places, fields_of, or_bad, prepared_
 use Rattle.plan_program.specs.declared.prepared.Prepared.{Prepared}
 use Rattle.gq_resolve.specs.Answered.{json_of, items_json, members_json, errors_before, answered_json}
 use Rattle.gq_resolve.specs.Shapes.{type_prepared, prepared_in, MembersFit, IsShape, Fits, Keeps, prepared_at}
-use Rattle.gq_resolve.specs.Walked.{Walked, alone, joined, lacking, leaf_walked, own_walked, opening, closing, around, part_tokens, walked, all_walked, data_walked, lacked, IsWriting, Puts}
+use Rattle.gq_resolve.specs.Walked.{Walked, alone, joined, lacking, leaf_walked, own_walked, opening, closing, around, part_tokens, walked, all_walked, data_walked, lacked, thinned, IsWriting, Puts}
 use Rattle.gq_resolve.specs.declared.shapes.Member.{Member}
 use Rattle.gq_resolve.specs.declared.shapes.Shape.{Shape}
 use Rattle.gq_resolve.specs.declared.shapes.Member.TheViews.{out-Member, out-Shape}
 use Rattle.gq_resolve.specs.declared.writing.Output.{Output}
 use Rattle.gq_resolve.proofs.Building.{chained, fields-append}
+use Rattle.gq_resolve.proofs.Thinning.{thinned-append}
 use Rattle.gq_resolve.proofs.Shaping.{prepared-got, prepared-length, shape-there, prepared-there}
 
 -- ---- one after another
@@ -84,14 +85,14 @@ items-append strict place n f (y ∷ xs) x R =
 pub puts-none : (o : Output) → Puts (alone []) o o
 puts-none o = record {
   before = refl;
-  missing = sym (append-none (lacked o.missing.items));
+  missing = refl;
   written = λ w. (w, refl, sym (append-none o.writer.tokens));
 }
 
 pub puts-then : (a b : Walked) (x y z : Output) → Puts a x y → Puts b y z → Puts (joined a b) x z
 puts-then a b x y z p q = record {
   before = q.before ∙ p.before;
-  missing = q.missing ∙ ap (λ ls. ls ++ b.missing) p.missing ∙ append_assoc (lacked x.missing.items) a.missing b.missing;
+  missing = q.missing ∙ ap (λ ls. thinned ls b.missing) p.missing ∙ sym (thinned-append (lacked x.missing.keys) a.missing b.missing);
   written = λ w.
       let v = q.written w in
       let u = p.written v.0 in
@@ -102,7 +103,7 @@ puts-then a b x y z p q = record {
 pub puts-past : (w : Walked) (o : Output) → w.missing ≡ [] → (IsWriting o → ⊥) → Puts w o o
 puts-past w o none past = record {
   before = refl;
-  missing = sym (ap (λ ls. lacked o.missing.items ++ ls) none ∙ append-none (lacked o.missing.items));
+  missing = sym (ap (thinned (lacked o.missing.keys)) none);
   written = λ v. absurd (past v);
 }
 

@@ -1,15 +1,16 @@
 -- What a walk over a program puts: the loads that it lacks and, where it is plain, its text. A program is plain where nothing
 -- waits and no position has an error: none is a fault, or null at a non-null type.
-use Rattle.std.specs.Prelude.{◌≡◌, ℕ, Bool, true, false, not, ◌&&◌, List, [], ◌∷◌, ◌++◌, map, codes, decimal, Option, Some, None}
+use Rattle.std.specs.Prelude.{◌≡◌, ◌==◌, Bool, true, false, not, ◌&&◌, if◌then◌else◌, List, [], ◌∷◌, ◌++◌, map, codes, decimal, Option, Some, None}
+use Rattle.std.specs.List.{list_any}
 use Rattle.json.specs.Token.{Token, begin_object, end_object, begin_array, end_array, key, null}
 use Rattle.json.specs.Tree.{json_tokens}
-use Rattle.load_memory.specs.Keys.{key_of}
-use Rattle.load_memory.specs.declared.key.Key.{Key as RustKey}
+use Rattle.load_memory.specs.Keys.{key_of, same_key}
 use Rattle.load_memory.specs.Pairs.{MemoryOf}
 use Rattle.execution.specs.Loads.{Load, Reader}
 use Rattle.execution.specs.Program.{Leaf, Own, Value, Null, Fault, Kind, ListOf, ObjectOf, Part, Key, Item, Program, Is, Read, Under, Programs, End, With, given}
 use Rattle.gq_resolve.specs.Answered.{leaf_json}
 use Rattle.gq_resolve.specs.States.{told}
+use Rattle.gq_resolve.specs.declared.writing.Missing.{Missing}
 use Rattle.gq_resolve.specs.declared.writing.Output.{Output}
 
 pub record Walked : Type 0 where
@@ -76,18 +77,36 @@ abbrev mutual
 abbrev pub data_walked : Walked → Walked
 data_walked w = joined (alone (begin_object ∷ [])) (joined (alone (key (codes "data") ∷ [])) (joined w (alone (end_object ∷ []))))
 
-abbrev pub lacked : List (ℕ × RustKey) → List Load
-lacked ls = map (λ (l : ℕ × RustKey). record { loader = l.0; key = key_of l.1 }) ls
+-- ---- what is noted
+
+abbrev pub load_of : Missing → Load
+load_of m = record { loader = m.loader; key = key_of m.key }
+
+abbrev pub lacked : List Missing → List Load
+lacked ms = map load_of ms
+
+-- both are of one loader and have exactly equal keys
+abbrev pub is_load : Load → Load → Bool
+is_load a b = (a.loader == b.loader) && same_key a.key b.key
+
+-- the load goes last, if it isn't there yet
+abbrev pub with_load : List Load → Load → List Load
+with_load noted l = if list_any (is_load l) noted then noted else noted ++ l ∷ []
+
+-- the noted loads with these too, one after another
+abbrev pub thinned : List Load → List Load → List Load
+thinned noted [] = noted
+thinned noted (l ∷ ls) = thinned (with_load noted l) ls
 
 -- an output is written while nothing is missing and no error was met
 pub record IsWriting (o : Output) : Type 0 where
   pub plain : o.is_plain ≡ true
-  pub whole : o.missing.items ≡ []
+  pub whole : o.missing.keys ≡ []
 
--- The missing loads are noted. Where the output is still written, all was plain, and its tokens were written.
+-- The missing loads are noted, each once. Where the output is still written, all was plain, and its tokens were written.
 pub record Puts (w : Walked) (old new : Output) : Type 0 where
   pub before : new.writer.before ≡ old.writer.before
-  pub missing : lacked new.missing.items ≡ lacked old.missing.items ++ w.missing
+  pub missing : lacked new.missing.keys ≡ thinned (lacked old.missing.keys) w.missing
   pub written : IsWriting new → IsWriting old × (w.is_plain ≡ true) × (new.writer.tokens ≡ old.writer.tokens ++ w.tokens)
 
 -- what a program puts over a memory

@@ -20,6 +20,7 @@ use crate::walk::object;
 use crate::writing::{Missing, Output, text_of};
 use futures::task::Poll;
 use gq_check::Plan;
+use indexmap::IndexSet;
 use json::Token;
 use load_memory::{Memory, Row};
 use load_queue::Wants;
@@ -51,13 +52,17 @@ fn any_text(alloc: Global, plan: &Plan<'_>, memory: &Memory) -> Result<String, N
     answer_text(alloc, &answered)
 }
 
-fn want_missing(missing: Vec<Missing>, loaders: usize, wants: &mut Wants) -> Result<(), NoMemory>
+fn want_missing(
+    missing: IndexSet<Missing>,
+    loaders: usize,
+    wants: &mut Wants,
+) -> Result<(), NoMemory>
     requires { loaders ≡ length wants.old }
-    ensures ok { OnOk result (wants.new ≡ wanting wants.old (lacked missing.items)) }
-    ensures part { OnErr result (AddsPart wants.old wants.new (lacked missing.items)) }
+    ensures ok { OnOk result (wants.new ≡ wanting wants.old (lacked missing.keys)) }
+    ensures part { OnErr result (AddsPart wants.old wants.new (lacked missing.keys)) }
 {
-    for (loader, key) in missing {
-        want(loader, key, loaders, wants)?;
+    for load in missing {
+        want(load.loader, load.key, loaders, wants)?;
     }
     Ok(())
 }

@@ -18,6 +18,7 @@ use crate::cells::{boolean_of, int_of_leaf};
 use crate::no_memory::NoMemory;
 use gq_parser::TypeRef;
 use gq_schema::Schema;
+use indexmap::IndexSet;
 use json::{Token, Writer};
 use load_memory::{Cell, Key, Row};
 use plan_program::Own;
@@ -26,14 +27,19 @@ use std::alloc::Global;
 /// The room that a text has from the start.
 const FIRST_ROOM: usize = 128;
 
-/// A load that isn't answered: its loader and its key.
-pub type Missing = (usize, Key);
+/// A load that isn't answered.
+#[derive(PartialEq, Eq, Hash, Drop)]
+pub struct Missing {
+    pub loader: usize,
+    pub key: Key,
+}
 
 /// What a walk over a plan puts. It is written only while nothing is missing and no error was met.
 #[derive(Drop)]
 pub struct Output {
     pub writer: Writer,
-    pub missing: Vec<Missing>,
+    /// Each load once, however often it is met.
+    pub missing: IndexSet<Missing>,
     /// Whether no error was met.
     pub is_plain: bool,
 }
@@ -43,11 +49,11 @@ impl Output {
     pub fn new(alloc: Global) -> Result<Output, NoMemory>
         ensures before { IfOk result (λ out. out.writer.before ≡ []) }
         ensures tokens { IfOk result (λ out. out.writer.tokens ≡ []) }
-        ensures missing { IfOk result (λ out. out.missing.items ≡ []) }
+        ensures missing { IfOk result (λ out. out.missing.keys ≡ []) }
     {
         Ok(Output {
             writer: Writer::new(Vec::with_capacity(alloc, FIRST_ROOM)?),
-            missing: Vec::new(alloc),
+            missing: IndexSet::new(alloc),
             is_plain: true,
         })
     }
@@ -59,11 +65,11 @@ impl Output {
         self.is_plain && self.missing.is_empty()
     }
 
-    /// Notes a load that isn't answered.
+    /// Notes a load that isn't answered, where it wasn't noted before.
     pub fn lack(&mut self, loader: usize, key: Key) -> Result<(), NoMemory>
         ensures { OnOk result (Puts (lacking (record { loader = loader; key = key_of key })) self.old self.new) }
     {
-        self.missing.push((loader, key))?;
+        self.missing.insert(Missing { loader, key })?;
         Ok(())
     }
 

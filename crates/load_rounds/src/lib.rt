@@ -20,8 +20,6 @@ mod plan;
 mod round;
 pub mod run;
 pub mod session;
-#[cfg(test)]
-mod tests;
 
 pub use answer::Answer;
 pub use answering::Answering;

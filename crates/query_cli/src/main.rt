@@ -1,15 +1,13 @@
 //! The program: it answers GraphQL requests over tables, a request line by an answer line.
 //!
 //! Without words it serves the built-in sample world from standard input; with words it serves the files that they name. What
-//! it wrote is the output of the lines that it read (`specs/Runs.antt`), and how it ends is a [`Stop`]: one line on standard
+//! it wrote is the output of the lines that it read (`program_run`), and how it ends is a [`Stop`]: one line on standard
 //! error at most, and the exit status.
 #![tactic(auto)]
 
-mod run;
-
 use command_line::Stop;
 use line_serving::Counted;
-use run::{program_words, run};
+use program_run::{program_words, run};
 use std::io;
 use std::process::ExitCode;
 

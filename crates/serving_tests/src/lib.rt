@@ -1,6 +1,6 @@
-//! Tests of `world`, `world_answers`, `world_files` and `command_line`, of what no clause says: that plans are made and lines
-//! are answered over the sample world, what refusals and ends are called, and what failing devices leave. They stand apart
-//! from those crates so that the gate proves each once.
+//! Tests of `world_answers` and of what stands below it, of what no clause says: that plans are made and lines are answered
+//! over the sample world, what refusals and ends are called, and what failing devices leave. They stand apart from those
+//! crates so that the gate proves each once.
 #![tactic(auto)]
 
 #[cfg(test)]

@@ -1,4 +1,4 @@
-//! Rounds that the caller runs.
+//! Rounds that the caller runs, and runs that are dropped.
 
 ghost use Rattle.std.specs.Prelude.{◌≡◌, ◌≤◌, ◌<◌, All, map, length, IfOk, string_bytes};
 ghost use Rattle.load_memory.specs.Replies.{reply_of};
@@ -9,10 +9,12 @@ ghost use Rattle.load_rounds.specs.Sessions.{state_of};
 ghost use Rattle.load_rounds.specs.Executes.{IsAnswer};
 ghost use Rattle.load_rounds.specs.Runs.{AreReceived};
 
-use crate::sample::{asked, key_text, plan_of, session, world};
-use load_memory::{NoMemory, Receipt, Reply, Shelf};
+use crate::expect;
+use crate::sample::{Manner, Short, plan_of, push_keys, rounds, session, world};
+use gq_check::Plan;
+use load_memory::{KeyMode, NoMemory, Receipt, Reply, Shelf};
 use load_queue::{Asks, Loader, Order};
-use load_rounds::{Answer, Execute, Next, Session};
+use load_rounds::{Answer, Execute, Next, Session, Stage};
 use std::alloc::{AllocGlobal, Global};
 use std::sync::Wait;
 use std::test::Fail;
@@ -70,14 +72,17 @@ fn received<S: Asks, R: Wait + AllocGlobal>(
     Ok(receipts)
 }
 
-/// Notes the orders of a round: for each its loader's number and its keys, and a point after the last.
+/// An order's loader's number and its keys.
+fn order_text(alloc: Global, order: &Order) -> Result<String, Fail> {
+    let mut text = format!(in alloc; "{}:", order.loader())?;
+    push_keys(&mut text, order.keys())?;
+    Ok(text)
+}
+
+/// Notes the orders of a round, and a point after the last.
 fn note(alloc: Global, orders: &[Order], noted: &mut String) -> Result<(), Fail> {
     for order in orders {
-        noted.push_str(format!(in alloc; "{}:", order.loader())?.as_str())?;
-        for key in order.keys() {
-            noted.push(' ')?;
-            noted.push_str(key_text(key))?;
-        }
+        noted.push_str(&order_text(alloc, order)?)?;
         noted.push(';')?;
     }
     noted.push('.')?;
@@ -109,54 +114,116 @@ fn answered<P: Execute, S: Asks, R: Wait + AllocGlobal>(
     }
 }
 
-/// The answer of a query in rounds by hand, with at most two keys in a batch, its rounds, the orders of each, and what was
-/// asked.
-fn told<R: Wait + AllocGlobal>(
+/// The text of an answer in rounds by hand, the orders of each round, and the number of rounds with all that was asked.
+fn told_of<R: Wait + AllocGlobal>(
     rt: &R,
-    world: &World,
-    query: &str,
-) -> Result<(String, u32, String, String), Fail> {
-    let plan = plan_of(rt.alloc(), world, query, "{}")?;
-    let mut session = session(rt.alloc(), world, 9, Some(2))?;
+    session: &mut Session<Short<'_>>,
+    plan: &Plan<'_>,
+) -> Result<(String, String, String), Fail> {
     if session.loaders().len() < plan.loaders() {
         return Err(Fail::from("too few loaders"));
     }
     let mut noted = String::new(rt.alloc());
-    let answer = answered(rt, &plan, &mut session, &mut noted)?;
-    let asked = asked(rt.alloc(), &session)?;
-    Ok((answer.text, answer.rounds, noted, asked))
+    let answer = answered(rt, plan, session, &mut noted)?;
+    let asked = rounds(rt.alloc(), answer.rounds, session)?;
+    Ok((answer.text, noted, asked))
 }
+
+/// The same of a new session, with at most two keys in a batch.
+fn told_anew<R: Wait + AllocGlobal>(
+    rt: &R,
+    world: &World,
+    plan: &Plan<'_>,
+) -> Result<(String, String, String), Fail> {
+    let mut session = session(rt.alloc(), world, PAIRS)?;
+    told_of(rt, &mut session, plan)
+}
+
+/// The same of a query.
+fn told<R: Wait + AllocGlobal>(
+    rt: &R,
+    world: &World,
+    query: &str,
+) -> Result<(String, String, String), Fail> {
+    let plan = plan_of(rt.alloc(), world, query, "{}")?;
+    told_anew(rt, world, &plan)
+}
+
+/// At most two keys in a batch.
+const PAIRS: Manner = Manner {
+    most: usize::MAX,
+    mode: KeyMode::Exact,
+    limit: Some(2),
+};
+
+/// Queries with their answers, the orders of each round, and what was asked.
+const BY_HAND: &[(&str, &str, &str, &str)] = &[
+    (
+        "{user(id:1){name}}",
+        "{\"data\":{\"user\":{\"name\":\"Ada\"}}}",
+        "0: 1;.",
+        "1 rounds: userById 1: 1;",
+    ),
+    (
+        "{users{posts{author{name}}}}",
+        "{\"data\":{\"users\":[{\"posts\":[{\"author\":{\"name\":\"Ada\"}},{\"author\":{\"name\":\"Ada\"}}]},{\"posts\":[{\"author\":{\"name\":\"Bob\"}}]},{\"posts\":[]},{\"posts\":[]}]}}",
+        "1: all;.2: 1 2;2: 3 4;.0: 1 2;.",
+        "3 rounds: userById 3: 1 2;allUsers 1: all;postsByAuthor 2: 1 2;postsByAuthor 2: 3 4;",
+    ),
+    (
+        "{a:user(id:1){name} users{id}}",
+        "{\"data\":{\"a\":{\"name\":\"Ada\"},\"users\":[{\"id\":\"1\"},{\"id\":\"2\"},{\"id\":\"3\"},{\"id\":\"4\"}]}}",
+        "0: 1;1: all;.",
+        "1 rounds: userById 1: 1;allUsers 1: all;",
+    ),
+];
 
 #[test]
 fn rounds_by_hand_give_these_answers(rt: HostRuntime) -> Result<(), Fail> {
     let world = world(rt.alloc(), "")?;
-    let cases = [
-        (
-            "{user(id:1){name}}",
-            "{\"data\":{\"user\":{\"name\":\"Ada\"}}}",
-            1,
-            "0: 1;.",
-            "userById 1: 1;",
-        ),
-        (
-            "{users{posts{author{name}}}}",
-            "{\"data\":{\"users\":[{\"posts\":[{\"author\":{\"name\":\"Ada\"}},{\"author\":{\"name\":\"Ada\"}}]},{\"posts\":[{\"author\":{\"name\":\"Bob\"}}]},{\"posts\":[]},{\"posts\":[]}]}}",
-            3,
-            "1: all;.2: 1 2;2: 3 4;.0: 1 2;.",
-            "userById 3: 1 2;allUsers 1: all;postsByAuthor 2: 1 2;postsByAuthor 2: 3 4;",
-        ),
-        (
-            "{a:user(id:1){name} users{id}}",
-            "{\"data\":{\"a\":{\"name\":\"Ada\"},\"users\":[{\"id\":\"1\"},{\"id\":\"2\"},{\"id\":\"3\"},{\"id\":\"4\"}]}}",
-            1,
-            "0: 1;1: all;.",
-            "userById 1: 1;allUsers 1: all;",
-        ),
-    ];
-    for (query, text, rounds, orders, asked) in cases {
-        let (found, made, noted, log) = told(&rt, &world, query)?;
-        assert_eq!(rt; (found.as_str(), made), (text, rounds), "{query}");
-        assert_eq!(rt; (noted.as_str(), log.as_str()), (orders, asked), "{query}");
+    for (query, text, orders, asked) in BY_HAND {
+        let (found, noted, log) = told(&rt, &world, query)?;
+        expect(&rt, &found, text, query);
+        expect(&rt, &noted, orders, query);
+        expect(&rt, &log, asked, query);
     }
     Ok(())
+}
+
+/// Begins a run, and drops it while its first round is out: its stages before that round and after it.
+fn dropped<P: Execute, S: Asks>(session: &mut Session<S>, plan: &P) -> Result<(Stage, Stage), Fail>
+    requires { P.loaders plan.now ≤ length session.old.loaders }
+{
+    let mut run = session.begin(plan)?;
+    let begun = run.stage();
+    let _ = run.next_round(session)?;
+    Ok((begun, run.stage()))
+}
+
+fn stage_name(stage: Stage) -> &'static str {
+    match stage {
+        Stage::Ready => "ready",
+        Stage::Out => "out",
+        Stage::Finished => "finished",
+        Stage::Failed => "failed",
+    }
+}
+
+fn dropped_run(session: &mut Session<Short<'_>>, plan: &Plan<'_>) -> Result<(Stage, Stage), Fail> {
+    if session.loaders().len() < plan.loaders() {
+        return Err(Fail::from("too few loaders"));
+    }
+    dropped(session, plan)
+}
+
+/// The stages of a run that is dropped while its first round is out.
+pub fn abandoned(
+    alloc: Global,
+    world: &World,
+    session: &mut Session<Short<'_>>,
+    query: &str,
+) -> Result<String, Fail> {
+    let plan = plan_of(alloc, world, query, "{}")?;
+    let (begun, left) = dropped_run(session, &plan)?;
+    Ok(format!(in alloc; "{}, {}", stage_name(begun), stage_name(left))?)
 }

@@ -10,3 +10,9 @@ mod by_hand;
 mod calls;
 #[cfg(test)]
 mod sample;
+
+/// A text is the wanted one. One function for every test, since each assertion is dear to prove.
+#[cfg(test)]
+fn expect(rt: &impl std::process::Abort, found: &str, wanted: &str, case: &str) {
+    assert_eq!(rt; found, wanted, "{case}");
+}

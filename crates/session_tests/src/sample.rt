@@ -1,14 +1,14 @@
 //! The sample world, and sessions over it.
 
-ghost use Rattle.std.specs.Prelude.{⊤};
+ghost use Rattle.std.specs.Prelude.{◌≡◌, [], ⊤, IfOk};
 
 use csv_source::{CsvSource, Table};
 use gq_check::Plan;
 use load_memory::{Item, Key, KeyMode};
-use load_queue::{FetchFault, Loader, PerKey, Source};
-use load_rounds::Session;
+use load_queue::{Asked, FetchFault, Loader, PerKey, Source};
+use load_rounds::{Answer, Session};
 use serde_json::Value;
-use std::alloc::Global;
+use std::alloc::{AllocError, Global};
 use std::test::Fail;
 use world::World;
 
@@ -51,14 +51,19 @@ const TABLES: [(&str, &str); 4] = [
     ),
 ];
 
+/// A table with its name, of a text and further rows.
+fn table(alloc: Global, name: &str, text: &str, further: &str) -> Result<(String, Table), Fail> {
+    let text = format!(in alloc; "{text}{further}")?;
+    let table = Table::read(alloc, text.as_bytes())?;
+    Ok((String::from_str(alloc, name)?, table))
+}
+
 /// The sample world, with further rows of posts.
 pub fn world(alloc: Global, posts: &str) -> Result<World, Fail> {
     let mut tables = Vec::new(alloc);
     for (name, text) in TABLES {
         let further = if name == "posts" { posts } else { "" };
-        let text = format!(in alloc; "{text}{further}")?;
-        let table = Table::read(alloc, text.as_bytes())?;
-        tables.push((String::from_str(alloc, name)?, table))?;
+        tables.push(table(alloc, name, text, further)?)?;
     }
     Ok(World::new(alloc, SCHEMA, BINDINGS, tables, None)?)
 }
@@ -80,35 +85,53 @@ impl<'w> Source for Short<'w> {
     }
 }
 
-/// A session over the loaders of a world. The users by id answer no more items than they may.
+/// How a session asks: the most items that the users by id answer, how their keys are compared, and the most keys of a batch.
+#[derive(Clone, Copy)]
+pub struct Manner {
+    pub most: usize,
+    pub mode: KeyMode,
+    pub limit: Option<u32>,
+}
+
+/// As the world's bindings say, with no limit.
+pub const PLAIN: Manner = Manner {
+    most: usize::MAX,
+    mode: KeyMode::Exact,
+    limit: None,
+};
+
+/// A loader of a world, by its number.
+fn loader<'w>(
+    alloc: Global,
+    world: &'w World,
+    number: usize,
+    manner: Manner,
+) -> Result<Loader<Short<'w>>, Fail>
+    ensures { IfOk result (λ loader. loader.log ≡ []) }
+{
+    if number >= world.loaders() {
+        return Err(Fail::from("no such loader"));
+    }
+    let name = world.bindings().loaders()[number].name.as_str();
+    let source = world.source(number);
+    let (most, mode) = match number {
+        0 => (manner.most, manner.mode),
+        _ => (usize::MAX, source.mode()),
+    };
+    Ok(Loader::new(alloc, name, Short { source, most }, mode, manner.limit)?)
+}
+
+/// A session over the loaders of a world.
 pub fn session<'w>(
     alloc: Global,
     world: &'w World,
-    most: usize,
-    limit: Option<u32>,
+    manner: Manner,
 ) -> Result<Session<Short<'w>>, Fail> {
     let mut loaders = Vec::new(alloc);
     for number in 0..world.loaders() {
-        let source = world.source(number);
-        let name = world.bindings().loaders()[number].name.as_str();
-        let mode = source.mode();
-        let most = if number == 0 { most } else { usize::MAX };
-        loaders.push(Loader::new(alloc, name, Short { source, most }, mode, limit)?)?;
+        loaders.push(loader(alloc, world, number, manner)?)?;
     }
     Ok(Session::new(alloc, loaders)?)
-}
-
-/// A session over the users by id alone, whose keys are compared with capitals made small, with at most two in a batch.
-pub fn folding_session<'w>(alloc: Global, world: &'w World) -> Result<Session<Short<'w>>, Fail> {
-    if world.loaders() == 0 {
-        return Err(Fail::from("no loader"));
-    }
-    let users = Short {
-        source: world.source(0),
-        most: 9,
-    };
-    let users = Loader::new(alloc, "userById", users, KeyMode::FoldAscii, Some(2))?;
-    Ok(Session::new(alloc, vec![in alloc; users]?)?)
 }
 
 /// The plan of a query, with the values of its variables.
@@ -122,28 +145,47 @@ pub fn plan_of<'w>(
     Ok(world.plan(alloc, query, None, &variables)?)
 }
 
-/// A key as it is printed.
-pub fn key_text(key: &Key) -> &str {
-    match key {
-        Key::All => "all",
-        Key::Text(text) => text.as_str(),
+/// An answer in turn.
+pub fn answer_in_turn(session: &mut Session<Short<'_>>, plan: &Plan<'_>) -> Result<Answer, Fail> {
+    if session.loaders().len() < plan.loaders() {
+        return Err(Fail::from("too few loaders"));
     }
+    Ok(session.answer(plan)?)
 }
 
-/// What the loaders were asked, in order of their numbers: for each batch the loader's name, the round and the keys, and a
-/// mark where it isn't stored.
+/// Adds keys to a text, a space before each.
+pub fn push_keys(text: &mut String, keys: &[Key]) -> Result<(), AllocError> {
+    for key in keys {
+        text.push(' ')?;
+        text.push_str(match key {
+            Key::All => "all",
+            Key::Text(key) => key.as_str(),
+        })?;
+    }
+    Ok(())
+}
+
+/// A batch of a loader: its name, the round and the keys, and a mark where it isn't stored.
+fn batch_text(alloc: Global, loader: &str, batch: &Asked) -> Result<String, Fail> {
+    let mut text = format!(in alloc; "{loader} {}:", batch.round)?;
+    push_keys(&mut text, &batch.keys)?;
+    text.push_str(if batch.stored { ";" } else { "?;" })?;
+    Ok(text)
+}
+
+/// What the loaders were asked, in order of their numbers.
 pub fn asked(alloc: Global, session: &Session<Short<'_>>) -> Result<String, Fail> {
     let mut text = String::new(alloc);
     for loader in session.loaders() {
         for entry in loader.log() {
-            let batch = format!(in alloc; "{} {}:", loader.name(), entry.round)?;
-            text.push_str(batch.as_str())?;
-            for key in entry.keys.iter() {
-                text.push(' ')?;
-                text.push_str(key_text(key))?;
-            }
-            text.push_str(if entry.stored { ";" } else { "?;" })?;
+            text.push_str(&batch_text(alloc, loader.name(), entry)?)?;
         }
     }
     Ok(text)
+}
+
+/// The number of an answer's rounds, and all that was asked.
+pub fn rounds(alloc: Global, number: u32, session: &Session<Short<'_>>) -> Result<String, Fail> {
+    let asked = asked(alloc, session)?;
+    Ok(format!(in alloc; "{number} rounds: {asked}")?)
 }

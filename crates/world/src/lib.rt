@@ -9,8 +9,6 @@ mod fault;
 mod request;
 mod sources;
 mod tables;
-#[cfg(test)]
-mod tests;
 mod world;
 
 pub use fault::WorldFault;

@@ -7,8 +7,6 @@
 
 mod files;
 mod sample;
-#[cfg(test)]
-mod tests;
 
 pub use files::{open_requests, open_world};
 pub use sample::sample_world;

@@ -58,6 +58,9 @@ asked-returns-in-Joined-clause-keeps t c = rw c.in-Joined.is c.read_from-in-Join
 pub asked-returns-in-Joined-clause-puts : goal.asked-returns-in-Joined-clause-puts
 asked-returns-in-Joined-clause-puts t c = rw c.in-Joined.is c.read_from-in-Joined.ensures.puts
 
+pub go_on-returns-in-Joined-clause-puts : goal.go_on-returns-in-Joined-clause-puts
+go_on-returns-in-Joined-clause-puts t c = rw (c.in-Rows.is, c.in-Joined.is, ← c.deref-in-Joined.ensures.value) c.joined.ensures.puts
+
 pub all-loop-row-preserved : goal.all-loop-row-preserved
 all-loop-row-preserved t c =
     let plan : PlanOf = plan_of c.args.plan.now in

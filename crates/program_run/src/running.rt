@@ -1,0 +1,151 @@
+//! A run of the program.
+
+ghost use Rattle.std.specs.Prelude.{[], ◌∷◌, ◌++◌, map, IfErr, OnOk, OnErr, string_bytes};
+ghost use Rattle.std.specs.Io.KnownBytes.{Appends};
+ghost use Rattle.line_serving.specs.Devices.{device_of};
+ghost use Rattle.line_serving.specs.Lines.{line_feed};
+ghost use Rattle.line_serving.specs.Output.{IsCut};
+ghost use Rattle.program_run.specs.Runs.{IsServed, IsShown, IsTold, IsSampleRun, IsFilesRun, IsRun, IsWordless};
+
+use command_line::{Stop, Words};
+use line_serving::{Counted, DeviceFault, ServeFault};
+use std::alloc::Global;
+use std::env;
+use std::io::{ErrorKind, Read, Write};
+use std::rt::{Env, Files};
+use world::World;
+use world_answers::serve;
+use world_files::{open_requests, open_world, sample_world};
+
+/// What `clap` says of words that are no text.
+const NOT_TEXT: &str = "error: invalid UTF-8 was detected in one or more arguments";
+
+/// The words after the program's name.
+///
+/// # Errors
+///
+/// `Command` where one of them is no UTF-8, and want of memory.
+pub fn program_words<R: Env + AllocGlobal>(rt: &R) -> Result<Vec<String>, Stop>
+    ensures { IfErr result IsWordless }
+{
+    let words = match env::args(rt) {
+        Ok(words) => words,
+        Err(error) if error.kind() == ErrorKind::OutOfMemory => {
+            return Err(Stop::Serve(ServeFault::NoMemory));
+        }
+        Err(_) => return Err(Stop::Command(String::from_str(rt.alloc(), NOT_TEXT)?)),
+    };
+    Ok(words.skip(1).collect(rt.alloc())?)
+}
+
+/// Serves the lines of a reader over a world.
+fn serve_world<R: Read, W: Write>(
+    alloc: Global,
+    world: &World,
+    reader: &mut Counted<R>,
+    writer: &mut Counted<W>,
+) -> Stop
+    ensures { IsServed world.now (R.remaining (device_of reader.old)) (R.remaining (device_of reader.new))
+        (W.contents (device_of writer.old)) (W.contents (device_of writer.new)) result }
+{
+    match serve(alloc, world, reader, writer) {
+        Ok(_) => Stop::Served,
+        Err(fault) => Stop::Serve(fault),
+    }
+}
+
+/// Serves the lines of a reader over the sample world.
+fn run_sample<R: Read, W: Write>(
+    alloc: Global,
+    reader: &mut Counted<R>,
+    writer: &mut Counted<W>,
+) -> Stop
+    ensures { IsSampleRun (R.remaining (device_of reader.old)) (R.remaining (device_of reader.new))
+        (W.contents (device_of writer.old)) (W.contents (device_of writer.new)) result }
+{
+    match sample_world(alloc) {
+        Ok(world) => serve_world(alloc, &world, reader, writer),
+        Err(stop) => stop,
+    }
+}
+
+/// Serves the request lines of a file over the world of the other files.
+fn run_files<R: Files + AllocGlobal, W: Write>(
+    rt: &R,
+    words: &Words,
+    writer: &mut Counted<W>,
+) -> Stop
+    ensures { IsFilesRun words.now (W.contents (device_of writer.old)) (W.contents (device_of writer.new)) result }
+{
+    let world = match open_world(rt, words) {
+        Ok(world) => world,
+        Err(stop) => return stop,
+    };
+    match open_requests(rt, words) {
+        Ok(file) => serve_world(rt.alloc(), &world, &mut Counted::new(file), writer),
+        Err(stop) => stop,
+    }
+}
+
+// Writes a text and a line feed, and flushes.
+#[tactic(auto, using(crate::proofs::Written::using_written))]
+fn write_line<W: Write>(writer: &mut Counted<W>, text: &str) -> Result<(), DeviceFault>
+    ensures ok { OnOk result (Appends (W.contents (device_of writer.old)) (W.contents (device_of writer.new)) (text.now ++ line_feed ∷ [])) }
+    ensures err { OnErr result (IsCut (W.contents (device_of writer.old)) (W.contents (device_of writer.new)) (text.now ++ line_feed ∷ [])) }
+{
+    match writer.write_whole(text.as_bytes()) {
+        Ok(()) => match writer.write_whole(b"\n") {
+            Ok(()) => match writer.flush() {
+                Ok(()) => Ok(()),
+                Err(fault) => Err(fault),
+            },
+            Err(fault) => Err(fault),
+        },
+        Err(fault) => Err(fault),
+    }
+}
+
+/// Writes help.
+fn show<W: Write>(writer: &mut Counted<W>, text: String) -> Stop
+    ensures { IsShown (string_bytes text) (W.contents (device_of writer.old)) (W.contents (device_of writer.new)) result }
+{
+    match write_line(writer, text.as_str()) {
+        Ok(()) => Stop::Help(text),
+        Err(_) => Stop::Serve(ServeFault::WriteFault),
+    }
+}
+
+/// Ends a run whose words are refused. Help is written to the writer; of the others the end says all.
+fn tell<W: Write>(stop: Stop, writer: &mut Counted<W>) -> Stop
+    ensures { IsTold stop (W.contents (device_of writer.old)) (W.contents (device_of writer.new)) result }
+{
+    match stop {
+        Stop::Help(text) => show(writer, text),
+        Stop::Served => Stop::Served,
+        Stop::Command(text) => Stop::Command(text),
+        Stop::World(fault) => Stop::World(fault),
+        Stop::Table(fault) => Stop::Table(fault),
+        Stop::File => Stop::File,
+        Stop::Serve(fault) => Stop::Serve(fault),
+    }
+}
+
+/// A run of the words after the program's name. Without any it serves the sample world from the reader; else it serves the
+/// files that the words name, and reads nothing of the reader. Help is written to the writer.
+pub fn run<R: Files + AllocGlobal, I: Read, W: Write>(
+    rt: &R,
+    words: &[String],
+    reader: &mut Counted<I>,
+    writer: &mut Counted<W>,
+) -> Stop
+    ensures { IsRun (map string_bytes words.now) (I.remaining (device_of reader.old)) (I.remaining (device_of reader.new))
+        (W.contents (device_of writer.old)) (W.contents (device_of writer.new)) result }
+{
+    if words.is_empty() {
+        return run_sample(rt.alloc(), reader, writer);
+    }
+    match Words::read(rt.alloc(), words) {
+        Ok(words) => run_files(rt, &words, writer),
+        Err(stop) => tell(stop, writer),
+    }
+}
