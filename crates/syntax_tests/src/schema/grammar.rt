@@ -1,9 +1,9 @@
-//! A plain slow recogniser: the productions of schemas as data, and every way to read each of them.
+//! The productions of schemas that are served, and schemas of words.
 
-use std::alloc::{AllocFailed, Global};
+use crate::recogniser::Productions;
 
-/// A production's name, and one of its ways: names of productions and tokens. A way that is empty takes nothing.
-const PRODUCTIONS: &[(&str, &[&str])] = &[
+/// The productions of October 2021, in the part of the language that is served.
+pub const PRODUCTIONS: Productions = &[
     ("Document", &[]),
     ("Document", &["Description", "Definition", "Document"]),
     (
@@ -123,79 +123,129 @@ const PRODUCTIONS: &[(&str, &[&str])] = &[
     ("Name", &["Float"]),
 ];
 
-/// Reads tokens in every way that there is.
-#[derive(Drop)]
-pub struct Slow<'a> {
-    tokens: &'a [&'a str],
-    /// The furthest token at which some way wanted one.
-    pub furthest: usize,
-}
+/// Schemas of words, with each production.
+pub const SCHEMAS: &[&[&str]] = &[
+    &[
+        "\"s\"", "schema", "{", "query", ":", "a", "}", "union", "a", "=", "|", "a", "|", "type",
+    ],
+    &[
+        "type",
+        "a",
+        "implements",
+        "&",
+        "a",
+        "&",
+        "a",
+        "{",
+        "\"s\"",
+        "a",
+        "(",
+        "\"s\"",
+        "a",
+        ":",
+        "[",
+        "a",
+        "!",
+        "]",
+        "!",
+        "=",
+        "[",
+        "1",
+        "{",
+        "a",
+        ":",
+        "a",
+        "}",
+        "]",
+        ")",
+        ":",
+        "a",
+        "!",
+        "@",
+        "deprecated",
+        "}",
+    ],
+    &[
+        "interface",
+        "a",
+        "{",
+        "a",
+        ":",
+        "[",
+        "a",
+        "]",
+        "@",
+        "deprecated",
+        "(",
+        "reason",
+        ":",
+        "\"s\"",
+        ")",
+        "a",
+        ":",
+        "a",
+        "}",
+    ],
+    &[
+        "enum",
+        "a",
+        "{",
+        "\"s\"",
+        "a",
+        "@",
+        "deprecated",
+        "a",
+        "}",
+        "\"s\"",
+        "enum",
+        "a",
+        "{",
+        "Float",
+        "}",
+    ],
+    &[
+        "type",
+        "type",
+        "implements",
+        "implements",
+        "{",
+        "implements",
+        "(",
+        "a",
+        ":",
+        "a",
+        ")",
+        ":",
+        "implements",
+        "}",
+    ],
+];
 
-impl<'a> Slow<'a> {
-    pub fn new(tokens: &'a [&'a str]) -> Self {
-        Slow {
-            tokens,
-            furthest: 0,
-        }
-    }
-
-    /// Where this production or token may end that begins at a token. No way is more than so many productions deep.
-    #[cycle(slow)]
-    pub fn ends(
-        &mut self,
-        alloc: Global,
-        symbol: &str,
-        from: usize,
-        depth: u32,
-    ) -> Result<Vec<usize>, AllocFailed<usize>> {
-        let mut ends = Vec::new(alloc);
-        if depth == 0 {
-            return Ok(ends);
-        }
-        let mut is_token = true;
-        for (name, parts) in PRODUCTIONS {
-            if *name == symbol {
-                is_token = false;
-                self.ends_of_all(alloc, parts, from, depth - 1, &mut ends)?;
-            }
-        }
-        if is_token {
-            self.furthest = self.furthest.max(from);
-            if self.tokens.get(from).copied() == Some(symbol) {
-                ends.push(from.saturating_add(1))?;
-            }
-        }
-        Ok(ends)
-    }
-
-    /// Where these parts may end, one after the other.
-    #[cycle(slow)]
-    fn ends_of_all(
-        &mut self,
-        alloc: Global,
-        parts: &[&str],
-        from: usize,
-        depth: u32,
-        ends: &mut Vec<usize>,
-    ) -> Result<(), AllocFailed<usize>> {
-        let mut fronts = Vec::new(alloc);
-        fronts.push(from)?;
-        for part in parts {
-            let mut next = Vec::new(alloc);
-            for front in &fronts {
-                for end in self.ends(alloc, part, *front, depth)? {
-                    if !next.contains(&end) {
-                        next.push(end)?;
-                    }
-                }
-            }
-            fronts = next;
-        }
-        for front in fronts {
-            if !ends.contains(&front) {
-                ends.push(front)?;
-            }
-        }
-        Ok(())
-    }
-}
+/// Words that stand in place of another.
+pub const WORDS: &[&str] = &[
+    "{",
+    "}",
+    "(",
+    ")",
+    "[",
+    "]",
+    ":",
+    "!",
+    "$",
+    "=",
+    "@",
+    "...",
+    "&",
+    "|",
+    "a",
+    "type",
+    "query",
+    "mutation",
+    "scalar",
+    "implements",
+    "deprecated",
+    "Float",
+    "true",
+    "1",
+    "\"s\"",
+];
