@@ -1,8 +1,9 @@
 //! Bindings: the sample world's, and for each rule a line that keeps it and one that breaks it.
 
 use crate::expect;
-use gq_schema::{Bindings, Schema, SchemaFault};
-use std::alloc::{AllocError, Global};
+use gq_schema::{Bindings, Schema};
+use std::alloc::{AllocError, AllocGlobal, Global};
+use std::process::Abort;
 use std::test::Fail;
 
 const SAMPLE: &str = "type Query { user(id: ID!): User usersByIds(ids: [ID!]!): [User]!
@@ -13,235 +14,309 @@ type Bot { id: ID! name: String! model: String }
 type Post { id: ID! author: User! title: String! }
 type Empty { none: Int }";
 
-const LINES: [&str; 15] = [
-    "bindings 1",
-    "loader userById users by id",
-    "loader allUsers users",
-    "loader postsByAuthor posts by author",
-    "loader namedById named by id",
-    "loader likesByUser likes by user",
-    "loader postById posts by id",
-    "field Query.user one userById arg id",
-    "field Query.usersByIds each userById arg ids",
-    "field Query.users many allUsers all",
-    "field Query.named one namedById arg id",
-    "field User.best one userById column best",
-    "field User.posts many postsByAuthor column id",
-    "field User.liked via likesByUser column id postById post",
-    "field Post.author one userById column author",
-];
-
-/// The sample world's lines, with another line in place of one of them; that of number 16 comes after them.
-fn text_with(alloc: Global, number: usize, line: &str) -> Result<String, AllocError> {
-    let mut text = String::new(alloc);
-    for (i, sample) in LINES.iter().enumerate() {
-        text.push_str(if i + 1 == number { line } else { sample })?;
-        text.push('\n')?;
-    }
-    if number == 16 {
-        text.push_str(line)?;
-    }
-    Ok(text)
-}
-
-/// The line of the fault, if there is one.
-fn bad_line(alloc: Global, schema: &Schema, text: &str) -> Result<String, Fail> {
-    let line = match Bindings::read(alloc, schema, text) {
-        Ok(_) => None,
-        Err(SchemaFault::BadBinding(line)) => Some(line),
-        Err(fault) => return Err(fault.into()),
-    };
-    Ok(format!(in alloc; "{line:?}")?)
-}
-
-/// The three parts of a case, which bars separate.
-fn parts(case: &str) -> (&str, &str, &str) {
-    let (first, rest) = case.split_once('|').unwrap_or((case, ""));
-    let (second, third) = rest.split_once('|').unwrap_or((rest, ""));
-    (first, second, third)
-}
-
-/// The loaders of the sample world.
-const LOADERS: &str = "userById users Some(By { column: \"id\", fold: false })
-allUsers users None
-postsByAuthor posts Some(By { column: \"author\", fold: false })
-namedById named Some(By { column: \"id\", fold: false })
-likesByUser likes Some(By { column: \"user\", fold: false })
-postById posts Some(By { column: \"id\", fold: false })
+const LINES: &str = "bindings 1
+loader userById users by id
+loader allUsers users
+loader postsByAuthor posts by author
+loader namedById named by id
+loader likesByUser likes by user
+loader postById posts by id
+field Query.user one userById arg id
+field Query.usersByIds each userById arg ids
+field Query.users many allUsers all
+field Query.named one namedById arg id
+field User.best one userById column best
+field User.posts many postsByAuthor column id
+field User.liked via likesByUser column id postById post
+field Post.author one userById column author
 ";
 
-/// A type, a field and its binding.
-const BINDINGS: &str = "Query|user|Some(One { loader: 0, key: Argument(\"id\") })
-Query|usersByIds|Some(Each { loader: 0, argument: \"ids\" })
-Query|users|Some(Many { loader: 1, key: All })
-Query|named|Some(One { loader: 3, key: Argument(\"id\") })
-User|id|Some(Column(\"id\"))
-User|name|Some(Column(\"name\"))
-User|best|Some(One { loader: 0, key: Column(\"best\") })
-User|posts|Some(Many { loader: 2, key: Column(\"id\") })
-User|liked|Some(Via { loader: 4, key: Column(\"id\"), second: 5, column: \"post\" })
-Bot|model|Some(Column(\"model\"))
-Post|author|Some(One { loader: 0, key: Column(\"author\") })
-Post|title|Some(Column(\"title\"))
-Named|name|None
-User|title|None
-Nobody|id|None";
+/// The loaders of the sample world.
+const LOADERS: &str =
+    "[LoaderLine { name: \"userById\", table: \"users\", by: Some(By { column: \"id\", fold: false }) }, \
+LoaderLine { name: \"allUsers\", table: \"users\", by: None }, \
+LoaderLine { name: \"postsByAuthor\", table: \"posts\", by: Some(By { column: \"author\", fold: false }) }, \
+LoaderLine { name: \"namedById\", table: \"named\", by: Some(By { column: \"id\", fold: false }) }, \
+LoaderLine { name: \"likesByUser\", table: \"likes\", by: Some(By { column: \"user\", fold: false }) }, \
+LoaderLine { name: \"postById\", table: \"posts\", by: Some(By { column: \"id\", fold: false }) }]";
 
-/// The loaders of bindings.
-fn loader_lines(alloc: Global, bindings: &Bindings) -> Result<String, Fail> {
-    let mut lines = String::new(alloc);
-    for loader in bindings.loaders() {
-        let line = format!(in alloc; "{} {} {:?}\n", loader.name, loader.table, loader.by)?;
-        lines.push_str(&line)?;
+/// A type, a field and its binding.
+const BINDINGS: &[(&str, &str, &str)] = &[
+    (
+        "Query",
+        "user",
+        "Some(One { loader: 0, key: Argument(\"id\") })",
+    ),
+    (
+        "Query",
+        "usersByIds",
+        "Some(Each { loader: 0, argument: \"ids\" })",
+    ),
+    ("Query", "users", "Some(Many { loader: 1, key: All })"),
+    (
+        "Query",
+        "named",
+        "Some(One { loader: 3, key: Argument(\"id\") })",
+    ),
+    ("User", "id", "Some(Column(\"id\"))"),
+    ("User", "name", "Some(Column(\"name\"))"),
+    (
+        "User",
+        "best",
+        "Some(One { loader: 0, key: Column(\"best\") })",
+    ),
+    (
+        "User",
+        "posts",
+        "Some(Many { loader: 2, key: Column(\"id\") })",
+    ),
+    (
+        "User",
+        "liked",
+        "Some(Via { loader: 4, key: Column(\"id\"), second: 5, column: \"post\" })",
+    ),
+    ("Bot", "model", "Some(Column(\"model\"))"),
+    (
+        "Post",
+        "author",
+        "Some(One { loader: 0, key: Column(\"author\") })",
+    ),
+    ("Post", "title", "Some(Column(\"title\"))"),
+    ("Named", "name", "None"),
+    ("User", "title", "None"),
+    ("Nobody", "id", "None"),
+];
+
+/// These bindings are those of the sample world.
+fn expect_sample<R: AllocGlobal + Abort>(rt: &R, bindings: &Bindings) -> Result<(), Fail> {
+    let loaders = format!(in rt.alloc(); "{:?}", bindings.loaders())?;
+    expect(rt, &loaders, LOADERS, "loaders");
+    for (of, field, wanted) in BINDINGS {
+        let found = format!(in rt.alloc(); "{:?}", bindings.binding_of(of, field))?;
+        expect(rt, &found, wanted, field);
     }
-    Ok(lines)
+    Ok(())
 }
 
 #[test]
 fn the_sample_world_is_accepted(rt: HostRuntime) -> Result<(), Fail> {
     let schema = Schema::read(rt.alloc(), SAMPLE)?;
-    let text = text_with(rt.alloc(), 0, "")?;
-    let bindings = Bindings::read(rt.alloc(), &schema, &text)?;
-    let loaders = loader_lines(rt.alloc(), &bindings)?;
-    expect(&rt, &loaders, LOADERS, "loaders");
-    for case in BINDINGS.lines() {
-        let (ty, field, wanted) = parts(case);
-        let found = format!(in rt.alloc(); "{:?}", bindings.binding_of(ty, field))?;
-        expect(&rt, &found, wanted, case);
+    let bindings = Bindings::read(rt.alloc(), &schema, LINES)?;
+    expect_sample(&rt, &bindings)
+}
+
+/// A text with another line in place of that of a number, if there is one.
+fn text_with(alloc: Global, lines: &str, number: usize, line: &str) -> Result<String, AllocError> {
+    let mut text = String::new(alloc);
+    for (i, own) in lines.split('\n').enumerate() {
+        if i > 0 {
+            text.push('\n')?;
+        }
+        text.push_str(if i.saturating_add(1) == number {
+            line
+        } else {
+            own
+        })?;
     }
-    Ok(())
+    Ok(text)
 }
 
-/// The number of a line of the sample world's text, what stands in its place, and the bad line.
-const CASES: &str = "1|bindings 9|Some(1)
-1||Some(2)
-9|field Query.usersByIds each userById column ids|Some(9)
-10|# the users|Some(0)
-2|# none|Some(8)
-3|loader userById users|Some(3)
-16|loader postById other|Some(16)
-16|loader more other|None
-16|field Post.author one userById column id|Some(16)
-16|field Named.name column name|Some(16)
-16|field Nobody.id column id|Some(16)
-16|field String.id column id|Some(16)
-16|field User.title column title|Some(16)
-16|field User.name column full|None
-8|field Query.user one userById column id|Some(8)
-8|field Query.user one userById arg name|Some(8)
-9|field Query.usersByIds many userById arg ids|Some(9)
-9|field Query.usersByIds each userById arg id|Some(9)
-8|field Query.user one user arg id|Some(8)
-12|field User.best one allUsers column best|Some(12)
-8|field Query.user one allUsers arg id|Some(8)
-10|field Query.users many userById all|Some(10)
-9|field Query.usersByIds each allUsers arg ids|Some(9)
-14|field User.liked via likesByUser column id allUsers post|Some(14)
-14|field User.liked via allUsers all postById post|None
-14|field User.liked via likesByUser all postById post|Some(14)
-8|field Query.user many userById arg id|Some(8)
-10|field Query.users one allUsers all|Some(10)
-12|field User.best column best|Some(12)
-13|field User.posts column posts|Some(13)
-12|field User.best via likesByUser column id postById post|Some(12)
-16|field User.name one userById column id|Some(16)
-16|field User.name many userById column id|Some(16)
-8||Some(0)
-9||Some(0)
-10||Some(0)
-11||Some(0)
-12||Some(0)
-13||Some(0)
-14||Some(0)
-15||Some(0)
-4||Some(13)";
-
-/// The bad line of the sample world's text with another line at a number.
-fn bad_line_with(alloc: Global, schema: &Schema, number: &str, line: &str) -> Result<String, Fail> {
-    let number = number.parse::<usize>().unwrap_or(0);
-    let text = text_with(alloc, number, line)?;
-    bad_line(alloc, schema, &text)
+/// The fault of such a text over a schema, if there is one.
+fn fault(
+    alloc: Global,
+    schema: &Schema,
+    lines: &str,
+    number: usize,
+    line: &str,
+) -> Result<String, Fail> {
+    let text = text_with(alloc, lines, number, line)?;
+    Ok(format!(in alloc; "{:?}", Bindings::read(alloc, schema, &text).err())?)
 }
 
-#[test]
-fn a_line_that_breaks_a_rule_is_the_bad_one(rt: HostRuntime) -> Result<(), Fail> {
-    let schema = Schema::read(rt.alloc(), SAMPLE)?;
-    for case in CASES.lines() {
-        let (number, line, wanted) = parts(case);
-        let found = bad_line_with(rt.alloc(), &schema, number, line)?;
-        expect(&rt, &found, wanted, case);
-    }
-    Ok(())
-}
+/// The number of a line, what stands in its place, and the fault.
+type Case = (usize, &'static str, &'static str);
+
+/// Lines of the sample world.
+const CASES: &[Case] = &[
+    (1, "bindings 9", "Some(BadBinding(1))"),
+    (1, "", "Some(BadBinding(2))"),
+    (
+        9,
+        "field Query.usersByIds each userById column ids",
+        "Some(BadBinding(9))",
+    ),
+    (10, "# the users", "Some(BadBinding(0))"),
+    (2, "# none", "Some(BadBinding(8))"),
+    (3, "loader userById users", "Some(BadBinding(3))"),
+    (16, "loader postById other", "Some(BadBinding(16))"),
+    (16, "loader more other", "None"),
+    (
+        16,
+        "field Post.author one userById column id",
+        "Some(BadBinding(16))",
+    ),
+    (16, "field Named.name column name", "Some(BadBinding(16))"),
+    (16, "field Nobody.id column id", "Some(BadBinding(16))"),
+    (16, "field String.id column id", "Some(BadBinding(16))"),
+    (16, "field User.title column title", "Some(BadBinding(16))"),
+    (16, "field User.name column full", "None"),
+    (
+        8,
+        "field Query.user one userById column id",
+        "Some(BadBinding(8))",
+    ),
+    (
+        8,
+        "field Query.user one userById arg name",
+        "Some(BadBinding(8))",
+    ),
+    (
+        9,
+        "field Query.usersByIds many userById arg ids",
+        "Some(BadBinding(9))",
+    ),
+    (
+        9,
+        "field Query.usersByIds each userById arg id",
+        "Some(BadBinding(9))",
+    ),
+    (8, "field Query.user one user arg id", "Some(BadBinding(8))"),
+    (
+        12,
+        "field User.best one allUsers column best",
+        "Some(BadBinding(12))",
+    ),
+    (
+        8,
+        "field Query.user one allUsers arg id",
+        "Some(BadBinding(8))",
+    ),
+    (
+        10,
+        "field Query.users many userById all",
+        "Some(BadBinding(10))",
+    ),
+    (
+        9,
+        "field Query.usersByIds each allUsers arg ids",
+        "Some(BadBinding(9))",
+    ),
+    (
+        14,
+        "field User.liked via likesByUser column id allUsers post",
+        "Some(BadBinding(14))",
+    ),
+    (
+        14,
+        "field User.liked via allUsers all postById post",
+        "None",
+    ),
+    (
+        14,
+        "field User.liked via likesByUser all postById post",
+        "Some(BadBinding(14))",
+    ),
+    (
+        8,
+        "field Query.user many userById arg id",
+        "Some(BadBinding(8))",
+    ),
+    (
+        10,
+        "field Query.users one allUsers all",
+        "Some(BadBinding(10))",
+    ),
+    (12, "field User.best column best", "Some(BadBinding(12))"),
+    (13, "field User.posts column posts", "Some(BadBinding(13))"),
+    (
+        12,
+        "field User.best via likesByUser column id postById post",
+        "Some(BadBinding(12))",
+    ),
+    (
+        16,
+        "field User.name one userById column id",
+        "Some(BadBinding(16))",
+    ),
+    (
+        16,
+        "field User.name many userById column id",
+        "Some(BadBinding(16))",
+    ),
+    (8, "", "Some(BadBinding(0))"),
+    (9, "", "Some(BadBinding(0))"),
+    (10, "", "Some(BadBinding(0))"),
+    (11, "", "Some(BadBinding(0))"),
+    (12, "", "Some(BadBinding(0))"),
+    (13, "", "Some(BadBinding(0))"),
+    (14, "", "Some(BadBinding(0))"),
+    (15, "", "Some(BadBinding(0))"),
+    (4, "", "Some(BadBinding(13))"),
+];
 
 const TYPED: &str = "type Query {
   a(i: Int s: String! b: Boolean e: [Int] t: [String!]! f: [Boolean]): A
   as(i: Int d: ID b: Boolean e: [Int] t: [String!]! f: [Boolean]): [A!] }
 type A { n: Int! }";
 
-/// A form for a composite, one for a list of them, and the bad line.
-const FORMS: &str = "one l arg i|each l arg e|None
-one l arg s|each l arg t|None
-one all all|many all all|None
-one l arg b|each l arg e|Some(4)
-one l arg e|each l arg e|Some(4)
-one l arg i|each l arg i|Some(5)
-one l arg i|each l arg f|Some(5)
-one l arg i|many l arg d|None
-one l arg i|one l arg d|Some(5)
-each l arg e|each l arg e|Some(4)
-one l arg i|via l arg i l c|None
-one l arg i|via l arg b l c|Some(5)";
+const TYPED_LINES: &str = "bindings 1\r
+loader l t by c fold
+loader all t
+field Query.a one l arg i
+field  Query.as  each l arg e \r
+";
 
-/// The bad line of a text with these forms.
-fn bad_form(alloc: Global, schema: &Schema, one: &str, list: &str) -> Result<String, Fail> {
-    let text = format!(in alloc;
-        "bindings 1\r\nloader l t by c fold\nloader all t\nfield Query.a {one}\nfield  Query.as  {list} \r\n"
-    )?;
-    bad_line(alloc, schema, &text)
-}
+/// A form for a composite, or one for a list of them.
+const FORMS: &[Case] = &[
+    (0, "", "None"),
+    (4, "field Query.a one l arg s", "None"),
+    (5, "field Query.as each l arg t", "None"),
+    (4, "field Query.a one all all", "None"),
+    (5, "field Query.as many all all", "None"),
+    (4, "field Query.a one l arg b", "Some(BadBinding(4))"),
+    (4, "field Query.a one l arg e", "Some(BadBinding(4))"),
+    (5, "field Query.as each l arg i", "Some(BadBinding(5))"),
+    (5, "field Query.as each l arg f", "Some(BadBinding(5))"),
+    (5, "field Query.as many l arg d", "None"),
+    (5, "field Query.as one l arg d", "Some(BadBinding(5))"),
+    (4, "field Query.a each l arg e", "Some(BadBinding(4))"),
+    (5, "field Query.as via l arg i l c", "None"),
+    (5, "field Query.as via l arg b l c", "Some(BadBinding(5))"),
+];
 
-#[test]
-fn types_of_fields_and_arguments(rt: HostRuntime) -> Result<(), Fail> {
-    let schema = Schema::read(rt.alloc(), TYPED)?;
-    for case in FORMS.lines() {
-        let (one, list, wanted) = parts(case);
-        let found = bad_form(rt.alloc(), &schema, one, list)?;
-        expect(&rt, &found, wanted, case);
-    }
-    Ok(())
-}
+/// A field of the root, which has no row.
+const OF_THE_ROOT: &[Case] = &[(2, "field Query.n column n", "Some(BadBinding(2))")];
 
-/// A schema, the lines after the first, which slashes separate, and the bad line.
-const UNBOUND: &str = "type Query{n:Int}|field Query.n column n|Some(2)
-type Query{a:A} type A{names:[String]}|loader l t/field Query.a one l all|Some(0)
-type Query{a:A} type A{names:[String]}|loader l t/field Query.a one l all/field A.names column n|Some(4)";
+/// A field of a list of leaves, for which there is no form.
+const OF_LEAVES: &[Case] = &[
+    (0, "", "Some(BadBinding(0))"),
+    (4, "field A.names column n", "Some(BadBinding(4))"),
+];
 
-/// The bad line of a schema and such lines.
-fn bad_unbound(alloc: Global, schema: &str, lines: &str) -> Result<String, Fail> {
-    let schema = Schema::read(alloc, schema)?;
-    let mut text = String::from_str(alloc, "bindings 1")?;
-    for line in lines.split('/') {
-        text.push('\n')?;
-        text.push_str(line)?;
-    }
-    bad_line(alloc, &schema, &text)
-}
+/// A text without lines.
+const NO_LINES: &[Case] = &[(0, "", "Some(BadBinding(0))")];
 
-#[test]
-fn fields_that_no_line_can_bind(rt: HostRuntime) -> Result<(), Fail> {
-    for case in UNBOUND.lines() {
-        let (schema, lines, wanted) = parts(case);
-        let found = bad_unbound(rt.alloc(), schema, lines)?;
-        expect(&rt, &found, wanted, case);
-    }
-    Ok(())
-}
+/// A schema with a text of bindings, and cases of it.
+const TEXTS: &[(&str, &str, &[Case])] = &[
+    (SAMPLE, LINES, CASES),
+    (TYPED, TYPED_LINES, FORMS),
+    ("type Query{n:Int}", "bindings 1\n", OF_THE_ROOT),
+    (
+        "type Query{a:A} type A{names:[String]}",
+        "bindings 1\nloader l t\nfield Query.a one l all\n",
+        OF_LEAVES,
+    ),
+    (SAMPLE, "", NO_LINES),
+];
 
 #[test]
-fn a_text_without_lines(rt: HostRuntime) -> Result<(), Fail> {
-    let schema = Schema::read(rt.alloc(), SAMPLE)?;
-    let found = bad_line(rt.alloc(), &schema, "")?;
-    expect(&rt, &found, "Some(0)", "no line");
+fn a_line_that_breaks_a_rule_is_the_bad_one(rt: HostRuntime) -> Result<(), Fail> {
+    for (schema, lines, cases) in TEXTS {
+        let schema = Schema::read(rt.alloc(), schema)?;
+        for (number, line, wanted) in *cases {
+            let found = fault(rt.alloc(), &schema, lines, *number, line)?;
+            expect(&rt, &found, wanted, line);
+        }
+    }
     Ok(())
 }
