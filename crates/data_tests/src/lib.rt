@@ -8,12 +8,15 @@ mod memory;
 #[cfg(test)]
 mod queue;
 #[cfg(test)]
-mod rows;
-#[cfg(test)]
 mod tables;
 
-/// A text is the wanted one. One function for every test, since each assertion is dear to prove.
+/// A text is there and is the wanted one. One function for every test, since each assertion is dear to prove, and so is each
+/// way out of a test.
 #[cfg(test)]
-fn expect(rt: &impl std::process::Abort, found: &str, wanted: &str, case: &str) {
+fn expect<E>(rt: &impl std::process::Abort, found: &Result<String, E>, wanted: &str, case: &str) {
+    let found = match found {
+        Ok(text) => text.as_str(),
+        Err(_) => "no text",
+    };
     assert_eq!(rt; found, wanted, "{case}");
 }

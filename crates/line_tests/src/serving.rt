@@ -1,36 +1,30 @@
 //! Readers and writers that fail, and how lines are cut.
 
+use crate::expect;
 use line_serving::{Answerer, Counted, NoMemory, ServeFault, serve};
-use std::alloc::Global;
+use std::alloc::{AllocGlobal, Global};
 use std::io::{self, Error, ErrorKind, Read, Write};
+use std::process::Abort;
 use std::test::Fail;
-
-/// Answers a line by itself, or by `?` where it is no text.
-#[derive(Drop)]
-struct Echo;
-
-impl Answerer for Echo {
-    ghost answered_by = { λ _ _ _. Unit {0} };
-
-    fn answer(&self, alloc: Global, line: &[u8]) -> Result<String, NoMemory> {
-        match str::from_utf8(line) {
-            Ok(text) => Ok(String::from_str(alloc, text)?),
-            Err(_) => Ok(String::from_str(alloc, "?")?),
-        }
-    }
-}
-
-/// Answers each line by 40 bytes.
-#[derive(Drop)]
-struct Fixed;
 
 const REFUSAL: &str = "{\"errors\":[{\"message\":\"not a request\"}]}";
 
-impl Answerer for Fixed {
+/// Answers each line by a text, if there is one; otherwise by itself, or by `?` where it is no text.
+#[derive(Drop)]
+struct Answers {
+    fixed: Option<&'static str>,
+}
+
+impl Answerer for Answers {
     ghost answered_by = { λ _ _ _. Unit {0} };
 
-    fn answer(&self, alloc: Global, _line: &[u8]) -> Result<String, NoMemory> {
-        Ok(String::from_str(alloc, REFUSAL)?)
+    fn answer(&self, alloc: Global, line: &[u8]) -> Result<String, NoMemory> {
+        let text = match (self.fixed, str::from_utf8(line)) {
+            (Some(text), _) => text,
+            (None, Ok(text)) => text,
+            (None, Err(_)) => "?",
+        };
+        Ok(String::from_str(alloc, text)?)
     }
 }
 
@@ -60,10 +54,11 @@ impl Read for Slow<'_> {
     }
 }
 
-/// Takes one byte per call and fails at one call, or at the flush.
+/// Takes at most so many bytes per call and fails at one call, or at the flush.
 #[derive(Drop)]
 struct Narrow {
     bytes: Vec<u8>,
+    takes: usize,
     calls: u32,
     fails: u32,
     kind: ErrorKind,
@@ -72,9 +67,10 @@ struct Narrow {
 }
 
 impl Narrow {
-    fn new(alloc: Global, fails: u32, kind: ErrorKind) -> Narrow {
+    fn new(alloc: Global, takes: usize, fails: u32, kind: ErrorKind) -> Narrow {
         Narrow {
             bytes: Vec::new(alloc),
+            takes,
             calls: 0,
             fails,
             kind,
@@ -90,13 +86,13 @@ impl Write for Narrow {
         if self.calls == self.fails {
             return Err(Error::from(self.kind));
         }
-        match buf.first() {
-            Some(byte) => {
-                self.bytes.push(*byte)?;
-                Ok(1)
-            }
-            None => Ok(0),
-        }
+        let n = if buf.len() < self.takes {
+            buf.len()
+        } else {
+            self.takes
+        };
+        self.bytes.extend_from_slice(&buf[..n])?;
+        Ok(n)
     }
 
     fn flush(&mut self) -> io::Result<()> {
@@ -104,20 +100,6 @@ impl Write for Narrow {
         if self.flush_fails {
             return Err(Error::from(self.kind));
         }
-        Ok(())
-    }
-}
-
-/// Takes no byte.
-#[derive(Drop)]
-struct Full;
-
-impl Write for Full {
-    fn write(&mut self, _buf: &[u8]) -> io::Result<usize> {
-        Ok(0)
-    }
-
-    fn flush(&mut self) -> io::Result<()> {
         Ok(())
     }
 }
@@ -147,34 +129,45 @@ impl Read for Spaces<'_> {
     }
 }
 
-// What is written for an input, and what serving answers.
-fn served<A: Answerer>(
+/// What serving answers, and the faults of the reader and of the writer.
+type Told = (Result<u64, ServeFault>, u64, u64);
+
+fn served<R: Read + Drop>(
     alloc: Global,
-    answerer: &A,
-    mut input: &[u8],
-) -> (Result<u64, ServeFault>, Vec<u8>) {
-    let mut out = Vec::new(alloc);
-    let mut reader = Counted::new(&mut input);
-    let mut writer = Counted::new(&mut out);
-    let result = serve(alloc, answerer, &mut reader, &mut writer);
+    fixed: Option<&'static str>,
+    reader: R,
+    narrow: &mut Narrow,
+) -> Told {
+    let answers = Answers { fixed };
+    let mut reader = Counted::new(reader);
+    let mut writer = Counted::new(narrow);
+    let result = serve(alloc, &answers, &mut reader, &mut writer);
+    let faults = writer.faults();
     drop(writer);
-    (result, out)
+    (result, reader.faults(), faults)
 }
+
+/// So many lines are answered by themselves, and this is written, by a writer that takes all at once.
+fn expect_lines<R: AllocGlobal + Abort>(rt: &R, input: &[u8], lines: u64, want: &[u8]) {
+    let mut writer = Narrow::new(rt.alloc(), usize::MAX, 0, ErrorKind::Other);
+    let told = served(rt.alloc(), None, input, &mut writer);
+    let is_so = told == (Ok(lines), 0, 0) && writer.bytes.as_slice() == want;
+    assert!(rt; is_so, "{lines}");
+}
+
+/// Inputs, how many lines they have, and what is written.
+const INPUTS: &[(&[u8], u64, &[u8])] = &[
+    (b"a\n\r\n\nb \xffc", 4, b"a\n\r\n\n?\n"),
+    (b"a\n", 1, b"a\n"),
+    (b"\n", 1, b"\n"),
+    (b"", 0, b""),
+];
 
 #[test]
 fn lines_end_at_line_feeds_and_at_the_end(rt: HostRuntime) {
-    let (result, out) = served(rt.alloc(), &Echo, b"a\n\r\n\nb \xffc");
-    assert!(rt; result == Ok(4));
-    assert_eq!(rt; out.as_slice(), b"a\n\r\n\n?\n".as_slice());
-    let (result, out) = served(rt.alloc(), &Echo, b"a\n");
-    assert!(rt; result == Ok(1));
-    assert_eq!(rt; out.as_slice(), b"a\n".as_slice());
-    let (result, out) = served(rt.alloc(), &Echo, b"\n");
-    assert!(rt; result == Ok(1));
-    assert_eq!(rt; out.as_slice(), b"\n".as_slice());
-    let (result, out) = served(rt.alloc(), &Echo, b"");
-    assert!(rt; result == Ok(0));
-    assert!(rt; out.is_empty());
+    for (input, lines, want) in INPUTS {
+        expect_lines(&rt, input, *lines, want);
+    }
 }
 
 // A text of at most four letters and line feeds, one for each number below 256.
@@ -196,7 +189,8 @@ fn small_input(alloc: Global, number: u32) -> Result<Vec<u8>, Fail> {
 #[test]
 fn small_inputs_are_cut_as_a_plain_program_cuts_them(rt: HostRuntime) -> Result<(), Fail> {
     for number in 0..256u32 {
-        let mut input = small_input(rt.alloc(), number)?;
+        let input = small_input(rt.alloc(), number)?;
+        let mut want = small_input(rt.alloc(), number)?;
         let mut lines = 0u64;
         let mut is_begun = false;
         for byte in &input {
@@ -205,13 +199,11 @@ fn small_inputs_are_cut_as_a_plain_program_cuts_them(rt: HostRuntime) -> Result<
                 lines = lines.saturating_add(1);
             }
         }
-        let (result, out) = served(rt.alloc(), &Echo, input.as_slice());
         if is_begun {
             lines = lines.saturating_add(1);
-            input.push(b'\n')?;
+            want.push(b'\n')?;
         }
-        assert!(rt; result == Ok(lines));
-        assert!(rt; out.as_slice() == input.as_slice());
+        expect_lines(&rt, input.as_slice(), lines, want.as_slice());
     }
     Ok(())
 }
@@ -223,136 +215,106 @@ fn long_outputs_keep_their_order(rt: HostRuntime) -> Result<(), Fail> {
         let line = format!(in rt.alloc(); "line {i}\n")?;
         input.push_str(line.as_str())?;
     }
-    let (result, out) = served(rt.alloc(), &Echo, input.as_bytes());
-    assert!(rt; result == Ok(30_000));
-    assert!(rt; out.as_slice() == input.as_bytes());
+    expect_lines(&rt, input.as_bytes(), 30_000, input.as_bytes());
     Ok(())
 }
 
-// Serves two lines from a reader that fails at a call: what is answered, the bytes written, and the reader's faults.
-fn from_slow(
-    rt: &HostRuntime,
-    fails: u32,
-    kind: ErrorKind,
-) -> (Result<u64, ServeFault>, usize, u64) {
-    let mut reader = Counted::new(Slow {
-        rest: b"[]\n[]\n",
-        calls: 0,
-        fails,
-        kind,
-    });
-    let mut out = Vec::new(rt.alloc());
-    let mut writer = Counted::new(&mut out);
-    let result = serve(rt.alloc(), &Fixed, &mut reader, &mut writer);
-    drop(writer);
-    (result, out.len(), reader.faults())
-}
+const FAILURES: &[(ErrorKind, bool)] = &[(ErrorKind::Other, false), (ErrorKind::Interrupted, true)];
 
+/// A reader of two lines fails at each call, or is interrupted there.
 #[test]
 fn a_reader_fails(rt: HostRuntime) {
-    for call in 1..8u32 {
-        let (result, written, faults) = from_slow(&rt, call, ErrorKind::Other);
-        assert!(rt; result == Err(ServeFault::ReadFault));
-        let lines = match call {
-            1..=3 => 0,
-            4..=6 => 1,
-            _ => 2,
-        };
-        assert_eq!(rt; written, lines * 41);
-        assert_eq!(rt; faults, 1);
-        let (result, written, faults) = from_slow(&rt, call, ErrorKind::Interrupted);
-        assert!(rt; result == Ok(2));
-        assert_eq!(rt; written, 82);
-        assert_eq!(rt; faults, 0);
+    for (kind, is_interrupted) in FAILURES {
+        for fails in 1..8u32 {
+            let reader = Slow {
+                rest: b"[]\n[]\n",
+                calls: 0,
+                fails,
+                kind: *kind,
+            };
+            let mut writer = Narrow::new(rt.alloc(), usize::MAX, 0, ErrorKind::Other);
+            let told = served(rt.alloc(), Some(REFUSAL), reader, &mut writer);
+            let want = if *is_interrupted {
+                (Ok(2), 0, 0)
+            } else {
+                (Err(ServeFault::ReadFault), 1, 0)
+            };
+            let written = match fails {
+                _ if *is_interrupted => 82,
+                1..=3 => 0,
+                4..=6 => 41,
+                _ => 82,
+            };
+            let is_so = told == want && writer.bytes.len() == written;
+            assert!(rt; is_so, "{fails} {is_interrupted}");
+        }
     }
 }
 
-// Serves two lines to a writer: what is answered, and the writer's faults.
-fn to_narrow(rt: &HostRuntime, narrow: &mut Narrow) -> (Result<u64, ServeFault>, u64) {
-    let mut input: &[u8] = b"[]\n[]\n";
-    let mut reader = Counted::new(&mut input);
-    let mut writer = Counted::new(narrow);
-    let result = serve(rt.alloc(), &Fixed, &mut reader, &mut writer);
-    let faults = writer.faults();
-    drop(writer);
-    (result, faults)
-}
-
+/// A writer fails at each byte of two lines, or is interrupted there. At no call, it fails or is interrupted at the flush.
 #[test]
 fn a_writer_fails(rt: HostRuntime) {
-    for call in 1..83u32 {
-        let mut narrow = Narrow::new(rt.alloc(), call, ErrorKind::Other);
-        let (result, faults) = to_narrow(&rt, &mut narrow);
-        assert!(rt; result == Err(ServeFault::WriteFault));
-        assert_eq!(rt; faults, 1);
-        assert_eq!(rt; narrow.bytes.len(), (call - 1) as usize);
-        let mut narrow = Narrow::new(rt.alloc(), call, ErrorKind::Interrupted);
-        let (result, faults) = to_narrow(&rt, &mut narrow);
-        assert!(rt; result == Ok(2));
-        assert_eq!(rt; faults, 0);
-        assert_eq!(rt; narrow.bytes.len(), 82);
-        assert_eq!(rt; narrow.flushes, 1);
-    }
-}
-
-#[test]
-fn a_flush_fails(rt: HostRuntime) {
-    for kind in [ErrorKind::Other, ErrorKind::Interrupted] {
-        let mut narrow = Narrow::new(rt.alloc(), 0, kind);
-        narrow.flush_fails = true;
-        let (result, faults) = to_narrow(&rt, &mut narrow);
-        assert!(rt; result == Err(ServeFault::WriteFault));
-        assert_eq!(rt; faults, 1);
-        assert_eq!(rt; narrow.bytes.len(), 82);
-        assert_eq!(rt; narrow.flushes, 1);
+    for (kind, is_interrupted) in FAILURES {
+        for call in 0..83usize {
+            let mut writer = Narrow::new(rt.alloc(), 1, call as u32, *kind);
+            writer.flush_fails = call == 0;
+            let told = served(
+                rt.alloc(),
+                Some(REFUSAL),
+                b"[]\n[]\n".as_slice(),
+                &mut writer,
+            );
+            let is_served = *is_interrupted && call != 0;
+            let want = if is_served {
+                (Ok(2), 0, 0)
+            } else {
+                (Err(ServeFault::WriteFault), 0, 1)
+            };
+            let is_whole = is_served || call == 0;
+            let written = if is_whole { 82 } else { call.saturating_sub(1) };
+            let is_flushed = writer.flushes == 1 || !is_whole;
+            let is_so = told == want && writer.bytes.len() == written && is_flushed;
+            assert!(rt; is_so, "{call} {is_interrupted}");
+        }
     }
 }
 
 #[test]
 fn a_writer_takes_no_byte(rt: HostRuntime) {
-    let mut input: &[u8] = b"[]\n";
-    let mut reader = Counted::new(&mut input);
-    let mut writer = Counted::new(Full);
-    let result = serve(rt.alloc(), &Fixed, &mut reader, &mut writer);
-    assert!(rt; result == Err(ServeFault::WriteFault));
-    assert_eq!(rt; writer.faults(), 1);
+    let mut writer = Narrow::new(rt.alloc(), 0, 0, ErrorKind::Other);
+    let told = served(rt.alloc(), Some(REFUSAL), b"[]\n".as_slice(), &mut writer);
+    assert!(rt; told == (Err(ServeFault::WriteFault), 0, 1));
 }
+
+/// How many bytes a second line has, what is answered, and how much is written.
+const LONG_LINES: &[(usize, Told, usize)] = &[
+    (4_194_304, (Ok(2), 0, 0), 82),
+    (4_194_305, (Err(ServeFault::LineTooLong), 0, 0), 41),
+];
 
 #[test]
 fn a_line_has_at_most_four_mebibytes(rt: HostRuntime) {
-    for over in 0..2usize {
-        let mut reader = Counted::new(Spaces {
+    for (left, want, written) in LONG_LINES {
+        let reader = Spaces {
             text: b"[]\n",
-            left: 4_194_304 + over,
-        });
-        let mut narrow = Narrow::new(rt.alloc(), 0, ErrorKind::Other);
-        let mut writer = Counted::new(&mut narrow);
-        let result = serve(rt.alloc(), &Fixed, &mut reader, &mut writer);
-        drop(writer);
-        if over == 0 {
-            assert!(rt; result == Ok(2));
-            assert_eq!(rt; narrow.bytes.len(), 82);
-        } else {
-            assert!(rt; result == Err(ServeFault::LineTooLong));
-            assert_eq!(rt; narrow.bytes.len(), 41);
-        }
-        assert_eq!(rt; narrow.flushes, 1);
-        assert_eq!(rt; reader.faults(), 0);
+            left: *left,
+        };
+        let mut writer = Narrow::new(rt.alloc(), 1, 0, ErrorKind::Other);
+        let told = served(rt.alloc(), Some(REFUSAL), reader, &mut writer);
+        let is_so = told == *want && writer.bytes.len() == *written && writer.flushes == 1;
+        assert!(rt; is_so, "{left}");
     }
 }
 
 #[test]
-fn faults_are_printed_with_their_codes(rt: HostRuntime) -> Result<(), Fail> {
+fn faults_are_printed_with_their_codes(rt: HostRuntime) {
     let printed = format!(in rt.alloc();
         "{}, {}, {}, {}",
         ServeFault::LineTooLong,
         ServeFault::ReadFault,
         ServeFault::WriteFault,
         ServeFault::NoMemory
-    )?;
-    assert_eq!(rt;
-        printed.as_str(),
-        "X1 LineTooLong, X2 ReadFault, X3 WriteFault, X4 NoMemory"
     );
-    Ok(())
+    let want = "X1 LineTooLong, X2 ReadFault, X3 WriteFault, X4 NoMemory";
+    expect(&rt, &printed, want, "codes");
 }

@@ -1,5 +1,6 @@
 //! Texts of answers and refusals, beside a plain writer.
 
+use crate::expect;
 use answer_json::{FieldError, PathPart, Response, write_answer, write_refusal};
 use gq_lexer::Place;
 use std::alloc::{AllocError, Global};
@@ -92,33 +93,34 @@ fn plain_members(alloc: Global, members: &Vec<(String, Response)>) -> Result<Str
     Ok(out)
 }
 
+/// An object of a list, with a value as a text and as names.
+fn sample(alloc: Global, value: &str) -> Result<Response, AllocError> {
+    let items = vec![in alloc;
+        Response::Text(text(alloc, value)?),
+        Response::Int(-7),
+        object(alloc, value, Response::List(Vec::new(alloc)))?,
+        Response::Null,
+    ]?;
+    let members = vec![in alloc;
+        (text(alloc, "b")?, Response::List(items)),
+        (text(alloc, value)?, Response::Bool(true)),
+        (text(alloc, "a")?, Response::Object(Vec::new(alloc))),
+    ]?;
+    Ok(Response::Object(members))
+}
+
 #[test]
 fn a_plain_writer_agrees(rt: HostRuntime) -> Result<(), Fail> {
-    let alloc = rt.alloc();
     for value in [
         "",
         "a",
         "\"\\/",
         "\u{0}\u{1}\u{7}\u{8}\t\n\u{b}\u{c}\r\u{e}\u{1f} \u{7f}\u{80}é\u{2028}\u{ffff}\u{1F600}",
     ] {
-        let items = vec![in alloc;
-            Response::Text(text(alloc, value)?),
-            Response::Int(-7),
-            object(alloc, value, Response::List(Vec::new(alloc)))?,
-            Response::Null,
-        ]?;
-        let members = vec![in alloc;
-            (text(alloc, "b")?, Response::List(items)),
-            (text(alloc, value)?, Response::Bool(true)),
-            (text(alloc, "a")?, Response::Object(Vec::new(alloc))),
-        ]?;
-        let response = Response::Object(members);
-        let data = plain(alloc, &response)?;
-        let want = format!(in alloc; "{{\"data\":{data}}}")?;
-        assert_eq!(rt;
-            write_answer(alloc, &response, &[])?.as_str(),
-            want.as_str()
-        );
+        let response = sample(rt.alloc(), value)?;
+        let data = plain(rt.alloc(), &response)?;
+        let want = format!(in rt.alloc(); "{{\"data\":{data}}}")?;
+        expect(&rt, &write_answer(rt.alloc(), &response, &[]), &want, value);
     }
     Ok(())
 }
@@ -126,31 +128,39 @@ fn a_plain_writer_agrees(rt: HostRuntime) -> Result<(), Fail> {
 #[test]
 fn responses(rt: HostRuntime) -> Result<(), Fail> {
     let alloc = rt.alloc();
-    let title = text(alloc, "a\"b\nc\u{1}\u{1F600}")?;
-    let escapes = text(alloc, "\\\u{8}\t\u{c}\r\u{1f}\u{7f}/é")?;
-    for (response, want) in [
-        (Response::Null, "{\"data\":null}"),
-        (
-            object(alloc, "title", Response::Text(title))?,
-            "{\"data\":{\"title\":\"a\\\"b\\nc\\u0001\u{1F600}\"}}",
-        ),
-        (
-            Response::Text(escapes),
-            "{\"data\":\"\\\\\\b\\t\\f\\r\\u001f\u{7f}/é\"}",
-        ),
-        (Response::List(Vec::new(alloc)), "{\"data\":[]}"),
-        (Response::Object(Vec::new(alloc)), "{\"data\":{}}"),
-        (
-            Response::List(vec![in alloc;
-                Response::Int(-2147483648),
-                Response::Bool(true),
-                Response::Bool(false),
-            ]?),
-            "{\"data\":[-2147483648,true,false]}",
-        ),
-    ] {
-        assert_eq!(rt; write_answer(alloc, &response, &[])?.as_str(), want);
-    }
+    let null = write_answer(alloc, &Response::Null, &[]);
+    expect(&rt, &null, "{\"data\":null}", "null");
+    let title = object(
+        alloc,
+        "title",
+        Response::Text(text(alloc, "a\"b\nc\u{1}\u{1F600}")?),
+    )?;
+    expect(
+        &rt,
+        &write_answer(alloc, &title, &[]),
+        "{\"data\":{\"title\":\"a\\\"b\\nc\\u0001\u{1F600}\"}}",
+        "a title",
+    );
+    drop(title);
+    let escapes = Response::Text(text(alloc, "\\\u{8}\t\u{c}\r\u{1f}\u{7f}/é")?);
+    expect(
+        &rt,
+        &write_answer(alloc, &escapes, &[]),
+        "{\"data\":\"\\\\\\b\\t\\f\\r\\u001f\u{7f}/é\"}",
+        "escapes",
+    );
+    drop(escapes);
+    let list = write_answer(alloc, &Response::List(Vec::new(alloc)), &[]);
+    expect(&rt, &list, "{\"data\":[]}", "a list");
+    let object = write_answer(alloc, &Response::Object(Vec::new(alloc)), &[]);
+    expect(&rt, &object, "{\"data\":{}}", "an object");
+    let items = vec![in alloc;
+        Response::Int(-2147483648),
+        Response::Bool(true),
+        Response::Bool(false),
+    ]?;
+    let items = write_answer(alloc, &Response::List(items), &[]);
+    expect(&rt, &items, "{\"data\":[-2147483648,true,false]}", "items");
     Ok(())
 }
 
@@ -166,9 +176,11 @@ fn members_stay_in_order(rt: HostRuntime) -> Result<(), Fail> {
         "users",
         Response::List(vec![in alloc; Response::Object(members)]?),
     )?;
-    assert_eq!(rt;
-        write_answer(alloc, &users, &[])?.as_str(),
-        "{\"data\":{\"users\":[{\"name\":0,\"id\":null}]}}"
+    expect(
+        &rt,
+        &write_answer(alloc, &users, &[]),
+        "{\"data\":{\"users\":[{\"name\":0,\"id\":null}]}}",
+        "two members",
     );
     Ok(())
 }
@@ -185,28 +197,28 @@ fn errors_come_first(rt: HostRuntime) -> Result<(), Fail> {
         error(alloc, "null where the type is non-null", 8, path)?,
         error(alloc, "no \"x\"", 4294967295, Vec::new(alloc))?,
     ];
-    assert_eq!(rt;
-        write_answer(alloc, &Response::Null, &errors)?.as_str(),
-        "{\"errors\":[{\"message\":\"null where the type is non-null\",\"locations\":[{\"line\":1,\"column\":8}],\"path\":[\"users\",3,\"name\"]},{\"message\":\"no \\\"x\\\"\",\"locations\":[{\"line\":1,\"column\":4294967295}],\"path\":[]}],\"data\":null}"
+    expect(
+        &rt,
+        &write_answer(alloc, &Response::Null, &errors),
+        "{\"errors\":[{\"message\":\"null where the type is non-null\",\"locations\":[{\"line\":1,\"column\":8}],\"path\":[\"users\",3,\"name\"]},{\"message\":\"no \\\"x\\\"\",\"locations\":[{\"line\":1,\"column\":4294967295}],\"path\":[]}],\"data\":null}",
+        "two errors",
     );
     Ok(())
 }
 
 #[test]
-fn refusals(rt: HostRuntime) -> Result<(), Fail> {
-    let alloc = rt.alloc();
-    assert_eq!(rt;
-        write_refusal(
-            alloc,
-            "unexpected token",
-            Some(Place { line: 1, column: 2 })
-        )?
-        .as_str(),
-        "{\"errors\":[{\"message\":\"unexpected token\",\"locations\":[{\"line\":1,\"column\":2}]}]}"
+fn refusals(rt: HostRuntime) {
+    let place = Place { line: 1, column: 2 };
+    expect(
+        &rt,
+        &write_refusal(rt.alloc(), "unexpected token", Some(place)),
+        "{\"errors\":[{\"message\":\"unexpected token\",\"locations\":[{\"line\":1,\"column\":2}]}]}",
+        "a place",
     );
-    assert_eq!(rt;
-        write_refusal(alloc, "not a request", None)?.as_str(),
-        "{\"errors\":[{\"message\":\"not a request\"}]}"
+    expect(
+        &rt,
+        &write_refusal(rt.alloc(), "not a request", None),
+        "{\"errors\":[{\"message\":\"not a request\"}]}",
+        "no place",
     );
-    Ok(())
 }
