@@ -7,6 +7,7 @@ use load_memory::{Cell, Item, Key, KeyMode, NoMemory, Row, Sheet};
 use load_queue::{PerKey, Source};
 use std::alloc::{AllocError, Global};
 use std::io::{self, Read};
+use std::marker::{Send, Sync};
 use std::test::Fail;
 
 const USERS: &[u8] = b"id,name,best\n1,Ada,2\n2,Bob,1\n3,Cy,\n4,,1\n";
@@ -181,11 +182,15 @@ fn quoted_fields(rt: HostRuntime) -> Result<(), Fail> {
     Ok(())
 }
 
+/// No clause says that threads may share a row.
+fn is_shared_by_threads<T: Send + Sync>(_: &T) {}
+
 /// The texts of a column in copies of rows, each ended by a `;`, with `-` for null.
 fn column_of(alloc: Global, rows: &[Row], column: &str) -> Result<String, AllocError> {
     let mut texts = String::new(alloc);
     for row in rows {
         let copy = row.clone()?;
+        is_shared_by_threads(&copy);
         texts.push_str(match copy.get(column) {
             Cell::Text(text) => text,
             Cell::Null => "-",
@@ -261,12 +266,17 @@ fn users_by_source(rt: HostRuntime) -> Result<(), Fail> {
         let fault = CsvSource::by(rt.alloc(), &users, column, *mode).err();
         assert!(rt; fault == Some(TableFault::NoSuchColumn), "{column}");
     }
-    let by_name = CsvSource::by(rt.alloc(), &users, "name", KeyMode::FoldAscii)?;
-    let found = fetched(rt.alloc(), &by_name, &["ADA", ""], "id");
-    expect(&rt, &found, "|1;||", "two texts and all");
-    let index = ColumnIndex::new(rt.alloc(), &users, "best", KeyMode::Exact)?;
-    let found = fetched(rt.alloc(), &CsvSource::of_index(&index), &["1"], "name");
-    expect(&rt, &found, "|Bob;-;|", "an index");
+    {
+        let by_name = CsvSource::by(rt.alloc(), &users, "name", KeyMode::FoldAscii)?;
+        let found = fetched(rt.alloc(), &by_name, &["ADA", ""], "id");
+        expect(&rt, &found, "|1;||", "two texts and all");
+    }
+    {
+        let index = ColumnIndex::new(rt.alloc(), &users, "best", KeyMode::Exact)?;
+        let by_best = CsvSource::of_index(&index);
+        let found = fetched(rt.alloc(), &by_best, &["1"], "name");
+        expect(&rt, &found, "|Bob;-;|", "an index");
+    }
     let all = CsvSource::all(&users);
     assert!(rt; all.mode() == KeyMode::Exact);
     let found = fetched(rt.alloc(), &all, &["1"], "id");
