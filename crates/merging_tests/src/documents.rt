@@ -1,10 +1,11 @@
 //! What the rule tells of documents.
+use crate::expect;
 use document_parts::{Broken, BrokenName, Parts, condition_arguments};
 use field_merging::field_merging;
 use gq_parser::parse;
 use gq_schema::Schema;
 use spread_graph::Graph;
-use std::alloc::Global;
+use std::alloc::{AllocError, Global};
 use std::test::Fail;
 
 mod slow;
@@ -118,98 +119,99 @@ const DOCUMENTS: &[(&str, &str)] = &[
         "name 1:5",
     ),
     ("{dog{a: name a: name a: nickname}}", "a 1:5"),
+    // Fields of no definition, which may differ in their arguments alone.
+    ("{a(command: SIT) a(command: SIT)}", "kept"),
+    ("{a(command: SIT) a(command: HEEL)}", "a 1:1"),
+    ("{a(command: $one) a(command: $one)}", "kept"),
+    ("{a(command: SIT) a(command: $command)}", "a 1:1"),
+    ("{a(command: SIT) a}", "a 1:1"),
+    ("{a a}", "kept"),
+    ("{a(x: 1, y: 2) a(y: 2, x: 1)}", "kept"),
+    ("{a(x: 1) a(x: 1, y: 2)}", "a 1:1"),
+    ("{a(x: 1) a(y: 1)}", "a 1:1"),
+    ("{a(x: \"A\") a(x: \"\\u0041\")}", "kept"),
+    ("{a(x: \"A\") a(x: \"\"\"A\"\"\")}", "kept"),
+    ("{a(x: [1, {y: null}]) a(x: [1 {y: null}])}", "kept"),
+    ("{a(x: [1, 2]) a(x: [2, 1])}", "a 1:1"),
+    ("{a(x: [1, 2]) a(x: [1])}", "a 1:1"),
+    ("{a(x: {y: true}) a(x: {y: false})}", "a 1:1"),
+    ("{a(x: {y: 1}) a(x: {z: 1})}", "a 1:1"),
+    ("{a(x: 1) a(x: \"1\")}", "a 1:1"),
+    ("{a(x: $y) a(x: y)}", "a 1:1"),
+    ("{a(x: 1)}", "kept"),
+];
+
+// Documents after their first `{` and so many fields, with what is told of each by the real program. Of a fragment that reaches
+// itself, and of more fields than the table has room for, want of memory is told, though there is some.
+const LIMITS: &[(usize, &str, &str)] = &[
+    (
+        0,
+        "dog{...F}} fragment F on Dog{mother{...G}} fragment G on Dog{name}",
+        "kept",
+    ),
+    (
+        0,
+        "dog{...F}} fragment F on Dog{mother{...F}}",
+        "out of reach",
+    ),
+    (
+        0,
+        "dog{name}} fragment F on Dog{...G} fragment G on Dog{...F}",
+        "out of reach",
+    ),
+    (1024, "}", "kept"),
+    (1025, "}", "out of reach"),
 ];
 
 // How it is printed, with its place.
-fn printed(alloc: Global, broken: Option<Broken>) -> Result<String, Fail> {
-    let Some(broken) = broken else {
-        return Ok(String::from_str(alloc, "kept")?);
+fn printed(alloc: Global, told: Result<Option<Broken>, AllocError>) -> Result<String, AllocError> {
+    let broken = match told {
+        Ok(Some(broken)) => broken,
+        Ok(None) => return String::from_str(alloc, "kept"),
+        Err(_) => return String::from_str(alloc, "out of reach"),
     };
     let name = match broken.name {
         BrokenName::Plain(name) => name,
         BrokenName::Variable(name) => name,
     };
     let place = broken.place;
-    Ok(format!(in alloc; "{name} {}:{}", place.line, place.column)?)
+    format!(in alloc; "{name} {}:{}", place.line, place.column)
 }
 
-// What is told of a document.
-fn told(alloc: Global, schema: &Schema, text: &str) -> Result<String, Fail> {
+// What is told of a document by the real program or by the slow one.
+fn told(alloc: Global, schema: &Schema, text: &str, slowly: bool) -> Result<String, AllocError> {
     let condition = condition_arguments(alloc)?;
-    let document = parse(alloc, text)?;
+    let Ok(document) = parse(alloc, text) else {
+        return String::from_str(alloc, "no document");
+    };
     let parts = Parts::new(alloc, schema, &condition, &document)?;
+    if slowly {
+        return printed(alloc, Ok(slow::field_merging(&parts)));
+    }
     let graph = Graph::new(alloc, &parts)?;
-    printed(alloc, field_merging(alloc, &parts, &graph)?)
+    printed(alloc, field_merging(alloc, &parts, &graph))
+}
+
+// A `{` and so many fields before the rest of a document.
+fn with_fields(alloc: Global, fields: usize, rest: &str) -> Result<String, AllocError> {
+    let mut text = String::from_str(alloc, "{")?;
+    for _ in 0..fields {
+        text.push_str("__typename ")?;
+    }
+    text.push_str(rest)?;
+    Ok(text)
 }
 
 #[test]
 fn documents(rt: HostRuntime) -> Result<(), Fail> {
-    let alloc = rt.alloc();
-    let schema = Schema::read(alloc, SCHEMA)?;
+    let schema = Schema::read(rt.alloc(), SCHEMA)?;
     for (text, want) in DOCUMENTS {
-        let found = told(alloc, &schema, text)?;
-        assert_eq!(rt; found.as_str(), *want, "{text}");
+        expect(&rt, &told(rt.alloc(), &schema, text, false), want, text);
+        expect(&rt, &told(rt.alloc(), &schema, text, true), want, text);
     }
-    Ok(())
-}
-
-// The same by a slow program.
-#[test]
-fn documents_beside_the_slow_program(rt: HostRuntime) -> Result<(), Fail> {
-    let alloc = rt.alloc();
-    let schema = Schema::read(alloc, SCHEMA)?;
-    let condition = condition_arguments(alloc)?;
-    for (text, want) in DOCUMENTS {
-        let document = parse(alloc, text)?;
-        let parts = Parts::new(alloc, &schema, &condition, &document)?;
-        let found = printed(alloc, slow::field_merging(alloc, &parts)?)?;
-        assert_eq!(rt; found.as_str(), *want, "{text}");
-    }
-    Ok(())
-}
-
-// Whether a document is told to want memory, though there is some.
-fn is_out_of_reach(alloc: Global, schema: &Schema, text: &str) -> Result<bool, Fail> {
-    let condition = condition_arguments(alloc)?;
-    let document = parse(alloc, text)?;
-    let parts = Parts::new(alloc, schema, &condition, &document)?;
-    let graph = Graph::new(alloc, &parts)?;
-    Ok(field_merging(alloc, &parts, &graph).is_err())
-}
-
-#[test]
-fn fragments_that_reach_themselves(rt: HostRuntime) -> Result<(), Fail> {
-    let alloc = rt.alloc();
-    let schema = Schema::read(alloc, SCHEMA)?;
-    for (text, want) in [
-        (
-            "{dog{...F}} fragment F on Dog{mother{...G}} fragment G on Dog{name}",
-            false,
-        ),
-        ("{dog{...F}} fragment F on Dog{mother{...F}}", true),
-        (
-            "{dog{name}} fragment F on Dog{...G} fragment G on Dog{...F}",
-            true,
-        ),
-    ] {
-        let found = is_out_of_reach(alloc, &schema, text)?;
-        assert_eq!(rt; found, want, "{text}");
-    }
-    Ok(())
-}
-
-#[test]
-fn a_thousand_fields(rt: HostRuntime) -> Result<(), Fail> {
-    let alloc = rt.alloc();
-    let schema = Schema::read(alloc, SCHEMA)?;
-    for (fields, want) in [(1024, false), (1025, true)] {
-        let mut text = String::from_str(alloc, "{")?;
-        for _ in 0..fields {
-            text.push_str("__typename ")?;
-        }
-        text.push('}')?;
-        let found = is_out_of_reach(alloc, &schema, &text)?;
-        assert_eq!(rt; found, want, "{fields} fields");
+    for (fields, rest, want) in LIMITS {
+        let text = with_fields(rt.alloc(), *fields, rest)?;
+        expect(&rt, &told(rt.alloc(), &schema, &text, false), want, rest);
     }
     Ok(())
 }

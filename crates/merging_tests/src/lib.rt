@@ -4,8 +4,17 @@
 #![tactic(auto)]
 
 #[cfg(test)]
-mod arguments;
-#[cfg(test)]
 mod documents;
 #[cfg(test)]
 mod members;
+
+/// A text is there and is the wanted one. One function for every test, since each assertion is dear to prove, and so is each
+/// way out of a test.
+#[cfg(test)]
+fn expect<E>(rt: &impl std::process::Abort, found: &Result<String, E>, wanted: &str, case: &str) {
+    let found = match found {
+        Ok(text) => text.as_str(),
+        Err(_) => "no text",
+    };
+    assert_eq!(rt; found, wanted, "{case}");
+}

@@ -2,6 +2,7 @@
 ghost use Rattle.std.specs.Prelude.{◌<◌, ◌≤◌, ℕ, length, IsTrue};
 ghost use Rattle.selection_members.specs.Walks.{to};
 
+use crate::expect;
 use field_merging::operation_fields;
 use gq_parser::{SelectionSet, parse};
 use merge_table::{Field, Row, failing_keys, failing_pairs, is_in_order};
@@ -10,42 +11,6 @@ use selection_members::{
     known_fragments, reached_in,
 };
 use std::alloc::{AllocError, Global};
-use std::test::Fail;
-
-// Documents, and the number of the first field of each fragment.
-const STARTS: &[(&str, &[usize])] = &[
-    ("{a}", &[]),
-    ("{a b{c}} fragment F on T{d}", &[3]),
-    ("{... on T{a b}} fragment F on T{c}", &[2]),
-    (
-        "fragment F on T{c{d} ...G} query P{a ...F} fragment G on T{e} query Q{b}",
-        &[2, 4],
-    ),
-];
-
-#[test]
-fn fragments_start_after_operations(rt: HostRuntime) -> Result<(), Fail> {
-    let alloc = rt.alloc();
-    for (text, want) in STARTS {
-        let document = parse(alloc, text)?;
-        let first = operation_fields(&document.operations)?;
-        let starts = fragment_starts(alloc, first, &document.fragments)?;
-        assert_eq!(rt; starts.as_slice(), *want, "{text}");
-    }
-    Ok(())
-}
-
-#[test]
-fn the_first_of_a_name_counts(rt: HostRuntime) -> Result<(), Fail> {
-    let alloc = rt.alloc();
-    let text = "{a} fragment F on T{a} fragment G on T{b} fragment F on T{c}";
-    let document = parse(alloc, text)?;
-    let targets = fragment_targets(alloc, &document.fragments)?;
-    for (name, want) in [("F", Some(0)), ("G", Some(1)), ("H", None)] {
-        assert_eq!(rt; targets.get(name).copied(), want, "{name}");
-    }
-    Ok(())
-}
 
 struct Case {
     text: &'static str,
@@ -55,8 +20,9 @@ struct Case {
     numbers: &'static [usize],
     // The fragments, each after those that it spreads.
     order: &'static [usize],
-    // How many sets of the operation have two fields that fail, and the first of the operation's members whose key has such.
-    want: (usize, Option<usize>),
+    // The number of the first field of each fragment, how many sets of the operation have two fields that fail, and the first of
+    // the operation's members whose key has such.
+    want: &'static str,
 }
 
 const A: usize = 0;
@@ -65,20 +31,24 @@ const B: usize = 1;
 
 const C: usize = 2;
 
+const D: usize = 3;
+
+const E: usize = 4;
+
 const CASES: &[Case] = &[
     Case {
         text: "{a b}",
         fields: &[(A, A), (B, B)],
         numbers: &[0, 1],
         order: &[],
-        want: (0, None),
+        want: "[] 0 None",
     },
     Case {
         text: "{a b: c b}",
         fields: &[(B, B), (B, C), (A, A)],
         numbers: &[2, 1, 0],
         order: &[],
-        want: (1, Some(1)),
+        want: "[] 1 Some(1)",
     },
     // What a fragment has is met where it is spread.
     Case {
@@ -86,14 +56,14 @@ const CASES: &[Case] = &[
         fields: &[(B, B), (B, C), (A, A)],
         numbers: &[2, 1, 0],
         order: &[0],
-        want: (1, Some(2)),
+        want: "[2] 1 Some(2)",
     },
     Case {
         text: "{... on T{b} ...F} fragment F on T{a ...G} fragment G on T{b: c}",
         fields: &[(B, C), (A, A), (B, B)],
         numbers: &[2, 1, 0],
         order: &[1, 0],
-        want: (1, Some(0)),
+        want: "[1, 2] 1 Some(0)",
     },
     // A set inside another has the fields that fail too.
     Case {
@@ -101,7 +71,7 @@ const CASES: &[Case] = &[
         fields: &[(A, A), (B, B), (B, C)],
         numbers: &[0, 1, 2],
         order: &[],
-        want: (2, Some(1)),
+        want: "[] 2 Some(1)",
     },
     // The fragment is not entered.
     Case {
@@ -109,7 +79,51 @@ const CASES: &[Case] = &[
         fields: &[(A, A), (B, B), (B, C)],
         numbers: &[0, 1, 2],
         order: &[0],
-        want: (0, None),
+        want: "[2] 0 None",
+    },
+    // Fragments begin after operations, and what their fields have counts too.
+    Case {
+        text: "{a}",
+        fields: &[(A, A)],
+        numbers: &[0],
+        order: &[],
+        want: "[] 0 None",
+    },
+    Case {
+        text: "{a b{c}} fragment F on T{d}",
+        fields: &[(A, A), (B, B), (C, C), (D, D)],
+        numbers: &[0, 1, 2, 3],
+        order: &[0],
+        want: "[3] 0 None",
+    },
+    Case {
+        text: "{... on T{a b}} fragment F on T{c}",
+        fields: &[(A, A), (B, B), (C, C)],
+        numbers: &[0, 1, 2],
+        order: &[0],
+        want: "[2] 0 None",
+    },
+    Case {
+        text: "fragment F on T{c{d} ...G} query P{a ...F} fragment G on T{e} query Q{b}",
+        fields: &[(A, A), (B, B), (C, C), (D, D), (E, E)],
+        numbers: &[0, 1, 2, 3, 4],
+        order: &[1, 0],
+        want: "[2, 4] 0 None",
+    },
+    // The first fragment of a name is entered, and a name of none adds nothing.
+    Case {
+        text: "{b ...F ...H} fragment F on T{a} fragment G on T{b: c} fragment F on T{b: c}",
+        fields: &[(B, B), (A, A), (B, C), (B, C)],
+        numbers: &[0, 1, 2, 3],
+        order: &[0, 1, 2],
+        want: "[1, 2, 3] 0 None",
+    },
+    Case {
+        text: "{b ...G} fragment F on T{a} fragment G on T{b: c} fragment F on T{a}",
+        fields: &[(B, B), (A, A), (B, C), (A, A)],
+        numbers: &[0, 1, 2, 3],
+        order: &[0, 1, 2],
+        want: "[1, 2, 3] 1 Some(0)",
     },
 ];
 
@@ -141,14 +155,15 @@ fn are_below(numbers: &[usize], n: usize) -> bool
     true
 }
 
-// How many sets fail, a set and those inside it, and its first member whose response key has a field that fails.
+// How many sets fail, a set and those inside it, and its first member whose response key has a field that fails, after where
+// fragments begin.
 fn failing<'d>(
     alloc: Global,
     source: &Source<'_, 'd>,
     order: &[usize],
     fields: &[Field],
     set: &'d SelectionSet,
-) -> Result<(usize, Option<usize>), AllocError>
+) -> Result<String, AllocError>
     requires { length fields.now ≤ 1024 }
 {
     let known = known_fragments(alloc, source, order)?;
@@ -162,18 +177,20 @@ fn failing<'d>(
     add_clashing(&walk, set, 0, &mut clashing)?;
     let keys = failing_keys(fields, &reached_in(&walk, set, 0)?);
     let member = first_member(source, &known, &keys, ClashingSet { set, first: 0 })?;
-    Ok((clashing.len(), member))
+    format!(in alloc; "{:?} {} {member:?}", source.starts, clashing.len())
 }
 
-// What is found of a document. `None` outside is for fields that don't fit the table.
-fn found(alloc: Global, case: &Case) -> Result<Option<(usize, Option<usize>)>, Fail> {
-    let document = parse(alloc, case.text)?;
+// What is found of a document.
+fn found(alloc: Global, case: &Case) -> Result<String, AllocError> {
+    let Ok(document) = parse(alloc, case.text) else {
+        return String::from_str(alloc, "no document");
+    };
     let Some(operation) = document.operations.first() else {
-        return Ok(None);
+        return String::from_str(alloc, "no operation");
     };
     let fields = table(alloc, case.fields)?;
     if fields.len() > 1024 || !is_in_order(&fields) || !are_below(case.numbers, fields.len()) {
-        return Ok(None);
+        return String::from_str(alloc, "fields that don't fit the table");
     }
     let rows = failing_pairs(alloc, &fields)?;
     let targets = fragment_targets(alloc, &document.fragments)?;
@@ -187,14 +204,12 @@ fn found(alloc: Global, case: &Case) -> Result<Option<(usize, Option<usize>)>, F
         rows: &rows,
     };
     let set = &operation.selection_set;
-    Ok(Some(failing(alloc, &source, case.order, &fields, set)?))
+    failing(alloc, &source, case.order, &fields, set)
 }
 
 #[test]
-fn members_that_fail(rt: HostRuntime) -> Result<(), Fail> {
+fn members_that_fail(rt: HostRuntime) {
     for case in CASES {
-        let found = found(rt.alloc(), case)?;
-        assert_eq!(rt; found, Some(case.want), "{}", case.text);
+        expect(&rt, &found(rt.alloc(), case), case.want, case.text);
     }
-    Ok(())
 }

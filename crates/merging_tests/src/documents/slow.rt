@@ -1,139 +1,150 @@
-//! A plain slow program for what the rule means: the standard's two recursions, over lists of the fields themselves.
+//! A plain slow program for what the rule means: the standard's two recursions, which ask of each field anew what sets have it.
 
 use argument_sets::are_same_arguments;
 use document_parts::{Broken, Earliest, FieldPart, Parts};
 use gq_lexer::Place;
-use gq_parser::{Selection, SelectionSet, TypeRef};
+use gq_parser::{Field, Selection, SelectionSet, TypeRef};
 use gq_schema::{Schema, TypeKind};
-use std::alloc::{AllocError, Global};
 
 // More than a selection of any document here stands inside another, with those that fragments enter.
 const DEPTH: usize = 12;
 
-// Adds the fields of a set, with those of the fragments that it enters.
-fn collect<'d>(
-    parts: &Parts<'d>,
-    set: &SelectionSet,
-    depth: usize,
-    fields: &mut Vec<FieldPart<'d>>,
-) -> Result<(), AllocError> {
+// Whether a set has the field of a place, or a fragment that it enters has it.
+fn has(parts: &Parts, set: &SelectionSet, place: Place, depth: usize) -> bool {
     if depth == 0 {
-        return Ok(());
+        return false;
     }
     for selection in &set.selections {
         match selection {
-            Selection::Field(field) => add_at(parts, field.place, fields)?,
+            Selection::Field(field) => {
+                if field.place == place {
+                    return true;
+                }
+            }
             Selection::Inline(inline) => {
-                collect(parts, &inline.selection_set, depth - 1, fields)?;
+                if has(parts, &inline.selection_set, place, depth - 1) {
+                    return true;
+                }
             }
             Selection::Spread(spread) => {
                 for fragment in &parts.document.fragments {
-                    if fragment.name.as_str() == spread.name.as_str() {
-                        collect(parts, &fragment.selection_set, depth - 1, fields)?;
+                    if fragment.name.as_str() == spread.name.as_str()
+                        && has(parts, &fragment.selection_set, place, depth - 1)
+                    {
+                        return true;
                     }
                 }
             }
         }
     }
-    Ok(())
+    false
 }
 
-// Adds the field of a place.
-fn add_at<'d>(
-    parts: &Parts<'d>,
-    place: Place,
-    fields: &mut Vec<FieldPart<'d>>,
-) -> Result<(), AllocError> {
-    for part in &parts.fields {
-        if part.field.place == place {
-            fields.push(*part)?;
-        }
-    }
-    Ok(())
-}
-
-// The fields of the joined sets of two fields.
-fn joined<'d>(
-    alloc: Global,
-    parts: &Parts<'d>,
-    one: &FieldPart,
-    other: &FieldPart,
-) -> Result<Vec<FieldPart<'d>>, AllocError> {
-    let mut fields = Vec::new(alloc);
-    if let Some(set) = &one.field.selection_set {
-        collect(parts, set, DEPTH, &mut fields)?;
-    }
-    if let Some(set) = &other.field.selection_set {
-        collect(parts, set, DEPTH, &mut fields)?;
-    }
-    Ok(fields)
-}
-
-fn key<'d>(part: &FieldPart<'d>) -> &'d str {
-    match &part.field.alias {
+fn key(field: &Field) -> &str {
+    match &field.alias {
         Some(alias) => alias.as_str(),
-        None => part.field.name.as_str(),
+        None => field.name.as_str(),
     }
 }
 
 // Two different fields with one response key.
 fn is_pair(one: &FieldPart, other: &FieldPart) -> bool {
-    one.field.place != other.field.place && key(one) == key(other)
+    one.field.place != other.field.place && key(one.field) == key(other.field)
 }
 
-// Writes a type, with `*` for the name of each composite one.
-fn write_shape(schema: &Schema, of_type: &TypeRef, shape: &mut String) -> Result<(), AllocError> {
-    let non_null = match of_type {
-        TypeRef::Named { name, non_null, .. } => {
-            match schema.kind_of(name) {
-                Some(TypeKind::Object | TypeKind::Interface | TypeKind::Union) => shape.push('*')?,
-                _ => shape.push_str(name)?,
-            }
-            *non_null
-        }
-        TypeRef::List { item, non_null, .. } => {
-            shape.push('[')?;
-            write_shape(schema, item, shape)?;
-            shape.push(']')?;
-            *non_null
-        }
-    };
-    if non_null {
-        shape.push('!')?;
+fn has_below(parts: &Parts, part: &FieldPart, place: Place) -> bool {
+    match &part.field.selection_set {
+        Some(set) => has(parts, set, place, DEPTH),
+        None => false,
     }
-    Ok(())
 }
 
-fn shape(alloc: Global, parts: &Parts, part: &FieldPart) -> Result<String, AllocError> {
-    let mut shape = String::new(alloc);
-    match part.definition {
-        Some(definition) => write_shape(parts.schema, &definition.of_type, &mut shape)?,
-        None => shape.push_str("String!")?,
-    }
-    Ok(shape)
-}
-
-// Whether two fields have the same response shape.
-fn same_shape(
-    alloc: Global,
+// Two different fields with one response key, of the joined sets of two fields.
+fn is_joined(
     parts: &Parts,
     one: &FieldPart,
     other: &FieldPart,
-    depth: usize,
-) -> Result<bool, AllocError> {
-    let alike = shape(alloc, parts, one)?.as_str() == shape(alloc, parts, other)?.as_str();
-    if !alike || depth == 0 {
-        return Ok(alike);
+    first: &FieldPart,
+    second: &FieldPart,
+) -> bool {
+    is_pair(first, second)
+        && (has_below(parts, one, first.field.place) || has_below(parts, other, first.field.place))
+        && (has_below(parts, one, second.field.place)
+            || has_below(parts, other, second.field.place))
+}
+
+fn is_composite(schema: &Schema, name: &str) -> bool {
+    matches!(
+        schema.kind_of(name),
+        Some(TypeKind::Object | TypeKind::Interface | TypeKind::Union)
+    )
+}
+
+// Whether two types are alike, where all composite ones are.
+fn are_alike(schema: &Schema, one: &TypeRef, other: &TypeRef) -> bool {
+    match one {
+        TypeRef::Named { name, non_null, .. } => match other {
+            TypeRef::Named {
+                name: other_name,
+                non_null: other_non_null,
+                ..
+            } => {
+                *non_null == *other_non_null
+                    && (name.as_str() == other_name.as_str()
+                        || (is_composite(schema, name) && is_composite(schema, other_name)))
+            }
+            TypeRef::List { .. } => false,
+        },
+        TypeRef::List { item, non_null, .. } => match other {
+            TypeRef::Named { .. } => false,
+            TypeRef::List {
+                item: other_item,
+                non_null: other_non_null,
+                ..
+            } => *non_null == *other_non_null && are_alike(schema, item, other_item),
+        },
     }
-    let fields = joined(alloc, parts, one, other)?;
-    for first in &fields {
-        for second in &fields {
-            if is_pair(first, second) && !same_shape(alloc, parts, first, second, depth - 1)? {
-                return Ok(false);
+}
+
+fn is_string(of_type: &TypeRef) -> bool {
+    match of_type {
+        TypeRef::Named { name, non_null, .. } => *non_null && name.as_str() == "String",
+        TypeRef::List { .. } => false,
+    }
+}
+
+// Whether the types of two fields are alike. That of a field of no definition is `String!`.
+fn have_like_types(schema: &Schema, one: &FieldPart, other: &FieldPart) -> bool {
+    match one.definition {
+        Some(definition) => match other.definition {
+            Some(other) => are_alike(schema, &definition.of_type, &other.of_type),
+            None => is_string(&definition.of_type),
+        },
+        None => match other.definition {
+            Some(other) => is_string(&other.of_type),
+            None => true,
+        },
+    }
+}
+
+// Whether two fields have the same response shape.
+fn same_shape(parts: &Parts, one: &FieldPart, other: &FieldPart, depth: usize) -> bool {
+    if !have_like_types(parts.schema, one, other) {
+        return false;
+    }
+    if depth == 0 {
+        return true;
+    }
+    for first in &parts.fields {
+        for second in &parts.fields {
+            if is_joined(parts, one, other, first, second)
+                && !same_shape(parts, first, second, depth - 1)
+            {
+                return false;
             }
         }
     }
-    Ok(true)
+    true
 }
 
 fn is_of_object(schema: &Schema, part: &FieldPart) -> bool {
@@ -149,69 +160,91 @@ fn may_meet(schema: &Schema, one: &FieldPart, other: &FieldPart) -> bool {
 }
 
 // Whether a pair of fields can be merged.
-fn merges(
-    alloc: Global,
-    parts: &Parts,
-    one: &FieldPart,
-    other: &FieldPart,
-    depth: usize,
-) -> Result<bool, AllocError> {
-    if !same_shape(alloc, parts, one, other, DEPTH)? {
-        return Ok(false);
+fn merges(parts: &Parts, one: &FieldPart, other: &FieldPart, depth: usize) -> bool {
+    if !same_shape(parts, one, other, DEPTH) {
+        return false;
     }
     if depth == 0 || !may_meet(parts.schema, one, other) {
-        return Ok(true);
+        return true;
     }
     if one.field.name.as_str() != other.field.name.as_str()
         || !are_same_arguments(&one.field.arguments, &other.field.arguments)
     {
-        return Ok(false);
+        return false;
     }
-    let fields = joined(alloc, parts, one, other)?;
-    for first in &fields {
-        for second in &fields {
-            if is_pair(first, second) && !merges(alloc, parts, first, second, depth - 1)? {
-                return Ok(false);
+    for first in &parts.fields {
+        for second in &parts.fields {
+            if is_joined(parts, one, other, first, second)
+                && !merges(parts, first, second, depth - 1)
+            {
+                return false;
             }
         }
     }
-    Ok(true)
+    true
 }
 
-// The first response key of a set with a pair of fields that can't be merged.
+// Whether a set has a pair of fields of a response key that can't be merged.
+fn fails(parts: &Parts, set: &SelectionSet, response_key: &str) -> bool {
+    for one in &parts.fields {
+        for other in &parts.fields {
+            if key(one.field) == response_key
+                && is_pair(one, other)
+                && has(parts, set, one.field.place, DEPTH)
+                && has(parts, set, other.field.place, DEPTH)
+                && !merges(parts, one, other, DEPTH)
+            {
+                return true;
+            }
+        }
+    }
+    false
+}
+
+// The first response key of a set, or of a fragment that it enters, of which `all` has a pair of fields that can't be merged.
 fn first_failing<'d>(
-    alloc: Global,
     parts: &Parts<'d>,
-    set: &SelectionSet,
-) -> Result<Option<&'d str>, AllocError> {
-    let mut fields = Vec::new(alloc);
-    collect(parts, set, DEPTH, &mut fields)?;
-    for first in &fields {
-        for one in &fields {
-            for other in &fields {
-                if key(first) == key(one)
-                    && is_pair(one, other)
-                    && !merges(alloc, parts, one, other, DEPTH)?
-                {
-                    return Ok(Some(key(first)));
+    all: &SelectionSet,
+    set: &'d SelectionSet,
+    depth: usize,
+) -> Option<&'d str> {
+    if depth == 0 {
+        return None;
+    }
+    for selection in &set.selections {
+        let mut found = None;
+        match selection {
+            Selection::Field(field) => {
+                if fails(parts, all, key(field)) {
+                    found = Some(key(field));
+                }
+            }
+            Selection::Inline(inline) => {
+                found = first_failing(parts, all, &inline.selection_set, depth - 1);
+            }
+            Selection::Spread(spread) => {
+                for fragment in &parts.document.fragments {
+                    if found.is_none() && fragment.name.as_str() == spread.name.as_str() {
+                        found = first_failing(parts, all, &fragment.selection_set, depth - 1);
+                    }
                 }
             }
         }
+        if found.is_some() {
+            return found;
+        }
     }
-    Ok(None)
+    None
 }
 
 /// The set with the earliest `{` that can't be merged.
-pub fn field_merging<'d>(
-    alloc: Global,
-    parts: &Parts<'d>,
-) -> Result<Option<Broken<'d>>, AllocError> {
+pub fn field_merging<'d>(parts: &Parts<'d>) -> Option<Broken<'d>> {
     let mut earliest = Earliest::new();
     for part in &parts.sets {
         let set = part.selection_set;
-        if let Some(key) = first_failing(alloc, parts, set)? {
+        if let Some(key) = first_failing(parts, set, set, DEPTH) {
             earliest.add(Broken::named(key, set.place));
         }
     }
-    Ok(earliest.found)
+    earliest.found
 }

@@ -1,0 +1,4 @@
+use Rattle.merging_tests.proofs.documents.slow.+first_failing.Given as goal
+
+abbrev pub decreases-first_failing : goal.decreases-first_failing
+decreases-first_failing l = l.depth
