@@ -89,6 +89,28 @@ fn cut(alloc: Global, texts: &[&str], max: Option<u32>) -> Result<String, NoMemo
     }
 }
 
+/// The same by a plain slow program: each key goes into the last piece, until that is full.
+fn slowly_cut(alloc: Global, texts: &[&str], max: Option<u32>) -> Result<String, AllocError> {
+    let most = match max {
+        Some(most) if most == 0 || most > 65_535 => return String::from_str(alloc, "bad limit"),
+        Some(most) => most,
+        None => u32::MAX,
+    };
+    let mut text = String::from_str(alloc, "users Exact|")?;
+    for head in ["5: ", "6: ", "7 stored: "] {
+        let mut last = 0_u32;
+        for key in texts {
+            text.push_str(if last == 0 { head } else { "" })?;
+            text.push_str(key)?;
+            last = last.saturating_add(1);
+            text.push_str(if last >= most { " ;" } else { " " })?;
+            last = if last >= most { 0 } else { last };
+        }
+        text.push_str(if last == 0 { "" } else { ";" })?;
+    }
+    Ok(text)
+}
+
 /// Keys, a limit, and what is told: no order has more keys than the limit.
 const CUTS: &[(&[&str], Option<u32>, &str)] = &[
     (&[], Some(0), "bad limit"),
@@ -132,6 +154,7 @@ const CUTS: &[(&[&str], Option<u32>, &str)] = &[
 fn cuts_in_order(rt: HostRuntime) {
     for (keys, max, want) in CUTS {
         expect(&rt, &cut(rt.alloc(), keys, *max), want, want);
+        expect(&rt, &slowly_cut(rt.alloc(), keys, *max), want, want);
     }
 }
 
