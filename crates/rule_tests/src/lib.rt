@@ -8,12 +8,6 @@ mod documents;
 #[cfg(test)]
 mod merging;
 #[cfg(test)]
-mod parts;
-#[cfg(test)]
-mod spreads;
-#[cfg(test)]
-mod types;
-#[cfg(test)]
 mod variables;
 
 /// A text is the wanted one. One function for every test, since each assertion is dear to prove.

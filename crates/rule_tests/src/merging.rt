@@ -4,8 +4,7 @@ ghost use Rattle.merge_table.specs.Numbered.{AreBelow};
 
 use crate::expect;
 use merge_table::*;
-use std::alloc::{AllocError, AllocGlobal, Global};
-use std::process::Abort;
+use std::alloc::{AllocError, Global};
 
 // the parent types
 const DOG: usize = 0;
@@ -28,10 +27,16 @@ const INT: usize = 1;
 
 /// A field: its response key, its name, its parent, its arguments, the type that it returns and the members of its selection
 /// set.
-type Line = (usize, usize, usize, usize, usize, &'static [usize]);
+type Line<'a> = (usize, usize, usize, usize, usize, &'a [usize]);
 
 fn field(line: &Line) -> Field {
     let (key, name, parent, arguments, shape, members) = *line;
+    let mut row = Row::new();
+    for m in members {
+        if *m < 1024 {
+            row.insert(*m);
+        }
+    }
     Field {
         key,
         name,
@@ -39,18 +44,8 @@ fn field(line: &Line) -> Field {
         parent,
         object: parent != PET,
         shape,
-        members: row(members),
+        members: row,
     }
-}
-
-fn row(members: &[usize]) -> Row {
-    let mut row = Row::new();
-    for m in members {
-        if *m < 1024 {
-            row.insert(*m);
-        }
-    }
-    row
 }
 
 fn fields_of(alloc: Global, lines: &[Line]) -> Result<Vec<Field>, AllocError> {
@@ -70,34 +65,13 @@ fn are_below(members: &[usize], n: usize) -> bool
     }
 }
 
-/// What is told of members.
+/// The first of the members whose response key has a failing pair.
 fn told(alloc: Global, fields: &[Field], members: &[usize]) -> Result<String, AllocError> {
     if fields.len() > 1024 || !is_in_order(fields) || !are_below(members, fields.len()) {
         return String::from_str(alloc, "not in order");
     }
     let rows = failing_pairs(alloc, fields)?;
-    let first = first_failing(fields, &rows, members);
-    printed(alloc, first)
-}
-
-/// The first member whose response key has a failing pair, as it is printed.
-fn printed(alloc: Global, first: Option<usize>) -> Result<String, AllocError> {
-    match first {
-        Some(member) => format!(in alloc; "{member} fails"),
-        None => String::from_str(alloc, "all merge"),
-    }
-}
-
-/// Fields, members of a set of them, and what is told.
-type Cases = &'static [(&'static [Line], &'static [usize], &'static str)];
-
-fn expect_all<R: AllocGlobal + Abort>(rt: &R, cases: Cases) -> Result<(), AllocError> {
-    for (lines, members, want) in cases {
-        let fields = fields_of(rt.alloc(), lines)?;
-        let found = told(rt.alloc(), fields.as_slice(), members)?;
-        expect(rt, &found, want, want);
-    }
-    Ok(())
+    format!(in alloc; "{:?}", first_failing(fields, &rows, members))
 }
 
 /// `name: nickname name` of a dog.
@@ -105,83 +79,6 @@ const OTHER: &[Line] = &[
     (NAME, NICKNAME, DOG, 0, STRING, &[]),
     (NAME, NAME, DOG, 0, STRING, &[]),
 ];
-
-const ONE_NAME: Cases = &[
-    // name name: one field twice
-    (
-        &[
-            (NAME, NAME, DOG, 0, STRING, &[]),
-            (NAME, NAME, DOG, 0, STRING, &[]),
-        ],
-        &[0, 1],
-        "all merge",
-    ),
-    (OTHER, &[0, 1], "0 fails"),
-    (OTHER, &[0], "all merge"),
-    // other keys
-    (
-        &[
-            (NAME, NAME, DOG, 0, STRING, &[]),
-            (NICKNAME, NICKNAME, DOG, 0, STRING, &[]),
-        ],
-        &[0, 1],
-        "all merge",
-    ),
-];
-
-#[test]
-fn one_key_wants_one_name(rt: HostRuntime) -> Result<(), AllocError> {
-    expect_all(&rt, ONE_NAME)
-}
-
-const ONE_SET_OF_ARGUMENTS: Cases = &[(
-    &[
-        (NAME, NAME, DOG, 0, STRING, &[]),
-        (NAME, NAME, DOG, 1, STRING, &[]),
-    ],
-    &[0, 1],
-    "0 fails",
-)];
-
-#[test]
-fn one_key_wants_one_set_of_arguments(rt: HostRuntime) -> Result<(), AllocError> {
-    expect_all(&rt, ONE_SET_OF_ARGUMENTS)
-}
-
-const OTHER_OBJECTS: Cases = &[
-    // ... on Dog { name: nickname } ... on Cat { name }
-    (
-        &[
-            (NAME, NICKNAME, DOG, 0, STRING, &[]),
-            (NAME, NAME, CAT, 0, STRING, &[]),
-        ],
-        &[0, 1],
-        "all merge",
-    ),
-    // an interface may be either
-    (
-        &[
-            (NAME, NICKNAME, DOG, 0, STRING, &[]),
-            (NAME, NAME, PET, 0, STRING, &[]),
-        ],
-        &[0, 1],
-        "0 fails",
-    ),
-    // but not in the type that they return
-    (
-        &[
-            (NAME, NAME, DOG, 0, STRING, &[]),
-            (NAME, NAME, CAT, 0, INT, &[]),
-        ],
-        &[0, 1],
-        "0 fails",
-    ),
-];
-
-#[test]
-fn other_objects_may_differ(rt: HostRuntime) -> Result<(), AllocError> {
-    expect_all(&rt, OTHER_OBJECTS)
-}
 
 /// `owner { owner { name } } owner { owner { name: nickname } }`
 const DEEP: &[Line] = &[
@@ -193,10 +90,77 @@ const DEEP: &[Line] = &[
     (OWNER, OWNER, DOG, 0, STRING, &[4]),
 ];
 
-const DOWN: Cases = &[
-    (DEEP, &[2, 5], "2 fails"),
-    (DEEP, &[2], "all merge"),
-    (DEEP, &[0, 3], "0 fails"),
+const KEYS: &[Line] = &[
+    (OWNER, OWNER, DOG, 0, STRING, &[]),
+    (NAME, NAME, DOG, 0, STRING, &[]),
+    (OWNER, OWNER, DOG, 0, STRING, &[]),
+    (NAME, NICKNAME, DOG, 0, STRING, &[]),
+];
+
+/// Fields, members of a set of them, and what is told.
+const CASES: &[(&[Line], &[usize], &str)] = &[
+    // one key wants one name
+    // name name: one field twice
+    (
+        &[
+            (NAME, NAME, DOG, 0, STRING, &[]),
+            (NAME, NAME, DOG, 0, STRING, &[]),
+        ],
+        &[0, 1],
+        "None",
+    ),
+    (OTHER, &[0, 1], "Some(0)"),
+    (OTHER, &[0], "None"),
+    // other keys
+    (
+        &[
+            (NAME, NAME, DOG, 0, STRING, &[]),
+            (NICKNAME, NICKNAME, DOG, 0, STRING, &[]),
+        ],
+        &[0, 1],
+        "None",
+    ),
+    // and one set of arguments
+    (
+        &[
+            (NAME, NAME, DOG, 0, STRING, &[]),
+            (NAME, NAME, DOG, 1, STRING, &[]),
+        ],
+        &[0, 1],
+        "Some(0)",
+    ),
+    // but fields of other objects may differ
+    // ... on Dog { name: nickname } ... on Cat { name }
+    (
+        &[
+            (NAME, NICKNAME, DOG, 0, STRING, &[]),
+            (NAME, NAME, CAT, 0, STRING, &[]),
+        ],
+        &[0, 1],
+        "None",
+    ),
+    // an interface may be either
+    (
+        &[
+            (NAME, NICKNAME, DOG, 0, STRING, &[]),
+            (NAME, NAME, PET, 0, STRING, &[]),
+        ],
+        &[0, 1],
+        "Some(0)",
+    ),
+    // but not in the type that they return
+    (
+        &[
+            (NAME, NAME, DOG, 0, STRING, &[]),
+            (NAME, NAME, CAT, 0, INT, &[]),
+        ],
+        &[0, 1],
+        "Some(0)",
+    ),
+    // merging goes down
+    (DEEP, &[2, 5], "Some(2)"),
+    (DEEP, &[2], "None"),
+    (DEEP, &[0, 3], "Some(0)"),
     // a field whose own set comes after it
     (
         &[
@@ -206,23 +170,9 @@ const DOWN: Cases = &[
         &[0],
         "not in order",
     ),
-];
-
-#[test]
-fn merging_goes_down(rt: HostRuntime) -> Result<(), AllocError> {
-    expect_all(&rt, DOWN)
-}
-
-const KEYS: &[Line] = &[
-    (OWNER, OWNER, DOG, 0, STRING, &[]),
-    (NAME, NAME, DOG, 0, STRING, &[]),
-    (OWNER, OWNER, DOG, 0, STRING, &[]),
-    (NAME, NICKNAME, DOG, 0, STRING, &[]),
-];
-
-const FIRST_KEYS: Cases = &[
-    (KEYS, &[0, 1, 2, 3], "1 fails"),
-    (KEYS, &[3, 2, 1, 0], "3 fails"),
+    // the first key is told
+    (KEYS, &[0, 1, 2, 3], "Some(1)"),
+    (KEYS, &[3, 2, 1, 0], "Some(3)"),
     // the first field of the key merges with both that fail
     (
         &[
@@ -231,13 +181,18 @@ const FIRST_KEYS: Cases = &[
             (NAME, NICKNAME, DOG, 0, STRING, &[]),
         ],
         &[0, 1, 2],
-        "0 fails",
+        "Some(0)",
     ),
 ];
 
 #[test]
-fn the_first_key_is_told(rt: HostRuntime) -> Result<(), AllocError> {
-    expect_all(&rt, FIRST_KEYS)
+fn worked_examples(rt: HostRuntime) -> Result<(), AllocError> {
+    for (lines, members, want) in CASES {
+        let fields = fields_of(rt.alloc(), lines)?;
+        let found = told(rt.alloc(), fields.as_slice(), members)?;
+        expect(&rt, &found, want, want);
+    }
+    Ok(())
 }
 
 /// The numbers from one up to another.
@@ -254,13 +209,13 @@ fn many_fields(alloc: Global) -> Result<Vec<Field>, AllocError> {
     let names = numbers(alloc, 0, 450)?;
     let mut fields = Vec::new(alloc);
     for i in 0..901usize {
-        let key = if i < 450 { NAME } else { OWNER };
-        let name = if i == 900 { NAME } else { key };
-        let mut field = field(&(key, name, DOG, 0, STRING, &[]));
-        if key == OWNER && name == OWNER {
-            field.members = row(names.as_slice());
-        }
-        fields.push(field)?;
+        fields.push(field(&if i < 450 {
+            (NAME, NAME, DOG, 0, STRING, &[])
+        } else if i < 900 {
+            (OWNER, OWNER, DOG, 0, STRING, names.as_slice())
+        } else {
+            (OWNER, NAME, DOG, 0, STRING, &[])
+        }))?;
     }
     Ok(fields)
 }
@@ -269,9 +224,9 @@ fn many_fields(alloc: Global) -> Result<Vec<Field>, AllocError> {
 fn many_fields_of_one_key(rt: HostRuntime) -> Result<(), AllocError> {
     let fields = many_fields(rt.alloc())?;
     for (from, to, want) in [
-        (0, 450, "all merge"),
-        (450, 900, "all merge"),
-        (450, 901, "450 fails"),
+        (0, 450, "None"),
+        (450, 900, "None"),
+        (450, 901, "Some(450)"),
     ] {
         let members = numbers(rt.alloc(), from, to)?;
         let found = told(rt.alloc(), fields.as_slice(), members.as_slice())?;
@@ -293,7 +248,7 @@ fn failing_sets(
     let mut failing = String::new(alloc);
     for (number, set) in reached_sets(alloc, &rows, sets)?.iter().enumerate() {
         if set.is_failing(fields, &rows) {
-            failing.push_str(format!(in alloc; "{number} fails;")?.as_str())?;
+            write!(failing, "{number} fails;")?;
         }
     }
     Ok(failing)

@@ -1,86 +1,80 @@
 //! Plain slow programs for what the rules mean: names compared one by one, and walks over spreads again and again.
 
+use super::cases::Rule;
 use document_parts::{Broken, Earliest, Owner, Parts};
 use gq_lexer::Place;
 use std::alloc::{AllocError, Global};
 
-/// Names with their places, in lists that are looked at one by one.
-pub type Lists<'d> = Vec<Vec<(&'d str, Place)>>;
+/// A name with the number of its list, and its place.
+type Name<'d> = (usize, &'d str, Place);
 
-/// The earliest name that stands before itself in its list.
-pub fn earliest_repeated<'d>(lists: &Lists<'d>) -> Option<Broken<'d>> {
-    let mut earliest = Earliest::new();
-    for list in lists {
-        for (i, (name, place)) in list.iter().enumerate() {
-            for (k, (other, _)) in list.iter().enumerate() {
-                if k < i && *name == *other {
-                    earliest.add(Broken::named(*name, *place));
+// The names of operations, or else of fragments: one list.
+fn names_of_one_list<'d>(
+    alloc: Global,
+    rule: Rule,
+    parts: &Parts<'d>,
+) -> Result<Vec<Name<'d>>, AllocError> {
+    let document = parts.document;
+    let mut names = Vec::new(alloc);
+    match rule {
+        Rule::OperationNames => {
+            for operation in &document.operations {
+                if let Some(name) = &operation.name {
+                    names.push((0, name.as_str(), operation.place))?;
                 }
+            }
+        }
+        _ => {
+            for fragment in &document.fragments {
+                names.push((0, fragment.name.as_str(), fragment.place))?;
+            }
+        }
+    }
+    Ok(names)
+}
+
+// The names that a rule wants to be apart within each list.
+fn names<'d>(alloc: Global, rule: Rule, parts: &Parts<'d>) -> Result<Vec<Name<'d>>, AllocError> {
+    let document = parts.document;
+    let mut names = Vec::new(alloc);
+    match rule {
+        Rule::ArgumentsUnique => {
+            for (i, part) in parts.argument_lists.iter().enumerate() {
+                for argument in part.arguments {
+                    names.push((i, argument.name.as_str(), argument.place))?;
+                }
+            }
+        }
+        Rule::DirectivesUnique => {
+            for (i, part) in parts.directive_lists.iter().enumerate() {
+                for directive in part.directives {
+                    names.push((i, directive.name.as_str(), directive.place))?;
+                }
+            }
+        }
+        Rule::VariableNames => {
+            for (i, operation) in document.operations.iter().enumerate() {
+                for variable in &operation.variables {
+                    names.push((i, variable.name.as_str(), variable.place))?;
+                }
+            }
+        }
+        _ => return names_of_one_list(alloc, rule, parts),
+    }
+    Ok(names)
+}
+
+// The earliest name that stands before itself in its list.
+fn earliest_repeated<'d>(names: &[Name<'d>]) -> Option<Broken<'d>> {
+    let mut earliest = Earliest::new();
+    for (i, (list, name, place)) in names.iter().enumerate() {
+        for (other_list, other, _) in names.iter().take(i) {
+            if *list == *other_list && *name == *other {
+                earliest.add(Broken::named(*name, *place));
             }
         }
     }
     earliest.found
-}
-
-pub fn operation_names<'d>(alloc: Global, parts: &Parts<'d>) -> Result<Lists<'d>, AllocError> {
-    let document = parts.document;
-    let mut list = Vec::new(alloc);
-    for operation in &document.operations {
-        if let Some(name) = &operation.name {
-            list.push((name.as_str(), operation.place))?;
-        }
-    }
-    let mut lists = Vec::new(alloc);
-    lists.push(list)?;
-    Ok(lists)
-}
-
-pub fn fragment_names<'d>(alloc: Global, parts: &Parts<'d>) -> Result<Lists<'d>, AllocError> {
-    let document = parts.document;
-    let mut list = Vec::new(alloc);
-    for fragment in &document.fragments {
-        list.push((fragment.name.as_str(), fragment.place))?;
-    }
-    let mut lists = Vec::new(alloc);
-    lists.push(list)?;
-    Ok(lists)
-}
-
-pub fn argument_names<'d>(alloc: Global, parts: &Parts<'d>) -> Result<Lists<'d>, AllocError> {
-    let mut lists = Vec::new(alloc);
-    for part in &parts.argument_lists {
-        let mut list = Vec::new(alloc);
-        for argument in part.arguments {
-            list.push((argument.name.as_str(), argument.place))?;
-        }
-        lists.push(list)?;
-    }
-    Ok(lists)
-}
-
-pub fn directive_names<'d>(alloc: Global, parts: &Parts<'d>) -> Result<Lists<'d>, AllocError> {
-    let mut lists = Vec::new(alloc);
-    for part in &parts.directive_lists {
-        let mut list = Vec::new(alloc);
-        for directive in part.directives {
-            list.push((directive.name.as_str(), directive.place))?;
-        }
-        lists.push(list)?;
-    }
-    Ok(lists)
-}
-
-pub fn variable_names<'d>(alloc: Global, parts: &Parts<'d>) -> Result<Lists<'d>, AllocError> {
-    let document = parts.document;
-    let mut lists = Vec::new(alloc);
-    for operation in &document.operations {
-        let mut list = Vec::new(alloc);
-        for variable in &operation.variables {
-            list.push((variable.name.as_str(), variable.place))?;
-        }
-        lists.push(list)?;
-    }
-    Ok(lists)
 }
 
 // Whether an operation, or one of the fragments that it reaches, is this one.
@@ -111,11 +105,8 @@ fn reached_names<'d>(
     Ok(reached)
 }
 
-/// The earliest use that some operation reaches without defining its variable.
-pub fn undefined_use<'d>(
-    alloc: Global,
-    parts: &Parts<'d>,
-) -> Result<Option<Broken<'d>>, AllocError> {
+// The earliest use that some operation reaches without defining its variable.
+fn undefined_use<'d>(alloc: Global, parts: &Parts<'d>) -> Result<Option<Broken<'d>>, AllocError> {
     let mut earliest = Earliest::new();
     for (i, operation) in parts.document.operations.iter().enumerate() {
         let reached = reached_names(alloc, parts, i)?;
@@ -132,11 +123,8 @@ pub fn undefined_use<'d>(
     Ok(earliest.found)
 }
 
-/// The earliest variable whose operation reaches no use of it.
-pub fn unused_variable<'d>(
-    alloc: Global,
-    parts: &Parts<'d>,
-) -> Result<Option<Broken<'d>>, AllocError> {
+// The earliest variable whose operation reaches no use of it.
+fn unused_variable<'d>(alloc: Global, parts: &Parts<'d>) -> Result<Option<Broken<'d>>, AllocError> {
     let document = parts.document;
     let mut earliest = Earliest::new();
     for (i, operation) in document.operations.iter().enumerate() {
@@ -153,4 +141,17 @@ pub fn unused_variable<'d>(
         }
     }
     Ok(earliest.found)
+}
+
+/// What the slow program for a rule tells of a document.
+pub fn broken<'d>(
+    alloc: Global,
+    rule: Rule,
+    parts: &Parts<'d>,
+) -> Result<Option<Broken<'d>>, AllocError> {
+    match rule {
+        Rule::UsesDefined => undefined_use(alloc, parts),
+        Rule::VariablesUsed => unused_variable(alloc, parts),
+        _ => Ok(earliest_repeated(&names(alloc, rule, parts)?)),
+    }
 }

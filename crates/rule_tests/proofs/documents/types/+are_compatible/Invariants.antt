@@ -1,4 +1,4 @@
-use Rattle.rule_tests.proofs.types.slow.+are_compatible.Given as goal
+use Rattle.rule_tests.proofs.documents.types.+are_compatible.Given as goal
 
 abbrev pub decreases-are_compatible : goal.decreases-are_compatible
 decreases-are_compatible l = l.steps

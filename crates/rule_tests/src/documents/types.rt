@@ -1,8 +1,8 @@
-//! Plain slow programs, each beside the real body.
+//! Plain slow programs for the types of variables and of spreads, each beside the real body.
 
-use super::{Rule, SCHEMA, told};
-use gq_schema::Schema;
-use std::alloc::Global;
+use super::cases::{Asked, Rule, SCHEMA};
+use super::told;
+use std::alloc::AllocGlobal;
 use std::process::Abort;
 use std::test::Fail;
 
@@ -54,44 +54,33 @@ const TYPES: &[&str] = &[
 
 const DEFAULTS: &[&str] = &["", "=null", "=1"];
 
-// A schema with an argument of a type, with a default or not.
-fn schema(alloc: Global, location: &str, has_default: bool) -> Result<Schema, Fail> {
-    let default = match (has_default, location.starts_with('[')) {
-        (false, _) => "",
-        (true, false) => "=X",
-        (true, true) => "=[]",
-    };
-    let text = format!(in alloc;
-        "enum A{{X}} enum B{{X}} type Query{{f(a:{location}{default}):Int}}"
-    )?;
-    Ok(Schema::read(alloc, &text)?)
-}
-
 // Whether a document keeps a rule, beside what the slow program says.
 fn expect_kept<R: AllocGlobal + Abort>(
     rt: &R,
-    schema: &Schema,
+    schema: &str,
     rule: Rule,
     text: &str,
     slow: bool,
 ) -> Result<(), Fail> {
-    let found = told(rt.alloc(), schema, rule, text)?;
+    let found = told(rt.alloc(), schema, Asked::Rule(rule), text)?;
     let is_kept = found.as_str() == "kept";
     assert_eq!(rt; is_kept, slow, "{text}");
     Ok(())
 }
 
-// Compares the rule with the slow program at each variable, with a location of one type.
+// Compares the rule with the slow program at each variable, with a location of one type and its default's text.
 fn compare_at<R: AllocGlobal + Abort>(
     rt: &R,
     location: &str,
-    has_default: bool,
+    location_default: &str,
 ) -> Result<(), Fail> {
-    let schema = schema(rt.alloc(), location, has_default)?;
+    let schema = format!(in rt.alloc();
+        "enum A{{X}} enum B{{X}} type Query{{f(a:{location}{location_default}):Int}}"
+    )?;
     for variable in TYPES {
         for default in DEFAULTS {
             let text = format!(in rt.alloc(); "query($v:{variable}{default}){{f(a:$v)}}")?;
-            let slow = is_usage_allowed(variable, default, location, has_default);
+            let slow = is_usage_allowed(variable, default, location, !location_default.is_empty());
             expect_kept(rt, &schema, Rule::VariableUsages, &text, slow)?;
         }
     }
@@ -101,8 +90,13 @@ fn compare_at<R: AllocGlobal + Abort>(
 #[test]
 fn usages(rt: HostRuntime) -> Result<(), Fail> {
     for location in &TYPES[..10] {
-        compare_at(&rt, location, false)?;
-        compare_at(&rt, location, true)?;
+        compare_at(&rt, location, "")?;
+        let default = if location.starts_with('[') {
+            "=[]"
+        } else {
+            "=X"
+        };
+        compare_at(&rt, location, default)?;
     }
     Ok(())
 }
@@ -120,11 +114,13 @@ const POSSIBLE: &[(&str, &[&str])] = &[
 
 // Compares the rule with the slow program at a spread from one type into each other.
 fn compare_from<R: AllocGlobal + Abort>(rt: &R, one: &str, objects: &[&str]) -> Result<(), Fail> {
-    let schema = Schema::read(rt.alloc(), SCHEMA)?;
     for (other, others) in POSSIBLE {
-        let slow = objects.iter().any(|object| others.contains(object));
+        let mut slow = false;
+        for object in objects {
+            slow |= others.contains(object);
+        }
         let text = format!(in rt.alloc(); "fragment F on {one}{{...on {other}{{__typename}}}}")?;
-        expect_kept(rt, &schema, Rule::PossibleSpreads, &text, slow)?;
+        expect_kept(rt, SCHEMA, Rule::PossibleSpreads, &text, slow)?;
     }
     Ok(())
 }
