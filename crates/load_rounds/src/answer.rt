@@ -39,7 +39,7 @@ impl<S: Asks> Session<S> {
                 Poll::Ready(text) => return Ok(Answer { text, rounds }),
                 Poll::Pending => {
                     let next = rounds.checked_add(1).ok_or(NoMemory)?;
-                    self.ask(&wants)?;
+                    self.ask(wants)?;
                     rounds = next;
                 }
             }

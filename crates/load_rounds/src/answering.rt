@@ -71,7 +71,7 @@ impl<S: Asks> Session<S> {
         match plan.execute(self.alloc(), self.memory(), &mut wants)? {
             Poll::Ready(text) => Ok(Poll::Ready(text)),
             Poll::Pending => {
-                self.ask(&wants)?;
+                self.ask(wants)?;
                 Ok(Poll::Pending)
             }
         }

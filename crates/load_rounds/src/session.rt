@@ -255,19 +255,20 @@ impl<S: Asks> Session<S> {
         if wants.keys(loader).is_empty() {
             return Ok(());
         }
-        self.ask(&wants)
+        self.ask(wants)
     }
 
-    /// Asks what is wanted, in one round in turn, and stores the replies.
-    pub(crate) fn ask(&mut self, wants: &Wants) -> Result<(), NoMemory>
-        requires { length wants.now ≡ length self.old.loaders }
-        ensures ran { (loads : List Load) → AreWanted wants.now loads
+    /// Asks what is wanted, in one round in turn, and stores the replies. The wants are gone once their orders are made.
+    pub(crate) fn ask(&mut self, wants: Wants) -> Result<(), NoMemory>
+        requires { length wants ≡ length self.old.loaders }
+        ensures ran { (loads : List Load) → AreWanted wants loads
             → OnOk result (RoundRan S.may_tell (state_of self.old) (state_of self.new) loads) }
-        ensures lost { (loads : List Load) → AreWanted wants.now loads
+        ensures lost { (loads : List Load) → AreWanted wants loads
             → OnErr result (RoundLost (state_of self.old) (state_of self.new) loads) }
     {
         let round = self.rounds.checked_add(1).ok_or(NoMemory)?;
-        let orders = cut_all(&mut self.loaders, &mut self.rounds, round, wants)?;
+        let orders = cut_all(&mut self.loaders, &mut self.rounds, round, &wants)?;
+        drop(wants);
         let replies = run_all(*self.loaders.allocator(), orders, &self.loaders)?;
         self.memory.keep(&replies)?;
         mark_all(&mut self.loaders, round);

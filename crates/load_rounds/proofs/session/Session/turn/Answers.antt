@@ -38,8 +38,8 @@ returns-in_err-ask-in-Pending-clause-stopped g c =
     let lost = c.in_err-ask-in-Pending.ensures.lost (front (session_modes cur) p cur.memory) wanted in
     on-err c.from_residual-in_err-ask-in-Pending.result (inr lost)
 
-pub returns-clause-turned : goal.returns-clause-turned
-returns-clause-turned g c =
+pub returns-in_ok-ask-in-Pending-clause-turned : goal.returns-in_ok-ask-in-Pending-clause-turned
+returns-in_ok-ask-in-Pending-clause-turned g c =
     let cur = state_of c.args.self.now in
     let p : Program = g.P.Execute.program c.args.plan.now in
     let lacks = rw (c.in-Pending.is, c.memory.ensures.modes, c.memory.ensures.pairs, c.in_ok-wants.ensures) at c.in_ok-text.ensures in
