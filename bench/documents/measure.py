@@ -6,6 +6,8 @@
 Each document is the query of one request line on standard input. For each shape and size it prints the least wall
 time of RUNS runs (5 if left out) in milliseconds, the peak of resident memory in MiB, and the first bytes of the
 answer. The time holds the start of the program and the reading of the line as JSON; the shape `spaces` shows both.
+GNU time starts the program: a process that an interpreter starts itself is charged with the interpreter's own memory
+at first.
 """
 import json
 import os
@@ -66,14 +68,13 @@ SHAPES = {
 
 def run(program, path):
     """One run: seconds, peak memory in MiB, and the answer."""
-    with open(path, "rb") as request, tempfile.TemporaryFile() as out:
+    with open(path, "rb") as request, tempfile.TemporaryFile() as out, tempfile.NamedTemporaryFile("r") as memory:
+        words = ["time", "-q", "-f", "%M", "-o", memory.name, program]
         start = time.perf_counter()
-        process = subprocess.Popen([program], stdin=request, stdout=out, stderr=subprocess.DEVNULL)
-        _, status, usage = os.wait4(process.pid, 0)
+        status = subprocess.run(words, stdin=request, stdout=out, stderr=subprocess.DEVNULL).returncode
         seconds = time.perf_counter() - start
-        process.returncode = os.waitstatus_to_exitcode(status)
         out.seek(0)
-        return seconds, usage.ru_maxrss / 1024, process.returncode, out.read(72).decode("utf-8", "replace").strip()
+        return seconds, int(memory.read()) / 1024, status, out.read(72).decode("utf-8", "replace").strip()
 
 
 def main():

@@ -2,9 +2,9 @@
 """Times the program on each request file of a world that make_world.py wrote: measure.py PROGRAM FOLDER.
 
 Of three runs the least time counts. The time on an empty request file, which is that of reading schema, bindings and
-tables and of indexing them, is told first and taken off the others."""
+tables and of indexing them, is told first and taken off the others. GNU time starts the program: a process that an
+interpreter starts itself is charged with the interpreter's own memory at first."""
 import os
-import resource
 import subprocess
 import sys
 import time
@@ -20,14 +20,15 @@ def run(requests):
     words = [program, "--schema", "schema.graphql", "--bindings", "bindings.txt", requests] + TABLES
     with open("answers.out", "wb") as out:
         start = time.perf_counter()
-        process = subprocess.Popen(words, stdout=out)
-        _, status, usage = os.wait4(process.pid, 0)
+        status = subprocess.run(["time", "-q", "-f", "%M", "-o", "memory.out", *words], stdout=out).returncode
         seconds = time.perf_counter() - start
     if status != 0:
         sys.exit(f"{requests}: status {status}")
+    with open("memory.out", encoding="utf-8") as memory:
+        peak = int(memory.read())
     with open("answers.out", "rb") as answers:
         lines = answers.readlines()
-    return seconds, usage.ru_maxrss, sum(map(len, lines)), max(map(len, lines), default=0), len(lines)
+    return seconds, peak, sum(map(len, lines)), max(map(len, lines), default=0), len(lines)
 
 
 def least(requests):
