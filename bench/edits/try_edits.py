@@ -36,7 +36,7 @@ def edits_of(module, crate, root):
 
 
 def function_at(path, text, line):
-    """The module, the type and the name of the function that stands at a line of a text."""
+    """The module or the type, and the name, of the function that stands at a line of a text."""
     lines, name, of = text.split("\n"), "", ""
     for at in range(line, -1, -1):
         head, impl = HEAD.match(lines[at]), IMPL.match(lines[at])
@@ -48,7 +48,8 @@ def function_at(path, text, line):
             of = impl[1]
             break
     parts = [it for it in path[len("src/") : -len(".rt")].split("/") if it not in ("lib", "main", "mod")]
-    return (tuple(parts), of, name) if name else None
+    # (a check names a method by its type, in whatever file its impl stands)
+    return (() if of else tuple(parts), of, name) if name else None
 
 
 def functions_of(texts, before):
