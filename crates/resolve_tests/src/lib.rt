@@ -3,12 +3,16 @@
 #![tactic(auto)]
 
 #[cfg(test)]
-mod answers;
+mod answering;
+#[cfg(test)]
+mod cases;
 #[cfg(test)]
 mod collecting;
 #[cfg(test)]
-mod faults;
-#[cfg(test)]
-mod refusals;
-#[cfg(test)]
 mod worlds;
+
+/// A text is the wanted one. One function for every test, since each assertion is dear to prove.
+#[cfg(test)]
+fn expect(rt: &impl std::process::Abort, found: &str, wanted: &str, case: &str) {
+    assert_eq!(rt; found, wanted, "{case}");
+}

@@ -1,43 +1,37 @@
 //! Worlds to ask: a schema, bindings, and what the loaders answer.
-ghost use Rattle.std.specs.Prelude.{◌≤◌, length};
-ghost use Rattle.gq_check.specs.Plans.{plan_of};
 
-use futures::task::Poll;
-use gq_check::{Plan, check, prepare};
-use gq_parser::parse;
-use gq_resolve::{answer_text, evaluate, execute_text};
-use gq_schema::{Bindings, Schema};
 use load_memory::{Cell, Item, Key, KeyMode, Memory, Row, cache_key};
-use load_queue::Wants;
-use serde_json::Value;
 use std::alloc::Global;
 use std::test::Fail;
 
-/// A schema and bindings, and of each loader its table with the column of its keys. A loader without a column gives all
-/// rows for `All`.
-#[derive(Clone, Copy)]
+/// The rows of a table, each with its columns and their texts.
+type Table = &'static [&'static [(&'static str, &'static str)]];
+
+/// A schema and bindings with their number of loaders, and loaders that know something: the number of each, its table, and the
+/// column of its keys. A loader without a column gives all rows for `All`.
 pub struct World {
     pub schema: &'static str,
     pub bindings: &'static str,
-    pub loaders: &'static [(&'static str, &'static str)],
+    pub loaders: usize,
+    pub known: &'static [(usize, Table, &'static str)],
 }
 
 /// The texts that each loader with a column knows the rows of. It has none of `9` and `99`, and a fault of `bad`.
-const KEYS: [&str; 10] = ["1", "2", "3", "4", "9", "10", "11", "12", "99", "bad"];
+const KEYS: &[&str] = &["1", "2", "3", "4", "9", "10", "11", "12", "99", "bad"];
 
-/// The records of a table whose column equals a text, or all of them where there is no column.
-fn rows_of(alloc: Global, table: &str, column: &str, text: &str) -> Result<Vec<Row>, Fail> {
+/// That of a loader without a column.
+const ALL: &[&str] = &[""];
+
+/// The rows of a table whose column equals a text, or all of them where there is no column.
+fn rows_of(
+    alloc: Global,
+    table: &[&[(&str, &str)]],
+    column: &str,
+    text: &str,
+) -> Result<Vec<Row>, Fail> {
     let mut rows = Vec::new(alloc);
-    let mut records = table.split(';');
-    let Some(header) = records.next() else {
-        return Ok(rows);
-    };
-    for record in records {
-        let mut pairs = Vec::new(alloc);
-        for (name, field) in header.split(',').zip(record.split(',')) {
-            pairs.push((name, field))?;
-        }
-        let row = Row::new(alloc, pairs.as_slice())?;
+    for pairs in table {
+        let row = Row::new(alloc, pairs)?;
         if column.is_empty() || row.get(column) == Cell::Text(text) {
             rows.push(row)?;
         }
@@ -45,6 +39,20 @@ fn rows_of(alloc: Global, table: &str, column: &str, text: &str) -> Result<Vec<R
     Ok(rows)
 }
 
+/// What a loader answers for a text.
+fn item_of(
+    alloc: Global,
+    table: &[&[(&str, &str)]],
+    column: &str,
+    text: &str,
+) -> Result<Item, Fail> {
+    if text == "bad" {
+        return Ok(Item::KeyFault(String::from_str(alloc, "bad key")?));
+    }
+    Ok(Item::Rows(rows_of(alloc, table, column, text)?))
+}
+
+/// Tells a memory what a loader answers for a key.
 fn tell(
     alloc: Global,
     memory: &mut Memory,
@@ -59,132 +67,31 @@ fn tell(
     Ok(())
 }
 
-fn tell_loader(
-    alloc: Global,
-    memory: &mut Memory,
-    loader: usize,
-    table: &str,
-    column: &str,
-) -> Result<(), Fail> {
-    if column.is_empty() {
-        let rows = rows_of(alloc, table, column, "")?;
-        return tell(alloc, memory, loader, Key::All, Item::Rows(rows));
-    }
-    for text in KEYS {
-        let item = if text == "bad" {
-            Item::KeyFault(String::from_str(alloc, "bad key")?)
-        } else {
-            Item::Rows(rows_of(alloc, table, column, text)?)
-        };
-        let key = Key::Text(String::from_str(alloc, text)?);
-        tell(alloc, memory, loader, key, item)?;
-    }
-    Ok(())
-}
-
-/// A memory that knows nothing.
-pub fn empty_memory(alloc: Global, world: World) -> Result<Memory, Fail> {
+/// A memory of so many loaders that knows nothing.
+fn empty_memory(alloc: Global, loaders: usize) -> Result<Memory, Fail> {
     let mut modes = Vec::new(alloc);
-    for _ in world.loaders {
+    for _ in 0..loaders {
         modes.push(KeyMode::Exact)?;
     }
     Ok(Memory::new(alloc, modes)?)
 }
 
-/// A memory that knows the rows of the world.
-pub fn memory_of(alloc: Global, world: World) -> Result<Memory, Fail> {
-    let mut memory = empty_memory(alloc, world)?;
-    for (loader, (table, column)) in world.loaders.iter().enumerate() {
-        tell_loader(alloc, &mut memory, loader, table, column)?;
-    }
-    Ok(memory)
-}
-
-/// The plan of a query with its variables.
-pub fn plan_of_text<'a>(
-    alloc: Global,
-    schema: &'a Schema,
-    bindings: &'a Bindings,
-    query: &str,
-    variables: &str,
-) -> Result<Plan<'a>, Fail> {
-    let checked = check(alloc, schema, parse(alloc, query)?)?;
-    let values = Value::from_str(alloc, variables)?;
-    Ok(prepare(alloc, schema, bindings, checked, None, &values)?)
-}
-
-// The keys that are wanted of each of so many loaders.
-fn wanted(alloc: Global, loaders: usize, wants: &Wants) -> Result<String, Fail>
-    requires { loaders ≤ length wants.now }
-{
-    let mut text = String::from_str(alloc, "waits for")?;
-    for loader in 0..loaders {
-        for key in wants.keys(loader) {
-            let load = match key {
-                Key::All => format!(in alloc; " {loader}:all")?,
-                Key::Text(key) => format!(in alloc; " {loader}:{key}")?,
+/// A memory that knows the rows of a world.
+pub fn memory_of(alloc: Global, world: &World) -> Result<Memory, Fail> {
+    let mut memory = empty_memory(alloc, world.loaders)?;
+    for (loader, table, column) in world.known {
+        let texts = if column.is_empty() { ALL } else { KEYS };
+        for text in texts {
+            let key = if column.is_empty() {
+                Key::All
+            } else {
+                Key::Text(String::from_str(alloc, text)?)
             };
-            text.push_str(load.as_str())?;
+            let item = item_of(alloc, table, column, text)?;
+            tell(alloc, &mut memory, *loader, key, item)?;
         }
     }
-    Ok(text)
-}
-
-// The answer of a plan, or what it waits for, by building it.
-fn evaluated(alloc: Global, plan: &Plan<'_>, memory: &Memory) -> Result<String, Fail>
-    requires { length (plan_of plan.now).bindings.loaders ≤ length memory.now.modes }
-{
-    let mut wants = Wants::new(alloc, memory)?;
-    match evaluate(alloc, plan, memory, &mut wants)? {
-        Poll::Ready(answered) => Ok(answer_text(alloc, &answered)?),
-        Poll::Pending => wanted(alloc, memory.modes().len(), &wants),
-    }
-}
-
-// The same, written straight from the rows.
-fn written(alloc: Global, plan: &Plan<'_>, memory: &Memory) -> Result<String, Fail>
-    requires { length (plan_of plan.now).bindings.loaders ≤ length memory.now.modes }
-{
-    let mut wants = Wants::new(alloc, memory)?;
-    match execute_text(alloc, plan, memory, &mut wants)? {
-        Poll::Ready(text) => Ok(text),
-        Poll::Pending => wanted(alloc, memory.modes().len(), &wants),
-    }
-}
-
-// What both ways give.
-fn polled(alloc: Global, plan: &Plan<'_>, memory: &Memory) -> Result<String, Fail>
-    requires { length (plan_of plan.now).bindings.loaders ≤ length memory.now.modes }
-{
-    let text = written(alloc, plan, memory)?;
-    let other = evaluated(alloc, plan, memory)?;
-    if text.as_str() == other.as_str() {
-        return Ok(text);
-    }
-    Ok(format!(in alloc; "written {text}, evaluated {other}")?)
-}
-
-/// The answer of a query with its variables over a memory of a world, or what it waits for.
-pub fn answer_over(
-    alloc: Global,
-    world: World,
-    memory: &Memory,
-    query: &str,
-    variables: &str,
-) -> Result<String, Fail> {
-    let schema = Schema::read(alloc, world.schema)?;
-    let bindings = Bindings::read(alloc, &schema, world.bindings)?;
-    let plan = plan_of_text(alloc, &schema, &bindings, query, variables)?;
-    if plan.loaders() <= memory.modes().len() {
-        return polled(alloc, &plan, memory);
-    }
-    Ok(String::from_str(alloc, "too few loaders")?)
-}
-
-/// The answer of a query with its variables over all that a world knows.
-pub fn answer(alloc: Global, world: World, query: &str, variables: &str) -> Result<String, Fail> {
-    let memory = memory_of(alloc, world)?;
-    answer_over(alloc, world, &memory, query, variables)
+    Ok(memory)
 }
 
 const SCHEMA: &str = "type Query { user(id: ID!): User usersByIds(ids: [ID!]!): [User]!
@@ -213,50 +120,144 @@ field User.liked via likesByUser column id postById post
 field Post.author one userById column author
 ";
 
-const USERS: &str = "id,name,best;1,Ada,2;2,Bob,1;3,Cy,;4,,1";
+const USERS: Table = &[
+    &[("id", "1"), ("name", "Ada"), ("best", "2")],
+    &[("id", "2"), ("name", "Bob"), ("best", "1")],
+    &[("id", "3"), ("name", "Cy"), ("best", "")],
+    &[("id", "4"), ("name", ""), ("best", "1")],
+];
 
-const POSTS: &str = "id,author,title;10,1,Loops;11,1,Maps;12,2,Trees";
+const POSTS: Table = &[
+    &[("id", "10"), ("author", "1"), ("title", "Loops")],
+    &[("id", "11"), ("author", "1"), ("title", "Maps")],
+    &[("id", "12"), ("author", "2"), ("title", "Trees")],
+];
 
-const ODD_POSTS: &str = "id,author,title;10,1,Loops;13,3,a\"b\nc\u{1}\u{1F600}";
+/// Of which one has a title that is hard to write.
+const ODD_POSTS: Table = &[
+    &[("id", "10"), ("author", "1"), ("title", "Loops")],
+    &[
+        ("id", "13"),
+        ("author", "3"),
+        ("title", "a\"b\nc\u{1}\u{1F600}"),
+    ],
+];
 
-const NAMED: &str = "id,__typename,name,model;1,User,Ada,;2,Bot,Rob,M5;3,Cat,Tom,";
+const NAMED: Table = &[
+    &[
+        ("id", "1"),
+        ("__typename", "User"),
+        ("name", "Ada"),
+        ("model", ""),
+    ],
+    &[
+        ("id", "2"),
+        ("__typename", "Bot"),
+        ("name", "Rob"),
+        ("model", "M5"),
+    ],
+    &[
+        ("id", "3"),
+        ("__typename", "Cat"),
+        ("name", "Tom"),
+        ("model", ""),
+    ],
+];
 
-const LIKES: &str = "user,post;1,12;1,10;3,99";
+const LIKES: Table = &[
+    &[("user", "1"), ("post", "12")],
+    &[("user", "1"), ("post", "10")],
+    &[("user", "3"), ("post", "99")],
+];
 
 /// Users with their best friends, posts and likes.
 pub const SAMPLE: World = World {
     schema: SCHEMA,
     bindings: BINDINGS,
-    loaders: &[
-        (USERS, "id"),
-        (USERS, ""),
-        (POSTS, "author"),
-        (NAMED, "id"),
-        (LIKES, "user"),
-        (POSTS, "id"),
+    loaders: 6,
+    known: &[
+        (0, USERS, "id"),
+        (1, USERS, ""),
+        (2, POSTS, "author"),
+        (3, NAMED, "id"),
+        (4, LIKES, "user"),
+        (5, POSTS, "id"),
     ],
 };
 
-/// The same with a title that is hard to write.
+/// The same with other posts.
 pub const ODD_TITLES: World = World {
     schema: SCHEMA,
     bindings: BINDINGS,
-    loaders: &[
-        (USERS, "id"),
-        (USERS, ""),
-        (ODD_POSTS, "author"),
-        (NAMED, "id"),
-        (LIKES, "user"),
-        (ODD_POSTS, "id"),
+    loaders: 6,
+    known: &[
+        (0, USERS, "id"),
+        (1, USERS, ""),
+        (2, ODD_POSTS, "author"),
+        (3, NAMED, "id"),
+        (4, LIKES, "user"),
+        (5, ODD_POSTS, "id"),
     ],
 };
 
-const ROWS: &str =
-    "id,number,flag,kind,up;1,7,true,A,2;2,x,yes,C,bad;3,,,,;4,2147483648,false,B,9;10,007,,,";
+/// The same where nothing is known.
+pub const NOTHING_KNOWN: World = World {
+    schema: SCHEMA,
+    bindings: BINDINGS,
+    loaders: 6,
+    known: &[],
+};
 
-const THINGS: &str = "id,__typename;1,Known;2,Row;3,";
+const ROWS: Table = &[
+    &[
+        ("id", "1"),
+        ("number", "7"),
+        ("flag", "true"),
+        ("kind", "A"),
+        ("up", "2"),
+    ],
+    &[
+        ("id", "2"),
+        ("number", "x"),
+        ("flag", "yes"),
+        ("kind", "C"),
+        ("up", "bad"),
+    ],
+    &[
+        ("id", "3"),
+        ("number", ""),
+        ("flag", ""),
+        ("kind", ""),
+        ("up", ""),
+    ],
+    &[
+        ("id", "4"),
+        ("number", "2147483648"),
+        ("flag", "false"),
+        ("kind", "B"),
+        ("up", "9"),
+    ],
+    &[
+        ("id", "10"),
+        ("number", "007"),
+        ("flag", ""),
+        ("kind", ""),
+        ("up", ""),
+    ],
+];
 
-const LINKS: &str = "from,to;1,1;1,bad;1,;1,9";
+const THINGS: Table = &[
+    &[("id", "1"), ("__typename", "Known")],
+    &[("id", "2"), ("__typename", "Row")],
+    &[("id", "3"), ("__typename", "")],
+];
+
+const LINKS: Table = &[
+    &[("from", "1"), ("to", "1")],
+    &[("from", "1"), ("to", "bad")],
+    &[("from", "1"), ("to", "")],
+    &[("from", "1"), ("to", "9")],
+];
 
 /// One field for each binding, over rows of which some are wrong.
 pub const ROUGH: World = World {
@@ -283,5 +284,6 @@ field Row.gone column nowhere
 field Row.next one rowById column up
 field Row.lost one rowById column nowhere
 ",
-    loaders: &[(ROWS, "id"), (THINGS, "id"), (LINKS, "from")],
+    loaders: 3,
+    known: &[(0, ROWS, "id"), (1, THINGS, "id"), (2, LINKS, "from")],
 };

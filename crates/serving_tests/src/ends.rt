@@ -1,17 +1,20 @@
-//! How runs end before they serve: what their calls answer, with the status and the line on standard error of each end.
+//! How runs end before they serve: the status and the line on standard error of each end, and the text of help.
 
+use crate::expect;
 use command_line::{Stop, Words};
-use std::alloc::Global;
+use std::alloc::{AllocError, Global};
 use std::test::Fail;
 use world::World;
 use world_files::open_world;
 
-/// The status of an end, and its line.
-fn said(alloc: Global, stop: &Stop) -> Result<String, Fail> {
-    Ok(format!(in alloc; "{} {}", stop.status(), stop.line())?)
+/// How a run begins.
+enum Start {
+    /// By the words of a command line, which spaces part.
+    Words(&'static str),
+    /// By a schema and a limit, with neither bindings nor tables.
+    World(&'static str, Option<u32>),
 }
 
-/// The words of a command line, which spaces part, or how they end a run.
 fn words_of(alloc: Global, line: &str) -> Result<Words, Stop> {
     let mut words = Vec::new(alloc);
     for word in line.split(' ') {
@@ -20,69 +23,65 @@ fn words_of(alloc: Global, line: &str) -> Result<Words, Stop> {
     Words::read(alloc, words.as_slice())
 }
 
-/// How a run of these words ends before it serves.
-fn unserved(rt: &HostRuntime, words: &str) -> Result<String, Fail> {
-    let opened = match words_of(rt.alloc(), words) {
-        Ok(words) => open_world(rt, &words),
-        Err(stop) => Err(stop),
-    };
-    match opened {
-        Ok(_) => Err(Fail::from("a world")),
-        Err(stop) => said(rt.alloc(), &stop),
+fn world_of(alloc: Global, schema: &str, limit: Option<u32>) -> Result<World, Stop> {
+    match World::new(alloc, schema, "bindings 1", Vec::new(alloc), limit) {
+        Ok(world) => Ok(world),
+        Err(fault) => Err(Stop::World(fault)),
     }
 }
 
-const WORDS: &[(&str, &str)] = &[
-    ("--help", "0 "),
-    ("--schema s --bindings b r users", "2 bad table"),
-    ("--schema no/such --bindings b r users=u", "4 X2 ReadFault"),
+fn started(rt: &HostRuntime, start: &Start) -> Result<World, Stop> {
+    match start {
+        Start::Words(line) => open_world(rt, &words_of(rt.alloc(), line)?),
+        Start::World(schema, limit) => world_of(rt.alloc(), schema, *limit),
+    }
+}
+
+/// The status of a run's end, and its line.
+fn ended(rt: &HostRuntime, start: &Start) -> Result<String, AllocError> {
+    match started(rt, start) {
+        Ok(_) => String::from_str(rt.alloc(), "a world"),
+        Err(stop) => format!(in rt.alloc(); "{} {}", stop.status(), stop.line()),
+    }
+}
+
+const ENDS: &[(Start, &str)] = &[
+    (Start::Words("--help"), "0 "),
+    (
+        Start::Words("--schema s --bindings b r users"),
+        "2 bad table",
+    ),
+    (
+        Start::Words("--schema no/such --bindings b r users=u"),
+        "4 X2 ReadFault",
+    ),
+    (Start::World("type Query{a:Int}", Some(0)), "2 Q1 BadLimit"),
+    (Start::World("type Query{a:Float}", None), "3 S7 NotServed"),
+    (Start::World("type Query{a:Int}", None), "3 S8 BadBinding"),
 ];
 
 #[test]
-fn words_end_runs(rt: HostRuntime) -> Result<(), Fail> {
-    for (words, want) in WORDS {
-        assert_eq!(rt; unserved(&rt, words)?.as_str(), *want);
+fn runs_end_before_they_serve(rt: HostRuntime) -> Result<(), Fail> {
+    for (start, want) in ENDS {
+        let found = ended(&rt, start)?;
+        expect(&rt, &found, want, want);
     }
     Ok(())
 }
 
-/// The text of help.
-fn help(alloc: Global) -> Result<String, Fail> {
-    match words_of(alloc, "-h") {
+/// The text of help, where that is what these words give.
+fn help(alloc: Global, line: &str) -> Result<String, AllocError> {
+    match words_of(alloc, line) {
         Err(Stop::Help(text)) => Ok(text),
-        _ => Err(Fail::from("no help")),
+        _ => String::from_str(alloc, "no help"),
     }
 }
 
 #[test]
 fn help_says_what_the_program_does(rt: HostRuntime) -> Result<(), Fail> {
-    let text = help(rt.alloc())?;
-    assert!(rt;
-        text.as_str()
-            .starts_with("Answers GraphQL queries over tables")
-    );
-    assert!(rt; text.as_str().ends_with("Print help"));
-    Ok(())
-}
-
-/// How a run without tables ends, for its schema and its limit.
-fn unmade(alloc: Global, schema: &str, limit: Option<u32>) -> Result<String, Fail> {
-    match World::new(alloc, schema, "bindings 1", Vec::new(alloc), limit) {
-        Ok(_) => Err(Fail::from("a world")),
-        Err(fault) => said(alloc, &Stop::World(fault)),
-    }
-}
-
-const SCHEMAS: &[(&str, Option<u32>, &str)] = &[
-    ("type Query{a:Int}", Some(0), "2 Q1 BadLimit"),
-    ("type Query{a:Float}", None, "3 S7 NotServed"),
-    ("type Query{a:Int}", None, "3 S8 BadBinding"),
-];
-
-#[test]
-fn worlds_end_runs(rt: HostRuntime) -> Result<(), Fail> {
-    for (schema, limit, want) in SCHEMAS {
-        assert_eq!(rt; unmade(rt.alloc(), schema, *limit)?.as_str(), *want);
-    }
+    let text = help(rt.alloc(), "-h")?;
+    let is_whole = text.starts_with("Answers GraphQL queries over tables")
+        && text.ends_with("Print help");
+    assert!(rt; is_whole, "{text}");
     Ok(())
 }

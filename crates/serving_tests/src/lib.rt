@@ -11,3 +11,9 @@ mod lines;
 mod sample;
 #[cfg(test)]
 mod serving;
+
+/// A text is the wanted one. One function for every test, since each assertion is dear to prove.
+#[cfg(test)]
+fn expect(rt: &impl std::process::Abort, found: &str, wanted: &str, case: &str) {
+    assert_eq!(rt; found, wanted, "{case}");
+}

@@ -1,16 +1,10 @@
 //! Answers of request lines.
 
+use crate::expect;
 use crate::sample::world;
 use line_serving::Answerer;
-use std::alloc::Global;
 use std::test::Fail;
 use world_answers::LineAnswers;
-
-/// What a line is answered over the sample world.
-fn answer(alloc: Global, line: &[u8]) -> Result<String, Fail> {
-    let world = world(alloc)?;
-    Ok(LineAnswers::new(&world).answer(alloc, line)?)
-}
 
 const ADA: &str = "{\"data\":{\"user\":{\"name\":\"Ada\"}}}";
 
@@ -78,8 +72,11 @@ const ANSWERS: &[(&[u8], &str)] = &[
 
 #[test]
 fn lines_have_these_answers(rt: HostRuntime) -> Result<(), Fail> {
+    let world = world(rt.alloc())?;
+    let answers = LineAnswers::new(&world);
     for (line, want) in ANSWERS {
-        assert_eq!(rt; answer(rt.alloc(), line)?.as_str(), *want);
+        let found = answers.answer(rt.alloc(), line)?;
+        expect(&rt, &found, want, want);
     }
     Ok(())
 }

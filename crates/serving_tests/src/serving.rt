@@ -1,5 +1,6 @@
 //! Serving over the sample world, from and to devices that fail too.
 
+use crate::expect;
 use crate::sample::world;
 use command_line::Stop;
 use line_serving::Counted;
@@ -66,12 +67,17 @@ fn run(alloc: Global, world: &World, input: Pieces<'_>, room: usize) -> (Stop, V
     (stop, narrow.bytes)
 }
 
-/// What is written when the sample world is served to a writer with so much room, and after it the status and the line of the
-/// end. The reader gives a text, and fails then if it is to.
-fn served(alloc: Global, text: &str, fails: bool, room: usize) -> Result<String, Fail> {
-    let world = world(alloc)?;
+/// What is written when a world is served to a writer with so much room, and after it the status and the line of the end. The
+/// reader gives a text, and fails then if it is to.
+fn served(
+    alloc: Global,
+    world: &World,
+    text: &str,
+    fails: bool,
+    room: usize,
+) -> Result<String, Fail> {
     let rest = text.as_bytes();
-    let (stop, bytes) = run(alloc, &world, Pieces { rest, fails }, room);
+    let (stop, bytes) = run(alloc, world, Pieces { rest, fails }, room);
     let written = str::from_utf8(bytes.as_slice())?;
     Ok(format!(in alloc; "{written}{} {}", stop.status(), stop.line())?)
 }
@@ -86,56 +92,51 @@ const UNENDED: &str =
 const ANSWERS: &str =
     "{\"data\":{\"user\":{\"name\":\"Ada\"}}}\n{\"errors\":[{\"message\":\"not a request\"}]}\n{\"errors\":[{\"message\":\"not a request\"}]}\n{\"data\":{\"user\":{\"name\":\"Ada\"}}}\n";
 
-/// A text, whether its reader then fails, the room of the writer, how many bytes of the answers are written, and the end.
-const RUNS: &[(&str, bool, usize, usize, &str)] = &[
-    (LINES, false, 148, 148, "0 "),
-    (UNENDED, false, 148, 148, "0 "),
-    ("", false, 0, 0, "0 "),
-    (LINES, true, 148, 148, "4 X2 ReadFault"),
-    (UNENDED, true, 148, 115, "4 X2 ReadFault"),
-    ("", true, 0, 0, "4 X2 ReadFault"),
-    (LINES, false, 0, 0, "4 X3 WriteFault"),
-    (LINES, false, 1, 1, "4 X3 WriteFault"),
-    (LINES, false, 32, 32, "4 X3 WriteFault"),
-    (LINES, false, 33, 33, "4 X3 WriteFault"),
-    (LINES, false, 147, 147, "4 X3 WriteFault"),
-    (UNENDED, true, 114, 114, "4 X3 WriteFault"),
+const LONG: &str = "[]\n{\"query\":\"{user(id:1){name}}\"}";
+
+const LONG_ANSWERS: &str =
+    "{\"errors\":[{\"message\":\"not a request\"}]}\n{\"data\":{\"user\":{\"name\":\"Ada\"}}}\n";
+
+/// A text, to which spaces are added up to so many bytes, and its answers.
+type Given = (&'static str, usize, &'static str);
+
+/// What a reader gives, whether it then fails, the room of the writer, how many bytes of the answers are written, and the end.
+/// A line has at most 4,194,304 bytes.
+const RUNS: &[(Given, bool, usize, usize, &str)] = &[
+    ((LINES, 0, ANSWERS), false, 148, 148, "0 "),
+    ((UNENDED, 0, ANSWERS), false, 148, 148, "0 "),
+    (("", 0, ""), false, 0, 0, "0 "),
+    ((LINES, 0, ANSWERS), true, 148, 148, "4 X2 ReadFault"),
+    ((UNENDED, 0, ANSWERS), true, 148, 115, "4 X2 ReadFault"),
+    (("", 0, ""), true, 0, 0, "4 X2 ReadFault"),
+    ((LINES, 0, ANSWERS), false, 0, 0, "4 X3 WriteFault"),
+    ((LINES, 0, ANSWERS), false, 1, 1, "4 X3 WriteFault"),
+    ((LINES, 0, ANSWERS), false, 32, 32, "4 X3 WriteFault"),
+    ((LINES, 0, ANSWERS), false, 33, 33, "4 X3 WriteFault"),
+    ((LINES, 0, ANSWERS), false, 147, 147, "4 X3 WriteFault"),
+    ((UNENDED, 0, ANSWERS), true, 114, 114, "4 X3 WriteFault"),
+    ((LONG, 4_194_307, LONG_ANSWERS), false, 148, 74, "0 "),
+    (
+        (LONG, 4_194_308, LONG_ANSWERS),
+        false,
+        148,
+        41,
+        "4 X1 LineTooLong",
+    ),
 ];
 
 #[test]
-fn lines_are_answered_in_order_until_a_device_fails(rt: HostRuntime) -> Result<(), Fail> {
-    for (text, fails, room, written, end) in RUNS {
-        let front = ANSWERS.get(..*written).unwrap_or("");
+fn lines_are_answered_in_order_until_one_is_too_long_or_a_device_fails(
+    rt: HostRuntime,
+) -> Result<(), Fail> {
+    let world = world(rt.alloc())?;
+    for ((text, length, answers), fails, room, written, end) in RUNS {
+        let length = *length;
+        let text = format!(in rt.alloc(); "{text:<length$}")?;
+        let front = answers.get(..*written).unwrap_or("");
         let want = format!(in rt.alloc(); "{front}{end}")?;
-        let found = served(rt.alloc(), text, *fails, *room)?;
-        assert_eq!(rt; found.as_str(), want.as_str());
-    }
-    Ok(())
-}
-
-const REQUEST: &str = "{\"query\":\"{user(id:1){name}}\"}";
-
-/// What is written for a line that is no request and then one of so many bytes, which spaces fill up.
-fn long_line_served(alloc: Global, length: usize) -> Result<String, Fail> {
-    let lines = format!(in alloc; "[]\n{REQUEST:<length$}")?;
-    served(alloc, lines.as_str(), false, 148)
-}
-
-const LONG: &[(usize, &str)] = &[
-    (
-        4_194_304,
-        "{\"errors\":[{\"message\":\"not a request\"}]}\n{\"data\":{\"user\":{\"name\":\"Ada\"}}}\n0 ",
-    ),
-    (
-        4_194_305,
-        "{\"errors\":[{\"message\":\"not a request\"}]}\n4 X1 LineTooLong",
-    ),
-];
-
-#[test]
-fn a_line_has_at_most_four_mebibytes(rt: HostRuntime) -> Result<(), Fail> {
-    for (length, want) in LONG {
-        assert_eq!(rt; long_line_served(rt.alloc(), *length)?.as_str(), *want);
+        let found = served(rt.alloc(), &world, &text, *fails, *room)?;
+        expect(&rt, &found, &want, &want);
     }
     Ok(())
 }

@@ -9,16 +9,14 @@ ghost use Rattle.load_rounds.specs.Sessions.{state_of};
 ghost use Rattle.load_rounds.specs.Executes.{IsAnswer};
 ghost use Rattle.load_rounds.specs.Runs.{AreReceived};
 
-use crate::expect;
-use crate::sample::{Manner, Short, plan_of, push_keys, rounds, session, world};
+use crate::sample::{Short, push_keys};
 use gq_check::Plan;
-use load_memory::{KeyMode, NoMemory, Receipt, Reply, Shelf};
+use load_memory::{NoMemory, Receipt, Reply, Shelf};
 use load_queue::{Asks, Loader, Order};
 use load_rounds::{Answer, Execute, Next, Session, Stage};
-use std::alloc::{AllocGlobal, Global};
+use std::alloc::{AllocError, AllocGlobal, Global};
 use std::sync::Wait;
 use std::test::Fail;
-use world::World;
 
 /// Runs the orders of a round one after another.
 fn run_all<S: Asks>(
@@ -72,25 +70,18 @@ fn received<S: Asks, R: Wait + AllocGlobal>(
     Ok(receipts)
 }
 
-/// An order's loader's number and its keys.
-fn order_text(alloc: Global, order: &Order) -> Result<String, Fail> {
-    let mut text = format!(in alloc; "{}:", order.loader())?;
-    push_keys(&mut text, order.keys())?;
-    Ok(text)
-}
-
-/// Notes the orders of a round, and a point after the last.
-fn note(alloc: Global, orders: &[Order], noted: &mut String) -> Result<(), Fail> {
+/// Notes the orders of a round, each with its loader's number and its keys, and a point after the last.
+fn note(orders: &[Order], noted: &mut String) -> Result<(), AllocError> {
     for order in orders {
-        noted.push_str(&order_text(alloc, order)?)?;
+        write!(noted, "{}:", order.loader())?;
+        push_keys(noted, order.keys())?;
         noted.push(';')?;
     }
-    noted.push('.')?;
-    Ok(())
+    noted.push('.')
 }
 
 /// Answers a plan in rounds by hand, and notes what each asks.
-fn answered<P: Execute, S: Asks, R: Wait + AllocGlobal>(
+pub fn answered<P: Execute, S: Asks, R: Wait + AllocGlobal>(
     rt: &R,
     plan: &P,
     session: &mut Session<S>,
@@ -105,89 +96,13 @@ fn answered<P: Execute, S: Asks, R: Wait + AllocGlobal>(
         match run.next_round(session)? {
             Next::Finished(answer) => return Ok(answer),
             Next::Round(orders) => {
-                note(rt.alloc(), orders.as_slice(), noted)?;
+                note(orders.as_slice(), noted)?;
                 let shelf = Shelf::new(rt.alloc())?;
                 let receipts = received(rt, orders, session.loaders(), &shelf)?;
                 run.take(session, &shelf, receipts.as_slice())?;
             }
         }
     }
-}
-
-/// The text of an answer in rounds by hand, the orders of each round, and the number of rounds with all that was asked.
-fn told_of<R: Wait + AllocGlobal>(
-    rt: &R,
-    session: &mut Session<Short<'_>>,
-    plan: &Plan<'_>,
-) -> Result<(String, String, String), Fail> {
-    if session.loaders().len() < plan.loaders() {
-        return Err(Fail::from("too few loaders"));
-    }
-    let mut noted = String::new(rt.alloc());
-    let answer = answered(rt, plan, session, &mut noted)?;
-    let asked = rounds(rt.alloc(), answer.rounds, session)?;
-    Ok((answer.text, noted, asked))
-}
-
-/// The same of a new session, with at most two keys in a batch.
-fn told_anew<R: Wait + AllocGlobal>(
-    rt: &R,
-    world: &World,
-    plan: &Plan<'_>,
-) -> Result<(String, String, String), Fail> {
-    let mut session = session(rt.alloc(), world, PAIRS)?;
-    told_of(rt, &mut session, plan)
-}
-
-/// The same of a query.
-fn told<R: Wait + AllocGlobal>(
-    rt: &R,
-    world: &World,
-    query: &str,
-) -> Result<(String, String, String), Fail> {
-    let plan = plan_of(rt.alloc(), world, query, "{}")?;
-    told_anew(rt, world, &plan)
-}
-
-/// At most two keys in a batch.
-const PAIRS: Manner = Manner {
-    most: usize::MAX,
-    mode: KeyMode::Exact,
-    limit: Some(2),
-};
-
-/// Queries with their answers, the orders of each round, and what was asked.
-const BY_HAND: &[(&str, &str, &str, &str)] = &[
-    (
-        "{user(id:1){name}}",
-        "{\"data\":{\"user\":{\"name\":\"Ada\"}}}",
-        "0: 1;.",
-        "1 rounds: userById 1: 1;",
-    ),
-    (
-        "{users{posts{author{name}}}}",
-        "{\"data\":{\"users\":[{\"posts\":[{\"author\":{\"name\":\"Ada\"}},{\"author\":{\"name\":\"Ada\"}}]},{\"posts\":[{\"author\":{\"name\":\"Bob\"}}]},{\"posts\":[]},{\"posts\":[]}]}}",
-        "1: all;.2: 1 2;2: 3 4;.0: 1 2;.",
-        "3 rounds: userById 3: 1 2;allUsers 1: all;postsByAuthor 2: 1 2;postsByAuthor 2: 3 4;",
-    ),
-    (
-        "{a:user(id:1){name} users{id}}",
-        "{\"data\":{\"a\":{\"name\":\"Ada\"},\"users\":[{\"id\":\"1\"},{\"id\":\"2\"},{\"id\":\"3\"},{\"id\":\"4\"}]}}",
-        "0: 1;1: all;.",
-        "1 rounds: userById 1: 1;allUsers 1: all;",
-    ),
-];
-
-#[test]
-fn rounds_by_hand_give_these_answers(rt: HostRuntime) -> Result<(), Fail> {
-    let world = world(rt.alloc(), "")?;
-    for (query, text, orders, asked) in BY_HAND {
-        let (found, noted, log) = told(&rt, &world, query)?;
-        expect(&rt, &found, text, query);
-        expect(&rt, &noted, orders, query);
-        expect(&rt, &log, asked, query);
-    }
-    Ok(())
 }
 
 /// Begins a run, and drops it while its first round is out: its stages before that round and after it.
@@ -209,21 +124,15 @@ fn stage_name(stage: Stage) -> &'static str {
     }
 }
 
-fn dropped_run(session: &mut Session<Short<'_>>, plan: &Plan<'_>) -> Result<(Stage, Stage), Fail> {
-    if session.loaders().len() < plan.loaders() {
-        return Err(Fail::from("too few loaders"));
-    }
-    dropped(session, plan)
-}
-
 /// The stages of a run that is dropped while its first round is out.
 pub fn abandoned(
     alloc: Global,
-    world: &World,
     session: &mut Session<Short<'_>>,
-    query: &str,
+    plan: &Plan<'_>,
 ) -> Result<String, Fail> {
-    let plan = plan_of(alloc, world, query, "{}")?;
-    let (begun, left) = dropped_run(session, &plan)?;
+    if session.loaders().len() < plan.loaders() {
+        return Err(Fail::from("too few loaders"));
+    }
+    let (begun, left) = dropped(session, plan)?;
     Ok(format!(in alloc; "{}, {}", stage_name(begun), stage_name(left))?)
 }

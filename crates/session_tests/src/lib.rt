@@ -9,6 +9,8 @@ mod by_hand;
 #[cfg(test)]
 mod calls;
 #[cfg(test)]
+mod cases;
+#[cfg(test)]
 mod sample;
 
 /// A text is the wanted one. One function for every test, since each assertion is dear to prove.

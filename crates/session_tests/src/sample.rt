@@ -5,7 +5,7 @@ ghost use Rattle.std.specs.Prelude.{◌≡◌, [], ⊤, IfOk};
 use csv_source::{CsvSource, Table};
 use gq_check::Plan;
 use load_memory::{Item, Key, KeyMode};
-use load_queue::{Asked, FetchFault, Loader, PerKey, Source};
+use load_queue::{FetchFault, Loader, PerKey, Source};
 use load_rounds::{Answer, Session};
 use serde_json::Value;
 use std::alloc::{AllocError, Global};
@@ -86,7 +86,6 @@ impl<'w> Source for Short<'w> {
 }
 
 /// How a session asks: the most items that the users by id answer, how their keys are compared, and the most keys of a batch.
-#[derive(Clone, Copy)]
 pub struct Manner {
     pub most: usize,
     pub mode: KeyMode,
@@ -105,7 +104,7 @@ fn loader<'w>(
     alloc: Global,
     world: &'w World,
     number: usize,
-    manner: Manner,
+    manner: &Manner,
 ) -> Result<Loader<Short<'w>>, Fail>
     ensures { IfOk result (λ loader. loader.log ≡ []) }
 {
@@ -125,7 +124,7 @@ fn loader<'w>(
 pub fn session<'w>(
     alloc: Global,
     world: &'w World,
-    manner: Manner,
+    manner: &Manner,
 ) -> Result<Session<Short<'w>>, Fail> {
     let mut loaders = Vec::new(alloc);
     for number in 0..world.loaders() {
@@ -165,27 +164,16 @@ pub fn push_keys(text: &mut String, keys: &[Key]) -> Result<(), AllocError> {
     Ok(())
 }
 
-/// A batch of a loader: its name, the round and the keys, and a mark where it isn't stored.
-fn batch_text(alloc: Global, loader: &str, batch: &Asked) -> Result<String, Fail> {
-    let mut text = format!(in alloc; "{loader} {}:", batch.round)?;
-    push_keys(&mut text, &batch.keys)?;
-    text.push_str(if batch.stored { ";" } else { "?;" })?;
-    Ok(text)
-}
-
-/// What the loaders were asked, in order of their numbers.
-pub fn asked(alloc: Global, session: &Session<Short<'_>>) -> Result<String, Fail> {
+/// What the loaders were asked, in order of their numbers: of each batch the name of the loader, the round and the keys, and a
+/// mark where it isn't stored.
+pub fn asked(alloc: Global, session: &Session<Short<'_>>) -> Result<String, AllocError> {
     let mut text = String::new(alloc);
     for loader in session.loaders() {
-        for entry in loader.log() {
-            text.push_str(&batch_text(alloc, loader.name(), entry)?)?;
+        for batch in loader.log() {
+            write!(text, "{} {}:", loader.name(), batch.round)?;
+            push_keys(&mut text, &batch.keys)?;
+            text.push_str(if batch.stored { ";" } else { "?;" })?;
         }
     }
     Ok(text)
-}
-
-/// The number of an answer's rounds, and all that was asked.
-pub fn rounds(alloc: Global, number: u32, session: &Session<Short<'_>>) -> Result<String, Fail> {
-    let asked = asked(alloc, session)?;
-    Ok(format!(in alloc; "{number} rounds: {asked}")?)
 }

@@ -6,17 +6,16 @@ use csv_source::TableFault;
 use gq_lexer::Place;
 use gq_schema::SchemaFault;
 use line_serving::ServeFault;
-use std::alloc::Global;
+use std::alloc::{AllocError, Global};
 use std::test::Fail;
 use world::WorldFault;
 
 /// The status of an end, a space and its line on standard error.
-pub fn said(alloc: Global, stop: &Stop) -> Result<String, Fail> {
-    Ok(format!(in alloc; "{} {}", stop.status(), stop.line())?)
+pub fn said(alloc: Global, stop: &Stop) -> Result<String, AllocError> {
+    format!(in alloc; "{} {}", stop.status(), stop.line())
 }
 
 /// The ends that are looked at. A constant can't hold those themselves, since some have texts.
-#[derive(Clone, Copy)]
 enum End {
     Served,
     BadLimit,
@@ -30,17 +29,19 @@ enum End {
 }
 
 impl End {
-    fn stop(self) -> Stop {
+    fn stop(&self) -> Stop {
         match self {
             End::Served => Stop::Served,
             End::BadLimit => Stop::World(WorldFault::BadLimit),
-            End::Syntax(place) => Stop::World(WorldFault::Schema(SchemaFault::Syntax(place))),
-            End::BadBinding(line) => Stop::World(WorldFault::Schema(SchemaFault::BadBinding(line))),
+            End::Syntax(place) => Stop::World(WorldFault::Schema(SchemaFault::Syntax(*place))),
+            End::BadBinding(line) => Stop::World(WorldFault::Schema(SchemaFault::BadBinding(
+                *line,
+            ))),
             End::DuplicateTable => Stop::World(WorldFault::DuplicateTable),
             End::WorldNoMemory => Stop::World(WorldFault::NoMemory),
-            End::Table(fault) => Stop::Table(fault),
+            End::Table(fault) => Stop::Table(*fault),
             End::File => Stop::File,
-            End::Serve(fault) => Stop::Serve(fault),
+            End::Serve(fault) => Stop::Serve(*fault),
         }
     }
 }

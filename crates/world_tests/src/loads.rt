@@ -10,20 +10,6 @@ use std::process::Abort;
 use std::test::Fail;
 use world::World;
 
-/// The world of these texts and tables.
-fn world(
-    alloc: Global,
-    schema: &str,
-    bindings: &str,
-    tables: &[Given],
-    max: Option<u32>,
-) -> Result<World, Fail> {
-    match world_of(alloc, schema, bindings, tables, max)? {
-        Ok(world) => Ok(world),
-        Err(_) => Err(Fail::from("no world")),
-    }
-}
-
 /// The limit, 0 where there is none, the root, and how many loaders the bindings and the sources have.
 pub fn told(alloc: Global, world: &World) -> Result<String, AllocError> {
     let limit = world.limit().unwrap_or(0);
@@ -82,12 +68,15 @@ fn loaded(
 /// A loader, a key, a column, and the texts in it.
 pub type Load = (usize, Option<&'static str>, &'static str, &'static str);
 
-/// A world's loaders have these texts.
+/// A world has these parts, and its loaders these texts.
 pub fn expect_loads<R: Abort + AllocGlobal>(
     rt: &R,
     world: &World,
+    parts: &str,
     loads: &[Load],
 ) -> Result<(), Fail> {
+    let found = told(rt.alloc(), world)?;
+    expect(rt, &found, parts, "parts");
     for (loader, key, column, want) in loads {
         let found = loaded(rt.alloc(), world, *loader, *key, column)?;
         expect(rt, &found, want, column);
@@ -103,14 +92,6 @@ const SAMPLE: &[Load] = &[
     (4, Some("1"), "post", "12;10;"),
     (5, Some("1"), "title", ""),
 ];
-
-#[test]
-fn sample_world(rt: HostRuntime) -> Result<(), Fail> {
-    let world = world(rt.alloc(), SCHEMA, BINDINGS, TABLES, Some(3))?;
-    let parts = told(rt.alloc(), &world)?;
-    expect(&rt, &parts, "3 Query 6 6", "parts");
-    expect_loads(&rt, &world, SAMPLE)
-}
 
 const LETTERS: &str = "type Query { a(n: ID): P b(n: ID): P c(n: ID): P } type P { x: ID y: ID }";
 
@@ -134,10 +115,26 @@ const SHARED: &[Load] = &[
     (3, Some("A"), "y", "A;"),
 ];
 
+/// A schema, its bindings and its tables, a limit, the parts of the world, and what its loaders have.
+const WORLDS: &[(&str, &str, &[Given], Option<u32>, &str, &[Load])] = &[
+    (SCHEMA, BINDINGS, TABLES, Some(3), "3 Query 6 6", SAMPLE),
+    (
+        LETTERS,
+        LETTER_LOADERS,
+        LETTER_TABLES,
+        None,
+        "0 Query 4 4",
+        SHARED,
+    ),
+];
+
 #[test]
-fn shared_columns(rt: HostRuntime) -> Result<(), Fail> {
-    let world = world(rt.alloc(), LETTERS, LETTER_LOADERS, LETTER_TABLES, None)?;
-    let parts = told(rt.alloc(), &world)?;
-    expect(&rt, &parts, "0 Query 4 4", "parts");
-    expect_loads(&rt, &world, SHARED)
+fn sources_have_the_rows_of_tables(rt: HostRuntime) -> Result<(), Fail> {
+    for (schema, bindings, tables, max, parts, loads) in WORLDS {
+        let Ok(world) = world_of(rt.alloc(), schema, bindings, tables, *max)? else {
+            return Err(Fail::from("no world"));
+        };
+        expect_loads(&rt, &world, parts, loads)?;
+    }
+    Ok(())
 }

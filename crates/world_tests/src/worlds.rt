@@ -5,7 +5,8 @@ use crate::sample::{BINDINGS, Given, LIKES, NAMED, POSTS, SCHEMA, TABLES, USERS}
 use csv_source::Table;
 use gq_lexer::Place;
 use gq_schema::SchemaFault;
-use std::alloc::{AllocError, Global};
+use std::alloc::{AllocError, AllocGlobal, Global};
+use std::process::Abort;
 use std::test::Fail;
 use world::{MAX_LIMIT, World, WorldFault};
 
@@ -32,35 +33,30 @@ pub fn world_of(
     Ok(World::new(alloc, schema, bindings, given, max))
 }
 
-/// How a refusal is printed; `world` where there is none.
-fn printed(alloc: Global, made: Result<World, WorldFault>) -> Result<String, AllocError> {
-    match made {
-        Ok(_) => String::from_str(alloc, "world"),
-        Err(fault) => format!(in alloc; "{fault}"),
-    }
+/// What is told of a refusal.
+enum Asked {
+    /// How it is printed; `world` where there is none.
+    Fault,
+    /// The line and the column of a syntax fault of a schema, or the line of a bad binding.
+    Place,
 }
 
-/// A schema with the sample's bindings and tables, a limit, and what is printed.
-const LIMITS: &[(&str, Option<u32>, &str)] = &[
-    (SCHEMA, Some(0), "Q1 BadLimit"),
-    ("type", Some(0), "Q1 BadLimit"),
-    ("type", Some(MAX_LIMIT + 1), "Q1 BadLimit"),
-    ("type", Some(1), "S1 Syntax"),
-    (SCHEMA, Some(1), "world"),
-    (SCHEMA, Some(65_535), "world"),
-    (SCHEMA, Some(65_536), "Q1 BadLimit"),
-    (SCHEMA, Some(u32::MAX), "Q1 BadLimit"),
-    (SCHEMA, None, "world"),
-];
-
-#[test]
-fn limits(rt: HostRuntime) -> Result<(), Fail> {
-    for (schema, max, want) in LIMITS {
-        let made = world_of(rt.alloc(), schema, BINDINGS, TABLES, *max)?;
-        let found = printed(rt.alloc(), made)?;
-        expect(&rt, &found, want, schema);
+fn told(
+    alloc: Global,
+    asked: &Asked,
+    made: Result<World, WorldFault>,
+) -> Result<String, AllocError> {
+    match (asked, made) {
+        (Asked::Fault, Ok(_)) => String::from_str(alloc, "world"),
+        (Asked::Fault, Err(fault)) => format!(in alloc; "{fault}"),
+        (_, Err(WorldFault::Schema(SchemaFault::Syntax(Place { line, column })))) => {
+            format!(in alloc; "schema {line}:{column}")
+        }
+        (_, Err(WorldFault::Schema(SchemaFault::BadBinding(line)))) => {
+            format!(in alloc; "bindings {line}")
+        }
+        _ => String::from_str(alloc, "no place"),
     }
-    Ok(())
 }
 
 /// Another table of the posts' name.
@@ -87,57 +83,114 @@ const NO_COLUMN: &[Given] = &[("t", b"x,y,Z\n")];
 
 const NO_TABLE: &[Given] = &[("u", b"x\n")];
 
-/// A schema, its bindings and its tables, and what is printed.
-const REFUSALS: &[(&str, &str, &[Given], &str)] = &[
-    ("type Query{a:Float}", BINDINGS, FIVE, "S7 NotServed"),
-    ("type Q{a:Int}", BINDINGS, FIVE, "S5 NoQueryRoot"),
-    (SCHEMA, "bindings 2", FIVE, "S8 BadBinding"),
-    (SCHEMA, "bindings 1", &[], "S8 BadBinding"),
-    (SCHEMA, BINDINGS, FIVE, "X6 DuplicateTable"),
-    (SCHEMA, BINDINGS, LAST_FOUR, "X6 DuplicateTable"),
-    (SCHEMA, BINDINGS, FIRST_THREE, "X7 NoSuchTable"),
-    (SCHEMA, BINDINGS, LAST_THREE, "X7 NoSuchTable"),
-    (SCHEMA, BINDINGS, &[], "X7 NoSuchTable"),
-    (ROOT, LACKING, NO_COLUMN, "C6 NoSuchColumn"),
-    (ROOT, LACKING, NO_TABLE, "X7 NoSuchTable"),
+/// Tables, a limit, and what is told.
+type Rows = &'static [(&'static [Given], Option<u32>, &'static str)];
+
+/// What is told, of a schema and its bindings.
+const MADE: &[(Asked, &str, &str, Rows)] = &[
+    (
+        Asked::Fault,
+        SCHEMA,
+        BINDINGS,
+        &[
+            (TABLES, Some(0), "Q1 BadLimit"),
+            (TABLES, Some(1), "world"),
+            (TABLES, Some(65_535), "world"),
+            (TABLES, Some(65_536), "Q1 BadLimit"),
+            (TABLES, Some(u32::MAX), "Q1 BadLimit"),
+            (TABLES, None, "world"),
+            (FIVE, None, "X6 DuplicateTable"),
+            (LAST_FOUR, None, "X6 DuplicateTable"),
+            (FIRST_THREE, None, "X7 NoSuchTable"),
+            (LAST_THREE, None, "X7 NoSuchTable"),
+            (&[], None, "X7 NoSuchTable"),
+        ],
+    ),
+    (
+        Asked::Fault,
+        "type",
+        BINDINGS,
+        &[
+            (TABLES, Some(0), "Q1 BadLimit"),
+            (TABLES, Some(MAX_LIMIT + 1), "Q1 BadLimit"),
+            (TABLES, Some(1), "S1 Syntax"),
+        ],
+    ),
+    (
+        Asked::Fault,
+        "type Query{a:Float}",
+        BINDINGS,
+        &[(FIVE, None, "S7 NotServed")],
+    ),
+    (
+        Asked::Fault,
+        "type Q{a:Int}",
+        BINDINGS,
+        &[(FIVE, None, "S5 NoQueryRoot")],
+    ),
+    (
+        Asked::Fault,
+        SCHEMA,
+        "bindings 2",
+        &[(FIVE, None, "S8 BadBinding")],
+    ),
+    (
+        Asked::Fault,
+        SCHEMA,
+        "bindings 1",
+        &[(&[], None, "S8 BadBinding")],
+    ),
+    (
+        Asked::Fault,
+        ROOT,
+        LACKING,
+        &[
+            (NO_COLUMN, None, "C6 NoSuchColumn"),
+            (NO_TABLE, None, "X7 NoSuchTable"),
+        ],
+    ),
+    (
+        Asked::Place,
+        "type Query {\n  a Int }",
+        "bindings 1",
+        &[(TABLES, None, "schema 2:5")],
+    ),
+    (
+        Asked::Place,
+        SCHEMA,
+        "bindings 1\nloader",
+        &[(TABLES, None, "bindings 2")],
+    ),
+    (
+        Asked::Place,
+        SCHEMA,
+        "bindings 1\n",
+        &[(TABLES, None, "bindings 0")],
+    ),
+    (
+        Asked::Place,
+        SCHEMA,
+        BINDINGS,
+        &[(TABLES, None, "no place")],
+    ),
 ];
 
-#[test]
-fn refusals(rt: HostRuntime) -> Result<(), Fail> {
-    for (schema, bindings, tables, want) in REFUSALS {
-        let made = world_of(rt.alloc(), schema, bindings, tables, None)?;
-        let found = printed(rt.alloc(), made)?;
-        expect(&rt, &found, want, bindings);
+/// The tables come as an argument, since a loop over a large constant is dear to prove.
+fn expect_all<R: Abort + AllocGlobal>(
+    rt: &R,
+    groups: &[(Asked, &str, &str, Rows)],
+) -> Result<(), Fail> {
+    for (asked, schema, bindings, rows) in groups {
+        for (tables, max, want) in *rows {
+            let made = world_of(rt.alloc(), schema, bindings, tables, *max)?;
+            let found = told(rt.alloc(), asked, made)?;
+            expect(rt, &found, want, bindings);
+        }
     }
     Ok(())
 }
 
-/// The line and the column of a syntax fault of a schema, or the line of a bad binding.
-fn place_of(alloc: Global, made: Result<World, WorldFault>) -> Result<String, AllocError> {
-    match made {
-        Err(WorldFault::Schema(SchemaFault::Syntax(Place { line, column }))) => {
-            format!(in alloc; "schema {line}:{column}")
-        }
-        Err(WorldFault::Schema(SchemaFault::BadBinding(line))) => {
-            format!(in alloc; "bindings {line}")
-        }
-        _ => String::from_str(alloc, "no place"),
-    }
-}
-
-const PLACES: &[(&str, &str, &str)] = &[
-    ("type Query {\n  a Int }", "bindings 1", "schema 2:5"),
-    (SCHEMA, "bindings 1\nloader", "bindings 2"),
-    (SCHEMA, "bindings 1\n", "bindings 0"),
-    (SCHEMA, BINDINGS, "no place"),
-];
-
 #[test]
-fn places(rt: HostRuntime) -> Result<(), Fail> {
-    for (schema, bindings, want) in PLACES {
-        let made = world_of(rt.alloc(), schema, bindings, TABLES, None)?;
-        let found = place_of(rt.alloc(), made)?;
-        expect(&rt, &found, want, bindings);
-    }
-    Ok(())
+fn worlds(rt: HostRuntime) -> Result<(), Fail> {
+    expect_all(&rt, MADE)
 }

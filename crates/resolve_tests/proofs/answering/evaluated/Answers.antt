@@ -10,7 +10,7 @@ use Rattle.plan_program.specs.PlanPrograms.{plan_program}
 use Rattle.gq_resolve.specs.declared.answered.Answered.{Answered}
 use Rattle.gq_resolve.specs.Evaluated.{IsEvaluated, front_over}
 use Rattle.resolve_tests.proofs.Fresh.{fresh-modes, fresh-length, wanting-length}
-use Rattle.resolve_tests.proofs.worlds.evaluated.Goals as goal
+use Rattle.resolve_tests.proofs.answering.evaluated.Goals as goal
 
 pending-length : (old new : List WantedOf) (p : Program) (m : MemoryOf) (polled : Poll Answered) → IsEvaluated old new p m polled → polled ≡ Pending → length new ≡ length old
 pending-length old new p m polled h e =

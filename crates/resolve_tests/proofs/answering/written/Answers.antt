@@ -11,7 +11,7 @@ use Rattle.std.specs.Prelude.{String}
 use Rattle.std.specs.declared.alloc.Global.{Global}
 use Rattle.gq_resolve.specs.Evaluated.{IsWritten, front_over}
 use Rattle.resolve_tests.proofs.Fresh.{fresh-modes, fresh-length, wanting-length}
-use Rattle.resolve_tests.proofs.worlds.written.Goals as goal
+use Rattle.resolve_tests.proofs.answering.written.Goals as goal
 
 pending-length : (old new : List WantedOf) (p : Program) (m : MemoryOf) (polled : Poll (String Global)) → IsWritten old new p m polled → polled ≡ Pending → length new ≡ length old
 pending-length old new p m polled h e =
