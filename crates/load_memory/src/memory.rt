@@ -13,7 +13,7 @@ use crate::outcome::{Item, Outcome};
 use crate::part::{Part, Staged, drop_failed_of, put_absent, take_out};
 use crate::reply::Reply;
 use crate::shelf::{Receipt, Shelf};
-use crate::store::{counts_of, has_failed, make_room, put_all, stage};
+use crate::store::{counts_of, has_failed, make_room, put_all, stage, stage_owned};
 use std::alloc::Global;
 use std::collections::HashMap;
 use std::marker::Model;
@@ -176,6 +176,22 @@ impl Memory {
         let mut pairs = Vec::new(*self.modes.allocator());
         for reply in replies {
             stage(&mut pairs, self.mode(reply.loader), reply)?;
+        }
+        self.store(pairs)
+    }
+
+    /// Adds the pairs of replies that are handed over, as [`keep`](Memory::keep) does. It copies no key and no
+    /// outcome, and drops the replies, also after a refused growth.
+    pub fn keep_owned(&mut self, replies: Vec<Reply>) -> Result<(), NoMemory>
+        requires { All (λ (r : Reply). r.loader < length self.old.modes) replies.items }
+        ensures pairs { OnOk result (IsWith self.old.pairs
+            (pairs_of self.old.modes (map reply_of replies.items)) self.new.pairs) }
+        ensures modes { self.new.modes ≡ self.old.modes }
+        ensures kept { OnErr result (IsSameMap self.new.pairs self.old.pairs) }
+    {
+        let mut pairs = Vec::new(*self.modes.allocator());
+        for owned in replies {
+            stage_owned(&mut pairs, self.mode(owned.loader), owned)?;
         }
         self.store(pairs)
     }

@@ -6,7 +6,7 @@ ghost use Rattle.load_memory.specs.Pairs.{IsSameMap, IsWith};
 ghost use Rattle.load_memory.specs.Parts.{HaveOwnKeys, HaveRoom, room_at, count_at, pairs_from, staged_of, AreUnfailed};
 ghost use Rattle.load_memory.specs.Replies.{reply_pairs};
 
-use crate::key::{KeyMode, cache_key};
+use crate::key::{CacheKey, KeyMode, cache_key};
 use crate::no_memory::NoMemory;
 use crate::part::{Part, Staged, put};
 use crate::reply::Reply;
@@ -28,6 +28,36 @@ pub(crate) fn stage(pairs: &mut Vec<Staged>, mode: KeyMode, reply: &Reply) -> Re
             loader: reply.loader,
             key: cache_key(alloc, key, mode)?,
             outcome: outcome.clone()?,
+        })?;
+    }
+    Ok(())
+}
+
+/// Adds the pairs of a reply that is handed over, as [`stage`] does. It copies no key and no outcome.
+pub(crate) fn stage_owned(
+    pairs: &mut Vec<Staged>,
+    mode: KeyMode,
+    reply: Reply,
+) -> Result<(), NoMemory>
+    ensures { OnOk result (map staged_of pairs.new.items ≡ map staged_of pairs.old.items
+        ++ reply_pairs mode reply.loader (map key_of reply.keys.items)
+        (map outcome_of reply.outcomes.items)) }
+{
+    let Reply {
+        loader,
+        keys,
+        outcomes,
+    } = reply;
+    pairs.reserve(keys.len())?;
+    let mut outcomes = outcomes.into_iter();
+    for key in keys {
+        let Some(outcome) = outcomes.next() else {
+            return Ok(());
+        };
+        pairs.push(Staged {
+            loader,
+            key: CacheKey::of(key, mode),
+            outcome,
         })?;
     }
     Ok(())

@@ -270,7 +270,7 @@ impl<S: Asks> Session<S> {
         let orders = cut_all(&mut self.loaders, &mut self.rounds, round, &wants)?;
         drop(wants);
         let replies = run_all(*self.loaders.allocator(), orders, &self.loaders)?;
-        self.memory.keep(&replies)?;
+        self.memory.keep_owned(replies)?;
         mark_all(&mut self.loaders, round);
         Ok(())
     }

@@ -79,8 +79,8 @@ returns-in_err-replies-clause-lost g c = λ loads wanted.
     let h = enters-first round r c.cut_all.new.rounds keys L c.cut_all.new.loaders.items c.in_ok-orders.ensures.entered in
     rw (← c.self.view_is) (on-err c.from_residual-in_err-replies.result (record { loaders = length L; after = state-lost keys loads L own round r c.cut_all.new.rounds (length L) c.cut_all.new.loaders.items M M next h (λ l k. refl) }))
 
-pub keep-requires : goal.keep-requires
-keep-requires g c =
+pub keep_owned-requires : goal.keep_owned-requires
+keep_owned-requires g c =
     let L = c.self.inside.loaders.items in
     let M = c.self.inside.memory in
     let r = c.self.inside.rounds in
@@ -89,20 +89,20 @@ keep-requires g c =
     let size : 0 + length (map rule_of L) ≤ most = omega (arith, ap length c.self.invariant.modes, length-map (map rule_of L) (λ (r : RuleOf). r.mode)) in
     let below = orders-below 0 most (map rule_of L) keys size in
     let all = replies-below (may_at g.S.Asks.may_tell c.deref.result.now) most c.in_ok-orders.orders.items (map reply_of c.in_ok-replies.replies.items) c.in_ok-replies.ensures (rw c.in_ok-orders.ensures.orders below) in
-    rw c.deref-2.ensures.value (All-of_map reply_of (λ (r : ReplyOf). r.loader < most) c.in_ok-replies.replies.items all)
+    All-of_map reply_of (λ (r : ReplyOf). r.loader < most) c.in_ok-replies.replies.items all
 
-pub invariant_of-self-in_err-keep : goal.invariant_of-self-in_err-keep
-invariant_of-self-in_err-keep g c =
+pub invariant_of-self-in_err-keep_owned : goal.invariant_of-self-in_err-keep_owned
+invariant_of-self-in_err-keep_owned g c =
     let L = c.self.inside.loaders.items in
     let M = c.self.inside.memory in
     let r = c.self.inside.rounds in
     let keys = keys_wanted c.args.wants in
     let round = c.in_ok-round.round in
     let next : round ≡ r + 1 = SomeIff-at c.checked_add.result _ _ _ c.in_ok-round.ensures.ok_part c.checked_add.ensures in
-    entered-session round r c.cut_all.new.rounds keys L c.cut_all.new.loaders.items M c.keep.new.self next c.self.invariant c.in_ok-orders.ensures.entered c.keep.ensures.modes
+    entered-session round r c.cut_all.new.rounds keys L c.cut_all.new.loaders.items M c.keep_owned.new.self next c.self.invariant c.in_ok-orders.ensures.entered c.keep_owned.ensures.modes
 
-pub returns-in_err-keep-clause-lost : goal.returns-in_err-keep-clause-lost
-returns-in_err-keep-clause-lost g c = λ loads wanted.
+pub returns-in_err-keep_owned-clause-lost : goal.returns-in_err-keep_owned-clause-lost
+returns-in_err-keep_owned-clause-lost g c = λ loads wanted.
     let L = c.self.inside.loaders.items in
     let M = c.self.inside.memory in
     let r = c.self.inside.rounds in
@@ -112,7 +112,7 @@ returns-in_err-keep-clause-lost g c = λ loads wanted.
     let lined : length c.args.wants ≡ length L = rw (← c.self.view_is) at c.requires in
     let own = λ (m : ℕ) (lt : m < length L). wanted m (omega (arith, lt, lined)) in
     let h = enters-first round r c.cut_all.new.rounds keys L c.cut_all.new.loaders.items c.in_ok-orders.ensures.entered in
-    rw (← c.self.view_is) (on-err c.from_residual-in_err-keep.result (record { loaders = length L; after = state-lost keys loads L own round r c.cut_all.new.rounds (length L) c.cut_all.new.loaders.items M c.keep.new.self next h c.in_err-keep.ensures.kept }))
+    rw (← c.self.view_is) (on-err c.from_residual-in_err-keep_owned.result (record { loaders = length L; after = state-lost keys loads L own round r c.cut_all.new.rounds (length L) c.cut_all.new.loaders.items M c.keep_owned.new.self next h c.in_err-keep_owned.ensures.kept }))
 
 pub invariant_of-self-2 : goal.invariant_of-self-2
 invariant_of-self-2 g c =
@@ -122,7 +122,7 @@ invariant_of-self-2 g c =
     let keys = keys_wanted c.args.wants in
     let round = c.in_ok-round.round in
     let next : round ≡ r + 1 = SomeIff-at c.checked_add.result _ _ _ c.in_ok-round.ensures.ok_part c.checked_add.ensures in
-    marked-session round r c.cut_all.new.rounds keys L c.cut_all.new.loaders.items c.mark_all.new.loaders.items M c.keep.new.self next c.self.invariant c.in_ok-orders.ensures.entered c.mark_all.ensures c.keep.ensures.modes
+    marked-session round r c.cut_all.new.rounds keys L c.cut_all.new.loaders.items c.mark_all.new.loaders.items M c.keep_owned.new.self next c.self.invariant c.in_ok-orders.ensures.entered c.mark_all.ensures c.keep_owned.ensures.modes
 
 pub returns-clause-ran : goal.returns-clause-ran
 returns-clause-ran g c = λ loads wanted.
@@ -137,9 +137,9 @@ returns-clause-ran g c = λ loads wanted.
     let replies = map reply_of c.in_ok-replies.replies.items in
     let h = c.in_ok-orders.ensures.entered in
     let told = rw (c.deref.ensures.value, h.loaders, c.in_ok-orders.ensures.orders, wanted-orders keys loads L own) at c.in_ok-replies.ensures in
-    let kept = rw c.deref-2.ensures.value at c.in_ok-keep.ensures.pairs in
+    let kept = c.in_ok-keep_owned.ensures.pairs in
     rw (← c.self.view_is) (record {
       replies = replies;
       answered = replies-before false round keys g.S.Asks.may_tell L (orders_of (map rule_of L) loads) replies told;
-      after = state-ran keys loads L own round r c.cut_all.new.rounds c.cut_all.new.loaders.items c.mark_all.new.loaders.items M c.keep.new.self replies next c.self.invariant h c.mark_all.ensures kept;
+      after = state-ran keys loads L own round r c.cut_all.new.rounds c.cut_all.new.loaders.items c.mark_all.new.loaders.items M c.keep_owned.new.self replies next c.self.invariant h c.mark_all.ensures kept;
     })
