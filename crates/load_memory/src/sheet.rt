@@ -6,23 +6,24 @@ ghost use Rattle.std.specs.Prelude.{◌≡◌, ◌<◌, ◌-◌, ◌+◌, ◌++�
 ghost use Rattle.load_memory.specs.Cells.{start_at};
 ghost use Rattle.load_memory.specs.Rows.{IsRectangular, draft_with_names, draft_with_row};
 
+use crate::ends::Ends;
 use crate::no_memory::NoMemory;
 use std::alloc::Global;
 use std::marker::Model;
 
 // Where the text that ends at the place of this index starts.
-fn start_of(ends: &[usize], i: usize) -> usize
+fn start_of(ends: &Ends, i: usize) -> usize
     requires { i < length ends.now }
     ensures { result ≡ start_at 0 ends.now i }
 {
-    if i == 0 { 0 } else { ends[i - 1] }
+    if i == 0 { 0 } else { ends.get(i - 1) }
 }
 
 /// Texts in order, kept as one text and the places where they end.
 #[derive(Drop)]
 struct Cells {
     text: String,
-    ends: Vec<usize>,
+    ends: Ends,
 }
 
 impl Model for Cells {
@@ -31,9 +32,9 @@ impl Model for Cells {
 
     ghost Value = { List (List ℕ) };
 
-    ghost view = { λ c. cut (string_bytes c.text) 0 c.ends.items };
+    ghost view = { λ c. cut (string_bytes c.text) 0 c.ends };
 
-    ghost invariant = { λ c. IsCut (string_bytes c.text) 0 c.ends.items };
+    ghost invariant = { λ c. IsCut (string_bytes c.text) 0 c.ends };
 }
 
 impl Cells {
@@ -42,7 +43,7 @@ impl Cells {
     {
         Cells {
             text: String::new(alloc),
-            ends: Vec::new(alloc),
+            ends: Ends::new(alloc),
         }
     }
 
@@ -64,7 +65,7 @@ impl Cells {
         ensures { result.now ≡ get_or self.now i [] }
     {
         let start = start_of(&self.ends, i);
-        let end = self.ends[i];
+        let end = self.ends.get(i);
         &self.text.as_str()[start..end]
     }
 
@@ -72,10 +73,10 @@ impl Cells {
         ensures ok { OnOk result (self.new ≡ self.old ++ text.now ∷ []) }
         ensures err { OnErr result (self.new ≡ self.old) }
     {
-        self.ends.reserve(1)?;
-        self.text.push_str(text)?;
-        let end = self.text.len();
+        self.text.reserve(text.len())?;
+        let end = self.text.len() + text.len();
         self.ends.push(end)?;
+        self.text.push_str(text)?;
         Ok(())
     }
 }

@@ -1,4 +1,4 @@
-use Rattle.std.proofs.Common.{◌≡◌, ◌-◌, suc, sym, arith}
+use Rattle.std.proofs.Common.{◌≡◌, ◌-◌, suc, sym, ◌∙◌, arith}
 use Rattle.load_memory.proofs.CellLaws.{start_at-first, start_at-next}
 use Rattle.load_memory.proofs.sheet.start_of.Goals as goal
 
@@ -9,4 +9,4 @@ pub returns-else-i-eq0 : goal.returns-else-i-eq0
 returns-else-i-eq0 c =
     let one : suc (c.args.i - 1) ≡ c.args.i = omega arith in
     let e = start_at-next 0 c.args.ends.now (c.args.i - 1) 0 (omega arith) in
-    sym (rw one at e)
+    c.get.ensures ∙ sym (rw one at e)

@@ -4,5 +4,5 @@ use Rattle.load_memory.proofs.sheet.Cells.count_fits.Goals as goal
 
 pub returns : goal.returns
 returns c =
-    let cells : length c.args.self.now ≡ length c.self.inside.ends.items = rw (← c.self.view_is) (length-cut _ 0 c.self.inside.ends.items) in
-    omega (arith, c.self.inside.ends.ok.0, c.len-count.ensures)
+    let cells : length c.args.self.now ≡ length c.self.inside.ends = rw (← c.self.view_is) (length-cut _ 0 c.self.inside.ends) in
+    omega (arith, c.len-count.ensures)

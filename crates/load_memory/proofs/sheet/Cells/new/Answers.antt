@@ -4,8 +4,8 @@ use Rattle.load_memory.proofs.sheet.Cells.new.Goals as goal
 
 pub invariant_of-result : goal.invariant_of-result
 unfolding IsCut
-invariant_of-result c = rw (c.new-2.ensures.items, c.new.ensures.bytes) refl
+invariant_of-result c = rw (c.new-2.ensures, c.new.ensures.bytes) refl
 
 pub returns : goal.returns
 unfolding cut
-returns c = rw c.new-2.ensures.items refl
+returns c = rw c.new-2.ensures refl
