@@ -1,5 +1,5 @@
 //! Cache keys, memories and shelves.
-ghost use Rattle.std.specs.Prelude.{◌≡◌};
+ghost use Rattle.std.specs.Prelude.{◌≡◌, ◌<◌, All, IsTrue, length};
 
 use crate::expect;
 use load_memory::{
@@ -123,16 +123,34 @@ fn replies(alloc: Global) -> Result<Vec<Reply>, NoMemory> {
     Ok(replies)
 }
 
-/// Keeps replies, if there is a loader for each.
-fn keep_all(memory: &mut Memory, replies: &[Reply]) -> Result<bool, NoMemory>
-    ensures { memory.new.modes ≡ memory.old.modes }
+/// Whether there is a loader for each reply.
+fn have_loaders(memory: &Memory, replies: &[Reply]) -> bool
+    ensures { IsTrue result → All (λ (r : Reply). r.loader < length memory.now.modes) replies.now }
 {
     for reply in replies {
         if reply.loader >= memory.modes().len() {
-            return Ok(false);
+            return false;
         }
     }
-    memory.keep(replies)?;
+    true
+}
+
+/// Keeps replies, which are handed over or not, if there is a loader for each.
+fn keep_all(
+    memory: &mut Memory,
+    replies: Vec<Reply>,
+    are_handed_over: bool,
+) -> Result<bool, NoMemory>
+    ensures { memory.new.modes ≡ memory.old.modes }
+{
+    if !have_loaders(memory, &replies) {
+        return Ok(false);
+    }
+    if are_handed_over {
+        memory.keep_owned(replies)?;
+    } else {
+        memory.keep(&replies)?;
+    }
     Ok(true)
 }
 
@@ -161,6 +179,8 @@ enum Step {
     Prime(&'static str, &'static str),
     /// Keeps the replies, whatever the loader.
     Keep,
+    /// Hands the replies over, whatever the loader.
+    KeepOwned,
     /// Indexes a reply on a shelf.
     Index,
     /// Forgets the batches that failed, whatever the loader.
@@ -191,7 +211,8 @@ fn take_step<R: Wait + AllocGlobal>(
             let cached = cached(rt.alloc(), Some(key), memory.mode(loader))?;
             return Ok(memory.clear(loader, &cached));
         }
-        Step::Keep => return Ok(keep_all(memory, replies(rt.alloc())?.as_slice())?),
+        Step::Keep => return Ok(keep_all(memory, replies(rt.alloc())?, false)?),
+        Step::KeepOwned => return Ok(keep_all(memory, replies(rt.alloc())?, true)?),
         Step::Index => {
             return index_one(rt, memory, reply(rt.alloc(), loader, &["a", "b"], false)?);
         }
@@ -256,6 +277,9 @@ const STEPS: &[(usize, Step, &str)] = &[
     (2, Step::Clear("a"), "not done, 2: 1a=a 1A=a 2A=A"),
     (2, Step::ClearAll, "1: 1a=a 1A=a"),
     (2, Step::Index, "3: 1a=a 1A=a 2a=a 2b=b"),
+    (2, Step::ClearAll, "1: 1a=a 1A=a"),
+    (1, Step::KeepOwned, "4: 1a=a 1A=a 1b=b 1B=b 2a=a 2A=A"),
+    (1, Step::DropFailed, "3: 1a=a 1A=a 2a=a 2A=A"),
 ];
 
 #[test]

@@ -2,7 +2,7 @@ use Rattle.std.proofs.Common.{◌≡◌, ◌<◌, take, length, arith, ap}
 use Rattle.std.proofs.lemmas.List.{take_all}
 use Rattle.std.proofs.lemmas.List.Elements.{All-more}
 use Rattle.load_memory.specs.declared.reply.Reply.{Reply}
-use Rattle.data_tests.proofs.memory.keep_all.Goals as goal
+use Rattle.data_tests.proofs.memory.have_loaders.Goals as goal
 
 pub loop-reply-preserved : goal.loop-reply-preserved
 loop-reply-preserved c =
@@ -10,8 +10,8 @@ loop-reply-preserved c =
     let below : c.reply-item.result.loader < n = omega (arith, c.if-reply-modes.false, ap length c.modes.ensures) in
     All-more (λ (r : Reply). r.loader < n) c.args.replies.now c.loop-reply.reply-index c.reply-item.result c.loop-reply-test.true c.loop-reply.invariant (rw (← c.reply-item.is) below)
 
-pub keep-requires : goal.keep-requires
-keep-requires c =
+pub returns : goal.returns
+returns c = λ _.
     let i = c.loop-reply.reply-index in
     let all : take i c.args.replies.now ≡ c.args.replies.now = take_all i c.args.replies.now (omega (arith, c.loop-reply-test.false)) in
     rw all at c.loop-reply.invariant
