@@ -4,6 +4,7 @@
 //! names, kinds, interfaces and defaults, so the layer above may rely on it: each name of a type is one of a type, each
 //! argument is a scalar, an enum or a list of one, each default is right, each interface is implemented, and there is a root.
 //! Look-ups go by hash and take no memory. [`accepts`] and [`coerce`] say what a literal is at a type.
+//! [`Bindings`] has, over such a schema, the loaders and how each field is answered, or tells the first bad line.
 #![tactic(auto)]
 
 mod bindings;

@@ -2,8 +2,9 @@
 //! wanted of each loader.
 //!
 //! The layer above may rely on this: only [`Loader::cut`] makes an [`Order`], and enters it in the
-//! loader's log as it does; only an order that is spent by [`Order::run`] calls a source, once; and
-//! the reply has, place by place, an answer that the source may give for the order's keys.
+//! loader's log as it does; a loader's source is reached by [`Order::run`] alone, which spends the
+//! order (the source is private; no clause says it); and the reply has, place by place, an answer
+//! that the source may give for the order's keys.
 #![tactic(auto)]
 
 mod cut;

@@ -100,7 +100,7 @@ impl<S> Loader<S> {
     ghost use Rattle.load_queue.specs.Logs.{asked_of};
     ghost use Rattle.load_queue.specs.Loaders.{asked_in, stored_in};
 
-    /// The name, as its source's table is called.
+    /// The name that it was made with.
     pub fn name(&self) -> &str
         ensures { result.now ≡ self.now.name }
     {

@@ -1,8 +1,8 @@
 //! Worlds out of files, and the sample world.
 //!
-//! The layer above may rely on this: [`open_world`] opens and reads the files that a command line names in the order schema,
-//! bindings, tables, and then makes the world of them; each refusal is the [`Stop`](command_line::Stop) with which a run
-//! ends. What a file holds no clause knows.
+//! The layer above may rely on this: what [`open_world`] makes is a world of some schema, bindings and tables with the words'
+//! limit, and each refusal is the [`Stop`](command_line::Stop) with which a run ends. Which file is opened, in which order,
+//! and what it holds no clause knows.
 #![tactic(auto)]
 
 mod files;
