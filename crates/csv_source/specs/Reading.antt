@@ -1,8 +1,10 @@
 -- What `Table::read` reads: the records of the text, or the first of its faults.
-use Rattle.std.specs.Prelude.{◌≡◌, ◌≤◌, ◌<◌, ℕ, List, [], ◌∷◌, ◌++◌, Option, Some, None, Result, Ok, Err, length, get_or, ⊤}
+use Rattle.std.specs.Prelude.{◌≡◌, ◌≤◌, ◌<◌, ℕ, true, List, [], ◌∷◌, ◌++◌, Option, Some, None, Result, Ok, Err, length, get_or, ⊤}
 use Rattle.csv.specs.Machine.{next_record}
-use Rattle.csv.specs.Reading.{AreRecords, Reached, Ready, default_config, source_of, reader_config, reader_trim, reader_state}
+use Rattle.csv.specs.Reading.{AreRecords, Reached, Ready, default_config, source_of, reader_config, reader_trim, reader_state, is_flexible, has_failed, stops_reader}
 use Rattle.csv.specs.Records.{AllText}
+use Rattle.csv.specs.declared.error.ErrorKind.{ErrorKind}
+use Rattle.csv.specs.declared.error.ErrorKind.TheVariants as kind
 use Rattle.csv.specs.declared.parser.State.TheVariants as st
 use Rattle.csv.specs.declared.reader.Trim.TheVariants as trim
 use Rattle.csv.specs.declared.reader.Reader.{Reader}
@@ -18,6 +20,7 @@ pub record IsPlain {R : Type 0} (s : Reader R) : Type 0 where
   pub untrimmed : reader_trim s ≡ trim.None
   pub ready : Ready s
   pub config : reader_config s ≡ default_config
+  pub flexible : is_flexible s ≡ true
 
 -- these are the first records of the text, and the reader stands behind them
 abbrev pub StandsBehind : {R : Type 0} → (R → Option (List ℕ)) → Reader R → List ℕ → List Record → Type 0
@@ -143,3 +146,19 @@ IsDevice fault.BadRecord = ⊥
 IsDevice fault.TooManyRows = ⊥
 IsDevice fault.DuplicateColumn = ⊥
 IsDevice fault.NoSuchColumn = ⊥
+
+-- what is told of a failed read of `csv`
+abbrev pub told_of : ErrorKind → TableFault
+told_of kind.OutOfMemory = fault.NoMemory
+told_of (kind.Io e) = fault.ReadFault
+told_of (kind.UnequalLengths pos expected len) = fault.ReadFault
+told_of (kind.Utf8 pos err) = fault.ReadFault
+told_of (kind.Serialize why) = fault.ReadFault
+told_of (kind.Deserialize pos err) = fault.ReadFault
+
+-- `csv` stopped this reader for the reader underneath or for memory, which the fault tells
+pub record IsStopped {R : Type 0} (s : Reader R) (e : TableFault) : Type 0 where
+  pub why : ErrorKind
+  pub told : e ≡ told_of why
+  pub stops : stops_reader why ≡ true
+  pub failed : has_failed s ≡ true

@@ -1,11 +1,11 @@
 //! The reading of a table.
 ghost use Rattle.std.specs.Prelude.{◌≡◌, ◌<◌, ◌+◌, ◌^◌, ◌∷◌, ◌++◌, [], IfOk, IfErr, List, MatchResult, IsTrue, ◌↔◌, OnOk, Some, get_or, length, ℕ, true, false};
 ghost use Rattle.std.specs.Arc.{arc_value};
-ghost use Rattle.csv.specs.Reading.{AreRecords, default_config, strip_bom};
+ghost use Rattle.csv.specs.Reading.{AreRecords, default_config, strip_bom, error_kind, has_failed};
 ghost use Rattle.csv.specs.Records.{AllText, fields_of};
 ghost use Rattle.csv.specs.declared.parser.State.TheVariants as st;
 ghost use Rattle.load_memory.specs.Rows.{draft_with_names, draft_with_row};
-ghost use Rattle.csv_source.specs.Reading.{IsPlain, StandsBehind, ReadsMore, HasEnded, IsDevice};
+ghost use Rattle.csv_source.specs.Reading.{IsPlain, StandsBehind, ReadsMore, HasEnded, IsDevice, IsStopped, told_of};
 ghost use Rattle.csv_source.specs.Reading.{IsHeader, HeaderFault, RowFault, ReadIs, Repeats};
 
 use crate::fault::TableFault;
@@ -22,7 +22,8 @@ const MAX_ROWS: u32 = 1_000_000;
 
 // What a failed read means.
 fn device(error: Error) -> TableFault
-    ensures { IsDevice result }
+    ensures device { IsDevice result }
+    ensures told { result ≡ told_of (error_kind error) }
 {
     match error.into_kind() {
         ErrorKind::OutOfMemory => TableFault::NoMemory,
@@ -34,6 +35,7 @@ fn device(error: Error) -> TableFault
 fn next<R: Read>(reader: &mut Reader<R>, raw: &mut ByteRecord) -> Result<bool, TableFault>
     requires { IsPlain reader.old }
     ensures fault { IfErr result IsDevice }
+    ensures stopped { IfErr result (IsStopped reader.new) }
     ensures plain { IfOk result (λ _. IsPlain reader.new) }
     ensures more { IfOk result (λ found. found ≡ true
         → ReadsMore R.remaining reader.old reader.new (fields_of raw.new)) }
@@ -145,7 +147,8 @@ fn shared(alloc: Global, sheet: Sheet) -> Result<Arc<Sheet>, AllocError>
 // The table of what is left for the reader.
 fn read_all<R: Read>(alloc: Global, reader: &mut Reader<R>) -> Result<Table, TableFault>
     requires { IsPlain reader.old }
-    ensures { (text : List ℕ) → StandsBehind R.remaining reader.old text [] → ReadIs text result }
+    ensures reads { (text : List ℕ) → StandsBehind R.remaining reader.old text [] → ReadIs text result }
+    ensures stopped { IfErr result (λ e. e ≡ TableFault.ReadFault → has_failed reader.new ≡ true) }
 {
     let mut record = ByteRecord::new(alloc);
     if !next(reader, &mut record)? {

@@ -4,11 +4,11 @@ use Rattle.csv.specs.Records.{fields_of}
 use Rattle.csv_source.proofs.Behind.{begins_with, no_records, fits_none, lawful_more, header-fault, row-fault}
 use Rattle.csv_source.proofs.read.read_all.Goals as goal
 
-pub returns-then-not-branch : goal.returns-then-not-branch
-returns-then-not-branch g c = λ text start. no_records text (c.in_ok-next.ensures.ended c.if-not-branch.true text [] start)
+pub returns-then-not-branch-clause-reads : goal.returns-then-not-branch-clause-reads
+returns-then-not-branch-clause-reads g c = λ text start. no_records text (c.in_ok-next.ensures.ended c.if-not-branch.true text [] start)
 
-pub returns-in_err-builder : goal.returns-in_err-builder
-returns-in_err-builder g c = λ text start.
+pub returns-in_err-builder-clause-reads : goal.returns-in_err-builder-clause-reads
+returns-in_err-builder-clause-reads g c = λ text start.
     let p = err_from_is_err_and c.from_residual-in_err-builder.result c.from_residual-in_err-builder.ensures.1 in
     let behind = c.in_ok-next.ensures.more c.if-not-branch.false text [] start in
     rw (p.1, p.2) (header-fault text (fields_of c.next.new.raw) _ (begins_with g.R.Read.remaining c.next.new.reader text _ behind) c.in_err-builder.ensures.err)
@@ -24,21 +24,21 @@ loop-rows-init g c =
       behind = λ text start. c.in_ok-next.ensures.more c.if-not-branch.false text [] start;
     })
 
-pub returns-then-not-branch-2 : goal.returns-then-not-branch-2
-returns-then-not-branch-2 g c = λ text start.
+pub returns-then-not-branch-2-clause-reads : goal.returns-then-not-branch-2-clause-reads
+returns-then-not-branch-2-clause-reads g c = λ text start.
     rw (c.in_ok-sheet.ensures, c.finish.ensures) (record {
       records = c.in_ok-next-2.ensures.ended c.if-not-branch-2.true text _ (c.loop-rows.invariant.behind text start);
       lawful = c.loop-rows.invariant.lawful;
     })
 
-pub returns-in_err-record : goal.returns-in_err-record
-returns-in_err-record g c = λ text start.
+pub returns-in_err-record-clause-reads : goal.returns-in_err-record-clause-reads
+returns-in_err-record-clause-reads g c = λ text start.
     let p = err_from_is_err_and c.from_residual-in_err-record.result c.from_residual-in_err-record.ensures.1 in
     let behind = c.in_ok-next-2.ensures.more c.if-not-branch-2.false text _ (c.loop-rows.invariant.behind text start) in
     rw (p.1, p.2) (row-fault text c.loop-rows.builder.names c.loop-rows.builder.rows (fields_of c.next-in-loop-rows.new.raw) _ (begins_with g.R.Read.remaining c.next-in-loop-rows.new.reader text _ behind) c.loop-rows.invariant.lawful c.in_err-record.ensures.err)
 
-pub returns-then-rows-eq-MAX_ROWS : goal.returns-then-rows-eq-MAX_ROWS
-returns-then-rows-eq-MAX_ROWS g c = λ text start.
+pub returns-then-rows-eq-MAX_ROWS-clause-reads : goal.returns-then-rows-eq-MAX_ROWS-clause-reads
+returns-then-rows-eq-MAX_ROWS-clause-reads g c = λ text start.
     let (sheet, same, is_text) = c.in_ok-record.ensures.ok in
     let behind = c.in_ok-next-2.ensures.more c.if-not-branch-2.false text _ (c.loop-rows.invariant.behind text start) in
     record {
