@@ -10,18 +10,18 @@ import csv
 import json
 import os
 import random
+import re
 import subprocess
 import sys
 import tempfile
 
 from graphql import GraphQLSyntaxError, Source, TokenKind, parse
 from graphql.language import Lexer
-from graphql.language.ast import FragmentDefinitionNode, OperationDefinitionNode
 
 EXAMPLES = os.path.join(os.path.dirname(os.path.abspath(__file__)), "..", "..", "examples")
 TOKEN_FAULTS = ("document too long", "bad character", "unterminated string", "bad escape", "bad number")
 TREE_FAULTS = ("unexpected token", "unexpected end", "too deep")
-WORDS = ("a", "b", "_c", "query", "mutation", "subscription", "fragment", "on", "true", "false", "null", "type", "Int", "x1")
+WORDS = ("a", "b", "_c", "query", "mutation", "subscription", "fragment", "on", "true", "false", "null", "typed", "Int", "x1")
 MARKS = ("!", "$", "&", "(", ")", "...", ":", "=", "@", "[", "]", "{", "|", "}")
 NUMBERS = ("0", "-0", "7", "-12", "01", "1.5", "-0.0e-10", "1e3", "1E+9", "1.", ".5", "1e", "-", "00", "1x", "1.2.3", "9_", "0xF", "1e1.0")
 ESCAPES = ("\\n", "\\\"", "\\\\", "\\/", "\\u0041", "\\u00e9", "\\uD83D\\uDE00")
@@ -162,6 +162,19 @@ class Draw:
         return self.spoil_text(text) if self.chance(0.3) else text
 
 
+def place_of(text, position):
+    """Line and column, from 1. (The location that graphql-core 3.2.8 tells is a line too early for a token that begins one.)"""
+    ends = [it.end() for it in re.finditer(r"\r\n|[\r\n]", text) if it.end() <= position]
+    return len(ends) + 1, position - (ends[-1] if ends else 0) + 1
+
+
+def text_at(text, place):
+    """The character of a place."""
+    starts = [0, *(it.end() for it in re.finditer(r"\r\n|[\r\n]", text))]
+    at = starts[place[0] - 1] + place[1] - 1
+    return text[at : at + 1]
+
+
 def verdict(text):
     """What graphql-core says: whether the tokens are good, and where the first token stands that can't follow."""
     lexer = Lexer(Source(text))
@@ -172,12 +185,10 @@ def verdict(text):
         # (an escape that the end of the text cuts short raises IndexError in graphql-core 3.2.8)
         return "tokens", None
     try:
-        document = parse(text, no_location=True)
+        parse(text, no_location=True)
     except GraphQLSyntaxError as error:
-        place = error.locations[0]
-        return "tree", (place.line, place.column)
-    good = all(isinstance(it, (OperationDefinitionNode, FragmentDefinitionNode)) for it in document.definitions)
-    return ("good", None) if good else ("other", None)
+        return "tree", place_of(text, error.positions[0])
+    return "good", None
 
 
 def answers(program, words, requests):
@@ -204,9 +215,9 @@ def compare_documents(program, draw, count):
     for text, answer in zip(texts, answers(program, [], [{"query": it} for it in texts]), strict=True):
         wanted, found = verdict(text), told(answer)
         kinds[wanted[0]] = kinds.get(wanted[0], 0) + 1
-        if wanted[0] == "other":
-            # definitions of types, which are no part of the query language
-            wanted, found = ("tree", None), (found[0], None)
+        if wanted[0] == found[0] == "tree" and text_at(text, found[1]) == '"':
+            # (graphql-core takes a description before a definition, and refuses what follows)
+            continue
         if wanted != found:
             different += 1
             print(f"{wanted} but {found}: {text!r}")
