@@ -3,8 +3,8 @@
 
 Random documents of the whole query language, most of them damaged by a few characters or tokens, are read by both. Both take
 a document or neither does; where its tokens are at fault both say so; where the tokens are good, the place of the first token
-with which no document can go on is the same. Then random strings and block strings are asked for as keys of a table that has
-their values, as graphql-core reads them: each has to find its row. The last line counts; each difference is printed before it.
+with which no document can go on is the same. Then random strings and block strings that aren't empty are asked for as keys of a table
+that has their values, as graphql-core reads them: each has to find its row. The last line counts; each difference is printed before it.
 """
 import csv
 import json

@@ -72,13 +72,17 @@ const CACHED: &[(Option<&str>, KeyMode, Option<&str>, KeyMode, bool)] = &[
     (None, KeyMode::Exact, Some(""), KeyMode::Exact, false),
 ];
 
-/// Letters beyond ASCII stay, and all is no text.
+/// Letters beyond ASCII stay, and all is no text. A cache key that is set to one key after another is that of the last.
 #[test]
 fn cache_keys(rt: HostRuntime) -> Result<(), Fail> {
+    let mut probe = CacheKey::new(rt.alloc());
     for (key, mode, other, other_mode, want) in CACHED {
         let first = cached(rt.alloc(), *key, *mode)?;
         let second = cached(rt.alloc(), *other, *other_mode)?;
         assert!(rt; (first == second) == *want, "{other:?} {other_mode:?}");
+        let own = key_of(rt.alloc(), *key)?.borrowed().to_key(rt.alloc())?;
+        probe.set(rt.alloc(), own.borrowed(), *mode)?;
+        assert!(rt; probe == first, "{key:?} {mode:?}");
     }
     Ok(())
 }

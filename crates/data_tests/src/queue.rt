@@ -57,10 +57,10 @@ fn push_keys(
 fn two_rounds(
     alloc: Global,
     asked: &mut Loader<Scripted>,
-    keys: &[Key],
+    texts: &[&str],
 ) -> Result<String, NoMemory> {
-    asked.cut(5, 6, keys)?;
-    let orders = asked.cut(5, 7, keys)?;
+    asked.cut(5, 6, &keys_of(alloc, texts)?)?;
+    let orders = asked.cut_owned(5, 7, keys_of(alloc, texts)?)?;
     asked.mark_stored(7);
     let mut text = format!(in alloc; "{} {:?}|", asked.name(), asked.mode())?;
     for order in &orders {
@@ -81,10 +81,9 @@ fn two_rounds(
 
 /// What is told of a loader of this limit that cuts keys, or why there is none.
 fn cut(alloc: Global, texts: &[&str], max: Option<u32>) -> Result<String, NoMemory> {
-    let keys = keys_of(alloc, texts)?;
     let source = Scripted { items: None };
     match Loader::new(alloc, "users", source, KeyMode::Exact, max) {
-        Ok(mut asked) => two_rounds(alloc, &mut asked, keys.as_slice()),
+        Ok(mut asked) => two_rounds(alloc, &mut asked, texts),
         Err(fault) => Ok(format!(in alloc; "{fault}")?),
     }
 }

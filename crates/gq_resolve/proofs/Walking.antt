@@ -89,6 +89,14 @@ puts-none o = record {
   written = λ w. (w, refl, sym (append-none o.writer.tokens));
 }
 
+-- what a look-up changes is none of what is put
+pub puts-kept : (a b : Output) → b.writer.before ≡ a.writer.before → b.missing.keys ≡ a.missing.keys → b.is_plain ≡ a.is_plain → b.writer.tokens ≡ a.writer.tokens → Puts (alone []) a b
+puts-kept a b before missing plain tokens = record {
+  before = before;
+  missing = ap lacked missing;
+  written = λ w. (record { plain = sym plain ∙ w.plain; whole = sym missing ∙ w.whole }, refl, tokens ∙ sym (append-none a.writer.tokens));
+}
+
 pub puts-then : (a b : Walked) (x y z : Output) → Puts a x y → Puts b y z → Puts (joined a b) x z
 puts-then a b x y z p q = record {
   before = q.before ∙ p.before;
@@ -106,6 +114,10 @@ puts-past w o none past = record {
   missing = sym (ap (thinned (lacked o.missing.keys)) none);
   written = λ v. absurd (past v);
 }
+
+pub on-ok-whole : {T E P : Type 0} (r : Result T E) → P → OnOk r P
+on-ok-whole (Ok x) p = p
+on-ok-whole (Err e) p = tt
 
 pub on-ok : {T E P Q : Type 0} (r : Result T E) → (P → Q) → OnOk r P → OnOk r Q
 on-ok (Ok x) f p = f p

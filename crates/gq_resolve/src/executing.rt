@@ -92,6 +92,7 @@ pub fn execute_text(
         writer,
         missing,
         is_plain,
+        ..
     } = out;
     if !missing.is_empty() {
         let loaders = memory.modes().len();

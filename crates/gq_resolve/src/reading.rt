@@ -2,13 +2,31 @@
 
 ghost use Rattle.std.specs.Prelude.{◌≡◌, IfOk, option_map};
 ghost use Rattle.std.specs.Option.{option_copied};
-ghost use Rattle.load_memory.specs.Keys.{key_of};
+ghost use Rattle.load_memory.specs.Keys.{key_of, borrowed_of};
 ghost use Rattle.load_memory.specs.Outcomes.{outcome_of};
 ghost use Rattle.gq_resolve.specs.States.{told};
 
 use crate::no_memory::NoMemory;
-use load_memory::{Key, Memory, Outcome, cache_key};
+use load_memory::{CacheKey, Key, KeyRef, Memory, Outcome};
 use std::alloc::Global;
+
+/// What the memory says of a key of a loader; nothing where there is no such loader. It is looked up by a cache key that is
+/// set to that of this key.
+pub fn told_by<'m>(
+    alloc: Global,
+    memory: &'m Memory,
+    probe: &mut CacheKey,
+    loader: usize,
+    key: KeyRef<'_>,
+) -> Result<Option<&'m Outcome>, NoMemory>
+    ensures { IfOk result (λ outcome. option_map outcome_of (option_copied outcome) ≡ told memory.now (record { loader = loader; key = borrowed_of key.entry })) }
+{
+    if loader >= memory.modes().len() {
+        return Ok(None);
+    }
+    probe.set(alloc, key, memory.mode(loader))?;
+    Ok(memory.get(loader, probe))
+}
 
 /// What the memory says of a key of a loader; nothing where there is no such loader.
 pub fn told<'m>(
@@ -19,9 +37,6 @@ pub fn told<'m>(
 ) -> Result<Option<&'m Outcome>, NoMemory>
     ensures { IfOk result (λ outcome. option_map outcome_of (option_copied outcome) ≡ told memory.now (record { loader = loader; key = key_of key.now })) }
 {
-    if loader >= memory.modes().len() {
-        return Ok(None);
-    }
-    let cached = cache_key(alloc, key, memory.mode(loader))?;
-    Ok(memory.get(loader, &cached))
+    let mut probe = CacheKey::new(alloc);
+    told_by(alloc, memory, &mut probe, loader, key.borrowed())
 }

@@ -2,7 +2,7 @@
 //! [`build`](crate::build) goes.
 
 ghost use Rattle.std.specs.Prelude.{◌≡◌, ◌∷◌, [], OnOk, map, option_map, false};
-ghost use Rattle.load_memory.specs.Keys.{key_of};
+ghost use Rattle.load_memory.specs.Keys.{key_of, borrowed_of};
 ghost use Rattle.load_memory.specs.Rows.{cell_of};
 ghost use Rattle.load_memory.specs.Outcomes.{outcome_of};
 ghost use Rattle.execution.specs.Program.{Read};
@@ -15,13 +15,12 @@ ghost use Rattle.gq_resolve.specs.Walked.{Walks};
 
 use crate::cells::{TypeOf, type_of_row};
 use crate::no_memory::NoMemory;
-use crate::reading::told;
 use crate::shapes::{Member, Shape, place_of};
 use crate::state::Then;
 use crate::writing::Output;
 use gq_check::Plan;
 use json::Token;
-use load_memory::{Cell, Key, Memory, Outcome, Row};
+use load_memory::{Cell, Key, KeyRef, Memory, Outcome, Row};
 use plan_program::{Asked, Below, KeyFrom};
 use std::alloc::Global;
 use std::sync::Arc;
@@ -136,7 +135,7 @@ fn read_from<'p>(
 {
     match key {
         KeyFrom::Fixed(key) => {
-            let key = key.clone()?;
+            let key = key.borrowed();
             read(
                 alloc, plan, memory, levels, loader, key, next, below, strict, met, out,
             )
@@ -175,7 +174,7 @@ fn read_cell<'p>(
         }
         Cell::Null => out.put_null(strict),
         Cell::Text(text) => {
-            let key = Key::Text(String::from_str(alloc, text)?);
+            let key = KeyRef::Text(text);
             read(
                 alloc, plan, memory, levels, loader, key, next, below, strict, met, out,
             )
@@ -191,7 +190,7 @@ fn read<'p>(
     memory: &Memory,
     levels: u32,
     loader: usize,
-    key: Key,
+    key: KeyRef<'_>,
     next: Then<'p>,
     below: &Arc<Below<'p>>,
     strict: bool,
@@ -199,15 +198,15 @@ fn read<'p>(
     out: &mut Output,
 ) -> Result<(), NoMemory>
     ensures keeps { OnOk result (Keeps (plan_of plan.now) (below_in below.now) met.old.items met.new.items) }
-    ensures puts { OnOk result (Fits (plan_of plan.now) levels (below_in below.now) met.old.items → Walks memory.now strict (Read (record { loader = loader; key = key_of key }) (with_rows (then_rows (plan_of plan.now) levels next.entry (below_in below.now)))) out.old out.new) }
+    ensures puts { OnOk result (Fits (plan_of plan.now) levels (below_in below.now) met.old.items → Walks memory.now strict (Read (record { loader = loader; key = borrowed_of key.entry }) (with_rows (then_rows (plan_of plan.now) levels next.entry (below_in below.now)))) out.old out.new) }
 {
-    match told(alloc, memory, loader, &key)? {
+    match out.told(alloc, memory, loader, key)? {
         Some(outcome) => {
             go_on(
                 alloc, plan, memory, levels, next, below, strict, met, outcome, out,
             )
         }
-        None => out.lack(loader, key),
+        None => out.lack(loader, key.to_key(alloc)?),
     }
 }
 
@@ -367,7 +366,7 @@ fn read_if<'p>(
 {
     match key {
         Some(key) => {
-            let key = key.clone()?;
+            let key = key.borrowed();
             let next = Then::First;
             read(
                 alloc, plan, memory, levels, loader, key, next, below, strict, met, out,

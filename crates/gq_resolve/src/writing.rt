@@ -1,26 +1,30 @@
 //! An answer without errors, as it is written.
 
-ghost use Rattle.std.specs.Prelude.{◌≡◌, ◌↔◌, ◌∷◌, [], IfOk, OnOk, IsTrue, string_bytes};
+ghost use Rattle.std.specs.Prelude.{◌≡◌, ◌↔◌, ◌∷◌, [], IfOk, OnOk, IsTrue, string_bytes, option_map};
+ghost use Rattle.std.specs.Option.{option_copied};
 ghost use Rattle.std.specs.Fmt.{signed_decimal};
 ghost use Rattle.json.specs.Print.{IsPrintable, print};
 ghost use Rattle.json.specs.Reads.{token_of};
 ghost use Rattle.json.specs.Token.{number};
 ghost use Rattle.gq_parser.specs.Tree.{type_of};
 ghost use Rattle.gq_schema.specs.Types.{tree_of};
-ghost use Rattle.load_memory.specs.Keys.{key_of};
+ghost use Rattle.load_memory.specs.Keys.{key_of, borrowed_of};
+ghost use Rattle.load_memory.specs.Outcomes.{outcome_of};
 ghost use Rattle.load_memory.specs.Rows.{cell_of};
 ghost use Rattle.execution.specs.Program.{Null};
 ghost use Rattle.plan_program.specs.Prepared.{own_seen};
 ghost use Rattle.plan_program.specs.PlanPrograms.{boolean_of, int_leaf, named_leaf, leaf_of, cell_value};
+ghost use Rattle.gq_resolve.specs.States.{told};
 ghost use Rattle.gq_resolve.specs.Walked.{alone, lacking, faulted, leaf_walked, own_walked, IsWriting, Puts};
 
 use crate::cells::{boolean_of, int_of_leaf};
 use crate::no_memory::NoMemory;
+use crate::reading::told_by;
 use gq_parser::TypeRef;
 use gq_schema::Schema;
 use indexmap::IndexSet;
 use json::{Token, Writer};
-use load_memory::{Cell, Key, Row};
+use load_memory::{CacheKey, Cell, Key, KeyRef, Memory, Outcome, Row};
 use plan_program::Own;
 use std::alloc::Global;
 
@@ -42,6 +46,8 @@ pub struct Output {
     pub missing: IndexSet<Missing>,
     /// Whether no error was met.
     pub is_plain: bool,
+    /// What the memory is asked by, of one load after another.
+    pub probe: CacheKey,
 }
 
 impl Output {
@@ -55,6 +61,7 @@ impl Output {
             writer: Writer::new(Vec::with_capacity(alloc, FIRST_ROOM)?),
             missing: IndexSet::new(alloc),
             is_plain: true,
+            probe: CacheKey::new(alloc),
         })
     }
 
@@ -63,6 +70,20 @@ impl Output {
         ensures { IsTrue result ↔ IsWriting self.now }
     {
         self.is_plain && self.missing.is_empty()
+    }
+
+    /// What the memory says of a key of a loader; nothing where there is no such loader. Nothing is put.
+    pub fn told<'m>(
+        &mut self,
+        alloc: Global,
+        memory: &'m Memory,
+        loader: usize,
+        key: KeyRef<'_>,
+    ) -> Result<Option<&'m Outcome>, NoMemory>
+        ensures told { IfOk result (λ outcome. option_map outcome_of (option_copied outcome) ≡ told memory.now (record { loader = loader; key = borrowed_of key.entry })) }
+        ensures puts { OnOk result (Puts (alone []) self.old self.new) }
+    {
+        told_by(alloc, memory, &mut self.probe, loader, key)
     }
 
     /// Notes a load that isn't answered, where it wasn't noted before.

@@ -2,7 +2,7 @@
 use Rattle.std.proofs.Common.{◌≡◌, ℕ, zero, suc, ◌<◌, ◌≤◌, min, List, [], ◌∷◌, ◌++◌, map, length, take, drop, refl, ap, arith, length-drop, append_assoc, None, ◌∙◌, Option, Some, inl, inr}
 use Rattle.std.proofs.Math.ListN.{drop_of_length-le}
 use Rattle.std.proofs.Math.Nat.{le_refl}
-use Rattle.std.proofs.lemmas.List.{append-nil, take-append-drop, length-take, take-map, drop-map, length-map}
+use Rattle.std.proofs.lemmas.List.{append-nil, take-append-drop, length-append, length-take, take-map, drop-map, length-map}
 use Rattle.std.proofs.lemmas.Bool.{cases_lt}
 use Rattle.load_memory.specs.Keys.{KeyOf}
 use Rattle.load_queue.specs.Orders.{OrderOf, order_of}
@@ -52,6 +52,18 @@ module _ {X K : Type 0} (v : X → K) (n : ℕ) (positive : 0 < n) where
 -- one more is done, and one fewer is left
 pub one-more : {A B : Type 0} (f : B → A) (done : List A) (a : A) (b : B) (rest all : List B) (whole : List A) → done ++ map f all ≡ whole → all ≡ b ∷ rest → a ≡ f b → (done ++ a ∷ []) ++ map f rest ≡ whole
 one-more f done a b rest all whole e same is = rw (append_assoc done (a ∷ []) (map f rest), is) (rw same at e)
+
+pub none-left : {X : Type 0} (xs : List X) → length xs ≡ 0 → xs ≡ []
+none-left [] e = refl
+none-left (x ∷ xs) e = absurd (omega arith)
+
+-- A key goes to the end of the piece in hand, of which then as much is left to be cut as before.
+pub piece-grows : {X : Type 0} (piece rest more grown : List X) (x : X) → rest ≡ x ∷ more → grown ≡ piece ++ x ∷ [] → grown ++ more ≡ piece ++ rest
+piece-grows piece rest more grown x e is = rw (is, e) (append_assoc piece (x ∷ []) more)
+
+-- A piece that is full, or has all that is left, is cut off.
+pub piece-cut : {X K : Type 0} (v : X → K) (n : ℕ) → 0 < n → (piece rest : List X) → 0 < length piece → length piece ≡ min n (length (piece ++ rest)) → left v n (piece ++ rest) ≡ map v piece ∷ left v n rest
+piece-cut v n positive piece rest some many = left-step v n positive (piece ++ rest) piece rest refl many (omega (arith, length-append piece rest, some))
 
 pieces-empty : {K : Type 0} (most n : ℕ) → pieces {K = K} most n [] ≡ []
 pieces-empty zero n = refl

@@ -8,7 +8,7 @@ use Rattle.load_memory.specs.declared.key.Key.{Key}
 use Rattle.load_memory.specs.declared.key.KeyMode.{KeyMode}
 use Rattle.load_memory.specs.contracts.key.CacheKeyPartialEq.TheImpl as cache_eq
 use Rattle.load_memory.proofs.PartLaws.{cache-eq}
-use Rattle.load_queue.specs.Wanted.{WantedOf, is_wanted, with_key, keys_wanted, is_key_wanted, with_wanted}
+use Rattle.load_queue.specs.Wanted.{WantedOf, nothing_wanted, is_wanted, with_key, keys_wanted, is_key_wanted, with_wanted, taken_from}
 
 any-map : {A B : Type 0} (f : A → Bool) (g : B → Bool) (h : A → B) → ((x : A) → f x ≡ g (h x)) → (xs : List A) → list_any f xs ≡ list_any g (map h xs)
 any-map f g h same [] = refl
@@ -45,3 +45,20 @@ pub with-at : (ws : List WantedOf) (i : ℕ) (w : WantedOf) (key : KeyOf) → i 
 with-at [] i w key lt e = absurd (omega arith)
 with-at (x ∷ ws) zero w key lt e = ap (λ (v : WantedOf). with_key v key ∷ ws) (sym e)
 with-at (x ∷ ws) (suc i) w key lt e = ap (λ vs. x ∷ vs) (with-at ws i w key (omega arith) e)
+
+pub taken-at : (ws : List WantedOf) (i : ℕ) (w : WantedOf) → i < length ws → w ≡ get_or ws i w → taken_from ws i ≡ slice_set ws i (nothing_wanted w.mode)
+taken-at [] i w lt e = absurd (omega arith)
+taken-at (x ∷ ws) zero w lt e = ap (λ (v : WantedOf). nothing_wanted v.mode ∷ ws) (sym e)
+taken-at (x ∷ ws) (suc i) w lt e = ap (λ vs. x ∷ vs) (taken-at ws i w (omega arith) e)
+
+pub length-taken : (ws : List WantedOf) (i : ℕ) → length (taken_from ws i) ≡ length ws
+length-taken [] i = refl
+length-taken (x ∷ ws) zero = refl
+length-taken (x ∷ ws) (suc i) = ap suc (length-taken ws i)
+
+-- the keys of the loaders after it stay
+pub taken-other : (ws : List WantedOf) (i j : ℕ) → i < j → keys_wanted (taken_from ws i) j ≡ keys_wanted ws j
+taken-other [] i j lt = refl
+taken-other (x ∷ ws) i zero lt = absurd (omega arith)
+taken-other (x ∷ ws) zero (suc j) lt = refl
+taken-other (x ∷ ws) (suc i) (suc j) lt = taken-other ws i j (omega arith)

@@ -34,3 +34,9 @@ abbrev pub with_wanted : List WantedOf → ℕ → KeyOf → List WantedOf
 with_wanted [] loader key = []
 with_wanted (w ∷ ws) zero key = with_key w key ∷ ws
 with_wanted (w ∷ ws) (suc loader) key = w ∷ with_wanted ws loader key
+
+-- what is wanted once the keys of a loader are taken
+abbrev pub taken_from : List WantedOf → ℕ → List WantedOf
+taken_from [] loader = []
+taken_from (w ∷ ws) zero = nothing_wanted w.mode ∷ ws
+taken_from (w ∷ ws) (suc loader) = w ∷ taken_from ws loader

@@ -23,21 +23,17 @@ pub(crate) fn piece_length(limit: Option<u32>, keys: &[Key]) -> usize
     }
 }
 
-/// An order of each piece, and its entry in the log.
-pub(crate) fn cut_keys(
+/// An entry of the log for each piece, which has the keys copied.
+pub(crate) fn log_entries(
     alloc: Global,
-    loader: usize,
     round: u32,
     keys: &[Key],
     most: usize,
-) -> Result<(Vec<Order>, Vec<Asked>), NoMemory>
+) -> Result<Vec<Asked>, NoMemory>
     requires { 0 < most }
-    ensures orders { IfOk result (λ r. r.0.items
-        ≡ map (order_of loader) (pieces (length keys.now) most (map key_of keys.now))) }
-    ensures entries { IfOk result (λ r. map asked_of r.1.items
+    ensures { IfOk result (λ entries. map asked_of entries.items
         ≡ map (entered round) (pieces (length keys.now) most (map key_of keys.now))) }
 {
-    let mut orders = Vec::new(alloc);
     let mut entries = Vec::new(alloc);
     for piece in keys.chunks(most) {
         entries.push(Asked {
@@ -45,12 +41,38 @@ pub(crate) fn cut_keys(
             keys: copy_of(alloc, piece)?,
             stored: false,
         })?;
-        orders.push(Order::new(loader, copy_of(alloc, piece)?))?;
     }
-    Ok((orders, entries))
+    Ok(entries)
 }
 
-fn copy_of(alloc: Global, keys: &[Key]) -> Result<Vec<Key>, NoMemory>
+/// An order of each piece, which has the keys themselves.
+pub(crate) fn cut_orders(
+    alloc: Global,
+    loader: usize,
+    keys: Vec<Key>,
+    most: usize,
+) -> Result<Vec<Order>, NoMemory>
+    requires { 0 < most }
+    ensures { IfOk result (λ orders. orders.items
+        ≡ map (order_of loader) (pieces (length keys.items) most (map key_of keys.items))) }
+{
+    let mut orders = Vec::new(alloc);
+    let mut piece = Vec::with_capacity(alloc, most.min(keys.len()))?;
+    for key in keys {
+        piece.push(key)?;
+        if piece.len() == most {
+            orders.push(Order::new(loader, piece))?;
+            piece = Vec::new(alloc);
+        }
+    }
+    if !piece.is_empty() {
+        orders.push(Order::new(loader, piece))?;
+    }
+    Ok(orders)
+}
+
+/// The same keys once more.
+pub(crate) fn copy_of(alloc: Global, keys: &[Key]) -> Result<Vec<Key>, NoMemory>
     ensures { IfOk result (λ copy. map key_of copy.items ≡ map key_of keys.now) }
 {
     let mut copy = Vec::with_capacity(alloc, keys.len())?;

@@ -6,7 +6,7 @@ ghost use Rattle.load_queue.specs.Loaders.{AskedOf, marked};
 ghost use Rattle.load_queue.specs.Logs.{asked_of};
 ghost use Rattle.load_queue.specs.Orders.{orders_of};
 
-use crate::cut::{cut_keys, piece_length};
+use crate::cut::{copy_of, cut_orders, log_entries, piece_length};
 use crate::order::Order;
 use load_memory::{Key, KeyMode, NoMemory};
 use std::alloc::{AllocError, Global};
@@ -142,8 +142,28 @@ impl<S> Loader<S> {
         ensures entered { OnOk result (self.new ≡ asked_in self.old round (map key_of keys.now)) }
         ensures kept { OnErr result (self.new ≡ self.old) }
     {
-        let most = piece_length(self.limit, keys);
-        let (orders, mut entries) = cut_keys(*self.log.allocator(), loader, round, keys, most)?;
+        let own = copy_of(*self.log.allocator(), keys)?;
+        self.cut_owned(loader, round, own)
+    }
+
+    /// Cuts keys that are handed over, as [`cut`](Loader::cut) does: they go into the orders, and the log has copies.
+    pub fn cut_owned(
+        &mut self,
+        loader: usize,
+        round: u32,
+        keys: Vec<Key>,
+    ) -> Result<Vec<Order>, NoMemory>
+        ensures orders { IfOk result (λ orders. orders.items
+            ≡ orders_of loader self.old.limit (map key_of keys.items)) }
+        ensures pieces { IfOk result (λ orders.
+            AreBatches self.old.limit (map key_of keys.items) (map (λ o. o.keys) orders.items)) }
+        ensures entered { OnOk result (self.new ≡ asked_in self.old round (map key_of keys.items)) }
+        ensures kept { OnErr result (self.new ≡ self.old) }
+    {
+        let alloc = *self.log.allocator();
+        let most = piece_length(self.limit, &keys);
+        let mut entries = log_entries(alloc, round, &keys, most)?;
+        let orders = cut_orders(alloc, loader, keys, most)?;
         let earlier = self.log.len();
         self.log.append(&mut entries)?;
         if self.latest < round {

@@ -1,12 +1,13 @@
 //! The keys that are wanted of each loader, in order, of equal cache keys only the first.
 ghost use Rattle.std.specs.Prelude.{◌≡◌, ◌<◌, IfOk, OnOk, OnErr, length, map, not};
 ghost use Rattle.load_memory.specs.Keys.{key_of};
-ghost use Rattle.load_queue.specs.Wanted.{nothing_wanted, is_wanted, with_key, keys_wanted, is_key_wanted, with_wanted};
+ghost use Rattle.load_queue.specs.Wanted.{nothing_wanted, is_wanted, with_key, keys_wanted, is_key_wanted, with_wanted, taken_from};
 
 use indexmap::IndexSet;
 use load_memory::{CacheKey, Key, KeyMode, Memory, NoMemory, cache_key};
 use std::alloc::Global;
 use std::marker::Model;
+use std::mem;
 
 /// What is wanted of one loader.
 #[derive(Drop)]
@@ -44,6 +45,17 @@ impl Wanted {
         ensures { map key_of result.now ≡ self.now.keys }
     {
         self.keys.as_slice()
+    }
+
+    // The keys, of which then none is wanted.
+    fn take_keys(&mut self) -> Vec<Key>
+        ensures keys { map key_of result.items ≡ self.old.keys }
+        ensures after { self.new ≡ nothing_wanted self.old.mode }
+    {
+        let alloc = *self.keys.allocator();
+        let all = mem::replace(self, Wanted::new(alloc, self.mode));
+        let Wanted { keys, .. } = all;
+        keys
     }
 
     fn add(&mut self, key: Key) -> Result<bool, NoMemory>
@@ -96,6 +108,15 @@ impl Wants {
         ensures { map key_of result.now ≡ keys_wanted self.now loader }
     {
         self.parts[loader].keys()
+    }
+
+    /// Takes the keys that are wanted of a loader, in the order in which they were added. None is wanted of it then.
+    pub fn take_keys(&mut self, loader: usize) -> Vec<Key>
+        requires { loader < length self.old }
+        ensures keys { map key_of result.items ≡ keys_wanted self.old loader }
+        ensures after { self.new ≡ taken_from self.old loader }
+    {
+        self.parts[loader].take_keys()
     }
 
     /// Adds a key to those that are wanted of a loader. Gives true where no equal cache key was there.

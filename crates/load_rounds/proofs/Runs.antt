@@ -1,5 +1,5 @@
 -- What the calls of a run add to what was done since it was begun.
-use Rattle.std.proofs.Common.{◌≡◌, ◌≢◌, ◌<◌, ◌≤◌, ◌+◌, ℕ, zero, suc, Bool, true, false, List, [], ◌∷◌, ◌++◌, map, length, Option, Some, None, refl, ap, ◌∙◌, sym, arith, inl, inr, ◌⊎◌, Result, Ok, Err}
+use Rattle.std.proofs.Common.{◌≡◌, ◌≢◌, ◌<◌, ◌≤◌, ◌+◌, ℕ, suc, Bool, true, false, List, [], ◌∷◌, ◌++◌, map, length, Option, Some, None, refl, ap, ◌∙◌, sym, arith, inl, inr, ◌⊎◌, Result, Ok, Err}
 use Rattle.std.proofs.lemmas.Bool.{eq-eqb, eqb-true, eqb-false}
 use Rattle.std.proofs.lemmas.List.{length-map}
 use Rattle.std.proofs.lemmas.List.Elements.{All-nil, All-cons, All-head, All-tail}
@@ -21,7 +21,7 @@ use Rattle.execution.specs.Rounds.{RuleOf, rule_of, modes_of, orders_from, order
 use Rattle.execution.specs.Sessions.{Forgot, Asked, Lost}
 use Rattle.execution.proofs.ChainLaws.{front-needs}
 use Rattle.execution.proofs.ReplyLaws.{reply-order}
-use Rattle.load_rounds.specs.Sessions.{StateOf, rules_of, session_modes, logged, logged_from, made, of_first, after_step, after_steps, AreNumbered, IsSession}
+use Rattle.load_rounds.specs.Sessions.{StateOf, rules_of, session_modes, logged_from, made, of_first, after_step, after_steps, AreNumbered, IsSession}
 use Rattle.load_rounds.specs.Rounds.{Enters}
 use Rattle.load_rounds.specs.Calls.{RoundRan, RoundLost}
 use Rattle.load_rounds.specs.Executes.{asked_steps, IsAnswer, StopsAnswering}

@@ -12,26 +12,27 @@ use load_queue::{Asks, Loader, Order, Wants};
 use std::alloc::Global;
 
 /// Enters the batches of what is wanted in the logs of their loaders, as asked in this round, and gives their
-/// orders. The round is counted as soon as there is an order of it. After a refused growth the batches of the
-/// first loaders are entered, perhaps of none.
+/// orders, which have the keys themselves: nothing is wanted then. The round is counted as soon as there is an order of
+/// it. After a refused growth the batches of the first loaders are entered, perhaps of none.
 pub(crate) fn cut_all<S>(
     loaders: &mut Vec<Loader<S>>,
     rounds: &mut u32,
     round: u32,
-    wants: &Wants,
+    wants: &mut Wants,
 ) -> Result<Vec<Order>, NoMemory>
-    requires lined_up { length wants.now ≡ length loaders.old.items }
+    requires lined_up { length wants.old ≡ length loaders.old.items }
     requires next { round ≡ rounds.old + 1 }
     ensures orders { IfOk result (λ orders. orders.items
-        ≡ orders_by 0 (map rule_of loaders.old.items) (keys_wanted wants.now)) }
-    ensures entered { OnOk result (Enters round (keys_wanted wants.now)
+        ≡ orders_by 0 (map rule_of loaders.old.items) (keys_wanted wants.old)) }
+    ensures entered { OnOk result (Enters round (keys_wanted wants.old)
         loaders.old.items loaders.new.items rounds.old rounds.new) }
-    ensures lost { OnErr result ((n : ℕ) × Enters round (first_keys n (keys_wanted wants.now))
+    ensures lost { OnErr result ((n : ℕ) × Enters round (first_keys n (keys_wanted wants.old))
         loaders.old.items loaders.new.items rounds.old rounds.new) }
 {
     let mut orders = Vec::new(*loaders.allocator());
     for loader in 0..loaders.len() {
-        let mut more = loaders[loader].cut(loader, round, wants.keys(loader))?;
+        let keys = wants.take_keys(loader);
+        let mut more = loaders[loader].cut_owned(loader, round, keys)?;
         if !more.is_empty() {
             *rounds = round;
         }

@@ -120,7 +120,7 @@ impl<'p, P: Execute> Run<'p, P> {
             }
             Poll::Pending => {
                 let rounds = self.rounds.checked_add(1).ok_or(NoMemory)?;
-                let orders = session.cut(&wants)?;
+                let orders = session.cut(&mut wants)?;
                 self.rounds = rounds;
                 self.stage = Stage::Out;
                 Ok(Next::Round(orders))

@@ -70,15 +70,15 @@ impl<S> Session<S> {
         Wants::new(self.alloc(), &self.memory)
     }
 
-    /// Enters the batches of what is wanted in the logs, as the next round, and gives their orders. A contract also
-    /// sees here that the entries bear the numbers of rounds that were made.
-    pub(crate) fn cut(&mut self, wants: &Wants) -> Result<Vec<Order>, NoMemory>
-        requires { length wants.now ≡ length self.old.loaders }
-        ensures orders { (loads : List Load) → AreWanted wants.now loads
+    /// Enters the batches of what is wanted in the logs, as the next round, and gives their orders, which have the keys
+    /// themselves. A contract also sees here that the entries bear the numbers of rounds that were made.
+    pub(crate) fn cut(&mut self, wants: &mut Wants) -> Result<Vec<Order>, NoMemory>
+        requires { length wants.old ≡ length self.old.loaders }
+        ensures orders { (loads : List Load) → AreWanted wants.old loads
             → IfOk result (λ orders. orders.items ≡ orders_of (rules_of (state_of self.old)) loads) }
-        ensures entered { (loads : List Load) → AreWanted wants.now loads
+        ensures entered { (loads : List Load) → AreWanted wants.old loads
             → OnOk result (state_of self.new ≡ after_step (state_of self.old) (Lost loads)) }
-        ensures lost { (loads : List Load) → AreWanted wants.now loads
+        ensures lost { (loads : List Load) → AreWanted wants.old loads
             → OnErr result (RoundLost (state_of self.old) (state_of self.new) loads) }
         ensures numbered { AreNumbered self.old.rounds self.old.loaders }
     {
@@ -267,7 +267,8 @@ impl<S: Asks> Session<S> {
             → OnErr result (RoundLost (state_of self.old) (state_of self.new) loads) }
     {
         let round = self.rounds.checked_add(1).ok_or(NoMemory)?;
-        let orders = cut_all(&mut self.loaders, &mut self.rounds, round, &wants)?;
+        let mut wants = wants;
+        let orders = cut_all(&mut self.loaders, &mut self.rounds, round, &mut wants)?;
         drop(wants);
         let replies = run_all(*self.loaders.allocator(), orders, &self.loaders)?;
         self.memory.keep_owned(replies)?;

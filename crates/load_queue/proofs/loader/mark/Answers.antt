@@ -1,7 +1,5 @@
-use Rattle.std.proofs.Common.{◌≡◌, ◌<◌, ◌+◌, ◌++◌, length, take, drop, arith, get_or, true, map, refl, ◌∙◌, sym, ap}
+use Rattle.std.proofs.Common.{◌≡◌, ◌<◌, ◌+◌, ◌++◌, length, take, drop, arith, true, map, refl, ◌∙◌, sym, ap}
 use Rattle.std.proofs.lemmas.List.{take-append-drop, length-set}
-use Rattle.std.specs.Prelude.{slice_set}
-use Rattle.load_queue.specs.Loaders.{marked}
 use Rattle.load_queue.specs.Logs.{asked_of}
 use Rattle.load_queue.specs.declared.loader.Asked.{Asked}
 use Rattle.load_queue.proofs.MarkLaws.{mark-this, mark-none, none-marked, same-there}

@@ -1,4 +1,4 @@
-use Rattle.std.proofs.Common.{◌≡◌, ◌++◌, map, take, drop, ◌≤◌, length}
+use Rattle.std.proofs.Common.{◌≡◌, ◌++◌, map, take, drop, length}
 use Rattle.load_queue.specs.Loaders.{marked}
 use Rattle.load_queue.specs.Logs.{asked_of}
 use Rattle.load_queue.proofs.loader.mark.Given as goal

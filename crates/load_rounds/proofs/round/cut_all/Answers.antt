@@ -1,7 +1,8 @@
-use Rattle.std.proofs.Common.{◌≡◌, ◌≢◌, ◌<◌, ◌+◌, ◌++◌, ℕ, [], map, length, ap, ◌∙◌, sym, arith, false, Result, Ok, Err, ◌⊎◌, inl, inr, ◌≤◌}
+use Rattle.std.proofs.Common.{◌≡◌, ◌≢◌, ◌<◌, ◌+◌, ◌++◌, ℕ, [], map, length, ap, ◌∙◌, sym, arith, false, Result, Ok, Err, ◌⊎◌, inl, inr, ◌≤◌, refl}
 use Rattle.std.specs.Prelude.{OnErr, vec_len}
 use Rattle.std.proofs.lemmas.Bool.{eqb-true, eqb-false}
 use Rattle.std.proofs.lemmas.List.{length-map}
+use Rattle.load_queue.proofs.WantLaws.{length-taken, taken-other}
 use Rattle.load_rounds.proofs.Running.{none-left}
 use Rattle.load_memory.specs.Keys.{key_of}
 use Rattle.load_queue.specs.Batches.{batches}
@@ -25,28 +26,35 @@ loop-loader-init g c =
     record {
       orders = c.new-orders.ensures.items ∙ sym none;
       entered = record { loaders = sym (logged-past false c.args.round 0 0 keys old (omega arith)); rounds = rw none (omega arith) };
+      lined = refl;
+      rest = λ m le. refl;
     }
+
+pub take_keys-keys-requires : goal.take_keys-keys-requires
+take_keys-keys-requires g c =
+    omega (arith, c.loop-loader-test.true, c.len-loader-end.ensures, c.args.loaders.now.ok.0, c.loop-loader.invariant.lined, c.requires.lined_up)
 
 pub returns-in_err-more-clause-lost : goal.returns-in_err-more-clause-lost
 returns-in_err-more-clause-lost g c =
     let keys = keys_wanted c.args.wants.now in
     let i = c.loop-loader.loader in
     on-err c.from_residual.result
-    (i, enters-kept c.args.round i (first_keys i keys) c.args.loaders.now.items c.loop-loader.loaders.items c.args.rounds.now c.loop-loader.rounds c.index_mut.result.now c.cut.new.self c.loop-loader.invariant.entered c.index_mut.ensures.value c.in_err-more.ensures.kept)
+    (i, enters-kept c.args.round i (first_keys i keys) c.args.loaders.now.items c.loop-loader.loaders.items c.args.rounds.now c.loop-loader.rounds c.index_mut.result.now c.cut_owned.new.self c.loop-loader.invariant.entered c.index_mut.ensures.value c.in_err-more.ensures.kept)
 
 pub returns-in_err-append-clause-lost : goal.returns-in_err-append-clause-lost
 returns-in_err-append-clause-lost g c =
     let keys = keys_wanted c.args.wants.now in
     let i = c.loop-loader.loader in
     let lt : i < length c.loop-loader.loaders.items = omega (arith, c.loop-loader-test.true, c.len-loader-end.ensures, c.args.loaders.now.ok.0, ap length c.loop-loader.invariant.entered.loaders, length-logged false c.args.round 0 (first_keys i keys) c.args.loaders.now.items) in
+    let own_keys : map key_of c.take_keys-keys.result.items ≡ keys i = c.take_keys-keys.ensures.keys ∙ c.loop-loader.invariant.rest i (omega arith) in
     let more = c.in_ok-more.more.items in
     let size : length more ≡ vec_len c.in_ok-more.more = omega (arith, c.in_ok-more.more.ok.0) in
     let either : ((more ≢ []) × (c.if-not-is_empty.rounds ≡ c.args.round)) ⊎ ((more ≡ []) × (c.if-not-is_empty.rounds ≡ c.loop-loader.rounds)) = elim c.if-not-is_empty.branch [
       | then-not-is_empty w ↦ inl (λ h. eqb-false (vec_len c.in_ok-more.more) 0 (sym c.is_empty.ensures ∙ w.if-not-is_empty.true) (sym size ∙ ap length h), w.rounds-is)
       | else-not-is_empty w ↦ inr (none-left more (size ∙ eqb-true (vec_len c.in_ok-more.more) 0 (sym c.is_empty.ensures ∙ w.if-not-is_empty.false)), w.rounds-is)
     ] in
-    let grown = enters-cut c.args.round i keys c.args.loaders.now.items c.loop-loader.loaders.items c.args.rounds.now c.loop-loader.rounds c.if-not-is_empty.rounds c.loop-loader.invariant.entered c.index_mut.result.now c.cut.new.self lt c.index_mut.ensures.value
-    (map key_of c.keys.result.now) c.keys.ensures c.in_ok-more.ensures.entered more c.in_ok-more.ensures.orders either c.requires.next in
+    let grown = enters-cut c.args.round i keys c.args.loaders.now.items c.loop-loader.loaders.items c.args.rounds.now c.loop-loader.rounds c.if-not-is_empty.rounds c.loop-loader.invariant.entered c.index_mut.result.now c.cut_owned.new.self lt c.index_mut.ensures.value
+    (map key_of c.take_keys-keys.result.items) own_keys c.in_ok-more.ensures.entered more c.in_ok-more.ensures.orders either c.requires.next in
     on-err c.from_residual-in_err-append.result (i + 1, grown)
 
 pub loop-loader-preserved : goal.loop-loader-preserved
@@ -54,21 +62,24 @@ loop-loader-preserved g c =
     let keys = keys_wanted c.args.wants.now in
     let i = c.loop-loader.loader in
     let lt : i < length c.loop-loader.loaders.items = omega (arith, c.loop-loader-test.true, c.len-loader-end.ensures, c.args.loaders.now.ok.0, ap length c.loop-loader.invariant.entered.loaders, length-logged false c.args.round 0 (first_keys i keys) c.args.loaders.now.items) in
+    let own_keys : map key_of c.take_keys-keys.result.items ≡ keys i = c.take_keys-keys.ensures.keys ∙ c.loop-loader.invariant.rest i (omega arith) in
     let more = c.in_ok-more.more.items in
     let size : length more ≡ vec_len c.in_ok-more.more = omega (arith, c.in_ok-more.more.ok.0) in
     let either : ((more ≢ []) × (c.if-not-is_empty.rounds ≡ c.args.round)) ⊎ ((more ≡ []) × (c.if-not-is_empty.rounds ≡ c.loop-loader.rounds)) = elim c.if-not-is_empty.branch [
       | then-not-is_empty w ↦ inl (λ h. eqb-false (vec_len c.in_ok-more.more) 0 (sym c.is_empty.ensures ∙ w.if-not-is_empty.true) (sym size ∙ ap length h), w.rounds-is)
       | else-not-is_empty w ↦ inr (none-left more (size ∙ eqb-true (vec_len c.in_ok-more.more) 0 (sym c.is_empty.ensures ∙ w.if-not-is_empty.false)), w.rounds-is)
     ] in
-    let grown = enters-cut c.args.round i keys c.args.loaders.now.items c.loop-loader.loaders.items c.args.rounds.now c.loop-loader.rounds c.if-not-is_empty.rounds c.loop-loader.invariant.entered c.index_mut.result.now c.cut.new.self lt c.index_mut.ensures.value
-    (map key_of c.keys.result.now) c.keys.ensures c.in_ok-more.ensures.entered more c.in_ok-more.ensures.orders either c.requires.next in
+    let grown = enters-cut c.args.round i keys c.args.loaders.now.items c.loop-loader.loaders.items c.args.rounds.now c.loop-loader.rounds c.if-not-is_empty.rounds c.loop-loader.invariant.entered c.index_mut.result.now c.cut_owned.new.self lt c.index_mut.ensures.value
+    (map key_of c.take_keys-keys.result.items) own_keys c.in_ok-more.ensures.entered more c.in_ok-more.ensures.orders either c.requires.next in
     let old = c.args.loaders.now.items in
     let d = c.index_mut.result.now in
-    let next = more-orders c.args.round i keys old c.loop-loader.loaders.items c.args.rounds.now c.loop-loader.rounds c.loop-loader.invariant.entered d c.cut.new.self lt c.index_mut.ensures.value (rw c.keys.ensures at c.in_ok-more.ensures.entered) in
-    let own : more ≡ map (order_of i) (batches d.limit (keys i)) = rw c.keys.ensures at c.in_ok-more.ensures.orders in
+    let next = more-orders c.args.round i keys old c.loop-loader.loaders.items c.args.rounds.now c.loop-loader.rounds c.loop-loader.invariant.entered d c.cut_owned.new.self lt c.index_mut.ensures.value (rw own_keys at c.in_ok-more.ensures.entered) in
+    let own : more ≡ map (order_of i) (batches d.limit (keys i)) = rw own_keys at c.in_ok-more.ensures.orders in
     record {
       orders = c.in_ok-append.ensures.items ∙ ap (λ os. os ++ more) c.loop-loader.invariant.orders ∙ ap (λ os. orders_by 0 (map rule_of old) (first_keys i keys) ++ os) own ∙ sym next;
       entered = grown;
+      lined = rw c.take_keys-keys.ensures.after (length-taken c.loop-loader.wants i) ∙ c.loop-loader.invariant.lined;
+      rest = λ m le. rw c.take_keys-keys.ensures.after (taken-other c.loop-loader.wants i m (omega (arith, le))) ∙ c.loop-loader.invariant.rest m (omega (arith, le));
     }
 
 pub returns-clause-orders : goal.returns-clause-orders

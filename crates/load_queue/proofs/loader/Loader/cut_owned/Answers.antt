@@ -6,23 +6,23 @@ use Rattle.load_queue.specs.Logs.{asked_of}
 use Rattle.load_queue.specs.Orders.{order_of}
 use Rattle.load_queue.proofs.MarkLaws.{is-loader-later, is-loader-more}
 use Rattle.load_queue.proofs.PieceLaws.{are-batches, keys-of-orders}
-use Rattle.load_queue.proofs.loader.Loader.cut.Goals as goal
+use Rattle.load_queue.proofs.loader.Loader.cut_owned.Goals as goal
 
 pub returns-clause-pieces : goal.returns-clause-pieces
 returns-clause-pieces g c =
-    let cut = c.in_ok-orders.ensures.orders ∙ ap (map (order_of c.args.loader)) c.piece_length-most.ensures.pieces in
-    rw (← c.self.view_is, cut, keys-of-orders) (are-batches c.self.inside.limit (map key_of c.args.keys.now) c.self.invariant.limited)
+    let cut = c.in_ok-orders.ensures ∙ ap (map (order_of c.args.loader)) (rw c.deref.ensures.value at c.piece_length-most.ensures.pieces) in
+    rw (← c.self.view_is, cut, keys-of-orders) (are-batches c.self.inside.limit (map key_of c.args.keys.items) c.self.invariant.limited)
 
 pub invariant_of-self-then-self-round : goal.invariant_of-self-then-self-round
 invariant_of-self-then-self-round g c =
     let log = c.self.inside.log.items in
-    let ks = pieces (length c.args.keys.now) c.piece_length-most.result (map key_of c.args.keys.now) in
-    rw (c.in_ok-append.ensures.items, map-append asked_of log c.in_ok-orders.entries.items, c.in_ok-orders.ensures.entries)
+    let ks = pieces (length c.deref-2.result.now) c.piece_length-most.result (map key_of c.deref-2.result.now) in
+    rw (c.in_ok-append.ensures.items, map-append asked_of log c.in_ok-entries.entries.items, c.in_ok-entries.ensures)
     (is-loader-later c.self.inside.limit c.self.inside.latest c.self.inside.earlier c.args.round c.len-earlier.result (map asked_of log) ks c.if-self-round.true (omega (arith, c.len-earlier.ensures, length-map log asked_of)) c.self.invariant)
 
 pub invariant_of-self-else-self-round : goal.invariant_of-self-else-self-round
 invariant_of-self-else-self-round g c =
     let log = c.self.inside.log.items in
-    let ks = pieces (length c.args.keys.now) c.piece_length-most.result (map key_of c.args.keys.now) in
-    rw (c.in_ok-append.ensures.items, map-append asked_of log c.in_ok-orders.entries.items, c.in_ok-orders.ensures.entries)
+    let ks = pieces (length c.deref-2.result.now) c.piece_length-most.result (map key_of c.deref-2.result.now) in
+    rw (c.in_ok-append.ensures.items, map-append asked_of log c.in_ok-entries.entries.items, c.in_ok-entries.ensures)
     (is-loader-more c.self.inside.limit c.self.inside.latest c.self.inside.earlier c.args.round (map asked_of log) ks (omega (arith, c.if-self-round.false)) c.self.invariant)
