@@ -1,14 +1,13 @@
 -- Which sets have a clash.
-use Rattle.std.proofs.Common.{◌≡◌, ◌∙◌, sym, ap, refl, ℕ, Bool, true, false, ◌||◌, cond, List, [], ◌∷◌, ◌++◌, map, append_assoc, append-nil}
+use Rattle.std.proofs.Common.{◌≡◌, ◌∙◌, sym, ap, refl, ℕ, ◌+◌, Bool, true, false, ◌||◌, List, [], ◌∷◌, ◌++◌, map, append_assoc}
 use Rattle.std.specs.Prelude.{filter}
 use Rattle.std.specs.List.{list_any}
 use Rattle.std.proofs.lemmas.List.Elements.{filter-append}
-use Rattle.gq_parser.specs.Tree.{SelectionSet, set_at, Selections}
-use Rattle.merge_table.specs.declared.sets.Reached.{Reached}
+use Rattle.gq_parser.specs.Tree.{SelectionSet, set_at, Selection, Selections, and_selection}
 use Rattle.merge_table.specs.Clashes.{has_clash}
 use Rattle.merge_table.specs.Table.{fail}
-use Rattle.selection_members.specs.Members.{SetOf, members_in, own_set, sets_in, sets_among}
-use Rattle.selection_members.specs.Walks.{to, renumbered, clash, is_clashing, place_of}
+use Rattle.selection_members.specs.Members.{SetOf, count_from, members_in, own_set, sets_in, sets_among, sets_from}
+use Rattle.selection_members.specs.Walks.{to, renumbered, clash, place_of}
 
 any-map : (f : ℕ → ℕ) (test : ℕ → Bool) (ms : List ℕ) → list_any test (map f ms) ≡ list_any (λ a. test (f a)) ms
 any-map f test [] = refl
@@ -53,3 +52,11 @@ with-own test spread n (set_at p ts) ss old mid new is before here =
   where
     among : SelectionSet → Selections
     among (set_at q us) = us
+
+-- the sets found so far, where those inside one more selection are added
+pub found-more : (test : SetOf → Bool) (spread : List ℕ → List ℕ) (n m : ℕ) (s : Selection) (rest : Selections) (old new all : List SetOf)
+    → m ≡ n + count_from s → new ≡ old ++ filter test (sets_from spread n s) → old ++ filter test (sets_among spread n (and_selection s rest)) ≡ all → new ++ filter test (sets_among spread m rest) ≡ all
+found-more test spread n m s rest old new all next more before =
+    let xs = sets_from spread n s in
+    let ys = sets_among spread (n + count_from s) rest in
+    rw (next, more) (append_assoc old (filter test xs) (filter test ys) ∙ (ap (λ (zs : List SetOf). old ++ zs) (sym (filter-append test xs ys)) ∙ before))

@@ -1,7 +1,7 @@
 -- What sets have, as their selections are entered.
-use Rattle.std.proofs.Common.{◌≡◌, ◌∙◌, sym, ap, subst, refl, ℕ, suc, ◌+◌, ◌<◌, List, [], ◌∷◌, ◌++◌, map, length, get_or, drop, drop-cons, add-one, append_assoc, append-nil, Option, Some, None, IfSome}
+use Rattle.std.proofs.Common.{◌≡◌, ◌∙◌, sym, ap, subst, ℕ, suc, ◌+◌, ◌<◌, List, [], ◌∷◌, ◌++◌, length, get_or, drop, drop-cons, add-one, append_assoc, append-nil, Option, Some, None, IfSome}
 use Rattle.std.proofs.lemmas.List.{map-append}
-use Rattle.gq_parser.specs.Tree.{Selection, Selections, and_selection}
+use Rattle.gq_parser.specs.Tree.{Selection, Selections, no_selection, and_selection}
 use Rattle.merge_table.specs.declared.sets.Reached.{Reached}
 use Rattle.merge_table.specs.Entered.{IsReached}
 use Rattle.selection_members.specs.Members.{count_from, members_from, members_among}
@@ -39,6 +39,10 @@ entered-more rows numbers all spread n m s rest r q e next enters = record {
   whole = append_assoc e.done (members_from spread n s) (members_among spread m rest) ∙ (rw next e.whole);
   is = enters e.is;
 }
+
+-- where no selection is left
+pub entered-all : (rows : List (List ℕ)) (numbers all : List ℕ) (spread : List ℕ → List ℕ) (n : ℕ) (r : Reached) → Entered rows numbers all spread n no_selection r → IsReached rows (renumbered numbers all) r
+entered-all rows numbers all spread n r e = let same : e.done ≡ all = sym (append-nil e.done) ∙ e.whole in subst (λ (ms : List ℕ). IsReached rows (renumbered numbers ms) r) same e.is
 
 -- what is left at a place: the element there, and then what is left behind it
 pub drop-next : {A : Type 0} (xs ys : List A) (i : ℕ) (x : A) → xs ≡ ys → i < length xs → x ≡ get_or xs i x → drop i ys ≡ x ∷ drop (i + 1) ys

@@ -1,16 +1,16 @@
 -- The first member that passes a test.
-use Rattle.std.proofs.Common.{◌≡◌, ◌∙◌, sym, ap, subst, refl, ℕ, Bool, true, false, ◌||◌, ◌==◌, cond, ◌⊎◌, inl, inr, List, [], ◌∷◌, ◌++◌, map, Option, Some, None, IsSome}
+use Rattle.std.proofs.Common.{◌≡◌, ◌∙◌, sym, ap, refl, ℕ, Bool, true, false, ◌==◌, cond, inl, inr, List, [], ◌∷◌, ◌++◌, Option, Some, None, IsSome}
 use Rattle.std.specs.Prelude.{find}
 use Rattle.std.proofs.lemmas.Bool.{cases_Bool, both_ways, or_left, or_right, eq-eqb}
 use Rattle.merge_table.specs.declared.sets.Reached.{Reached}
 use Rattle.merge_table.specs.Entered.{IsReached}
 use Rattle.merge_table.specs.Numbered.{is_in}
-use Rattle.merge_table.specs.Sets.{has, Common, Meets}
-use Rattle.merge_table.proofs.RenumberLaws.{in-map, Source, source-of}
+use Rattle.merge_table.specs.Sets.{has, Common}
+use Rattle.merge_table.proofs.RenumberLaws.{in-map, source-of}
 use Rattle.merge_table.proofs.ClashLaws.{not-found}
 use Rattle.selection_members.specs.declared.meeting.Met.{Met}
 use Rattle.selection_members.specs.declared.meeting.Met.TheVariants.{Field, Fragment}
-use Rattle.selection_members.specs.Meeting.{IsIn, IsMet}
+use Rattle.selection_members.specs.Meeting.{IsMet}
 use Rattle.selection_members.specs.Walks.{to, renumbered, is_key}
 
 -- where none of the first passes, the first of all is that of the rest

@@ -1,7 +1,6 @@
 -- What is known of fragments grows, one after the other.
-use Rattle.std.proofs.Common.{◌≡◌, ◌∙◌, sym, ap, subst, refl, ℕ, zero, suc, ◌+◌, ◌<◌, ◌≤◌, ◌⊎◌, inl, inr, Bool, true, false, cond, List, [], ◌∷◌, length, set, replicate, Option, Some, None, IfSome, add-one, arith}
+use Rattle.std.proofs.Common.{◌≡◌, ◌∙◌, sym, ap, subst, refl, ℕ, zero, suc, ◌+◌, ◌≤◌, inl, inr, Bool, true, false, cond, List, [], ◌∷◌, set, Option, Some, None, IfSome, arith}
 use Rattle.std.specs.Prelude.{slice_get}
-use Rattle.std.specs.Option.{option_and_then}
 use Rattle.std.proofs.lemmas.Bool.{cases_eq}
 use Rattle.gq_parser.specs.Tree.{Fragment, Document}
 use Rattle.merge_table.specs.declared.sets.Reached.{Reached}

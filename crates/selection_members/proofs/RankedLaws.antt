@@ -1,9 +1,9 @@
 -- Where fragments have ranks, the members of each are those of its set.
-use Rattle.std.proofs.Common.{◌≡◌, ◌∙◌, sym, ap, subst, refl, ℕ, zero, suc, ◌+◌, ◌<◌, ◌≤◌, Bool, true, false, ◌&&◌, cond, List, [], ◌∷◌, ◌++◌, length, Option, Some, None, arith}
+use Rattle.std.proofs.Common.{◌≡◌, ◌∙◌, sym, ap, subst, refl, ℕ, zero, suc, ◌+◌, ◌<◌, Bool, true, false, cond, List, [], ◌∷◌, length, Option, Some, None, arith}
 use Rattle.std.specs.Prelude.{slice_get, nat_lt}
 use Rattle.std.specs.Option.{option_map_or}
 use Rattle.std.proofs.lemmas.Bool.{and_parts, ltb-true}
-use Rattle.gq_parser.specs.Tree.{Field, Spread, Inline, Below, nothing_below, below, SelectionSet, set_at, Selection, Selections, no_selection, and_selection, Fragment, Document}
+use Rattle.gq_parser.specs.Tree.{Field, Spread, Inline, SelectionSet, set_at, Selection, Selections, no_selection, and_selection, Fragment, Document}
 use Rattle.selection_members.specs.Fragments.{is_named, place_from, place_in}
 use Rattle.selection_members.specs.Members.{count_in, count_from, count_operations, members_in, members_among, members_from, members_named, members_entered, members_of_fragment}
 use Rattle.selection_members.specs.Ranked.{spreads_in, spreads_among, spreads_from, rank_of, is_under, IsRanked}

@@ -2,6 +2,8 @@
 use Rattle.std.specs.Prelude.{◌≡◌, ℕ, Bool, List, Option, Some, None, IsSome, find}
 use Rattle.selection_members.specs.declared.meeting.Met.{Met}
 use Rattle.selection_members.specs.declared.meeting.Met.TheVariants.{Field, Fragment}
+use Rattle.selection_members.specs.declared.meeting.Came.{Came}
+use Rattle.selection_members.specs.declared.meeting.Came.TheVariants.{Met as to_met, Past}
 
 -- it is the first in the fragment of a name, which has one
 pub record IsIn (place : List ℕ → Option ℕ) (spread : List ℕ → List ℕ) (test : ℕ → Bool) (found : Option ℕ) (j : ℕ) : Type 0 where
@@ -15,3 +17,13 @@ abbrev pub IsMet : (List ℕ → Option ℕ) → (List ℕ → List ℕ) → (�
 IsMet place spread test found None = found ≡ None
 IsMet place spread test found (Some (Field n)) = found ≡ Some n
 IsMet place spread test found (Some (Fragment j)) = IsIn place spread test found j
+
+-- what was met, where a walk came so far
+abbrev pub met_of : Came → Option Met
+met_of (to_met m) = Some m
+met_of (Past n) = None
+
+-- a walk past all of some fields came to the number after them
+abbrev pub IsPast : ℕ → Came → Type 0
+IsPast end (to_met m) = Unit {0}
+IsPast end (Past n) = n ≡ end

@@ -1,7 +1,7 @@
 -- Numbers of fragments that show that none reaches itself.
 use Rattle.std.specs.Prelude.{◌≡◌, ◌<◌, ℕ, Bool, true, ◌&&◌, nat_lt, List, length, Option, Some, slice_get, slice_index_or}
 use Rattle.std.specs.Option.{option_map_or}
-use Rattle.gq_parser.specs.Tree.{Field, Spread, Inline, Below, nothing_below, below, SelectionSet, set_at, Selection, Selections, no_selection, and_selection, Fragment, Document}
+use Rattle.gq_parser.specs.Tree.{Field, Spread, Inline, Below, nothing_below, below, SelectionSet, set_at, Selection, Selections, no_selection, and_selection, Fragment}
 
 -- the names of all spreads in it pass a test
 abbrev mutual

@@ -1,6 +1,6 @@
 -- What is known where the members of selection sets are gathered. Fields have other numbers in a table of pairs than in their
 -- document.
-use Rattle.std.specs.Prelude.{◌≡◌, ◌≤◌, ℕ, Bool, List, [], map, length, slice_index_or, slice_get, Option, Some, None, IfSome, IsSome, ◌<◌}
+use Rattle.std.specs.Prelude.{◌≡◌, ◌≤◌, ℕ, Bool, List, [], map, slice_index_or, slice_get, Option, Some, None, IfSome}
 use Rattle.std.specs.Option.{option_and_then}
 use Rattle.gq_parser.specs.Tree.{Document, SelectionSet, set_at, set_of}
 use Rattle.gq_lexer.specs.declared.place.Place.{Place}

@@ -5,8 +5,8 @@
 //! other numbers in a table of pairs. [`known_fragments`] says what each fragment has, [`reached_in`] what a set has, and
 //! [`add_clashing`] adds exactly the sets in which two fields fail. [`first_member`] finds the first member of a set among some
 //! fields, without a list of the members, which can be exponential. That rests on what a fragment's members are, which
-//! [`is_ranked`] shows for documents whose fragments don't reach themselves. Each call takes a time linear in what it walks through,
-//! times the depth of the nesting.
+//! [`is_ranked`] shows for documents whose fragments don't reach themselves. Each call takes a time linear in what it walks
+//! through.
 #![tactic(auto)]
 
 mod counting;

@@ -1,11 +1,11 @@
 //! The first member of a set that passes a test, where its fields and those of the fragments that it enters are met in order.
 
-ghost use Rattle.std.specs.Prelude.{◌∷◌, [], ℕ, List, find, IfOk};
+ghost use Rattle.std.specs.Prelude.{◌+◌, ◌∷◌, [], ℕ, List, find, IfOk};
 ghost use Rattle.gq_parser.specs.Tree.{set_of, selection_of};
 ghost use Rattle.selection_members.specs.Fragments.{target_at};
-ghost use Rattle.selection_members.specs.Members.{members_in, members_from};
+ghost use Rattle.selection_members.specs.Members.{count_in, count_from, members_in, members_from};
 ghost use Rattle.selection_members.specs.Walks.{Knows, is_key};
-ghost use Rattle.selection_members.specs.Meeting.{IsMet};
+ghost use Rattle.selection_members.specs.Meeting.{IsMet, IsPast, met_of};
 
 use crate::counting::{fields_from, sum};
 use crate::walk::Walk;
@@ -57,8 +57,16 @@ fn fragment_met(walk: &Walk, keys: &Row, name: &str) -> Result<Option<Met>, Allo
     }
 }
 
+// How far a walk through selections came.
+#[derive(Clone, Copy)]
+enum Came {
+    // to the first that passes
+    Met(Met),
+    // past them all, to the field of this number
+    Past(usize),
+}
+
 /// Where the first member of a set that passes is met; the set's first field has the number `first`.
-#[cycle(meeting)]
 pub fn first_met(
     walk: &Walk,
     keys: &Row,
@@ -67,30 +75,53 @@ pub fn first_met(
 ) -> Result<Option<Met>, AllocError>
     ensures { (spread : List ℕ → List ℕ) → Knows walk.now.rows.now walk.now.numbers.now walk.now.fragments.now (target_at walk.now.targets.now) spread → IfOk result (IsMet (target_at walk.now.targets.now) spread (is_key keys.now walk.now.numbers.now) (find (is_key keys.now walk.now.numbers.now) (members_in spread first (set_of set.now)))) }
 {
+    match come_through(walk, keys, set, first)? {
+        Came::Met(met) => Ok(Some(met)),
+        Came::Past(_) => Ok(None),
+    }
+}
+
+// Walks through a set up to the first member that passes.
+#[cycle(meeting)]
+fn come_through(
+    walk: &Walk,
+    keys: &Row,
+    set: &SelectionSet,
+    first: usize,
+) -> Result<Came, AllocError>
+    ensures past { IfOk result (IsPast (first + count_in (set_of set.now))) }
+    ensures met { (spread : List ℕ → List ℕ) → Knows walk.now.rows.now walk.now.numbers.now walk.now.fragments.now (target_at walk.now.targets.now) spread → IfOk result (λ came. IsMet (target_at walk.now.targets.now) spread (is_key keys.now walk.now.numbers.now) (find (is_key keys.now walk.now.numbers.now) (members_in spread first (set_of set.now))) (met_of came)) }
+{
     let mut next = first;
     for selection in &set.selections {
-        match met_in(walk, keys, selection, next)? {
-            Some(met) => return Ok(Some(met)),
-            None => {}
+        match come_past(walk, keys, selection, next)? {
+            Came::Met(met) => return Ok(Came::Met(met)),
+            Came::Past(number) => next = number,
         }
-        next = sum(next, fields_from(selection)?)?;
     }
-    Ok(None)
+    Ok(Came::Past(next))
 }
 
 // The same of a selection.
 #[cycle(meeting)]
-fn met_in(
+fn come_past(
     walk: &Walk,
     keys: &Row,
     selection: &Selection,
     number: usize,
-) -> Result<Option<Met>, AllocError>
-    ensures { (spread : List ℕ → List ℕ) → Knows walk.now.rows.now walk.now.numbers.now walk.now.fragments.now (target_at walk.now.targets.now) spread → IfOk result (IsMet (target_at walk.now.targets.now) spread (is_key keys.now walk.now.numbers.now) (find (is_key keys.now walk.now.numbers.now) (members_from spread number (selection_of selection.now)))) }
+) -> Result<Came, AllocError>
+    ensures past { IfOk result (IsPast (number + count_from (selection_of selection.now))) }
+    ensures met { (spread : List ℕ → List ℕ) → Knows walk.now.rows.now walk.now.numbers.now walk.now.fragments.now (target_at walk.now.targets.now) spread → IfOk result (λ came. IsMet (target_at walk.now.targets.now) spread (is_key keys.now walk.now.numbers.now) (find (is_key keys.now walk.now.numbers.now) (members_from spread number (selection_of selection.now))) (met_of came)) }
 {
     match selection {
-        Selection::Field(_) => field_met(walk, keys, number),
-        Selection::Spread(spread) => fragment_met(walk, keys, spread.name.as_str()),
-        Selection::Inline(inline) => first_met(walk, keys, &inline.selection_set, number),
+        Selection::Field(_) => match field_met(walk, keys, number)? {
+            Some(met) => Ok(Came::Met(met)),
+            None => Ok(Came::Past(sum(number, fields_from(selection)?)?)),
+        },
+        Selection::Spread(spread) => match fragment_met(walk, keys, spread.name.as_str())? {
+            Some(met) => Ok(Came::Met(met)),
+            None => Ok(Came::Past(number)),
+        },
+        Selection::Inline(inline) => come_through(walk, keys, &inline.selection_set, number),
     }
 }

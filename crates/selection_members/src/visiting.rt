@@ -1,14 +1,16 @@
 //! The selection sets of a document, each after those inside it.
 
-ghost use Rattle.std.specs.Prelude.{◌≡◌, ◌++◌, ℕ, List, map, filter, OnOk};
-ghost use Rattle.gq_parser.specs.Tree.{set_of, selection_of};
+ghost use Rattle.std.specs.Prelude.{◌≡◌, ◌+◌, ◌++◌, ℕ, List, map, filter, IfOk, OnOk};
+ghost use Rattle.gq_parser.specs.Tree.{set_of, selection_of, below_of};
+ghost use Rattle.merge_table.specs.Entered.{IsReached};
 ghost use Rattle.selection_members.specs.Fragments.{target_at};
-ghost use Rattle.selection_members.specs.Members.{own_set, sets_in, sets_from};
-ghost use Rattle.selection_members.specs.Walks.{Knows, is_clashing, clashing_of};
+ghost use Rattle.selection_members.specs.Members.{count_in, count_from, count_below, members_in, members_from, own_set, sets_in, sets_from, sets_below};
+ghost use Rattle.selection_members.specs.Walks.{renumbered, Knows, is_clashing, clashing_of};
 
-use crate::counting::{fields_from, sum};
-use crate::walk::{Walk, reached_in};
+use crate::counting::sum;
+use crate::walk::{Walk, add_field, add_fragment};
 use gq_parser::{Selection, SelectionSet};
+use merge_table::Reached;
 use std::alloc::AllocError;
 
 /// A selection set with two fields that fail.
@@ -19,24 +21,17 @@ pub struct ClashingSet<'d> {
     pub first: usize,
 }
 
-// Notes a set, if two of its fields fail.
-fn note<'d>(
-    walk: &Walk,
-    set: &'d SelectionSet,
-    first: usize,
-    clashing: &mut Vec<ClashingSet<'d>>,
-) -> Result<(), AllocError>
-    ensures { (spread : List ℕ → List ℕ) → Knows walk.now.rows.now walk.now.numbers.now walk.now.fragments.now (target_at walk.now.targets.now) spread → OnOk result (map (clashing_of spread) clashing.new.items ≡ map (clashing_of spread) clashing.old.items ++ filter (is_clashing walk.now.rows.now walk.now.numbers.now) (own_set spread first (set_of set.now))) }
-{
-    let reached = reached_in(walk, set, first)?;
-    if reached.has_clash() {
-        clashing.push(ClashingSet { set, first })?;
-    }
-    Ok(())
+// What is found of a set as it is visited.
+#[derive(Drop)]
+struct Visited {
+    // what it has
+    reached: Reached,
+    // the number after its fields
+    next: usize,
 }
 
-/// Adds the sets in which two fields fail: this set, whose first field has the number `first`, and those inside it.
-#[cycle(visiting)]
+/// Adds the sets in which two fields fail: this set, whose first field has the number `first`, and those inside it. Each selection
+/// is visited once.
 pub fn add_clashing<'d>(
     walk: &Walk,
     set: &'d SelectionSet,
@@ -45,33 +40,92 @@ pub fn add_clashing<'d>(
 ) -> Result<(), AllocError>
     ensures { (spread : List ℕ → List ℕ) → Knows walk.now.rows.now walk.now.numbers.now walk.now.fragments.now (target_at walk.now.targets.now) spread → OnOk result (map (clashing_of spread) clashing.new.items ≡ map (clashing_of spread) clashing.old.items ++ filter (is_clashing walk.now.rows.now walk.now.numbers.now) (sets_in spread first (set_of set.now))) }
 {
-    let mut next = first;
-    for selection in &set.selections {
-        visit(walk, selection, next, clashing)?;
-        next = sum(next, fields_from(selection)?)?;
-    }
-    note(walk, set, first, clashing)
+    let _visited = visit_set(walk, set, first, clashing)?;
+    Ok(())
 }
 
-// Adds the sets inside a selection.
+// Notes a set, if two of its fields fail.
+fn note<'d>(
+    reached: &Reached,
+    set: &'d SelectionSet,
+    first: usize,
+    clashing: &mut Vec<ClashingSet<'d>>,
+) -> Result<(), AllocError>
+    ensures { (rows : List (List ℕ)) (numbers : List ℕ) (spread : List ℕ → List ℕ) → IsReached rows (renumbered numbers (members_in spread first (set_of set.now))) reached.now → OnOk result (map (clashing_of spread) clashing.new.items ≡ map (clashing_of spread) clashing.old.items ++ filter (is_clashing rows numbers) (own_set spread first (set_of set.now))) }
+{
+    if reached.has_clash() {
+        clashing.push(ClashingSet { set, first })?;
+    }
+    Ok(())
+}
+
+// Visits a set: what it has, after the sets in it with two fields that fail are added.
+#[cycle(visiting)]
+fn visit_set<'d>(
+    walk: &Walk,
+    set: &'d SelectionSet,
+    first: usize,
+    clashing: &mut Vec<ClashingSet<'d>>,
+) -> Result<Visited, AllocError>
+    ensures next { IfOk result (λ visited. visited.next ≡ first + count_in (set_of set.now)) }
+    ensures reached { (spread : List ℕ → List ℕ) → Knows walk.now.rows.now walk.now.numbers.now walk.now.fragments.now (target_at walk.now.targets.now) spread → IfOk result (λ visited. IsReached walk.now.rows.now (renumbered walk.now.numbers.now (members_in spread first (set_of set.now))) visited.reached) }
+    ensures clashing { (spread : List ℕ → List ℕ) → Knows walk.now.rows.now walk.now.numbers.now walk.now.fragments.now (target_at walk.now.targets.now) spread → OnOk result (map (clashing_of spread) clashing.new.items ≡ map (clashing_of spread) clashing.old.items ++ filter (is_clashing walk.now.rows.now walk.now.numbers.now) (sets_in spread first (set_of set.now))) }
+{
+    let mut reached = Reached::new();
+    let mut next = first;
+    for selection in &set.selections {
+        next = visit(walk, selection, next, clashing, &mut reached)?;
+    }
+    note(&reached, set, first, clashing)?;
+    Ok(Visited { reached, next })
+}
+
+// Visits a selection: adds the sets inside it in which two fields fail and what it has, and answers the number after its fields.
 #[cycle(visiting)]
 fn visit<'d>(
     walk: &Walk,
     selection: &'d Selection,
     number: usize,
     clashing: &mut Vec<ClashingSet<'d>>,
-) -> Result<(), AllocError>
-    ensures { (spread : List ℕ → List ℕ) → Knows walk.now.rows.now walk.now.numbers.now walk.now.fragments.now (target_at walk.now.targets.now) spread → OnOk result (map (clashing_of spread) clashing.new.items ≡ map (clashing_of spread) clashing.old.items ++ filter (is_clashing walk.now.rows.now walk.now.numbers.now) (sets_from spread number (selection_of selection.now))) }
+    reached: &mut Reached,
+) -> Result<usize, AllocError>
+    ensures next { IfOk result (λ next. next ≡ number + count_from (selection_of selection.now)) }
+    ensures reached { (spread : List ℕ → List ℕ) (ms : List ℕ) → Knows walk.now.rows.now walk.now.numbers.now walk.now.fragments.now (target_at walk.now.targets.now) spread → IsReached walk.now.rows.now (renumbered walk.now.numbers.now ms) reached.old → OnOk result (IsReached walk.now.rows.now (renumbered walk.now.numbers.now (ms ++ members_from spread number (selection_of selection.now))) reached.new) }
+    ensures clashing { (spread : List ℕ → List ℕ) → Knows walk.now.rows.now walk.now.numbers.now walk.now.fragments.now (target_at walk.now.targets.now) spread → OnOk result (map (clashing_of spread) clashing.new.items ≡ map (clashing_of spread) clashing.old.items ++ filter (is_clashing walk.now.rows.now walk.now.numbers.now) (sets_from spread number (selection_of selection.now))) }
 {
     match selection {
-        Selection::Field(field) => match &field.selection_set {
-            Some(set) => {
-                let first = sum(number, 1)?;
-                add_clashing(walk, set, first, clashing)
-            }
-            None => Ok(()),
-        },
-        Selection::Spread(_) => Ok(()),
-        Selection::Inline(inline) => add_clashing(walk, &inline.selection_set, number, clashing),
+        Selection::Field(field) => {
+            add_field(walk, number, reached)?;
+            visit_below(walk, &field.selection_set, sum(number, 1)?, clashing)
+        }
+        Selection::Spread(spread) => {
+            add_fragment(walk, spread.name.as_str(), reached)?;
+            Ok(number)
+        }
+        Selection::Inline(inline) => {
+            let inside = visit_set(walk, &inline.selection_set, number, clashing)?;
+            reached.add_all(&inside.reached);
+            Ok(inside.next)
+        }
+    }
+}
+
+// Visits the set of a field, if it has one; its first field has the number `first`.
+#[cycle(visiting)]
+fn visit_below<'d>(
+    walk: &Walk,
+    below: &'d Option<SelectionSet>,
+    first: usize,
+    clashing: &mut Vec<ClashingSet<'d>>,
+) -> Result<usize, AllocError>
+    ensures next { IfOk result (λ next. next ≡ first + count_below (below_of below.now)) }
+    ensures clashing { (spread : List ℕ → List ℕ) → Knows walk.now.rows.now walk.now.numbers.now walk.now.fragments.now (target_at walk.now.targets.now) spread → OnOk result (map (clashing_of spread) clashing.new.items ≡ map (clashing_of spread) clashing.old.items ++ filter (is_clashing walk.now.rows.now walk.now.numbers.now) (sets_below spread first (below_of below.now))) }
+{
+    match below {
+        Some(set) => {
+            let visited = visit_set(walk, set, first, clashing)?;
+            Ok(visited.next)
+        }
+        None => Ok(first),
     }
 }

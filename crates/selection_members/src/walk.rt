@@ -1,11 +1,11 @@
 //! What selection sets have in all.
 
-ghost use Rattle.std.specs.Prelude.{◌≡◌, ◌<◌, ◌≤◌, ◌++◌, ◌∷◌, [], ℕ, List, length, IfOk, OnOk};
+ghost use Rattle.std.specs.Prelude.{◌≡◌, ◌<◌, ◌≤◌, ◌+◌, ◌++◌, ◌∷◌, [], ℕ, List, length, IfOk, OnOk};
 ghost use Rattle.gq_parser.specs.Tree.{set_of, selection_of};
 ghost use Rattle.merge_table.specs.Entered.{IsReached};
 ghost use Rattle.merge_table.specs.Table.{IsBelow};
 ghost use Rattle.selection_members.specs.Fragments.{target_at};
-ghost use Rattle.selection_members.specs.Members.{members_in, members_from};
+ghost use Rattle.selection_members.specs.Members.{count_in, count_from, members_in, members_from};
 ghost use Rattle.selection_members.specs.Walks.{to, renumbered, Knows};
 
 use crate::counting::{fields_from, sum};
@@ -29,8 +29,8 @@ pub struct Walk<'a, 'd> {
     ghost known: { (a : ℕ) → a < length numbers.now → to numbers.now a < length rows.now },
 }
 
-// Adds a field.
-fn add_field(walk: &Walk, number: usize, reached: &mut Reached) -> Result<(), AllocError>
+/// Adds a field.
+pub(crate) fn add_field(walk: &Walk, number: usize, reached: &mut Reached) -> Result<(), AllocError>
     ensures { (ms : List ℕ) → IsReached walk.now.rows.now (renumbered walk.now.numbers.now ms) reached.old → OnOk result (IsReached walk.now.rows.now (renumbered walk.now.numbers.now (ms ++ number ∷ [])) reached.new) }
 {
     match walk.numbers.get(number) {
@@ -42,8 +42,8 @@ fn add_field(walk: &Walk, number: usize, reached: &mut Reached) -> Result<(), Al
     }
 }
 
-// Adds what the fragment of a name has.
-fn add_fragment(walk: &Walk, name: &str, reached: &mut Reached) -> Result<(), AllocError>
+/// Adds what the fragment of a name has.
+pub(crate) fn add_fragment(walk: &Walk, name: &str, reached: &mut Reached) -> Result<(), AllocError>
     ensures { (spread : List ℕ → List ℕ) (ms : List ℕ) → Knows walk.now.rows.now walk.now.numbers.now walk.now.fragments.now (target_at walk.now.targets.now) spread → IsReached walk.now.rows.now (renumbered walk.now.numbers.now ms) reached.old → OnOk result (IsReached walk.now.rows.now (renumbered walk.now.numbers.now (ms ++ spread name.now)) reached.new) }
 {
     match walk.targets.get(name) {
@@ -63,36 +63,52 @@ fn add_fragment(walk: &Walk, name: &str, reached: &mut Reached) -> Result<(), Al
 /// # Errors
 ///
 /// Where what it rests on isn't known.
-#[cycle(entering)]
 pub fn reached_in(walk: &Walk, set: &SelectionSet, first: usize) -> Result<Reached, AllocError>
     ensures { (spread : List ℕ → List ℕ) → Knows walk.now.rows.now walk.now.numbers.now walk.now.fragments.now (target_at walk.now.targets.now) spread → IfOk result (IsReached walk.now.rows.now (renumbered walk.now.numbers.now (members_in spread first (set_of set.now)))) }
 {
     let mut reached = Reached::new();
-    let mut next = first;
-    for selection in &set.selections {
-        enter(walk, selection, next, &mut reached)?;
-        next = sum(next, fields_from(selection)?)?;
-    }
+    enter_set(walk, set, first, &mut reached)?;
     Ok(reached)
 }
 
-// Adds what a selection has.
+// Adds what a set has, and answers the number after its fields.
+#[cycle(entering)]
+fn enter_set(
+    walk: &Walk,
+    set: &SelectionSet,
+    first: usize,
+    reached: &mut Reached,
+) -> Result<usize, AllocError>
+    ensures next { IfOk result (λ next. next ≡ first + count_in (set_of set.now)) }
+    ensures reached { (spread : List ℕ → List ℕ) (ms : List ℕ) → Knows walk.now.rows.now walk.now.numbers.now walk.now.fragments.now (target_at walk.now.targets.now) spread → IsReached walk.now.rows.now (renumbered walk.now.numbers.now ms) reached.old → OnOk result (IsReached walk.now.rows.now (renumbered walk.now.numbers.now (ms ++ members_in spread first (set_of set.now))) reached.new) }
+{
+    let mut next = first;
+    for selection in &set.selections {
+        next = enter(walk, selection, next, reached)?;
+    }
+    Ok(next)
+}
+
+// Adds what a selection has, and answers the number after its fields.
 #[cycle(entering)]
 fn enter(
     walk: &Walk,
     selection: &Selection,
     number: usize,
     reached: &mut Reached,
-) -> Result<(), AllocError>
-    ensures { (spread : List ℕ → List ℕ) (ms : List ℕ) → Knows walk.now.rows.now walk.now.numbers.now walk.now.fragments.now (target_at walk.now.targets.now) spread → IsReached walk.now.rows.now (renumbered walk.now.numbers.now ms) reached.old → OnOk result (IsReached walk.now.rows.now (renumbered walk.now.numbers.now (ms ++ members_from spread number (selection_of selection.now))) reached.new) }
+) -> Result<usize, AllocError>
+    ensures next { IfOk result (λ next. next ≡ number + count_from (selection_of selection.now)) }
+    ensures reached { (spread : List ℕ → List ℕ) (ms : List ℕ) → Knows walk.now.rows.now walk.now.numbers.now walk.now.fragments.now (target_at walk.now.targets.now) spread → IsReached walk.now.rows.now (renumbered walk.now.numbers.now ms) reached.old → OnOk result (IsReached walk.now.rows.now (renumbered walk.now.numbers.now (ms ++ members_from spread number (selection_of selection.now))) reached.new) }
 {
     match selection {
-        Selection::Field(_) => add_field(walk, number, reached),
-        Selection::Spread(spread) => add_fragment(walk, spread.name.as_str(), reached),
-        Selection::Inline(inline) => {
-            let inside = reached_in(walk, &inline.selection_set, number)?;
-            reached.add_all(&inside);
-            Ok(())
+        Selection::Field(_) => {
+            add_field(walk, number, reached)?;
+            sum(number, fields_from(selection)?)
         }
+        Selection::Spread(spread) => {
+            add_fragment(walk, spread.name.as_str(), reached)?;
+            Ok(number)
+        }
+        Selection::Inline(inline) => enter_set(walk, &inline.selection_set, number, reached),
     }
 }

@@ -3,10 +3,10 @@ use Rattle.std.specs.Prelude.{slice_get}
 use Rattle.std.specs.Option.{option_map}
 use Rattle.std.proofs.lemmas.Option.{slice_get-map, slice_get_read}
 use Rattle.gq_parser.specs.declared.tree.Fragment as rust-fragment
-use Rattle.gq_parser.specs.Tree.{fragment_of, operation_of, set_of}
+use Rattle.gq_parser.specs.Tree.{fragment_of, operation_of}
 use Rattle.merge_table.specs.Entered.{IsReached}
 use Rattle.selection_members.specs.Fragments.{target_at}
-use Rattle.selection_members.specs.Members.{count_operations, starts_from, members_in}
+use Rattle.selection_members.specs.Members.{count_operations, starts_from}
 use Rattle.selection_members.specs.Walks.{renumbered, KnowsAt, Knows}
 use Rattle.selection_members.proofs.Learning.{named-at}
 use Rattle.selection_members.proofs.fragments.learned.Goals as goal

@@ -4,7 +4,7 @@ use Rattle.std.specs.Option.{option_and_then}
 use Rattle.std.proofs.lemmas.Option.{slice_get_read}
 use Rattle.merge_table.specs.declared.sets.Reached.{Reached}
 use Rattle.selection_members.specs.Fragments.{target_at}
-use Rattle.selection_members.specs.Walks.{renumbered, known_at, is_key}
+use Rattle.selection_members.specs.Walks.{known_at, is_key}
 use Rattle.selection_members.proofs.Entering.{knows-known, knows-none}
 use Rattle.selection_members.proofs.FirstLaws.{meets-some, meets-none}
 use Rattle.selection_members.proofs.meeting.fragment_met.Goals as goal

@@ -1,30 +1,25 @@
-use Rattle.std.proofs.Common.{◌≡◌, ◌∙◌, sym, ap, ◌++◌, [], ◌∷◌, List, Bool, true, false, map, append-nil}
-use Rattle.std.specs.Prelude.{filter}
+use Rattle.std.proofs.Common.{◌≡◌, ◌∙◌, sym, ap, ◌++◌, [], ◌∷◌, List, true, false, map, append-nil}
 use Rattle.std.proofs.lemmas.List.{map-append}
 use Rattle.gq_parser.specs.Tree.{set_of}
-use Rattle.selection_members.specs.Members.{SetOf, members_in, own_set}
+use Rattle.selection_members.specs.Members.{SetOf, members_in}
 use Rattle.selection_members.specs.Walks.{renumbered, is_clashing, clashing_of}
 use Rattle.selection_members.proofs.Clashing.{clashing-same, told_set, own-kept, own-dropped}
 use Rattle.selection_members.proofs.visiting.note.Goals as goal
 
 pub returns-in_ok-push : goal.returns-in_ok-push
-returns-in_ok-push c = λ spread knows.
-    let rows = c.args.walk.now.rows.now in
-    let numbers = c.args.walk.now.numbers.now in
+returns-in_ok-push c = λ rows numbers spread is.
     let s = set_of c.args.set.now in
     let n = c.args.first in
     let old = c.args.clashing.now.items in
     let ms = members_in spread n s in
-    let yes : is_clashing rows numbers (told_set spread n s) ≡ true = sym (clashing-same rows numbers ms) ∙ (sym (c.has_clash.ensures rows (renumbered numbers ms) (c.in_ok-reached.ensures spread knows)) ∙ c.if-has_clash.true) in
+    let yes : is_clashing rows numbers (told_set spread n s) ≡ true = sym (clashing-same rows numbers ms) ∙ (sym (c.has_clash.ensures rows (renumbered numbers ms) is) ∙ c.if-has_clash.true) in
     rw c.in_ok-push.ensures.items (map-append (clashing_of spread) old (record { set = c.args.set; first = n } ∷ []) ∙ ap (λ (xs : List SetOf). map (clashing_of spread) old ++ xs) (sym (own-kept (is_clashing rows numbers) spread n s yes)))
 
 pub returns-else-has_clash : goal.returns-else-has_clash
-returns-else-has_clash c = λ spread knows.
-    let rows = c.args.walk.now.rows.now in
-    let numbers = c.args.walk.now.numbers.now in
+returns-else-has_clash c = λ rows numbers spread is.
     let s = set_of c.args.set.now in
     let n = c.args.first in
     let old = c.args.clashing.now.items in
     let ms = members_in spread n s in
-    let no : is_clashing rows numbers (told_set spread n s) ≡ false = sym (clashing-same rows numbers ms) ∙ (sym (c.has_clash.ensures rows (renumbered numbers ms) (c.in_ok-reached.ensures spread knows)) ∙ c.if-has_clash.false) in
+    let no : is_clashing rows numbers (told_set spread n s) ≡ false = sym (clashing-same rows numbers ms) ∙ (sym (c.has_clash.ensures rows (renumbered numbers ms) is) ∙ c.if-has_clash.false) in
     rw (own-dropped (is_clashing rows numbers) spread n s no) (sym (append-nil (map (clashing_of spread) old)))
