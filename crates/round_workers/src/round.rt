@@ -17,19 +17,26 @@ use std::thread::{Threads, join};
 /// The most workers that a round may have.
 pub const MOST_WORKERS: usize = 16;
 
+/// What the workers of a round share.
+#[derive(Drop)]
+struct Bench<'a, S> {
+    alloc: Global,
+    loaders: &'a [Loader<S>],
+    shelf: &'a Shelf,
+    desk: &'a Desk,
+}
+
 // Runs an order and stores its reply.
 fn serve<S: Source, R: Wait>(
     rt: &R,
-    alloc: Global,
-    loaders: &[Loader<S>],
-    shelf: &Shelf,
+    bench: &Bench<'_, S>,
     order: Order,
 ) -> Result<Receipt, NoMemory>
-    requires { order.loader < length loaders.now }
-    ensures { IfOk result (λ r. Shows S.may_answer loaders.now shelf.now order r) }
+    requires { order.loader < length bench.now.loaders.now }
+    ensures { IfOk result (λ r. Shows S.may_answer bench.now.loaders.now bench.now.shelf.now order r) }
 {
-    let reply = order.run(alloc, loaders)?;
-    match shelf.put(rt, reply) {
+    let reply = order.run(bench.alloc, bench.loaders)?;
+    match bench.shelf.put(rt, reply) {
         Ok(receipt) => Ok(receipt),
         Err(_) => Err(NoMemory),
     }
@@ -38,25 +45,22 @@ fn serve<S: Source, R: Wait>(
 // Takes orders until none waits, or memory runs out.
 fn work<S: Source, R: Wait>(
     rt: &R,
-    alloc: Global,
-    loaders: &[Loader<S>],
-    shelf: &Shelf,
-    desk: &Desk,
+    bench: &Bench<'_, S>,
     mut worker: Worker,
 ) -> (Worker, Result<Vec<Receipt>, NoMemory>)
-    requires desk { IsPassOf desk.now worker }
+    requires desk { IsPassOf bench.now.desk.now worker }
     requires part { 0 < (view worker).parts }
-    requires loaders { HaveLoaders loaders.now (view worker).all }
-    ensures desk { IsPassOf desk.now result.0 }
-    ensures worked { Worked S.may_answer loaders.now shelf.now (view worker) (view result.0) result.1 }
+    requires loaders { HaveLoaders bench.now.loaders.now (view worker).all }
+    ensures desk { IsPassOf bench.now.desk.now result.0 }
+    ensures worked { Worked S.may_answer bench.now.loaders.now bench.now.shelf.now (view worker) (view result.0) result.1 }
     ensures whole { (view result.0).parts ≡ 16 → IfOk result.1 (λ _. IsPermutation (view result.0).all (view result.0).taken) }
 {
-    let mut receipts = Vec::new(alloc);
+    let mut receipts = Vec::new(bench.alloc);
     for _ in rt.forever() {
-        let Some(order) = desk.pop_as::<Taken, R>(rt, &mut worker) else {
+        let Some(order) = bench.desk.pop_as::<Taken, R>(rt, &mut worker) else {
             return (worker, Ok(receipts));
         };
-        let receipt = match serve(rt, alloc, loaders, shelf, order) {
+        let receipt = match serve(rt, bench, order) {
             Ok(receipt) => receipt,
             Err(e) => return (worker, Err(e)),
         };
@@ -70,35 +74,62 @@ fn work<S: Source, R: Wait>(
 // Runs this many workers at the same time, by halves.
 fn share<S: Source, R: Threads + Wait + Sync>(
     rt: &R,
-    alloc: Global,
-    loaders: &[Loader<S>],
-    shelf: &Shelf,
-    desk: &Desk,
+    bench: &Bench<'_, S>,
     mut worker: Worker,
     workers: usize,
 ) -> (Worker, Result<Vec<Receipt>, NoMemory>)
-    requires desk { IsPassOf desk.now worker }
+    requires desk { IsPassOf bench.now.desk.now worker }
     requires part { (0 < workers) × (workers ≤ (view worker).parts) }
-    requires loaders { HaveLoaders loaders.now (view worker).all }
-    ensures desk { IsPassOf desk.now result.0 }
-    ensures worked { Worked S.may_answer loaders.now shelf.now (view worker) (view result.0) result.1 }
+    requires loaders { HaveLoaders bench.now.loaders.now (view worker).all }
+    ensures desk { IsPassOf bench.now.desk.now result.0 }
+    ensures worked { Worked S.may_answer bench.now.loaders.now bench.now.shelf.now (view worker) (view result.0) result.1 }
 {
     if workers < 2 {
-        return work(rt, alloc, loaders, shelf, desk, worker);
+        return work(rt, bench, worker);
     }
     let half = workers / 2;
     let rest = workers - half;
+    let Bench {
+        alloc,
+        loaders,
+        shelf,
+        desk,
+    } = *bench;
     let other = desk.another::<Halves>(&mut worker);
     let ((mut worker, mine), (other, theirs)) = join(
         rt,
         move || -> (Worker, Result<Vec<Receipt>, NoMemory>)
             requires { IsSync R.row × IsSync S.row × IsPassOf desk.now worker × (0 < rest) × (rest ≤ (view worker).parts) × HaveLoaders loaders.now (view worker).all }
             ensures { IsPassOf desk.entry.now result.0 × Worked S.may_answer loaders.entry.now shelf.entry.now (view worker) (view result.0) result.1 }
-        { share(rt, alloc, loaders, shelf, desk, worker, rest) },
+        {
+            share(
+                rt,
+                &Bench {
+                    alloc,
+                    loaders,
+                    shelf,
+                    desk,
+                },
+                worker,
+                rest,
+            )
+        },
         move || -> (Worker, Result<Vec<Receipt>, NoMemory>)
             requires { IsSync R.row × IsSync S.row × IsPassOf desk.now other × (0 < half) × (half ≤ (view other).parts) × HaveLoaders loaders.now (view other).all }
             ensures { IsPassOf desk.entry.now result.0 × Worked S.may_answer loaders.entry.now shelf.entry.now (view other) (view result.0) result.1 }
-        { share(rt, alloc, loaders, shelf, desk, other, half) },
+        {
+            share(
+                rt,
+                &Bench {
+                    alloc,
+                    loaders,
+                    shelf,
+                    desk,
+                },
+                other,
+                half,
+            )
+        },
     );
     desk.absorb::<Halves>(&mut worker, other);
     (worker, joined(mine, theirs))
@@ -157,11 +188,16 @@ pub fn run_round<S: Source, R: Threads + Wait + Sync>(
         return Ok(Vec::new(alloc));
     }
     let busy = workers.min(orders.len());
-    let (queue, worker) = Desk::ruled(alloc, orders.len())?;
-    let desk = &queue;
-    let worker = put_all(rt, desk, worker, orders);
-    let (worker, most) = share(rt, alloc, loaders, shelf, desk, worker, busy);
+    let (desk, worker) = Desk::ruled(alloc, orders.len())?;
+    let worker = put_all(rt, &desk, worker, orders);
+    let bench = Bench {
+        alloc,
+        loaders,
+        shelf,
+        desk: &desk,
+    };
+    let (worker, most) = share(rt, &bench, worker, busy);
     let most = most?;
-    let (_worker, last) = work(rt, alloc, loaders, shelf, desk, worker);
+    let (_worker, last) = work(rt, &bench, worker);
     joined(Ok(most), last)
 }

@@ -17,7 +17,7 @@ loop-preserved g c =
     let rule = c.in-Some-pop_as.ensures.rule in
     let queue = c.in-Some-pop_as.ensures.queue in
     let items : c.push.new.self.items ≡ c.loop.receipts.items ++ c.in-Ok.receipt ∷ [] = search rules in
-    let pass : IsPassOf c.args.desk.now c.pop_as.new.pass = (queue.0 ∙ c.loop.invariant.0.0, queue.2 ∙ c.loop.invariant.0.1) in
+    let pass : IsPassOf c.args.bench.now.desk.now c.pop_as.new.pass = (queue.0 ∙ c.loop.invariant.0.0, queue.2 ∙ c.loop.invariant.0.1) in
     (pass, served _ _ _ _ _ _ _ _ _ _ c.loop.invariant.1 rule.0 c.in-Ok.ensures items)
 
 pub returns-in-Err-clause-worked : goal.returns-in-Err-clause-worked

@@ -4,4 +4,4 @@ use Rattle.round_workers.specs.Work.{Worked}
 use Rattle.round_workers.proofs.round.work.Given as goal
 
 abbrev pub invariant-loop : goal.invariant-loop
-invariant-loop g l = IsPassOf l.desk l.worker × Worked g.S.Source.may_answer l.loaders l.shelf (view l.fn.worker) (view l.worker) (Ok l.receipts)
+invariant-loop g l = IsPassOf l.bench.desk.now l.worker × Worked g.S.Source.may_answer l.bench.loaders.now l.bench.shelf.now (view l.fn.worker) (view l.worker) (Ok l.receipts)
