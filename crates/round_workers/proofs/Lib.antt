@@ -1,0 +1,5 @@
+pub mod Cores
+pub mod Hands
+pub mod Orders
+pub mod Rounds
+pub mod Steps

@@ -1,0 +1,12 @@
+use Rattle.round_workers.proofs.Rounds.{answered, answers_on}
+use Rattle.round_workers.proofs.Steps.{begins}
+use Rattle.round_workers.proofs.round.run_round.Goals as goal
+
+pub ruled-requires-clause-rule : goal.ruled-requires-clause-rule
+ruled-requires-clause-rule g c = begins
+
+pub returns : goal.returns
+returns g c =
+    let most = rw c.in_ok-most.was at c.share-worker.ensures.worked in
+    let whole = answered _ _ _ _ _ _ _ _ _ _ c.put_all-worker.ensures.1 most c.work-worker.ensures.worked c.work-worker.ensures.whole c.joined.ensures.items c.joined.ensures.both in
+    record { answered = whole; shelved = answers_on _ _ _ _ _ whole }

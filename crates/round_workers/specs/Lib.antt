@@ -1,0 +1,4 @@
+pub mod Core
+pub mod Desk
+pub mod Round
+pub mod Work

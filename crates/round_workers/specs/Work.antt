@@ -1,0 +1,20 @@
+-- What a worker's call hands back.
+use Rattle.std.specs.Prelude.{◌≡◌, List, ◌++◌, Result, IfOk}
+use Rattle.std.specs.Global.{Vec}
+use Rattle.load_memory.specs.Keys.{KeyOf}
+use Rattle.load_memory.specs.declared.shelf.Shelf.{Shelf}
+use Rattle.load_memory.specs.declared.shelf.Receipt.{Receipt}
+use Rattle.load_queue.specs.Answers.{AnswerOf}
+use Rattle.load_queue.specs.Orders.{OrderOf}
+use Rattle.load_queue.specs.Loaders.{LoaderOf}
+use Rattle.load_memory.specs.declared.no_memory.NoMemory.{NoMemory}
+use Rattle.round_workers.specs.declared.desk.Hand.{Hand}
+use Rattle.round_workers.specs.Round.{EachShown}
+
+-- more orders were taken, and at Ok the receipts show replies to these, in order
+pub record Worked {S : Type 0} (may : S → List KeyOf → AnswerOf → Type 0) (loaders : List (LoaderOf S)) (shelf : Shelf) (old new : Hand) (result : Result (Vec Receipt) NoMemory) : Type 0 where
+  pub parts : new.parts ≡ old.parts
+  pub all : new.all ≡ old.all
+  pub more : List OrderOf
+  pub taken : new.taken ≡ old.taken ++ more
+  pub fit : IfOk result (λ v. EachShown may loaders shelf more v.items)
