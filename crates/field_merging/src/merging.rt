@@ -1,13 +1,13 @@
 //! The rule (section 5.3.2).
 
-ghost use Rattle.std.specs.Prelude.{◌≡◌, ◌<◌, ℕ, true, length, IfOk};
+ghost use Rattle.std.specs.Prelude.{◌≡◌, ◌<◌, ℕ, true, false, length, IfOk, OnOk};
 ghost use Rattle.std.specs.Option.{option_map};
 ghost use Rattle.gq_parser.specs.Tree.{document_of};
 ghost use Rattle.merge_table.specs.Clashes.{first_clash};
 ghost use Rattle.merge_table.specs.Numbered.{is_in};
 ghost use Rattle.selection_members.specs.Members.{members_of_fragment};
 ghost use Rattle.selection_members.specs.Walks.{clash, clashing_of};
-ghost use Rattle.document_parts.specs.Broken.{broken_of};
+ghost use Rattle.document_parts.specs.Broken.{BrokenOf, broken_of, with_broken, with_broken_if};
 ghost use Rattle.document_parts.specs.Parts.{parts_in};
 ghost use Rattle.field_merging.specs.Members.{fields_of};
 ghost use Rattle.field_merging.specs.Rule.{IsMerging, key_of};
@@ -20,6 +20,7 @@ use crate::grounds::{Grounds, fields_in_order, grounds_of};
 use crate::places::{field_order, placed};
 use crate::ranks::rank_fragments;
 use document_parts::{Broken, Earliest, Parts};
+use gq_lexer::Place;
 use merge_table::{failing_keys, failing_pairs};
 use selection_members::{
     ClashingSet, Source, Walk, first_member, fragment_starts, fragment_targets, known_fragments,
@@ -71,6 +72,31 @@ fn told<'d>(
     }
 }
 
+// Whether nothing so far stands before this place or at it.
+fn comes_first(earliest: &Earliest, place: Place) -> bool
+    ensures { (b : BrokenOf) → b.place ≡ place → result ≡ false → with_broken (option_map broken_of earliest.now.found) b ≡ option_map broken_of earliest.now.found }
+{
+    match earliest.found {
+        Some(kept) => place.is_before(kept.place),
+        None => true,
+    }
+}
+
+// Keeps what is told of a set in which two fields fail, where the set stands before all so far. What comes later isn't looked for.
+fn keep_told<'d>(
+    compared: &Compared<'_, 'd>,
+    set: ClashingSet<'d>,
+    earliest: &mut Earliest<'d>,
+) -> Result<(), AllocError>
+    requires compared { AreCompared (parts_in compared.now.grounds.parts.now) compared.now.grounds.numbers.now compared.now.grounds.order.now compared.now.fields.now compared.now.rows.now compared.now.fragments.now }
+    ensures { ((c : ℕ) → is_in (clashing_of (members_of_fragment (document_of compared.now.grounds.parts.now.document.now)) set.entry).members c ≡ true → c < length (parts_in compared.now.grounds.parts.now).fields) → OnOk result (option_map broken_of earliest.new.found ≡ with_broken_if (option_map broken_of earliest.old.found) (told_set (fields_of (parts_in compared.now.grounds.parts.now)).one_key (clash compared.now.rows.now compared.now.grounds.numbers.now) (key_of (parts_in compared.now.grounds.parts.now)) (clashing_of (members_of_fragment (document_of compared.now.grounds.parts.now.document.now)) set.entry))) }
+{
+    if comes_first(earliest, set.set.place) {
+        earliest.add_if(told(compared, set)?);
+    }
+    Ok(())
+}
+
 // The set with the earliest `{` that can't be merged.
 fn first_told<'d>(
     alloc: Global,
@@ -82,7 +108,7 @@ fn first_told<'d>(
     let sets = clashing_sets(alloc, compared)?;
     let mut earliest = Earliest::new();
     for set in &sets {
-        earliest.add_if(told(compared, *set)?);
+        keep_told(compared, *set, &mut earliest)?;
     }
     Ok(earliest.found)
 }

@@ -46,8 +46,7 @@ loop-set-preserved c =
     let left : map clashing (drop i items) ≡ clashing x ∷ rest = next-of clashing items i x c.loop-set-test.true c.set-item.is in
     let under : AreFields (length p.fields) (clashing x ∷ rest) = subst (AreFields (length p.fields)) left c.loop-set.invariant.1 in
     let kept = option_map broken_of c.loop-set.earliest.found in
-    let is : option_map broken_of c.in_ok-told.field-0 ≡ each (clashing x) = c.in_ok-told.ensures under.0 in
-    let new : option_map broken_of c.add_if.new.self.found ≡ with_broken_if kept (each (clashing x)) = c.add_if.ensures ∙ ap (λ (o : Option BrokenOf). with_broken_if kept o) is in (
+    let new : option_map broken_of c.keep_told.new.earliest.found ≡ with_broken_if kept (each (clashing x)) = c.in_ok-keep_told.ensures under.0 in (
       ap (λ (o : Option BrokenOf). fold with_broken o (told rest)) new
           ∙ (sym (told-next each kept (clashing x) rest) ∙ (ap (λ (ss : List SetOf). fold with_broken kept (told ss)) (sym left) ∙ c.loop-set.invariant.0)),
       under.1,
