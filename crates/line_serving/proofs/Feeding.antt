@@ -9,7 +9,7 @@ use Rattle.std.proofs.lemmas.List.Concat.{flat_map-append}
 use Rattle.std.proofs.lemmas.List.Elements.{All-nil, All-cons, All-head, All-tail, All-append, All-push}
 use Rattle.line_serving.specs.Lines.{HasNoLineFeed, IsLine, IsLong, Splits, ended, line_feed, limit, lines_of, last_of, on_first}
 use Rattle.line_serving.specs.Output.{AreAnswers, WithAnswer, WithAnswers, Sends, IsCut}
-use Rattle.line_serving.specs.Serving.{AtFault, Stopped, IsAnswered, Fails}
+use Rattle.line_serving.specs.Serving.{block_size, IsUnanswered, AtFault, Stopped, IsAnswered, Fails}
 use Rattle.line_serving.specs.declared.fault.ServeFault.{ServeFault}
 use Rattle.line_serving.specs.declared.fault.ServeFault.TheVariants as fault
 use Rattle.line_serving.proofs.Known.{sends_kept, consumes_none, consumes_trans, sends_same, sends_trans, cut_sends, cut_same, same_text, appends_trans, cut_after}
@@ -40,13 +40,20 @@ one_more text held line after rest lines cut whole =
 pub sends_nothing : (a b c : Option (List ℕ)) (p q r xs : List ℕ) → Sends a p b q xs → Sends b q c r [] → Sends a p c r xs
 sends_nothing a b c p q r xs h k = sends_same a c p r _ _ (sends_trans a b c p q r _ _ h k) (append-nil xs)
 
+-- what is held of a line, and what is left of a block
+pub behind : (held rest : List ℕ) → IsLine held → length rest ≤ block_size → IsUnanswered (held ++ rest)
+behind held rest is few = record { front = held; block = rest; whole = refl; one = is.one; few = few }
+
+pub behind_line : (line : List ℕ) → IsLine line → IsUnanswered line
+behind_line line is = record { front = line; block = []; whole = sym (append-nil line); one = is.one; few = omega arith }
+
 -- where the next line met a fault
 pub stopped_at : (A : List ℕ → List ℕ → Type 0) (f : ServeFault) (a b c : Option (List ℕ)) (p q r : List ℕ) (text held line after rest x : List ℕ) (lines : List (List ℕ)) (Read : List ℕ → Type 0)
-    → rest ≡ line ++ line_feed ∷ after → text ≡ flat_map ended lines ++ (held ++ rest) → All IsLine lines → IsLine held → HasNoLineFeed line
+    → length rest ≤ block_size → rest ≡ line ++ line_feed ∷ after → text ≡ flat_map ended lines ++ (held ++ rest) → All IsLine lines → IsLine held → HasNoLineFeed line
     → AreAnswers A lines x → Sends a p b q x
     → AtFault f (Sends b q c r [] × (limit < length (held ++ line))) ⊥ ((length (held ++ line) ≤ limit) × WithAnswer A (held ++ line) (λ out. IsCut b c (q ++ out))) (Sends b q c r [])
     → Stopped A text (Sends a p c r) (λ t. IsCut a c (p ++ t)) Read f
-stopped_at A fault.LineTooLong a b c p q r text held line after rest x lines Read cut whole each is one are sent h = (
+stopped_at A fault.LineTooLong a b c p q r text held line after rest x lines Read few cut whole each is one are sent h = (
   lines,
   held ++ rest,
   x,
@@ -65,8 +72,8 @@ stopped_at A fault.LineTooLong a b c p q r text held line after rest x lines Rea
     ),
   ),
 )
-stopped_at A fault.ReadFault a b c p q r text held line after rest x lines Read cut whole each is one are sent h = absurd h
-stopped_at A fault.WriteFault a b c p q r text held line after rest x lines Read cut whole each is one are sent (short, (t, answer, k)) = (
+stopped_at A fault.ReadFault a b c p q r text held line after rest x lines Read few cut whole each is one are sent h = absurd h
+stopped_at A fault.WriteFault a b c p q r text held line after rest x lines Read few cut whole each is one are sent (short, (t, answer, k)) = (
   lines ++ (held ++ line) ∷ [],
   after,
   x ++ ended t,
@@ -77,8 +84,8 @@ stopped_at A fault.WriteFault a b c p q r text held line after rest x lines Read
   are_more A lines (held ++ line) x t are answer,
   cut_sends a b c p q x (ended t) sent k,
 )
-stopped_at A fault.NoMemory a b c p q r text held line after rest x lines Read cut whole each is one are sent h =
-    (lines, held ++ rest, x, record { whole = whole; each = each }, are, sends_nothing a b c p q r x sent h)
+stopped_at A fault.NoMemory a b c p q r text held line after rest x lines Read few cut whole each is one are sent h =
+    (lines, held ++ rest, x, record { whole = whole; each = each }, are, (sends_nothing a b c p q r x sent h, behind held rest is few))
 
 pub count_more : (n : ℕ) (lines : List (List ℕ)) (line : List ℕ) → n ≡ length lines → n + 1 ≡ length (lines ++ line ∷ [])
 count_more n lines line e = omega (arith, length-append lines (line ∷ []), e)
@@ -103,12 +110,12 @@ stopped_later A f a b c p q r lines x text Read each are sent (more, rest, y, s,
     all k = sends_trans a b c p q r x y sent k
 
     cases : (f : ServeFault)
-        → AtFault f (Sends b q c r y × ((line : List ℕ) × (after : List ℕ) × IsLong rest line after)) (Sends b q c r y × ⊥) (IsCut b c (q ++ y)) (Sends b q c r y)
-        → AtFault f (Sends a p c r (x ++ y) × ((line : List ℕ) × (after : List ℕ) × IsLong rest line after)) (Sends a p c r (x ++ y) × Read rest) (IsCut a c (p ++ (x ++ y))) (Sends a p c r (x ++ y))
+        → AtFault f (Sends b q c r y × ((line : List ℕ) × (after : List ℕ) × IsLong rest line after)) (Sends b q c r y × ⊥) (IsCut b c (q ++ y)) (Sends b q c r y × IsUnanswered rest)
+        → AtFault f (Sends a p c r (x ++ y) × ((line : List ℕ) × (after : List ℕ) × IsLong rest line after)) (Sends a p c r (x ++ y) × Read rest) (IsCut a c (p ++ (x ++ y))) (Sends a p c r (x ++ y) × IsUnanswered rest)
     cases fault.LineTooLong k = (all k.0, k.1)
     cases fault.ReadFault k = absurd k.1
     cases fault.WriteFault k = cut_sends a b c p q x y sent k
-    cases fault.NoMemory k = all k
+    cases fault.NoMemory k = (all k.0, k.1)
 
 lines_of_line : (line rest : List ℕ) → HasNoLineFeed line → lines_of (ended line ++ rest) ≡ line ∷ lines_of rest
 lines_of_line [] rest h = refl
@@ -173,7 +180,7 @@ fails_last A fault.WriteFault a b c p q r lines last x left each is end are sent
       cut = cut_sends a b c p q x y sent k;
     }
 fails_last A fault.NoMemory a b c p q r lines last x left each is end are sent h =
-    inl (lines, last, x, record { whole = refl; each = each }, are, sends_nothing a b c p q r x sent h)
+    inl (lines, last, x, record { whole = refl; each = each }, are, (sends_nothing a b c p q r x sent h, behind_line last is))
 
 -- nothing more is pending
 pub sends_close : (a b c : Option (List ℕ)) (p xs : List ℕ) → Sends a [] b p xs → Appends b c p → Appends a c xs
@@ -203,7 +210,7 @@ cut_read A f a b c left p text e k h = cut_at_read A a b c left p text (IsCut a 
 
 cut_at_memory : (A : List ℕ → List ℕ → Type 0) (a b c left : Option (List ℕ)) (p text : List ℕ) (Cut : List ℕ → Type 0)
     → IsCut b c p → Fails A text (Sends a [] b p) Cut left fault.NoMemory → Fails A text (Appends a c) (IsCut a c) left fault.WriteFault
-cut_at_memory A a b c left p text Cut k (inl (lines, rest, x, s, are, h)) = inl (lines, rest, x, s, are, cut_close a b c p x h k)
+cut_at_memory A a b c left p text Cut k (inl (lines, rest, x, s, are, h)) = inl (lines, rest, x, s, are, cut_close a b c p x h.0 k)
 cut_at_memory A a b c left p text Cut k (inr h) = absurd h
 
 pub cut_memory : (A : List ℕ → List ℕ → Type 0) (f : ServeFault) (a b c left : Option (List ℕ)) (p text : List ℕ) → f ≡ fault.NoMemory
@@ -254,4 +261,4 @@ count_given m more g h n blk was few e = grind (arith, common_steps, was, few, e
 
 -- where no block was had to read into
 pub fails_start : (A : List ℕ → List ℕ → Type 0) (a left : Option (List ℕ)) (p : List ℕ) → p ≡ [] → Fails A [] (Sends a [] a p) (IsCut a a) left fault.NoMemory
-fails_start A a left p none = inl ([], [], [], record { whole = refl; each = All-nil IsLine }, refl, sends_kept a [] p [] none)
+fails_start A a left p none = inl ([], [], [], record { whole = refl; each = All-nil IsLine }, refl, (sends_kept a [] p [] none, behind_line [] no_line))

@@ -1,5 +1,5 @@
 -- What serving reads and writes.
-use Rattle.std.specs.Prelude.{◌≡◌, ◌⊎◌, ℕ, List, length, Option, Result, Ok, Err, Bool, true, false, if◌then◌else◌}
+use Rattle.std.specs.Prelude.{◌≡◌, ◌≤◌, ◌⊎◌, ℕ, List, ◌++◌, length, Option, Result, Ok, Err, Bool, true, false, if◌then◌else◌}
 use Rattle.std.specs.List.{All}
 use Rattle.std.specs.Io.KnownBytes.{IsAtEnd}
 use Rattle.line_serving.specs.declared.fault.ServeFault.{ServeFault}
@@ -15,15 +15,28 @@ AtFault fault.ReadFault long read write memory = read
 AtFault fault.WriteFault long read write memory = write
 AtFault fault.NoMemory long read write memory = memory
 
+-- the most bytes that are read at once
+abbrev pub block_size : ℕ
+block_size = 65536
+
+-- What was read behind the last line whose answer was sent: the front of a line, and no more than was read at once with its end.
+-- So of the lines that ended before that, each answer was sent.
+pub record IsUnanswered (rest : List ℕ) : Type 0 where
+  pub front : List ℕ
+  pub block : List ℕ
+  pub whole : rest ≡ front ++ block
+  pub one : HasNoLineFeed front
+  pub few : length block ≤ block_size
+
 -- Whole lines stand at the front of the text. Their answers were sent at a fault, or a front of them where the writer failed; after them
--- comes a line that is too long, or no whole line where the reader failed.
+-- comes a line that is too long, or no whole line where the reader failed, or where memory was wanted no more than was read at once.
 abbrev pub Stopped : (List ℕ → List ℕ → Type 0) → List ℕ → (List ℕ → Type 0) → (List ℕ → Type 0) → (List ℕ → Type 0) → ServeFault → Type 0
 Stopped Answers text Sent Cut Read fault = (lines : List (List ℕ)) × (rest : List ℕ) × (out : List ℕ) × Splits text lines rest × AreAnswers Answers lines out
     × AtFault fault
     (Sent out × ((line : List ℕ) × (more : List ℕ) × IsLong rest line more))
     (Sent out × Read rest)
     (Cut out)
-    (Sent out)
+    (Sent out × IsUnanswered rest)
 
 abbrev pub is_same_fault : ServeFault → ServeFault → Bool
 is_same_fault fault.LineTooLong fault.LineTooLong = true

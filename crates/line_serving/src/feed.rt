@@ -4,7 +4,7 @@ ghost use Rattle.std.specs.Prelude.{◌≡◌, ℕ, List, [], ◌++◌, ◌<◌,
 ghost use Rattle.line_serving.specs.Devices.{device_of, faults_of};
 ghost use Rattle.line_serving.specs.Lines.{limit, IsLine, Splits, last_of};
 ghost use Rattle.line_serving.specs.Output.{Sends, IsCut, WithAnswer, WithAnswers};
-ghost use Rattle.line_serving.specs.Serving.{AtFault, Stopped, faults_at};
+ghost use Rattle.line_serving.specs.Serving.{block_size, AtFault, Stopped, faults_at};
 
 use crate::answerer::Answerer;
 use crate::device::Counted;
@@ -69,7 +69,8 @@ pub fn feed<A: Answerer, W: Write>(
     held: &mut Vec<u8>,
     block: &[u8],
 ) -> Result<usize, ServeFault>
-    requires { IsLine held.old.items }
+    requires held { IsLine held.old.items }
+    requires few { length block.now ≤ block_size }
     ensures ok { IfOk result (λ n. (lines : List (List ℕ)) × Splits (held.old.items ++ block.now) lines held.new.items
         × (n ≡ length lines)
         × WithAnswers (A.answered_by answerer.now) lines

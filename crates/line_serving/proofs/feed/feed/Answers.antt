@@ -3,13 +3,13 @@ use Rattle.std.specs.List.{flat_map}
 use Rattle.std.proofs.lemmas.List.Elements.{All-nil, All-append, All-push}
 use Rattle.line_serving.specs.Lines.{IsLine, ended, line_feed}
 use Rattle.line_serving.proofs.Known.{sends_none, sends_trans}
-use Rattle.line_serving.proofs.Feeding.{are_more, one_more, is_line, stopped_at, count_more, no_line}
+use Rattle.line_serving.proofs.Feeding.{are_more, one_more, is_line, behind, stopped_at, count_more, no_line}
 use Rattle.line_serving.proofs.feed.feed.Goals as goal
 
 pub loop-line-init : goal.loop-line-init
 loop-line-init g c = record {
   answered = ([], [], refl, All-nil IsLine, refl, refl, sends_none _ _);
-  held = c.requires;
+  held = c.requires.held;
   count = omega arith;
   faults = refl;
 }
@@ -40,7 +40,7 @@ pub returns-in-Err-clause-err : goal.returns-in-Err-clause-err
 returns-in-Err-clause-err g c =
     let inv = c.loop-line.invariant in
     let cut = c.in-Some.ensures in
-    stopped_at (g.A.Answerer.answered_by c.args.answerer.now) c.in-Err.fault _ (g.W.Write.contents c.loop-line.writer.device) _ _ c.loop-line.pending.items _ _ _ _ _ _ inv.answered.1 inv.answered.0 _ cut.0 inv.answered.2 inv.answered.3 inv.held cut.1 inv.answered.5 inv.answered.6 c.in-Err.ensures.err
+    stopped_at (g.A.Answerer.answered_by c.args.answerer.now) c.in-Err.fault _ (g.W.Write.contents c.loop-line.writer.device) _ _ c.loop-line.pending.items _ _ _ _ _ _ inv.answered.1 inv.answered.0 _ (omega (arith, inv.count, c.requires.few)) cut.0 inv.answered.2 inv.answered.3 inv.held cut.1 inv.answered.5 inv.answered.6 c.in-Err.ensures.err
 
 pub returns-then-rest-len-clause-err : goal.returns-then-rest-len-clause-err
 returns-then-rest-len-clause-err g c =
@@ -62,4 +62,15 @@ returns-then-rest-len-clause-err g c =
           },
         ),
       ),
+    )
+
+pub returns-in-Err-extend_from_slice-clause-err : goal.returns-in-Err-extend_from_slice-clause-err
+returns-in-Err-extend_from_slice-clause-err g c =
+    let inv = c.loop-line.invariant in (
+      inv.answered.0,
+      c.loop-line.held.items ++ c.loop-line.rest.now,
+      inv.answered.1,
+      record { whole = inv.answered.2; each = inv.answered.3 },
+      inv.answered.5,
+      (inv.answered.6, behind c.loop-line.held.items c.loop-line.rest.now inv.held (omega (arith, inv.count, c.requires.few))),
     )
