@@ -1,3 +1,2 @@
 pub mod Grouping
-pub mod Depths
-pub mod Entering
+pub mod Rests

@@ -4,6 +4,7 @@ pub mod Arguments
 pub mod Texts
 pub mod Seen
 pub mod Collecting
+pub mod Steps
 pub mod Coercing
 pub mod Asked
 pub mod Prepared

@@ -1,11 +1,13 @@
 //! Collection of fields (section 6.3.2, CollectFields).
 
-ghost use Rattle.std.specs.Prelude.{◌≡◌, IfOk, OnOk};
+ghost use Rattle.std.specs.Prelude.{◌≡◌, ◌<◌, ◌≤◌, ◌+◌, IfOk, OnOk};
 ghost use Rattle.gq_parser.specs.Tree.{map_selections, selection_of};
 ghost use Rattle.gq_check.specs.Plans.{plan_of};
-ghost use Rattle.plan_program.specs.Groups.{collect_all, collect_one, collect_from, entering, collect, collect_below, selections_below, nothing_collected};
+ghost use Rattle.plan_program.specs.Groups as groups;
+ghost use Rattle.plan_program.specs.Groups.{collect_one, collect_from, entering, collect, collect_below, selections_below, nothing_collected};
 ghost use Rattle.plan_program.specs.Seen.{groups_of, field_seen, fields_seen};
-ghost use Rattle.plan_program.specs.Collecting.{collected_of};
+ghost use Rattle.plan_program.specs.Collecting.{collected_of, collect_rest, collect_rest_if, collect_rests};
+ghost use Rattle.plan_program.specs.Steps.{steps_inside, steps_one, steps_rest, steps_if, all_steps};
 
 use crate::chosen::{applies, applies_inline, is_left_out};
 use crate::collected::Collected;
@@ -15,88 +17,109 @@ use gq_check::Plan;
 use gq_parser::{Field, Selection};
 use std::alloc::{AllocError, Global};
 
-// Collects what selections choose, where so many fragments may still be entered one inside another.
-#[cycle(collect)]
-fn collect_into<'p>(
-    alloc: Global,
-    plan: &'p Plan<'_>,
-    left: usize,
-    ty: &str,
+// Selections that are left to collect, where so many fragments may still be entered one inside another.
+#[derive(Clone, Copy)]
+struct Rest<'p> {
     selections: &'p [Selection],
-    so_far: &mut Collected<'p>,
-) -> Result<(), AllocError>
-    ensures { OnOk result (collected_of so_far.new ≡ collect_all (plan_of plan.now) ty.now (entering (plan_of plan.now) ty.now left) (collected_of so_far.old) (map_selections selections.now)) }
-{
-    for selection in selections {
-        collect_one(alloc, plan, left, ty, selection, so_far)?;
-    }
-    Ok(())
+    enterable: usize,
 }
 
-#[cycle(collect)]
+// What a fragment leaves to collect, where it applies.
+fn rest_of_fragment<'p>(
+    plan: &'p Plan<'_>,
+    ty: &str,
+    enterable: usize,
+    name: &str,
+) -> Option<Rest<'p>>
+    ensures entered { (so_far : groups.Collected) → collect_rest_if (plan_of plan.now) ty.now so_far result ≡ entering (plan_of plan.now) ty.now enterable so_far name.now }
+    ensures steps { steps_if (plan_of plan.now).fragments result ≤ steps_inside (plan_of plan.now).fragments enterable }
+{
+    if enterable == 0 {
+        return None;
+    }
+    let Some(fragment) = plan.fragment(name) else {
+        return None;
+    };
+    if !applies(plan, &fragment.condition, ty) {
+        return None;
+    }
+    Some(Rest {
+        selections: &fragment.selection_set.selections,
+        enterable: enterable - 1,
+    })
+}
+
+// Collects a selection, but for the selections inside it, which are left to collect.
+#[tactic(auto, using(crate::proofs::Rests::some_steps))]
 fn collect_one<'p>(
     alloc: Global,
     plan: &'p Plan<'_>,
-    left: usize,
     ty: &str,
+    enterable: usize,
     selection: &'p Selection,
     so_far: &mut Collected<'p>,
-) -> Result<(), AllocError>
-    ensures { OnOk result (collected_of so_far.new ≡ collect_one (plan_of plan.now) ty.now (entering (plan_of plan.now) ty.now left) (collected_of so_far.old) (selection_of selection.now)) }
+) -> Result<Option<Rest<'p>>, AllocError>
+    ensures collected { IfOk result (λ inner. collect_rest_if (plan_of plan.now) ty.now (collected_of so_far.new) inner ≡ collect_one (plan_of plan.now) ty.now (entering (plan_of plan.now) ty.now enterable) (collected_of so_far.old) (selection_of selection.now)) }
+    ensures steps { IfOk result (λ inner. steps_if (plan_of plan.now).fragments inner < steps_one (steps_inside (plan_of plan.now).fragments enterable) (selection_of selection.now)) }
 {
     match selection {
         Selection::Field(field) => {
             if is_left_out(plan, &field.directives) {
-                return Ok(());
+                return Ok(None);
             }
-            so_far.add_field(alloc, field)
+            so_far.add_field(alloc, field)?;
+            Ok(None)
         }
         Selection::Spread(spread) => {
             if is_left_out(plan, &spread.directives) {
-                return Ok(());
+                return Ok(None);
             }
             if so_far.enter(spread.name.as_str())? {
-                return enter(alloc, plan, left, ty, spread.name.as_str(), so_far);
+                return Ok(rest_of_fragment(plan, ty, enterable, spread.name.as_str()));
             }
-            Ok(())
+            Ok(None)
         }
         Selection::Inline(inline) => {
             if is_left_out(plan, &inline.directives)
                 || !applies_inline(plan, &inline.condition, ty)
             {
-                return Ok(());
+                return Ok(None);
             }
-            let inner = &inline.selection_set.selections;
-            collect_into(alloc, plan, left, ty, inner, so_far)
+            Ok(Some(Rest {
+                selections: &inline.selection_set.selections,
+                enterable,
+            }))
         }
     }
 }
 
-// Collects what a fragment chooses.
-#[cycle(collect)]
-fn enter<'p>(
+// Collects the first of the selections that are left, and puts back what is left then: what is inside it comes first.
+fn collect_first<'p>(
     alloc: Global,
     plan: &'p Plan<'_>,
-    left: usize,
     ty: &str,
-    name: &str,
+    rest: Rest<'p>,
+    left: &mut Vec<Rest<'p>>,
     so_far: &mut Collected<'p>,
 ) -> Result<(), AllocError>
-    ensures { OnOk result (collected_of so_far.new ≡ entering (plan_of plan.now) ty.now left (collected_of so_far.old) name.now) }
+    ensures collected { OnOk result (collect_rests (plan_of plan.now) ty.now (collected_of so_far.new) left.new.items ≡ collect_rests (plan_of plan.now) ty.now (collect_rest (plan_of plan.now) ty.now (collected_of so_far.old) rest.entry) left.old.items) }
+    ensures steps { OnOk result (all_steps (plan_of plan.now).fragments left.new.items < all_steps (plan_of plan.now).fragments left.old.items + steps_rest (plan_of plan.now).fragments rest.entry) }
 {
-    if left == 0 {
-        return Ok(());
-    }
-    let Some(fragment) = plan.fragment(name) else {
+    let Some((selection, selections)) = rest.selections.split_first() else {
         return Ok(());
     };
-    if !applies(plan, &fragment.condition, ty) {
-        return Ok(());
+    left.push(Rest {
+        selections,
+        enterable: rest.enterable,
+    })?;
+    match collect_one(alloc, plan, ty, rest.enterable, selection, so_far)? {
+        Some(inner) => Ok(left.push(inner)?),
+        None => Ok(()),
     }
-    let inner = &fragment.selection_set.selections;
-    collect_into(alloc, plan, left - 1, ty, inner, so_far)
 }
 
+// Collects what selections choose. However long the chains of fragments and inline fragments are, what is left to collect is
+// kept in a list.
 fn collect_from<'p>(
     alloc: Global,
     plan: &'p Plan<'_>,
@@ -106,7 +129,15 @@ fn collect_from<'p>(
 ) -> Result<(), AllocError>
     ensures { OnOk result (collected_of so_far.new ≡ collect_from (plan_of plan.now) ty.now (collected_of so_far.old) (map_selections selections.now)) }
 {
-    collect_into(alloc, plan, plan.fragments().len(), ty, selections, so_far)
+    let mut left = Vec::with_capacity(alloc, 1)?;
+    left.push(Rest {
+        selections,
+        enterable: plan.fragments().len(),
+    })?;
+    while let Some(rest) = left.pop() {
+        collect_first(alloc, plan, ty, rest, &mut left, so_far)?;
+    }
+    Ok(())
 }
 
 // Collects what a field selects.
