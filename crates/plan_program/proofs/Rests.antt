@@ -1,9 +1,9 @@
 -- What is left to collect, as selections are put there and taken from there.
-use Rattle.std.proofs.Common.{◌≡◌, ◌∙◌, sym, ap, refl, ℕ, zero, suc, ◌+◌, ◌-◌, ◌<◌, ◌≤◌, max, Bool, true, false, List, [], ◌∷◌, ◌++◌, Option, Some, None, bytes_eq, append-nil, arith}
+use Rattle.std.proofs.Common.{◌≡◌, ap, refl, ℕ, zero, suc, ◌+◌, ◌-◌, ◌<◌, ◌≤◌, Bool, true, false, List, [], ◌∷◌, ◌++◌, Option, Some, None, bytes_eq, append-nil, arith}
 use Rattle.std.specs.Prelude.{option_to_list}
 use Rattle.gq_lexer.specs.declared.place.Place.{Place}
 use Rattle.gq_parser.specs.Tree.{Selection, Field, Spread, Inline, set_at, Selections, and_selection, Fragment, map_selections}
-use Rattle.gq_check.specs.Plans.{PlanOf, is_fragment, fragment_in}
+use Rattle.gq_check.specs.Plans.{PlanOf, fragment_in}
 use Rattle.plan_program.specs.declared.collection.Rest.{Rest}
 use Rattle.plan_program.specs.Groups.{Collected, collect_one, entering}
 use Rattle.plan_program.specs.Collecting.{collect_rest, collect_rest_if, collect_rests}

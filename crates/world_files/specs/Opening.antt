@@ -1,5 +1,5 @@
 -- How a run ends where files give no world.
-use Rattle.std.specs.Prelude.{◌≡◌, ℕ, List, Option}
+use Rattle.std.specs.Prelude.{◌≡◌, ◌<◌, ◌⊎◌, ℕ, List, length, Option}
 use Rattle.line_serving.specs.declared.fault.ServeFault.TheVariants as serve
 use Rattle.command_line.specs.declared.stop.Stop.{Stop}
 use Rattle.command_line.specs.declared.stop.Stop.TheVariants as stop
@@ -15,6 +15,10 @@ IsUnread (stop.World fault) = ⊥
 IsUnread (stop.Table fault) = ⊥
 IsUnread stop.File = Unit {0}
 IsUnread (stop.Serve fault) = fault ≡ serve.NoMemory
+
+-- the text is all that a file has, or both are longer than a text may be
+abbrev pub IsWholeOrLong : ℕ → List ℕ → List ℕ → Type 0
+IsWholeOrLong most bytes text = (text ≡ bytes) ⊎ ((most < length bytes) × (most < length text))
 
 -- a table's file can't be opened, or holds none
 abbrev pub IsUnopened : Stop → Type 0

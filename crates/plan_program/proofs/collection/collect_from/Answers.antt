@@ -1,4 +1,4 @@
-use Rattle.std.proofs.Common.{◌≡◌, sym, ◌∙◌, ap, List, [], ◌∷◌, ◌++◌, ℕ, ◌+◌, arith}
+use Rattle.std.proofs.Common.{◌≡◌, sym, ◌∙◌, ap, List, [], ◌∷◌, ◌++◌, ◌+◌, arith}
 use Rattle.gq_check.specs.Plans.{plan_of}
 use Rattle.plan_program.specs.declared.collection.Rest.{Rest}
 use Rattle.plan_program.specs.Collecting.{collected_of, collect_rests}
