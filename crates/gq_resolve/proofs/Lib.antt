@@ -9,3 +9,4 @@ pub mod Shaping
 pub mod Thinning
 pub mod Walking
 pub mod WrittenTexts
+pub mod SamePlan

@@ -48,6 +48,13 @@ asked-none plan levels (all_rows loader key below) = fits-none plan levels below
 asked-none plan levels (each_row loader keys below) = fits-none plan levels below
 asked-none plan levels (joined_rows loader key second column below) = fits-none plan levels below
 
+-- what is let go still fits
+pub keeps-none : (plan : PlanOf) (asked : AskedOf) (old : List Shape) → KeepsAsked plan asked old []
+keeps-none plan asked old = λ levels f. asked-none plan levels asked
+
+pub asked-then : (plan : PlanOf) (asked : AskedOf) (a b c : List Shape) → KeepsAsked plan asked a b → KeepsAsked plan asked b c → KeepsAsked plan asked a c
+asked-then plan asked a b c k l = λ levels f. l levels (k levels f)
+
 pub nothing-fits : (plan : PlanOf) (levels : ℕ) (ms : List Member) → NothingMet ms → MembersFit (Fits plan levels) ms
 nothing-fits plan levels [] h = tt
 nothing-fits plan levels (m ∷ ms) h =

@@ -20,6 +20,7 @@ use crate::answered::Answered;
 use crate::build::object;
 use crate::finish::finished;
 use crate::no_memory::NoMemory;
+use crate::over::Walk;
 use crate::shapes::{Member, members_of};
 use crate::state::State;
 use crate::waiting::{Load, loads_of};
@@ -52,7 +53,8 @@ pub fn root<'p>(alloc: Global, plan: &'p Plan<'_>, memory: &Memory) -> Result<St
 {
     let mut members = root_members(alloc, plan)?;
     let row = Row::new(alloc, &[])?;
-    object(alloc, plan, memory, MOST_LEVELS, &mut members, &row)
+    let walk = Walk::new(alloc, plan, memory);
+    object(&walk, MOST_LEVELS, &mut members, &row)
 }
 
 /// The answer of a state in which nothing waits.

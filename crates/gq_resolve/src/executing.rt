@@ -16,6 +16,7 @@ ghost use Rattle.gq_resolve.specs.Walked.{walked, data_walked, lacked, Puts};
 use crate::answer::answer_text;
 use crate::evaluation::{MOST_LEVELS, answered, root, root_members, want};
 use crate::no_memory::NoMemory;
+use crate::over::Walk;
 use crate::walk::object;
 use crate::writing::{Missing, Output, text_of};
 use futures::task::Poll;
@@ -39,7 +40,8 @@ fn put_answer(
     let row = Row::new(alloc, &[])?;
     out.put(Token::BeginObject)?;
     out.put(Token::Key("data"))?;
-    object(alloc, plan, memory, MOST_LEVELS, &mut members, &row, out)?;
+    let walk = Walk::new(alloc, plan, memory);
+    object(&walk, MOST_LEVELS, &mut members, &row, out)?;
     out.put(Token::EndObject)
 }
 

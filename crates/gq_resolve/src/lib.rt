@@ -15,6 +15,7 @@ mod evaluation;
 mod executing;
 mod finish;
 mod no_memory;
+mod over;
 mod reading;
 mod shapes;
 mod state;

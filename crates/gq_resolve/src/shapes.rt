@@ -2,10 +2,11 @@
 
 ghost use Rattle.std.specs.Prelude.{◌≡◌, ◌<◌, ℕ, suc, IfOk, IfSome, OnOk, length};
 ghost use Rattle.gq_check.specs.Plans.{plan_of};
-ghost use Rattle.gq_resolve.specs.Shapes.{below_in, type_prepared, prepared_in, NothingMet, Fits, Keeps, type_at, prepared_at};
+ghost use Rattle.plan_program.specs.Asked.{AskedOf};
+ghost use Rattle.gq_resolve.specs.Shapes.{below_in, type_prepared, prepared_in, NothingMet, Fits, Keeps, KeepsAsked, type_at, prepared_at};
 
 use crate::no_memory::NoMemory;
-use gq_check::Plan;
+use crate::over::Walk;
 use plan_program::{Below, Prepared, collect_below, prepare};
 use std::alloc::Global;
 use std::sync::Arc;
@@ -56,41 +57,66 @@ fn find(met: &[Shape<'_>], ty: &str) -> Option<usize>
 
 // Prepares the groups of an object type.
 fn meet<'p>(
-    alloc: Global,
-    plan: &'p Plan<'_>,
+    walk: &Walk<'_, 'p, '_>,
     below: &Arc<Below<'p>>,
     met: &mut Vec<Shape<'p>>,
     ty: &str,
 ) -> Result<usize, NoMemory>
-    ensures keeps { OnOk result (Keeps (plan_of plan.now) (below_in below.now) met.old.items met.new.items) }
+    ensures keeps { OnOk result (Keeps (plan_of walk.now.plan.now) (below_in below.now) met.old.items met.new.items) }
     ensures within { IfOk result (λ place. place < length met.new.items) }
-    ensures prepared { IfOk result (λ place. prepared_at met.new.items place ≡ type_prepared (plan_of plan.now) (below_in below.now) ty.now) }
+    ensures prepared { IfOk result (λ place. prepared_at met.new.items place ≡ type_prepared (plan_of walk.now.plan.now) (below_in below.now) ty.now) }
 {
-    let groups = collect_below(alloc, plan, ty, &below.fields)?;
-    let prepared = prepare(alloc, plan, ty, groups)?;
-    let members = members_of(alloc, prepared)?;
+    let groups = collect_below(walk.alloc, walk.plan, ty, &below.fields)?;
+    let prepared = prepare(walk.alloc, walk.plan, ty, groups)?;
+    let members = members_of(walk.alloc, prepared)?;
+    let kept = members.len();
     let place = met.len();
     met.push(Shape {
-        ty: String::from_str(alloc, ty)?,
+        ty: String::from_str(walk.alloc, ty)?,
         members,
     })?;
+    walk.keep(kept);
     Ok(place)
 }
 
 /// The place of the shape of an object type, among those that were met below a group.
 pub fn place_of<'p>(
-    alloc: Global,
-    plan: &'p Plan<'_>,
+    walk: &Walk<'_, 'p, '_>,
     below: &Arc<Below<'p>>,
     met: &mut Vec<Shape<'p>>,
     ty: &str,
 ) -> Result<usize, NoMemory>
-    ensures keeps { OnOk result (Keeps (plan_of plan.now) (below_in below.now) met.old.items met.new.items) }
+    ensures keeps { OnOk result (Keeps (plan_of walk.now.plan.now) (below_in below.now) met.old.items met.new.items) }
     ensures within { IfOk result (λ place. place < length met.new.items) }
-    ensures prepared { IfOk result (λ place. (levels : ℕ) → Fits (plan_of plan.now) (suc levels) (below_in below.now) met.old.items → prepared_at met.new.items place ≡ type_prepared (plan_of plan.now) (below_in below.now) ty.now) }
+    ensures prepared { IfOk result (λ place. (levels : ℕ) → Fits (plan_of walk.now.plan.now) (suc levels) (below_in below.now) met.old.items → prepared_at met.new.items place ≡ type_prepared (plan_of walk.now.plan.now) (below_in below.now) ty.now) }
 {
     match find(met, ty) {
         Some(place) => Ok(place),
-        None => meet(alloc, plan, below, met, ty),
+        None => meet(walk, below, met, ty),
     }
+}
+
+// How many groups a shape has, with those below it.
+fn groups_in(shape: &Shape<'_>) -> usize {
+    let mut groups = shape.members.len();
+    for member in &shape.members {
+        for below in &member.met {
+            groups = groups.saturating_add(groups_in(below));
+        }
+    }
+    groups
+}
+
+/// Lets go of what was met below a group, where more groups are kept than there should be: below them it is prepared again
+/// when it is needed.
+pub fn let_go(walk: &Walk<'_, '_, '_>, met: &mut Vec<Shape<'_>>)
+    ensures { (asked : AskedOf) → KeepsAsked (plan_of walk.now.plan.now) asked met.old.items met.new.items }
+{
+    if !walk.keeps_too_many() {
+        return;
+    }
+    for shape in met.iter() {
+        walk.let_go(groups_in(shape));
+    }
+    met.clear();
 }

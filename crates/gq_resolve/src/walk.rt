@@ -15,29 +15,26 @@ ghost use Rattle.gq_resolve.specs.Walked.{Walks};
 
 use crate::cells::{TypeOf, type_of_row};
 use crate::no_memory::NoMemory;
-use crate::shapes::{Member, Shape, place_of};
+use crate::over::Walk;
+use crate::shapes::{Member, Shape, let_go, place_of};
 use crate::state::Then;
 use crate::writing::Output;
-use gq_check::Plan;
 use json::Token;
-use load_memory::{Cell, Key, KeyRef, Memory, Outcome, Row};
+use load_memory::{Cell, Key, KeyRef, Outcome, Row};
 use plan_program::{Asked, Below, KeyFrom};
-use std::alloc::Global;
 use std::sync::Arc;
 
 /// An object over a row, from the groups of its type, with so many levels of objects below it.
 #[cycle(walk)]
 pub fn object<'p>(
-    alloc: Global,
-    plan: &'p Plan<'_>,
-    memory: &Memory,
+    walk: &Walk<'_, 'p, '_>,
     levels: u32,
     members: &mut [Member<'p>],
     row: &Row,
     out: &mut Output,
 ) -> Result<(), NoMemory>
-    ensures keeps { OnOk result (KeepsMembers (plan_of plan.now) members.old members.new) }
-    ensures puts { OnOk result (MembersFit (Fits (plan_of plan.now) levels) members.old → Walks memory.now false (prepared_program (plan_of plan.now).definitions (object_program (plan_of plan.now) levels) (all_prepared_seen (prepared_in members.old)) row.now) out.old out.new) }
+    ensures keeps { OnOk result (KeepsMembers (plan_of walk.now.plan.now) members.old members.new) }
+    ensures puts { OnOk result (MembersFit (Fits (plan_of walk.now.plan.now) levels) members.old → Walks walk.now.memory.now false (prepared_program (plan_of walk.now.plan.now).definitions (object_program (plan_of walk.now.plan.now) levels) (all_prepared_seen (prepared_in members.old)) row.now) out.old out.new) }
 {
     out.put(Token::BeginObject)?;
     for member in members.iter_mut() {
@@ -45,27 +42,35 @@ pub fn object<'p>(
         out.put(Token::Key(group.key))?;
         let strict = group.non_null;
         let group = &group.asked;
-        asked(
-            alloc,
-            plan,
-            memory,
-            levels,
-            group,
-            strict,
-            &mut member.met,
-            row,
-            out,
-        )?;
+        ask(walk, levels, group, strict, &mut member.met, row, out)?;
     }
     out.put(Token::EndObject)
+}
+
+// What a group asks for over a row, at a type that is non-null or not. What was met below it is let go where
+// too much is kept.
+#[cycle(walk)]
+fn ask<'p>(
+    walk: &Walk<'_, 'p, '_>,
+    levels: u32,
+    asked_for: &Asked<'p>,
+    strict: bool,
+    met: &mut Vec<Shape<'p>>,
+    row: &Row,
+    out: &mut Output,
+) -> Result<(), NoMemory>
+    ensures keeps { OnOk result (KeepsAsked (plan_of walk.now.plan.now) (asked_seen asked_for.now) met.old.items met.new.items) }
+    ensures puts { OnOk result (AskedFits (Fits (plan_of walk.now.plan.now) levels) (asked_seen asked_for.now) met.old.items → Walks walk.now.memory.now strict (asked_program (plan_of walk.now.plan.now).definitions (object_program (plan_of walk.now.plan.now) levels) row.now (asked_seen asked_for.now)) out.old out.new) }
+{
+    asked(walk, levels, asked_for, strict, met, row, out)?;
+    let_go(walk, met);
+    Ok(())
 }
 
 // What a group asks for over a row, at a type that is non-null or not.
 #[cycle(walk)]
 fn asked<'p>(
-    alloc: Global,
-    plan: &'p Plan<'_>,
-    memory: &Memory,
+    walk: &Walk<'_, 'p, '_>,
     levels: u32,
     asked: &Asked<'p>,
     strict: bool,
@@ -73,29 +78,29 @@ fn asked<'p>(
     row: &Row,
     out: &mut Output,
 ) -> Result<(), NoMemory>
-    ensures keeps { OnOk result (KeepsAsked (plan_of plan.now) (asked_seen asked.now) met.old.items met.new.items) }
-    ensures puts { OnOk result (AskedFits (Fits (plan_of plan.now) levels) (asked_seen asked.now) met.old.items → Walks memory.now strict (asked_program (plan_of plan.now).definitions (object_program (plan_of plan.now) levels) row.now (asked_seen asked.now)) out.old out.new) }
+    ensures keeps { OnOk result (KeepsAsked (plan_of walk.now.plan.now) (asked_seen asked.now) met.old.items met.new.items) }
+    ensures puts { OnOk result (AskedFits (Fits (plan_of walk.now.plan.now) levels) (asked_seen asked.now) met.old.items → Walks walk.now.memory.now strict (asked_program (plan_of walk.now.plan.now).definitions (object_program (plan_of walk.now.plan.now) levels) row.now (asked_seen asked.now)) out.old out.new) }
 {
     match asked {
         Asked::Known(own) => out.put_own(own, strict),
-        Asked::Cell { column, ty } => out.put_cell(plan.schema(), column, ty, row, strict),
+        Asked::Cell { column, ty } => out.put_cell(walk.plan.schema(), column, ty, row, strict),
         Asked::First { loader, key, below } => {
             let next = Then::First;
             read_from(
-                alloc, plan, memory, levels, *loader, key, next, below, strict, met, row, out,
+                walk, levels, *loader, key, next, below, strict, met, row, out,
             )
         }
         Asked::All { loader, key, below } => {
             let next = Then::All;
             read_from(
-                alloc, plan, memory, levels, *loader, key, next, below, strict, met, row, out,
+                walk, levels, *loader, key, next, below, strict, met, row, out,
             )
         }
         Asked::Each {
             loader,
             keys,
             below,
-        } => each(alloc, plan, memory, levels, *loader, keys, below, met, out),
+        } => each(walk, levels, *loader, keys, below, met, out),
         Asked::Joined {
             loader,
             key,
@@ -108,7 +113,7 @@ fn asked<'p>(
                 column: *column,
             };
             read_from(
-                alloc, plan, memory, levels, *loader, key, next, below, strict, met, row, out,
+                walk, levels, *loader, key, next, below, strict, met, row, out,
             )
         }
     }
@@ -117,9 +122,7 @@ fn asked<'p>(
 // A load by a key that may stand in the row.
 #[cycle(walk)]
 fn read_from<'p>(
-    alloc: Global,
-    plan: &'p Plan<'_>,
-    memory: &Memory,
+    walk: &Walk<'_, 'p, '_>,
     levels: u32,
     loader: usize,
     key: &KeyFrom<'p>,
@@ -130,19 +133,17 @@ fn read_from<'p>(
     row: &Row,
     out: &mut Output,
 ) -> Result<(), NoMemory>
-    ensures keeps { OnOk result (Keeps (plan_of plan.now) (below_in below.now) met.old.items met.new.items) }
-    ensures puts { OnOk result (Fits (plan_of plan.now) levels (below_in below.now) met.old.items → Walks memory.now strict (read_from loader (key_from_seen key.now) row.now (then_rows (plan_of plan.now) levels next.entry (below_in below.now))) out.old out.new) }
+    ensures keeps { OnOk result (Keeps (plan_of walk.now.plan.now) (below_in below.now) met.old.items met.new.items) }
+    ensures puts { OnOk result (Fits (plan_of walk.now.plan.now) levels (below_in below.now) met.old.items → Walks walk.now.memory.now strict (read_from loader (key_from_seen key.now) row.now (then_rows (plan_of walk.now.plan.now) levels next.entry (below_in below.now))) out.old out.new) }
 {
     match key {
         KeyFrom::Fixed(key) => {
             let key = key.borrowed();
-            read(
-                alloc, plan, memory, levels, loader, key, next, below, strict, met, out,
-            )
+            read(walk, levels, loader, key, next, below, strict, met, out)
         }
         KeyFrom::Column(column) => {
             read_cell(
-                alloc, plan, memory, levels, loader, column, next, below, strict, met, row, out,
+                walk, levels, loader, column, next, below, strict, met, row, out,
             )
         }
     }
@@ -151,9 +152,7 @@ fn read_from<'p>(
 // A load by the key in a column.
 #[cycle(walk)]
 fn read_cell<'p>(
-    alloc: Global,
-    plan: &'p Plan<'_>,
-    memory: &Memory,
+    walk: &Walk<'_, 'p, '_>,
     levels: u32,
     loader: usize,
     column: &str,
@@ -164,8 +163,8 @@ fn read_cell<'p>(
     row: &Row,
     out: &mut Output,
 ) -> Result<(), NoMemory>
-    ensures keeps { OnOk result (Keeps (plan_of plan.now) (below_in below.now) met.old.items met.new.items) }
-    ensures puts { OnOk result (Fits (plan_of plan.now) levels (below_in below.now) met.old.items → Walks memory.now strict (read_cell loader column.now (cell_of row.now column.now) (then_rows (plan_of plan.now) levels next.entry (below_in below.now))) out.old out.new) }
+    ensures keeps { OnOk result (Keeps (plan_of walk.now.plan.now) (below_in below.now) met.old.items met.new.items) }
+    ensures puts { OnOk result (Fits (plan_of walk.now.plan.now) levels (below_in below.now) met.old.items → Walks walk.now.memory.now strict (read_cell loader column.now (cell_of row.now column.now) (then_rows (plan_of walk.now.plan.now) levels next.entry (below_in below.now))) out.old out.new) }
 {
     match row.get(column) {
         Cell::NoColumn => {
@@ -175,9 +174,7 @@ fn read_cell<'p>(
         Cell::Null => out.put_null(strict),
         Cell::Text(text) => {
             let key = KeyRef::Text(text);
-            read(
-                alloc, plan, memory, levels, loader, key, next, below, strict, met, out,
-            )
+            read(walk, levels, loader, key, next, below, strict, met, out)
         }
     }
 }
@@ -185,9 +182,7 @@ fn read_cell<'p>(
 // A load, and what is done with its rows.
 #[cycle(walk)]
 fn read<'p>(
-    alloc: Global,
-    plan: &'p Plan<'_>,
-    memory: &Memory,
+    walk: &Walk<'_, 'p, '_>,
     levels: u32,
     loader: usize,
     key: KeyRef<'_>,
@@ -197,25 +192,19 @@ fn read<'p>(
     met: &mut Vec<Shape<'p>>,
     out: &mut Output,
 ) -> Result<(), NoMemory>
-    ensures keeps { OnOk result (Keeps (plan_of plan.now) (below_in below.now) met.old.items met.new.items) }
-    ensures puts { OnOk result (Fits (plan_of plan.now) levels (below_in below.now) met.old.items → Walks memory.now strict (Read (record { loader = loader; key = borrowed_of key.entry }) (with_rows (then_rows (plan_of plan.now) levels next.entry (below_in below.now)))) out.old out.new) }
+    ensures keeps { OnOk result (Keeps (plan_of walk.now.plan.now) (below_in below.now) met.old.items met.new.items) }
+    ensures puts { OnOk result (Fits (plan_of walk.now.plan.now) levels (below_in below.now) met.old.items → Walks walk.now.memory.now strict (Read (record { loader = loader; key = borrowed_of key.entry }) (with_rows (then_rows (plan_of walk.now.plan.now) levels next.entry (below_in below.now)))) out.old out.new) }
 {
-    match out.told(alloc, memory, loader, key)? {
-        Some(outcome) => {
-            go_on(
-                alloc, plan, memory, levels, next, below, strict, met, outcome, out,
-            )
-        }
-        None => out.lack(loader, key.to_key(alloc)?),
+    match out.told(walk.alloc, walk.memory, loader, key)? {
+        Some(outcome) => { go_on(walk, levels, next, below, strict, met, outcome, out) }
+        None => out.lack(loader, key.to_key(walk.alloc)?),
     }
 }
 
 // What an outcome gives.
 #[cycle(walk)]
 fn go_on<'p>(
-    alloc: Global,
-    plan: &'p Plan<'_>,
-    memory: &Memory,
+    walk: &Walk<'_, 'p, '_>,
     levels: u32,
     next: Then<'p>,
     below: &Arc<Below<'p>>,
@@ -224,17 +213,15 @@ fn go_on<'p>(
     outcome: &Outcome,
     out: &mut Output,
 ) -> Result<(), NoMemory>
-    ensures keeps { OnOk result (Keeps (plan_of plan.now) (below_in below.now) met.old.items met.new.items) }
-    ensures puts { OnOk result (Fits (plan_of plan.now) levels (below_in below.now) met.old.items → Walks memory.now strict (with_rows (then_rows (plan_of plan.now) levels next.entry (below_in below.now)) (outcome_of outcome.now)) out.old out.new) }
+    ensures keeps { OnOk result (Keeps (plan_of walk.now.plan.now) (below_in below.now) met.old.items met.new.items) }
+    ensures puts { OnOk result (Fits (plan_of walk.now.plan.now) levels (below_in below.now) met.old.items → Walks walk.now.memory.now strict (with_rows (then_rows (plan_of walk.now.plan.now) levels next.entry (below_in below.now)) (outcome_of outcome.now)) out.old out.new) }
 {
     match outcome {
         Outcome::Rows(rows) => match next {
-            Then::First => { first(alloc, plan, memory, levels, below, strict, met, rows, out) }
-            Then::All => all(alloc, plan, memory, levels, below, met, rows, out),
+            Then::First => { first(walk, levels, below, strict, met, rows, out) }
+            Then::All => all(walk, levels, below, met, rows, out),
             Then::Joined { second, column } => {
-                joined(
-                    alloc, plan, memory, levels, below, met, second, column, rows, out,
-                )
+                joined(walk, levels, below, met, second, column, rows, out)
             }
         },
         Outcome::KeyFault(_) => {
@@ -251,9 +238,7 @@ fn go_on<'p>(
 // The first of some rows.
 #[cycle(walk)]
 fn first<'p>(
-    alloc: Global,
-    plan: &'p Plan<'_>,
-    memory: &Memory,
+    walk: &Walk<'_, 'p, '_>,
     levels: u32,
     below: &Arc<Below<'p>>,
     strict: bool,
@@ -261,34 +246,32 @@ fn first<'p>(
     rows: &[Row],
     out: &mut Output,
 ) -> Result<(), NoMemory>
-    ensures keeps { OnOk result (Keeps (plan_of plan.now) (below_in below.now) met.old.items met.new.items) }
-    ensures puts { OnOk result (Fits (plan_of plan.now) levels (below_in below.now) met.old.items → Walks memory.now strict (first_object (plan_of plan.now).definitions (object_program (plan_of plan.now) levels) (below_in below.now) rows.now) out.old out.new) }
+    ensures keeps { OnOk result (Keeps (plan_of walk.now.plan.now) (below_in below.now) met.old.items met.new.items) }
+    ensures puts { OnOk result (Fits (plan_of walk.now.plan.now) levels (below_in below.now) met.old.items → Walks walk.now.memory.now strict (first_object (plan_of walk.now.plan.now).definitions (object_program (plan_of walk.now.plan.now) levels) (below_in below.now) rows.now) out.old out.new) }
 {
     match rows {
         [] => out.put_null(strict),
-        [row, ..] => row_object(alloc, plan, memory, levels, below, strict, met, row, out),
+        [row, ..] => row_object(walk, levels, below, strict, met, row, out),
     }
 }
 
 // An item for each row.
 #[cycle(walk)]
 fn all<'p>(
-    alloc: Global,
-    plan: &'p Plan<'_>,
-    memory: &Memory,
+    walk: &Walk<'_, 'p, '_>,
     levels: u32,
     below: &Arc<Below<'p>>,
     met: &mut Vec<Shape<'p>>,
     rows: &[Row],
     out: &mut Output,
 ) -> Result<(), NoMemory>
-    ensures keeps { OnOk result (Keeps (plan_of plan.now) (below_in below.now) met.old.items met.new.items) }
-    ensures puts { OnOk result (Fits (plan_of plan.now) levels (below_in below.now) met.old.items → Walks memory.now false (all_objects (plan_of plan.now).definitions (object_program (plan_of plan.now) levels) (below_in below.now) rows.now) out.old out.new) }
+    ensures keeps { OnOk result (Keeps (plan_of walk.now.plan.now) (below_in below.now) met.old.items met.new.items) }
+    ensures puts { OnOk result (Fits (plan_of walk.now.plan.now) levels (below_in below.now) met.old.items → Walks walk.now.memory.now false (all_objects (plan_of walk.now.plan.now).definitions (object_program (plan_of walk.now.plan.now) levels) (below_in below.now) rows.now) out.old out.new) }
 {
     let strict = below.item_non_null;
     out.put(Token::BeginArray)?;
     for row in rows {
-        row_object(alloc, plan, memory, levels, below, strict, met, row, out)?;
+        row_object(walk, levels, below, strict, met, row, out)?;
     }
     out.put(Token::EndArray)
 }
@@ -296,9 +279,7 @@ fn all<'p>(
 // An item for each row, read by its own key.
 #[cycle(walk)]
 fn joined<'p>(
-    alloc: Global,
-    plan: &'p Plan<'_>,
-    memory: &Memory,
+    walk: &Walk<'_, 'p, '_>,
     levels: u32,
     below: &Arc<Below<'p>>,
     met: &mut Vec<Shape<'p>>,
@@ -307,15 +288,15 @@ fn joined<'p>(
     rows: &[Row],
     out: &mut Output,
 ) -> Result<(), NoMemory>
-    ensures keeps { OnOk result (Keeps (plan_of plan.now) (below_in below.now) met.old.items met.new.items) }
-    ensures puts { OnOk result (Fits (plan_of plan.now) levels (below_in below.now) met.old.items → Walks memory.now false (joined_objects (plan_of plan.now).definitions (object_program (plan_of plan.now) levels) (below_in below.now) second column.now rows.now) out.old out.new) }
+    ensures keeps { OnOk result (Keeps (plan_of walk.now.plan.now) (below_in below.now) met.old.items met.new.items) }
+    ensures puts { OnOk result (Fits (plan_of walk.now.plan.now) levels (below_in below.now) met.old.items → Walks walk.now.memory.now false (joined_objects (plan_of walk.now.plan.now).definitions (object_program (plan_of walk.now.plan.now) levels) (below_in below.now) second column.now rows.now) out.old out.new) }
 {
     let strict = below.item_non_null;
     out.put(Token::BeginArray)?;
     for row in rows {
         let next = Then::First;
         read_cell(
-            alloc, plan, memory, levels, second, column, next, below, strict, met, row, out,
+            walk, levels, second, column, next, below, strict, met, row, out,
         )?;
     }
     out.put(Token::EndArray)
@@ -324,9 +305,7 @@ fn joined<'p>(
 // An item for each key.
 #[cycle(walk)]
 fn each<'p>(
-    alloc: Global,
-    plan: &'p Plan<'_>,
-    memory: &Memory,
+    walk: &Walk<'_, 'p, '_>,
     levels: u32,
     loader: usize,
     keys: &[Option<Key>],
@@ -334,15 +313,13 @@ fn each<'p>(
     met: &mut Vec<Shape<'p>>,
     out: &mut Output,
 ) -> Result<(), NoMemory>
-    ensures keeps { OnOk result (Keeps (plan_of plan.now) (below_in below.now) met.old.items met.new.items) }
-    ensures puts { OnOk result (Fits (plan_of plan.now) levels (below_in below.now) met.old.items → Walks memory.now false (list_of (below_in below.now) (map (read_if loader (first_object (plan_of plan.now).definitions (object_program (plan_of plan.now) levels) (below_in below.now))) (keys_seen keys.now))) out.old out.new) }
+    ensures keeps { OnOk result (Keeps (plan_of walk.now.plan.now) (below_in below.now) met.old.items met.new.items) }
+    ensures puts { OnOk result (Fits (plan_of walk.now.plan.now) levels (below_in below.now) met.old.items → Walks walk.now.memory.now false (list_of (below_in below.now) (map (read_if loader (first_object (plan_of walk.now.plan.now).definitions (object_program (plan_of walk.now.plan.now) levels) (below_in below.now))) (keys_seen keys.now))) out.old out.new) }
 {
     let strict = below.item_non_null;
     out.put(Token::BeginArray)?;
     for key in keys {
-        read_if(
-            alloc, plan, memory, levels, loader, key, below, strict, met, out,
-        )?;
+        read_if(walk, levels, loader, key, below, strict, met, out)?;
     }
     out.put(Token::EndArray)
 }
@@ -350,9 +327,7 @@ fn each<'p>(
 // The first row of a key, if there is one.
 #[cycle(walk)]
 fn read_if<'p>(
-    alloc: Global,
-    plan: &'p Plan<'_>,
-    memory: &Memory,
+    walk: &Walk<'_, 'p, '_>,
     levels: u32,
     loader: usize,
     key: &Option<Key>,
@@ -361,16 +336,14 @@ fn read_if<'p>(
     met: &mut Vec<Shape<'p>>,
     out: &mut Output,
 ) -> Result<(), NoMemory>
-    ensures keeps { OnOk result (Keeps (plan_of plan.now) (below_in below.now) met.old.items met.new.items) }
-    ensures puts { OnOk result (Fits (plan_of plan.now) levels (below_in below.now) met.old.items → Walks memory.now strict (read_if loader (first_object (plan_of plan.now).definitions (object_program (plan_of plan.now) levels) (below_in below.now)) (option_map key_of key.now)) out.old out.new) }
+    ensures keeps { OnOk result (Keeps (plan_of walk.now.plan.now) (below_in below.now) met.old.items met.new.items) }
+    ensures puts { OnOk result (Fits (plan_of walk.now.plan.now) levels (below_in below.now) met.old.items → Walks walk.now.memory.now strict (read_if loader (first_object (plan_of walk.now.plan.now).definitions (object_program (plan_of walk.now.plan.now) levels) (below_in below.now)) (option_map key_of key.now)) out.old out.new) }
 {
     match key {
         Some(key) => {
             let key = key.borrowed();
             let next = Then::First;
-            read(
-                alloc, plan, memory, levels, loader, key, next, below, strict, met, out,
-            )
+            read(walk, levels, loader, key, next, below, strict, met, out)
         }
         None => out.put_null(strict),
     }
@@ -379,9 +352,7 @@ fn read_if<'p>(
 // An object over a row that may tell its type.
 #[cycle(walk)]
 fn row_object<'p>(
-    alloc: Global,
-    plan: &'p Plan<'_>,
-    memory: &Memory,
+    walk: &Walk<'_, 'p, '_>,
     levels: u32,
     below: &Arc<Below<'p>>,
     strict: bool,
@@ -389,15 +360,11 @@ fn row_object<'p>(
     row: &Row,
     out: &mut Output,
 ) -> Result<(), NoMemory>
-    ensures keeps { OnOk result (Keeps (plan_of plan.now) (below_in below.now) met.old.items met.new.items) }
-    ensures puts { OnOk result (Fits (plan_of plan.now) levels (below_in below.now) met.old.items → Walks memory.now strict (row_object (plan_of plan.now).definitions (object_program (plan_of plan.now) levels) (below_in below.now) row.now) out.old out.new) }
+    ensures keeps { OnOk result (Keeps (plan_of walk.now.plan.now) (below_in below.now) met.old.items met.new.items) }
+    ensures puts { OnOk result (Fits (plan_of walk.now.plan.now) levels (below_in below.now) met.old.items → Walks walk.now.memory.now strict (row_object (plan_of walk.now.plan.now).definitions (object_program (plan_of walk.now.plan.now) levels) (below_in below.now) row.now) out.old out.new) }
 {
-    match type_of_row(alloc, plan.schema(), below.type_name, row)? {
-        TypeOf::Object(ty) => {
-            typed_object(
-                alloc, plan, memory, levels, below, strict, met, ty, row, out,
-            )
-        }
+    match type_of_row(walk.alloc, walk.plan.schema(), below.type_name, row)? {
+        TypeOf::Object(ty) => { typed_object(walk, levels, below, strict, met, ty, row, out) }
         TypeOf::Fault(_) => {
             out.fault();
             Ok(())
@@ -408,9 +375,7 @@ fn row_object<'p>(
 // An object of a type over a row.
 #[cycle(walk)]
 fn typed_object<'p>(
-    alloc: Global,
-    plan: &'p Plan<'_>,
-    memory: &Memory,
+    walk: &Walk<'_, 'p, '_>,
     levels: u32,
     below: &Arc<Below<'p>>,
     strict: bool,
@@ -419,13 +384,13 @@ fn typed_object<'p>(
     row: &Row,
     out: &mut Output,
 ) -> Result<(), NoMemory>
-    ensures keeps { OnOk result (Keeps (plan_of plan.now) (below_in below.now) met.old.items met.new.items) }
-    ensures puts { OnOk result (Fits (plan_of plan.now) levels (below_in below.now) met.old.items → Walks memory.now strict (object_program (plan_of plan.now) levels ty.now (below_in below.now).fields row.now) out.old out.new) }
+    ensures keeps { OnOk result (Keeps (plan_of walk.now.plan.now) (below_in below.now) met.old.items met.new.items) }
+    ensures puts { OnOk result (Fits (plan_of walk.now.plan.now) levels (below_in below.now) met.old.items → Walks walk.now.memory.now strict (object_program (plan_of walk.now.plan.now) levels ty.now (below_in below.now).fields row.now) out.old out.new) }
 {
     if levels == 0 {
         return out.put_null(strict);
     }
-    let place = place_of(alloc, plan, below, met, ty)?;
+    let place = place_of(walk, below, met, ty)?;
     let members = &mut met[place].members;
-    object(alloc, plan, memory, levels - 1, members, row, out)
+    object(walk, levels - 1, members, row, out)
 }

@@ -66,30 +66,33 @@ abbrev pub decreases-asked : goal.decreases-asked
 decreases-asked l = 20 * l.levels + 14
 
 abbrev pub decreases-object : goal.decreases-object
-decreases-object l = 20 * l.levels + 15
+decreases-object l = 20 * l.levels + 16
+
+abbrev pub decreases-ask : goal.decreases-ask
+decreases-ask l = 20 * l.levels + 15
 
 abbrev pub invariant-object-loop-member : goal.invariant-object-loop-member
 invariant-object-loop-member l =
-    KeepsMembers (plan_of l.plan) l.fn.members l.members
-    × (MembersFit (Fits (plan_of l.plan) l.levels) l.fn.members
-    → Gathers (plan_of l.plan) (told l.memory) (fields_of (asked_program (plan_of l.plan).definitions (object_program (plan_of l.plan) l.levels) l.row) (all_prepared_seen (take l.member-index (prepared_in l.fn.members)))) l.children.items)
+    KeepsMembers (plan_of l.walk.plan.now) l.fn.members l.members
+    × (MembersFit (Fits (plan_of l.walk.plan.now) l.levels) l.fn.members
+    → Gathers (plan_of l.walk.plan.now) (told l.walk.memory.now) (fields_of (asked_program (plan_of l.walk.plan.now).definitions (object_program (plan_of l.walk.plan.now) l.levels) l.row) (all_prepared_seen (take l.member-index (prepared_in l.fn.members)))) l.children.items)
 
 abbrev pub invariant-all-loop-row : goal.invariant-all-loop-row
 invariant-all-loop-row l =
-    Keeps (plan_of l.plan) (below_in l.below) l.fn.met.items l.met.items
-    × (Fits (plan_of l.plan) l.levels (below_in l.below) l.fn.met.items
-    → map (program_of (plan_of l.plan)) l.children.items ≡ map (λ (r : RowOf). rest (row_object (plan_of l.plan).definitions (object_program (plan_of l.plan) l.levels) (below_in l.below) r) (told l.memory)) (take l.row-index l.rows))
+    Keeps (plan_of l.walk.plan.now) (below_in l.below) l.fn.met.items l.met.items
+    × (Fits (plan_of l.walk.plan.now) l.levels (below_in l.below) l.fn.met.items
+    → map (program_of (plan_of l.walk.plan.now)) l.children.items ≡ map (λ (r : RowOf). rest (row_object (plan_of l.walk.plan.now).definitions (object_program (plan_of l.walk.plan.now) l.levels) (below_in l.below) r) (told l.walk.memory.now)) (take l.row-index l.rows))
 
 abbrev pub invariant-joined-loop-row : goal.invariant-joined-loop-row
 invariant-joined-loop-row l =
-    Keeps (plan_of l.plan) (below_in l.below) l.fn.met.items l.met.items
-    × (Fits (plan_of l.plan) l.levels (below_in l.below) l.fn.met.items
-    → map (program_of (plan_of l.plan)) l.children.items
-    ≡ map (λ (r : RowOf). rest (read_cell l.second l.column (cell_of r l.column) (first_object (plan_of l.plan).definitions (object_program (plan_of l.plan) l.levels) (below_in l.below))) (told l.memory)) (take l.row-index l.rows))
+    Keeps (plan_of l.walk.plan.now) (below_in l.below) l.fn.met.items l.met.items
+    × (Fits (plan_of l.walk.plan.now) l.levels (below_in l.below) l.fn.met.items
+    → map (program_of (plan_of l.walk.plan.now)) l.children.items
+    ≡ map (λ (r : RowOf). rest (read_cell l.second l.column (cell_of r l.column) (first_object (plan_of l.walk.plan.now).definitions (object_program (plan_of l.walk.plan.now) l.levels) (below_in l.below))) (told l.walk.memory.now)) (take l.row-index l.rows))
 
 abbrev pub invariant-each-loop-key : goal.invariant-each-loop-key
 invariant-each-loop-key l =
-    Keeps (plan_of l.plan) (below_in l.below) l.fn.met.items l.met.items
-    × (Fits (plan_of l.plan) l.levels (below_in l.below) l.fn.met.items
-    → map (program_of (plan_of l.plan)) l.children.items
-    ≡ map (λ (k : Option Key). rest (read_if l.loader (first_object (plan_of l.plan).definitions (object_program (plan_of l.plan) l.levels) (below_in l.below)) (option_map key_of k)) (told l.memory)) (take l.key-index l.keys))
+    Keeps (plan_of l.walk.plan.now) (below_in l.below) l.fn.met.items l.met.items
+    × (Fits (plan_of l.walk.plan.now) l.levels (below_in l.below) l.fn.met.items
+    → map (program_of (plan_of l.walk.plan.now)) l.children.items
+    ≡ map (λ (k : Option Key). rest (read_if l.loader (first_object (plan_of l.walk.plan.now).definitions (object_program (plan_of l.walk.plan.now) l.levels) (below_in l.below)) (option_map key_of k)) (told l.walk.memory.now)) (take l.key-index l.keys))

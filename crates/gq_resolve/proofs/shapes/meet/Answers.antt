@@ -19,7 +19,7 @@ use Rattle.gq_resolve.proofs.shapes.meet.Goals as goal
 
 pub returns-clause-keeps : goal.returns-clause-keeps
 returns-clause-keeps c =
-    let plan : PlanOf = plan_of c.args.plan.now in
+    let plan : PlanOf = plan_of c.args.walk.now.plan.now in
     let below : BelowOf = below_in c.args.below.now in
     let ty : List ℕ = c.args.ty.now in
     let members : Vec Member = c.in_ok-members.members in
@@ -30,7 +30,7 @@ returns-clause-keeps c =
 
 pub returns-clause-prepared : goal.returns-clause-prepared
 returns-clause-prepared c =
-    let plan : PlanOf = plan_of c.args.plan.now in
+    let plan : PlanOf = plan_of c.args.walk.now.plan.now in
     let ty : List ℕ = c.args.ty.now in
     let members : Vec Member = c.in_ok-members.members in
     let name : String Global = c.in_ok-from_str.field-0 in

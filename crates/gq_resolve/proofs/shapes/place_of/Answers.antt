@@ -8,7 +8,7 @@ use Rattle.gq_resolve.proofs.shapes.place_of.Goals as goal
 
 pub returns-in-Some-clause-prepared : goal.returns-in-Some-clause-prepared
 returns-in-Some-clause-prepared c =
-    let plan : PlanOf = plan_of c.args.plan.now in
+    let plan : PlanOf = plan_of c.args.walk.now.plan.now in
     let below : BelowOf = below_in c.args.below.now in
     let same : c.deref.result.now ≡ c.args.met.now.items = c.deref.ensures.value in
     λ levels fits. subst (λ (ss : List Shape). prepared_at ss c.in-Some.place ≡ type_prepared plan below c.args.ty.now) same
