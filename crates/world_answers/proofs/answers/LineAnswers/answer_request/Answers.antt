@@ -16,7 +16,6 @@ returns-in-Ok-answer_plan c =
     let same : c.args.self.now ≡ w = cc c.self.view_is in
     let r = request_of c.args.request.now in
     let plan = c.in-Ok.plan in
-    let given = c.in-Ok-answer_plan.field-0 in
     let text = string_bytes c.in-Ok-answer_plan.answer.text in
     let values : view c.unwrap_or-values.result.now ≡ values_of r.variables = values-are c.args.request.now.variables _ c.unwrap_or-values.result c.unwrap_or-values.ensures null-view in
     let answered : IsAnsweredAnew c.args.self.now (plan_of plan) text = answer-direct c.args.self.now _ (plan_of plan) text _ c.in-Ok-answer_plan.ensures.each c.in-Ok-answer_plan.ensures.anew in
