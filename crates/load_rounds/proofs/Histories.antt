@@ -14,10 +14,12 @@ use Rattle.execution.specs.Rounds.{RuleOf, modes_of, orders_of, may_at, AreRound
 use Rattle.execution.specs.Sessions.{Step, Forgot, Asked, Lost, Primed, Cleared, ClearedAll, after, AreMissing, IsStep, AreSteps}
 use Rattle.execution.proofs.Same.{same-is}
 use Rattle.load_rounds.specs.Sessions.{StateOf, rules_of, session_modes, after_step, after_steps, of_first}
-use Rattle.load_rounds.specs.Calls.{load_of, asked_for, AsksOnce, RoundLost}
-use Rattle.load_rounds.specs.Executes.{asked_steps, MakesRounds}
-use Rattle.load_rounds.specs.Histories.{Call, Loading, Priming, Clearing, ClearingAll, Executing, Stopping, AreAsking, IsMadeOf, AreMadeOf, Leads, IsCall, AreCalls}
+use Rattle.load_rounds.specs.Calls.{load_of, asked_for, AsksOnce, RoundLost, IsStopped}
+use Rattle.load_rounds.specs.declared.run.Stage.{Stage}
+use Rattle.load_rounds.specs.Headline.{asked_steps, MakesRounds, StopsAnswering}
+use Rattle.load_rounds.specs.Histories.{Call, Loading, StoppedLoading, Priming, Clearing, ClearingAll, Forgetting, Executing, StoppedExecuting, Running, AreAsking, IsMadeOf, AreMadeOf, Leads, IsCall, AreCalls}
 use Rattle.load_rounds.proofs.Following.{replies-over}
+use Rattle.load_rounds.proofs.Runs.{run-stops}
 use Rattle.load_rounds.proofs.Stepping.{SameSources, steps-rules, steps-sources}
 
 -- the memory after steps
@@ -171,19 +173,18 @@ module _ {S : Type 0} where
     after-forgot : (old new : StateOf S) → ((steps : List Step) × Leads may (after_step old Forgot) steps new × AreAsking steps) → (steps : List Step) × Leads may old (Forgot ∷ steps) new × AreAsking steps
     after-forgot old new h = (h.0, leads-append old (after_step old Forgot) new (Forgot ∷ []) h.0 (leads-forgot old) h.1, h.2)
 
-    loading-leads : (old new : StateOf S) (loader : ℕ) (keys : List KeyOf) → IsCall may (Loading loader keys) old new → (steps : List Step) × Leads may old (Forgot ∷ steps) new × AreAsking steps
-    loading-leads old new loader keys h = after-forgot old new (go h) where
-      lacks : AreMissing (session_modes old) (without_failed old.memory) (asked_for old loader keys)
-      lacks = (map (load_of loader) keys, refl)
+    asked-missing : (old : StateOf S) (loader : ℕ) (keys : List KeyOf) → AreMissing (session_modes old) (without_failed old.memory) (asked_for old loader keys)
+    asked-missing old loader keys = (map (load_of loader) keys, refl)
 
-      go : IsCall may (Loading loader keys) old new → (steps : List Step) × Leads may (after_step old Forgot) steps new × AreAsking steps
-      go (inl is) = asks-leads (after_step old Forgot) new (asked_for old loader keys) lacks is.1.round
-      go (inr (inl once)) = asks-leads (after_step old Forgot) new (asked_for old loader keys) lacks once
-      go (inr (inr lost)) = lost-leads (after_step old Forgot) new (asked_for old loader keys) lacks lost
+    once-leads : (old new : StateOf S) (loader : ℕ) (keys : List KeyOf) → AsksOnce may (after_step old Forgot) new (asked_for old loader keys) → (steps : List Step) × Leads may old (Forgot ∷ steps) new × AreAsking steps
+    once-leads old new loader keys h = after-forgot old new (asks-leads (after_step old Forgot) new (asked_for old loader keys) (asked-missing old loader keys) h)
 
-    executing-leads : (old new : StateOf S) (p : Program) → IsCall may (Executing p) old new → (steps : List Step) × Leads may old (Forgot ∷ steps) new × AreAsking steps
-    executing-leads old new p (inl is) = made-leads old new p is.3.log is.3.made
-    executing-leads old new p (inr is) = go is.end where
+    stopped-leads : (old new : StateOf S) (loader : ℕ) (keys : List KeyOf) → IsStopped may old new (asked_for old loader keys) → (steps : List Step) × Leads may old (Forgot ∷ steps) new × AreAsking steps
+    stopped-leads old new loader keys (inl once) = once-leads old new loader keys once
+    stopped-leads old new loader keys (inr lost) = after-forgot old new (lost-leads (after_step old Forgot) new (asked_for old loader keys) (asked-missing old loader keys) lost)
+
+    stops-leads : (old new : StateOf S) (p : Program) → StopsAnswering may old new p → (steps : List Step) × Leads may old (Forgot ∷ steps) new × AreAsking steps
+    stops-leads old new p is = go is.end where
       first : (steps : List Step) × Leads may old (Forgot ∷ steps) is.mid × AreAsking steps
       first = made-leads old is.mid p is.log is.made
 
@@ -196,12 +197,15 @@ module _ {S : Type 0} where
           (first.0 ++ more.0, leads-append old is.mid new (Forgot ∷ first.0) more.0 first.1 more.1, asking-append first.0 more.0 first.2 more.2)
 
     pub call-leads : (call : Call) (old new : StateOf S) → IsCall may call old new → (steps : List Step) × Leads may old (Forgot ∷ steps) new × IsMadeOf call steps
-    call-leads (Loading loader keys) old new h = loading-leads old new loader keys h
+    call-leads (Loading loader keys outcomes) old new h = once-leads old new loader keys h.round
+    call-leads (StoppedLoading loader keys) old new h = stopped-leads old new loader keys h
     call-leads (Priming pair) old new h = (Primed pair ∷ [], record { after = h; may_be = (tt, (tt, tt)) }, refl)
     call-leads (Clearing cell) old new h = (Cleared cell ∷ [], record { after = h; may_be = (tt, (tt, tt)) }, refl)
     call-leads (ClearingAll loader) old new h = (ClearedAll loader ∷ [], record { after = h; may_be = (tt, (tt, tt)) }, refl)
-    call-leads (Executing p) old new h = executing-leads old new p h
-    call-leads Stopping old new h = ([], record { after = h; may_be = (tt, tt) }, refl)
+    call-leads Forgetting old new h = ([], record { after = h; may_be = (tt, tt) }, refl)
+    call-leads (Executing p text_of text rounds) old new h = made-leads old new p h.log h.made
+    call-leads (StoppedExecuting p) old new h = stops-leads old new p h
+    call-leads (Running p rounds stage) old new h = stops-leads old new p (run-stops may p old new rounds stage h)
 
     pub calls-lead : (calls : List Call) (old new : StateOf S) → AreCalls may calls old new → (steps : List Step) × Leads may old steps new × AreMadeOf calls steps
     calls-lead [] old new h = ([], record { after = h; may_be = tt }, refl)

@@ -2,12 +2,14 @@ pub mod Cutting
 pub mod Following
 pub mod Gaining
 pub mod Histories
+pub mod KeyByKey
 pub mod Keyed
 pub mod Lacking
 pub mod Numbering
 pub mod Onces
 pub mod PairSources
 pub mod Polls
+pub mod Planning
 pub mod Running
 pub mod Runs
 pub mod States

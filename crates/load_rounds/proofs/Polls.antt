@@ -8,18 +8,15 @@ use Rattle.load_queue.specs.Answers.{AnswerOf}
 use Rattle.execution.specs.Loads.{read}
 use Rattle.execution.specs.Program.{Program}
 use Rattle.execution.specs.Completion.{AnsweredOf}
-use Rattle.execution.specs.Executed.{exec}
 use Rattle.execution.specs.Front.{front}
 use Rattle.execution.specs.Rounds.{rule_of, modes_of, may_at, AreLimited, HasLoaders, without_failed}
 use Rattle.execution.specs.Sessions.{Forgot}
 use Rattle.execution.proofs.RoundLaws.{rounds-chain}
 use Rattle.load_rounds.specs.Sessions.{SessionOf, StateOf, state_of, rules_of, session_modes, after_step}
 use Rattle.load_rounds.specs.Calls.{RoundRan, RoundLost}
-use Rattle.load_rounds.specs.Executes.{asked_steps}
-use Rattle.load_rounds.specs.Answerings.{rounds_of, begun, HasMade, CanPoll, IsOutput, Gives, PollRan}
+use Rattle.load_rounds.specs.Headline.{IsTextOf, asked_steps, Answers}
+use Rattle.load_rounds.specs.Answerings.{FarOf, handed, polled, over, rounds_of, begun, HasMade, CanPoll, Gives, PollRan}
 use Rattle.load_rounds.specs.declared.answer.Answer.{Answer}
-use Rattle.load_rounds.specs.declared.answering.Progress.{Progress}
-use Rattle.load_rounds.specs.declared.answering.Progress.TheVariants.{Unpolled, Polled, Over}
 use Rattle.load_rounds.proofs.Following.{InRounds, in-none, in-more, in-all}
 use Rattle.load_rounds.proofs.Stepping.{steps-rules, steps-sources}
 
@@ -50,42 +47,42 @@ module _ {S : Type 0} (may : S → List KeyOf → AnswerOf → Type 0) where
 
   module _ (loaders : ℕ) (p : Program) where
     -- the state from which the rounds so far were made
-    from-some : (st : Progress S) (cur : StateOf S) (n : ℕ) → begun st ≡ Some cur → n ≡ rounds_of st → CanPoll may loaders p st → (old : StateOf S) × (loaders ≤ length old.loaders) × InRounds may old cur p n
-    from-some (Unpolled s) cur n at is can = (state_of s, can, rw is (in-none may (state_of s) cur p (sym (some-is _ _ at))))
-    from-some (Polled s rounds) cur n at is can =
+    from-some : (st : FarOf S) (cur : StateOf S) (n : ℕ) → begun st ≡ Some cur → n ≡ rounds_of st → CanPoll may loaders p st → (old : StateOf S) × (loaders ≤ length old.loaders) × InRounds may old cur p n
+    from-some (handed s) cur n at is can = (state_of s, can, rw is (in-none may (state_of s) cur p (sym (some-is _ _ at))))
+    from-some (polled s rounds) cur n at is can =
         let made = in-made can.1 (state_of s) p rounds can.2 in
         let same : state_of s ≡ cur = some-is _ _ at in
         (can.1, omega (arith, can.0, size can.1 (state_of s) p rounds made), rw (is, ← same) made)
-    from-some Over cur n at is can = absurd can
+    from-some over cur n at is can = absurd can
 
     -- what comes of a future is what comes of it whichever state the rounds so far were made from
-    pub gives-output : (text_of : AnsweredOf → List ℕ) (st : Progress S) (cur : StateOf S) (n : ℕ) (out : SessionOf S × Result Answer NoMemory) → begun st ≡ Some cur → n ≡ rounds_of st → CanPoll may loaders p st
-        → ((old : StateOf S) → loaders ≤ length old.loaders → InRounds may old cur p n → IsOutput may old p text_of out) → Gives may p text_of st out
-    gives-output text_of (Unpolled s) cur n out at is can h = h (state_of s) can (rw is (in-none may (state_of s) cur p (sym (some-is _ _ at))))
-    gives-output text_of (Polled s rounds) cur n out at is can h = λ old made.
+    pub gives-output : (text_of : AnsweredOf → List ℕ) (st : FarOf S) (cur : StateOf S) (n : ℕ) (out : SessionOf S × Result Answer NoMemory) → begun st ≡ Some cur → n ≡ rounds_of st → CanPoll may loaders p st
+        → ((old : StateOf S) → loaders ≤ length old.loaders → InRounds may old cur p n → Answers may old (state_of out.0) p text_of out.1) → Gives may p text_of st out
+    gives-output text_of (handed s) cur n out at is can h = h (state_of s) can (rw is (in-none may (state_of s) cur p (sym (some-is _ _ at))))
+    gives-output text_of (polled s rounds) cur n out at is can h = λ old made.
         let so = in-made old (state_of s) p rounds made in
         let same : state_of s ≡ cur = some-is _ _ at in
         h old (omega (arith, can.0, size old (state_of s) p rounds so)) (rw (is, ← same) so)
-    gives-output text_of Over cur n out at is can h = absurd can
+    gives-output text_of over cur n out at is can h = absurd can
 
     -- the loaders and the limits are those of the session that was handed in
     old-limited : (old cur : StateOf S) (n : ℕ) → InRounds may old cur p n → AreLimited (rules_of cur) → AreLimited (rules_of old)
     old-limited old cur n is limited = rw is.rules at limited
 
-    module _ (within : HasLoaders loaders p) (st : Progress S) (cur : StateOf S) (n : ℕ) (at : begun st ≡ Some cur) (is : n ≡ rounds_of st) (can : CanPoll may loaders p st) where
+    module _ (within : HasLoaders loaders p) (st : FarOf S) (cur : StateOf S) (n : ℕ) (at : begun st ≡ Some cur) (is : n ≡ rounds_of st) (can : CanPoll may loaders p st) where
       -- the poll that finds nothing missing
       pub gives-answer : (text_of : AnsweredOf → List ℕ) (s : SessionOf S) (a : Answer) → AreLimited (rules_of cur) → a.rounds ≡ n → state_of s ≡ cur → front (session_modes cur) p cur.memory ≡ []
-          → (answered : AnsweredOf) → exec p (read (session_modes cur) cur.memory) ≡ Some answered → string_bytes a.text ≡ text_of answered → Gives may p text_of st (s, Ok a)
-      gives-answer text_of s a limited counted same none answered done told = gives-output text_of st cur n (s, Ok a) at is can go where
-        go : (old : StateOf S) → loaders ≤ length old.loaders → InRounds may old cur p n → IsOutput may old p text_of (s, Ok a)
+          → IsTextOf text_of p (read (session_modes cur) cur.memory) (string_bytes a.text) → Gives may p text_of st (s, Ok a)
+      gives-answer text_of s a limited counted same none done = gives-output text_of st cur n (s, Ok a) at is can go where
+        go : (old : StateOf S) → loaders ≤ length old.loaders → InRounds may old cur p n → Answers may old (state_of s) p text_of (Ok a)
         go old enough so =
-            let answer = in-all may old cur p n loaders text_of (string_bytes a.text) so (old-limited old cur n so limited) within enough none answered done told in
+            let answer = in-all may old cur p n loaders text_of (string_bytes a.text) so (old-limited old cur n so limited) within enough none done in
             (rw (same, counted) answer, tt)
 
       -- the poll at which memory was wanted
       pub gives-none : (text_of : AnsweredOf → List ℕ) (s : SessionOf S) (fault : NoMemory) → (state_of s ≡ cur) ⊎ RoundLost cur (state_of s) (front (session_modes cur) p cur.memory) → Gives may p text_of st (s, Err fault)
       gives-none text_of s fault end = gives-output text_of st cur n (s, Err fault) at is can go where
-        go : (old : StateOf S) → loaders ≤ length old.loaders → InRounds may old cur p n → IsOutput may old p text_of (s, Err fault)
+        go : (old : StateOf S) → loaders ≤ length old.loaders → InRounds may old cur p n → Answers may old (state_of s) p text_of (Err fault)
         go old enough so =
             let same : session_modes cur ≡ session_modes old = ap modes_of so.rules in
             (tt, record { log = so.log; mid = cur; made = so.made; end = rw (ap (λ ms. front ms p cur.memory) same) at end })
@@ -97,20 +94,20 @@ module _ {S : Type 0} (may : S → List KeyOf → AnswerOf → Type 0) where
         -- one round later memory was wanted
         pub gives-none-more : (text_of : AnsweredOf → List ℕ) (fault : NoMemory) → Gives may p text_of st (s, Err fault)
         gives-none-more text_of fault = gives-output text_of st cur n (s, Err fault) at is can go where
-          go : (old : StateOf S) → loaders ≤ length old.loaders → InRounds may old cur p n → IsOutput may old p text_of (s, Err fault)
+          go : (old : StateOf S) → loaders ≤ length old.loaders → InRounds may old cur p n → Answers may old (state_of s) p text_of (Err fault)
           go old enough so = let one = more old so in (tt, record { log = one.log; mid = state_of s; made = one.made; end = inl refl })
 
         -- the poll that is pending
-        pub can-again : CanPoll may loaders p (Polled s next)
+        pub can-again : CanPoll may loaders p (polled s next)
         can-again =
             let from = from-some st cur n at is can in
             let one = more from.0 from.2 in
             (omega (arith, from.1, size from.0 (state_of s) p next one), from.0, made from.0 (state_of s) p next one)
 
-        pub gives-same : (text_of : AnsweredOf → List ℕ) (x : SessionOf S × Result Answer NoMemory) → Gives may p text_of (Polled s next) x → Gives may p text_of st x
+        pub gives-same : (text_of : AnsweredOf → List ℕ) (x : SessionOf S × Result Answer NoMemory) → Gives may p text_of (polled s next) x → Gives may p text_of st x
         gives-same text_of x h = gives-output text_of st cur n x at is can (λ old enough so. h old (made old (state_of s) p next (more old so)))
 
-        pub poll-ran : AreLimited (rules_of cur) → PollRan may p st (Polled s next)
+        pub poll-ran : AreLimited (rules_of cur) → PollRan may p st (polled s next)
         poll-ran limited =
             let from = from-some st cur n at is can in
             let one = more from.0 from.2 in

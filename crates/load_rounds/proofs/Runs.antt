@@ -15,7 +15,6 @@ use Rattle.load_queue.specs.Orders.{OrderOf, order_of}
 use Rattle.execution.specs.Loads.{Load, Memory, IsOneOf, read}
 use Rattle.execution.specs.Program.{Program}
 use Rattle.execution.specs.Completion.{AnsweredOf}
-use Rattle.execution.specs.Executed.{exec}
 use Rattle.execution.specs.Front.{front, keys_for}
 use Rattle.execution.specs.Rounds.{RuleOf, rule_of, modes_of, orders_from, orders_of, may_at, AreReplies, AreLimited, HasLoaders, after_round, without_failed}
 use Rattle.execution.specs.Sessions.{Forgot, Asked, Lost}
@@ -24,8 +23,10 @@ use Rattle.execution.proofs.ReplyLaws.{reply-order}
 use Rattle.load_rounds.specs.Sessions.{StateOf, rules_of, session_modes, logged_from, made, of_first, after_step, after_steps, AreNumbered, IsSession}
 use Rattle.load_rounds.specs.Rounds.{Enters}
 use Rattle.load_rounds.specs.Calls.{RoundRan, RoundLost}
-use Rattle.load_rounds.specs.Executes.{asked_steps, IsAnswer, StopsAnswering}
-use Rattle.load_rounds.specs.Runs.{AreReceived, front_in, orders_in, received, IsRound, IsBetween, IsOut}
+use Rattle.load_rounds.specs.Headline.{IsTextOf, asked_steps, Headline, StopsAnswering}
+use Rattle.load_rounds.specs.declared.run.Stage.{Stage}
+use Rattle.load_rounds.specs.declared.run.Stage.TheVariants.{Ready, Out, Finished, Failed}
+use Rattle.load_rounds.specs.Runs.{AreReceived, front_in, orders_in, received, IsRound, IsBetween, IsOut, IsRun}
 use Rattle.load_rounds.proofs.Following.{SameSources, InRounds, in-more, in-all}
 use Rattle.load_rounds.proofs.Cutting.{rules-logged, logged-same, orders-same, first-some}
 use Rattle.load_rounds.proofs.Numbering.{made-one, marked-round, source-at, replies-before, replies-below, orders-below, orders-loads, keys-first}
@@ -220,12 +221,12 @@ module _ {S : Type 0} where
 
     -- nothing is missing any more
     pub between-answers : (begun now : StateOf S) (rounds loaders : ℕ) (text_of : AnsweredOf → List ℕ) (text : List ℕ) → IsBetween may p begun now rounds → AreLimited (rules_of now) → HasLoaders loaders p → loaders ≤ length now.loaders
-        → front_in now p ≡ [] → (answered : AnsweredOf) → exec p (read (session_modes now) now.memory) ≡ Some answered → text ≡ text_of answered → IsAnswer may begun now p text_of text rounds
-    between-answers begun now rounds loaders text_of text is limited within enough none answered done told =
+        → front_in now p ≡ [] → IsTextOf text_of p (read (session_modes now) now.memory) text → Headline may begun now p text_of text rounds
+    between-answers begun now rounds loaders text_of text is limited within enough none done =
         let rounds_in = between-in begun now rounds is in
         let before = length-map begun.loaders rule_of in
         let after = length-map now.loaders rule_of in
-        in-all may begun now p rounds loaders text_of text rounds_in (rw rounds_in.rules at limited) within (omega (arith, enough, before, after, ap length rounds_in.rules)) none answered done told
+        in-all may begun now p rounds loaders text_of text rounds_in (rw rounds_in.rules at limited) within (omega (arith, enough, before, after, ap length rounds_in.rules)) none done
 
     -- one round more is out
     pub between-out : (begun now new : StateOf S) (rounds next loaders : ℕ) → IsBetween may p begun now rounds → next ≡ rounds + 1 → AreNumbered now.rounds now.loaders → HasLoaders loaders p → loaders ≤ length now.loaders
@@ -278,6 +279,16 @@ module _ {S : Type 0} where
       out-stops =
           let lost : RoundLost is.before s (front_in is.before p) = record { loaders = length is.before.loaders; after = is.entered ∙ lost-all is.before (front_in is.before p) } in
           between-stops begun is.before s is.made is.between (inr lost)
+
+    between-alone : (begun now : StateOf S) (rounds : ℕ) → IsBetween may p begun now rounds → StopsAnswering may begun now p
+    between-alone begun now rounds is = record { log = is.log; mid = now; made = is.made; end = inl refl }
+
+    -- whatever its stage, a run that is dropped has made rounds, and perhaps one more is lost
+    pub run-stops : (begun now : StateOf S) (rounds : ℕ) (stage : Stage) → IsRun may p begun now rounds stage → StopsAnswering may begun now p
+    run-stops begun now rounds Ready is = between-alone begun now rounds is
+    run-stops begun now rounds Out is = out-stops begun now rounds is
+    run-stops begun now rounds Finished is = between-alone begun now rounds is.0
+    run-stops begun now rounds Failed is = is
 
 -- each reply is of one of the loaders
 pub received-below : (may : ℕ → List KeyOf → AnswerOf → Type 0) (most : ℕ) (rules : List RuleOf) (loads : List Load) (shown : List ReplyOf) → length rules ≤ most → AreReceived may (orders_of rules loads) shown → All (λ (r : ReplyOf). r.loader < most) shown

@@ -12,7 +12,7 @@ use Rattle.execution.proofs.Same.{one-either}
 use Rattle.execution.proofs.ReplyLaws.{append-apart}
 use Rattle.execution.proofs.TwiceLaws.{absent, asked-outcome}
 use Rattle.load_rounds.specs.Sessions.{StateOf, rules_of, session_modes, after_step}
-use Rattle.load_rounds.specs.Histories.{Call, Loading, Priming, Clearing, ClearingAll, Executing, Stopping, clears_at, AreAsking, IsMadeOf, AreMadeOf, entered_cells, stored_gained, IsEntered, IsFailedAt, Leads, IsCall, AreCalls}
+use Rattle.load_rounds.specs.Histories.{Call, Loading, StoppedLoading, Priming, Clearing, ClearingAll, Forgetting, Executing, StoppedExecuting, Running, clears_at, AreAsking, IsMadeOf, AreMadeOf, entered_cells, stored_gained, IsEntered, IsFailedAt, Leads, IsCall, AreCalls}
 use Rattle.load_rounds.proofs.Stepping.{steps-rules}
 use Rattle.load_rounds.proofs.Histories.{memory_after, memory-append, are-after, leads-rules, leads-memory, call-leads, calls-lead}
 use Rattle.load_rounds.proofs.Gaining.{step_cells, all_cells, gained-cells, asked-apart, asked-orders, lost-cells, AskedIn, asked-in}
@@ -36,12 +36,15 @@ asking-clears c (Cleared cell ∷ steps) h = absurd h
 asking-clears c (ClearedAll loader ∷ steps) h = absurd h
 
 call-clears : (c : Cell) (call : Call) (own : List Step) → IsMadeOf call own → clears_at c call ≡ false → list_any (clears c) own ≡ false
-call-clears c (Loading loader keys) own h k = asking-clears c own h
+call-clears c (Loading loader keys outcomes) own h k = asking-clears c own h
+call-clears c (StoppedLoading loader keys) own h k = asking-clears c own h
 call-clears c (Priming pair) own h k = rw h refl
 call-clears c (Clearing cell) own h k = rw (h, k) refl
 call-clears c (ClearingAll loader) own h k = rw (h, k) refl
-call-clears c (Executing p) own h k = asking-clears c own h
-call-clears c Stopping own h k = rw h refl
+call-clears c Forgetting own h k = rw h refl
+call-clears c (Executing p text_of text rounds) own h k = asking-clears c own h
+call-clears c (StoppedExecuting p) own h k = asking-clears c own h
+call-clears c (Running p rounds stage) own h k = asking-clears c own h
 
 calls-clear : (c : Cell) (calls : List Call) (steps : List Step) → AreMadeOf calls steps → list_any (clears_at c) calls ≡ false → list_any (clears c) steps ≡ false
 calls-clear c [] steps h k = rw h refl
@@ -96,12 +99,15 @@ not-none (b ∷ bs) rest loads replies e = cc e
 
 -- a call that asks makes rounds alone
 asks-alone : (call : Call) (own before rest : List Step) (loads : List Load) (replies : List ReplyOf) → IsMadeOf call own → own ≡ before ++ Asked loads replies ∷ rest → AreAsking own
-asks-alone (Loading loader keys) own before rest loads replies h e = h
+asks-alone (Loading loader keys outcomes) own before rest loads replies h e = h
+asks-alone (StoppedLoading loader keys) own before rest loads replies h e = h
 asks-alone (Priming pair) own before rest loads replies h e = absurd (not-one (Primed pair) before rest loads replies (λ s. cc s) (sym h ∙ e))
 asks-alone (Clearing cell) own before rest loads replies h e = absurd (not-one (Cleared cell) before rest loads replies (λ s. cc s) (sym h ∙ e))
 asks-alone (ClearingAll loader) own before rest loads replies h e = absurd (not-one (ClearedAll loader) before rest loads replies (λ s. cc s) (sym h ∙ e))
-asks-alone (Executing p) own before rest loads replies h e = h
-asks-alone Stopping own before rest loads replies h e = absurd (not-none before rest loads replies (sym h ∙ e))
+asks-alone Forgetting own before rest loads replies h e = absurd (not-none before rest loads replies (sym h ∙ e))
+asks-alone (Executing p text_of text rounds) own before rest loads replies h e = h
+asks-alone (StoppedExecuting p) own before rest loads replies h e = h
+asks-alone (Running p rounds stage) own before rest loads replies h e = h
 
 -- the round of a call that asks a cell: what came before it in the call, and after it
 record Found {S : Type 0} (may : S → List KeyOf → AnswerOf → Type 0) (old new : StateOf S) (c : Cell) : Type 0 where
@@ -240,10 +246,16 @@ module _ {S : Type 0} (may : S → List KeyOf → AnswerOf → Type 0) where
       let made = call-leads may call old new h in
       rw (gained-cells (session_modes old) n may old new (Forgot ∷ made.0) made.1) (go call made.0 made.2 (made.1).may_be.1)
     where
+      fresh : (own : List Step) → AreAsking own → AreSteps (may_at may old.loaders) (rules_of old) (after (rules_of old) old.memory Forgot) own → AreApart (all_cells (session_modes old) n old (Forgot ∷ own))
+      fresh own made h = (asking-fresh (may_at may old.loaders) (rules_of old) n limited (after_step old Forgot) own made refl h).0
+
       go : (call : Call) (own : List Step) → IsMadeOf call own → AreSteps (may_at may old.loaders) (rules_of old) (after (rules_of old) old.memory Forgot) own → AreApart (all_cells (session_modes old) n old (Forgot ∷ own))
-      go (Loading loader keys) own made h = (asking-fresh (may_at may old.loaders) (rules_of old) n limited (after_step old Forgot) own made refl h).0
-      go (Executing p) own made h = (asking-fresh (may_at may old.loaders) (rules_of old) n limited (after_step old Forgot) own made refl h).0
+      go (Loading loader keys outcomes) own made h = fresh own made h
+      go (StoppedLoading loader keys) own made h = fresh own made h
+      go (Executing p text_of text rounds) own made h = fresh own made h
+      go (StoppedExecuting p) own made h = fresh own made h
+      go (Running p rounds stage) own made h = fresh own made h
       go (Priming pair) own made h = rw made tt
       go (Clearing cell) own made h = rw made tt
       go (ClearingAll loader) own made h = rw made tt
-      go Stopping own made h = rw made tt
+      go Forgetting own made h = rw made tt

@@ -1,5 +1,5 @@
--- What an answering future does, poll by poll.
-use Rattle.std.specs.Prelude.{◌≡◌, ◌≢◌, ◌≤◌, ℕ, List, [], ◌+◌, length, Option, Some, None, Result, IfOk, OnErr, String, string_bytes}
+-- What contracts see of an answering future, and what it does, poll by poll.
+use Rattle.std.specs.Prelude.{◌≡◌, ◌≢◌, ◌≤◌, ℕ, List, [], ◌+◌, length, Option, Some, None, Result, String, string_bytes}
 use Rattle.load_memory.specs.Keys.{KeyOf}
 use Rattle.load_memory.specs.Pairs.{look}
 use Rattle.load_memory.specs.Replies.{ReplyOf}
@@ -8,7 +8,6 @@ use Rattle.load_queue.specs.Answers.{AnswerOf}
 use Rattle.execution.specs.Loads.{read}
 use Rattle.execution.specs.Program.{Program, chain}
 use Rattle.execution.specs.Completion.{AnsweredOf}
-use Rattle.execution.specs.Executed.{exec}
 use Rattle.execution.specs.Front.{front}
 use Rattle.execution.specs.Sessions.{Forgot}
 use Rattle.futures.specs.declared.task.Poll.{Poll}
@@ -16,29 +15,46 @@ use Rattle.futures.specs.declared.task.Poll.TheVariants.{Ready, Pending}
 use Rattle.std.specs.declared.alloc.Global.{Global}
 use Rattle.load_rounds.specs.Sessions.{SessionOf, StateOf, state_of, session_modes, after_step}
 use Rattle.load_rounds.specs.Calls.{RoundRan}
-use Rattle.load_rounds.specs.Executes.{MakesRounds, IsAnswer, StopsAnswering}
+use Rattle.load_rounds.specs.Headline.{IsTextOf, MakesRounds, Answers}
 use Rattle.load_rounds.specs.declared.answer.Answer.{Answer}
 use Rattle.load_rounds.specs.declared.answering.Progress.{Progress}
 use Rattle.load_rounds.specs.declared.answering.Progress.TheVariants.{Unpolled, Polled, Over}
 
+-- how far a future is: the session that was handed in, or the session after so many rounds, one for each poll, or it has answered
+pub data FarOf (S : Type 0) : Type 0 where
+  handed : SessionOf S → FarOf S
+  polled : SessionOf S → ℕ → FarOf S
+  over : FarOf S
+
+-- what is executed, and how far it is
+pub record AnsweringOf (S P : Type 0) : Type 0 where
+  pub plan : P
+  pub far : FarOf S
+
+-- No public clause names it. What the progress of a future shows.
+abbrev pub far_of : {S : Type 0} → Progress S → FarOf S
+far_of (Unpolled s) = handed s
+far_of (Polled s rounds) = polled s rounds
+far_of Over = over
+
 module _ {S : Type 0} where
   -- the rounds so far, one for each poll
-  abbrev pub rounds_of : Progress S → ℕ
-  rounds_of (Unpolled s) = 0
-  rounds_of (Polled s rounds) = rounds
-  rounds_of Over = 0
+  abbrev pub rounds_of : FarOf S → ℕ
+  rounds_of (handed s) = 0
+  rounds_of (polled s rounds) = rounds
+  rounds_of over = 0
 
   -- where the next poll begins: at first failed batches are forgotten
-  abbrev pub begun : Progress S → Option (StateOf S)
-  begun (Unpolled s) = Some (after_step (state_of s) Forgot)
-  begun (Polled s rounds) = Some (state_of s)
-  begun Over = None
+  abbrev pub begun : FarOf S → Option (StateOf S)
+  begun (handed s) = Some (after_step (state_of s) Forgot)
+  begun (polled s rounds) = Some (state_of s)
+  begun over = None
 
   module _ (may : S → List KeyOf → AnswerOf → Type 0) where
     -- one turn: the text where nothing is missing, and then nothing has changed; else exactly one round, which asked the front
     abbrev pub Turned : (AnsweredOf → List ℕ) → StateOf S → StateOf S → Program → Poll (String Global) → Type 0
     Turned text_of old new p (Ready text) =
-        (new ≡ old) × (front (session_modes old) p old.memory ≡ []) × (answered : AnsweredOf) × (exec p (read (session_modes old) old.memory) ≡ Some answered) × (string_bytes text ≡ text_of answered)
+        (new ≡ old) × (front (session_modes old) p old.memory ≡ []) × IsTextOf text_of p (read (session_modes old) old.memory) (string_bytes text)
     Turned text_of old new p Pending =
         (front (session_modes old) p old.memory ≢ []) × RoundRan may old new (front (session_modes old) p old.memory)
 
@@ -49,29 +65,25 @@ module _ {S : Type 0} where
       pub counted : length log ≡ rounds
 
     -- it hasn't answered, and its session has the loaders that are asked
-    abbrev pub CanPoll : ℕ → Program → Progress S → Type 0
-    CanPoll loaders p (Unpolled s) = loaders ≤ length s.loaders
-    CanPoll loaders p (Polled s rounds) = (loaders ≤ length s.loaders) × (old : StateOf S) × HasMade old (state_of s) p rounds
-    CanPoll loaders p Over = ⊥
+    abbrev pub CanPoll : ℕ → Program → FarOf S → Type 0
+    CanPoll loaders p (handed s) = loaders ≤ length s.loaders
+    CanPoll loaders p (polled s rounds) = (loaders ≤ length s.loaders) × (old : StateOf S) × HasMade old (state_of s) p rounds
+    CanPoll loaders p over = ⊥
 
-    -- the session that is handed back, and what `answer` says of it and of the answer
-    abbrev pub IsOutput : StateOf S → Program → (AnsweredOf → List ℕ) → SessionOf S × Result Answer NoMemory → Type 0
-    IsOutput old p text_of out =
-        IfOk out.1 (λ a. IsAnswer may old (state_of out.0) p text_of (string_bytes a.text) a.rounds) × OnErr out.1 (StopsAnswering may old (state_of out.0) p)
-
-    -- what comes of it: an output for the session that was handed in, from whichever state the rounds so far were made
-    abbrev pub Gives : Program → (AnsweredOf → List ℕ) → Progress S → SessionOf S × Result Answer NoMemory → Type 0
-    Gives p text_of (Unpolled s) out = IsOutput (state_of s) p text_of out
-    Gives p text_of (Polled s rounds) out = (old : StateOf S) → HasMade old (state_of s) p rounds → IsOutput old p text_of out
-    Gives p text_of Over out = ⊥
+    -- What comes of it: the session that is handed back with the answer, which say what an answering call says of the session
+    -- that was handed in, from whichever state the rounds so far were made.
+    abbrev pub Gives : Program → (AnsweredOf → List ℕ) → FarOf S → SessionOf S × Result Answer NoMemory → Type 0
+    Gives p text_of (handed s) out = Answers may (state_of s) (state_of out.0) p text_of out.1
+    Gives p text_of (polled s rounds) out = (old : StateOf S) → HasMade old (state_of s) p rounds → Answers may old (state_of out.0) p text_of out.1
+    Gives p text_of over out = ⊥
 
     -- A poll that was pending has made exactly one round, which asked the front, and this isn't empty. So many polls are within
     -- the load chain over the memory after it.
-    pub record PollRan (p : Program) (old new : Progress S) : Type 0 where
+    pub record PollRan (p : Program) (old new : FarOf S) : Type 0 where
       pub before : StateOf S
       pub after : SessionOf S
       pub begins : begun old ≡ Some before
-      pub ends : new ≡ Polled after (rounds_of old + 1)
+      pub ends : new ≡ polled after (rounds_of old + 1)
       pub lacks : front (session_modes before) p before.memory ≢ []
       pub ran : RoundRan may before (state_of after) (front (session_modes before) p before.memory)
       pub within : rounds_of new ≤ chain p (read (session_modes (state_of after)) (look after.pairs))

@@ -1,5 +1,5 @@
 -- Calls of a session, one after another: the steps that they make, and what the logs gain by them.
-use Rattle.std.specs.Prelude.{◌≡◌, ◌==◌, ◌⊎◌, ℕ, Bool, false, List, [], ◌∷◌, ◌++◌, map, length, drop, Option, Some, None, slice_get}
+use Rattle.std.specs.Prelude.{◌≡◌, ◌==◌, ℕ, Bool, false, List, [], ◌∷◌, ◌++◌, map, length, drop, Option, Some, None, slice_get}
 use Rattle.std.specs.List.{filter}
 use Rattle.load_memory.specs.Keys.{KeyOf}
 use Rattle.load_memory.specs.Outcomes.{OutcomeOf, batch_fault}
@@ -14,27 +14,40 @@ use Rattle.execution.specs.Completion.{AnsweredOf}
 use Rattle.execution.specs.Sessions.{Step, Forgot, Asked, Lost, Primed, Cleared, ClearedAll, Cell, key_cell, is_cell}
 use Rattle.load_rounds.specs.Sessions.{StateOf, session_modes, after_steps, MayBe}
 use Rattle.load_rounds.specs.Calls.{asked_for, IsLoaded, IsStopped}
-use Rattle.load_rounds.specs.Executes.{IsAnswer, StopsAnswering}
+use Rattle.load_rounds.specs.Headline.{Headline, StopsAnswering}
+use Rattle.load_rounds.specs.Runs.{IsRun}
+use Rattle.load_rounds.specs.declared.run.Stage.{Stage}
 
--- A call that a session didn't refuse for its loader's number: `load` or `load_many` of a loader's keys, `prime` of a pair,
--- `clear` of a cell, `clear_all` of a loader, `answer` or an answering future of a program; and a `prime` or a `clear` at
--- which memory was wanted.
+-- A call that a session didn't refuse for its loader's number.
 pub data Call : Type 0 where
-  Loading : ℕ → List KeyOf → Call
+  -- `load` or `load_many` of a loader's keys, with the outcomes that it gave
+  Loading : ℕ → List KeyOf → List OutcomeOf → Call
+  -- the same, at which memory was wanted
+  StoppedLoading : ℕ → List KeyOf → Call
+  -- `prime` of a pair, `clear` of a cell, `clear_all` of a loader
   Priming : PairOf → Call
   Clearing : Cell → Call
   ClearingAll : ℕ → Call
-  Executing : Program → Call
-  Stopping : Call
+  -- a `prime` or a `clear` at which memory was wanted
+  Forgetting : Call
+  -- `answer` or an answering future of a program, with its text and its rounds
+  Executing : Program → (AnsweredOf → List ℕ) → List ℕ → ℕ → Call
+  -- the same, at which memory was wanted
+  StoppedExecuting : Program → Call
+  -- a run of a program by hand from `begin` on, which after so many rounds was finished, failed or was dropped at this stage
+  Running : Program → ℕ → Stage → Call
 
 -- the call clears this cell
 abbrev pub clears_at : Cell → Call → Bool
-clears_at cell (Loading loader keys) = false
+clears_at cell (Loading loader keys outcomes) = false
+clears_at cell (StoppedLoading loader keys) = false
 clears_at cell (Priming pair) = false
 clears_at cell (Clearing c) = is_cell c cell
 clears_at cell (ClearingAll loader) = loader == cell.0
-clears_at cell (Executing p) = false
-clears_at cell Stopping = false
+clears_at cell Forgetting = false
+clears_at cell (Executing p text_of text rounds) = false
+clears_at cell (StoppedExecuting p) = false
+clears_at cell (Running p rounds stage) = false
 
 -- rounds alone, stored or lost
 abbrev pub AreAsking : List Step → Type 0
@@ -48,12 +61,15 @@ AreAsking (ClearedAll loader ∷ steps) = ⊥
 
 -- the steps of a call once failed batches are forgotten
 abbrev pub IsMadeOf : Call → List Step → Type 0
-IsMadeOf (Loading loader keys) steps = AreAsking steps
+IsMadeOf (Loading loader keys outcomes) steps = AreAsking steps
+IsMadeOf (StoppedLoading loader keys) steps = AreAsking steps
 IsMadeOf (Priming pair) steps = steps ≡ Primed pair ∷ []
 IsMadeOf (Clearing cell) steps = steps ≡ Cleared cell ∷ []
 IsMadeOf (ClearingAll loader) steps = steps ≡ ClearedAll loader ∷ []
-IsMadeOf (Executing p) steps = AreAsking steps
-IsMadeOf Stopping steps = steps ≡ []
+IsMadeOf Forgetting steps = steps ≡ []
+IsMadeOf (Executing p text_of text rounds) steps = AreAsking steps
+IsMadeOf (StoppedExecuting p) steps = AreAsking steps
+IsMadeOf (Running p rounds stage) steps = AreAsking steps
 
 -- the steps of calls, one after another
 abbrev pub AreMadeOf : List Call → List Step → Type 0
@@ -98,6 +114,10 @@ module _ {S : Type 0} where
   abbrev pub IsFailedAt : Cell → StateOf S → Type 0
   IsFailedAt cell s = (text : List ℕ) × (s.memory cell.0 cell.1 ≡ Some (batch_fault text))
 
+  -- where it makes no difference what sources may answer
+  abbrev pub any_tell : S → List KeyOf → AnswerOf → Type 0
+  any_tell source keys answer = Unit {0}
+
   module _ (may : S → List KeyOf → AnswerOf → Type 0) where
     -- steps that may be, from a state to another: each round asked loads that the memory lacked, of equal cache keys the first
     pub record Leads (old : StateOf S) (steps : List Step) (new : StateOf S) : Type 0 where
@@ -106,12 +126,15 @@ module _ {S : Type 0} where
 
     -- what the contract of the call says of the states before and after it
     abbrev pub IsCall : Call → StateOf S → StateOf S → Type 0
-    IsCall (Loading loader keys) old new = ((outcomes : List OutcomeOf) × IsLoaded may old new loader keys outcomes) ⊎ IsStopped may old new (asked_for old loader keys)
+    IsCall (Loading loader keys outcomes) old new = IsLoaded may old new loader keys outcomes
+    IsCall (StoppedLoading loader keys) old new = IsStopped may old new (asked_for old loader keys)
     IsCall (Priming pair) old new = new ≡ after_steps old (Forgot ∷ Primed pair ∷ [])
     IsCall (Clearing cell) old new = new ≡ after_steps old (Forgot ∷ Cleared cell ∷ [])
     IsCall (ClearingAll loader) old new = new ≡ after_steps old (Forgot ∷ ClearedAll loader ∷ [])
-    IsCall (Executing p) old new = ((text_of : AnsweredOf → List ℕ) × (text : List ℕ) × (rounds : ℕ) × IsAnswer may old new p text_of text rounds) ⊎ StopsAnswering may old new p
-    IsCall Stopping old new = new ≡ after_steps old (Forgot ∷ [])
+    IsCall Forgetting old new = new ≡ after_steps old (Forgot ∷ [])
+    IsCall (Executing p text_of text rounds) old new = Headline may old new p text_of text rounds
+    IsCall (StoppedExecuting p) old new = StopsAnswering may old new p
+    IsCall (Running p rounds stage) old new = IsRun may p old new rounds stage
 
     -- calls one after another
     abbrev pub AreCalls : List Call → StateOf S → StateOf S → Type 0

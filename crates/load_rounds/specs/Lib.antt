@@ -1,7 +1,9 @@
 pub mod Answerings
 pub mod Calls
 pub mod Executes
+pub mod Headline
 pub mod Histories
+pub mod KeyByKey
 pub mod PlanLoads
 pub mod Rounds
 pub mod Runs

@@ -1,5 +1,5 @@
 -- Rounds by hand: what contracts see of a run, what its calls do to a session, and what was done since it was begun.
-use Rattle.std.specs.Prelude.{◌≡◌, ◌≢◌, ◌⊎◌, ◌+◌, ℕ, List, [], map, length, Some, IsPermutation, string_bytes}
+use Rattle.std.specs.Prelude.{◌≡◌, ◌≢◌, ◌⊎◌, ◌+◌, ℕ, List, [], map, length, IsPermutation, string_bytes}
 use Rattle.load_memory.specs.Keys.{KeyOf}
 use Rattle.load_memory.specs.Replies.{ReplyOf}
 use Rattle.load_queue.specs.Answers.{AnswerOf}
@@ -8,7 +8,6 @@ use Rattle.load_queue.specs.Orders.{OrderOf}
 use Rattle.execution.specs.Loads.{Load, read}
 use Rattle.execution.specs.Program.{Program}
 use Rattle.execution.specs.Completion.{AnsweredOf}
-use Rattle.execution.specs.Executed.{exec}
 use Rattle.execution.specs.Front.{front}
 use Rattle.execution.specs.Rounds.{orders_of, AreReplies, after_round}
 use Rattle.execution.specs.Sessions.{Lost}
@@ -18,7 +17,7 @@ use Rattle.load_rounds.specs.declared.run.Stage.{Stage}
 use Rattle.load_rounds.specs.declared.run.Stage.TheVariants.{Ready, Out, Finished, Failed}
 use Rattle.load_rounds.specs.Sessions.{StateOf, rules_of, session_modes, after_step, AreNumbered}
 use Rattle.load_rounds.specs.Calls.{RoundLost}
-use Rattle.load_rounds.specs.Executes.{MakesRounds, IsAnswer, StopsAnswering}
+use Rattle.load_rounds.specs.Headline.{IsTextOf, MakesRounds, Headline, StopsAnswering}
 
 -- what is executed, how many rounds were asked for it, with one that is out, and what may be done next
 pub record RunOf (P : Type 0) : Type 0 where
@@ -55,9 +54,7 @@ module _ {S : Type 0} where
   -- Nothing is missing: the text is that of the execution over the memory, and nothing changes.
   pub record IsLast (p : Program) (text_of : AnsweredOf → List ℕ) (old new : StateOf S) (text : List ℕ) : Type 0 where
     pub complete : front_in old p ≡ []
-    pub answered : AnsweredOf
-    pub executed : exec p (read (session_modes old) old.memory) ≡ Some answered
-    pub told : text ≡ text_of answered
+    pub answered : IsTextOf text_of p (read (session_modes old) old.memory) text
     pub same : new ≡ old
 
   -- Something is missing: the orders are the batches of all that is, entered under the number of the session's next round and
@@ -103,7 +100,7 @@ module _ {S : Type 0} where
     IsRun begun now rounds Finished = IsBetween begun now rounds × (front_in now p ≡ [])
     IsRun begun now rounds Failed = StopsAnswering may begun now p
 
-    -- the answer of a run is that of an answer in turn
+    -- the answer of a run has the headline, from where it was begun
     abbrev pub AnswersRun : (AnsweredOf → List ℕ) → StateOf S → StateOf S → Next → Type 0
-    AnswersRun text_of begun now (next.Finished answer) = IsAnswer may begun now p text_of (string_bytes answer.text) answer.rounds
+    AnswersRun text_of begun now (next.Finished answer) = Headline may begun now p text_of (string_bytes answer.text) answer.rounds
     AnswersRun text_of begun now (next.Round orders) = Unit {0}

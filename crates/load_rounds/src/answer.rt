@@ -18,7 +18,7 @@ pub struct Answer {
 
 impl<S: Asks> Session<S> {
     ghost use Rattle.load_rounds.specs.Sessions.{state_of};
-    ghost use Rattle.load_rounds.specs.Executes.{IsAnswer, StopsAnswering};
+    ghost use Rattle.load_rounds.specs.Headline.{Headline, StopsAnswering};
 
     /// Answers a plan on this thread. Failed batches are forgotten, then each round asks all that is needed and
     /// missing, until nothing is.
@@ -26,7 +26,7 @@ impl<S: Asks> Session<S> {
     /// After a refused growth the finished rounds stay, and a round that was out is lost.
     pub fn answer<P: Execute>(&mut self, plan: &P) -> Result<Answer, NoMemory>
         requires { P.loaders plan.now ≤ length self.old.loaders }
-        ensures answer { IfOk result (λ a. IsAnswer S.may_tell (state_of self.old) (state_of self.new)
+        ensures answer { IfOk result (λ a. Headline S.may_tell (state_of self.old) (state_of self.new)
             (P.program plan.now) (P.text_of plan.now) (string_bytes a.text) a.rounds) }
         ensures stopped { OnErr result (StopsAnswering S.may_tell (state_of self.old) (state_of self.new)
             (P.program plan.now)) }

@@ -1,7 +1,7 @@
 //! The answering future: one round per poll.
 //!
 //! The layer above may rely on this: after an executor has run the future, its output is what `answer` says of the
-//! session that was handed in (`gives`, which is `IsOutput` for a new future). A poll that is pending has run exactly one
+//! session that was handed in (`gives`, which is `Answers` for a new future). A poll that is pending has run exactly one
 //! round and has asked for the next poll, and so many polls are within the load chain; so the future is ready after at
 //! most one poll more.
 ghost use Rattle.std.specs.Prelude.{◌≡◌, ◌≤◌, ◌⊎◌, true, length, IsSome, Some, IfOk, OnErr};
@@ -17,6 +17,7 @@ use futures::Future;
 use futures::task::{Context, Poll};
 use load_memory::NoMemory;
 use load_queue::Asks;
+use std::marker::Model;
 use std::mem;
 
 /// How far an answering future is.
@@ -32,20 +33,29 @@ enum Progress<S> {
 
 /// An answer to come, made by [`Session::into_answering`]. Each poll makes one round in turn and asks to be polled
 /// again; the poll that finds nothing missing gives the session back with the answer. It isn't polled after that.
+///
+/// A contract sees what is executed, and how far it is.
 #[derive(Drop)]
 pub struct Answering<'p, S, P> {
     plan: &'p P,
     progress: Progress<S>,
 }
 
+impl<'p, S, P> Model for Answering<'p, S, P> {
+    ghost use Rattle.load_rounds.specs.Answerings.{AnsweringOf, far_of};
+
+    ghost Value = { AnsweringOf S P };
+
+    ghost view = { λ a. record { plan = a.plan.now; far = far_of a.progress } };
+}
+
 impl<S> Session<S> {
-    ghost use Rattle.load_rounds.specs.declared.answering.Progress.TheVariants.{Unpolled};
+    ghost use Rattle.load_rounds.specs.Answerings.{handed};
 
     /// Answers a plan as [`answer`](Session::answer) does, one round per poll, where the session has the plan's loaders.
     /// Nothing is done before the first poll. It takes no memory.
     pub fn into_answering<'p, P>(self, plan: &'p P) -> Answering<'p, S, P>
-        ensures progress { result.progress ≡ Unpolled self }
-        ensures plan { result.plan.now ≡ plan.now }
+        ensures { result ≡ record { plan = plan.now; far = handed self } }
     {
         Answering {
             plan,
@@ -80,14 +90,14 @@ impl<S: Asks> Session<S> {
 
 impl<S> Progress<S> {
     ghost use Rattle.load_rounds.specs.Sessions.{state_of, rules_of};
-    ghost use Rattle.load_rounds.specs.Answerings.{begun, rounds_of};
+    ghost use Rattle.load_rounds.specs.Answerings.{far_of, begun, rounds_of};
 
     // The session where the next poll begins, and its rounds so far. At first failed batches are forgotten. A contract also
     // sees here that no loader's limit is 0.
     fn begin(self) -> (Session<S>, u32)
-        requires { IsSome (begun self) }
-        ensures state { begun self ≡ Some (state_of result.0) }
-        ensures rounds { result.1 ≡ rounds_of self }
+        requires { IsSome (begun (far_of self)) }
+        ensures state { begun (far_of self) ≡ Some (state_of result.0) }
+        ensures rounds { result.1 ≡ rounds_of (far_of self) }
         ensures limited { AreLimited (rules_of (state_of result.0)) }
     {
         match self {
@@ -110,29 +120,29 @@ impl<'p, S: Asks + Drop, P: Execute + Drop> Future for Answering<'p, S, P> {
 
     type Output = (Session<S>, Result<Answer, NoMemory>);
 
-    ghost can_poll = { λ a. CanPoll S.may_tell (P.loaders a.plan.now) (P.program a.plan.now) a.progress };
+    ghost can_poll = { λ a. CanPoll S.may_tell (P.loaders a.plan) (P.program a.plan) a.far };
 
-    ghost gives = { λ a out. Gives S.may_tell (P.program a.plan.now) (P.text_of a.plan.now) a.progress out };
+    ghost gives = { λ a out. Gives S.may_tell (P.program a.plan) (P.text_of a.plan) a.far out };
 
     ghost needs = { λ a s. ⊥ };
 
     fn poll(&mut self, cx: &mut Context<'_>) -> Poll<(Session<S>, Result<Answer, NoMemory>)>
-        requires { CanPoll S.may_tell (P.loaders self.old.plan.now) (P.program self.old.plan.now) self.old.progress }
+        requires { CanPoll S.may_tell (P.loaders self.old.plan) (P.program self.old.plan) self.old.far }
         ensures value { IfReady result (λ out.
-            Gives S.may_tell (P.program self.old.plan.now) (P.text_of self.old.plan.now) self.old.progress out) }
+            Gives S.may_tell (P.program self.old.plan) (P.text_of self.old.plan) self.old.far out) }
         ensures again { OnPending result
-            (CanPoll S.may_tell (P.loaders self.new.plan.now) (P.program self.new.plan.now) self.new.progress) }
+            (CanPoll S.may_tell (P.loaders self.new.plan) (P.program self.new.plan) self.new.far) }
         ensures same { OnPending result ((x : _)
-            → Gives S.may_tell (P.program self.new.plan.now) (P.text_of self.new.plan.now) self.new.progress x
-            → Gives S.may_tell (P.program self.old.plan.now) (P.text_of self.old.plan.now) self.old.progress x) }
+            → Gives S.may_tell (P.program self.new.plan) (P.text_of self.new.plan) self.new.far x
+            → Gives S.may_tell (P.program self.old.plan) (P.text_of self.old.plan) self.old.far x) }
         ensures registered { OnPending result (Covers cx.new (λ _. ⊥)) }
         ensures kept { Keeps cx.old cx.new }
         ensures plan { self.new.plan ≡ self.old.plan }
         ensures round { OnPending result
-            (PollRan S.may_tell (P.program self.old.plan.now) self.old.progress self.new.progress) }
+            (PollRan S.may_tell (P.program self.old.plan) self.old.far self.new.far) }
         ensures yielded { OnPending result (cx.new.is_woken ≡ true) }
-        ensures counted { IfReady result (λ out. IfOk out.1 (λ a. a.rounds ≡ rounds_of self.old.progress)) }
-        ensures asks_nothing { IfReady result (λ out. IfOk out.1 (λ _. begun self.old.progress ≡ Some (state_of out.0))) }
+        ensures counted { IfReady result (λ out. IfOk out.1 (λ a. a.rounds ≡ rounds_of self.old.far)) }
+        ensures asks_nothing { IfReady result (λ out. IfOk out.1 (λ _. begun self.old.far ≡ Some (state_of out.0))) }
     {
         let (mut session, rounds) = mem::replace(&mut self.progress, Progress::Over).begin();
         match session.turn(self.plan) {

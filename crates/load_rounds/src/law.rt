@@ -5,9 +5,21 @@ ghost use Rattle.load_memory.specs.Pairs.{PairOf};
 ghost use Rattle.execution.specs.Loads.{IsOneOf};
 ghost use Rattle.execution.specs.Rounds.{AreLimited};
 ghost use Rattle.execution.specs.Sessions.{Cell, Step, Forgot, Primed, AreApart, IsAnsweredIn};
+ghost use Rattle.execution.specs.Completion.{AnsweredOf};
+ghost use Rattle.execution.specs.Program.{Program};
+ghost use Rattle.execution.specs.Rounds.{IsLawful, key_by_key, direct, IsTold, without_failed};
+ghost use Rattle.gq_check.specs.Plans.{plan_of};
+ghost use Rattle.gq_resolve.specs.Answered.{answer_text};
+ghost use Rattle.plan_program.specs.PlanPrograms.{plan_program};
 ghost use Rattle.load_rounds.specs.Sessions.{StateOf, rules_of, session_modes};
+ghost use Rattle.load_rounds.specs.Headline.{Headline, AnswersPlan, IsTextOf};
+ghost use Rattle.load_memory.specs.Keys.{KeyOf};
+ghost use Rattle.load_memory.specs.Outcomes.{ItemOf};
+ghost use Rattle.load_memory.specs.declared.key.KeyMode.{KeyMode};
+ghost use Rattle.load_rounds.specs.KeyByKey.{AnswerKeyByKey, RespectModes, CompareAlike, item_over};
 ghost use Rattle.load_rounds.specs.Histories.{Call, Priming, IsMadeOf, AreMadeOf, Leads, IsCall, AreCalls, clears_at, replies_of, entered_cells, stored_gained, IsEntered, IsFailedAt};
 
+use gq_check::Plan;
 use load_queue::Asks;
 
 /// What each call does is a list of steps, each of which may be: a round asks only what the memory lacks at that moment,
@@ -27,7 +39,8 @@ pub fn calls_are_steps<S: Asks>()
 /// *No key twice*, over any list of calls. No call asks a cache key of a loader twice. Where two calls each have a stored
 /// entry that asks one cache key of a loader, a call between them cleared it, or the earlier batch failed as a whole: what
 /// the memory has of it after the earlier call is that batch's fault. Entries of a lost round aren't stored, and their keys
-/// may be asked again.
+/// may be asked again. A run by hand counts as one call, at whatever stage it was dropped, unless another call changed its
+/// session before that.
 pub fn no_key_twice<S: Asks>()
     ensures together { (call : Call) (old new : StateOf S) (loader : ℕ) → AreLimited (rules_of old) → IsCall S.may_tell call old new
         → AreApart (entered_cells (session_modes old) loader (stored_gained loader old new)) }
@@ -36,3 +49,29 @@ pub fn no_key_twice<S: Asks>()
         → IsEntered cell old mid → IsEntered cell late new
         → (list_any (clears_at cell) between ≡ true) ⊎ IsFailedAt cell mid }
 {}
+
+/// *One lawful log*, of answers. Over sources that answer key by key, as each `PerKey` source does by its laws, an answer's
+/// log is lawful with each reply fixed, so two answers from one state are one: the same text, rounds, memory and logs, whoever
+/// ran the orders. Where the loaders compare keys as their sources do, and what the memory has at first is what these would
+/// answer, as in a new session, the text is that of direct execution.
+pub fn answers_key_by_key<S: Asks>()
+    ensures lawful { (item : S → KeyOf → ItemOf) (old new : StateOf S) (p : Program) (text_of : AnsweredOf → List ℕ) (text : List ℕ) (rounds : ℕ)
+        → AnswerKeyByKey S.may_tell item → (h : Headline S.may_tell old new p text_of text rounds)
+        → IsLawful (key_by_key (item_over item old.loaders)) (rules_of old) p (without_failed old.memory) h.log new.memory }
+    ensures one { (item : S → KeyOf → ItemOf) (old new other : StateOf S) (p : Program) (text_of : AnsweredOf → List ℕ) (text more : List ℕ) (rounds count : ℕ)
+        → AnswerKeyByKey S.may_tell item → Headline S.may_tell old new p text_of text rounds → Headline S.may_tell old other p text_of more count
+        → (new ≡ other) × (text ≡ more) × (rounds ≡ count) }
+    ensures direct { (item : S → KeyOf → ItemOf) (mode_of : S → KeyMode) (old new : StateOf S) (p : Program) (text_of : AnsweredOf → List ℕ) (text : List ℕ) (rounds : ℕ)
+        → AnswerKeyByKey S.may_tell item → RespectModes mode_of item → CompareAlike mode_of old.loaders
+        → IsTold (session_modes old) (item_over item old.loaders) (without_failed old.memory)
+        → Headline S.may_tell old new p text_of text rounds → IsTextOf text_of p (direct (item_over item old.loaders)) text }
+{}
+
+/// The headline, of a plan: each is of a document that keeps every rule, so an answer to it has the whole sentence.
+pub fn answers_of_plans<S: Asks>(plan: &Plan<'_>)
+    ensures { (old new : StateOf S) (text : List ℕ) (rounds : ℕ)
+        → Headline S.may_tell old new (plan_program (plan_of plan.now)) answer_text text rounds
+        → AnswersPlan S.may_tell old new (plan_of plan.now) text rounds }
+{
+    let _ = plan.operation();
+}

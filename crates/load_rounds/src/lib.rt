@@ -5,9 +5,10 @@
 //! what is needed and missing, a key is primed or cleared. The memory and the logs are those after these steps,
 //! and nothing else changes.
 //!
-//! Answers come in turn ([`Session::answer`]), or in rounds that the caller runs ([`Session::begin`]): a run gives the
-//! orders of each round and takes their replies in any order. Each call's contract says what has been done since the
-//! run was begun (`specs::Runs`, `IsRun`), and in the end that is what an answer in turn says.
+//! Every answer carries one definition, the headline (`specs::Headline`). Answers come in turn ([`Session::answer`]), by a
+//! future ([`Answering`]), or in rounds that the caller runs ([`Session::begin`]): a run gives the orders of each round and
+//! takes their replies in any order. Each call's contract says what has been done since the run was begun (`specs::Runs`,
+//! `IsRun`), and in the end that is the headline.
 #![tactic(auto)]
 
 pub mod answer;

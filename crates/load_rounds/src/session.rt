@@ -9,7 +9,7 @@ ghost use Rattle.load_queue.specs.Wanted.{WantedOf, nothing_wanted};
 ghost use Rattle.execution.specs.Loads.{Load, read};
 ghost use Rattle.execution.specs.Front.{front_of_keys};
 ghost use Rattle.execution.specs.Rounds.{AreLimited, orders_of, without_failed};
-ghost use Rattle.execution.specs.Sessions.{Forgot, Primed, Cleared, ClearedAll, Lost, Asked};
+ghost use Rattle.execution.specs.Sessions.{Forgot, Lost, Asked};
 ghost use Rattle.load_rounds.specs.Rounds.{AreWanted};
 
 use crate::fault::SessionFault;
@@ -40,8 +40,9 @@ impl<S> Model for Session<S> {
 }
 
 impl<S> Session<S> {
-    ghost use Rattle.load_rounds.specs.Sessions.{session_modes, rules_of, state_of, after_step, after_steps, AreNumbered};
+    ghost use Rattle.load_rounds.specs.Sessions.{session_modes, rules_of, state_of, after_step, AreNumbered};
     ghost use Rattle.load_rounds.specs.Calls.{cell_at, RoundLost};
+    ghost use Rattle.load_rounds.specs.Histories.{IsCall, Priming, Clearing, ClearingAll, Forgetting, any_tell};
     ghost use Rattle.load_rounds.specs.Runs.{received};
 
     pub(crate) fn alloc(&self) -> Global {
@@ -132,11 +133,11 @@ impl<S> Session<S> {
     pub fn prime(&mut self, loader: usize, key: &Key, item: Item) -> Result<bool, SessionFault>
         ensures no_loader { IsErrOf result SessionFault.NoSuchLoader ↔ (length self.old.loaders ≤ loader) }
         ensures refused { IsErrOf result SessionFault.NoSuchLoader → self.new ≡ self.old }
-        ensures no_memory { IsErrOf result SessionFault.NoMemory → state_of self.new ≡ after_steps (state_of self.old) (Forgot ∷ []) }
+        ensures no_memory { IsErrOf result SessionFault.NoMemory → IsCall any_tell Forgetting (state_of self.old) (state_of self.new) }
         ensures told { IfOk result (λ added. added
             ≡ is_none (without_failed (look self.old.pairs) loader (cell_at (state_of self.old) loader (key_of key.now)).1)) }
-        ensures after { OnOk result (state_of self.new ≡ after_steps (state_of self.old) (Forgot
-            ∷ Primed (pair_of loader (cell_at (state_of self.old) loader (key_of key.now)).1 (known (item_of item))) ∷ [])) }
+        ensures after { OnOk result (IsCall any_tell (Priming (pair_of loader (cell_at (state_of self.old) loader (key_of key.now)).1
+            (known (item_of item)))) (state_of self.old) (state_of self.new)) }
     {
         if loader >= self.loaders.len() {
             return Err(SessionFault::NoSuchLoader);
@@ -152,11 +153,11 @@ impl<S> Session<S> {
     pub fn clear(&mut self, loader: usize, key: &Key) -> Result<bool, SessionFault>
         ensures no_loader { IsErrOf result SessionFault.NoSuchLoader ↔ (length self.old.loaders ≤ loader) }
         ensures refused { IsErrOf result SessionFault.NoSuchLoader → self.new ≡ self.old }
-        ensures no_memory { IsErrOf result SessionFault.NoMemory → state_of self.new ≡ after_steps (state_of self.old) (Forgot ∷ []) }
+        ensures no_memory { IsErrOf result SessionFault.NoMemory → IsCall any_tell Forgetting (state_of self.old) (state_of self.new) }
         ensures told { IfOk result (λ there. there
             ≡ is_some (without_failed (look self.old.pairs) loader (cell_at (state_of self.old) loader (key_of key.now)).1)) }
-        ensures after { OnOk result (state_of self.new ≡ after_steps (state_of self.old) (Forgot
-            ∷ Cleared (cell_at (state_of self.old) loader (key_of key.now)) ∷ [])) }
+        ensures after { OnOk result (IsCall any_tell (Clearing (cell_at (state_of self.old) loader (key_of key.now)))
+            (state_of self.old) (state_of self.new)) }
     {
         if loader >= self.loaders.len() {
             return Err(SessionFault::NoSuchLoader);
@@ -173,7 +174,7 @@ impl<S> Session<S> {
         ensures no_loader { IsErrOf result SessionFault.NoSuchLoader ↔ (length self.old.loaders ≤ loader) }
         ensures refused { OnErr result (self.new ≡ self.old) }
         ensures no_other { IsErrOf result SessionFault.NoMemory → ⊥ }
-        ensures after { OnOk result (state_of self.new ≡ after_steps (state_of self.old) (Forgot ∷ ClearedAll loader ∷ [])) }
+        ensures after { OnOk result (IsCall any_tell (ClearingAll loader) (state_of self.old) (state_of self.new)) }
     {
         if loader >= self.loaders.len() {
             return Err(SessionFault::NoSuchLoader);
@@ -205,17 +206,18 @@ impl<S: Drop> Session<S> {
 
 impl<S: Asks> Session<S> {
     ghost use Rattle.load_rounds.specs.Sessions.{state_of, session_modes};
-    ghost use Rattle.load_rounds.specs.Calls.{asked_for, AsksOnce, RoundRan, RoundLost, IsLoaded, IsStopped};
+    ghost use Rattle.load_rounds.specs.Calls.{AsksOnce, RoundRan, RoundLost};
+    ghost use Rattle.load_rounds.specs.Histories.{IsCall, Loading, StoppedLoading};
 
     /// What comes of a loader's key, after failed batches are forgotten: what is known of it, and else what its
     /// source answers in a round of this one key, which is then known. It copies the outcome.
     pub fn load(&mut self, loader: usize, key: Key) -> Result<Outcome, SessionFault>
         ensures no_loader { IsErrOf result SessionFault.NoSuchLoader ↔ (length self.old.loaders ≤ loader) }
         ensures refused { IsErrOf result SessionFault.NoSuchLoader → self.new ≡ self.old }
-        ensures no_memory { IsErrOf result SessionFault.NoMemory → IsStopped S.may_tell (state_of self.old)
-            (state_of self.new) (asked_for (state_of self.old) loader (key_of key ∷ [])) }
-        ensures loaded { IfOk result (λ outcome. IsLoaded S.may_tell (state_of self.old) (state_of self.new) loader
-            (key_of key ∷ []) (outcome_of outcome ∷ [])) }
+        ensures no_memory { IsErrOf result SessionFault.NoMemory
+            → IsCall S.may_tell (StoppedLoading loader (key_of key ∷ [])) (state_of self.old) (state_of self.new) }
+        ensures loaded { IfOk result (λ outcome. IsCall S.may_tell (Loading loader (key_of key ∷ []) (outcome_of outcome ∷ []))
+            (state_of self.old) (state_of self.new)) }
     {
         let keys = [key];
         let mut outcomes = self.load_many(loader, &keys)?;
@@ -230,10 +232,10 @@ impl<S: Asks> Session<S> {
     pub fn load_many(&mut self, loader: usize, keys: &[Key]) -> Result<Vec<Outcome>, SessionFault>
         ensures no_loader { IsErrOf result SessionFault.NoSuchLoader ↔ (length self.old.loaders ≤ loader) }
         ensures refused { IsErrOf result SessionFault.NoSuchLoader → self.new ≡ self.old }
-        ensures no_memory { IsErrOf result SessionFault.NoMemory → IsStopped S.may_tell (state_of self.old)
-            (state_of self.new) (asked_for (state_of self.old) loader (map key_of keys.now)) }
-        ensures loaded { IfOk result (λ outcomes. IsLoaded S.may_tell (state_of self.old) (state_of self.new) loader
-            (map key_of keys.now) (map outcome_of outcomes.items)) }
+        ensures no_memory { IsErrOf result SessionFault.NoMemory
+            → IsCall S.may_tell (StoppedLoading loader (map key_of keys.now)) (state_of self.old) (state_of self.new) }
+        ensures loaded { IfOk result (λ outcomes. IsCall S.may_tell (Loading loader (map key_of keys.now)
+            (map outcome_of outcomes.items)) (state_of self.old) (state_of self.new)) }
     {
         if loader >= self.loaders.len() {
             return Err(SessionFault::NoSuchLoader);

@@ -68,9 +68,9 @@ IsWordsRun texts old new end = ((words : Words) × IsRead texts words × IsFiles
     ⊎ ((refusal : Stop) × IsRefused texts refusal × IsTold refusal old new end)
 
 -- Without words the sample world is served from the reader. Else nothing is read of it.
-abbrev pub IsRun : List (List ℕ) → Option (List ℕ) → Option (List ℕ) → Option (List ℕ) → Option (List ℕ) → Stop → Type 0
-IsRun [] unread rest old new end = IsSampleRun unread rest old new end
-IsRun (word ∷ words) unread rest old new end = Keeps unread rest × IsWordsRun (word ∷ words) old new end
+abbrev pub IsProgramRun : List (List ℕ) → Option (List ℕ) → Option (List ℕ) → Option (List ℕ) → Option (List ℕ) → Stop → Type 0
+IsProgramRun [] unread rest old new end = IsSampleRun unread rest old new end
+IsProgramRun (word ∷ words) unread rest old new end = Keeps unread rest × IsWordsRun (word ∷ words) old new end
 
 -- why the program has no words
 abbrev pub IsWordless : Stop → Type 0

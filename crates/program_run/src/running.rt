@@ -5,7 +5,7 @@ ghost use Rattle.std.specs.Io.KnownBytes.{Appends};
 ghost use Rattle.line_serving.specs.Devices.{device_of};
 ghost use Rattle.line_serving.specs.Lines.{line_feed};
 ghost use Rattle.line_serving.specs.Output.{IsCut};
-ghost use Rattle.program_run.specs.Runs.{IsServed, IsShown, IsTold, IsSampleRun, IsFilesRun, IsRun, IsWordless};
+ghost use Rattle.program_run.specs.Runs.{IsServed, IsShown, IsTold, IsSampleRun, IsFilesRun, IsProgramRun, IsWordless};
 
 use command_line::{Stop, Words};
 use line_serving::{Counted, DeviceFault, ServeFault};
@@ -138,7 +138,7 @@ pub fn run<R: Files + AllocGlobal, I: Read, W: Write>(
     reader: &mut Counted<I>,
     writer: &mut Counted<W>,
 ) -> Stop
-    ensures { IsRun (map string_bytes words.now) (I.remaining (device_of reader.old)) (I.remaining (device_of reader.new))
+    ensures { IsProgramRun (map string_bytes words.now) (I.remaining (device_of reader.old)) (I.remaining (device_of reader.new))
         (W.contents (device_of writer.old)) (W.contents (device_of writer.new)) result }
 {
     if words.is_empty() {

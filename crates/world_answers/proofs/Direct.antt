@@ -1,125 +1,70 @@
--- A lawful log over the loaders of a world, from nothing, ends in direct execution.
-use Rattle.std.proofs.Common.{◌≡◌, ◌<◌, ◌≤◌, ℕ, zero, suc, List, [], ◌∷◌, map, length, Option, Some, None, refl, sym, ap, subst, ◌∙◌}
-use Rattle.std.specs.Prelude.{slice_get}
-use Rattle.load_memory.specs.Keys.{KeyOf, folded}
-use Rattle.load_memory.specs.Outcomes.{ItemOf, OutcomeOf, known}
+-- An answer in the session of a world is direct execution.
+use Rattle.std.proofs.Common.{◌≡◌, ℕ, zero, suc, List, [], ◌∷◌, length, Option, Some, None, refl, subst}
+use Rattle.std.proofs.Math.Path.{fun_ext}
+use Rattle.std.proofs.lemmas.List.Elements.{All-nil, All-cons}
+use Rattle.load_memory.specs.Keys.{KeyOf}
+use Rattle.load_memory.specs.Outcomes.{ItemOf}
 use Rattle.load_memory.specs.Pairs.{look}
-use Rattle.load_memory.specs.Replies.{ReplyOf}
 use Rattle.load_memory.specs.declared.key.KeyMode.{KeyMode}
 use Rattle.csv_source.specs.Tables.{SourceOf, item_of_key}
 use Rattle.csv_source.specs.KeyLaws.{item_of_key-folded}
-use Rattle.load_queue.specs.Answers.{AnswerOf, given}
 use Rattle.load_queue.specs.Loaders.{LoaderOf}
-use Rattle.load_queue.specs.Orders.{OrderOf}
-use Rattle.execution.specs.Loads.{Memory, mode_at, read}
-use Rattle.execution.specs.Program.{Program}
-use Rattle.execution.specs.Completion.{AnsweredOf}
-use Rattle.execution.specs.Executed.{exec}
-use Rattle.execution.specs.Front.{front}
-use Rattle.execution.specs.Rounds.{MayAnswer, RuleOf, rule_of, modes_of, may_at, orders_of, AreReplies, AreRounds, IsLawful, after_round, without_failed, key_by_key, direct, RespectsCacheKeys, IsTold}
-use Rattle.execution.proofs.OneLog.{log-direct}
+use Rattle.execution.specs.Rounds.{without_failed, direct, IsTold}
 use Rattle.gq_schema.specs.BindingsTree as bindings
 use Rattle.gq_check.specs.Plans.{PlanOf}
+use Rattle.gq_check.specs.Planned.{IsPlan}
 use Rattle.plan_program.specs.PlanPrograms.{plan_program}
 use Rattle.gq_resolve.specs.Answered.{answer_text}
-use Rattle.load_rounds.specs.Sessions.{SessionOf, StateOf, state_of}
-use Rattle.load_rounds.specs.Executes.{IsAnswer}
+use Rattle.load_rounds.specs.Headline.{IsTextOf, Headline}
+use Rattle.load_rounds.specs.KeyByKey.{CompareAlike, item_over}
+use Rattle.load_rounds.specs.Sessions.{SessionOf, StateOf, state_of, session_modes}
+use Rattle.load_rounds.proofs.KeyByKey.{text-direct}
 use Rattle.world.specs.Worlds.{WorldOf}
-use Rattle.world_answers.specs.Answers.{item_from, item_at, IsExecuted}
+use Rattle.world_answers.specs.Answers.{item_at, may_tell, AnswersAnew, IsAnsweredAnew}
 use Rattle.world_answers.specs.Sessions.{loader_over, loaders_over, session_over}
 
--- ---- what may be answered, as something weaker
-
-module _ (may other : MayAnswer) (weaker : (loader : ℕ) (keys : List KeyOf) (answer : AnswerOf) → may loader keys answer → other loader keys answer) where
-  replies-weaker : (os : List OrderOf) (rs : List ReplyOf) → AreReplies may os rs → AreReplies other os rs
-  replies-weaker [] [] h = tt
-  replies-weaker [] (r ∷ rs) h = absurd h
-  replies-weaker (o ∷ os) [] h = absurd h
-  replies-weaker (o ∷ os) (r ∷ rs) h =
-      (record { loader = h.0.loader; keys = h.0.keys; answer = h.0.answer; may_be = weaker o.loader o.keys h.0.answer h.0.may_be; outcomes = h.0.outcomes }, replies-weaker os rs h.1)
-
-  rounds-weaker : (rules : List RuleOf) (p : Program) (M : Memory) (rounds : List (List ReplyOf)) (end : Memory) → AreRounds may rules p M rounds end → AreRounds other rules p M rounds end
-  rounds-weaker rules p M [] end h = h
-  rounds-weaker rules p M (round ∷ rounds) end h =
-      (h.0, replies-weaker (orders_of rules (front (modes_of rules) p M)) round h.1, rounds-weaker rules p (after_round rules M round) rounds end h.2)
-
-  pub lawful-weaker : (rules : List RuleOf) (p : Program) (M : Memory) (rounds : List (List ReplyOf)) (end : Memory) → IsLawful may rules p M rounds end → IsLawful other rules p M rounds end
-  lawful-weaker rules p M rounds end h = (rounds-weaker rules p M rounds end h.0, h.1)
-
 -- ---- the loaders of a world
-
--- a loader compares keys as its source does, and its source is the one of its number
-pub record IsOver (sources : List SourceOf) (loader : ℕ) (l : LoaderOf SourceOf) : Type 0 where
-  pub mode : l.mode ≡ l.source.mode
-  pub there : slice_get sources loader ≡ Some l.source
-
-some-same : {X : Type 0} (a b : X) → Some a ≡ Some b → a ≡ b
-some-same a b e = cc e
 
 none-some : {X : Type 0} (a : X) → None ≡ Some a → ⊥
 none-some a e = cc e
 
 module _ (limit : Option ℕ) where
-  pub loader-at : (lines : List bindings.LoaderOf) (sources : List SourceOf) (loader : ℕ) (l : LoaderOf SourceOf) → slice_get (loaders_over limit lines sources) loader ≡ Some l → IsOver sources loader l
-  loader-at [] sources loader l e = absurd (none-some l e)
-  loader-at (line ∷ lines) [] loader l e = absurd (none-some l e)
-  loader-at (line ∷ lines) (source ∷ sources) zero l e =
-      let same : loader_over limit line.name source ≡ l = some-same (loader_over limit line.name source) l e in
-      record { mode = ap (λ (x : LoaderOf SourceOf). x.mode) (sym same) ∙ ap (λ (x : LoaderOf SourceOf). x.source.mode) same; there = ap (λ (x : LoaderOf SourceOf). Some x.source) same }
-  loader-at (line ∷ lines) (source ∷ sources) (suc loader) l e =
-      let is = loader-at lines sources loader l e in
-      record { mode = is.mode; there = is.there }
+  -- each loader compares keys as its source
+  compare-alike : (lines : List bindings.LoaderOf) (sources : List SourceOf) → CompareAlike (λ (s : SourceOf). s.mode) (loaders_over limit lines sources)
+  compare-alike [] sources = All-nil (λ (l : LoaderOf SourceOf). l.mode ≡ l.source.mode)
+  compare-alike (line ∷ lines) [] = All-nil (λ (l : LoaderOf SourceOf). l.mode ≡ l.source.mode)
+  compare-alike (line ∷ lines) (source ∷ sources) =
+      All-cons (λ (l : LoaderOf SourceOf). l.mode ≡ l.source.mode) (loader_over limit line.name source) (loaders_over limit lines sources) refl (compare-alike lines sources)
 
-  -- the mode of a loader is that of the source of its number
-  mode-over : (lines : List bindings.LoaderOf) (sources : List SourceOf) (loader : ℕ) (source : SourceOf) → length sources ≡ length lines → slice_get sources loader ≡ Some source
-      → mode_at (modes_of (map rule_of (loaders_over limit lines sources))) loader ≡ source.mode
-  mode-over [] [] loader source e at = absurd (none-some source at)
-  mode-over [] (s ∷ sources) loader source e at = absurd (cc e)
-  mode-over (line ∷ lines) [] loader source e at = absurd (none-some source at)
-  mode-over (line ∷ lines) (s ∷ sources) zero source e at = ap (λ (x : SourceOf). x.mode) (some-same s source at)
-  mode-over (line ∷ lines) (s ∷ sources) (suc loader) source e at = mode-over lines sources loader source (cc e) at
-
-  -- what the source of a number may answer is what its items are, key by key
-  may-over : (lines : List bindings.LoaderOf) (sources : List SourceOf) (loader : ℕ) (keys : List KeyOf) (answer : AnswerOf)
-      → may_at (λ (s : SourceOf) (ks : List KeyOf) (a : AnswerOf). a ≡ given (map (item_of_key s) ks)) (loaders_over limit lines sources) loader keys answer
-      → key_by_key (item_at sources) loader keys answer
-  may-over lines sources loader keys answer h =
-      h.2 ∙ ap (λ (o : Option SourceOf). given (map (item_from o) keys)) (sym (loader-at lines sources loader h.0 h.1).there)
-
-  -- keys that are one for their loader have one item
-  respects-over : (lines : List bindings.LoaderOf) (sources : List SourceOf) → length sources ≡ length lines → RespectsCacheKeys (modes_of (map rule_of (loaders_over limit lines sources))) (item_at sources)
-  respects-over lines sources e = λ loader j k same. go loader j k same (slice_get sources loader) refl
-    where
-      modes : List KeyMode
-      modes = modes_of (map rule_of (loaders_over limit lines sources))
-
-      go : (loader : ℕ) (j k : KeyOf) → folded (mode_at modes loader) j ≡ folded (mode_at modes loader) k → (o : Option SourceOf) → slice_get sources loader ≡ o → item_at sources loader j ≡ item_at sources loader k
-      go loader j k same None at = rw at refl
-      go loader j k same (Some source) at =
-          let mode : mode_at modes loader ≡ source.mode = mode-over lines sources loader source e at in
-          rw at (item_of_key-folded source j k (rw mode at same))
+  -- the items of the loaders are those of the sources
+  items-over : (lines : List bindings.LoaderOf) (sources : List SourceOf) (loader : ℕ) (key : KeyOf) → length sources ≡ length lines → item_over item_of_key (loaders_over limit lines sources) loader key ≡ item_at sources loader key
+  items-over [] [] loader key e = refl
+  items-over [] (s ∷ sources) loader key e = absurd (cc e)
+  items-over (line ∷ lines) [] loader key e = absurd (cc e)
+  items-over (line ∷ lines) (source ∷ sources) zero key e = refl
+  items-over (line ∷ lines) (source ∷ sources) (suc loader) key e = items-over lines sources loader key (cc e)
 
   nothing-told : (modes : List KeyMode) (item : ℕ → KeyOf → ItemOf) → IsTold modes item (without_failed (look []))
   nothing-told modes item = λ loader key outcome h. absurd (none-some outcome h)
 
-  -- a lawful log from nothing ends in direct execution
-  pub ends-direct : (lines : List bindings.LoaderOf) (sources : List SourceOf) (p : Program) (rounds : List (List ReplyOf)) (end : Memory) → length sources ≡ length lines
-      → IsLawful (may_at (λ (s : SourceOf) (ks : List KeyOf) (a : AnswerOf). a ≡ given (map (item_of_key s) ks)) (loaders_over limit lines sources)) (map rule_of (loaders_over limit lines sources)) p (without_failed (look [])) rounds end
-      → exec p (read (modes_of (map rule_of (loaders_over limit lines sources))) end) ≡ exec p (direct (item_at sources))
-  ends-direct lines sources p rounds end e h =
-      let rules : List RuleOf = map rule_of (loaders_over limit lines sources) in
-      let may : MayAnswer = may_at (λ (s : SourceOf) (ks : List KeyOf) (a : AnswerOf). a ≡ given (map (item_of_key s) ks)) (loaders_over limit lines sources) in
-      log-direct (item_at sources) rules p (respects-over lines sources e) (without_failed (look [])) rounds end (nothing-told (modes_of rules) (item_at sources))
-      (lawful-weaker may (key_by_key (item_at sources)) (may-over lines sources) rules p (without_failed (look [])) rounds end h)
-
--- an answer over a session of a world is the text of direct execution
-pub answer-direct : (w : WorldOf) (session : SessionOf SourceOf) (new : StateOf SourceOf) (plan : PlanOf) (text : List ℕ) (rounds : ℕ) → length w.sources ≡ length w.bindings.loaders → session ≡ session_over w
-    → IsAnswer (λ (s : SourceOf) (ks : List KeyOf) (a : AnswerOf). a ≡ given (map (item_of_key s) ks)) (state_of session) new (plan_program plan) answer_text text rounds → IsExecuted w plan text
-answer-direct w session new plan text rounds each is h =
-    let may : SourceOf → List KeyOf → AnswerOf → Type 0 = λ s ks a. a ≡ given (map (item_of_key s) ks) in
-    let over : IsAnswer may (state_of (session_over w)) new (plan_program plan) answer_text text rounds = subst (λ z. IsAnswer may (state_of z) new (plan_program plan) answer_text text rounds) is h in
+-- an answer in the session of a world is the text of direct execution
+pub answer-direct : (w : WorldOf) (after : StateOf SourceOf) (plan : PlanOf) (text : List ℕ) (rounds : ℕ) → length w.sources ≡ length w.bindings.loaders → AnswersAnew w plan after text rounds → IsAnsweredAnew w plan text
+answer-direct w after plan text rounds each h =
+    let old : StateOf SourceOf = state_of (session_over w) in
+    let loaders : List (LoaderOf SourceOf) = loaders_over w.limit w.bindings.loaders w.sources in
+    let text-is : IsTextOf answer_text (plan_program plan) (direct (item_over item_of_key loaders)) text =
+    text-direct may_tell item_of_key (λ s keys answer is. is) (λ (s : SourceOf). s.mode) item_of_key-folded old after (plan_program plan) answer_text text rounds
+    (compare-alike w.limit w.bindings.loaders w.sources) (nothing-told w.limit (session_modes old) (item_over item_of_key loaders)) h.headline in
+    let same : item_over item_of_key loaders ≡ item_at w.sources = fun_ext (λ loader. fun_ext (λ key. items-over w.limit w.bindings.loaders w.sources loader key each)) in
     record {
-      answered = over.answered;
-      executed = sym (ends-direct w.limit w.bindings.loaders w.sources (plan_program plan) over.log new.memory each over.lawful) ∙ over.executed;
-      told = over.told;
+      direct = subst (λ (item : ℕ → KeyOf → ItemOf). IsTextOf answer_text (plan_program plan) (direct item) text) same text-is;
+      after = after;
+      rounds = rounds;
+      answers = h;
     }
+
+-- an answer over what was opened as the session of a world
+pub answer-anew : (w : WorldOf) (session : SessionOf SourceOf) (after : StateOf SourceOf) (plan : PlanOf) (text : List ℕ) (rounds : ℕ) → session ≡ session_over w → IsPlan plan
+    → Headline may_tell (state_of session) after (plan_program plan) answer_text text rounds → AnswersAnew w plan after text rounds
+answer-anew w session after plan text rounds is valid h =
+    record { valid = valid; headline = subst (λ z. Headline may_tell (state_of z) after (plan_program plan) answer_text text rounds) is h }

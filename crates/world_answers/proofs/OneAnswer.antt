@@ -25,7 +25,7 @@ use Rattle.world.specs.declared.request.RequestFault.{RequestFault}
 use Rattle.world.specs.declared.request.RequestFault.TheVariants as fault
 use Rattle.world.specs.Requests.{parse_message, request_message, request_place, is_want_of_memory}
 use Rattle.world.specs.Worlds.{WorldOf}
-use Rattle.world_answers.specs.Answers.{values_of, IsPlanned, IsFaulty, IsExecuted, direct_execution, refusal_text, AnswersRequest, faulty, planned, IsAnswer, no_request, request}
+use Rattle.world_answers.specs.Answers.{values_of, IsPlanned, IsFaulty, IsDirectText, refusal_text, AnswersRequest, faulty, planned, IsAnswer, no_request, request}
 use Rattle.world_answers.proofs.OneFault.{one_fault, document_or_fault, one_document}
 
 same_value : {X : Type 0} (x y : X) → Some x ≡ Some y → x ≡ y
@@ -178,7 +178,7 @@ module _ (verdict : OneVerdict) (w : WorldOf) (r : RequestOf) where
 
   -- ---- one text
 
-  executed-one : (p : PlanOf) (text other : List ℕ) → IsExecuted w p text → IsExecuted w p other → text ≡ other
+  executed-one : (p : PlanOf) (text other : List ℕ) → IsDirectText w p text → IsDirectText w p other → text ≡ other
   executed-one p text other h k = h.told ∙ ap answer_text (same_value h.answered k.answered (sym h.executed ∙ k.executed)) ∙ sym k.told
 
   answers-one : (text other : List ℕ) → AnswersRequest w r text → AnswersRequest w r other → text ≡ other
@@ -187,7 +187,7 @@ module _ (verdict : OneVerdict) (w : WorldOf) (r : RequestOf) where
       e ∙ ap (λ m. refusal_text m (request_place f)) same.message ∙ ap (refusal_text (request_message g)) same.place ∙ sym d
   answers-one text other (faulty {fault = f} h e) (planned {plan = q} k d) = absurd (faulty-or-planned f q h k)
   answers-one text other (planned {plan = p} h e) (faulty {fault = g} k d) = absurd (faulty-or-planned g p k h)
-  answers-one text other (planned {plan = p} h e) (planned {plan = q} k d) = executed-one p text other e (subst (λ z. IsExecuted w z other) (one-plan q p k h) d)
+  answers-one text other (planned {plan = p} h e) (planned {plan = q} k d) = executed-one p text other e.direct (subst (λ z. IsDirectText w z other) (one-plan q p k h) d.direct)
 
 one-request : (line : List ℕ) (p q : RequestOf) → IsRequest line p → IsRequest line q → p ≡ q
 one-request line p q h k = same_value p q (sym h.members ∙ k.members)

@@ -15,7 +15,7 @@ use Rattle.request_line.specs.Requests.{RequestOf, IsRequest, asked}
 use Rattle.world.specs.declared.request.RequestFault.{RequestFault}
 use Rattle.world.specs.Requests.{IsPlanOf, IsRequestFault, is_want_of_memory, request_message, request_place}
 use Rattle.world.specs.Worlds.{WorldOf}
-use Rattle.world_answers.specs.Answers.{values_of, IsExecuted, refusal_text, AnswersRequest, faulty, planned}
+use Rattle.world_answers.specs.Answers.{values_of, IsAnsweredAnew, refusal_text, AnswersRequest, faulty, planned}
 
 pub null-view : view value.Null ≡ null
 null-view = ap view (sym value.rolls-Null) ∙ fold-roll-Value Data view_step Value-F.Null
@@ -25,7 +25,7 @@ values-are None none chosen is e = ap (λ v. view v.now) is ∙ e
 values-are (Some v) none chosen is e = ap (λ v. view v.now) is
 
 pub planned-text : (w : WorldOf) (r : RequestOf) (plan : PlanParts) (given : Data) (text : List ℕ) → given ≡ values_of r.variables → plan.definitions ≡ w.definitions → plan.bindings ≡ w.bindings
-    → IsPlanOf (tree_of w.definitions) r.query r.operation_name given (plan_of plan) → IsExecuted w (plan_of plan) text → AnswersRequest w r text
+    → IsPlanOf (tree_of w.definitions) r.query r.operation_name given (plan_of plan) → IsAnsweredAnew w (plan_of plan) text → AnswersRequest w r text
 planned-text w r plan given text v d b is x =
     planned (record { definitions = ap tree_of d; bindings = b; planned = subst (λ z. IsPlanOf (tree_of w.definitions) r.query r.operation_name z (plan_of plan)) v is }) x
 

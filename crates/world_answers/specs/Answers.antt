@@ -1,5 +1,5 @@
 -- What answers a request line over a world.
-use Rattle.std.specs.Prelude.{◌≡◌, ℕ, Bool, false, List, [], Option, Some, None, codes, slice_get}
+use Rattle.std.specs.Prelude.{◌≡◌, ℕ, Bool, false, List, [], map, Option, Some, None, codes, slice_get}
 use Rattle.gq_lexer.specs.declared.place.Place.{Place}
 use Rattle.serde_json.specs.Data.{Data, null}
 use Rattle.gq_schema.specs.Types.{tree_of}
@@ -7,16 +7,18 @@ use Rattle.gq_check.specs.Plans.{PlanOf}
 use Rattle.load_memory.specs.Keys.{KeyOf}
 use Rattle.load_memory.specs.Outcomes.{ItemOf, rows}
 use Rattle.csv_source.specs.Tables.{SourceOf, item_of_key}
-use Rattle.execution.specs.Completion.{AnsweredOf}
-use Rattle.execution.specs.Executed.{exec}
+use Rattle.load_queue.specs.Answers.{AnswerOf, given}
 use Rattle.execution.specs.Rounds.{direct}
 use Rattle.plan_program.specs.PlanPrograms.{plan_program}
 use Rattle.answer_json.specs.Answer.{json_text, refusal_json}
 use Rattle.gq_resolve.specs.Answered.{answer_text}
+use Rattle.load_rounds.specs.Headline.{IsTextOf, AnswersPlan}
+use Rattle.load_rounds.specs.Sessions.{StateOf, state_of}
 use Rattle.request_line.specs.Requests.{RequestOf, IsRequest, IsNoRequest}
 use Rattle.world.specs.declared.request.RequestFault.{RequestFault}
 use Rattle.world.specs.Requests.{IsPlanOf, IsRequestFault, is_want_of_memory, request_message, request_place}
 use Rattle.world.specs.Worlds.{WorldOf}
+use Rattle.world_answers.specs.Sessions.{session_over}
 
 -- ---- *Direct execution*
 
@@ -29,9 +31,21 @@ item_from (Some source) key = item_of_key source key
 abbrev pub item_at : List SourceOf → ℕ → KeyOf → ItemOf
 item_at sources loader key = item_from (slice_get sources loader) key
 
--- *Execution tree* and *Completion* with each load answered at once, by the rows of its key. No memory, batch or round is in it.
-abbrev pub direct_execution : WorldOf → PlanOf → Option AnsweredOf
-direct_execution w plan = exec (plan_program plan) (direct (item_at w.sources))
+-- the text of *Execution tree* and *Completion* with each load answered at once, by the rows of its key. No memory, batch or round
+-- is in it.
+abbrev pub IsDirectText : WorldOf → PlanOf → List ℕ → Type 0
+IsDirectText w plan text = IsTextOf answer_text (plan_program plan) (direct (item_at w.sources)) text
+
+-- ---- the session of a line
+
+-- what a source of a world may answer: the rows of each key
+abbrev pub may_tell : SourceOf → List KeyOf → AnswerOf → Type 0
+may_tell source keys answer = answer ≡ given (map (item_of_key source) keys)
+
+-- The plan was answered by this text in the session of the world, which was new and is in this state after so many rounds: its
+-- log holds all that was asked, in batches of at most the world's limit.
+abbrev pub AnswersAnew : WorldOf → PlanOf → StateOf SourceOf → List ℕ → ℕ → Type 0
+AnswersAnew w plan after text rounds = AnswersPlan may_tell (state_of (session_over w)) after plan text rounds
 
 -- ---- *Program output*, of one line
 
@@ -54,17 +68,18 @@ pub record IsFaulty (w : WorldOf) (request : RequestOf) (fault : RequestFault) :
 abbrev pub refusal_text : List ℕ → Option Place → List ℕ
 refusal_text message place = json_text (refusal_json message place)
 
--- the text of direct execution of a plan
-pub record IsExecuted (w : WorldOf) (plan : PlanOf) (text : List ℕ) : Type 0 where
-  pub answered : AnsweredOf
-  pub executed : direct_execution w plan ≡ Some answered
-  pub told : text ≡ answer_text answered
+-- The text answers a plan: it is that of direct execution, and was answered in a session that was new, with the headline.
+pub record IsAnsweredAnew (w : WorldOf) (plan : PlanOf) (text : List ℕ) : Type 0 where
+  pub direct : IsDirectText w plan text
+  pub after : StateOf SourceOf
+  pub rounds : ℕ
+  pub answers : AnswersAnew w plan after text rounds
 
--- The text answers a request over a world: the refusal of its first fault, with its message and its place, or the text of
--- direct execution of its plan.
+-- The text answers a request over a world: the refusal of its first fault, with its message and its place, or the answer of
+-- its plan, in a session of its own.
 pub data AnswersRequest (w : WorldOf) (request : RequestOf) (text : List ℕ) : Type 0 where
   faulty : {fault : RequestFault} → IsFaulty w request fault → text ≡ refusal_text (request_message fault) (request_place fault) → AnswersRequest w request text
-  planned : {plan : PlanOf} → IsPlanned w request plan → IsExecuted w plan text → AnswersRequest w request text
+  planned : {plan : PlanOf} → IsPlanned w request plan → IsAnsweredAnew w plan text → AnswersRequest w request text
 
 -- the text answers a line over a world
 pub data IsAnswer (w : WorldOf) (line text : List ℕ) : Type 0 where

@@ -1,15 +1,18 @@
 //! What answers request lines.
 
-ghost use Rattle.std.specs.Prelude.{◌≡◌, IfOk, codes, None, false, string_bytes};
+ghost use Rattle.std.specs.Prelude.{◌≡◌, IfOk, OnOk, codes, None, false, length, string_bytes};
 ghost use Rattle.gq_check.specs.Plans.{plan_of};
 ghost use Rattle.request_line.specs.Seen.{request_of};
 ghost use Rattle.world.specs.Requests.{is_want_of_memory, request_message, request_place};
-ghost use Rattle.world_answers.specs.Answers.{IsAnswer, AnswersRequest, IsExecuted, refusal_text};
+ghost use Rattle.load_rounds.specs.Sessions.{state_of};
+ghost use Rattle.world_answers.specs.Answers.{IsAnswer, AnswersRequest, AnswersAnew, refusal_text};
 
 use crate::sessions::Sessions;
 use answer_json::write_refusal;
+use csv_source::CsvSource;
 use gq_check::Plan;
 use line_serving::{Answerer, NoMemory};
+use load_rounds::{Answer, Session};
 use request_line::{Request, read_value};
 use serde_json::Value;
 use std::alloc::Global;
@@ -45,16 +48,25 @@ impl<'w> LineAnswers<'w> {
         LineAnswers { world }
     }
 
-    // The answer of a plan over this world, in a session of its own.
-    fn answer_plan(&self, alloc: Global, plan: &Plan<'_>) -> Result<String, NoMemory>
+    // The answer of a plan over this world, and the session of its own in which it was given: only its own calls write its
+    // log, so the contract says what was asked, and in which batches.
+    fn answer_plan(
+        &self,
+        alloc: Global,
+        plan: &Plan<'_>,
+    ) -> Result<(Session<CsvSource<'w>>, Answer), NoMemory>
         requires { (plan_of plan.now).bindings ≡ self.now.bindings }
-        ensures { IfOk result (λ text. IsExecuted self.now (plan_of plan.now) (string_bytes text)) }
+        ensures anew { IfOk result (λ given. AnswersAnew self.now (plan_of plan.now) (state_of given.0) (string_bytes given.1.text) given.1.rounds) }
+        // Each loader of the bindings has a source.
+        ensures each { OnOk result (length self.now.sources ≡ length self.now.bindings.loaders) }
     {
+        // A contract sees here that the plan is of a valid document.
+        let _ = plan.operation();
         let Ok(mut session) = self.world.session(alloc) else {
             return Err(NoMemory);
         };
         match session.answer(plan) {
-            Ok(answer) => Ok(answer.text),
+            Ok(answer) => Ok((session, answer)),
             Err(_) => Err(NoMemory),
         }
     }
@@ -69,7 +81,10 @@ impl<'w> LineAnswers<'w> {
             .world
             .plan(alloc, request.query, request.operation_name, values);
         match plan {
-            Ok(plan) => self.answer_plan(alloc, &plan),
+            Ok(plan) => match self.answer_plan(alloc, &plan) {
+                Ok((_, answer)) => Ok(answer.text),
+                Err(fault) => Err(fault),
+            },
             Err(fault) => refusal(alloc, &fault),
         }
     }

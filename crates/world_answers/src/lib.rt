@@ -2,8 +2,9 @@
 //!
 //! The layer above may rely on this: [`serve`] writes to each line of its input the one text that answers it over a
 //! [`World`](world::World). The text is a refusal, or that of direct execution, where each load is answered at once by the
-//! rows of its key (`specs/Answers.antt`): no memory, round, batch or limit changes it.
-//! [`Sessions`] gives the session of a world, of which each line has its own.
+//! rows of its key (`specs/Answers.antt`): no memory, round, batch or limit changes it. And it was answered with the headline
+//! (`load_rounds`, `specs/Headline.antt`) in the session of the world, which [`Sessions`] gives and of which each line has its
+//! own: a new one, over the world's sources, with its limit.
 #![tactic(auto)]
 
 mod answers;

@@ -31,7 +31,7 @@ returns-in-Ready-clause-answer g c = λ begun between.
     let was = rw (← c.self.view_is) at between in
     let done = rw (c.in-Ready.is, c.memory.ensures.modes, c.memory.ensures.pairs) at c.in_ok-text.ensures in
     rw (← c.self.view_is)
-    (between-answers g.S.Asks.may_tell (g.P.Execute.program plan) begun s c.self.inside.rounds (g.P.Execute.loaders plan) (g.P.Execute.text_of plan) (string_bytes c.in-Ready.text) was c.memory.ensures.limited (g.met.P.Execute.within plan) enough done.0 done.1 done.2 done.3)
+    (between-answers g.S.Asks.may_tell (g.P.Execute.program plan) begun s c.self.inside.rounds (g.P.Execute.loaders plan) (g.P.Execute.text_of plan) (string_bytes c.in-Ready.text) was c.memory.ensures.limited (g.met.P.Execute.within plan) enough done.0 done.1)
 
 pub cut-requires : goal.cut-requires
 cut-requires g c =

@@ -34,7 +34,7 @@ returns-in-Ready-clause-answer g c =
     let plan = c.args.plan.now in
     let done = rw (c.in-Ready.is, c.memory.ensures.modes, c.memory.ensures.pairs) at c.in_ok-text.ensures in
     in-all g.S.Asks.may_tell old cur (g.P.Execute.program plan) c.loop-wants.rounds (g.P.Execute.loaders plan) (g.P.Execute.text_of plan) (string_bytes c.in-Ready.text) c.loop-wants.invariant c.forget.ensures.limited (g.met.P.Execute.within plan) c.requires
-    done.0 done.1 done.2 done.3
+    done.0 done.1
 
 pub ask-requires : goal.ask-requires
 ask-requires g c =

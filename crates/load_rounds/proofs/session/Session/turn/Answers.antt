@@ -20,7 +20,7 @@ execute-requires g c =
 pub returns-in-Ready-clause-turned : goal.returns-in-Ready-clause-turned
 returns-in-Ready-clause-turned g c =
     let done = rw (c.in-Ready.is, c.memory.ensures.modes, c.memory.ensures.pairs) at c.in_ok-text.ensures in
-    (refl, done.0, done.1, done.2, done.3)
+    (refl, done.0, done.1)
 
 pub ask-requires : goal.ask-requires
 ask-requires g c =

@@ -4,21 +4,24 @@ use Rattle.serde_json.specs.View.{view}
 use Rattle.gq_check.specs.Plans.{plan_of}
 use Rattle.request_line.specs.Seen.{request_of}
 use Rattle.world.specs.Worlds.{WorldOf}
-use Rattle.world_answers.specs.Answers.{values_of, IsExecuted, AnswersRequest}
+use Rattle.load_rounds.specs.Sessions.{state_of}
+use Rattle.world_answers.specs.Answers.{values_of, IsAnsweredAnew, AnswersRequest}
+use Rattle.world_answers.proofs.Direct.{answer-direct}
 use Rattle.world_answers.proofs.Requests.{null-view, values-are, planned-text, faulty-text}
 use Rattle.world_answers.proofs.answers.LineAnswers.answer_request.Goals as goal
 
-pub returns-in-Ok : goal.returns-in-Ok
-returns-in-Ok c =
+pub returns-in-Ok-answer_plan : goal.returns-in-Ok-answer_plan
+returns-in-Ok-answer_plan c =
     let w : WorldOf = c.self.inside.world.now in
     let same : c.args.self.now ≡ w = cc c.self.view_is in
     let r = request_of c.args.request.now in
     let plan = c.in-Ok.plan in
+    let text = string_bytes c.in-Ok-answer_plan.answer.text in
     let values : view c.unwrap_or-values.result.now ≡ values_of r.variables = values-are c.args.request.now.variables _ c.unwrap_or-values.result c.unwrap_or-values.ensures null-view in
-    IfOk-weaker c.answer_plan.result _ _ (λ text executed.
-    subst (λ (x : WorldOf). AnswersRequest x r (string_bytes text)) (sym same)
-    (planned-text w r plan (view c.unwrap_or-values.result.now) (string_bytes text) values c.in-Ok.ensures.schema c.in-Ok.ensures.bindings c.in-Ok.ensures.ok
-    (subst (λ (x : WorldOf). IsExecuted x (plan_of plan) (string_bytes text)) same executed))) c.answer_plan.ensures
+    let answered : IsAnsweredAnew c.args.self.now (plan_of plan) text = answer-direct c.args.self.now _ (plan_of plan) text _ c.in-Ok-answer_plan.ensures.each c.in-Ok-answer_plan.ensures.anew in
+    subst (λ (x : WorldOf). AnswersRequest x r text) (sym same)
+    (planned-text w r plan (view c.unwrap_or-values.result.now) text values c.in-Ok.ensures.schema c.in-Ok.ensures.bindings c.in-Ok.ensures.ok
+    (subst (λ (x : WorldOf). IsAnsweredAnew x (plan_of plan) text) same answered))
 
 pub returns : goal.returns
 returns c =
