@@ -2,7 +2,7 @@
 
 ghost use Rattle.std.specs.Prelude.{◌≤◌, length, IfOk};
 ghost use Rattle.load_rounds.specs.Sessions.{state_of};
-ghost use Rattle.load_rounds.specs.Answerings.{IsOutput};
+ghost use Rattle.load_rounds.specs.Headline.{Answers};
 
 use crate::by_hand::answered;
 use crate::cases::{
@@ -73,7 +73,7 @@ fn blocked_on<S: Asks + Drop, P: Execute + Drop, R: Wait + RandomSource + AllocG
     plan: &P,
 ) -> io::Result<(Session<S>, Result<Answer, NoMemory>)>
     requires { P.loaders plan.now ≤ length session.loaders }
-    ensures { IfOk result (IsOutput S.may_tell (state_of session) (P.program plan.now) (P.text_of plan.now)) }
+    ensures { IfOk result (λ out. Answers S.may_tell (state_of session) (state_of out.0) (P.program plan.now) (P.text_of plan.now) out.1) }
 {
     block_on(rt, session.into_answering(plan))
 }

@@ -6,7 +6,7 @@ ghost use Rattle.load_memory.specs.Shelves.{IsOn, shown};
 ghost use Rattle.load_queue.specs.Orders.{OrderOf};
 ghost use Rattle.execution.specs.Rounds.{may_at, AreReplies};
 ghost use Rattle.load_rounds.specs.Sessions.{state_of};
-ghost use Rattle.load_rounds.specs.Executes.{IsAnswer};
+ghost use Rattle.load_rounds.specs.Headline.{Headline};
 ghost use Rattle.load_rounds.specs.Runs.{AreReceived};
 
 use crate::sample::{Short, push_keys};
@@ -88,7 +88,7 @@ pub fn answered<P: Execute, S: Asks, R: Wait + AllocGlobal>(
     noted: &mut String,
 ) -> Result<Answer, Fail>
     requires { P.loaders plan.now ≤ length session.old.loaders }
-    ensures { IfOk result (λ a. IsAnswer S.may_tell (state_of session.old) (state_of session.new)
+    ensures { IfOk result (λ a. Headline S.may_tell (state_of session.old) (state_of session.new)
         (P.program plan.now) (P.text_of plan.now) (string_bytes a.text) a.rounds) }
 {
     let mut run = session.begin(plan)?;
