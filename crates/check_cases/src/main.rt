@@ -1,0 +1,85 @@
+//! Runs the cases of validation and of plans: `document_parts`, `spread_graph`, `document_rules`, `typed_rules`, `merge_table`,
+//! `selection_members`, `field_merging` and `gq_check`. Documents stand with what each rule tells of them and with their verdicts,
+//! requests with their plans, and plain slow programs beside the real ones.
+#![tactic(auto)]
+
+mod fields;
+mod members;
+mod merging;
+mod parts;
+mod rules;
+mod slow_merging;
+mod slow_rules;
+mod tables;
+mod types;
+mod verdicts;
+
+use anyhow::{Result, bail};
+use case_files::{Asked, Teller};
+use document_parts::{Parts, condition_arguments};
+use gq_parser::parse;
+use gq_schema::Schema;
+use std::alloc::Global;
+use std::process::ExitCode;
+
+/// The teller of this crate.
+struct Validation;
+
+impl Teller for Validation {
+    fn told(&self, alloc: Global, asked: &Asked, text: &str) -> Result<String> {
+        match asked.words.as_str() {
+            "table" => tables::table(alloc, text),
+            "sets of a table" => tables::sets(alloc, text),
+            "members" => members::told(alloc, text),
+            "earliest" => rules::earliest(alloc, text),
+            "usages" => types::usages(alloc, text),
+            "overlaps" => types::overlaps(alloc, asked.file(0)?, text),
+            words => told_over(alloc, asked, words, text),
+        }
+    }
+}
+
+/// What is told over a schema.
+fn told_over(alloc: Global, asked: &Asked, words: &str, text: &str) -> Result<String> {
+    if let Some(request) = words.strip_prefix("plan ") {
+        return verdicts::plan(alloc, asked, request, text);
+    }
+    let schema = asked.file(0)?;
+    match words {
+        "verdict" => verdicts::verdict(alloc, schema, text),
+        "want of memory" => verdicts::no_memory(alloc),
+        words => told_of_parts(alloc, schema, words, text),
+    }
+}
+
+/// What is told of the parts of a document.
+fn told_of_parts(alloc: Global, schema: &str, words: &str, text: &str) -> Result<String> {
+    let schema = Schema::read(alloc, schema)?;
+    let condition = condition_arguments(alloc)?;
+    let document = parse(alloc, text)?;
+    let parts = Parts::new(alloc, &schema, &condition, &document)?;
+    match words {
+        "complexity" => rules::complexity(alloc, &parts),
+        "field merging" => merging::by_both(alloc, &parts),
+        "field merging alone" => merging::told(alloc, &parts),
+        words => told_by_name(alloc, &parts, words),
+    }
+}
+
+/// What a rule tells of a document, a list of its parts, or what spreads reach.
+fn told_by_name(alloc: Global, parts: &Parts, words: &str) -> Result<String> {
+    if let Some(title) = words.strip_prefix("rule ") {
+        return rules::by_both(alloc, title, parts);
+    }
+    if let Some(list) = words.strip_prefix("list of ") {
+        return parts::lines(alloc, list, parts);
+    }
+    match words.strip_prefix("reached from ") {
+        Some(owner) => rules::reached(alloc, owner, parts),
+        None => bail!("nothing can be asked so"),
+    }
+}
+
+fn main(rt: HostRuntime) -> ExitCode {
+    case_files::run(&rt, &Validation)
+}

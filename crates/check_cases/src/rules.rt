@@ -1,0 +1,150 @@
+//! What the rules tell of documents, beside plain slow programs for what they mean.
+
+use crate::slow_rules;
+use anyhow::{Context, Result, bail};
+use document_parts::{Broken, BrokenName, Earliest, Owner, Parts};
+use document_rules::*;
+use gq_lexer::Place;
+use spread_graph::{Graph, Walk, fragment_cycles, too_deep};
+use std::alloc::{AllocError, Global};
+use typed_rules::*;
+
+/// What a rule tells of a document that also looks at what spreads reach.
+fn broken_by_spreads<'d>(
+    alloc: Global,
+    title: &str,
+    parts: &Parts<'d>,
+) -> Result<Option<Broken<'d>>> {
+    let graph = Graph::new(alloc, parts)?;
+    Ok(match title {
+        "All Variable Uses Defined" => all_variable_uses_defined(alloc, parts, &graph)?,
+        "All Variables Used" => all_variables_used(alloc, parts, &graph)?,
+        "All Variable Usages Are Allowed" => variable_usages(alloc, parts, &graph)?,
+        "Fragment Spreads Must Not Form Cycles" => fragment_cycles(alloc, parts, &graph)?,
+        "too many levels" => too_deep(alloc, parts, &graph)?,
+        _ => bail!("no rule of this title"),
+    })
+}
+
+/// What a rule tells of a document that looks at names and places.
+fn broken_by_names<'d>(
+    alloc: Global,
+    title: &str,
+    parts: &Parts<'d>,
+) -> Result<Option<Broken<'d>>> {
+    Ok(match title {
+        "Operation Name Uniqueness" => operation_name_uniqueness(alloc, parts)?,
+        "Lone Anonymous Operation" => lone_anonymous_operation(parts),
+        "Argument Uniqueness" => argument_uniqueness(alloc, parts)?,
+        "Fragment Name Uniqueness" => fragment_name_uniqueness(alloc, parts)?,
+        "Fragments Must Be Used" => fragments_must_be_used(alloc, parts)?,
+        "Fragment Spread Target Defined" => fragment_spread_target_defined(parts),
+        "Directives Are Defined" => directives_are_defined(parts),
+        "Directives Are In Valid Locations" => directives_are_in_valid_locations(parts),
+        "Directives Are Unique Per Location" => directives_are_unique_per_location(alloc, parts)?,
+        "Variable Uniqueness" => variable_uniqueness(alloc, parts)?,
+        "not served" => not_served(parts),
+        _ => broken_by_spreads(alloc, title, parts)?,
+    })
+}
+
+/// What a rule tells of a document.
+pub fn broken<'d>(alloc: Global, title: &str, parts: &Parts<'d>) -> Result<Option<Broken<'d>>> {
+    Ok(match title {
+        "Field Selections" => field_selections(parts),
+        "Leaf Field Selections" => leaf_selections(parts),
+        "Argument Names" => argument_names(parts),
+        "Required Arguments" => required_arguments(parts),
+        "Fragment Spread Type Existence" => type_existence(parts),
+        "Fragments On Composite Types" => composite_types(parts),
+        "Fragment Spread Is Possible" => possible_spreads(parts),
+        "Values of Correct Type" => correct_values(parts),
+        "Variables Are Input Types" => input_variables(parts),
+        _ => broken_by_names(alloc, title, parts)?,
+    })
+}
+
+/// How it is told, with its place.
+pub fn displayed(alloc: Global, broken: Option<Broken>) -> Result<String, AllocError> {
+    let Some(broken) = broken else {
+        return String::from_str(alloc, "kept");
+    };
+    let (dollar, name) = match broken.name {
+        BrokenName::Plain(name) => ("", name),
+        BrokenName::Variable(name) => ("$", name),
+    };
+    let Place { line, column } = broken.place;
+    format!(in alloc; "{dollar}{name} {line}:{column}")
+}
+
+/// The rules that a slow program is beside.
+const SLOW: &[&str] = &[
+    "Operation Name Uniqueness",
+    "Argument Uniqueness",
+    "Fragment Name Uniqueness",
+    "Directives Are Unique Per Location",
+    "Variable Uniqueness",
+    "All Variable Uses Defined",
+    "All Variables Used",
+];
+
+/// What a rule tells of a document. Where one of the rules that have a slow program differs from that on it, this is told.
+pub fn by_both(alloc: Global, title: &str, parts: &Parts) -> Result<String> {
+    for title in SLOW {
+        let found = displayed(alloc, broken(alloc, title, parts)?)?;
+        let slow = displayed(alloc, slow_rules::broken(alloc, title, parts)?)?;
+        if found != slow {
+            return Ok(format!(in alloc; "{title}: {found}, and slowly {slow}")?);
+        }
+    }
+    Ok(displayed(alloc, broken(alloc, title, parts)?)?)
+}
+
+/// Whether a document is too complex.
+pub fn complexity(alloc: Global, parts: &Parts) -> Result<String> {
+    let told = if is_too_complex(parts) {
+        "too complex"
+    } else {
+        "served"
+    };
+    Ok(String::from_str(alloc, told)?)
+}
+
+fn owner_of(owner: &str) -> Result<Owner> {
+    match owner.split_once(' ').context("no number")? {
+        ("operation", number) => Ok(Owner::Operation(number.parse()?)),
+        (_, number) => Ok(Owner::Fragment(number.parse()?)),
+    }
+}
+
+/// The fragments that an operation or a fragment reaches, in the order in which a walk meets them. The walk is used again.
+pub fn reached(alloc: Global, owner: &str, parts: &Parts) -> Result<String> {
+    let graph = Graph::new(alloc, parts)?;
+    let mut walk = Walk::new(alloc);
+    walk.walk_from(&graph, Owner::Operation(0))?;
+    walk.walk_from(&graph, owner_of(owner)?)?;
+    Ok(format!(in alloc; "{:?}", walk.reached())?)
+}
+
+/// Something of a name and a place, as `a 1:9`.
+fn broken_of(text: &str) -> Result<Broken<'_>> {
+    let (name, place) = text.split_once(' ').context("no place")?;
+    let (line, column) = place.split_once(':').context("no column")?;
+    let place = Place {
+        line: line.parse()?,
+        column: column.parse()?,
+    };
+    Ok(Broken::named(name, place))
+}
+
+/// The earliest of some that are parted by bars, each added twice.
+pub fn earliest(alloc: Global, text: &str) -> Result<String> {
+    let mut earliest = Earliest::new();
+    for text in text.split('|') {
+        let broken = broken_of(text)?;
+        earliest.add(broken);
+        earliest.add_if(None);
+        earliest.add_if(Some(broken));
+    }
+    Ok(displayed(alloc, earliest.found)?)
+}

@@ -1,0 +1,91 @@
+//! Verdicts on documents, and plans of requests.
+
+use anyhow::{Context, Result};
+use case_files::{Asked, plain};
+use gq_check::{CheckFault, Plan, PrepareFault, check, prepare};
+use gq_parser::parse;
+use gq_schema::{Bindings, Input, Schema};
+use serde_json::Value;
+use std::alloc::{AllocError, Global};
+
+/// The message of a fault, and its line and column where it has a place.
+fn displayed_fault(alloc: Global, fault: &CheckFault) -> Result<String, AllocError> {
+    match fault.place() {
+        Some(place) => format!(in alloc; "{fault} at {}:{}", place.line, place.column),
+        None => format!(in alloc; "{fault}"),
+    }
+}
+
+/// The name of an operation, or nothing.
+fn name_or_dash(name: &Option<String>) -> &str {
+    match name {
+        Some(name) => name.as_str(),
+        None => "-",
+    }
+}
+
+/// A value that is a text, or what else it is.
+fn displayed_value(value: Option<&Input>) -> &str {
+    match value {
+        Some(Input::Text(text)) => text.as_str(),
+        Some(Input::Null) => "null",
+        Some(_) => "another",
+        None => "absent",
+    }
+}
+
+/// What a plan is: the name of its operation, its variable `$i`, whether it has a fragment `F`, and how many fragments and loaders.
+fn displayed_plan(alloc: Global, plan: &Plan) -> Result<String, AllocError> {
+    let name = name_or_dash(&plan.operation().name);
+    let value = displayed_value(plan.variable("i"));
+    let fragment = plan.fragment("F").is_some();
+    let fragments = plan.fragments().len();
+    let loaders = plan.loaders();
+    format!(in alloc;
+        "operation {name}, $i {value}, F {fragment}, {fragments} fragments, {loaders} loaders"
+    )
+}
+
+/// What is told of a document; `valid` where nothing is.
+pub fn verdict(alloc: Global, schema: &str, text: &str) -> Result<String> {
+    let schema = Schema::read(alloc, schema)?;
+    let document = parse(alloc, text)?;
+    match check(alloc, &schema, document) {
+        Ok(_) => Ok(String::from_str(alloc, "valid")?),
+        Err(fault) => Ok(displayed_fault(alloc, &fault)?),
+    }
+}
+
+/// The name of an operation after `of`, and the JSON of variables after `with`.
+fn request_of(alloc: Global, request: &str) -> Result<(Option<String>, Value)> {
+    let (name, variables) = request.split_once("with ").context("no variables")?;
+    let variables = Value::from_str(alloc, variables)?;
+    let name = match name.strip_prefix("of ") {
+        Some(name) => Some(plain(alloc, name.trim_end())?),
+        None => None,
+    };
+    Ok((name, variables))
+}
+
+/// What the plan of a valid document is, or the fault.
+pub fn plan(alloc: Global, asked: &Asked, request: &str, text: &str) -> Result<String> {
+    let (name, variables) = request_of(alloc, request)?;
+    let name = match &name {
+        Some(name) => Some(name.as_str()),
+        None => None,
+    };
+    let schema = Schema::read(alloc, asked.file(0)?)?;
+    let bindings = Bindings::read(alloc, &schema, asked.file(1)?)?;
+    let document = parse(alloc, text)?;
+    let checked = check(alloc, &schema, document)?;
+    match prepare(alloc, &schema, &bindings, checked, name, &variables) {
+        Ok(plan) => Ok(displayed_plan(alloc, &plan)?),
+        Err(fault) => Ok(format!(in alloc; "{fault}")?),
+    }
+}
+
+/// How want of memory is displayed.
+pub fn no_memory(alloc: Global) -> Result<String> {
+    let fault = PrepareFault::NoMemory;
+    Ok(format!(in alloc; "{fault}")?)
+}

@@ -1,0 +1,54 @@
+//! Runs the cases of `bindings_syntax`, `gq_schema` and `variable_values`: schemas and bindings with their faults and with what they
+//! say, and literals and variables with their values.
+#![tactic(auto)]
+
+mod bindings;
+mod lines;
+mod schema;
+mod values;
+
+use anyhow::{Result, bail};
+use case_files::{Asked, Teller};
+use std::alloc::Global;
+use std::fmt::Debug;
+use std::process::ExitCode;
+
+/// The teller of this crate.
+struct Schemas;
+
+impl Teller for Schemas {
+    fn told(&self, alloc: Global, asked: &Asked, text: &str) -> Result<String> {
+        match asked.words.as_str() {
+            "schema" => schema::fault(alloc, text),
+            "names" => schema::names(alloc, asked.file(0)?, text),
+            "loader" => bindings::loader(alloc, asked, text),
+            "binding" => bindings::binding(alloc, asked, text),
+            "bindings with another line" => bindings::with_another_line(alloc, asked, text),
+            "lines" => lines::told(alloc, text),
+            "third line" => lines::told_as_third(alloc, text),
+            "lines by both readers" => lines::told_by_both(alloc, text),
+            words => told_of_values(alloc, words, asked.file(0)?, text),
+        }
+    }
+}
+
+fn told_of_values(alloc: Global, words: &str, schema: &str, text: &str) -> Result<String> {
+    match words {
+        "literal" => values::literal(alloc, schema, text),
+        "variables" => values::variables(alloc, schema, text),
+        "want of memory" => values::no_memory(alloc),
+        _ => bail!("nothing can be asked so"),
+    }
+}
+
+/// A value, or a dash where there is none.
+fn shown<T: Debug + Drop>(alloc: Global, value: Option<T>) -> Result<String> {
+    Ok(match value {
+        Some(value) => format!(in alloc; "{value:?}")?,
+        None => String::from_str(alloc, "-")?,
+    })
+}
+
+fn main(rt: HostRuntime) -> ExitCode {
+    case_files::run(&rt, &Schemas)
+}
