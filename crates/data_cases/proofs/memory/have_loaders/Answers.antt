@@ -2,7 +2,7 @@ use Rattle.std.proofs.Common.{◌≡◌, ◌<◌, take, length, arith, ap}
 use Rattle.std.proofs.lemmas.List.{take_all}
 use Rattle.std.proofs.lemmas.List.Elements.{All-more}
 use Rattle.load_memory.specs.declared.reply.Reply.{Reply}
-use Rattle.data_tests.proofs.memory.have_loaders.Goals as goal
+use Rattle.data_cases.proofs.memory.have_loaders.Goals as goal
 
 pub loop-reply-preserved : goal.loop-reply-preserved
 loop-reply-preserved c =

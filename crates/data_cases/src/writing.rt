@@ -1,10 +1,9 @@
 //! Texts of answers and refusals, beside a plain writer.
 
-use crate::expect;
 use answer_json::{FieldError, PathPart, Response, write_answer, write_refusal};
+use anyhow::{Result, bail};
 use gq_lexer::Place;
 use std::alloc::{AllocError, Global};
-use std::test::Fail;
 
 fn text(alloc: Global, content: &str) -> Result<String, AllocError> {
     String::from_str(alloc, content)
@@ -93,7 +92,6 @@ fn plain_members(alloc: Global, members: &Vec<(String, Response)>) -> Result<Str
     Ok(out)
 }
 
-/// An object of a list, with a value as a text and as names.
 fn sample(alloc: Global, value: &str) -> Result<Response, AllocError> {
     let items = vec![in alloc;
         Response::Text(text(alloc, value)?),
@@ -109,85 +107,41 @@ fn sample(alloc: Global, value: &str) -> Result<Response, AllocError> {
     Ok(Response::Object(members))
 }
 
-#[test]
-fn a_plain_writer_agrees(rt: HostRuntime) -> Result<(), Fail> {
-    for value in [
-        "",
-        "a",
-        "\"\\/",
-        "\u{0}\u{1}\u{7}\u{8}\t\n\u{b}\u{c}\r\u{e}\u{1f} \u{7f}\u{80}é\u{2028}\u{ffff}\u{1F600}",
-    ] {
-        let response = sample(rt.alloc(), value)?;
-        let data = plain(rt.alloc(), &response)?;
-        let want = format!(in rt.alloc(); "{{\"data\":{data}}}")?;
-        expect(&rt, &write_answer(rt.alloc(), &response, &[]), &want, value);
+/// The text of an object of a list, with a text as a value and as names, or where the plain writer writes another.
+pub fn plain_told(alloc: Global, value: &str) -> Result<String> {
+    let response = sample(alloc, value)?;
+    let data = plain(alloc, &response)?;
+    let want = format!(in alloc; "{{\"data\":{data}}}")?;
+    let found = write_answer(alloc, &response, &[])?;
+    if found == want {
+        return Ok(found);
     }
-    Ok(())
+    Ok(format!(in alloc; "{found}, and plainly {want}")?)
 }
 
-#[test]
-fn responses(rt: HostRuntime) -> Result<(), Fail> {
-    let alloc = rt.alloc();
-    let null = write_answer(alloc, &Response::Null, &[]);
-    expect(&rt, &null, "{\"data\":null}", "null");
-    let title = object(
-        alloc,
-        "title",
-        Response::Text(text(alloc, "a\"b\nc\u{1}\u{1F600}")?),
-    )?;
-    expect(
-        &rt,
-        &write_answer(alloc, &title, &[]),
-        "{\"data\":{\"title\":\"a\\\"b\\nc\\u0001\u{1F600}\"}}",
-        "a title",
-    );
-    drop(title);
-    let escapes = Response::Text(text(alloc, "\\\u{8}\t\u{c}\r\u{1f}\u{7f}/é")?);
-    expect(
-        &rt,
-        &write_answer(alloc, &escapes, &[]),
-        "{\"data\":\"\\\\\\b\\t\\f\\r\\u001f\u{7f}/é\"}",
-        "escapes",
-    );
-    drop(escapes);
-    let list = write_answer(alloc, &Response::List(Vec::new(alloc)), &[]);
-    expect(&rt, &list, "{\"data\":[]}", "a list");
-    let object = write_answer(alloc, &Response::Object(Vec::new(alloc)), &[]);
-    expect(&rt, &object, "{\"data\":{}}", "an object");
-    let items = vec![in alloc;
-        Response::Int(-2147483648),
-        Response::Bool(true),
-        Response::Bool(false),
-    ]?;
-    let items = write_answer(alloc, &Response::List(items), &[]);
-    expect(&rt, &items, "{\"data\":[-2147483648,true,false]}", "items");
-    Ok(())
+/// A list without items, or of some numbers and truths.
+fn list(alloc: Global, name: &str) -> Result<Response, AllocError> {
+    let mut items = Vec::new(alloc);
+    if name == "some items" {
+        items.push(Response::Int(-2147483648))?;
+        items.push(Response::Bool(true))?;
+        items.push(Response::Bool(false))?;
+    }
+    Ok(Response::List(items))
 }
 
-#[test]
-fn members_stay_in_order(rt: HostRuntime) -> Result<(), Fail> {
-    let alloc = rt.alloc();
+/// A list of an object of two members, of which the second comes first in the alphabet.
+fn users(alloc: Global) -> Result<Response, AllocError> {
     let members = vec![in alloc;
         (text(alloc, "name")?, Response::Int(0)),
         (text(alloc, "id")?, Response::Null),
     ]?;
-    let users = object(
-        alloc,
-        "users",
-        Response::List(vec![in alloc; Response::Object(members)]?),
-    )?;
-    expect(
-        &rt,
-        &write_answer(alloc, &users, &[]),
-        "{\"data\":{\"users\":[{\"name\":0,\"id\":null}]}}",
-        "two members",
-    );
-    Ok(())
+    let items = vec![in alloc; Response::Object(members)]?;
+    object(alloc, "users", Response::List(items))
 }
 
-#[test]
-fn errors_come_first(rt: HostRuntime) -> Result<(), Fail> {
-    let alloc = rt.alloc();
+/// Null with two errors.
+fn null_with_errors(alloc: Global) -> Result<String> {
     let path = vec![in alloc;
         PathPart::Key(text(alloc, "users")?),
         PathPart::Item(3),
@@ -197,28 +151,37 @@ fn errors_come_first(rt: HostRuntime) -> Result<(), Fail> {
         error(alloc, "null where the type is non-null", 8, path)?,
         error(alloc, "no \"x\"", 4294967295, Vec::new(alloc))?,
     ];
-    expect(
-        &rt,
-        &write_answer(alloc, &Response::Null, &errors),
-        "{\"errors\":[{\"message\":\"null where the type is non-null\",\"locations\":[{\"line\":1,\"column\":8}],\"path\":[\"users\",3,\"name\"]},{\"message\":\"no \\\"x\\\"\",\"locations\":[{\"line\":1,\"column\":4294967295}],\"path\":[]}],\"data\":null}",
-        "two errors",
-    );
-    Ok(())
+    Ok(write_answer(alloc, &Response::Null, &errors)?)
 }
 
-#[test]
-fn refusals(rt: HostRuntime) {
+/// The response of a name, or the text behind `the text`.
+fn response(alloc: Global, name: &str) -> Result<Response> {
+    if let Some(value) = name.strip_prefix("the title ") {
+        return Ok(object(alloc, "title", Response::Text(text(alloc, value)?))?);
+    }
+    if let Some(value) = name.strip_prefix("the text ") {
+        return Ok(Response::Text(text(alloc, value)?));
+    }
+    match name {
+        "null" => Ok(Response::Null),
+        "no items" | "some items" => Ok(list(alloc, name)?),
+        "no members" => Ok(Response::Object(Vec::new(alloc))),
+        "members out of order" => Ok(users(alloc)?),
+        _ => bail!("no such response"),
+    }
+}
+
+/// The text of an answer or of a refusal.
+pub fn told(alloc: Global, name: &str) -> Result<String> {
     let place = Place { line: 1, column: 2 };
-    expect(
-        &rt,
-        &write_refusal(rt.alloc(), "unexpected token", Some(place)),
-        "{\"errors\":[{\"message\":\"unexpected token\",\"locations\":[{\"line\":1,\"column\":2}]}]}",
-        "a place",
-    );
-    expect(
-        &rt,
-        &write_refusal(rt.alloc(), "not a request", None),
-        "{\"errors\":[{\"message\":\"not a request\"}]}",
-        "no place",
-    );
+    if let Some(message) = name.strip_prefix("refused at 1:2 ") {
+        return Ok(write_refusal(alloc, message, Some(place))?);
+    }
+    if let Some(message) = name.strip_prefix("refused ") {
+        return Ok(write_refusal(alloc, message, None)?);
+    }
+    if name == "null with errors" {
+        return null_with_errors(alloc);
+    }
+    Ok(write_answer(alloc, &response(alloc, name)?, &[])?)
 }

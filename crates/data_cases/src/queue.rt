@@ -1,12 +1,13 @@
 //! Loaders, orders and wants, over a source that is told what to give.
+
 ghost use Rattle.std.specs.Prelude.{◌≤◌, ⊤, length};
 
-use crate::expect;
-use crate::memory::{key_of, keys_of, outcome_text, three_loaders};
+use crate::keys::{key_of, keys_of};
+use crate::memory::{outcome_text, three_loaders};
+use anyhow::{Context, Result, bail};
 use load_memory::{Item, Key, KeyMode, NoMemory, Reply};
 use load_queue::{FetchFault, Loader, Source, Wants};
 use std::alloc::{AllocError, Global};
-use std::test::Fail;
 
 /// A source that gives so many items, each a fault with its key's text, or fails.
 #[derive(Drop)]
@@ -53,14 +54,22 @@ fn push_keys(
     text.push(';')
 }
 
+/// The keys that spaces part; an empty text has none.
+fn keys(alloc: Global, text: &str) -> Result<Vec<Key>, AllocError> {
+    if text.is_empty() {
+        return Ok(Vec::new(alloc));
+    }
+    keys_of(alloc, text, ' ')
+}
+
 /// The loader's name and mode, the keys of the orders of the second of two rounds, and the log, in which that round is marked.
 fn two_rounds(
     alloc: Global,
     asked: &mut Loader<Scripted>,
-    texts: &[&str],
+    texts: &str,
 ) -> Result<String, NoMemory> {
-    asked.cut(5, 6, &keys_of(alloc, texts)?)?;
-    let orders = asked.cut_owned(5, 7, keys_of(alloc, texts)?)?;
+    asked.cut(5, 6, &keys(alloc, texts)?)?;
+    let orders = asked.cut_owned(5, 7, keys(alloc, texts)?)?;
     asked.mark_stored(7);
     let mut text = format!(in alloc; "{} {:?}|", asked.name(), asked.mode())?;
     for order in &orders {
@@ -80,7 +89,7 @@ fn two_rounds(
 }
 
 /// What is told of a loader of this limit that cuts keys, or why there is none.
-fn cut(alloc: Global, texts: &[&str], max: Option<u32>) -> Result<String, NoMemory> {
+fn cut(alloc: Global, texts: &str, max: Option<u32>) -> Result<String, NoMemory> {
     let source = Scripted { items: None };
     match Loader::new(alloc, "users", source, KeyMode::Exact, max) {
         Ok(mut asked) => two_rounds(alloc, &mut asked, texts),
@@ -89,7 +98,7 @@ fn cut(alloc: Global, texts: &[&str], max: Option<u32>) -> Result<String, NoMemo
 }
 
 /// The same by a plain slow program: each key goes into the last piece, until that is full.
-fn slowly_cut(alloc: Global, texts: &[&str], max: Option<u32>) -> Result<String, AllocError> {
+fn slowly_cut(alloc: Global, texts: &str, max: Option<u32>) -> Result<String, AllocError> {
     let most = match max {
         Some(most) if most == 0 || most > 65_535 => return String::from_str(alloc, "bad limit"),
         Some(most) => most,
@@ -98,7 +107,7 @@ fn slowly_cut(alloc: Global, texts: &[&str], max: Option<u32>) -> Result<String,
     let mut text = String::from_str(alloc, "users Exact|")?;
     for head in ["5: ", "6: ", "7 stored: "] {
         let mut last = 0_u32;
-        for key in texts {
+        for key in texts.split(' ').filter(|key| !key.is_empty()) {
             text.push_str(if last == 0 { head } else { "" })?;
             text.push_str(key)?;
             last = last.saturating_add(1);
@@ -110,58 +119,28 @@ fn slowly_cut(alloc: Global, texts: &[&str], max: Option<u32>) -> Result<String,
     Ok(text)
 }
 
-/// Keys, a limit, and what is told: no order has more keys than the limit.
-const CUTS: &[(&[&str], Option<u32>, &str)] = &[
-    (&[], Some(0), "bad limit"),
-    (&[], Some(65_535), "users Exact|"),
-    (&[], Some(65_536), "bad limit"),
-    (&[], Some(2), "users Exact|"),
-    (&[], None, "users Exact|"),
-    (
-        &["0", "1", "2"],
-        Some(2),
-        "users Exact|5: 0 1 ;5: 2 ;6: 0 1 ;6: 2 ;7 stored: 0 1 ;7 stored: 2 ;",
-    ),
-    (
-        &["0", "1", "2", "3"],
-        Some(2),
-        "users Exact|5: 0 1 ;5: 2 3 ;6: 0 1 ;6: 2 3 ;7 stored: 0 1 ;7 stored: 2 3 ;",
-    ),
-    (
-        &["0", "1"],
-        Some(1),
-        "users Exact|5: 0 ;5: 1 ;6: 0 ;6: 1 ;7 stored: 0 ;7 stored: 1 ;",
-    ),
-    (
-        &["0", "1", "2"],
-        Some(1),
-        "users Exact|5: 0 ;5: 1 ;5: 2 ;6: 0 ;6: 1 ;6: 2 ;7 stored: 0 ;7 stored: 1 ;7 stored: 2 ;",
-    ),
-    (
-        &["0", "1"],
-        Some(3),
-        "users Exact|5: 0 1 ;6: 0 1 ;7 stored: 0 1 ;",
-    ),
-    (
-        &["0", "1", "2"],
-        None,
-        "users Exact|5: 0 1 2 ;6: 0 1 2 ;7 stored: 0 1 2 ;",
-    ),
-];
-
-#[test]
-fn cuts_in_order(rt: HostRuntime) {
-    for (keys, max, want) in CUTS {
-        expect(&rt, &cut(rt.alloc(), keys, *max), want, want);
-        expect(&rt, &slowly_cut(rt.alloc(), keys, *max), want, want);
+/// What a loader cuts, as of `1 2 3 by 2` or `1 2 3 by none`: the real one and a plain slow program have to agree.
+pub fn cut_told(alloc: Global, text: &str) -> Result<String> {
+    let (texts, max) = text.split_once("by ").context("no limit")?;
+    let texts = texts.trim();
+    let max = if max == "none" {
+        None
+    } else {
+        Some(max.parse()?)
+    };
+    let told = cut(alloc, texts, max)?;
+    let slow = slowly_cut(alloc, texts, max)?;
+    if told == slow {
+        return Ok(told);
     }
+    Ok(format!(in alloc; "{told}, and slowly {slow}")?)
 }
 
 /// The reply to an order of three keys.
-fn run_first(alloc: Global, items: Option<usize>) -> Result<Reply, Fail> {
+fn run_first(alloc: Global, items: Option<usize>) -> Result<Reply> {
     let source = Scripted { items };
     let mut asked = Loader::new(alloc, "users", source, KeyMode::Exact, None)?;
-    let keys = keys_of(alloc, &["0", "1", "2"])?;
+    let keys = keys(alloc, "0 1 2")?;
     let orders = asked.cut(0, 1, keys.as_slice())?;
     let loaders = vec![in alloc; asked]?;
     for order in orders {
@@ -169,7 +148,7 @@ fn run_first(alloc: Global, items: Option<usize>) -> Result<Reply, Fail> {
             return Ok(order.run(alloc, loaders.as_slice())?);
         }
     }
-    return Err("no order")?;
+    bail!("no order")
 }
 
 /// A reply: its loader, its keys and its outcomes, each a key's own fault or the batch's.
@@ -184,71 +163,38 @@ fn reply_text(alloc: Global, reply: &Reply) -> Result<String, AllocError> {
     Ok(text)
 }
 
-/// How many items a source gives for three keys, if it doesn't fail, and what each key is told.
-const RUNS: &[(Option<usize>, &str)] = &[
-    (Some(3), "0: 0 1 2 ; own 0; own 1; own 2;"),
-    (
-        Some(2),
-        "0: 0 1 2 ; batch the source answered 2 results for 3 keys; batch the source answered 2 results for 3 keys; batch the source answered 2 results for 3 keys;",
-    ),
-    (
-        Some(12),
-        "0: 0 1 2 ; batch the source answered 12 results for 3 keys; batch the source answered 12 results for 3 keys; batch the source answered 12 results for 3 keys;",
-    ),
-    (
-        None,
-        "0: 0 1 2 ; batch no light; batch no light; batch no light;",
-    ),
-];
-
-#[test]
-fn runs_once(rt: HostRuntime) -> Result<(), Fail> {
-    for (items, want) in RUNS {
-        let reply = run_first(rt.alloc(), *items)?;
-        expect(&rt, &reply_text(rt.alloc(), &reply), want, want);
-    }
-    Ok(())
+/// The reply to three keys of a source that gives so many items, or `fails`.
+pub fn run_told(alloc: Global, text: &str) -> Result<String> {
+    let items = if text == "fails" {
+        None
+    } else {
+        Some(text.parse()?)
+    };
+    Ok(reply_text(alloc, &run_first(alloc, items)?)?)
 }
 
-/// Keys that are wanted in turn, of loaders that compare bytes and letters.
-const WANTED: &[(usize, Option<&str>)] = &[
-    (0, Some("1")),
-    (0, Some("1")),
-    (1, Some("Ada")),
-    (1, Some("aDA")),
-    (0, Some("Ada")),
-    (0, Some("ada")),
-    (1, None),
-];
-
-/// Whether each key is new, and then the keys that are wanted of each loader.
-fn wanted(alloc: Global, wants: &mut Wants) -> Result<String, NoMemory>
+/// Whether each key is new, and then the keys that are wanted of each of two loaders.
+fn wanted(alloc: Global, wants: &mut Wants, text: &str) -> Result<String>
     requires { 2 ≤ length wants.old }
 {
-    let mut text = String::new(alloc);
-    for asked in WANTED {
-        let (loader, key) = *asked;
-        let loader = if loader == 0 { 0 } else { 1 };
+    let mut told = String::new(alloc);
+    for asked in text.split(", ") {
+        let (loader, key) = asked.split_once(' ').context("no key")?;
+        let loader = if loader == "0" { 0 } else { 1 };
         let is_new = wants.add(loader, key_of(alloc, key)?)?;
-        text.push_str(if is_new { "new " } else { "known " })?;
+        told.push_str(if is_new { "new " } else { "known " })?;
     }
-    push_keys(alloc, &mut text, 0, "", wants.keys(0))?;
-    push_keys(alloc, &mut text, 1, "", wants.keys(1))?;
-    Ok(text)
+    push_keys(alloc, &mut told, 0, "", wants.keys(0))?;
+    push_keys(alloc, &mut told, 1, "", wants.keys(1))?;
+    Ok(told)
 }
 
-#[test]
-fn wants_the_first_of_equals(rt: HostRuntime) -> Result<(), Fail> {
-    let memory = three_loaders(rt.alloc())?;
+/// What is told of keys that are wanted in turn, as `0 Ada, 1 aDA`, of a loader that compares bytes and one that compares letters.
+pub fn wants_told(alloc: Global, text: &str) -> Result<String> {
+    let memory = three_loaders(alloc)?;
     if memory.modes().len() < 2 {
-        return Err("no loaders")?;
+        bail!("no loaders");
     }
-    let mut wants = Wants::new(rt.alloc(), &memory)?;
-    expect(
-        &rt,
-        &wanted(rt.alloc(), &mut wants),
-        "new known new known new new new 0: 1 Ada ada ;1: Ada all ;",
-        "two loaders",
-    );
-    Ok(())
+    let mut wants = Wants::new(alloc, &memory)?;
+    wanted(alloc, &mut wants, text)
 }

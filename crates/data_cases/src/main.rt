@@ -1,0 +1,22 @@
+//! Runs the cases of the crates below worlds: `load_memory`, `load_queue`, `csv_source`, `line_serving`, `request_line` and
+//! `answer_json`. docs/TESTING.md says how cases are written.
+#![tactic(auto)]
+
+mod devices;
+mod keys;
+mod memory;
+mod queue;
+mod readers;
+mod requests;
+mod serving;
+mod sources;
+mod tables;
+mod told;
+mod writing;
+
+use std::process::ExitCode;
+use told::Data;
+
+fn main(rt: HostRuntime) -> ExitCode {
+    case_files::run(&rt, &Data { rt: &rt })
+}

@@ -1,0 +1,117 @@
+//! Tables as sources.
+
+use crate::keys::{keys_of, mode_of};
+use crate::tables::column_of;
+use anyhow::{Context, Result, bail};
+use csv_source::{ColumnIndex, CsvSource, Table};
+use load_memory::{Item, Key, KeyMode, Sheet};
+use load_queue::{PerKey, Source};
+use std::alloc::{AllocError, Global};
+
+/// What is asked of a table: a column to go by, how its keys are compared, another column, and keys, as `name fold: id of Ada|Bob`.
+#[derive(Clone, Copy)]
+struct Asked<'a> {
+    by: &'a str,
+    mode: KeyMode,
+    column: &'a str,
+    keys: &'a str,
+}
+
+fn asked_of(text: &str) -> Result<Asked<'_>> {
+    let (by, rest) = text.split_once(": ").context("no column to go by")?;
+    let (by, mode) = by.split_once(' ').context("no mode")?;
+    let (column, keys) = rest.split_once(" of ").context("no column")?;
+    Ok(Asked {
+        by,
+        mode: mode_of(mode),
+        column,
+        keys,
+    })
+}
+
+/// The texts that a source gives in a column for keys that bars part and then for all, each item after a bar.
+fn fetched(alloc: Global, source: &CsvSource<'_>, keys: &str, column: &str) -> Result<String> {
+    let mut keys = keys_of(alloc, keys, '|')?;
+    keys.push(Key::All)?;
+    let Ok(items) = source.fetch(alloc, keys.as_slice()) else {
+        bail!("no answer");
+    };
+    let mut told = String::new(alloc);
+    for item in &items {
+        told.push('|')?;
+        if let Item::Rows(rows) = item {
+            let texts = column_of(alloc, rows.as_slice(), column)?;
+            told.push_str(&texts)?;
+        }
+    }
+    Ok(told)
+}
+
+/// What a source gives that goes by a column, or why there is none.
+pub fn by_told(alloc: Global, table: &str, text: &str) -> Result<String> {
+    let table = Table::read(alloc, table.as_bytes())?;
+    let asked = asked_of(text)?;
+    match CsvSource::by(alloc, &table, asked.by, asked.mode) {
+        Ok(source) => fetched(alloc, &source, asked.keys, asked.column),
+        Err(fault) => Ok(format!(in alloc; "{fault}")?),
+    }
+}
+
+/// What a source of an index gives.
+pub fn by_index_told(alloc: Global, table: &str, text: &str) -> Result<String> {
+    let table = Table::read(alloc, table.as_bytes())?;
+    let asked = asked_of(text)?;
+    let index = ColumnIndex::new(alloc, &table, asked.by, asked.mode)?;
+    fetched(
+        alloc,
+        &CsvSource::of_index(&index),
+        asked.keys,
+        asked.column,
+    )
+}
+
+/// What a source of all rows gives, behind its mode.
+pub fn all_told(alloc: Global, table: &str, text: &str) -> Result<String> {
+    let table = Table::read(alloc, table.as_bytes())?;
+    let (column, keys) = text.split_once(" of ").context("no column")?;
+    let source = CsvSource::all(&table);
+    let found = fetched(alloc, &source, keys, column)?;
+    Ok(format!(in alloc; "{:?} {found}", source.mode())?)
+}
+
+/// For each key, after a bar, the first fields of the rows whose second field is that key, by the plain definition; none for all.
+fn filtered(alloc: Global, sheet: &Sheet, asked: &Asked<'_>) -> Result<String, AllocError> {
+    if sheet.width() != 2 {
+        return String::from_str(alloc, "other columns");
+    }
+    let mut told = String::new(alloc);
+    for key in asked.keys.split('|') {
+        told.push('|')?;
+        for place in 0..sheet.len() {
+            let field = sheet.field(place, 1);
+            let is_same = match asked.mode {
+                KeyMode::Exact => field == key,
+                KeyMode::FoldAscii => field.eq_ignore_ascii_case(key),
+            };
+            if is_same && !field.is_empty() {
+                told.push_str(sheet.field(place, 0))?;
+                told.push(';')?;
+            }
+        }
+    }
+    told.push('|')?;
+    Ok(told)
+}
+
+/// What a source gives of the first column that goes by the second: the real one and a plain filter have to agree.
+pub fn filter_told(alloc: Global, table: &str, text: &str) -> Result<String> {
+    let table = Table::read(alloc, table.as_bytes())?;
+    let asked = asked_of(text)?;
+    let source = CsvSource::by(alloc, &table, asked.by, asked.mode)?;
+    let told = fetched(alloc, &source, asked.keys, asked.column)?;
+    let plain = filtered(alloc, table.sheet(), &asked)?;
+    if told == plain {
+        return Ok(told);
+    }
+    Ok(format!(in alloc; "{told}, and by the filter {plain}")?)
+}
