@@ -56,32 +56,58 @@ pub fn verdict(alloc: Global, schema: &str, text: &str) -> Result<String> {
     }
 }
 
+/// Which operation of a document is asked, with which variables.
+#[derive(Drop)]
+struct Request {
+    name: Option<String>,
+    variables: Value,
+}
+
+/// A schema with its bindings.
+#[derive(Drop)]
+struct Served {
+    schema: Schema,
+    bindings: Bindings,
+}
+
 /// The name of an operation after `of`, and the JSON of variables after `with`.
-fn request_of(alloc: Global, request: &str) -> Result<(Option<String>, Value)> {
+fn request_of(alloc: Global, request: &str) -> Result<Request> {
     let (name, variables) = request.split_once("with ").context("no variables")?;
     let variables = Value::from_str(alloc, variables)?;
     let name = match name.strip_prefix("of ") {
         Some(name) => Some(plain(alloc, name.trim_end())?),
         None => None,
     };
-    Ok((name, variables))
+    Ok(Request { name, variables })
+}
+
+/// What the first two files say.
+fn served(alloc: Global, asked: &Asked) -> Result<Served> {
+    let schema = Schema::read(alloc, asked.file(0)?)?;
+    let bindings = Bindings::read(alloc, &schema, asked.file(1)?)?;
+    Ok(Served { schema, bindings })
 }
 
 /// What the plan of a valid document is, or the fault.
-pub fn plan(alloc: Global, asked: &Asked, request: &str, text: &str) -> Result<String> {
-    let (name, variables) = request_of(alloc, request)?;
-    let name = match &name {
+fn planned(alloc: Global, served: &Served, request: &Request, text: &str) -> Result<String> {
+    let document = parse(alloc, text)?;
+    let checked = check(alloc, &served.schema, document)?;
+    let name = match &request.name {
         Some(name) => Some(name.as_str()),
         None => None,
     };
-    let schema = Schema::read(alloc, asked.file(0)?)?;
-    let bindings = Bindings::read(alloc, &schema, asked.file(1)?)?;
-    let document = parse(alloc, text)?;
-    let checked = check(alloc, &schema, document)?;
-    match prepare(alloc, &schema, &bindings, checked, name, &variables) {
+    let Served { schema, bindings } = served;
+    match prepare(alloc, schema, bindings, checked, name, &request.variables) {
         Ok(plan) => Ok(displayed_plan(alloc, &plan)?),
         Err(fault) => Ok(format!(in alloc; "{fault}")?),
     }
+}
+
+/// What the plan of a valid document is, or the fault, of a request over the schema and bindings of the first two files.
+pub fn plan(alloc: Global, asked: &Asked, request: &str, text: &str) -> Result<String> {
+    let request = request_of(alloc, request)?;
+    let served = served(alloc, asked)?;
+    planned(alloc, &served, &request, text)
 }
 
 /// How want of memory is displayed.
