@@ -82,7 +82,7 @@ fn request_of(alloc: Global, request: &str) -> Result<Request> {
 }
 
 /// What the first two files say.
-fn served(alloc: Global, asked: &Asked) -> Result<Served> {
+fn read_served(alloc: Global, asked: &Asked) -> Result<Served> {
     let schema = Schema::read(alloc, asked.file(0)?)?;
     let bindings = Bindings::read(alloc, &schema, asked.file(1)?)?;
     Ok(Served { schema, bindings })
@@ -106,7 +106,7 @@ fn planned(alloc: Global, served: &Served, request: &Request, text: &str) -> Res
 /// What the plan of a valid document is, or the fault, of a request over the schema and bindings of the first two files.
 pub fn plan(alloc: Global, asked: &Asked, request: &str, text: &str) -> Result<String> {
     let request = request_of(alloc, request)?;
-    let served = served(alloc, asked)?;
+    let served = read_served(alloc, asked)?;
     planned(alloc, &served, &request, text)
 }
 
