@@ -101,7 +101,7 @@ got-below [] i y e = cc
 got-below (z ∷ ys) zero y e = omega arith
 got-below (z ∷ ys) (suc i) y e = let rest = got-below ys i y e in omega (arith, rest)
 
-same-count : (fs : List Fragment) → under.count_fragments fs ≡ count_fragments fs
+pub same-count : (fs : List Fragment) → under.count_fragments fs ≡ count_fragments fs
 same-count [] = refl
 same-count (f ∷ fs) = ap (λ (n : ℕ). count_in f.selection_set + n) (same-count fs)
 
