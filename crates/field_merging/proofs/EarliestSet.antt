@@ -1,8 +1,8 @@
 -- Of the sets in which two fields clash the one with the earliest `{` is told.
-use Rattle.std.proofs.Common.{◌≡◌, ◌∙◌, sym, ap, subst, refl, ℕ, ◌<◌, inl, inr, Bool, true, false, ◌||◌, ◌&&◌, ◌==◌, cond, List, [], ◌∷◌, Option, Some, None}
+use Rattle.std.proofs.Common.{◌≡◌, ◌∙◌, sym, ap, subst, refl, ℕ, ◌<◌, inl, inr, Bool, true, false, ◌&&◌, ◌==◌, cond, List, [], ◌∷◌, Option, Some}
 use Rattle.std.specs.Prelude.{filter, filter_map, find, fold}
 use Rattle.std.specs.List.{list_any}
-use Rattle.std.specs.Option.{option_map, option_and_then}
+use Rattle.std.specs.Option.{option_and_then}
 use Rattle.std.proofs.lemmas.Bool.{or_cases, or_left, or_right, and_from, both_ways, eqb-true, eq-eqb}
 use Rattle.gq_lexer.specs.Place.{is_before}
 use Rattle.gq_lexer.specs.declared.place.Place.{Place}

@@ -1,6 +1,6 @@
 -- A document's parts list its fields as they are written.
-use Rattle.std.proofs.Common.{◌≡◌, ◌∙◌, sym, ap, subst, refl, ℕ, ◌+◌, ◌≤◌, List, [], ◌∷◌, ◌++◌, length, map, Option, Some, None, arith}
-use Rattle.std.specs.Prelude.{slice_get, filter_map}
+use Rattle.std.proofs.Common.{◌≡◌, ◌∙◌, sym, ap, refl, ℕ, ◌+◌, ◌≤◌, List, [], ◌∷◌, ◌++◌, length, map, Option, Some, None, arith}
+use Rattle.std.specs.Prelude.{slice_get}
 use Rattle.std.specs.Option.{option_map}
 use Rattle.std.proofs.lemmas.List.{map-append, length-map}
 use Rattle.std.proofs.lemmas.Option.{slice_get-map}
@@ -13,7 +13,7 @@ use Rattle.document_parts.specs.declared.part.Owner.{Owner}
 use Rattle.document_parts.specs.declared.part.Owner.TheVariants as owner
 use Rattle.document_parts.specs.Parts.{FieldPart, SelectionPart}
 use Rattle.document_parts.specs.Parents.{known_field, inside_operation, inside_field, inside_condition, inside_inline}
-use Rattle.document_parts.specs.Selections.{selections_in, selections_among, selections_from, selections_below, operation_selections, fragment_selections, document_selections}
+use Rattle.document_parts.specs.Selections.{selections_in, selections_among, selections_from, selections_below, operation_selections, fragment_selections}
 use Rattle.document_parts.specs.Listing.{field_part, fields_in, fields_of}
 use Rattle.field_merging.specs.Numbered.{as_written, count_fragments}
 use Rattle.field_merging.proofs.Joining.{same-count}

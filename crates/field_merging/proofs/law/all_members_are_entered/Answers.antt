@@ -1,4 +1,4 @@
-use Rattle.std.proofs.Common.{◌≡◌, refl, ◌+◌, ◌-◌, length, arith}
+use Rattle.std.proofs.Common.{refl, ◌-◌, length, arith}
 use Rattle.selection_members.specs.Fragments.{place_in}
 use Rattle.selection_members.proofs.RankedLaws.{ranked-fixed}
 use Rattle.field_merging.proofs.Naming.{unfolded}
