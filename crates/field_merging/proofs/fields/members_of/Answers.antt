@@ -22,5 +22,5 @@ returns-in-Some c = λ numbers spread f own here i.
     let found : slice_get rows number ≡ Some row = slice_get_read rows (length rows) number row refl c.in-Some.ensures.lookup.3.0 c.in-Some.ensures.lookup.1 in
     let copied : has c.add_all.new.self i ≡ has row i = c.add_all.ensures i ∙ ap (λ (b : Bool). b || has row i) (c.new-row.ensures i) in
     copied ∙ ∥∥₁_elim parts.listed (Bool-set _ _) (λ listed.
-      own-row numbers spread 0 (belows (written_fields d)) rows number number f.below row own (omega arith)
-      (below-at (tree_of parts.schema.now) d (map field_part_of parts.fields.items) listed number f here) found i)
+    own-row numbers spread 0 (belows (written_fields d)) rows number number f.below row own (omega arith)
+    (below-at (tree_of parts.schema.now) d (map field_part_of parts.fields.items) listed number f here) found i)

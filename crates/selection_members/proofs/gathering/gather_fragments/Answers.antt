@@ -26,11 +26,11 @@ loop-fragment-preserved c =
     let next = c.in_ok-next.ensures.next in
     let many : c.in_ok-next.field-0.next ≡ n + length here = next ∙ ap (λ k. n + k) (sym (belows-length (written_in set) ∙ in-count set)) in
     λ spread knows.
-          let all = belows (written_fragments (map fragment_of xs)) in
-          let old = c.args.rows.now.items in
-          let a : Adding numbers all spread c.args.first n (here ++ belows (written_fragments rest)) old c.loop-fragment.rows.items =
-          subst (λ (bs : List Below). Adding numbers all spread c.args.first n bs old c.loop-fragment.rows.items) parts (c.loop-fragment.invariant spread knows) in
-          adding-more numbers all spread c.args.first n c.in_ok-next.field-0.next here (belows (written_fragments rest)) old c.loop-fragment.rows.items c.gather_set.new.rows.items a many (c.in_ok-next.ensures.rows spread knows)
+    let all = belows (written_fragments (map fragment_of xs)) in
+    let old = c.args.rows.now.items in
+    let a : Adding numbers all spread c.args.first n (here ++ belows (written_fragments rest)) old c.loop-fragment.rows.items =
+    subst (λ (bs : List Below). Adding numbers all spread c.args.first n bs old c.loop-fragment.rows.items) parts (c.loop-fragment.invariant spread knows) in
+    adding-more numbers all spread c.args.first n c.in_ok-next.field-0.next here (belows (written_fragments rest)) old c.loop-fragment.rows.items c.gather_set.new.rows.items a many (c.in_ok-next.ensures.rows spread knows)
 
 pub returns : goal.returns
 returns c = λ spread knows.

@@ -7,6 +7,6 @@ use Rattle.selection_members.proofs.Adding.{Adding}
 use Rattle.selection_members.proofs.gathering.gather_fragments.Given as goal
 
 abbrev pub invariant-loop-fragment : goal.invariant-loop-fragment
-invariant-loop-fragment l = 
+invariant-loop-fragment l =
     (spread : List ℕ → List ℕ) → Knows l.walk.rows.now l.walk.numbers.now l.walk.fragments.now (target_at l.walk.targets.now) spread
-      → Adding l.walk.numbers.now (belows (written_fragments (map fragment_of l.fragments))) spread l.first l.next (belows (written_fragments (map fragment_of (drop l.fragment-index l.fragments)))) l.initial.rows.items l.rows.items
+    → Adding l.walk.numbers.now (belows (written_fragments (map fragment_of l.fragments))) spread l.first l.next (belows (written_fragments (map fragment_of (drop l.fragment-index l.fragments)))) l.initial.rows.items l.rows.items
