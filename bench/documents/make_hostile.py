@@ -69,6 +69,12 @@ def levels(count):
     return "{user(id:1)" + "{best" * (count - 2) + "{name" + "}" * count
 
 
+def levels_over_spreads(count, size):
+    """So many fields, one inside another, over as many spreads as there is room for."""
+    head, tail = "{user(id:1)" + "{best" * (count - 2) + "{", "}" * count + " fragment F on User{name}"
+    return head + "...F " * ((size - len(head) - len(tail)) // 5) + tail
+
+
 def long_arguments(count, size):
     """Fields of one name and response key whose arguments differ in the last character."""
     each = size // count - 16
@@ -89,6 +95,7 @@ DOCUMENTS = {
     "spreads_only": spreads_only(20000),
     "mixed_parents": mixed_parents(12),
     "levels": levels(128),
+    "levels_over_spreads": levels_over_spreads(127, MIB),
     "long_arguments": long_arguments(450, MIB - 20000),
     "first_level_clash": "{user(id:1){" + "name " * 900 + "name:id}}",
     "deep_clash": "{user(id:1)" + "{best" * 126 + "{name name:id" + "}" * 128,

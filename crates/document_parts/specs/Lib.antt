@@ -1,4 +1,5 @@
 pub mod Broken
+pub mod Pieces
 pub mod Parts
 pub mod Parents
 pub mod Fragments

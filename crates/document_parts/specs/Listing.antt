@@ -10,7 +10,7 @@ use Rattle.document_parts.specs.declared.part.Owner.{Owner}
 use Rattle.document_parts.specs.declared.part.Owner.TheVariants as owner
 use Rattle.document_parts.specs.declared.part.DirectiveLocation.{DirectiveLocation}
 use Rattle.document_parts.specs.declared.part.DirectiveLocation.TheVariants as location
-use Rattle.document_parts.specs.Parts.{SelectionPart, FieldPart, SpreadPart, InlinePart, SetPart, VariablePart, DirectiveList, ArgumentList, ArgumentPart, VariableUse, PartsOf}
+use Rattle.document_parts.specs.Pieces.{SelectionPart, FieldPart, SpreadPart, InlinePart, SetPart, VariablePart, DirectiveList, ArgumentList, ArgumentPart, VariableUse, PartsOf}
 use Rattle.document_parts.specs.Fragments.{fragment_place}
 use Rattle.document_parts.specs.Parents.{inside_operation, inside_condition}
 use Rattle.document_parts.specs.Selections.{document_selections}
@@ -167,6 +167,10 @@ listed_arguments l = map (argument_with l.owner l.definitions) l.arguments
 
 abbrev pub fields_in : List SelectionPart → List FieldPart
 fields_in parts = filter_map field_part parts
+
+-- the fields of a document, where each has its place in the list as its number, from 0
+abbrev pub fields_of : List schema.Definition → Document → List FieldPart
+fields_of defs d = fields_in (document_selections defs d)
 
 abbrev pub sets_in : List schema.Definition → Document → List SelectionPart → List SetPart
 sets_in defs d parts = (operation_sets defs 0 d.operations ++ fragment_sets defs 0 d.fragments) ++ filter_map set_part parts

@@ -4,7 +4,7 @@ use Rattle.gq_parser.specs.Tree.{Field, Spread, Inline, Below, nothing_below, be
 use Rattle.schema_syntax.specs.Tree.{Definition}
 use Rattle.document_parts.specs.declared.part.Owner.{Owner}
 use Rattle.document_parts.specs.declared.part.Owner.TheVariants as owner
-use Rattle.document_parts.specs.Parts.{SelectionPart}
+use Rattle.document_parts.specs.Pieces.{SelectionPart}
 use Rattle.document_parts.specs.Parents.{known_field, inside_operation, inside_field, inside_condition, inside_inline}
 
 abbrev mutual

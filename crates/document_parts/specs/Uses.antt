@@ -4,7 +4,7 @@ use Rattle.std.specs.Option.{option_and_then, option_map}
 use Rattle.gq_parser.specs.Tree.{TypeTree, Named, ListOf, Value, Variable, Int, Float, Text, Boolean, Null, Enum, Array, Object, Values, no_value, and_value, Members, no_member, and_member}
 use Rattle.schema_syntax.specs.Tree as schema
 use Rattle.document_parts.specs.declared.part.Owner.{Owner}
-use Rattle.document_parts.specs.Parts.{Location, VariableUse, ArgumentPart}
+use Rattle.document_parts.specs.Pieces.{Location, VariableUse, ArgumentPart}
 
 -- the location of an argument's value
 abbrev pub argument_location : schema.Argument → Location

@@ -1,10 +1,12 @@
 //! All parts of a document.
 
-ghost use Rattle.std.specs.Prelude.{◌≡◌, ◌∷◌, [], IfOk};
+ghost use Rattle.std.specs.Prelude.{◌≡◌, ◌∷◌, [], map, IfOk};
 ghost use Rattle.gq_parser.specs.Tree.{document_of};
 ghost use Rattle.schema_syntax.specs.Tree.{arguments_of};
 ghost use Rattle.gq_schema.specs.Types.{tree_of};
 ghost use Rattle.document_parts.specs.Fragments.{fragment_place, AreNumbers};
+ghost use Rattle.document_parts.specs.Listing.{fields_of};
+ghost use Rattle.document_parts.specs.Pieces.{field_part_of};
 
 use crate::fragments::{Numbers, fragment_numbers};
 use crate::part::{
@@ -38,6 +40,7 @@ pub struct Parts<'d> {
     pub uses: Vec<VariableUse<'d>>,
     fragments: Numbers<'d>,
     ghost numbered: { AreNumbers (document_of document.now).fragments fragments },
+    ghost listed: { ∥ map field_part_of fields.items ≡ fields_of (tree_of schema.now) (document_of document.now) ∥₁ },
 }
 
 impl<'d> Parts<'d> {

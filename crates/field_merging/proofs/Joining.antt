@@ -101,7 +101,7 @@ got-below [] i y e = cc
 got-below (z ∷ ys) zero y e = omega arith
 got-below (z ∷ ys) (suc i) y e = let rest = got-below ys i y e in omega (arith, rest)
 
-same-count : (fs : List Fragment) → under.count_fragments fs ≡ count_fragments fs
+pub same-count : (fs : List Fragment) → under.count_fragments fs ≡ count_fragments fs
 same-count [] = refl
 same-count (f ∷ fs) = ap (λ (n : ℕ). count_in f.selection_set + n) (same-count fs)
 
@@ -141,7 +141,7 @@ module _ (p : PartsOf) (numbers order : List ℕ) (xs : List table.Field) (rows 
   renumbered : IsRenumbered D E n (to numbers) (λ i. slice_index_or order i 0) (members_at p)
   renumbered = renumbers p numbers order xs are stands placed known
 
-  reflexive : (a : ℕ) → a < n → D.one_key a a ≡ true
+  pub reflexive : (a : ℕ) → a < n → D.one_key a a ≡ true
   reflexive a h = let f = there p.fields a h in test-is have_one_key p.fields a a f.0 f.0 f.1 f.1 ∙ same-key.own f.0
 
   tells : (a b : ℕ) → a < n → b < n → Tells (Merges D) D a b (clash rows numbers a b)

@@ -4,3 +4,4 @@ pub mod Members
 pub mod Numbered
 pub mod Rule
 pub mod Told
+pub mod Selected

@@ -3,13 +3,17 @@ use Rattle.std.specs.Prelude.{◌≡◌, ◌<◌, ◌≤◌, ◌+◌, ℕ, List,
 use Rattle.merge_table.specs.declared.field.Field as table
 use Rattle.merge_table.specs.Numbered.{is_in}
 use Rattle.merge_table.specs.Sets.{has}
-use Rattle.gq_parser.specs.Tree.{Fragment}
+use Rattle.gq_parser.specs.Tree.{Field, Selection, Fragment}
 use Rattle.selection_members.specs.Members.{count_in, count_below, members_below}
 use Rattle.selection_members.specs.Walks.{to, renumbered}
 use Rattle.document_parts.specs.Parts.{FieldPart, PartsOf}
 use Rattle.field_merging.specs.declared.attributes.Attribute.TheVariants.{Key, Selected, Parent, Shape}
 use Rattle.field_merging.specs.Attributes.{number_of}
 use Rattle.field_merging.specs.Compare.{is_object_parent}
+
+-- a field as it is written
+abbrev pub as_written : FieldPart → Selection
+as_written f = Field f.place f.alias f.name f.arguments f.directives f.below
 
 -- what the table says of the field of the number a, where `spread` gives the members of fragments
 pub record IsNumbered (p : PartsOf) (numbers : List ℕ) (spread : List ℕ → List ℕ) (a : ℕ) (f : FieldPart) (x : table.Field) : Type 0 where

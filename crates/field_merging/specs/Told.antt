@@ -1,6 +1,7 @@
 -- Which sets of a document are told, where it is known which pairs of fields clash.
-use Rattle.std.specs.Prelude.{ℕ, Bool, List, length, Option, filter_map}
+use Rattle.std.specs.Prelude.{ℕ, Bool, List, length, Option, Some, None, filter_map, fold, if◌then◌else◌}
 use Rattle.std.specs.Option.{option_map}
+use Rattle.gq_lexer.specs.Place.{is_before}
 use Rattle.document_parts.specs.Broken.{BrokenOf}
 use Rattle.document_parts.specs.Parts.{PartsOf}
 use Rattle.merge_table.specs.Clashes.{first_clash}
@@ -20,6 +21,18 @@ told_set one_key clash key s = option_map (λ f. record { name = key f; place = 
 
 abbrev pub told_sets : (ℕ → ℕ → Bool) → (ℕ → ℕ → Bool) → (ℕ → List ℕ) → List SetOf → List BrokenOf
 told_sets one_key clash key sets = filter_map (told_set one_key clash key) sets
+
+-- the one of two sets that stands first
+abbrev pub earlier_set : SetOf → SetOf → SetOf
+earlier_set a s = if is_before s.place a.place then s else a
+
+abbrev pub with_set : Option SetOf → SetOf → Option SetOf
+with_set None s = Some s
+with_set (Some a) s = Some (earlier_set a s)
+
+-- the set with the earliest `{`; of several at one place the first in the list
+abbrev pub earliest_set : List SetOf → Option SetOf
+earliest_set = fold with_set None
 
 -- what is known where the fields of a document have been compared under their numbers
 pub record AreCompared (p : PartsOf) (numbers order : List ℕ) (fields : List table.Field) (rows : List (List ℕ)) (fragments : List (Option Reached)) : Type 0 where

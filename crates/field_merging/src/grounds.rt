@@ -10,13 +10,12 @@ ghost use Rattle.selection_members.specs.Walks.{to, Knows, IsFixed};
 ghost use Rattle.document_parts.specs.Parts.{parts_in};
 ghost use Rattle.field_merging.specs.Numbered.{count_fragments, AreInside, IsInverse, AreNumbered};
 
-use crate::counting::{are_inside, document_fields};
 use crate::fields::numbered_fields;
 use crate::places::Numbering;
 use crate::ranks::Ranks;
 use document_parts::Parts;
 use merge_table::{Field, Row, is_in_order};
-use selection_members::{Source, Targets, is_ranked, known_fragments};
+use selection_members::{Source, Targets, Walk, is_ranked, known_fragments, members_of_fields};
 use std::alloc::{AllocError, Global};
 
 /// What is known of a document whose fragments don't reach themselves.
@@ -42,7 +41,7 @@ pub struct Grounds<'a, 'd> {
 ///
 /// # Errors
 ///
-/// Also where it doesn't: where a fragment reaches itself, or where the fields aren't those of the document.
+/// Also where it doesn't: where a fragment reaches itself.
 pub fn grounds_of<'a, 'd>(
     parts: &'a Parts<'d>,
     targets: &'a Targets<'d>,
@@ -55,12 +54,6 @@ pub fn grounds_of<'a, 'd>(
     ensures { IfOk result (λ grounds. grounds.parts.now ≡ parts.now) }
 {
     if numbering.order.len() != parts.fields.len() {
-        return Err(AllocError);
-    }
-    if document_fields(parts.document)? > parts.fields.len() {
-        return Err(AllocError);
-    }
-    if !are_inside(&parts.fields)? {
         return Err(AllocError);
     }
     if !is_ranked(&ranks.places, targets, &parts.document.fragments) {
@@ -108,8 +101,15 @@ pub fn fields_in_order(
         numbers: grounds.numbers,
         rows: &blank,
     };
-    let members = known_fragments(alloc, &source, fragments)?;
-    let fields = numbered_fields(alloc, &source, &members, grounds.parts, grounds.order)?;
+    let known = known_fragments(alloc, &source, fragments)?;
+    let walk = Walk {
+        targets: grounds.targets,
+        numbers: grounds.numbers,
+        rows: &blank,
+        fragments: &known,
+    };
+    let members = members_of_fields(alloc, &walk, grounds.parts.document)?;
+    let fields = numbered_fields(alloc, grounds.parts, &members, grounds.order)?;
     if !is_in_order(&fields) {
         return Err(AllocError);
     }

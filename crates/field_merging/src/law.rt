@@ -1,11 +1,39 @@
 //! What holds of the definition.
 
-ghost use Rattle.std.specs.Prelude.{◌≡◌, Option};
+ghost use Rattle.std.specs.Prelude.{◌≡◌, ◌≤◌, ◌+◌, ℕ, List, Option, Some, length, map, slice_get};
+ghost use Rattle.gq_parser.specs.Tree.{Document, Selection};
+ghost use Rattle.schema_syntax.specs.Tree.{Definition};
+ghost use Rattle.selection_members.specs.Fragments.{place_in};
+ghost use Rattle.selection_members.specs.Members.{members_below, members_entered, members_of_fragment, sets_of};
+ghost use Rattle.selection_members.specs.Ranked.{IsRanked};
+ghost use Rattle.selection_members.specs.Written.{written_fields, own_below};
 ghost use Rattle.document_parts.specs.Broken.{BrokenOf};
+ghost use Rattle.document_parts.specs.Listing.{fields_of};
 ghost use Rattle.document_parts.specs.Parts.{PartsOf};
+ghost use Rattle.field_merging.specs.Numbered.{as_written};
 ghost use Rattle.field_merging.specs.Rule.{IsMerging};
+ghost use Rattle.field_merging.specs.Selected.{selected_below, selected_by_fragment, selecting_sets, looked_up};
 
 /// Of the selection sets of a document that can't be merged one is told, with its first response key that has a failing pair.
 pub fn one_set_is_told()
     ensures { (p : PartsOf) (a b : Option BrokenOf) → IsMerging p a → IsMerging p b → a ≡ b }
+{}
+
+/// A document's parts list its fields as they are written, so that a field has one number: its place in that list, and in the one
+/// by which [`selection_members`] counts.
+pub fn fields_are_listed_as_written()
+    ensures { (definitions : List Definition) (d : Document) → map as_written (fields_of definitions d) ≡ written_fields d }
+{}
+
+/// The numbers of members name, among the fields as they are written, the very fields that a selection set has: those of each set of
+/// a document, and those of the own set of each field.
+pub fn numbers_name_fields()
+    ensures sets { (d : Document) → map (looked_up (written_fields d)) (sets_of d) ≡ selecting_sets d }
+    ensures own { (d : Document) (a : ℕ) (f : Selection) → slice_get (written_fields d) a ≡ Some f → map (slice_get (written_fields d)) (members_below (members_of_fragment d) (a + 1) (own_below f)) ≡ map Some (selected_below (selected_by_fragment d) (own_below f)) }
+{}
+
+/// Where fragments have ranks above those of what they spread, so that none reaches itself, a fragment has the same members
+/// however many fragments may be entered, one inside another: as many as there are cut nothing off.
+pub fn all_members_are_entered()
+    ensures { (d : Document) (ranks : List ℕ) → IsRanked ranks (place_in d.fragments) d.fragments → (k : ℕ) → length d.fragments ≤ k → (name : List ℕ) → members_entered k d name ≡ members_of_fragment d name }
 {}

@@ -17,5 +17,7 @@ mod places;
 mod ranks;
 
 pub use counting::operation_fields;
-pub use law::one_set_is_told;
+pub use law::{
+    all_members_are_entered, fields_are_listed_as_written, numbers_name_fields, one_set_is_told,
+};
 pub use merging::field_merging;

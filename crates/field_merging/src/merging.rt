@@ -1,17 +1,17 @@
 //! The rule (section 5.3.2).
 
-ghost use Rattle.std.specs.Prelude.{◌≡◌, ◌<◌, ℕ, true, false, length, IfOk, OnOk};
+ghost use Rattle.std.specs.Prelude.{◌≡◌, ◌<◌, ℕ, List, true, length, map, IfOk};
 ghost use Rattle.std.specs.Option.{option_map};
 ghost use Rattle.gq_parser.specs.Tree.{document_of};
 ghost use Rattle.merge_table.specs.Clashes.{first_clash};
 ghost use Rattle.merge_table.specs.Numbered.{is_in};
 ghost use Rattle.selection_members.specs.Members.{members_of_fragment};
 ghost use Rattle.selection_members.specs.Walks.{clash, clashing_of};
-ghost use Rattle.document_parts.specs.Broken.{BrokenOf, broken_of, with_broken, with_broken_if};
+ghost use Rattle.document_parts.specs.Broken.{broken_of};
 ghost use Rattle.document_parts.specs.Parts.{parts_in};
 ghost use Rattle.field_merging.specs.Members.{fields_of};
 ghost use Rattle.field_merging.specs.Rule.{IsMerging, key_of};
-ghost use Rattle.field_merging.specs.Told.{told_set, AreCompared};
+ghost use Rattle.field_merging.specs.Told.{told_set, earlier_set, earliest_set, AreCompared};
 
 use crate::attributes::response_key;
 use crate::clashing::{Compared, clashing_sets};
@@ -19,8 +19,7 @@ use crate::counting::operation_fields;
 use crate::grounds::{Grounds, fields_in_order, grounds_of};
 use crate::places::{field_order, placed};
 use crate::ranks::rank_fragments;
-use document_parts::{Broken, Earliest, Parts};
-use gq_lexer::Place;
+use document_parts::{Broken, Parts};
 use merge_table::{failing_keys, failing_pairs};
 use selection_members::{
     ClashingSet, Source, Walk, first_member, fragment_starts, fragment_targets, known_fragments,
@@ -72,32 +71,32 @@ fn told<'d>(
     }
 }
 
-// Whether nothing so far stands before this place or at it.
-fn comes_first(earliest: &Earliest, place: Place) -> bool
-    ensures { (b : BrokenOf) → b.place ≡ place → result ≡ false → with_broken (option_map broken_of earliest.now.found) b ≡ option_map broken_of earliest.now.found }
+// The one of two sets that stands first, which is the first where both stand at one place.
+fn earlier<'d>(kept: ClashingSet<'d>, other: ClashingSet<'d>) -> ClashingSet<'d>
+    ensures { (spread : List ℕ → List ℕ) → clashing_of spread result ≡ earlier_set (clashing_of spread kept.entry) (clashing_of spread other.entry) }
 {
-    match earliest.found {
-        Some(kept) => place.is_before(kept.place),
-        None => true,
+    if other.set.place.is_before(kept.set.place) {
+        other
+    } else {
+        kept
     }
 }
 
-// Keeps what is told of a set in which two fields fail, where the set stands before all so far. What comes later isn't looked for.
-fn keep_told<'d>(
-    compared: &Compared<'_, 'd>,
-    set: ClashingSet<'d>,
-    earliest: &mut Earliest<'d>,
-) -> Result<(), AllocError>
-    requires compared { AreCompared (parts_in compared.now.grounds.parts.now) compared.now.grounds.numbers.now compared.now.grounds.order.now compared.now.fields.now compared.now.rows.now compared.now.fragments.now }
-    ensures { ((c : ℕ) → is_in (clashing_of (members_of_fragment (document_of compared.now.grounds.parts.now.document.now)) set.entry).members c ≡ true → c < length (parts_in compared.now.grounds.parts.now).fields) → OnOk result (option_map broken_of earliest.new.found ≡ with_broken_if (option_map broken_of earliest.old.found) (told_set (fields_of (parts_in compared.now.grounds.parts.now)).one_key (clash compared.now.rows.now compared.now.grounds.numbers.now) (key_of (parts_in compared.now.grounds.parts.now)) (clashing_of (members_of_fragment (document_of compared.now.grounds.parts.now.document.now)) set.entry))) }
+// The set with the earliest `{`.
+fn earliest_set<'d>(sets: &[ClashingSet<'d>]) -> Option<ClashingSet<'d>>
+    ensures { (spread : List ℕ → List ℕ) → option_map (clashing_of spread) result ≡ earliest_set (map (clashing_of spread) sets.now) }
 {
-    if comes_first(earliest, set.set.place) {
-        earliest.add_if(told(compared, set)?);
+    let mut earliest: Option<ClashingSet<'d>> = None;
+    for set in sets {
+        earliest = match earliest {
+            Some(kept) => Some(earlier(kept, *set)),
+            None => Some(*set),
+        };
     }
-    Ok(())
+    earliest
 }
 
-// The set with the earliest `{` that can't be merged.
+// The set with the earliest `{` that can't be merged. What it is told by is looked for in that set alone.
 fn first_told<'d>(
     alloc: Global,
     compared: &Compared<'_, 'd>,
@@ -106,11 +105,10 @@ fn first_told<'d>(
     ensures { IfOk result (λ told. IsMerging (parts_in compared.now.grounds.parts.now) (option_map broken_of told)) }
 {
     let sets = clashing_sets(alloc, compared)?;
-    let mut earliest = Earliest::new();
-    for set in &sets {
-        keep_told(compared, *set, &mut earliest)?;
+    match earliest_set(&sets) {
+        Some(set) => told(compared, set),
+        None => Ok(None),
     }
-    Ok(earliest.found)
 }
 
 // The same, where the fields aren't compared yet; `fragments` are the fragments in the order in which they are learned.

@@ -4,3 +4,5 @@ pub mod Learning
 pub mod RankedLaws
 pub mod Below
 pub mod Clashing
+pub mod Adding
+pub mod Places

@@ -3,3 +3,4 @@ pub mod Meeting
 pub mod Members
 pub mod Ranked
 pub mod Walks
+pub mod Written

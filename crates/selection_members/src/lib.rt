@@ -12,6 +12,7 @@
 mod counting;
 mod first;
 mod fragments;
+mod gathering;
 mod meeting;
 mod ranked;
 mod targets;
@@ -21,6 +22,7 @@ mod walk;
 pub use counting::{fields_from, fields_in, fragment_starts};
 pub use first::first_member;
 pub use fragments::{Source, known_fragments};
+pub use gathering::members_of_fields;
 pub use meeting::{Met, first_met};
 pub use ranked::is_ranked;
 pub use targets::{Targets, fragment_targets};

@@ -1,15 +1,26 @@
-use Rattle.std.proofs.Common.{◌≡◌, sym, subst, ◌+◌, arith}
-use Rattle.gq_parser.specs.Tree.{set_of}
-use Rattle.merge_table.specs.Entered.{IsReached}
-use Rattle.selection_members.specs.Fragments.{target_at}
-use Rattle.selection_members.specs.Members.{members_in}
-use Rattle.selection_members.specs.Walks.{renumbered, KnowsAt, Knows}
+use Rattle.std.proofs.Common.{◌≡◌, ◌∙◌, ap, refl, length, map, ◌||◌, Bool, Some, arith}
+use Rattle.std.specs.Prelude.{slice_get}
+use Rattle.std.proofs.Math.Logic.{∥∥₁_elim}
+use Rattle.std.proofs.lemmas.Option.{slice_get_read}
+use mathlib.Core.Bool.{Bool-set}
+use Rattle.gq_parser.specs.Tree.{document_of}
+use Rattle.gq_schema.specs.Types.{tree_of}
+use Rattle.merge_table.specs.Sets.{has}
+use Rattle.selection_members.specs.Written.{written_fields, belows}
+use Rattle.selection_members.proofs.Places.{own-row}
+use Rattle.document_parts.specs.Parts.{field_part_of}
+use Rattle.field_merging.proofs.Listed.{below-at}
 use Rattle.field_merging.proofs.fields.members_of.Goals as goal
 
-pub returns-in_ok-members-in-Some-selection_set : goal.returns-in_ok-members-in-Some-selection_set
-returns-in_ok-members-in-Some-selection_set c = λ spread knows i.
-    let source = c.args.source.now in
-    let known : Knows source.rows.now source.numbers.now c.args.table.now (target_at source.targets.now) spread = λ q. subst (KnowsAt source.rows.now source.numbers.now c.args.table.now (spread q)) (sym (source.named q)) (knows q) in
-    let next : c.in-Some.first ≡ c.args.number + 1 = omega (arith, c.in-Some.ensures) in
-    let reached : IsReached source.rows.now (renumbered source.numbers.now (members_in spread (c.args.number + 1) (set_of c.in-Some-selection_set.set))) c.in_ok-members-in-Some-selection_set.field-0 = rw (← next) (c.in_ok-members-in-Some-selection_set.ensures spread known) in
-    rw c.in-Some-selection_set.is (reached.members i)
+pub returns-in-Some : goal.returns-in-Some
+returns-in-Some c = λ numbers spread f own here i.
+    let parts = c.args.parts.now in
+    let d = document_of parts.document.now in
+    let rows = c.args.members.now in
+    let number = c.args.number in
+    let row = c.in-Some.own.now in
+    let found : slice_get rows number ≡ Some row = slice_get_read rows (length rows) number row refl c.in-Some.ensures.lookup.3.0 c.in-Some.ensures.lookup.1 in
+    let copied : has c.add_all.new.self i ≡ has row i = c.add_all.ensures i ∙ ap (λ (b : Bool). b || has row i) (c.new-row.ensures i) in
+    copied ∙ ∥∥₁_elim parts.listed (Bool-set _ _) (λ listed.
+    own-row numbers spread 0 (belows (written_fields d)) rows number number f.below row own (omega arith)
+    (below-at (tree_of parts.schema.now) d (map field_part_of parts.fields.items) listed number f here) found i)

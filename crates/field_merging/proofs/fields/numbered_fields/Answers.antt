@@ -4,11 +4,10 @@ use Rattle.field_merging.proofs.Twins.{numbered-push}
 use Rattle.field_merging.proofs.fields.numbered_fields.Goals as goal
 
 pub loop-number-preserved : goal.loop-number-preserved
-loop-number-preserved c = λ spread knows.
+loop-number-preserved c = λ numbers spread own.
     let p = parts_in c.args.parts.now in
-    let numbers = c.args.source.now.numbers.now in
     let order = c.args.order.now in
     let i = c.loop-number.number-index in
     let a = get_or order i 0 in
     let more : take (i + 1) order ≡ take i order ++ a ∷ [] = rw add-one (take-suc order i 0 c.loop-number-test.true) in
-    rw (c.in_ok-push.ensures.items, more) (numbered-push p numbers spread (take i order) c.loop-number.fields.items a c.in_ok-numbered.field-0 (c.loop-number.invariant spread knows) (λ f here. c.in_ok-numbered.ensures spread f knows here))
+    rw (c.in_ok-push.ensures.items, more) (numbered-push p numbers spread (take i order) c.loop-number.fields.items a c.in_ok-numbered.field-0 (c.loop-number.invariant numbers spread own) (λ f here. c.in_ok-numbered.ensures numbers spread f own here))

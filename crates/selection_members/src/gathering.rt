@@ -1,0 +1,148 @@
+//! The members of the own selection sets of all fields, in one walk through a document.
+
+ghost use Rattle.std.specs.Prelude.{◌≡◌, ◌+◌, ◌++◌, ◌∷◌, [], ℕ, List, length, map, IfOk, OnOk};
+ghost use Rattle.gq_parser.specs.Tree.{set_of, selection_of, below_of, operation_of, fragment_of, document_of};
+ghost use Rattle.merge_table.specs.Entered.{IsReached};
+ghost use Rattle.selection_members.specs.Fragments.{target_at};
+ghost use Rattle.selection_members.specs.Members.{count_in, count_from, count_below, count_operations, members_in, members_from, members_below};
+ghost use Rattle.selection_members.specs.Walks.{renumbered, Knows};
+ghost use Rattle.selection_members.specs.Written.{written_in, written_from, written_below, written_operations, written_fragments, written_fields, belows, AreOwn, AreAdded};
+
+use crate::counting::sum;
+use crate::walk::{Walk, add_field, add_fragment};
+use gq_parser::{Document, Fragment, Operation, Selection, SelectionSet};
+use merge_table::{Reached, Row};
+use std::alloc::{AllocError, Global};
+
+// What is found of a set as it is walked through.
+#[derive(Drop)]
+struct Gathered {
+    // what it has
+    reached: Reached,
+    // the number after its fields
+    next: usize,
+}
+
+// Adds the rows of the fields in a set; the first of them has the number `first`.
+#[cycle(gathering)]
+fn gather_set(
+    walk: &Walk,
+    set: &SelectionSet,
+    first: usize,
+    rows: &mut Vec<Row>,
+) -> Result<Gathered, AllocError>
+    ensures next { IfOk result (λ gathered. gathered.next ≡ first + count_in (set_of set.now)) }
+    ensures reached { (spread : List ℕ → List ℕ) → Knows walk.now.rows.now walk.now.numbers.now walk.now.fragments.now (target_at walk.now.targets.now) spread → IfOk result (λ gathered. IsReached walk.now.rows.now (renumbered walk.now.numbers.now (members_in spread first (set_of set.now))) gathered.reached) }
+    ensures rows { (spread : List ℕ → List ℕ) → Knows walk.now.rows.now walk.now.numbers.now walk.now.fragments.now (target_at walk.now.targets.now) spread → OnOk result (AreAdded walk.now.numbers.now spread first (belows (written_in (set_of set.now))) rows.old.items rows.new.items) }
+{
+    let mut reached = Reached::new();
+    let mut next = first;
+    for selection in &set.selections {
+        next = gather(walk, selection, next, rows, &mut reached)?;
+    }
+    Ok(Gathered { reached, next })
+}
+
+// Adds the rows of the fields in a selection and what it has, and answers the number after its fields.
+#[cycle(gathering)]
+fn gather(
+    walk: &Walk,
+    selection: &Selection,
+    number: usize,
+    rows: &mut Vec<Row>,
+    reached: &mut Reached,
+) -> Result<usize, AllocError>
+    ensures next { IfOk result (λ next. next ≡ number + count_from (selection_of selection.now)) }
+    ensures reached { (spread : List ℕ → List ℕ) (ms : List ℕ) → Knows walk.now.rows.now walk.now.numbers.now walk.now.fragments.now (target_at walk.now.targets.now) spread → IsReached walk.now.rows.now (renumbered walk.now.numbers.now ms) reached.old → OnOk result (IsReached walk.now.rows.now (renumbered walk.now.numbers.now (ms ++ members_from spread number (selection_of selection.now))) reached.new) }
+    ensures rows { (spread : List ℕ → List ℕ) → Knows walk.now.rows.now walk.now.numbers.now walk.now.fragments.now (target_at walk.now.targets.now) spread → OnOk result (AreAdded walk.now.numbers.now spread number (belows (written_from (selection_of selection.now))) rows.old.items rows.new.items) }
+{
+    match selection {
+        Selection::Field(field) => {
+            add_field(walk, number, reached)?;
+            gather_field(walk, &field.selection_set, number, rows)
+        }
+        Selection::Spread(spread) => {
+            add_fragment(walk, spread.name.as_str(), reached)?;
+            Ok(number)
+        }
+        Selection::Inline(inline) => {
+            let inside = gather_set(walk, &inline.selection_set, number, rows)?;
+            reached.add_all(&inside.reached);
+            Ok(inside.next)
+        }
+    }
+}
+
+// Adds the row of a field, and those of the fields below it, and answers the number after them.
+#[cycle(gathering)]
+fn gather_field(
+    walk: &Walk,
+    below: &Option<SelectionSet>,
+    number: usize,
+    rows: &mut Vec<Row>,
+) -> Result<usize, AllocError>
+    ensures next { IfOk result (λ next. next ≡ number + 1 + count_below (below_of below.now)) }
+    ensures rows { (spread : List ℕ → List ℕ) → Knows walk.now.rows.now walk.now.numbers.now walk.now.fragments.now (target_at walk.now.targets.now) spread → OnOk result (AreAdded walk.now.numbers.now spread number (below_of below.now ∷ belows (written_below (below_of below.now))) rows.old.items rows.new.items) }
+{
+    let place = rows.len();
+    rows.push(Row::new())?;
+    let first = sum(number, 1)?;
+    match below {
+        Some(set) => {
+            let Gathered { reached, next } = gather_set(walk, set, first, rows)?;
+            let Reached { members, .. } = reached;
+            match rows.get_mut(place) {
+                Some(row) => *row = members,
+                None => {}
+            }
+            Ok(next)
+        }
+        None => Ok(first),
+    }
+}
+
+// Adds the rows of the fields in operations; the first field has the number 0. Answers the number after all fields.
+fn gather_operations(
+    walk: &Walk,
+    operations: &[Operation],
+    rows: &mut Vec<Row>,
+) -> Result<usize, AllocError>
+    ensures next { IfOk result (λ next. next ≡ count_operations (map operation_of operations.now)) }
+    ensures rows { (spread : List ℕ → List ℕ) → Knows walk.now.rows.now walk.now.numbers.now walk.now.fragments.now (target_at walk.now.targets.now) spread → OnOk result (AreAdded walk.now.numbers.now spread 0 (belows (written_operations (map operation_of operations.now))) rows.old.items rows.new.items) }
+{
+    let mut next = 0;
+    for operation in operations {
+        next = gather_set(walk, &operation.selection_set, next, rows)?.next;
+    }
+    Ok(next)
+}
+
+// Adds the rows of the fields in fragments; the first field has the number `first`.
+fn gather_fragments(
+    walk: &Walk,
+    fragments: &[Fragment],
+    first: usize,
+    rows: &mut Vec<Row>,
+) -> Result<(), AllocError>
+    ensures { (spread : List ℕ → List ℕ) → Knows walk.now.rows.now walk.now.numbers.now walk.now.fragments.now (target_at walk.now.targets.now) spread → OnOk result (AreAdded walk.now.numbers.now spread first (belows (written_fragments (map fragment_of fragments.now))) rows.old.items rows.new.items) }
+{
+    let mut next = first;
+    for fragment in fragments {
+        next = gather_set(walk, &fragment.selection_set, next, rows)?.next;
+    }
+    Ok(())
+}
+
+/// For each field of a document, by its number, the members of its own selection set. Each selection is visited once.
+pub fn members_of_fields(
+    alloc: Global,
+    walk: &Walk,
+    document: &Document,
+) -> Result<Vec<Row>, AllocError>
+    ensures { (spread : List ℕ → List ℕ) → Knows walk.now.rows.now walk.now.numbers.now walk.now.fragments.now (target_at walk.now.targets.now) spread → IfOk result (λ rows. AreOwn walk.now.numbers.now spread 0 (belows (written_fields (document_of document.now))) rows.items) }
+{
+    let mut rows = Vec::new(alloc);
+    let first = gather_operations(walk, &document.operations, &mut rows)?;
+    gather_fragments(walk, &document.fragments, first, &mut rows)?;
+    Ok(rows)
+}
