@@ -2,3 +2,12 @@ pub mod Entered
 pub mod Leveled
 pub mod Expanded
 pub mod Valid
+pub mod Options
+pub mod Bound
+pub mod Schemas
+pub mod Counted
+pub mod Placed
+pub mod Meeting
+pub mod Asking
+pub mod Right
+pub mod OverOne

@@ -38,7 +38,7 @@ no-cycles g j (f ∷ fs) h x lt = go (is_cyclic g j) refl h x lt (λ k y l. no-c
 
 -- ---- the operation of a plan is one of its document's
 
-data IsAmong (o : Operation) : List Operation → Type 0 where
+pub data IsAmong (o : Operation) : List Operation → Type 0 where
   here : {os : List Operation} → IsAmong o (o ∷ os)
   there : {p : Operation} {os : List Operation} → IsAmong o os → IsAmong o (p ∷ os)
 
@@ -65,7 +65,7 @@ with-own o (Ok vs) p h = let same : record { operation = o; variables = vs } ≡
 with-own o (Err values.not_object) p h = absurd (cc h)
 with-own o (Err (values.bad_variable name)) p h = absurd (cc h)
 
-prepared-among : (defs : List Definition) (os : List Operation) (name : Option (List ℕ)) (given : Data) (p : PreparedOf) → prepared defs os name given ≡ Ok p → IsAmong p.operation os
+pub prepared-among : (defs : List Definition) (os : List Operation) (name : Option (List ℕ)) (given : Data) (p : PreparedOf) → prepared defs os name given ≡ Ok p → IsAmong p.operation os
 prepared-among defs os name given p h = go (chosen_operation os name) refl h
   where
     go : (r : Result Operation Fault) → chosen_operation os name ≡ r → prepared_operation defs given r ≡ Ok p → IsAmong p.operation os

@@ -1,1 +1,4 @@
 pub mod Levels
+pub mod Met
+pub mod OfWorlds
+pub mod Unset

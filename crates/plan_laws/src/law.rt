@@ -1,11 +1,20 @@
-//! What holds of collection and of levels.
-ghost use Rattle.std.specs.Prelude.{◌≡◌, ◌≤◌, ℕ, List, length, true};
-ghost use Rattle.gq_parser.specs.Tree.{Selections};
+//! What holds of collection, of levels, and of what execution can meet.
+ghost use Rattle.std.specs.Prelude.{◌≡◌, ◌≤◌, ℕ, List, length, true, false, Some, is_some};
+ghost use Rattle.gq_parser.specs.Tree.{Selections, Value};
+ghost use Rattle.schema_syntax.specs.Tree.{Argument, Definition, Field};
+ghost use Rattle.gq_schema.specs.Types.{field_in};
+ghost use Rattle.gq_schema.specs.BindingsTypes.{is_object_type};
+ghost use Rattle.gq_schema.specs.BindingsTree.{BindingsOf, BindingOf, binding_in};
 ghost use Rattle.gq_check.specs.Plans.{PlanOf, fragment_in};
 ghost use Rattle.gq_check.specs.Planned.{IsPlan};
 ghost use Rattle.plan_program.specs.PlanPrograms.{most_levels, plan_program};
+ghost use Rattle.plan_program.specs.Arguments.{literal_value};
+ghost use Rattle.world.specs.Worlds.{WorldOf};
 ghost use Rattle.plan_laws.specs.Levels.{program_with};
-ghost use Rattle.plan_program.specs.Groups.{Collected, has_entered, enter_fragment, entering, collect_all, collect_from};
+ghost use Rattle.plan_laws.specs.Met.{CanBeMet, IsMetBy, HasFirst, IsGiven, AreThere, IsBound, AsksItsBinding, AreRead, IsOverSchema, IsOverOne};
+ghost use Rattle.plan_laws.specs.OfWorlds.{IsMade, IsPlanOver};
+ghost use Rattle.plan_laws.specs.Unset.{has_unset};
+ghost use Rattle.plan_program.specs.Groups.{FieldOf, GroupOf, Collected, has_entered, enter_fragment, entering, collect_all, collect_from};
 
 /// Collection ends (section 6.3.2 of the GraphQL specification of October 2021): no more fragments are entered one inside
 /// another than the plan has, so what is collected is the same where more may be entered; and a fragment that is entered
@@ -21,4 +30,37 @@ pub fn collection_ends()
 /// program is the same where objects have any more levels.
 pub fn more_levels_change_nothing()
     ensures { (plan : PlanOf) (levels : ℕ) → IsPlan plan → most_levels ≤ levels → program_with plan levels ≡ plan_program plan }
+{}
+
+/// Bindings that are read over a schema bind each field of each object type, and name no loader that they don't define. So
+/// where a plan's bindings are of its own schema, no field of an object type is null for want of either.
+pub fn fields_are_bound()
+    ensures bound { (defs : List Definition) (b : BindingsOf) (ty name : List ℕ) (d : Field) → AreRead defs b → is_object_type defs ty ≡ true
+        → field_in defs ty name ≡ Some d → IsBound b ty name }
+    ensures loaders { (defs : List Definition) (b : BindingsOf) (ty name : List ℕ) (binding : BindingOf) → AreRead defs b
+        → binding_in b.fields ty name ≡ Some binding → AreThere (length b.loaders) binding }
+{}
+
+/// Each group of fields that the execution of a plan can meet has a first field, by which it is answered. This, where it isn't
+/// `__typename`, has a definition in the type of its object. Where the plan's bindings were read over its own schema it has a
+/// binding too, whose loaders are there, and what the group asks is what that binding asks. So no such plan's program has a null
+/// for a field without any of these.
+pub fn met_fields_are_answered()
+    ensures first { (plan : PlanOf) (ty : List ℕ) (g : GroupOf) → IsOverSchema plan → CanBeMet plan ty g → HasFirst g }
+    ensures defined { (plan : PlanOf) (ty : List ℕ) (g : GroupOf) (f : FieldOf) → IsOverSchema plan → IsMetBy plan ty g f
+        → (d : Field) × (field_in plan.definitions ty f.name ≡ Some d) }
+    ensures answered { (plan : PlanOf) (ty : List ℕ) (g : GroupOf) (f : FieldOf) → IsOverOne plan → IsMetBy plan ty g f → AsksItsBinding plan ty g f }
+{}
+
+/// A literal that is given for an argument of a field that execution can meet is right at the argument's type, unless a
+/// variable in it has no value or null. So no other literal is a field error.
+pub fn literals_are_right()
+    ensures { (plan : PlanOf) (ty : List ℕ) (g : GroupOf) (f : FieldOf) (a : Argument) (v : Value) → IsOverSchema plan → IsMetBy plan ty g f
+        → IsGiven plan ty f a v → has_unset plan v ≡ false → is_some (literal_value plan a.of_type v) ≡ true }
+{}
+
+/// A world reads its bindings over its own schema, so each plan of its requests is over one schema, as
+/// [`met_fields_are_answered`] asks.
+pub fn plans_of_a_world_are_over_one()
+    ensures { (w : WorldOf) (plan : PlanOf) → IsMade w → IsPlanOver w plan → IsOverOne plan }
 {}

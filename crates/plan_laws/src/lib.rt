@@ -1,7 +1,9 @@
-//! Laws of what a plan asks, with no code that runs: collection of fields ends, and more levels than a plan has change nothing.
+//! Laws of what a plan asks, with no code that runs: collection of fields ends, more levels than a plan has change nothing, and
+//! each field that execution can meet is defined and bound.
 //!
-//! The definitions of `plan_program` count down as they enter fragments and objects. The laws ([`law`]), each carried by a
-//! function that does nothing, say that these counts cut nothing off.
+//! The definitions of `plan_program` are total: they count down as they enter fragments and objects, and give null where a
+//! definition, a binding or a loader is lacking. The laws ([`law`]), each carried by a function that does nothing, say that these
+//! counts cut nothing off, and that a plan of a valid document over bindings of its own schema lacks none of these.
 #![tactic(auto)]
 
 pub mod law;

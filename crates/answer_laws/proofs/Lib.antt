@@ -1,0 +1,5 @@
+pub mod Deciding
+pub mod Verdicts
+pub mod Logs
+pub mod Answered
+pub mod Telling

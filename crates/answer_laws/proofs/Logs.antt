@@ -1,0 +1,165 @@
+-- Over sources that answer key by key a lawful log is there: while something is missing there is a round to be made, and rounds are
+-- at most as many as direct execution's chain has loads.
+use Rattle.std.proofs.Common.{◌≡◌, ◌≢◌, ◌⊎◌, ◌≤◌, ℕ, zero, suc, Bool, true, false, List, [], ◌∷◌, ◌++◌, map, length, inl, inr, sym, ◌∙◌, ap, refl, Option, Some, None, if◌then◌else◌, eq-eqb, arith}
+use Rattle.std.proofs.lemmas.List.{length-map}
+use Rattle.std.specs.Option.{option_or}
+use Rattle.load_memory.specs.Keys.{KeyOf, folded}
+use Rattle.load_memory.specs.Outcomes.{ItemOf, OutcomeOf, known}
+use Rattle.load_memory.specs.Pairs.{PairOf, is_at, look}
+use Rattle.load_memory.specs.Replies.{ReplyOf}
+use Rattle.load_memory.specs.declared.key.KeyMode.{KeyMode}
+use Rattle.load_queue.specs.Answers.{AnswerOf, given, outcomes_of}
+use Rattle.load_queue.specs.Orders.{OrderOf}
+use Rattle.execution.specs.Loads.{Load, Memory, Reader, mode_at, read, AnswersMore}
+use Rattle.execution.specs.Program.{Program, Programs, Is, Read, Under, End, With, tree, trees, chain, all_chain}
+use Rattle.execution.specs.Completion.{AnsweredOf, is_open, any_open}
+use Rattle.execution.specs.Front.{front}
+use Rattle.execution.specs.Executed.{exec, completed}
+use Rattle.execution.specs.Rounds.{RuleOf, modes_of, key_by_key, orders_of, IsReply, AreReplies, reply_pairs, pairs_of, after_round, AreRounds, IsLawful, direct, RespectsCacheKeys, IsTold, AreLimited, HasLoaders}
+use Rattle.execution.proofs.OneLog.{at-pair}
+use Rattle.execution.proofs.Monotone.{exec-whole}
+use Rattle.execution.proofs.RoundLaws.{rounds-chain}
+
+-- ---- a larger reader reads a chain as long
+
+chain-read : (load : Load) (next : OutcomeOf → Program) (R Q : Reader) → AnswersMore R Q → (r : Option OutcomeOf) → R load ≡ r → ((o : OutcomeOf) → chain (next o) R ≤ chain (next o) Q) → chain (Read load next) R ≤ chain (Read load next) Q
+chain-read load next R Q more None e ih = rw e (omega arith)
+chain-read load next R Q more (Some o) e ih = let f : Q load ≡ Some o = more load o e in let i : chain (next o) R ≤ chain (next o) Q = ih o in rw (e, f) (omega arith)
+
+mutual
+  pub chain-more : (p : Program) (R Q : Reader) → AnswersMore R Q → chain p R ≤ chain p Q
+  chain-more (Is own) R Q more = omega arith
+  chain-more (Read load next) R Q more = chain-read load next R Q more (R load) refl (λ o. chain-more (next o) R Q more)
+  chain-more (Under kind below) R Q more = all-chain-more below R Q more
+
+  all-chain-more : (ps : Programs) (R Q : Reader) → AnswersMore R Q → all_chain ps R ≤ all_chain ps Q
+  all-chain-more End R Q more = omega arith
+  all-chain-more (With spot p rest) R Q more = let a = chain-more p R Q more in let b = all-chain-more rest R Q more in omega (arith, a, b)
+
+module _ (item : ℕ → KeyOf → ItemOf) where
+  -- ---- direct execution leaves nothing open
+
+  mutual
+    closed : (p : Program) → is_open (tree p (direct item)) ≡ false
+    closed (Is own) = refl
+    closed (Read load next) = closed (next (known (item load.loader load.key)))
+    closed (Under kind below) = all-closed below
+
+    all-closed : (ps : Programs) → any_open (trees ps (direct item)) ≡ false
+    all-closed End = refl
+    all-closed (With spot p rest) = let a = closed p in let b = all-closed rest in rw (a, b) refl
+
+  pub direct-some : (p : Program) → (answered : AnsweredOf) × (exec p (direct item) ≡ Some answered)
+  direct-some p = (completed (tree p (direct item)), exec-whole p (direct item) (closed p))
+
+  -- ---- a round can be made
+
+  -- the outcomes of keys
+  abbrev told : ℕ → List KeyOf → List OutcomeOf
+  told loader keys = map known (map (item loader) keys)
+
+  outcomes-told : (loader : ℕ) (keys : List KeyOf) (a : AnswerOf) → a ≡ given (map (item loader) keys) → outcomes_of (length keys) a ≡ told loader keys
+  outcomes-told loader keys a e =
+      ap (outcomes_of (length keys)) e ∙ (rw (eq-eqb (length (map (item loader) keys)) (length keys) (length-map keys (item loader))) refl)
+
+  reply-told : (o : OrderOf) (r : ReplyOf) → IsReply (key_by_key item) o r → r.outcomes ≡ told o.loader o.keys
+  reply-told o r h = h.outcomes ∙ outcomes-told o.loader o.keys h.answer h.may_be
+
+  replies-to : List OrderOf → List ReplyOf
+  replies-to os = map (λ (o : OrderOf). record { loader = o.loader; keys = o.keys; outcomes = outcomes_of (length o.keys) (given (map (item o.loader) o.keys)) }) os
+
+  replies-there : (os : List OrderOf) → AreReplies (key_by_key item) os (replies-to os)
+  unfolding replies-to
+  replies-there [] = tt
+  replies-there (o ∷ os) = (record { loader = refl; keys = refl; answer = given (map (item o.loader) o.keys); may_be = refl; outcomes = refl }, replies-there os)
+
+  -- a reply's pairs say what asking key by key gives
+  pairs-told : (mode : KeyMode) (n : ℕ) (keys : List KeyOf) (loader : ℕ) (key : KeyOf) (o : OutcomeOf) → look (reply_pairs mode n keys (told n keys)) loader key ≡ Some o
+      → (n ≡ loader) × (k : KeyOf) × (folded mode k ≡ key) × (o ≡ known (item n k))
+  pairs-told mode n [] loader key o h = absurd (cc h)
+  pairs-told mode n (k ∷ ks) loader key o h = go (is_at loader key (record { loader = n; key = folded mode k; outcome = known (item n k) })) refl h (pairs-told mode n ks loader key o)
+    where
+      go : (b : Bool) → is_at loader key (record { loader = n; key = folded mode k; outcome = known (item n k) }) ≡ b → (if b then Some (known (item n k)) else look (reply_pairs mode n ks (told n ks)) loader key) ≡ Some o
+          → (look (reply_pairs mode n ks (told n ks)) loader key ≡ Some o → (n ≡ loader) × (k : KeyOf) × (folded mode k ≡ key) × (o ≡ known (item n k)))
+          → (n ≡ loader) × (k : KeyOf) × (folded mode k ≡ key) × (o ≡ known (item n k))
+      go true e h ih =
+          let at = at-pair loader key (record { loader = n; key = folded mode k; outcome = known (item n k) }) e in
+          (sym at.0, k, sym at.1, cc h)
+      go false e h ih = ih h
+
+  either-look : (loader : ℕ) (key : KeyOf) (o : OutcomeOf) (ps qs : List PairOf) → look (ps ++ qs) loader key ≡ Some o → (look ps loader key ≡ Some o) ⊎ (look qs loader key ≡ Some o)
+  either-look loader key o [] qs h = inr h
+  either-look loader key o (p ∷ ps) qs h = go (is_at loader key p) h (either-look loader key o ps qs)
+    where
+      go : (b : Bool) → (if b then Some p.outcome else look (ps ++ qs) loader key) ≡ Some o → (look (ps ++ qs) loader key ≡ Some o → (look ps loader key ≡ Some o) ⊎ (look qs loader key ≡ Some o))
+          → ((if b then Some p.outcome else look ps loader key) ≡ Some o) ⊎ (look qs loader key ≡ Some o)
+      go true h ih = inl h
+      go false h ih = ih h
+
+  replies-told : (modes : List KeyMode) (os : List OrderOf) (rs : List ReplyOf) (loader : ℕ) (key : KeyOf) (o : OutcomeOf) → AreReplies (key_by_key item) os rs → look (pairs_of modes rs) loader key ≡ Some o
+      → (k : KeyOf) × (folded (mode_at modes loader) k ≡ key) × (o ≡ known (item loader k))
+  replies-told modes [] [] loader key o h e = absurd (cc e)
+  replies-told modes [] (r ∷ rs) loader key o h e = absurd h
+  replies-told modes (w ∷ ws) [] loader key o h e = absurd h
+  replies-told modes (w ∷ ws) (r ∷ rs) loader key o h e = elim (either-look loader key o (reply_pairs (mode_at modes r.loader) r.loader r.keys r.outcomes) (pairs_of modes rs) e) [
+    | inl a ↦
+        let is : r.outcomes ≡ told r.loader r.keys = rw (h.0.loader, h.0.keys) (reply-told w r h.0) in
+        let f : look (reply_pairs (mode_at modes r.loader) r.loader r.keys (told r.loader r.keys)) loader key ≡ Some o = ap (λ os. look (reply_pairs (mode_at modes r.loader) r.loader r.keys os) loader key) (sym is) ∙ a in
+        let t = pairs-told (mode_at modes r.loader) r.loader r.keys loader key o f in
+        (t.1, ap (λ n. folded (mode_at modes n) t.1) (sym t.0) ∙ t.2, t.3 ∙ ap (λ n. known (item n t.1)) t.0)
+    | inr b ↦ replies-told modes ws rs loader key o h.1 b
+  ]
+
+  module _ (rules : List RuleOf) (p : Program) (alike : RespectsCacheKeys (modes_of rules) item) where
+    round-told : (M : Memory) (os : List OrderOf) (round : List ReplyOf) → IsTold (modes_of rules) item M → AreReplies (key_by_key item) os round → IsTold (modes_of rules) item (after_round rules M round)
+    round-told M os round told h = λ loader key o e. go loader key o (M loader (folded (mode_at (modes_of rules) loader) key)) refl e
+      where
+        go : (loader : ℕ) (key : KeyOf) (o : OutcomeOf) (r : Option OutcomeOf) → M loader (folded (mode_at (modes_of rules) loader) key) ≡ r
+            → option_or r (look (pairs_of (modes_of rules) round) loader (folded (mode_at (modes_of rules) loader) key)) ≡ Some o → o ≡ known (item loader key)
+        go loader key o None f e =
+            let t = replies-told (modes_of rules) os round loader (folded (mode_at (modes_of rules) loader) key) o h e in
+            t.2 ∙ ap known (alike loader t.0 key t.1)
+        go loader key o (Some x) f e = told loader key o (f ∙ e)
+
+    pub rounds-told : (M : Memory) (rs : List (List ReplyOf)) (end : Memory) → IsTold (modes_of rules) item M → AreRounds (key_by_key item) rules p M rs end → IsTold (modes_of rules) item end
+    rounds-told M [] end told h = λ loader key o e. told loader key o (sym (h loader (folded (mode_at (modes_of rules) loader) key)) ∙ e)
+    rounds-told M (r ∷ rs) end told h = rounds-told (after_round rules M r) rs end (round-told M (orders_of rules (front (modes_of rules) p M)) r told h.1) h.2
+
+    -- so many rounds, unless fewer are enough
+    record Made (M : Memory) (many : ℕ) : Type 0 where
+      rounds : List (List ReplyOf)
+      end : Memory
+      are : AreRounds (key_by_key item) rules p M rounds end
+      enough : (front (modes_of rules) p end ≡ []) ⊎ (length rounds ≡ many)
+
+    none-or : {A : Type 0} (xs : List A) → (xs ≡ []) ⊎ (xs ≢ [])
+    none-or [] = inl refl
+    none-or (x ∷ xs) = inr (λ e. cc e)
+
+    made : (many : ℕ) (M : Memory) → Made M many
+    made zero M = record { rounds = []; end = M; are = λ loader key. refl; enough = inr refl }
+    made (suc many) M = go (none-or (front (modes_of rules) p M)) (made many (after_round rules M (replies-to (orders_of rules (front (modes_of rules) p M)))))
+      where
+        go : (front (modes_of rules) p M ≡ []) ⊎ (front (modes_of rules) p M ≢ []) → Made (after_round rules M (replies-to (orders_of rules (front (modes_of rules) p M)))) many → Made M (suc many)
+        go (inl none) rest = record { rounds = []; end = M; are = λ loader key. refl; enough = inl none }
+        go (inr some) rest = record {
+          rounds = replies-to (orders_of rules (front (modes_of rules) p M)) ∷ rest.rounds;
+          end = rest.end;
+          are = (some, replies-there (orders_of rules (front (modes_of rules) p M)), rest.are);
+          enough = elim rest.enough [ inl e ↦ inl e | inr e ↦ inr (ap suc e) ];
+        }
+
+    pub log-there : (M : Memory) → IsTold (modes_of rules) item M → AreLimited rules → HasLoaders (length rules) p → (rounds : List (List ReplyOf)) × (end : Memory) × IsLawful (key_by_key item) rules p M rounds end
+    log-there M told limited loaders = go (made (suc (chain p (direct item))) M)
+      where
+        go : Made M (suc (chain p (direct item))) → (rounds : List (List ReplyOf)) × (end : Memory) × IsLawful (key_by_key item) rules p M rounds end
+        go m = (m.rounds, m.end, (m.are, enough m.enough))
+          where
+            enough : (front (modes_of rules) p m.end ≡ []) ⊎ (length m.rounds ≡ suc (chain p (direct item))) → front (modes_of rules) p m.end ≡ []
+            enough (inl e) = e
+            enough (inr e) =
+                let at : IsTold (modes_of rules) item m.end = rounds-told M m.rounds m.end told m.are in
+                let more : AnswersMore (read (modes_of rules) m.end) (direct item) = λ load o f. ap (λ x. Some x) (sym (at load.loader load.key o f)) in
+                let few : length m.rounds ≤ chain p (read (modes_of rules) m.end) = rounds-chain (key_by_key item) rules p M m.rounds m.end limited loaders m.are in
+                let long = chain-more p (read (modes_of rules) m.end) (direct item) more in
+                absurd (omega (arith, e, few, long))

@@ -1,0 +1,47 @@
+//! Where a verdict or an answer is there.
+ghost use Rattle.std.specs.Prelude.{◌≡◌, ℕ, List, Option, Some, length};
+ghost use Rattle.serde_json.specs.Data.{Data};
+ghost use Rattle.gq_parser.specs.Tree.{Document};
+ghost use Rattle.schema_syntax.specs.Tree.{Definition};
+ghost use Rattle.load_memory.specs.Keys.{KeyOf};
+ghost use Rattle.load_memory.specs.Outcomes.{ItemOf};
+ghost use Rattle.load_memory.specs.Replies.{ReplyOf};
+ghost use Rattle.execution.specs.Loads.{Memory};
+ghost use Rattle.execution.specs.Program.{Program};
+ghost use Rattle.execution.specs.Completion.{AnsweredOf};
+ghost use Rattle.execution.specs.Executed.{exec};
+ghost use Rattle.execution.specs.Rounds.{RuleOf, modes_of, AreLimited, HasLoaders, RespectsCacheKeys, IsTold, IsLawful, key_by_key, direct};
+ghost use Rattle.gq_check.specs.Plans.{PlanOf};
+ghost use Rattle.gq_check.specs.Planned.{IsPlan};
+ghost use Rattle.gq_check.specs.Verdict.{FaultOf, IsVerdict};
+ghost use Rattle.world.specs.Worlds.{WorldOf, HasSources};
+ghost use Rattle.world_answers.specs.Answers.{IsAnsweredAnew};
+ghost use Rattle.answer_laws.specs.Told.{IsRefusedOrAnswered};
+
+/// Each document has a verdict over each schema, and so exactly one (`one_verdict` of `gq_check`). Of Field Selection Merging
+/// (section 5.3.2 of the GraphQL specification of October 2021), which is a relation, it can be told for each selection set whether
+/// it can be merged, and else which response key fails first.
+pub fn documents_have_verdicts()
+    ensures { (defs : List Definition) (d : Document) → (v : Option FaultOf) × IsVerdict defs d v }
+{}
+
+/// Direct execution, in which each load is answered by its key's item, gives an answer for every program. Over sources that
+/// answer key by key, alike for keys that their loaders hold to be one, a lawful log is there from every memory that has what
+/// they would answer, as an empty one has.
+pub fn answers_are_there()
+    ensures direct { (p : Program) (item : ℕ → KeyOf → ItemOf) → (answered : AnsweredOf) × (exec p (direct item) ≡ Some answered) }
+    ensures log { (item : ℕ → KeyOf → ItemOf) (rules : List RuleOf) (p : Program) (M : Memory) → AreLimited rules → HasLoaders (length rules) p
+        → RespectsCacheKeys (modes_of rules) item → IsTold (modes_of rules) item M → (rounds : List (List ReplyOf)) × (end : Memory) × IsLawful (key_by_key item) rules p M rounds end }
+{}
+
+/// Each plan over the bindings of a world has an answer: a text that is that of direct execution, and a session of the world, new
+/// at first, in which it was answered with the headline. So want of memory alone keeps a plan from its answer.
+pub fn plans_are_answered()
+    ensures { (w : WorldOf) (plan : PlanOf) → HasSources w → plan.bindings ≡ w.bindings → IsPlan plan → (text : List ℕ) × IsAnsweredAnew w plan text }
+{}
+
+/// Each request over a world whose query is a document comes to a fault of the document, or to one of the choice of its operation
+/// and its variables, or to an answer.
+pub fn requests_are_told()
+    ensures { (w : WorldOf) (d : Document) (name : Option (List ℕ)) (given : Data) → HasSources w → IsRefusedOrAnswered w d name given }
+{}
