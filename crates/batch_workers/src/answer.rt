@@ -42,7 +42,7 @@ pub fn answer_with<S: Source, P: Execute, R: Threads + Wait + Sync>(
     }
     match answered(rt, session, plan, workers) {
         Ok(answer) => Ok(answer),
-        Err(NoMemory) => Err(WorkFault::NoMemory),
+        Err(_) => Err(WorkFault::NoMemory),
     }
 }
 

@@ -1,5 +1,4 @@
 //! Why there is no answer with workers.
-use load_memory::NoMemory;
 use thiserror::Error;
 
 /// Why there is no answer with workers.
@@ -11,15 +10,4 @@ pub enum WorkFault {
     /// A growth was refused, here or in a source, or the rounds can't be counted on.
     #[error("out of memory")]
     NoMemory,
-}
-
-impl From<NoMemory> for WorkFault {
-    ghost use Rattle.std.specs.Prelude.{◌≡◌};
-    ghost use Rattle.batch_workers.specs.declared.fault.WorkFault.TheVariants.{NoMemory};
-
-    ghost from_gives = { λ _ fault. fault ≡ NoMemory };
-
-    fn from(_e: NoMemory) -> WorkFault {
-        WorkFault::NoMemory
-    }
 }
