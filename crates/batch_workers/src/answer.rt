@@ -1,9 +1,9 @@
 //! Answers with workers: round after round until nothing is missing, each by workers over a shelf of its own.
 ghost use Rattle.std.specs.Prelude.{◌≡◌, ◌<◌, ◌≤◌, ◌↔◌, length, IfOk, OnOk, OnErr, IsErrOf, string_bytes};
-ghost use Rattle.load_rounds.specs.Sessions.{StateOf, state_of};
+ghost use Rattle.load_rounds.specs.Sessions.{state_of};
 ghost use Rattle.load_rounds.specs.Headline.{Headline, StopsAnswering};
-ghost use Rattle.load_rounds.specs.Runs.{run_of, orders_in, IsRun};
-ghost use Rattle.batch_workers.specs.Workers.{IsBadCount};
+ghost use Rattle.load_rounds.specs.Runs.{run_of, orders_in};
+ghost use Rattle.batch_workers.specs.Workers.{IsBadCount, StoresRound, LosesRound};
 
 use crate::fault::WorkFault;
 use load_memory::{NoMemory, Shelf};
@@ -81,10 +81,10 @@ fn make_round<S: Source, P: Execute, R: Threads + Wait + Sync>(
     requires out { run.old.stage ≡ Stage.Out }
     requires orders { orders.items ≡ orders_in (state_of session.old) (P.program run.old.plan) }
     ensures ready { OnOk result (run.new ≡ run_of run.old.plan run.old.rounds Stage.Ready) }
-    ensures made { (begun : StateOf S) → IsRun S.may_answer (P.program run.old.plan) begun (state_of session.old) run.old.rounds Stage.Out
-        → OnOk result (IsRun S.may_answer (P.program run.old.plan) begun (state_of session.new) run.old.rounds Stage.Ready) }
-    ensures stopped { (begun : StateOf S) → IsRun S.may_answer (P.program run.old.plan) begun (state_of session.old) run.old.rounds Stage.Out
-        → OnErr result (StopsAnswering S.may_answer begun (state_of session.new) (P.program run.old.plan)) }
+    ensures made { OnOk result (StoresRound S.may_answer (P.program run.old.plan) (state_of session.old)
+        (state_of session.new) run.old.rounds) }
+    ensures lost { OnErr result (LosesRound S.may_answer (P.program run.old.plan) (state_of session.old)
+        (state_of session.new) run.old.rounds) }
 {
     let alloc = *orders.allocator();
     let shelf = Shelf::new(alloc)?;
