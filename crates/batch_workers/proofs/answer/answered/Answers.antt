@@ -43,7 +43,7 @@ make_round-requires-clause-orders g c =
     let next = rw c.in-Round.is at c.in_ok-answer.ensures.next in
     let same : c.next_round.new.self.plan ≡ c.loop-answer.run.plan = ap (λ (r : RunOf _). r.plan) next.1 in
     let orders = round-orders p (state_of c.loop-answer.session) (state_of c.next_round.new.session) c.in-Round.orders.items next.0 in
-    rw same (sym orders)
+    λ κs l. rw same (sym orders)
 
 pub returns-in_err-make_round-in-Round-clause-stopped : goal.returns-in_err-make_round-in-Round-clause-stopped
 returns-in_err-make_round-in-Round-clause-stopped g c =
@@ -52,7 +52,7 @@ returns-in_err-make_round-in-Round-clause-stopped g c =
     let next = rw c.in-Round.is at c.in_ok-answer.ensures.next in
     let kept : c.next_round.new.self.plan ≡ c.args.plan.now = ap (λ (r : RunOf _). r.plan) next.1 ∙ same in
     let run = c.in_ok-answer.ensures.run (state_of c.args.session.now) between in
-    let out = rw next.1 (rw next.1 at run) in
+    let out : IsRun g.S.Source.may_answer (g.P.Execute.program c.next_round.new.self.plan) (state_of c.args.session.now) (state_of c.next_round.new.session) c.next_round.new.self.rounds Out = rw next.1 (rw next.1 at run) in
     let lost = c.in_err-make_round-in-Round.ensures.lost (state_of c.args.session.now) out in
     on-err c.from_residual-in_err-make_round-in-Round.result (rw kept at lost)
 
@@ -63,8 +63,9 @@ loop-answer-preserved g c =
     let next = rw c.in-Round.is at c.in_ok-answer.ensures.next in
     let kept : c.next_round.new.self.plan ≡ c.args.plan.now = ap (λ (r : RunOf _). r.plan) next.1 ∙ same in
     let run = c.in_ok-answer.ensures.run (state_of c.args.session.now) between in
-    let out = rw next.1 (rw next.1 at run) in
-    let made = rw kept at c.in_ok-make_round-in-Round.ensures.made (state_of c.args.session.now) out in
+    let out : IsRun g.S.Source.may_answer (g.P.Execute.program c.next_round.new.self.plan) (state_of c.args.session.now) (state_of c.next_round.new.session) c.next_round.new.self.rounds Out = rw next.1 (rw next.1 at run) in
+    let stores = c.in_ok-make_round-in-Round.ensures.made (state_of c.args.session.now) out in
+    let made = rw kept at stores in
     let ready = c.in_ok-make_round-in-Round.ensures.ready in
     record { run = rw (ready, kept) refl; between = rw ready made }
 

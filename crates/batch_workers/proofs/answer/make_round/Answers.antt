@@ -17,7 +17,7 @@ returns-in_err-shelf-clause-lost g c =
 pub run_round-requires-clause-loaders : goal.run_round-requires-clause-loaders
 run_round-requires-clause-loaders g c =
     let p : Program = g.P.Execute.program c.args.run.now.plan in
-    rw (c.loaders.ensures, c.requires.orders) (have-loaders (state_of c.args.session.now) p)
+    λ κs l. rw (c.loaders.ensures, c.requires.orders) (have-loaders (state_of c.args.session.now) p)
 
 pub returns-in_err-receipts-clause-lost : goal.returns-in_err-receipts-clause-lost
 returns-in_err-receipts-clause-lost g c =
