@@ -5,6 +5,7 @@ use crate::probe::{Board, Manner, Probe};
 use crate::sample::{plan_of, push_key, read, session};
 use batch_workers::{WorkFault, answer_with};
 use gq_check::Plan;
+use gq_schema::{Bindings, Schema};
 use load_memory::Key;
 use load_rounds::{Answer, Session};
 use std::alloc::{AllocError, AllocGlobal, Global};
@@ -12,6 +13,12 @@ use std::process::Abort;
 use std::sync::Wait;
 use std::test::Fail;
 use std::thread::Threads;
+
+/// The first of these users and one who isn't there were loaded before.
+const MISSING: &str = "{usersByIds(ids:[1,9,2]){name}}";
+
+const ASKED_ONCE: &str =
+    "{\"data\":{\"usersByIds\":[{\"name\":\"Ada\"},null,{\"name\":\"Bob\"}]}} 1 rounds: userById 1: 1 9;userById 2: 2; 2 calls";
 
 /// A query over sources of this manner, and what is told of its answer with so many workers.
 struct Case {
@@ -169,38 +176,62 @@ fn told(
     Ok(text)
 }
 
-#[test]
-fn answers_with_workers(rt: HostRuntime) -> Result<(), Fail> {
-    let (schema, bindings) = read(rt.alloc())?;
-    for case in CASES {
-        let board = Board::new();
-        let plan = plan_of(rt.alloc(), &schema, &bindings, case.query)?;
-        let mut session = session(rt.alloc(), &board, case.manner, case.limit)?;
-        let answered = answer(&rt, &mut session, &plan, case.workers)?;
-        let found = told(rt.alloc(), answered, &session, &board)?;
-        expect(&rt, &found, case.told, case.query);
-    }
-    Ok(())
+/// What is told of the answer of a new session, and of its calls.
+fn case_told<R: Threads + Wait + AllocGlobal + Sync>(
+    rt: &R,
+    schema: &Schema,
+    bindings: &Bindings,
+    case: &Case,
+) -> Result<String, Fail> {
+    let board = Board::new();
+    let plan = plan_of(rt.alloc(), schema, bindings, case.query)?;
+    let mut session = session(rt.alloc(), &board, case.manner, case.limit)?;
+    let answered = answer(rt, &mut session, &plan, case.workers)?;
+    told(rt.alloc(), answered, &session, &board)
 }
 
-/// What a session knows isn't asked by workers: the first user and the ninth were loaded.
-#[test]
-fn workers_ask_what_is_missing(rt: HostRuntime) -> Result<(), Fail> {
+/// Of each case what is wanted is told.
+fn expect_cases<R: Threads + Wait + AllocGlobal + Abort + Sync>(
+    rt: &R,
+    cases: &[Case],
+) -> Result<(), Fail> {
     let (schema, bindings) = read(rt.alloc())?;
-    let board = Board::new();
-    let mut session = session(rt.alloc(), &board, Manner::Prompt, None)?;
-    let keys = [text_key(rt.alloc(), "1")?, text_key(rt.alloc(), "9")?];
-    let _known = session.load_many(0, &keys)?;
-    let query = "{usersByIds(ids:[1,9,2]){name}}";
-    let plan = plan_of(rt.alloc(), &schema, &bindings, query)?;
-    let answered = answer(&rt, &mut session, &plan, 2)?;
-    let found = told(rt.alloc(), answered, &session, &board)?;
-    let wanted =
-        "{\"data\":{\"usersByIds\":[{\"name\":\"Ada\"},null,{\"name\":\"Bob\"}]}} 1 rounds: userById 1: 1 9;userById 2: 2; 2 calls";
-    expect(&rt, &found, wanted, query);
+    for case in cases {
+        let found = case_told(rt, &schema, &bindings, case)?;
+        expect(rt, &found, case.told, case.query);
+    }
     Ok(())
 }
 
 fn text_key(alloc: Global, key: &str) -> Result<Key, AllocError> {
     Ok(Key::Text(String::from_str(alloc, key)?))
+}
+
+/// What is told of an answer by two workers after two users were loaded.
+fn told_after<R: Threads + Wait + AllocGlobal + Sync>(
+    rt: &R,
+    first: &str,
+    second: &str,
+    query: &str,
+) -> Result<String, Fail> {
+    let (schema, bindings) = read(rt.alloc())?;
+    let board = Board::new();
+    let mut session = session(rt.alloc(), &board, Manner::Prompt, None)?;
+    let keys = [text_key(rt.alloc(), first)?, text_key(rt.alloc(), second)?];
+    let _known = session.load_many(0, &keys)?;
+    let plan = plan_of(rt.alloc(), &schema, &bindings, query)?;
+    let answered = answer(rt, &mut session, &plan, 2)?;
+    told(rt.alloc(), answered, &session, &board)
+}
+
+#[test]
+fn answers_with_workers(rt: HostRuntime) -> Result<(), Fail> {
+    expect_cases(&rt, CASES)
+}
+
+#[test]
+fn workers_ask_what_is_missing(rt: HostRuntime) -> Result<(), Fail> {
+    let found = told_after(&rt, "1", "9", MISSING)?;
+    expect(&rt, &found, ASKED_ONCE, MISSING);
+    Ok(())
 }
