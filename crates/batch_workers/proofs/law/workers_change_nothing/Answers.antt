@@ -1,0 +1,13 @@
+use Rattle.std.specs.Prelude.{string_bytes}
+use Rattle.load_rounds.proofs.KeyByKey.{one-state, one-text, one-count}
+use Rattle.batch_workers.proofs.law.workers_change_nothing.Goals as goal
+
+pub returns : goal.returns
+returns g c = λ old turned worked p text_of turn work t w.
+    let may = g.S.Source.may_answer in
+    let item = g.S.PerKey.item_at in
+    let told = (g.met.S.PerKey g.world.𝓛 g.world.𝓜 g.world.𝓡 ((λ s x. x), (λ x. x), (λ x. x), (λ x. x))).key_by_key in (
+      one-text may item told old worked turned p text_of (string_bytes work.text) (string_bytes turn.text) work.rounds turn.rounds w t,
+      one-count may item told old worked turned p text_of (string_bytes work.text) (string_bytes turn.text) work.rounds turn.rounds w t,
+      one-state may item told old worked turned p text_of (string_bytes work.text) (string_bytes turn.text) work.rounds turn.rounds w t,
+    )

@@ -1,0 +1,29 @@
+-- How many workers there may be, and what they don't change.
+use Rattle.std.specs.Prelude.{◌≡◌, ◌<◌, ◌⊎◌, ℕ, List, string_bytes}
+use Rattle.load_memory.specs.Keys.{KeyOf}
+use Rattle.load_queue.specs.Answers.{AnswerOf}
+use Rattle.execution.specs.Program.{Program}
+use Rattle.execution.specs.Completion.{AnsweredOf}
+use Rattle.load_rounds.specs.Sessions.{StateOf}
+use Rattle.load_rounds.specs.Headline.{Headline, StopsAnswering}
+use Rattle.load_rounds.specs.Runs.{IsRun}
+use Rattle.load_rounds.specs.declared.answer.Answer.{Answer}
+use Rattle.load_rounds.specs.declared.run.Stage.TheVariants.{Ready, Out}
+
+-- a number of workers that is refused
+abbrev pub IsBadCount : ℕ → Type 0
+IsBadCount workers = (workers ≡ 0) ⊎ (16 < workers)
+
+-- Two answers to one program from one state, the first in turn, the second with workers: the same text and rounds, and the same
+-- memory and logs after them.
+abbrev pub ChangeNothing : {S : Type 0} → (S → List KeyOf → AnswerOf → Type 0) → Type 0
+ChangeNothing {S} may = (old turned worked : StateOf S) (p : Program) (text_of : AnsweredOf → List ℕ) (turn work : Answer)
+    → Headline may old turned p text_of (string_bytes turn.text) turn.rounds → Headline may old worked p text_of (string_bytes work.text) work.rounds
+    → (string_bytes work.text ≡ string_bytes turn.text) × (work.rounds ≡ turn.rounds) × (worked ≡ turned)
+
+-- No public clause names them. From whichever state a run was begun: its round that was out is stored; or it is lost.
+abbrev pub StoresRound : {S : Type 0} → (S → List KeyOf → AnswerOf → Type 0) → Program → StateOf S → StateOf S → ℕ → Type 0
+StoresRound {S} may p old new rounds = (begun : StateOf S) → IsRun may p begun old rounds Out → IsRun may p begun new rounds Ready
+
+abbrev pub LosesRound : {S : Type 0} → (S → List KeyOf → AnswerOf → Type 0) → Program → StateOf S → StateOf S → ℕ → Type 0
+LosesRound {S} may p old new rounds = (begun : StateOf S) → IsRun may p begun old rounds Out → StopsAnswering may begun new p

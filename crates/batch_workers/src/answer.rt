@@ -1,0 +1,93 @@
+//! Answers with workers: round after round until nothing is missing, each by workers over a shelf of its own.
+ghost use Rattle.std.specs.Prelude.{◌≡◌, ◌<◌, ◌≤◌, ◌↔◌, length, IfOk, OnOk, OnErr, IsErrOf, string_bytes};
+ghost use Rattle.load_rounds.specs.Sessions.{state_of};
+ghost use Rattle.load_rounds.specs.Headline.{Headline, StopsAnswering};
+ghost use Rattle.load_rounds.specs.Runs.{run_of, orders_in};
+ghost use Rattle.batch_workers.specs.Workers.{IsBadCount, StoresRound, LosesRound};
+
+use crate::fault::WorkFault;
+use load_memory::{NoMemory, Shelf};
+use load_queue::{Order, Source};
+use load_rounds::{Answer, Execute, Next, Run, Session, Stage};
+use round_workers::round::MOST_WORKERS;
+use round_workers::run_round;
+use std::sync::Wait;
+use std::thread::Threads;
+
+/// Answers a plan as [`Session::answer`] does, where the session has the plan's loaders; the batches of each round are run by
+/// this many workers at the same time, 1 to 16. The calling thread is one of them, and a round of one batch starts no thread.
+/// All workers have ended when it returns.
+///
+/// # Errors
+///
+/// [`BadCount`](WorkFault::BadCount) exactly where the number of workers isn't 1 to 16: nothing was asked then, and the session
+/// is as it was, failed batches too. [`NoMemory`](WorkFault::NoMemory) where a growth was refused: the finished rounds stay, and
+/// a round that was out is lost.
+pub fn answer_with<S: Source, P: Execute, R: Threads + Wait + Sync>(
+    rt: &R,
+    session: &mut Session<S>,
+    plan: &P,
+    workers: usize,
+) -> Result<Answer, WorkFault>
+    requires { P.loaders plan.now ≤ length session.old.loaders }
+    ensures bad_count { IsErrOf result WorkFault.BadCount ↔ IsBadCount workers }
+    ensures refused { IsErrOf result WorkFault.BadCount → session.new ≡ session.old }
+    ensures answer { IfOk result (λ a. Headline S.may_answer (state_of session.old) (state_of session.new)
+        (P.program plan.now) (P.text_of plan.now) (string_bytes a.text) a.rounds) }
+    ensures stopped { IsErrOf result WorkFault.NoMemory
+        → StopsAnswering S.may_answer (state_of session.old) (state_of session.new) (P.program plan.now) }
+{
+    if workers == 0 || workers > MOST_WORKERS {
+        return Err(WorkFault::BadCount);
+    }
+    match answered(rt, session, plan, workers) {
+        Ok(answer) => Ok(answer),
+        Err(_) => Err(WorkFault::NoMemory),
+    }
+}
+
+// Makes round after round until nothing is missing.
+fn answered<S: Source, P: Execute, R: Threads + Wait + Sync>(
+    rt: &R,
+    session: &mut Session<S>,
+    plan: &P,
+    workers: usize,
+) -> Result<Answer, NoMemory>
+    requires count { (0 < workers) × (workers ≤ 16) }
+    requires loaders { P.loaders plan.now ≤ length session.old.loaders }
+    ensures answer { IfOk result (λ a. Headline S.may_answer (state_of session.old) (state_of session.new)
+        (P.program plan.now) (P.text_of plan.now) (string_bytes a.text) a.rounds) }
+    ensures stopped { OnErr result (StopsAnswering S.may_answer (state_of session.old) (state_of session.new)
+        (P.program plan.now)) }
+{
+    let mut run = session.begin(plan)?;
+    loop {
+        match run.next_round(session)? {
+            Next::Finished(answer) => return Ok(answer),
+            Next::Round(orders) => make_round(rt, session, &mut run, orders, workers)?,
+        }
+    }
+}
+
+// Runs the orders of the round that is out, and stores their replies.
+fn make_round<S: Source, P: Execute, R: Threads + Wait + Sync>(
+    rt: &R,
+    session: &mut Session<S>,
+    run: &mut Run<'_, P>,
+    orders: Vec<Order>,
+    workers: usize,
+) -> Result<(), NoMemory>
+    requires count { (0 < workers) × (workers ≤ 16) }
+    requires out { run.old.stage ≡ Stage.Out }
+    requires orders { orders.items ≡ orders_in (state_of session.old) (P.program run.old.plan) }
+    ensures ready { OnOk result (run.new ≡ run_of run.old.plan run.old.rounds Stage.Ready) }
+    ensures made { OnOk result (StoresRound S.may_answer (P.program run.old.plan) (state_of session.old)
+        (state_of session.new) run.old.rounds) }
+    ensures lost { OnErr result (LosesRound S.may_answer (P.program run.old.plan) (state_of session.old)
+        (state_of session.new) run.old.rounds) }
+{
+    let alloc = *orders.allocator();
+    let shelf = Shelf::new(alloc)?;
+    let receipts = run_round(rt, alloc, session.loaders(), &shelf, orders, workers)?;
+    run.take(session, &shelf, receipts.as_slice())
+}
