@@ -11,7 +11,6 @@ use gq_check::Plan;
 use load_memory::{Cell, Item, Key, Outcome, Row};
 use load_rounds::{Session, SessionFault};
 use std::alloc::{AllocError, Global};
-use std::sync::atomic::AtomicU64;
 use world::World;
 
 /// A session of this crate.
@@ -153,13 +152,7 @@ fn answer(alloc: Global, session: &mut Asking<'_>, plan: &Plan<'_>) -> Result<St
 }
 
 /// Makes a call of a session, and gives what it tells.
-fn tell(
-    alloc: Global,
-    world: &World,
-    counters: &[AtomicU64],
-    session: &mut Asking<'_>,
-    line: &str,
-) -> Result<String> {
+fn tell(alloc: Global, world: &World, session: &mut Asking<'_>, line: &str) -> Result<String> {
     let (call, words) = line.split_once(' ').unwrap_or((line, ""));
     match call {
         "answer" => {
@@ -172,7 +165,6 @@ fn tell(
         }
         "known" => Ok(format!(in alloc; "{}", session.memory().len())?),
         "asked" => Ok(asked(alloc, session)?),
-        "calls" => counted(alloc, session, counters, true),
         _ => call_loader(alloc, session, call, words),
     }
 }
@@ -184,9 +176,14 @@ pub fn told(alloc: Global, world: &World, manner: &Manner<'_>, text: &str) -> Re
     let mut told = String::new(alloc);
     for line in text.lines() {
         told.push_str(if told.is_empty() { "" } else { "\n" })?;
-        told.push_str(&tell(alloc, world, &counters, &mut session, line)?)?;
+        let line_told = if line == "calls" {
+            counted(alloc, &session, &counters, manner.has_memory())?
+        } else {
+            tell(alloc, world, &mut session, line)?
+        };
+        told.push_str(&line_told)?;
     }
-    counted(alloc, &session, &counters, true)?;
+    counted(alloc, &session, &counters, manner.has_memory())?;
     Ok(told)
 }
 

@@ -46,12 +46,7 @@ fn put_arguments(
 }
 
 /// The response keys that selections give an object type, each with the number of its fields and its arguments.
-fn collected(
-    alloc: Global,
-    plan: &Plan<'_>,
-    ty: &str,
-    selections: &[Selection],
-) -> Result<String> {
+fn collected(alloc: Global, plan: &Plan<'_>, ty: &str, selections: &[Selection]) -> Result<String> {
     let mut text = String::new(alloc);
     for group in &collect(alloc, plan, ty, selections)? {
         text.push_str(if text.is_empty() { "" } else { "; " })?;

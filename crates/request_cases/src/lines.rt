@@ -14,9 +14,9 @@ use world::World;
 /// Answers each line, which is a query, in a session of its own, by the text of the answer and how often each source was asked.
 /// It counts how often it answers.
 #[derive(Drop)]
-struct Lines<'w> {
+struct Lines<'w, 'c> {
     world: &'w World,
-    calls: &'w AtomicU64,
+    calls: &'c AtomicU64,
 }
 
 /// The answer of a line.
@@ -33,7 +33,7 @@ fn line_told(alloc: Global, world: &World, line: &[u8]) -> Result<String> {
     Ok(format!(in alloc; "{} {calls}", answer.text)?)
 }
 
-impl<'w> Answerer for Lines<'w> {
+impl<'w, 'c> Answerer for Lines<'w, 'c> {
     ghost answered_by = { λ _ _ _. Unit {0} };
 
     fn answer(&self, alloc: Global, line: &[u8]) -> Result<String, NoMemory> {
@@ -51,7 +51,15 @@ pub fn told(alloc: Global, world: &World, text: &str) -> Result<String> {
     let mut reader = Counted::new(text.as_bytes());
     let mut written = Vec::new(alloc);
     let mut writer = Counted::new(&mut written);
-    let served = serve(alloc, &Lines { world, calls: &calls }, &mut reader, &mut writer)?;
+    let served = serve(
+        alloc,
+        &Lines {
+            world,
+            calls: &calls,
+        },
+        &mut reader,
+        &mut writer,
+    )?;
     drop(writer);
     let answered = calls.load(Ordering::SeqCst);
     let written = str::from_utf8(written.as_slice())?;

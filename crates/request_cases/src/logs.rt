@@ -6,6 +6,7 @@ use load_memory::Key;
 use load_queue::Loader;
 use load_rounds::Session;
 use std::alloc::{AllocError, Global};
+use std::sync::Arc;
 use std::sync::atomic::{AtomicU64, Ordering};
 
 /// Adds the keys of a batch to a text, a space between two.
@@ -23,7 +24,12 @@ pub fn push_keys(text: &mut String, keys: &[Key]) -> Result<(), AllocError> {
 }
 
 /// Adds a batch to a text, as `2 postsByAuthor [1 2]`.
-pub fn push_batch(text: &mut String, round: u32, name: &str, keys: &[Key]) -> Result<(), AllocError> {
+pub fn push_batch(
+    text: &mut String,
+    round: u32,
+    name: &str,
+    keys: &[Key],
+) -> Result<(), AllocError> {
     text.push_str(if text.is_empty() { "" } else { "; " })?;
     write!(text, "{round} {name} [")?;
     push_keys(text, keys)?;
@@ -81,7 +87,7 @@ fn stored(loader: &Loader<CountingSource<'_>>) -> u64 {
 pub fn counted(
     alloc: Global,
     session: &Session<CountingSource<'_>>,
-    counters: &[AtomicU64],
+    counters: &[Arc<AtomicU64>],
     is_whole: bool,
 ) -> Result<String> {
     let mut text = String::new(alloc);

@@ -63,6 +63,16 @@ impl<'a> Manner<'a> {
         }
     }
 
+    /// Whether no source lacks memory.
+    pub fn has_memory(&self) -> bool {
+        for (_, deed) in &self.deeds {
+            if matches!(deed, Deed::LacksMemory) {
+                return false;
+            }
+        }
+        true
+    }
+
     /// What the source of a loader does.
     pub fn deed(&self, loader: &str) -> Deed {
         for (name, deed) in &self.deeds {

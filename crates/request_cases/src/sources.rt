@@ -9,6 +9,7 @@ use load_memory::{Item, Key};
 use load_queue::{FetchFault, Loader, PerKey, Source};
 use load_rounds::Session;
 use std::alloc::{AllocError, Global};
+use std::sync::Arc;
 use std::sync::atomic::{AtomicU64, Ordering};
 use world::World;
 
@@ -16,8 +17,8 @@ use world::World;
 #[derive(Drop)]
 pub struct CountingSource<'w> {
     source: CsvSource<'w>,
-    calls: &'w AtomicU64,
-    bad_key: Option<&'w str>,
+    calls: Arc<AtomicU64>,
+    bad_key: Option<String>,
     deed: Deed,
 }
 
@@ -55,7 +56,7 @@ impl<'w> Source for CountingSource<'w> {
     fn fetch(&self, alloc: Global, keys: &[Key]) -> Result<Vec<Item>, FetchFault> {
         self.calls.fetch_add(1, Ordering::SeqCst);
         let mut items = self.source.fetch(alloc, keys)?;
-        if let Some(bad) = self.bad_key {
+        if let Some(bad) = &self.bad_key {
             give_fault(alloc, &mut items, keys, bad)?;
         }
         match self.deed {
@@ -69,10 +70,10 @@ impl<'w> Source for CountingSource<'w> {
 }
 
 /// A counter for each loader of a world.
-pub fn counters(alloc: Global, world: &World) -> Result<Vec<AtomicU64>, AllocError> {
+pub fn counters(alloc: Global, world: &World) -> Result<Vec<Arc<AtomicU64>>, AllocError> {
     let mut counters = Vec::new(alloc);
     for _ in 0..world.loaders() {
-        counters.push(AtomicU64::new(0))?;
+        counters.push(Arc::new(alloc, AtomicU64::new(0))?)?;
     }
     Ok(counters)
 }
@@ -82,22 +83,26 @@ fn loader<'w>(
     alloc: Global,
     world: &'w World,
     number: usize,
-    counters: &'w [AtomicU64],
-    manner: &Manner<'w>,
+    counters: &[Arc<AtomicU64>],
+    manner: &Manner<'_>,
 ) -> Result<Loader<CountingSource<'w>>>
     ensures { IfOk result (λ loader. loader.log ≡ []) }
 {
     if number >= world.loaders() {
         bail!("no such loader");
     }
-    let calls = counters.get(number).context("no counter")?;
+    let calls = Arc::try_clone(counters.get(number).context("no counter")?)?;
+    let bad_key = match manner.bad_key {
+        Some(key) => Some(String::from_str(alloc, key)?),
+        None => None,
+    };
     let name = world.bindings().loaders()[number].name.as_str();
     let source = world.source(number);
     let mode = source.mode();
     let counting = CountingSource {
         source,
         calls,
-        bad_key: manner.bad_key,
+        bad_key,
         deed: manner.deed(name),
     };
     Ok(Loader::new(alloc, name, counting, mode, world.limit())?)
@@ -107,8 +112,8 @@ fn loader<'w>(
 pub fn session<'w>(
     alloc: Global,
     world: &'w World,
-    counters: &'w [AtomicU64],
-    manner: &Manner<'w>,
+    counters: &[Arc<AtomicU64>],
+    manner: &Manner<'_>,
 ) -> Result<Session<CountingSource<'w>>> {
     let mut loaders = Vec::new(alloc);
     for number in 0..world.loaders() {

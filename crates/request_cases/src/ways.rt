@@ -18,8 +18,8 @@ use load_rounds::{Answer, Execute, Session};
 use std::alloc::{AllocGlobal, Global};
 use std::io;
 use std::random::RandomSource;
-use std::sync::Wait;
 use std::sync::atomic::AtomicU64;
+use std::sync::{Arc, Wait};
 use world::World;
 
 /// An answer in turn.
@@ -38,7 +38,7 @@ fn told(
     alloc: Global,
     answer: Result<Answer, NoMemory>,
     session: &Session<CountingSource<'_>>,
-    counters: &[AtomicU64],
+    counters: &[Arc<AtomicU64>],
 ) -> Result<String> {
     let asked = asked(alloc, session)?;
     let calls = counted(alloc, session, counters, answer.is_ok())?;
