@@ -1,0 +1,42 @@
+use Rattle.std.proofs.Common.{◌≡◌, ◌<◌, ◌≤◌, ◌+◌, ◌∙◌, ℕ, map, length, ap, sym, arith}
+use Rattle.load_memory.specs.Shelves.{shown}
+use Rattle.load_queue.specs.Orders.{OrderOf}
+use Rattle.execution.specs.Program.{Program}
+use Rattle.load_rounds.specs.Sessions.{state_of}
+use Rattle.load_rounds.specs.Runs.{RunOf, IsRound}
+use Rattle.load_rounds.proofs.Runs.{between-loaders, round-below, round-orders}
+use Rattle.request_cases.proofs.by_hand.answered.Goals as goal
+
+pub next_round-requires-clause-loaders : goal.next_round-requires-clause-loaders
+next_round-requires-clause-loaders g c =
+    let p : Program = g.P.Execute.program c.args.plan.now in
+    let size = between-loaders g.S.Asks.may_tell p (state_of c.args.session.now) (state_of c.loop-answer.session) c.loop-answer.run.rounds c.loop-answer.invariant.between in
+    rw c.loop-answer.invariant.run (omega (arith, c.requires, size))
+
+pub returns-in-Finished : goal.returns-in-Finished
+returns-in-Finished g c =
+    let same : c.loop-answer.run.plan ≡ c.args.plan.now = ap (λ (r : RunOf _). r.plan) c.loop-answer.invariant.run in
+    let between = rw (← same) at c.loop-answer.invariant.between in
+    let done = c.in_ok-answer.ensures.answer (state_of c.args.session.now) between in
+    rw (c.in-Finished.is, same) at done
+
+pub received-requires : goal.received-requires
+received-requires g c =
+    let p : Program = g.P.Execute.program c.loop-answer.run.plan in
+    let next = rw c.in-Round.is at c.in_ok-answer.ensures.next in
+    rw c.loaders.ensures (round-below p (state_of c.loop-answer.session) (state_of c.next_round.new.session) c.in-Round.orders.items next.0)
+
+pub take-requires-clause-round : goal.take-requires-clause-round
+take-requires-clause-round g c =
+    let p : Program = g.P.Execute.program c.loop-answer.run.plan in
+    let next = rw c.in-Round.is at c.in_ok-answer.ensures.next in
+    let same : c.next_round.new.self.plan ≡ c.loop-answer.run.plan = ap (λ (r : RunOf _). r.plan) next.1 in
+    let orders = round-orders p (state_of c.loop-answer.session) (state_of c.next_round.new.session) c.in-Round.orders.items next.0 in
+    rw (same, orders, c.as_slice-in-Round.ensures.value, ← c.loaders.ensures) c.in_ok-receipts-in-Round.ensures.received
+
+pub loop-answer-smaller : goal.loop-answer-smaller
+loop-answer-smaller g c =
+    let next = rw c.in-Round.is at c.in_ok-answer.ensures.next in
+    let more : c.next_round.new.self.rounds ≡ c.loop-answer.run.rounds + 1 = ap (λ (r : RunOf _). r.rounds) next.1 in
+    let kept : c.take.new.self.rounds ≡ c.next_round.new.self.rounds = ap (λ (r : RunOf _). r.rounds) c.in_ok-take-in-Round.ensures.ready in
+    omega (arith, more, kept, c.next_round.ensures.bounded)

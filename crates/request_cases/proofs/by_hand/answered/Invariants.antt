@@ -1,0 +1,14 @@
+use Rattle.std.proofs.Common.{◌≡◌, ◌≤◌, ◌-◌, ◌^◌, length}
+use Rattle.load_rounds.specs.declared.run.Stage.TheVariants.{Ready}
+use Rattle.load_rounds.specs.Sessions.{state_of}
+use Rattle.load_rounds.specs.Runs.{run_of, IsBetween}
+use Rattle.request_cases.proofs.by_hand.answered.Given as goal
+
+abbrev pub invariant-loop-answer : goal.invariant-loop-answer
+invariant-loop-answer g l = record {
+  run : l.run ≡ run_of l.plan l.run.rounds Ready;
+  between : IsBetween g.S.Asks.may_tell (g.P.Execute.program l.plan) (state_of l.fn.session) (state_of l.session) l.run.rounds;
+}
+
+abbrev pub decreases-loop-answer : goal.decreases-loop-answer
+decreases-loop-answer g l = 2 ^ 32 - l.run.rounds

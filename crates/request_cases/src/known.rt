@@ -1,0 +1,67 @@
+//! What is told of a plan over what is known: its answer, or what it waits for.
+
+ghost use Rattle.std.specs.Prelude.{◌≤◌, length};
+ghost use Rattle.gq_check.specs.Plans.{plan_of};
+
+use crate::logs::push_keys;
+use anyhow::{Result, bail};
+use futures::task::Poll;
+use gq_check::Plan;
+use gq_resolve::{answer_text, evaluate, execute_text};
+use load_memory::Memory;
+use load_queue::Wants;
+use std::alloc::Global;
+use world::World;
+
+/// The keys that are wanted of each of so many loaders.
+fn wanted(alloc: Global, world: &World, loaders: usize, wants: &Wants) -> Result<String>
+    requires { loaders ≤ length wants.now }
+{
+    let mut text = String::from_str(alloc, "waits for")?;
+    for loader in 0..loaders {
+        let keys = wants.keys(loader);
+        if let Some(line) = world.bindings().loaders().get(loader)
+            && !keys.is_empty()
+        {
+            write!(text, " {} [", line.name)?;
+            push_keys(&mut text, keys)?;
+            text.push(']')?;
+        }
+    }
+    Ok(text)
+}
+
+/// The answer of a plan, or what it waits for, by building it.
+fn evaluated(alloc: Global, world: &World, plan: &Plan<'_>, memory: &Memory) -> Result<String>
+    requires { length (plan_of plan.now).bindings.loaders ≤ length memory.now.modes }
+{
+    let mut wants = Wants::new(alloc, memory)?;
+    match evaluate(alloc, plan, memory, &mut wants)? {
+        Poll::Ready(answered) => Ok(answer_text(alloc, &answered)?),
+        Poll::Pending => wanted(alloc, world, memory.modes().len(), &wants),
+    }
+}
+
+/// The same, written straight from the rows.
+fn written(alloc: Global, world: &World, plan: &Plan<'_>, memory: &Memory) -> Result<String>
+    requires { length (plan_of plan.now).bindings.loaders ≤ length memory.now.modes }
+{
+    let mut wants = Wants::new(alloc, memory)?;
+    match execute_text(alloc, plan, memory, &mut wants)? {
+        Poll::Ready(text) => Ok(text),
+        Poll::Pending => wanted(alloc, world, memory.modes().len(), &wants),
+    }
+}
+
+/// What both give, which has to be the same.
+pub fn told(alloc: Global, world: &World, plan: &Plan<'_>, memory: &Memory) -> Result<String> {
+    if plan.loaders() > memory.modes().len() {
+        bail!("too few loaders");
+    }
+    let text = written(alloc, world, plan, memory)?;
+    let other = evaluated(alloc, world, plan, memory)?;
+    if text != other {
+        bail!("written {text}, evaluated {other}");
+    }
+    Ok(text)
+}

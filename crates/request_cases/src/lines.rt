@@ -1,0 +1,67 @@
+//! Requests on lines, which are answered as they are served.
+
+use crate::logs::counted;
+use crate::manner::Manner;
+use crate::sources::{counters, session};
+use crate::ways::answer_in_turn;
+use crate::worlds::{plan_of, refusal};
+use anyhow::Result;
+use line_serving::{Answerer, Counted, NoMemory, serve};
+use std::alloc::Global;
+use std::sync::atomic::{AtomicU64, Ordering};
+use world::World;
+
+/// Answers each line, which is a query, in a session of its own, by the text of the answer and how often each source was asked.
+/// It counts how often it answers.
+#[derive(Drop)]
+struct Lines<'w, 'c> {
+    world: &'w World,
+    calls: &'c AtomicU64,
+}
+
+/// The answer of a line.
+fn line_told(alloc: Global, world: &World, line: &[u8]) -> Result<String> {
+    let counters = counters(alloc, world)?;
+    let manner = Manner::plain(alloc);
+    let mut session = session(alloc, world, &counters, &manner)?;
+    let plan = match plan_of(alloc, world, str::from_utf8(line)?)? {
+        Ok(plan) => plan,
+        Err(fault) => return refusal(alloc, &fault),
+    };
+    let answer = answer_in_turn(&mut session, &plan)??;
+    let calls = counted(alloc, &session, &counters, true)?;
+    Ok(format!(in alloc; "{} {calls}", answer.text)?)
+}
+
+impl<'w, 'c> Answerer for Lines<'w, 'c> {
+    ghost answered_by = { λ _ _ _. Unit {0} };
+
+    fn answer(&self, alloc: Global, line: &[u8]) -> Result<String, NoMemory> {
+        self.calls.fetch_add(1, Ordering::SeqCst);
+        match line_told(alloc, self.world, line) {
+            Ok(text) => Ok(text),
+            Err(error) => Ok(format!(in alloc; "an error: {error}")?),
+        }
+    }
+}
+
+/// What is written for lines, and then how many lines there were and how often one was answered.
+pub fn told(alloc: Global, world: &World, text: &str) -> Result<String> {
+    let calls = AtomicU64::new(0);
+    let mut reader = Counted::new(text.as_bytes());
+    let mut written = Vec::new(alloc);
+    let mut writer = Counted::new(&mut written);
+    let served = serve(
+        alloc,
+        &Lines {
+            world,
+            calls: &calls,
+        },
+        &mut reader,
+        &mut writer,
+    )?;
+    drop(writer);
+    let answered = calls.load(Ordering::SeqCst);
+    let written = str::from_utf8(written.as_slice())?;
+    Ok(format!(in alloc; "{written}{served} lines, {answered} answers")?)
+}

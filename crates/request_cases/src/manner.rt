@@ -1,0 +1,85 @@
+//! How sources are asked and what goes wrong in them, as the words behind a question say.
+
+use anyhow::{Context, Result};
+use std::alloc::Global;
+
+/// What a source does with the items of a batch.
+#[derive(Clone, Copy)]
+pub enum Deed {
+    Answers,
+    /// It fails, with its own words.
+    Fails,
+    LacksMemory,
+    /// It gives so many items, whatever it is asked.
+    Gives(usize),
+}
+
+/// At most how many keys a batch has, the key that each source has a fault of, and what the source of a loader does.
+#[derive(Drop)]
+pub struct Manner<'a> {
+    pub limit: Option<u32>,
+    pub bad_key: Option<&'a str>,
+    deeds: Vec<(&'a str, Deed)>,
+}
+
+/// What `fails`, `lacks memory` and `gives 1 item` stand for.
+fn deed_of(words: &str) -> Result<Deed> {
+    match words {
+        "fails" => Ok(Deed::Fails),
+        "lacks memory" => Ok(Deed::LacksMemory),
+        _ => {
+            let count = words.strip_prefix("gives ").context("no such source")?;
+            let (count, _) = count.split_once(' ').context("no items")?;
+            Ok(Deed::Gives(count.parse()?))
+        }
+    }
+}
+
+impl<'a> Manner<'a> {
+    /// The manner of `batches of 3`, `fault of bad` and `userById fails`, which `, ` parts.
+    pub fn of(alloc: Global, words: &'a str) -> Result<Manner<'a>> {
+        let mut manner = Manner {
+            limit: None,
+            bad_key: None,
+            deeds: Vec::new(alloc),
+        };
+        for part in words.split(", ") {
+            let (first, rest) = part.split_once(' ').context("no manner")?;
+            match (first, rest.strip_prefix("of ")) {
+                ("batches", Some(limit)) => manner.limit = Some(limit.parse()?),
+                ("fault", Some(key)) => manner.bad_key = Some(key),
+                _ => manner.deeds.push((first, deed_of(rest)?))?,
+            }
+        }
+        Ok(manner)
+    }
+
+    /// Nothing goes wrong, and a batch has all keys.
+    pub fn plain(alloc: Global) -> Manner<'a> {
+        Manner {
+            limit: None,
+            bad_key: None,
+            deeds: Vec::new(alloc),
+        }
+    }
+
+    /// Whether no source lacks memory.
+    pub fn has_memory(&self) -> bool {
+        for (_, deed) in &self.deeds {
+            if matches!(deed, Deed::LacksMemory) {
+                return false;
+            }
+        }
+        true
+    }
+
+    /// What the source of a loader does.
+    pub fn deed(&self, loader: &str) -> Deed {
+        for (name, deed) in &self.deeds {
+            if *name == loader {
+                return *deed;
+            }
+        }
+        Deed::Answers
+    }
+}

@@ -1,0 +1,144 @@
+//! Answers of new sessions in turn, in rounds by hand and by an executor.
+
+ghost use Rattle.std.specs.Prelude.{◌≤◌, length, IfOk};
+ghost use Rattle.load_rounds.specs.Sessions.{state_of};
+ghost use Rattle.load_rounds.specs.Headline.{Answers};
+
+use crate::by_hand::{Noted, answered};
+use crate::known;
+use crate::logs::{asked, counted};
+use crate::manner::Manner;
+use crate::sources::{CountingSource, counters, session};
+use anyhow::{Result, bail};
+use futures::executor::block_on;
+use gq_check::Plan;
+use load_memory::NoMemory;
+use load_queue::Asks;
+use load_rounds::{Answer, Execute, Session};
+use std::alloc::{AllocGlobal, Global};
+use std::io;
+use std::random::RandomSource;
+use std::sync::atomic::AtomicU64;
+use std::sync::{Arc, Wait};
+use world::World;
+
+/// An answer in turn.
+pub fn answer_in_turn<S: Asks>(
+    session: &mut Session<S>,
+    plan: &Plan<'_>,
+) -> Result<Result<Answer, NoMemory>> {
+    if session.loaders().len() < plan.loaders() {
+        bail!("too few loaders");
+    }
+    Ok(session.answer(plan))
+}
+
+/// The text of an answer, its rounds with what was asked, and how often each source was asked, each on a line.
+fn told(
+    alloc: Global,
+    answer: Result<Answer, NoMemory>,
+    session: &Session<CountingSource<'_>>,
+    counters: &[Arc<AtomicU64>],
+) -> Result<String> {
+    let asked = asked(alloc, session)?;
+    let calls = counted(alloc, session, counters, answer.is_ok())?;
+    match answer {
+        Ok(answer) => {
+            let text = answer.text;
+            let rounds = answer.rounds;
+            let word = if rounds == 1 { "round" } else { "rounds" };
+            Ok(format!(in alloc; "{text}\n{rounds} {word}: {asked}\n{calls}")?)
+        }
+        Err(fault) => Ok(format!(in alloc; "{fault}\n{asked}\n{calls}")?),
+    }
+}
+
+/// What is told of an answer in turn. Over what is known then, both ways of execution have to give its text.
+fn in_turn(alloc: Global, world: &World, plan: &Plan<'_>, manner: &Manner<'_>) -> Result<String> {
+    let counters = counters(alloc, world)?;
+    let mut session = session(alloc, world, &counters, manner)?;
+    let answer = answer_in_turn(&mut session, plan)?;
+    if let Ok(answer) = &answer {
+        let text = known::told(alloc, world, plan, session.memory())?;
+        if text != answer.text {
+            bail!("over what is known {text}");
+        }
+    }
+    told(alloc, answer, &session, &counters)
+}
+
+/// What is told of an answer in rounds by hand, whose orders have to be the batches of the log.
+fn by_hand<R: Wait + AllocGlobal>(
+    rt: &R,
+    world: &World,
+    plan: &Plan<'_>,
+    manner: &Manner<'_>,
+) -> Result<String> {
+    let alloc = rt.alloc();
+    let counters = counters(alloc, world)?;
+    let mut session = session(alloc, world, &counters, manner)?;
+    if session.loaders().len() < plan.loaders() {
+        bail!("too few loaders");
+    }
+    let mut noted = Noted {
+        world,
+        rounds: 0,
+        text: String::new(alloc),
+    };
+    let answer = answered(rt, plan, &mut session, &mut noted)?;
+    let asked = asked(alloc, &session)?;
+    if noted.rounds != 0 && noted.text != asked {
+        bail!("orders by hand {}", noted.text);
+    }
+    told(alloc, Ok(answer), &session, &counters)
+}
+
+/// An executor gives what the contract of `answer` says.
+fn blocked_on<S: Asks + Drop, P: Execute + Drop, R: Wait + RandomSource + AllocGlobal>(
+    rt: &R,
+    session: Session<S>,
+    plan: &P,
+) -> io::Result<(Session<S>, Result<Answer, NoMemory>)>
+    requires { P.loaders plan.now ≤ length session.loaders }
+    ensures { IfOk result (λ out. Answers S.may_tell (state_of session) (state_of out.0) (P.program plan.now) (P.text_of plan.now) out.1) }
+{
+    block_on(rt, session.into_answering(plan))
+}
+
+/// What is told of an answer by an executor.
+fn by_executor<R: Wait + RandomSource + AllocGlobal>(
+    rt: &R,
+    world: &World,
+    plan: &Plan<'_>,
+    manner: &Manner<'_>,
+) -> Result<String> {
+    let counters = counters(rt.alloc(), world)?;
+    let session = session(rt.alloc(), world, &counters, manner)?;
+    if session.loaders().len() < plan.loaders() {
+        bail!("too few loaders");
+    }
+    let (session, answer) = blocked_on(rt, session, plan)?;
+    told(rt.alloc(), answer, &session, &counters)
+}
+
+/// What is told of an answer in each way, which has to be the same. By hand it is not answered where memory is wanting.
+pub fn answer_told<R: Wait + RandomSource + AllocGlobal>(
+    rt: &R,
+    world: &World,
+    plan: &Plan<'_>,
+    manner: &Manner<'_>,
+) -> Result<String> {
+    let told = in_turn(rt.alloc(), world, plan, manner)?;
+    let other = by_executor(rt, world, plan, manner)?;
+    if other != told {
+        bail!("by an executor {other}");
+    }
+    if told.starts_with("out of memory") {
+        return Ok(told);
+    }
+    let other = by_hand(rt, world, plan, manner)?;
+    if other != told {
+        bail!("by hand {other}");
+    }
+    Ok(told)
+}
