@@ -1,16 +1,30 @@
-//! Files of known texts, which fail where they are told to.
+//! The files of a case and those of the folder, as a run opens them.
 
-use crate::sample::text_of;
-use std::alloc::Allocator;
-use std::fs::{Metadata, OpenFile, OpenOptions};
+use crate::given::Given;
+use std::alloc::{AllocGlobal, Allocator};
+use std::fs::{self, Metadata, OpenFile, OpenOptions};
 use std::io::{self, Error, ErrorKind, Read, Seek, SeekFrom, Write};
 use std::rt::Files;
 
-/// Gives a text, and fails at its end if it is to.
+/// Gives its bytes so many times, at most 4,096 at a call, and fails then if it is to.
 #[derive(Drop)]
 pub struct Device {
-    pub rest: &'static [u8],
-    pub fails: bool,
+    bytes: Vec<u8>,
+    place: usize,
+    times: u32,
+    fails: bool,
+}
+
+impl Device {
+    /// Gives these bytes once.
+    pub fn new(bytes: Vec<u8>, fails: bool) -> Device {
+        Device {
+            bytes,
+            place: 0,
+            times: 1,
+            fails,
+        }
+    }
 }
 
 fn unsupported<T>() -> io::Result<T> {
@@ -19,10 +33,18 @@ fn unsupported<T>() -> io::Result<T> {
 
 impl Read for Device {
     fn read(&mut self, buf: &mut [u8]) -> io::Result<usize> {
-        if self.fails && self.rest.is_empty() {
+        if self.place >= self.bytes.len() && self.times > 1 {
+            self.times -= 1;
+            self.place = 0;
+        }
+        let mut rest = self.bytes.get(self.place..).unwrap_or(&[]);
+        if self.fails && rest.is_empty() {
             return Err(Error::from(ErrorKind::Other));
         }
-        self.rest.read(buf)
+        let most = buf.len().min(4_096);
+        let count = rest.read(&mut buf[..most])?;
+        self.place = self.place.saturating_add(count);
+        Ok(count)
     }
 }
 
@@ -60,37 +82,43 @@ impl OpenFile for Device {
     }
 }
 
-/// The files of the sample world, of which one has another text, and fails at its end if it is to.
-#[derive(Drop)]
-pub struct Shelf {
-    pub changed: &'static str,
-    pub rest: &'static [u8],
-    pub fails: bool,
+/// The files of a case, and those of the folder whose names it doesn't give.
+pub struct Shelf<'r, R: Files + AllocGlobal> {
+    pub rt: &'r R,
+    pub given: Vec<Given>,
 }
 
-impl Shelf {
-    fn find(&self, path: &str) -> Option<Device> {
-        if path == self.changed {
-            return Some(Device {
-                rest: self.rest,
-                fails: self.fails,
-            });
-        }
-        let rest = text_of(path)?;
-        Some(Device { rest, fails: false })
+impl<R: Files + AllocGlobal> Drop for Shelf<'_, R> {
+    fn drop(self) {
+        let Shelf { rt: _, given: _ } = self;
     }
 }
 
-impl Files for Shelf {
+impl<R: Files + AllocGlobal> Shelf<'_, R> {
+    /// The file of a name.
+    pub fn open(&self, path: &str) -> io::Result<Device> {
+        for given in &self.given {
+            if given.name.as_str() == path {
+                return Ok(Device {
+                    bytes: given.bytes.clone()?,
+                    place: 0,
+                    times: given.times,
+                    fails: given.fails,
+                });
+            }
+        }
+        let bytes = fs::read(self.rt, path)?;
+        Ok(Device::new(bytes, false))
+    }
+}
+
+impl<R: Files + AllocGlobal> Files for Shelf<'_, R> {
     type File = Device;
 
     type Dir = Device;
 
     fn open_file(&self, _how: &OpenOptions, path: &str) -> io::Result<Device> {
-        match self.find(path) {
-            Some(device) => Ok(device),
-            None => Err(Error::from(ErrorKind::NotFound)),
-        }
+        self.open(path)
     }
 
     fn open_dir(&self, _path: &str) -> io::Result<Device> {

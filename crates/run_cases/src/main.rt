@@ -1,0 +1,20 @@
+//! Runs the cases of worlds and of runs: `command_line`, `world`, `world_files`, `world_answers` and `program_run`. Words stand
+//! with what they are read as, texts and tables with the world that they make, request lines with their answers, and whole runs
+//! with what they write and how they end. docs/TESTING.md says how cases are written.
+#![tactic(auto)]
+
+mod given;
+mod runs;
+mod serving;
+mod shelf;
+mod stops;
+mod told;
+mod words;
+mod worlds;
+
+use std::process::ExitCode;
+use told::Runs;
+
+fn main(rt: HostRuntime) -> ExitCode {
+    case_files::run(&rt, &Runs { rt: &rt })
+}

@@ -1,0 +1,84 @@
+//! Serving over the built-in world, from and to devices that fail too.
+
+use crate::given::bytes_of;
+use crate::shelf::Device;
+use crate::stops::end_of;
+use crate::worlds::built_in;
+use anyhow::{Context, Result};
+use case_files::Asked;
+use command_line::Stop;
+use line_serving::Counted;
+use std::alloc::Global;
+use std::io::{self, Error, ErrorKind, Write};
+use world_answers::serve;
+
+/// Takes a byte a call, and fails once it has no room.
+#[derive(Drop)]
+pub struct Narrow {
+    pub bytes: Vec<u8>,
+    pub room: usize,
+}
+
+impl Write for Narrow {
+    fn write(&mut self, buf: &[u8]) -> io::Result<usize> {
+        if self.bytes.len() >= self.room {
+            return Err(Error::from(ErrorKind::Other));
+        }
+        match buf.first() {
+            Some(byte) => {
+                self.bytes.push(*byte)?;
+                Ok(1)
+            }
+            None => Ok(0),
+        }
+    }
+
+    fn flush(&mut self) -> io::Result<()> {
+        Ok(())
+    }
+}
+
+/// Serves what a reader gives: how that ends a run, and the bytes that a writer with so much room has taken.
+fn served(alloc: Global, input: Device, room: usize) -> Result<(Stop, Vec<u8>)> {
+    let world = built_in(alloc)?;
+    let bytes = Vec::new(alloc);
+    let mut narrow = Narrow { bytes, room };
+    let mut reader = Counted::new(input);
+    let mut writer = Counted::new(&mut narrow);
+    let stop = match serve(alloc, &world, &mut reader, &mut writer) {
+        Ok(_) => Stop::Served,
+        Err(fault) => Stop::Serve(fault),
+    };
+    drop(writer);
+    Ok((stop, narrow.bytes))
+}
+
+/// What is written when lines are served, and behind it how that ended where they weren't all.
+pub fn told(alloc: Global, text: &str) -> Result<String> {
+    let input = Device::new(bytes_of(alloc, text)?, false);
+    let (stop, bytes) = served(alloc, input, usize::MAX)?;
+    let written = str::from_utf8(bytes.as_slice())?;
+    if let Stop::Served = stop {
+        return Ok(String::from_str(alloc, written)?);
+    }
+    let end = end_of(alloc, &stop)?;
+    Ok(format!(in alloc; "{written}{end}")?)
+}
+
+/// How many bytes of the answers in the second file are written where the lines of the first are served, and how that ended. The
+/// text is the room of the writer, with `, the reader fails` behind it where it does so after the lines.
+pub fn told_of_devices(alloc: Global, asked: &Asked, text: &str) -> Result<String> {
+    let (room, fails) = match text.strip_suffix(", the reader fails") {
+        Some(room) => (room, true),
+        None => (text, false),
+    };
+    let input = Device::new(bytes_of(alloc, asked.file(0)?)?, fails);
+    let room = room.strip_prefix("room for ").context("no room")?;
+    let (stop, bytes) = served(alloc, input, room.parse()?)?;
+    let end = end_of(alloc, &stop)?;
+    let count = bytes.len();
+    if asked.file(1)?.as_bytes().starts_with(bytes.as_slice()) {
+        return Ok(format!(in alloc; "{count} bytes, {end}")?);
+    }
+    Ok(format!(in alloc; "{count} bytes of other answers, {end}")?)
+}

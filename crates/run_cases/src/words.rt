@@ -1,0 +1,44 @@
+//! The words of a command line.
+
+use crate::stops::end_of;
+use anyhow::Result;
+use command_line::{Stop, Words};
+use std::alloc::{AllocError, Global};
+
+/// The words of a line, which spaces part.
+pub fn split(alloc: Global, line: &str) -> Result<Vec<String>, AllocError> {
+    let mut words = Vec::new(alloc);
+    for word in line.split_ascii_whitespace() {
+        words.push(String::from_str(alloc, word)?)?;
+    }
+    Ok(words)
+}
+
+/// What is read of the words of a line.
+pub fn words_of(alloc: Global, line: &str) -> Result<Words, Stop> {
+    let words = split(alloc, line)?;
+    Words::read(alloc, words.as_slice())
+}
+
+/// The parts of words.
+fn parts(alloc: Global, words: &Words) -> Result<String, AllocError> {
+    let mut told = format!(in alloc;
+        "schema {}, bindings {}, requests {}",
+        words.schema, words.bindings, words.requests
+    )?;
+    if let Some(most) = words.max_batch {
+        write!(told, ", at most {most} keys")?;
+    }
+    for table in &words.tables {
+        write!(told, ", table {:?} in {:?}", table.name, table.file)?;
+    }
+    Ok(told)
+}
+
+/// The parts of the words of a line, or how they end a run.
+pub fn told(alloc: Global, line: &str) -> Result<String> {
+    match words_of(alloc, line) {
+        Ok(words) => Ok(parts(alloc, &words)?),
+        Err(stop) => Ok(end_of(alloc, &stop)?),
+    }
+}
