@@ -29,7 +29,7 @@ pub fn answer_with<S: Source, P: Execute, R: Threads + Wait + Sync>(
     plan: &P,
     workers: usize,
 ) -> Result<Answer, WorkFault>
-    requires { P.loaders plan.now ≤ length session.old.loaders }
+    requires loaders { P.loaders plan.now ≤ length session.old.loaders }
     ensures bad_count { IsErrOf result WorkFault.BadCount ↔ IsBadCount workers }
     ensures refused { IsErrOf result WorkFault.BadCount → session.new ≡ session.old }
     ensures answer { IfOk result (λ a. Headline S.may_answer (state_of session.old) (state_of session.new)
