@@ -16,7 +16,7 @@ use Rattle.execution.specs.Loads.{Load, Memory, mode_at, read, AnswersMore}
 use Rattle.execution.specs.Program.{Program, tree, chain}
 use Rattle.execution.specs.Front.{front, keys_for}
 use Rattle.execution.specs.Executed.{completed}
-use Rattle.execution.specs.Rounds.{RuleOf, rule_of, modes_of, may_at, key_by_key, orders_of, orders_from, IsReply, AreReplies, after_round, AreRounds, without_failed, direct, RespectsCacheKeys, IsTold, AreLimited, HasLoaders}
+use Rattle.execution.specs.Rounds.{RuleOf, rule_of, modes_of, may_at, key_by_key, round_orders, orders_from, IsReply, AreReplies, after_round, AreRounds, without_failed, direct, RespectsCacheKeys, HoldsItems, AreLimited, HasLoaders}
 use Rattle.execution.specs.Sessions.{Forgot, Asked}
 use Rattle.execution.proofs.Monotone.{exec-whole, front-open}
 use Rattle.execution.proofs.RoundLaws.{rounds-chain}
@@ -109,7 +109,7 @@ replies-told loaders (o ∷ os) (r ∷ rs) h = (reply-told loaders o r h.0, repl
 rounds-by-key : (loaders : List (LoaderOf SourceOf)) (rules : List RuleOf) (p : Program) (M : Memory) (rounds : List (List ReplyOf)) (end : Memory) → AreRounds (may_at may_tell loaders) rules p M rounds end → AreRounds (key_by_key (item_over item_of_key loaders)) rules p M rounds end
 rounds-by-key loaders rules p M [] end h = h
 rounds-by-key loaders rules p M (round ∷ rounds) end h =
-    (h.0, replies-told loaders (orders_of rules (front (modes_of rules) p M)) round h.1, rounds-by-key loaders rules p (after_round rules M round) rounds end h.2)
+    (h.0, replies-told loaders (round_orders rules (front (modes_of rules) p M)) round h.1, rounds-by-key loaders rules p (after_round rules M round) rounds end h.2)
 
 reply-there : (loaders : List (LoaderOf SourceOf)) (o : OrderOf) → o.loader < length loaders → (r : ReplyOf) × IsReply (may_at may_tell loaders) o r
 reply-there loaders o lt =
@@ -125,7 +125,7 @@ replies-there loaders (o ∷ os) h =
     let rest = replies-there loaders os (All-tail (λ (x : OrderOf). x.loader < length loaders) o os h) in
     (r.0 ∷ rest.0, (r.1, rest.1))
 
-orders-within : (cur : StateOf SourceOf) (loads : List Load) → All (λ (o : OrderOf). o.loader < length cur.loaders) (orders_of (rules_of cur) loads)
+orders-within : (cur : StateOf SourceOf) (loads : List Load) → All (λ (o : OrderOf). o.loader < length cur.loaders) (round_orders (rules_of cur) loads)
 orders-within cur loads =
     let size = length-map cur.loaders rule_of in
     let own : All (λ (o : OrderOf). o.loader < length cur.loaders) (orders_from 0 (rules_of cur) loads) =
@@ -134,7 +134,7 @@ orders-within cur loads =
 
 round-there : (cur : StateOf SourceOf) (loads : List Load) → (new : StateOf SourceOf) × RoundRan may_tell cur new loads
 round-there cur loads =
-    let r = replies-there cur.loaders (orders_of (rules_of cur) loads) (orders-within cur loads) in
+    let r = replies-there cur.loaders (round_orders (rules_of cur) loads) (orders-within cur loads) in
     (after_step cur (Asked loads r.0), record { replies = r.0; answered = r.1; after = refl })
 
 -- ---- a plan is answered
@@ -171,12 +171,12 @@ module _ (w : WorldOf) (plan : PlanOf) (has : HasSources w) (bound : plan.bindin
   respects : RespectsCacheKeys (session_modes old) item
   respects = respects-over ls (compare-alike w.limit w.bindings.loaders w.sources)
 
-  nothing-told : IsTold (session_modes old) item (without_failed old.memory)
+  nothing-told : HoldsItems (session_modes old) item (without_failed old.memory)
   nothing-told = λ loader key outcome h. absurd (none-some outcome h)
 
   few : (cur : StateOf SourceOf) (n : ℕ) → InRounds may_tell old cur p n → n ≤ chain p (direct item)
   few cur n is =
-      let at : IsTold (session_modes old) item cur.memory = rounds-told item (rules_of old) p respects (without_failed old.memory) is.log cur.memory nothing-told (rounds-by-key ls (rules_of old) p (without_failed old.memory) is.log cur.memory is.made.rounds) in
+      let at : HoldsItems (session_modes old) item cur.memory = rounds-told item (rules_of old) p respects (without_failed old.memory) is.log cur.memory nothing-told (rounds-by-key ls (rules_of old) p (without_failed old.memory) is.log cur.memory is.made.rounds) in
       let more : AnswersMore (read (session_modes old) cur.memory) (direct item) = λ load o f. ap (λ (x : OutcomeOf). Some x) (sym (at load.loader load.key o f)) in
       let a : length is.log ≤ chain p (read (session_modes old) cur.memory) = rounds-chain (may_at may_tell ls) (rules_of old) p (without_failed old.memory) is.log cur.memory limited own is.made.rounds in
       let b : chain p (read (session_modes old) cur.memory) ≤ chain p (direct item) = chain-more p (read (session_modes old) cur.memory) (direct item) more in

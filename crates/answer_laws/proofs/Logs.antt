@@ -15,7 +15,7 @@ use Rattle.execution.specs.Program.{Program, Programs, Is, Read, Under, End, Wit
 use Rattle.execution.specs.Completion.{AnsweredOf, is_open, any_open}
 use Rattle.execution.specs.Front.{front}
 use Rattle.execution.specs.Executed.{exec, completed}
-use Rattle.execution.specs.Rounds.{RuleOf, modes_of, key_by_key, orders_of, IsReply, AreReplies, reply_pairs, pairs_of, after_round, AreRounds, IsLawful, direct, RespectsCacheKeys, IsTold, AreLimited, HasLoaders}
+use Rattle.execution.specs.Rounds.{RuleOf, modes_of, key_by_key, round_orders, IsReply, AreReplies, reply_pairs, pairs_of, after_round, AreRounds, IsLawful, direct, RespectsCacheKeys, HoldsItems, AreLimited, HasLoaders}
 use Rattle.execution.proofs.OneLog.{at-pair}
 use Rattle.execution.proofs.Monotone.{exec-whole}
 use Rattle.execution.proofs.RoundLaws.{rounds-chain}
@@ -111,7 +111,7 @@ module _ (item : ℕ → KeyOf → ItemOf) where
   ]
 
   module _ (rules : List RuleOf) (p : Program) (alike : RespectsCacheKeys (modes_of rules) item) where
-    round-told : (M : Memory) (os : List OrderOf) (round : List ReplyOf) → IsTold (modes_of rules) item M → AreReplies (key_by_key item) os round → IsTold (modes_of rules) item (after_round rules M round)
+    round-told : (M : Memory) (os : List OrderOf) (round : List ReplyOf) → HoldsItems (modes_of rules) item M → AreReplies (key_by_key item) os round → HoldsItems (modes_of rules) item (after_round rules M round)
     round-told M os round told h = λ loader key o e. go loader key o (M loader (folded (mode_at (modes_of rules) loader) key)) refl e
       where
         go : (loader : ℕ) (key : KeyOf) (o : OutcomeOf) (r : Option OutcomeOf) → M loader (folded (mode_at (modes_of rules) loader) key) ≡ r
@@ -121,9 +121,9 @@ module _ (item : ℕ → KeyOf → ItemOf) where
             t.2 ∙ ap known (alike loader t.0 key t.1)
         go loader key o (Some x) f e = told loader key o (f ∙ e)
 
-    pub rounds-told : (M : Memory) (rs : List (List ReplyOf)) (end : Memory) → IsTold (modes_of rules) item M → AreRounds (key_by_key item) rules p M rs end → IsTold (modes_of rules) item end
+    pub rounds-told : (M : Memory) (rs : List (List ReplyOf)) (end : Memory) → HoldsItems (modes_of rules) item M → AreRounds (key_by_key item) rules p M rs end → HoldsItems (modes_of rules) item end
     rounds-told M [] end told h = λ loader key o e. told loader key o (sym (h loader (folded (mode_at (modes_of rules) loader) key)) ∙ e)
-    rounds-told M (r ∷ rs) end told h = rounds-told (after_round rules M r) rs end (round-told M (orders_of rules (front (modes_of rules) p M)) r told h.1) h.2
+    rounds-told M (r ∷ rs) end told h = rounds-told (after_round rules M r) rs end (round-told M (round_orders rules (front (modes_of rules) p M)) r told h.1) h.2
 
     -- so many rounds, unless fewer are enough
     record Made (M : Memory) (many : ℕ) : Type 0 where
@@ -138,18 +138,18 @@ module _ (item : ℕ → KeyOf → ItemOf) where
 
     made : (many : ℕ) (M : Memory) → Made M many
     made zero M = record { rounds = []; end = M; are = λ loader key. refl; enough = inr refl }
-    made (suc many) M = go (none-or (front (modes_of rules) p M)) (made many (after_round rules M (replies-to (orders_of rules (front (modes_of rules) p M)))))
+    made (suc many) M = go (none-or (front (modes_of rules) p M)) (made many (after_round rules M (replies-to (round_orders rules (front (modes_of rules) p M)))))
       where
-        go : (front (modes_of rules) p M ≡ []) ⊎ (front (modes_of rules) p M ≢ []) → Made (after_round rules M (replies-to (orders_of rules (front (modes_of rules) p M)))) many → Made M (suc many)
+        go : (front (modes_of rules) p M ≡ []) ⊎ (front (modes_of rules) p M ≢ []) → Made (after_round rules M (replies-to (round_orders rules (front (modes_of rules) p M)))) many → Made M (suc many)
         go (inl none) rest = record { rounds = []; end = M; are = λ loader key. refl; enough = inl none }
         go (inr some) rest = record {
-          rounds = replies-to (orders_of rules (front (modes_of rules) p M)) ∷ rest.rounds;
+          rounds = replies-to (round_orders rules (front (modes_of rules) p M)) ∷ rest.rounds;
           end = rest.end;
-          are = (some, replies-there (orders_of rules (front (modes_of rules) p M)), rest.are);
+          are = (some, replies-there (round_orders rules (front (modes_of rules) p M)), rest.are);
           enough = elim rest.enough [ inl e ↦ inl e | inr e ↦ inr (ap suc e) ];
         }
 
-    pub log-there : (M : Memory) → IsTold (modes_of rules) item M → AreLimited rules → HasLoaders (length rules) p → (rounds : List (List ReplyOf)) × (end : Memory) × IsLawful (key_by_key item) rules p M rounds end
+    pub log-there : (M : Memory) → HoldsItems (modes_of rules) item M → AreLimited rules → HasLoaders (length rules) p → (rounds : List (List ReplyOf)) × (end : Memory) × IsLawful (key_by_key item) rules p M rounds end
     log-there M told limited loaders = go (made (suc (chain p (direct item))) M)
       where
         go : Made M (suc (chain p (direct item))) → (rounds : List (List ReplyOf)) × (end : Memory) × IsLawful (key_by_key item) rules p M rounds end
@@ -158,7 +158,7 @@ module _ (item : ℕ → KeyOf → ItemOf) where
             enough : (front (modes_of rules) p m.end ≡ []) ⊎ (length m.rounds ≡ suc (chain p (direct item))) → front (modes_of rules) p m.end ≡ []
             enough (inl e) = e
             enough (inr e) =
-                let at : IsTold (modes_of rules) item m.end = rounds-told M m.rounds m.end told m.are in
+                let at : HoldsItems (modes_of rules) item m.end = rounds-told M m.rounds m.end told m.are in
                 let more : AnswersMore (read (modes_of rules) m.end) (direct item) = λ load o f. ap (λ x. Some x) (sym (at load.loader load.key o f)) in
                 let few : length m.rounds ≤ chain p (read (modes_of rules) m.end) = rounds-chain (key_by_key item) rules p M m.rounds m.end limited loaders m.are in
                 let long = chain-more p (read (modes_of rules) m.end) (direct item) more in

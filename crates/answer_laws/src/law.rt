@@ -10,7 +10,7 @@ ghost use Rattle.execution.specs.Loads.{Memory};
 ghost use Rattle.execution.specs.Program.{Program};
 ghost use Rattle.execution.specs.Completion.{AnsweredOf};
 ghost use Rattle.execution.specs.Executed.{exec};
-ghost use Rattle.execution.specs.Rounds.{RuleOf, modes_of, AreLimited, HasLoaders, RespectsCacheKeys, IsTold, IsLawful, key_by_key, direct};
+ghost use Rattle.execution.specs.Rounds.{RuleOf, modes_of, AreLimited, HasLoaders, RespectsCacheKeys, HoldsItems, IsLawful, key_by_key, direct};
 ghost use Rattle.gq_check.specs.Plans.{PlanOf};
 ghost use Rattle.gq_check.specs.Planned.{IsPlan};
 ghost use Rattle.gq_check.specs.Verdict.{FaultOf, IsVerdict};
@@ -31,7 +31,7 @@ pub fn documents_have_verdicts()
 pub fn answers_are_there()
     ensures direct { (p : Program) (item : ℕ → KeyOf → ItemOf) → (answered : AnsweredOf) × (exec p (direct item) ≡ Some answered) }
     ensures log { (item : ℕ → KeyOf → ItemOf) (rules : List RuleOf) (p : Program) (M : Memory) → AreLimited rules → HasLoaders (length rules) p
-        → RespectsCacheKeys (modes_of rules) item → IsTold (modes_of rules) item M → (rounds : List (List ReplyOf)) × (end : Memory) × IsLawful (key_by_key item) rules p M rounds end }
+        → RespectsCacheKeys (modes_of rules) item → HoldsItems (modes_of rules) item M → (rounds : List (List ReplyOf)) × (end : Memory) × IsLawful (key_by_key item) rules p M rounds end }
 {}
 
 /// Each plan over the bindings of a world has an answer: a text that is that of direct execution, and a session of the world, new

@@ -4,7 +4,7 @@ use Rattle.std.specs.Prelude.{Option, Some, None, option_map, MatchOption, unwra
 use Rattle.std.proofs.lemmas.Bool.{ne_eqb, eq-eqb, eqb-true, cases_Bool}
 use Rattle.std.proofs.lemmas.Str.Pattern.{IsSplitOnceResult, split_parts}
 use Rattle.bindings_syntax.specs.Cuts.{Text, with_byte, cut_at}
-use Rattle.bindings_syntax.specs.Lines.{lines_of, on_first}
+use Rattle.bindings_syntax.specs.Lines.{statement_lines, on_first}
 use Rattle.bindings_syntax.specs.Words.{words_of}
 
 has_none : (mark b : ℕ) (bs : Text) → ((i : ℕ) → i < length (b ∷ bs) → get_or (b ∷ bs) i 0 ≢ mark) → (b ≢ mark) × ((i : ℕ) → i < length bs → get_or bs i 0 ≢ mark)
@@ -75,14 +75,14 @@ unreturned (b ∷ c ∷ bs) = b ∷ unreturned (c ∷ bs)
 
 abbrev pub LinesCut : Option (Text × Text) → List Text → Text → Type 0
 LinesCut None lines bs = lines ≡ last_piece bs
-LinesCut (Some p) lines bs = lines ≡ unreturned p.0 ∷ lines_of p.1
+LinesCut (Some p) lines bs = lines ≡ unreturned p.0 ∷ statement_lines p.1
 
 line_goes_on : (b x : ℕ) (xs : Text) (o : Option (Text × Text)) (lines : List Text) → LinesCut (option_map (with_byte x) o) lines (x ∷ xs)
     → LinesCut (option_map (with_byte b) (option_map (with_byte x) o)) (on_first b lines) (b ∷ x ∷ xs)
 line_goes_on b x xs None lines h = ap (on_first b) h
 line_goes_on b x xs (Some p) lines h = ap (on_first b) h
 
-pub lines_cut : (bs : Text) → LinesCut (cut_at 10 bs) (lines_of bs) bs
+pub lines_cut : (bs : Text) → LinesCut (cut_at 10 bs) (statement_lines bs) bs
 lines_cut [] = refl
 lines_cut (b ∷ []) = elim (cases_Bool (eqb b 10)) [ inl is ↦ rw is refl | inr other ↦ rw other refl ]
 lines_cut (b ∷ x ∷ xs) =
@@ -152,19 +152,19 @@ last_word bs e h = word_last bs _ _ e (words_cut bs) ∙ last_found bs h
 pub no_word : (bs : Text) → None ≡ cut_at 32 bs → eqb (length bs) 0 ≡ true → words_of bs ≡ []
 no_word bs e h = word_last bs _ _ e (words_cut bs) ∙ last_empty bs h
 
-line_some : (bs : Text) (o : Option (Text × Text)) (lines : List Text) (line rest : Text) → Some (line, rest) ≡ o → LinesCut o lines bs → lines ≡ unreturned line ∷ lines_of rest
+line_some : (bs : Text) (o : Option (Text × Text)) (lines : List Text) (line rest : Text) → Some (line, rest) ≡ o → LinesCut o lines bs → lines ≡ unreturned line ∷ statement_lines rest
 line_some bs None lines line rest e h = cc
-line_some bs (Some p) lines line rest e h = let same : (line, rest) ≡ p = cc in h ∙ ap (λ (q : Text × Text). unreturned q.0 ∷ lines_of q.1) (sym same)
+line_some bs (Some p) lines line rest e h = let same : (line, rest) ≡ p = cc in h ∙ ap (λ (q : Text × Text). unreturned q.0 ∷ statement_lines q.1) (sym same)
 
 line_last : (bs : Text) (o : Option (Text × Text)) (lines : List Text) → None ≡ o → LinesCut o lines bs → lines ≡ last_piece bs
 line_last bs None lines e h = h
 line_last bs (Some p) lines e h = cc
 
-pub line_found : (bs line rest found : Text) → Some (line, rest) ≡ cut_at 10 bs → found ≡ unreturned line → lines_of bs ≡ found ∷ lines_of rest
-line_found bs line rest found e h = line_some bs _ _ line rest e (lines_cut bs) ∙ ap (λ l. l ∷ lines_of rest) (sym h)
+pub line_found : (bs line rest found : Text) → Some (line, rest) ≡ cut_at 10 bs → found ≡ unreturned line → statement_lines bs ≡ found ∷ statement_lines rest
+line_found bs line rest found e h = line_some bs _ _ line rest e (lines_cut bs) ∙ ap (λ l. l ∷ statement_lines rest) (sym h)
 
-pub last_line : (bs : Text) → None ≡ cut_at 10 bs → eqb (length bs) 0 ≡ false → lines_of bs ≡ bs ∷ []
+pub last_line : (bs : Text) → None ≡ cut_at 10 bs → eqb (length bs) 0 ≡ false → statement_lines bs ≡ bs ∷ []
 last_line bs e h = line_last bs _ _ e (lines_cut bs) ∙ last_found bs h
 
-pub no_line : (bs : Text) → None ≡ cut_at 10 bs → eqb (length bs) 0 ≡ true → lines_of bs ≡ []
+pub no_line : (bs : Text) → None ≡ cut_at 10 bs → eqb (length bs) 0 ≡ true → statement_lines bs ≡ []
 no_line bs e h = line_last bs _ _ e (lines_cut bs) ∙ last_empty bs h

@@ -21,11 +21,11 @@ begins_with_line_feed [] = false
 begins_with_line_feed (b ∷ bs) = b == line_feed
 
 -- Each line ends at a line feed or at the end of the text, and a last line feed begins no further line. A carriage return right before a line feed belongs to the line's end.
-abbrev pub lines_of : Text → List Text
-lines_of [] = []
-lines_of (b ∷ bs) =
-    if b == line_feed then [] ∷ lines_of bs
-    else (if begins_with_line_feed bs && (b == carriage_return) then lines_of bs else on_first b (lines_of bs))
+abbrev pub statement_lines : Text → List Text
+statement_lines [] = []
+statement_lines (b ∷ bs) =
+    if b == line_feed then [] ∷ statement_lines bs
+    else (if begins_with_line_feed bs && (b == carriage_return) then statement_lines bs else on_first b (statement_lines bs))
 
 -- an empty line, and one whose first character is `#`
 abbrev pub is_skipped : Text → Bool
@@ -44,4 +44,4 @@ kept_from n (line ∷ lines) = if is_skipped line then kept_from (n + 1) lines e
 
 -- the lines of a text that count, numbered from 1
 abbrev pub kept_lines : Text → List NumberedLine
-kept_lines text = kept_from 1 (lines_of text)
+kept_lines text = kept_from 1 (statement_lines text)

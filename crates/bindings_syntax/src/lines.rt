@@ -1,14 +1,14 @@
 //! The lines of a text that count.
 
 ghost use Rattle.std.specs.Prelude.{◌≡◌, ℕ, List, [], ◌∷◌, ◌+◌, ◌<◌, ◌^◌, length, MatchOption, IfSome};
-ghost use Rattle.bindings_syntax.specs.Lines.{lines_of, NumberedLine as NumberedText, kept_from, kept_lines, is_skipped};
+ghost use Rattle.bindings_syntax.specs.Lines.{statement_lines, NumberedLine as NumberedText, kept_from, kept_lines, is_skipped};
 
 use crate::cut::cut;
 use std::marker::Model;
 
 /// The first line, without its end, and what stands behind it.
 fn first_line(text: &str) -> Option<(&str, &str)>
-    ensures line { MatchOption result (lines_of text.now ≡ []) (λ p. lines_of text.now ≡ p.0.now ∷ lines_of p.1.now) }
+    ensures line { MatchOption result (statement_lines text.now ≡ []) (λ p. statement_lines text.now ≡ p.0.now ∷ statement_lines p.1.now) }
     ensures shorter { IfSome result (λ p. length p.1.now < length text.now) }
 {
     match cut(text, '\n') {
@@ -41,7 +41,7 @@ pub(crate) struct Lines<'text> {
 impl<'text> Model for Lines<'text> {
     ghost Value = { List NumberedText };
 
-    ghost view = { λ lines. kept_from (lines.passed + 1) (lines_of lines.rest.now) };
+    ghost view = { λ lines. kept_from (lines.passed + 1) (statement_lines lines.rest.now) };
 
     ghost invariant = { λ lines. lines.passed + length lines.rest.now < 2 ^ 64 };
 }
@@ -57,9 +57,9 @@ fn says_nothing(line: &str) -> bool
 /// text.
 fn first_kept(text: &str, passed: u64) -> Option<(NumberedLine<'_>, &str)>
     requires { passed + length text.now < 2 ^ 64 }
-    ensures line { MatchOption result (kept_from (passed + 1) (lines_of text.now) ≡ [])
-        (λ p. kept_from (passed + 1) (lines_of text.now)
-        ≡ record { number = p.0.number; text = p.0.text.now } ∷ kept_from (p.0.number + 1) (lines_of p.1.now)) }
+    ensures line { MatchOption result (kept_from (passed + 1) (statement_lines text.now) ≡ [])
+        (λ p. kept_from (passed + 1) (statement_lines text.now)
+        ≡ record { number = p.0.number; text = p.0.text.now } ∷ kept_from (p.0.number + 1) (statement_lines p.1.now)) }
     ensures count { IfSome result (λ p. p.0.number + length p.1.now < 2 ^ 64) }
 {
     let mut rest = text;

@@ -10,6 +10,9 @@ schema_rule = record (new_rule (codes "schema")) { long = Some (codes "schema");
 abbrev pub bindings_rule : Rule
 bindings_rule = record (new_rule (codes "bindings")) { long = Some (codes "bindings"); value_names = 1; required = true }
 
+abbrev pub workers_rule : Rule
+workers_rule = record (new_rule (codes "workers")) { long = Some (codes "workers"); value_names = 1; parser = Some (parser.Signed (pos 1) (pos 16)) }
+
 abbrev pub max_batch_rule : Rule
 max_batch_rule = record (new_rule (codes "max-batch")) { long = Some (codes "max-batch"); value_names = 1; parser = Some (parser.Signed (pos 1) (pos 65535)) }
 
@@ -23,6 +26,10 @@ table_rule = record (new_rule (codes "NAME=F")) { action = Some Append }
 abbrev pub unnamed : App
 unnamed = let a : App = new_app (codes "query_cli") in record a { top = record a.top { no_binary_name = true } }
 
--- two files, a number if wanted, a file of requests, and any number of tables
+-- the options
+abbrev pub options : App
+options = with_rule (with_rule (with_rule (with_rule unnamed schema_rule) bindings_rule) workers_rule) max_batch_rule
+
+-- two files, two numbers if wanted, a file of requests, and any number of tables
 abbrev pub command_line : App
-command_line = with_rule (with_rule (with_rule (with_rule (with_rule unnamed schema_rule) bindings_rule) max_batch_rule) requests_rule) table_rule
+command_line = with_rule (with_rule options requests_rule) table_rule

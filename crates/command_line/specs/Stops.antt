@@ -32,6 +32,7 @@ status_of_table table.ReadFault = 4
 status_of_table table.NoMemory = 5
 
 abbrev pub status_of_serve : ServeFault → ℕ
+status_of_serve serve.BadCount = 2
 status_of_serve serve.LineTooLong = 4
 status_of_serve serve.ReadFault = 4
 status_of_serve serve.WriteFault = 4

@@ -45,6 +45,7 @@ table_words rows = unwrap_or (all_of (codes "NAME=F") rows) []
 pub record IsWords (rows : List Row) (words : Words) : Type 0 where
   pub schema : string_bytes words.schema ≡ text_at rows (codes "schema")
   pub bindings : string_bytes words.bindings ≡ text_at rows (codes "bindings")
+  pub workers : IsNumber (one_of (codes "workers") rows) words.workers
   pub max_batch : IsNumber (one_of (codes "max-batch") rows) words.max_batch
   pub requests : string_bytes words.requests ≡ text_at rows (codes "REQUESTS")
   pub tables : AreTables (table_words rows) words.tables.items

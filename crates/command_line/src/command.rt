@@ -2,10 +2,22 @@
 
 ghost use Rattle.std.specs.Prelude.{◌≡◌, IfOk, false};
 ghost use Rattle.clap.specs.Words.{app_of, rule_of};
-ghost use Rattle.command_line.specs.Command.{command_line, schema_rule, bindings_rule, max_batch_rule, requests_rule, table_rule};
+ghost use Rattle.command_line.specs.Command.{command_line, schema_rule, bindings_rule, workers_rule, max_batch_rule, requests_rule, table_rule};
 
 use clap::{Arg, ArgAction, Command};
 use std::alloc::{AllocError, Global};
+
+// The option for a number of workers, at least 1 and at most 16.
+fn workers<'a>(alloc: Global) -> Arg<'a>
+    ensures rule { rule_of result ≡ workers_rule }
+    ensures local { result.global ≡ false }
+{
+    Arg::new(alloc, "workers")
+        .long("workers")
+        .value_name("N")
+        .help("How many workers run the batches of a round at the same time")
+        .value_parser(clap::value_parser!(u32).range(1..=16))
+}
 
 // The option for a number of keys, at least 1 and at most 65,535.
 fn max_batch<'a>(alloc: Global) -> Arg<'a>
@@ -69,6 +81,7 @@ pub fn command<'a>(alloc: Global) -> Result<Command<'a>, AllocError>
         .no_binary_name(true)
         .arg(schema(alloc))?
         .arg(bindings(alloc))?
+        .arg(workers(alloc))?
         .arg(max_batch(alloc))?
         .arg(requests(alloc))?
         .arg(tables(alloc))

@@ -62,6 +62,7 @@ fn status_of_serve(fault: ServeFault) -> u8
     ensures { result ≡ status_of_serve fault }
 {
     match fault {
+        ServeFault::BadCount => 2,
         ServeFault::LineTooLong | ServeFault::ReadFault | ServeFault::WriteFault => 4,
         ServeFault::NoMemory => 5,
     }
@@ -100,8 +101,8 @@ impl<T: Drop> From<AllocFailed<T>> for Stop {
 }
 
 impl Stop {
-    /// The exit status: 0 where all was served or help was asked for, 2 for the command line, 3 for the schema, the bindings
-    /// or a table, 4 for files and for what serving stops at, 5 for want of memory wherever it comes.
+    /// The exit status: 0 where all was served or help was asked for, 2 for the command line and its numbers, 3 for the schema,
+    /// the bindings or a table, 4 for files and for what serving stops at, 5 for want of memory wherever it comes.
     pub fn status(&self) -> u8
         ensures { result ≡ status_of self.now }
     {

@@ -1,6 +1,6 @@
 //! The words of a command line.
 
-ghost use Rattle.std.specs.Prelude.{◌≡◌, ℕ, List, IfOk, IfErr, MatchOption, Any, codes, map, string_bytes};
+ghost use Rattle.std.specs.Prelude.{◌≡◌, ℕ, List, IfOk, IfErr, MatchOption, Any, map, string_bytes};
 ghost use Rattle.clap.specs.Words.{found_of, kind_of, rows_of, one_of};
 ghost use Rattle.command_line.specs.Words.{HasNoEquals, joined, text_at, table_words, AreTables, IsNumber, IsWords, IsRead, IsRefused, IsUnread, Refuses};
 
@@ -18,13 +18,15 @@ pub struct TableFile {
     pub file: String,
 }
 
-/// The parts of a command line: `--schema F --bindings F [--max-batch N] REQUESTS [NAME=F]..`.
+/// The parts of a command line: `--schema F --bindings F [--workers N] [--max-batch N] REQUESTS [NAME=F]..`.
 #[derive(Debug, Drop)]
 pub struct Words {
     /// The file of the schema.
     pub schema: String,
     /// The file of the bindings.
     pub bindings: String,
+    /// How many workers run the batches of a round at the same time, from 1 to 16; they run in turn where it isn't given.
+    pub workers: Option<u32>,
     /// At most how many keys one batch has, from 1 to 65,535; no bound where it isn't given.
     pub max_batch: Option<u32>,
     /// The file of the request lines.
@@ -60,11 +62,11 @@ fn text_of(alloc: Global, matches: &ArgMatches<'_>, id: &str) -> Result<String, 
     String::from_str(alloc, matches.get_str(id).unwrap_or(""))
 }
 
-// The number of keys of a batch.
-fn max_batch_of(matches: &ArgMatches<'_>) -> Option<u32>
-    ensures { IsNumber (one_of (codes "max-batch") (rows_of (found_of matches.now))) result }
+// The number of an argument, where it is given.
+fn number_of(matches: &ArgMatches<'_>, id: &str) -> Option<u32>
+    ensures { IsNumber (one_of id.now (rows_of (found_of matches.now))) result }
 {
-    matches.get_one::<u32>("max-batch")
+    matches.get_one::<u32>(id)
 }
 
 // The table that a word names, where it has a `=`.
@@ -118,7 +120,8 @@ fn words_of(alloc: Global, matches: &ArgMatches<'_>) -> Result<Words, Stop>
     Ok(Words {
         schema: text_of(alloc, matches, "schema")?,
         bindings: text_of(alloc, matches, "bindings")?,
-        max_batch: max_batch_of(matches),
+        workers: number_of(matches, "workers"),
+        max_batch: number_of(matches, "max-batch"),
         requests: text_of(alloc, matches, "REQUESTS")?,
         tables,
     })

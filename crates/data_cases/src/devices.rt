@@ -1,27 +1,7 @@
-//! Readers and writers that fail, and what answers lines.
+//! Readers and writers that fail.
 
-use line_serving::{Answerer, NoMemory};
 use std::alloc::Global;
 use std::io::{self, Error, ErrorKind, Read, Write};
-
-/// Answers each line by a text, if there is one; otherwise by itself, or by `?` where it is no text.
-#[derive(Drop)]
-pub struct Answers {
-    pub fixed: Option<&'static str>,
-}
-
-impl Answerer for Answers {
-    ghost answered_by = { λ _ _ _. Unit {0} };
-
-    fn answer(&self, alloc: Global, line: &[u8]) -> Result<String, NoMemory> {
-        let text = match (self.fixed, str::from_utf8(line)) {
-            (Some(text), _) => text,
-            (None, Ok(text)) => text,
-            (None, Err(_)) => "?",
-        };
-        Ok(String::from_str(alloc, text)?)
-    }
-}
 
 /// Gives one byte per call, and fails at one call.
 #[derive(Drop)]

@@ -1,9 +1,9 @@
 //! How lines are cut and answered, from and to devices that fail.
 
-use crate::devices::{Answers, Narrow, Slow};
+use crate::devices::{Narrow, Slow};
 use crate::keys::bytes_of;
 use anyhow::{Context, Result, bail};
-use line_serving::{Counted, ServeFault, serve};
+use line_serving::{Counted, NoMemory, ServeFault, serve};
 use std::alloc::{AllocError, Global};
 use std::io::{ErrorKind, Read};
 
@@ -12,16 +12,31 @@ const REFUSAL: &str = "{\"errors\":[{\"message\":\"not a request\"}]}";
 /// What serving answers, and the faults of the reader and of the writer.
 type Told = (Result<u64, ServeFault>, u64, u64);
 
+/// The answer of a line: a text, if there is one; otherwise the line itself, or `?` where it is no text. A line that begins with
+/// `!` wants memory.
+fn answer_of(alloc: Global, fixed: Option<&'static str>, line: &[u8]) -> Result<String, NoMemory> {
+    if line.starts_with(b"!") {
+        return Err(NoMemory);
+    }
+    let text = match (fixed, str::from_utf8(line)) {
+        (Some(text), _) => text,
+        (None, Ok(text)) => text,
+        (None, Err(_)) => "?",
+    };
+    Ok(String::from_str(alloc, text)?)
+}
+
 fn served<R: Read + Drop>(
     alloc: Global,
     fixed: Option<&'static str>,
     reader: R,
     narrow: &mut Narrow,
 ) -> Told {
-    let answers = Answers { fixed };
     let mut reader = Counted::new(reader);
     let mut writer = Counted::new(narrow);
-    let result = serve(alloc, &answers, &mut reader, &mut writer);
+    let result = serve(alloc, &mut reader, &mut writer, |line: &[u8]| {
+        answer_of(alloc, fixed, line)
+    });
     let faults = writer.faults();
     drop(writer);
     (result, reader.faults(), faults)

@@ -130,11 +130,12 @@ pub fn printed(alloc: Global, text: &str) -> Result<String> {
             TableFault::NoMemory
         )?),
         "faults of serving" => Ok(format!(in alloc;
-            "{}, {}, {}, {}",
+            "{}, {}, {}, {}, {}",
             ServeFault::LineTooLong,
             ServeFault::ReadFault,
             ServeFault::WriteFault,
-            ServeFault::NoMemory
+            ServeFault::NoMemory,
+            ServeFault::BadCount
         )?),
         _ => bail!("no such faults"),
     }

@@ -12,7 +12,7 @@ use Rattle.execution.specs.Loads.{Load, Reader, Memory, read, IsOneOf}
 use Rattle.execution.specs.Program.{Kind, Program, Under, Programs, End, With, tree, trees}
 use Rattle.execution.specs.Completion.{is_open, any_open}
 use Rattle.execution.specs.Front.{front}
-use Rattle.execution.specs.Rounds.{RuleOf, modes_of, orders_of, pairs_of, AreReplies, after_round, AreRounds, IsSpared, IsSparing, AreLimited, IsBelow, one_unless_empty, own_rounds}
+use Rattle.execution.specs.Rounds.{RuleOf, modes_of, round_orders, pairs_of, AreReplies, after_round, AreRounds, IsSpared, IsSparing, AreLimited, IsBelow, one_unless_empty, own_rounds}
 use Rattle.execution.specs.Sessions.{Cell, cell_of, order_cells}
 use Rattle.execution.proofs.Monotone.{front-open, front-stays}
 use Rattle.execution.proofs.ChainLaws.{front-opens}
@@ -22,13 +22,13 @@ use Rattle.execution.proofs.OnceLaws.{rounds-extend}
 
 module _ (may : ℕ → List KeyOf → AnswerOf → Type 0) (rules : List RuleOf) (p : Program) (positive : AreLimited rules) where
   -- what a round adds was missing in the front
-  added : (M : Memory) (r : List ReplyOf) (loader : ℕ) (key : KeyOf) (o : OutcomeOf) → AreReplies may (orders_of rules (front (modes_of rules) p M)) r → look (pairs_of (modes_of rules) r) loader key ≡ Some o
+  added : (M : Memory) (r : List ReplyOf) (loader : ℕ) (key : KeyOf) (o : OutcomeOf) → AreReplies may (round_orders rules (front (modes_of rules) p M)) r → look (pairs_of (modes_of rules) r) loader key ≡ Some o
       → (load : Load) × IsOneOf load (front (modes_of rules) p M) × ((loader, key) ≡ cell_of (modes_of rules) load)
   added M r loader key o h f =
       let modes : List KeyMode = modes_of rules in
       let ls : List Load = front modes p M in
       let here : IsOneOf (loader, key) (map pair_cell (pairs_of modes r)) = map-one pair_cell (make loader key o) (pairs_of modes r) (look-member loader key o (pairs_of modes r) f) in
-      let ordered : IsOneOf (loader, key) (order_cells modes (orders_of rules ls)) = rw (replies-cells may modes (orders_of rules ls) r h) at here in
+      let ordered : IsOneOf (loader, key) (order_cells modes (round_orders rules ls)) = rw (replies-cells may modes (round_orders rules ls) r h) at here in
       one-map (cell_of modes) (loader, key) ls (orders-loads modes 0 rules ls (loader, key) positive ordered)
 
   pub lawful-run : (M : Memory) (rounds : List (List ReplyOf)) (end : Memory) → AreRounds may rules p M rounds end → front (modes_of rules) p end ≡ [] → IsSparing (modes_of rules) p end M (memories may rules M rounds)

@@ -9,7 +9,7 @@ use Rattle.load_queue.specs.Answers.{AnswerOf}
 use Rattle.execution.specs.Loads.{Memory, read, IsOneOf, Extends}
 use Rattle.execution.specs.Program.{Program, needs}
 use Rattle.execution.specs.Front.{front}
-use Rattle.execution.specs.Rounds.{RuleOf, modes_of, orders_of, pairs_of, after_round, AreRounds, AreLimited}
+use Rattle.execution.specs.Rounds.{RuleOf, modes_of, round_orders, pairs_of, after_round, AreRounds, AreLimited}
 use Rattle.execution.specs.Sessions.{Cell, AreApart, order_cells, AreMissing, asked_cells, IsAnsweredIn}
 use Rattle.execution.proofs.Same.{one-either}
 use Rattle.execution.proofs.ChainLaws.{extends-trans}
@@ -37,7 +37,7 @@ module _ (may : ℕ → List KeyOf → AnswerOf → Type 0) (rules : List RuleOf
   asked-absent positive M [] end c h i = absurd i
   asked-absent positive M (r ∷ rs) end c h i =
       let modes = modes_of rules in
-      elim (one-either c (order_cells (modes_of rules) (orders_of rules (front (modes_of rules) p M))) (asked_cells rules p (after_round rules M r) rs) i) [
+      elim (one-either c (order_cells (modes_of rules) (round_orders rules (front (modes_of rules) p M))) (asked_cells rules p (after_round rules M r) rs) i) [
         | inl a ↦ absent rules M (front (modes_of rules) p M) c positive (lacks M) a
         | inr b ↦ none-before M (after_round rules M r) c.0 c.1 (stored-extends may M (pairs_of (modes_of rules) r)) (asked-absent positive (after_round rules M r) rs end c h.2 b)
       ]
@@ -45,7 +45,7 @@ module _ (may : ℕ → List KeyOf → AnswerOf → Type 0) (rules : List RuleOf
   pub asked-once : AreLimited rules → (M : Memory) (rounds : List (List ReplyOf)) (end : Memory) → AreRounds may rules p M rounds end → AreApart (asked_cells rules p M rounds)
   asked-once positive M [] end h = tt
   asked-once positive M (r ∷ rs) end h =
-      append-apart (order_cells (modes_of rules) (orders_of rules (front (modes_of rules) p M))) (asked_cells rules p (after_round rules M r) rs)
+      append-apart (order_cells (modes_of rules) (round_orders rules (front (modes_of rules) p M))) (asked_cells rules p (after_round rules M r) rs)
       (together rules M (front (modes_of rules) p M) positive (lacks M)) (asked-once positive (after_round rules M r) rs end h.2)
       (λ c i j. once c (asked-outcome may rules M (front (modes_of rules) p M) r c positive (lacks M, h.1) i) (asked-absent positive (after_round rules M r) rs end c h.2 j))
     where

@@ -15,7 +15,7 @@ use Rattle.execution.specs.Loads.{Memory, mode_at, read, AnswersMore}
 use Rattle.execution.specs.Program.{Program}
 use Rattle.execution.specs.Front.{front}
 use Rattle.execution.specs.Executed.{exec}
-use Rattle.execution.specs.Rounds.{RuleOf, modes_of, key_by_key, orders_of, IsReply, AreReplies, reply_pairs, pairs_of, after_round, AreRounds, IsLawful, direct, RespectsCacheKeys, IsTold}
+use Rattle.execution.specs.Rounds.{RuleOf, modes_of, key_by_key, round_orders, IsReply, AreReplies, reply_pairs, pairs_of, after_round, AreRounds, IsLawful, direct, RespectsCacheKeys, HoldsItems}
 use Rattle.execution.proofs.Monotone.{front-open, exec-stays}
 
 both : (a b : Bool) → (a && b) ≡ true → (a ≡ true) × (b ≡ true)
@@ -64,7 +64,7 @@ module _ (item : ℕ → KeyOf → ItemOf) where
     one-log M [] (s ∷ ss) end last h k = absurd (k.0.0 (no-more M end h.0 h.1))
     one-log M (r ∷ rs) [] end last h k = absurd (h.0.0 (no-more M last k.0 k.1))
     one-log M (r ∷ rs) (s ∷ ss) end last h k =
-        let same : s ≡ r = replies-one (orders_of rules (front (modes_of rules) p M)) s r k.0.1 h.0.1 in
+        let same : s ≡ r = replies-one (round_orders rules (front (modes_of rules) p M)) s r k.0.1 h.0.1 in
         let after : IsLawful (key_by_key item) rules p (after_round rules M r) ss last = rw (← same) (k.0.2, k.1) in
         let more : (rs ≡ ss) × (end ≡ last) = one-log (after_round rules M r) rs ss end last (h.0.2, h.1) after in
         (rw (same, more.0) refl, more.1)
@@ -107,7 +107,7 @@ module _ (item : ℕ → KeyOf → ItemOf) where
   ]
 
   module _ (rules : List RuleOf) (p : Program) (alike : RespectsCacheKeys (modes_of rules) item) where
-    round-told : (M : Memory) (os : List OrderOf) (round : List ReplyOf) → IsTold (modes_of rules) item M → AreReplies (key_by_key item) os round → IsTold (modes_of rules) item (after_round rules M round)
+    round-told : (M : Memory) (os : List OrderOf) (round : List ReplyOf) → HoldsItems (modes_of rules) item M → AreReplies (key_by_key item) os round → HoldsItems (modes_of rules) item (after_round rules M round)
     round-told M os round told h = λ loader key o e. go loader key o (M loader (folded (mode_at (modes_of rules) loader) key)) refl e
       where
         go : (loader : ℕ) (key : KeyOf) (o : OutcomeOf) (r : Option OutcomeOf) → M loader (folded (mode_at (modes_of rules) loader) key) ≡ r
@@ -117,12 +117,12 @@ module _ (item : ℕ → KeyOf → ItemOf) where
             t.2 ∙ ap known (alike loader t.0 key t.1)
         go loader key o (Some x) f e = told loader key o (f ∙ e)
 
-    rounds-told : (M : Memory) (rs : List (List ReplyOf)) (end : Memory) → IsTold (modes_of rules) item M → AreRounds (key_by_key item) rules p M rs end → IsTold (modes_of rules) item end
+    rounds-told : (M : Memory) (rs : List (List ReplyOf)) (end : Memory) → HoldsItems (modes_of rules) item M → AreRounds (key_by_key item) rules p M rs end → HoldsItems (modes_of rules) item end
     rounds-told M [] end told h = λ loader key o e. told loader key o (sym (h loader (folded (mode_at (modes_of rules) loader) key)) ∙ e)
-    rounds-told M (r ∷ rs) end told h = rounds-told (after_round rules M r) rs end (round-told M (orders_of rules (front (modes_of rules) p M)) r told h.1) h.2
+    rounds-told M (r ∷ rs) end told h = rounds-told (after_round rules M r) rs end (round-told M (round_orders rules (front (modes_of rules) p M)) r told h.1) h.2
 
-    pub log-direct : (M : Memory) (rs : List (List ReplyOf)) (end : Memory) → IsTold (modes_of rules) item M → IsLawful (key_by_key item) rules p M rs end → exec p (read (modes_of rules) end) ≡ exec p (direct item)
+    pub log-direct : (M : Memory) (rs : List (List ReplyOf)) (end : Memory) → HoldsItems (modes_of rules) item M → IsLawful (key_by_key item) rules p M rs end → exec p (read (modes_of rules) end) ≡ exec p (direct item)
     log-direct M rs end told h =
-        let at : IsTold (modes_of rules) item end = rounds-told M rs end told h.0 in
+        let at : HoldsItems (modes_of rules) item end = rounds-told M rs end told h.0 in
         let more : AnswersMore (read (modes_of rules) end) (direct item) = λ load o e. ap (λ x. Some x) (sym (at load.loader load.key o e)) in
         sym (exec-stays p (read (modes_of rules) end) (direct item) more ((front-open (modes_of rules) p end).0 h.1))

@@ -14,7 +14,7 @@ use Rattle.execution.specs.Loads.{Load, Memory, mode_at, read, same, IsOneOf}
 use Rattle.execution.specs.Program.{Program, needs}
 use Rattle.execution.specs.Front.{keys_for, firsts, missing, front}
 use Rattle.execution.specs.Sessions.{Cell, cell_of, key_cell, AreApart, order_cells}
-use Rattle.execution.specs.Rounds.{RuleOf, modes_of, orders_from, orders_of, AreReplies, reply_pairs, pairs_of, after_round, AreLimited}
+use Rattle.execution.specs.Rounds.{RuleOf, modes_of, orders_from, round_orders, AreReplies, reply_pairs, pairs_of, after_round, AreLimited}
 use Rattle.execution.proofs.Same.{is-same, one-left, one-right, one-either, filter-one}
 use Rattle.execution.proofs.RoundLaws.{pair-at, reply-length}
 use Rattle.execution.proofs.OneLog.{at-pair}
@@ -226,13 +226,13 @@ pairs-permutation modes rs ss p h i =
     let r = pairs-from modes p rs i in
     from-pairs modes p r.0 ss (one-permutation rs ss r.0 h r.1) r.2
 
-pub reply-order : (may : ℕ → List KeyOf → AnswerOf → Type 0) (rules : List RuleOf) (p : Program) (M : Memory) (round other : List ReplyOf) → AreLimited rules → AreReplies may (orders_of rules (front (modes_of rules) p M)) round → IsPermutation round other
+pub reply-order : (may : ℕ → List KeyOf → AnswerOf → Type 0) (rules : List RuleOf) (p : Program) (M : Memory) (round other : List ReplyOf) → AreLimited rules → AreReplies may (round_orders rules (front (modes_of rules) p M)) round → IsPermutation round other
     → (loader : ℕ) (key : KeyOf) → after_round rules M other loader key ≡ after_round rules M round loader key
 reply-order may rules p M round other positive h moved loader key =
     let modes : List KeyMode = modes_of rules in
     let ls : List Load = front modes p M in
-    let cells : AreApart (order_cells modes (orders_of rules ls)) = orders-apart modes 0 rules ls positive (firsts-apart modes (missing (read modes M) (needs p (read modes M)))) in
-    let apart : AreApart (map pair_cell (pairs_of modes round)) = rw (replies-cells may modes (orders_of rules ls) round h) cells in
+    let cells : AreApart (order_cells modes (round_orders rules ls)) = orders-apart modes 0 rules ls positive (firsts-apart modes (missing (read modes M) (needs p (read modes M)))) in
+    let apart : AreApart (map pair_cell (pairs_of modes round)) = rw (replies-cells may modes (round_orders rules ls) round h) cells in
     let alike : look (pairs_of modes other) loader key ≡ look (pairs_of modes round) loader key =
     look-same loader key (pairs_of modes round) (pairs_of modes other) apart (λ q i. pairs-permutation modes round other q moved i) (λ q i. pairs-permutation modes other round q (IsPermutation-sym round other moved) i) in
     rw alike refl

@@ -16,7 +16,7 @@ use Rattle.load_queue.proofs.PieceLaws.{are-batches}
 use Rattle.execution.specs.Loads.{Load, Memory, mode_at, cache_key, read, IsOneOf, Extends}
 use Rattle.execution.specs.Program.{Program, chain}
 use Rattle.execution.specs.Front.{keys_for, front}
-use Rattle.execution.specs.Rounds.{RuleOf, modes_of, any_answer, orders_from, orders_of, IsReply, AreReplies, reply_pairs, pairs_of, stored, after_round, AreRounds, IsSparing, AreLimited, HasLoaders}
+use Rattle.execution.specs.Rounds.{RuleOf, modes_of, any_answer, orders_from, round_orders, IsReply, AreReplies, reply_pairs, pairs_of, stored, after_round, AreRounds, IsSparing, AreLimited, HasLoaders}
 use Rattle.execution.proofs.Same.{one-either}
 use Rattle.execution.proofs.ChainLaws.{extends-self, Fills, IsFilling, front-needs, filling-chain, filling-below, filling-sparing}
 
@@ -130,12 +130,12 @@ module _ (may : ℕ → List KeyOf → AnswerOf → Type 0) where
   or-some (Some o) y h = refl
 
   -- a round fills the front
-  pub round-fills : (rules : List RuleOf) (p : Program) (M : Memory) (round : List ReplyOf) → AreLimited rules → HasLoaders (length rules) p → AreReplies may (orders_of rules (front (modes_of rules) p M)) round → Fills (modes_of rules) p M (after_round rules M round)
+  pub round-fills : (rules : List RuleOf) (p : Program) (M : Memory) (round : List ReplyOf) → AreLimited rules → HasLoaders (length rules) p → AreReplies may (round_orders rules (front (modes_of rules) p M)) round → Fills (modes_of rules) p M (after_round rules M round)
   round-fills rules p M round positive within h = λ l one.
       let modes : List KeyMode = modes_of rules in
       let below : l.loader < length rules = within (read modes M) l (front-needs modes p M l one) in
-      let ordered : IsOrdered l.loader l.key (orders_of rules (front modes p M)) = orders-ordered 0 rules (front modes p M) l positive (omega arith) (omega arith) one in
-      or-some (M l.loader (cache_key modes l)) (look (pairs_of modes round) l.loader (cache_key modes l)) (replies-some modes (orders_of rules (front modes p M)) round l.loader l.key h ordered)
+      let ordered : IsOrdered l.loader l.key (round_orders rules (front modes p M)) = orders-ordered 0 rules (front modes p M) l positive (omega arith) (omega arith) one in
+      or-some (M l.loader (cache_key modes l)) (look (pairs_of modes round) l.loader (cache_key modes l)) (replies-some modes (round_orders rules (front modes p M)) round l.loader l.key h ordered)
 
   -- and adds only
   pub stored-extends : (M : Memory) (ps : List PairOf) → Extends M (stored M ps)
@@ -175,7 +175,7 @@ module _ (may : ℕ → List KeyOf → AnswerOf → Type 0) where
       omega (arith, length-memories rules M rounds, less)
 
   -- one round more
-  pub rounds-more : (rules : List RuleOf) (p : Program) (M mid : Memory) (rounds : List (List ReplyOf)) (round : List ReplyOf) → AreRounds may rules p M rounds mid → front (modes_of rules) p mid ≢ [] → AreReplies may (orders_of rules (front (modes_of rules) p mid)) round
+  pub rounds-more : (rules : List RuleOf) (p : Program) (M mid : Memory) (rounds : List (List ReplyOf)) (round : List ReplyOf) → AreRounds may rules p M rounds mid → front (modes_of rules) p mid ≢ [] → AreReplies may (round_orders rules (front (modes_of rules) p mid)) round
       → AreRounds may rules p M (rounds ++ round ∷ []) (after_round rules mid round)
   rounds-more rules p M mid [] round h ne r =
       let e : mid ≡ M = fun_ext (λ loader. fun_ext (λ key. h loader key)) in
@@ -192,4 +192,4 @@ module _ (may : ℕ → List KeyOf → AnswerOf → Type 0) where
   pub any-rounds : (rules : List RuleOf) (p : Program) (M : Memory) (rounds : List (List ReplyOf)) (end : Memory) → AreRounds may rules p M rounds end → AreRounds any_answer rules p M rounds end
   any-rounds rules p M [] end h = h
   any-rounds rules p M (round ∷ rounds) end h =
-      (h.0, any-replies (orders_of rules (front (modes_of rules) p M)) round h.1, any-rounds rules p (after_round rules M round) rounds end h.2)
+      (h.0, any-replies (round_orders rules (front (modes_of rules) p M)) round h.1, any-rounds rules p (after_round rules M round) rounds end h.2)

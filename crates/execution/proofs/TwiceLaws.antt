@@ -11,7 +11,7 @@ use Rattle.load_queue.specs.Answers.{AnswerOf, given, failed, wrong_count, outco
 use Rattle.load_queue.specs.Orders.{OrderOf}
 use Rattle.execution.specs.Loads.{Load, Memory, mode_at, read, IsOneOf}
 use Rattle.execution.specs.Front.{missing, firsts}
-use Rattle.execution.specs.Rounds.{RuleOf, modes_of, orders_of, IsReply, AreReplies, reply_pairs, pairs_of, unless_failed, AreLimited}
+use Rattle.execution.specs.Rounds.{RuleOf, modes_of, round_orders, IsReply, AreReplies, reply_pairs, pairs_of, unless_failed, AreLimited}
 use Rattle.execution.specs.Sessions.{Cell, key_cell, cell_of, AreApart, order_cells, Step, Forgot, Asked, Lost, Primed, Cleared, ClearedAll, after, AreMissing, IsStep, AreSteps, clears, HasFailed, FailedAt, IsAskedAgainRightly}
 use Rattle.execution.proofs.Same.{filter-one, firsts-one}
 use Rattle.execution.proofs.ReplyLaws.{make, one-map, look-member, member-some, pairs-from, pair_cell, replies-cells, firsts-apart, orders-apart, orders-loads}
@@ -27,13 +27,13 @@ missing-none rules M loads needed l e h =
     none-is (read modes M l) (filter-one (λ m. is_none (read modes M m)) l needed among).1
 
 -- what is asked is absent
-pub absent : (rules : List RuleOf) (M : Memory) (loads : List Load) (c : Cell) → AreLimited rules → AreMissing (modes_of rules) M loads → IsOneOf c (order_cells (modes_of rules) (orders_of rules loads)) → M c.0 c.1 ≡ None
+pub absent : (rules : List RuleOf) (M : Memory) (loads : List Load) (c : Cell) → AreLimited rules → AreMissing (modes_of rules) M loads → IsOneOf c (order_cells (modes_of rules) (round_orders rules loads)) → M c.0 c.1 ≡ None
 absent rules M loads c positive h one =
     let modes : List KeyMode = modes_of rules in
     let r = one-map (cell_of modes) c loads (orders-loads modes 0 rules loads c positive one) in
     ap (λ (d : Cell). M d.0 d.1) r.2 ∙ missing-none rules M loads h.0 r.0 h.1 r.1
 
-pub together : (rules : List RuleOf) (M : Memory) (loads : List Load) → AreLimited rules → AreMissing (modes_of rules) M loads → AreApart (order_cells (modes_of rules) (orders_of rules loads))
+pub together : (rules : List RuleOf) (M : Memory) (loads : List Load) → AreLimited rules → AreMissing (modes_of rules) M loads → AreApart (order_cells (modes_of rules) (round_orders rules loads))
 together rules M loads positive h =
     orders-apart (modes_of rules) 0 rules loads positive (rw h.1 (firsts-apart (modes_of rules) (missing (read (modes_of rules) M) h.0)))
 
@@ -105,27 +105,27 @@ module _ (may : ℕ → List KeyOf → AnswerOf → Type 0) where
   some-value (Some o) h = (o, refl)
 
   -- what a round asked has its outcome afterwards
-  pub asked-outcome : (rules : List RuleOf) (M : Memory) (loads : List Load) (replies : List ReplyOf) (c : Cell) → AreLimited rules → IsStep may rules M (Asked loads replies) → IsOneOf c (order_cells (modes_of rules) (orders_of rules loads))
+  pub asked-outcome : (rules : List RuleOf) (M : Memory) (loads : List Load) (replies : List ReplyOf) (c : Cell) → AreLimited rules → IsStep may rules M (Asked loads replies) → IsOneOf c (order_cells (modes_of rules) (round_orders rules loads))
       → (o : OutcomeOf) × (look (pairs_of (modes_of rules) replies) c.0 c.1 ≡ Some o) × (after rules M (Asked loads replies) c.0 c.1 ≡ Some o)
   asked-outcome rules M loads replies c positive h one =
       let modes : List KeyMode = modes_of rules in
-      let cells : map pair_cell (pairs_of modes replies) ≡ order_cells modes (orders_of rules loads) = replies-cells may modes (orders_of rules loads) replies h.1 in
+      let cells : map pair_cell (pairs_of modes replies) ≡ order_cells modes (round_orders rules loads) = replies-cells may modes (round_orders rules loads) replies h.1 in
       let p = one-map pair_cell c (pairs_of modes replies) (rw cells one) in
       let there : IsSome (look (pairs_of modes replies) p.0.loader p.0.key) = member-some p.0.loader p.0.key p.0.outcome (pairs_of modes replies) p.1 in
       let here : IsSome (look (pairs_of modes replies) c.0 c.1) = rw (ap (λ (d : Cell). look (pairs_of modes replies) d.0 d.1) p.2) there in
       let v = some-value (look (pairs_of modes replies) c.0 c.1) here in
       (v.0, v.1, ap (λ r. option_or r (look (pairs_of modes replies) c.0 c.1)) (absent rules M loads c positive h.0 one) ∙ v.1)
 
-  failed-at : (rules : List RuleOf) (loads : List Load) (replies : List ReplyOf) (c : Cell) (text : List ℕ) → AreReplies may (orders_of rules loads) replies → look (pairs_of (modes_of rules) replies) c.0 c.1 ≡ Some (batch_fault text) → FailedAt (modes_of rules) c replies
+  failed-at : (rules : List RuleOf) (loads : List Load) (replies : List ReplyOf) (c : Cell) (text : List ℕ) → AreReplies may (round_orders rules loads) replies → look (pairs_of (modes_of rules) replies) c.0 c.1 ≡ Some (batch_fault text) → FailedAt (modes_of rules) c replies
   failed-at rules loads replies c text h e =
       let modes : List KeyMode = modes_of rules in
       let r = pairs-from modes (make c.0 c.1 (batch_fault text)) replies (look-member c.0 c.1 (batch_fault text) (pairs_of modes replies) e) in
-      let o = reply-for (orders_of rules loads) replies r.0 h r.1 in
+      let o = reply-for (round_orders rules loads) replies r.0 h r.1 in
       let own = own-pair modes r.0.loader c.0 c.1 (batch_fault text) r.0.keys r.0.outcomes r.2 in
       (r.0, r.1, own.0, reply-failed o.0 r.0 text o.1 own.1)
 
   pub again : (rules : List RuleOf) (M : Memory) (first later : List Load) (replies others : List ReplyOf) (between : List Step) (c : Cell) → AreLimited rules → AreSteps may rules M (Asked first replies ∷ (between ++ Asked later others ∷ []))
-      → IsOneOf c (order_cells (modes_of rules) (orders_of rules first)) → IsOneOf c (order_cells (modes_of rules) (orders_of rules later)) → IsAskedAgainRightly (modes_of rules) c replies between
+      → IsOneOf c (order_cells (modes_of rules) (round_orders rules first)) → IsOneOf c (order_cells (modes_of rules) (round_orders rules later)) → IsAskedAgainRightly (modes_of rules) c replies between
   again rules M first later replies others between c positive h one two =
       let got = asked-outcome rules M first replies c positive h.0 one in
       let onward : AreSteps may rules (after_all rules (after rules M (Asked first replies)) between) (Asked later others ∷ []) = steps-after rules (after rules M (Asked first replies)) between (Asked later others ∷ []) h.1 in

@@ -48,8 +48,8 @@ orders_from n [] ls = []
 orders_from n (rule ∷ rules) ls = map (order_of n) (batches rule.limit (keys_for n ls)) ++ orders_from (suc n) rules ls
 
 -- *Batches*: for each loader in order of number its keys, cut in order into pieces of the limit's length
-abbrev pub orders_of : List RuleOf → List Load → List OrderOf
-orders_of rules ls = orders_from 0 rules ls
+abbrev pub round_orders : List RuleOf → List Load → List OrderOf
+round_orders rules ls = orders_from 0 rules ls
 
 -- A reply has the order's loader and keys, and the outcomes of an answer that the source may give: item i for key i, or,
 -- where the batch failed as a whole or the list has another length, the batch fault for each key.
@@ -80,7 +80,7 @@ after_round rules M replies = stored M (pairs_of (modes_of rules) replies)
 abbrev pub AreRounds : (ℕ → List KeyOf → AnswerOf → Type 0) → List RuleOf → Program → Memory → List (List ReplyOf) → Memory → Type 0
 AreRounds may rules p M [] end = (loader : ℕ) (key : KeyOf) → end loader key ≡ M loader key
 AreRounds may rules p M (round ∷ rounds) end =
-    (front (modes_of rules) p M ≢ []) × AreReplies may (orders_of rules (front (modes_of rules) p M)) round × AreRounds may rules p (after_round rules M round) rounds end
+    (front (modes_of rules) p M ≢ []) × AreReplies may (round_orders rules (front (modes_of rules) p M)) round × AreRounds may rules p (after_round rules M round) rounds end
 
 -- *Lawful log*: rounds, until the front is empty
 abbrev pub IsLawful : (ℕ → List KeyOf → AnswerOf → Type 0) → List RuleOf → Program → Memory → List (List ReplyOf) → Memory → Type 0
@@ -119,8 +119,8 @@ abbrev pub RespectsCacheKeys : List KeyMode → (ℕ → KeyOf → ItemOf) → T
 RespectsCacheKeys modes item = (loader : ℕ) (j k : KeyOf) → folded (mode_at modes loader) j ≡ folded (mode_at modes loader) k → item loader j ≡ item loader k
 
 -- the memory has no pair but those that asking key by key gives
-abbrev pub IsTold : List KeyMode → (ℕ → KeyOf → ItemOf) → Memory → Type 0
-IsTold modes item M = (loader : ℕ) (key : KeyOf) (outcome : OutcomeOf) → M loader (folded (mode_at modes loader) key) ≡ Some outcome → outcome ≡ known (item loader key)
+abbrev pub HoldsItems : List KeyMode → (ℕ → KeyOf → ItemOf) → Memory → Type 0
+HoldsItems modes item M = (loader : ℕ) (key : KeyOf) (outcome : OutcomeOf) → M loader (folded (mode_at modes loader) key) ≡ Some outcome → outcome ≡ known (item loader key)
 
 -- a list of pairs with those of another whose keys are absent, one after another
 abbrev pub all_primed : List PairOf → List PairOf → List PairOf

@@ -11,7 +11,7 @@ use Rattle.load_queue.specs.Orders.{OrderOf}
 use Rattle.execution.specs.Loads.{Load, Memory, mode_at, read, IsOneOf}
 use Rattle.execution.specs.Program.{Program}
 use Rattle.execution.specs.Front.{missing, firsts, front}
-use Rattle.execution.specs.Rounds.{RuleOf, modes_of, orders_of, AreReplies, reply_pairs, stored, after_round, without_failed}
+use Rattle.execution.specs.Rounds.{RuleOf, modes_of, round_orders, AreReplies, reply_pairs, stored, after_round, without_failed}
 
 -- a loader's number and a cache key
 abbrev pub Cell : Type 0
@@ -64,7 +64,7 @@ AreMissing modes M loads = (needed : List Load) × (loads ≡ firsts modes (miss
 
 abbrev pub IsStep : (ℕ → List KeyOf → AnswerOf → Type 0) → List RuleOf → Memory → Step → Type 0
 IsStep may rules M Forgot = Unit {0}
-IsStep may rules M (Asked loads replies) = AreMissing (modes_of rules) M loads × AreReplies may (orders_of rules loads) replies
+IsStep may rules M (Asked loads replies) = AreMissing (modes_of rules) M loads × AreReplies may (round_orders rules loads) replies
 IsStep may rules M (Lost loads) = AreMissing (modes_of rules) M loads
 IsStep may rules M (Primed pair) = Unit {0}
 IsStep may rules M (Cleared cell) = Unit {0}
@@ -98,7 +98,7 @@ IsAskedAgainRightly modes cell replies between = (list_any (clears cell) between
 abbrev pub asked_cells : List RuleOf → Program → Memory → List (List ReplyOf) → List Cell
 asked_cells rules p M [] = []
 asked_cells rules p M (round ∷ rounds) =
-    order_cells (modes_of rules) (orders_of rules (front (modes_of rules) p M)) ++ asked_cells rules p (after_round rules M round) rounds
+    order_cells (modes_of rules) (round_orders rules (front (modes_of rules) p M)) ++ asked_cells rules p (after_round rules M round) rounds
 
 -- the pair is in a reply of one of the rounds
 abbrev pub IsAnsweredIn : List KeyMode → PairOf → List (List ReplyOf) → Type 0

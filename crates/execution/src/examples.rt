@@ -8,7 +8,7 @@ ghost use Rattle.execution.specs.Residual.{unanswered};
 ghost use Rattle.load_memory.specs.Keys.{all, text};
 ghost use Rattle.load_memory.specs.Outcomes.{batch_fault};
 ghost use Rattle.execution.specs.Front.{firsts};
-ghost use Rattle.execution.specs.Rounds.{modes_of, orders_of, after_round, without_failed};
+ghost use Rattle.execution.specs.Rounds.{modes_of, round_orders, after_round, without_failed};
 ghost use Rattle.execution.specs.Examples.{two_loaders, five_loads, order, one_item_too_few, nothing_known, answered, error, key, load_of, user_without_name, user_is_null, users_and_one_without_name, data_is_null, nullable_users, item_is_null, siblings_under_a_null, each_has_its_error, three_loads, first_answered, fault_answered};
 
 /// Nulls and errors. A null at a non-null type makes the nearest nullable parent null, up to `data`; errors of siblings
@@ -35,7 +35,7 @@ pub fn read_by_hand()
 /// of another length than the keys gives each key the batch fault that says so.
 pub fn rounds_by_hand()
     ensures first { firsts (modes_of two_loaders) five_loads ≡ load_of 0 (codes "ABC") ∷ record { loader = 1; key = all } ∷ load_of 0 (codes "b") ∷ load_of 0 (codes "c") ∷ [] }
-    ensures orders { orders_of two_loaders (firsts (modes_of two_loaders) five_loads)
+    ensures orders { round_orders two_loaders (firsts (modes_of two_loaders) five_loads)
         ≡ order 0 (text (codes "ABC") ∷ text (codes "b") ∷ []) ∷ order 0 (text (codes "c") ∷ []) ∷ order 1 (all ∷ []) ∷ [] }
     ensures folded { after_round two_loaders nothing_known (one_item_too_few ∷ []) 0 (text (codes "abc")) ≡ Some (batch_fault (codes "the source answered 1 results for 2 keys")) }
     ensures other { after_round two_loaders nothing_known (one_item_too_few ∷ []) 0 (text (codes "ABC")) ≡ None }

@@ -6,7 +6,7 @@ ghost use Rattle.execution.specs.Program.{Program, Programs, Under, Kind, Tree, 
 ghost use Rattle.execution.specs.Completion.{IsNullAt, IsCompletion, AnsweredOf};
 ghost use Rattle.execution.specs.Front.{front, front_of_keys, firsts, wanting, modes_wanted, keys_for};
 ghost use Rattle.load_memory.specs.Replies.{ReplyOf};
-ghost use Rattle.execution.specs.Rounds.{RuleOf, modes_of, any_answer, IsLawful, IsSparing, AreLimited, HasLoaders, key_by_key, direct, RespectsCacheKeys, IsTold, orders_of, AreReplies, AreRounds, after_round, stored, all_primed, IsBelow, own_rounds};
+ghost use Rattle.execution.specs.Rounds.{RuleOf, modes_of, any_answer, IsLawful, IsSparing, AreLimited, HasLoaders, key_by_key, direct, RespectsCacheKeys, HoldsItems, round_orders, AreReplies, AreRounds, after_round, stored, all_primed, IsBelow, own_rounds};
 ghost use Rattle.load_memory.specs.Keys.{KeyOf};
 ghost use Rattle.load_memory.specs.Outcomes.{ItemOf};
 ghost use Rattle.execution.specs.Sessions.{Cell, Step, Asked, AreSteps, AreMissing, AreApart, order_cells, asked_cells, IsAskedAgainRightly, IsAnsweredIn};
@@ -54,7 +54,7 @@ pub fn wants_are_the_front()
 /// round's replies.
 pub fn reply_order_is_immaterial()
     ensures { (rules : List RuleOf) (p : Program) (M : Memory) (round other : List ReplyOf)
-        → AreLimited rules → AreReplies any_answer (orders_of rules (front (modes_of rules) p M)) round → IsPermutation round other
+        → AreLimited rules → AreReplies any_answer (round_orders rules (front (modes_of rules) p M)) round → IsPermutation round other
         → (loader : ℕ) (key : KeyOf) → after_round rules M other loader key ≡ after_round rules M round loader key }
 {}
 
@@ -109,7 +109,7 @@ pub fn one_lawful_log()
         → IsLawful (key_by_key item) rules p M rounds end → IsLawful (key_by_key item) rules p M others last
         → (loader : ℕ) (key : KeyOf) → end loader key ≡ last loader key }
     ensures direct { (item : ℕ → KeyOf → ItemOf) (rules : List RuleOf) (p : Program) (M : Memory) (rounds : List (List ReplyOf)) (end : Memory)
-        → RespectsCacheKeys (modes_of rules) item → IsTold (modes_of rules) item M → IsLawful (key_by_key item) rules p M rounds end
+        → RespectsCacheKeys (modes_of rules) item → HoldsItems (modes_of rules) item M → IsLawful (key_by_key item) rules p M rounds end
         → exec p (read (modes_of rules) end) ≡ exec p (direct item) }
 {}
 
@@ -133,9 +133,9 @@ pub fn no_key_twice()
     ensures front { (modes : List KeyMode) (p : Program) (M : Memory) → AreMissing modes M (front modes p M) }
     ensures keys { (modes : List KeyMode) (loader : ℕ) (keys : List KeyOf) (M : Memory) → AreMissing modes M (front_of_keys modes loader keys M) }
     ensures together { (rules : List RuleOf) (M : Memory) (loads : List Load)
-        → AreLimited rules → AreMissing (modes_of rules) M loads → AreApart (order_cells (modes_of rules) (orders_of rules loads)) }
+        → AreLimited rules → AreMissing (modes_of rules) M loads → AreApart (order_cells (modes_of rules) (round_orders rules loads)) }
     ensures again { (rules : List RuleOf) (M : Memory) (first later : List Load) (replies others : List ReplyOf) (between : List Step) (cell : Cell)
         → AreLimited rules → AreSteps any_answer rules M (Asked first replies ∷ (between ++ Asked later others ∷ []))
-        → IsOneOf cell (order_cells (modes_of rules) (orders_of rules first)) → IsOneOf cell (order_cells (modes_of rules) (orders_of rules later))
+        → IsOneOf cell (order_cells (modes_of rules) (round_orders rules first)) → IsOneOf cell (order_cells (modes_of rules) (round_orders rules later))
         → IsAskedAgainRightly (modes_of rules) cell replies between }
 {}

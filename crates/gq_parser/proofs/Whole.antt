@@ -8,7 +8,7 @@ use Rattle.gq_parser.specs.declared.fault.Fault.{Fault}
 use Rattle.gq_parser.specs.declared.fault.Fault.TheVariants.{Unexpected, TooDeep, NoMemory}
 use Rattle.gq_parser.specs.Tree.{Operation, Fragment, Document}
 use Rattle.gq_parser.specs.Grammar.{AreDefinitions, no_more_definitions, next_operation, next_fragment, IsDocument, IsOperation, shorthand, IsFragment}
-use Rattle.gq_parser.specs.Fault.{IsViable, IsShallow, IsUnexpected, IsUnexpectedAt, IsTooDeepAt, IsFault, most_brackets, most_bytes}
+use Rattle.gq_parser.specs.Fault.{IsViable, IsShallow, IsUnexpected, IsUnexpectedAt, IsTooDeepAt, IsParseFault, most_brackets, most_bytes}
 use Rattle.gq_parser.specs.Machine.{ADefinition, one, Done, read}
 use Rattle.gq_parser.specs.Parsing.{Fails, parse_fault_of}
 use Rattle.gq_parser.proofs.Means.{Means, ends, then', d_operation, d_fragment}
@@ -79,7 +79,7 @@ pub shallow_from : (tokens : List Token) → read most_brackets (one ADefinition
 shallow_from tokens e = subst (Ends most_brackets (one ADefinition) tokens) e (read_ends most_brackets (one ADefinition) tokens)
 
 -- the fault of a text
-pub text_fault : (text : List ℕ) (tokens : List lexer.Token) (f : Fault) → length text ≤ most_bytes → AreTokens text tokens → IsTokenFault (tokens_of text tokens) f → IsFault text (parse_fault_of f text)
+pub text_fault : (text : List ℕ) (tokens : List lexer.Token) (f : Fault) → length text ≤ most_bytes → AreTokens text tokens → IsTokenFault (tokens_of text tokens) f → IsParseFault text (parse_fault_of f text)
 text_fault text tokens (Unexpected None) short reads h = (record { tokens = tokens; short = short; reads = reads; holds = h }, refl)
 text_fault text tokens (Unexpected (Some p)) short reads h = record { tokens = tokens; short = short; reads = reads; holds = h }
 text_fault text tokens (TooDeep p) short reads h = record { tokens = tokens; short = short; reads = reads; holds = h }

@@ -103,12 +103,12 @@ pub record OfTokens (text : List ℕ) (P : List Token → Type 0) : Type 0 where
   pub holds : P (tokens_of text tokens)
 
 -- the first fault of the text; of memory this says nothing
-abbrev pub IsFault : List ℕ → ParseFault → Type 0
-IsFault text (fault.Lex f) = IsLexFault f text
-IsFault text (fault.Unexpected p) = OfTokens text (λ tokens. IsUnexpectedAt tokens (Some p))
-IsFault text (fault.UnexpectedEnd p) = OfTokens text (λ tokens. IsUnexpectedAt tokens None) × (p ≡ place_of text (length text))
-IsFault text (fault.TooDeep p) = OfTokens text (λ tokens. IsTooDeepAt tokens p)
-IsFault text fault.NoMemory = Unit {0}
+abbrev pub IsParseFault : List ℕ → ParseFault → Type 0
+IsParseFault text (fault.Lex f) = IsLexFault f text
+IsParseFault text (fault.Unexpected p) = OfTokens text (λ tokens. IsUnexpectedAt tokens (Some p))
+IsParseFault text (fault.UnexpectedEnd p) = OfTokens text (λ tokens. IsUnexpectedAt tokens None) × (p ≡ place_of text (length text))
+IsParseFault text (fault.TooDeep p) = OfTokens text (λ tokens. IsTooDeepAt tokens p)
+IsParseFault text fault.NoMemory = Unit {0}
 
 -- the place that a fault has
 abbrev pub place_of_parse_fault : ParseFault → Option Place

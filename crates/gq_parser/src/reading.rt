@@ -4,7 +4,7 @@ ghost use Rattle.std.specs.Prelude.{◌≡◌, ◌≤◌, length, IfOk, IfErr, M
 ghost use Rattle.gq_parser.specs.Tree as trees;
 ghost use Rattle.gq_parser.specs.Tree.{document_of};
 ghost use Rattle.gq_parser.specs.Grammar.{IsDocument};
-ghost use Rattle.gq_parser.specs.Fault.{IsDocumentOf, IsFault, IsShallow, Finds, most_brackets};
+ghost use Rattle.gq_parser.specs.Fault.{IsDocumentOf, IsParseFault, IsShallow, Finds, most_brackets};
 ghost use Rattle.gq_parser.specs.Machine.{ADefinition, one, read};
 ghost use Rattle.gq_parser.specs.Parsing.{Fails, Adds, parse_fault_of};
 
@@ -77,7 +77,7 @@ pub fn parse(alloc: Global, text: &str) -> Result<Document, ParseFault>
     ensures only { (d : trees.Document) → IsDocumentOf text.now d → Finds d result }
 
     // Otherwise the first fault is told, with its place.
-    ensures fault { IfErr result (IsFault text.now) }
+    ensures fault { IfErr result (IsParseFault text.now) }
 {
     let tokens = lex(alloc, text)?;
     match document(Parser::new(alloc, text, &tokens)) {

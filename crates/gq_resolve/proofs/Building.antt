@@ -12,7 +12,7 @@ use Rattle.gq_check.specs.Plans.{PlanOf}
 use Rattle.plan_program.specs.declared.prepared.Own.{Own}
 use Rattle.plan_program.specs.declared.prepared.Prepared.{Prepared}
 use Rattle.plan_program.specs.Groups.{FieldOf, nothing_collected, collect_below}
-use Rattle.plan_program.specs.Asked.{AskedOf, BelowOf, all_prepared}
+use Rattle.plan_program.specs.Asked.{ValueFrom, BelowOf, all_prepared}
 use Rattle.plan_program.specs.Prepared.{own_seen, prepared_seen, all_prepared_seen}
 use Rattle.plan_program.specs.PlanPrograms.{places, list_of, fields_of, read_key, read_cell, prepared_program, object_program}
 use Rattle.gq_resolve.specs.States.{spot_of, programs_of, state_step, program_of}
@@ -78,20 +78,20 @@ places-done plan R below f items xs i v le strict at g =
 
 -- ---- fields of an object
 
-pub fields-append : (f : AskedOf → Program) (xs : List Prepared) (x : Prepared)
+pub fields-append : (f : ValueFrom → Program) (xs : List Prepared) (x : Prepared)
     → fields_of f (all_prepared_seen (xs ++ x ∷ [])) ≡ chained (fields_of f (all_prepared_seen xs)) (With (prepared_seen x).spot (f (prepared_seen x).asked) End)
 fields-append f [] x = refl
 fields-append f (y ∷ xs) x = rw (fields-append f xs x) refl
 
 -- the step of a loop over fields
-pub gathers-field : (plan : PlanOf) (R : Reader) (f : AskedOf → Program) (xs : List Prepared) (i : ℕ) (x : Prepared) (children children' : List (rust.Spot × State)) (spot : rust.Spot) (s : State)
+pub gathers-field : (plan : PlanOf) (R : Reader) (f : ValueFrom → Program) (xs : List Prepared) (i : ℕ) (x : Prepared) (children children' : List (rust.Spot × State)) (spot : rust.Spot) (s : State)
     → i < length xs → x ≡ get_or xs i x → Gathers plan R (fields_of f (all_prepared_seen (take i xs))) children → program_of plan s ≡ rest (f (prepared_seen x).asked) R
     → spot_of spot ≡ (prepared_seen x).spot → children' ≡ children ++ (spot, s) ∷ [] → Gathers plan R (fields_of f (all_prepared_seen (take (i + 1) xs))) children'
 gathers-field plan R f xs i x children children' spot s lt e g h at pushed =
     let more : take (i + 1) xs ≡ take i xs ++ x ∷ [] = take_more xs i x lt ∙ ap (λ y. take i xs ++ y ∷ []) (sym e) in
     rw (more, fields-append f (take i xs) x, ← at) (gathers-more plan R (fields_of f (all_prepared_seen (take i xs))) children children' spot (f (prepared_seen x).asked) s g h pushed)
 
-pub fields-done : (plan : PlanOf) (R : Reader) (f : AskedOf → Program) (xs : List Prepared) (i : ℕ) (v : Vec (rust.Spot × State) Global)
+pub fields-done : (plan : PlanOf) (R : Reader) (f : ValueFrom → Program) (xs : List Prepared) (i : ℕ) (v : Vec (rust.Spot × State) Global)
     → length xs ≤ i → Gathers plan R (fields_of f (all_prepared_seen (take i xs))) v.items → program_of plan (state.Object v) ≡ rest (Under ObjectOf (fields_of f (all_prepared_seen xs))) R
 fields-done plan R f xs i v le g =
     gathers-done plan R (fields_of f (all_prepared_seen xs)) v (subst (λ ys. Gathers plan R (fields_of f (all_prepared_seen ys)) v.items) (take_all i xs le) g)

@@ -18,7 +18,7 @@ use Rattle.execution.specs.Residual.{rest, all_rest}
 use Rattle.gq_check.specs.Plans.{PlanOf}
 use Rattle.plan_program.specs.Groups.{FieldOf, GroupOf, nothing_collected, collect_below}
 use Rattle.plan_program.specs.Arguments.{ArgumentsOf, ValueOf, all_values, null_argument, arguments_of}
-use Rattle.plan_program.specs.Asked.{KeyFrom, fixed, of_column, BelowOf, AskedOf, known as settled, cell, first_row, all_rows, each_row, joined_rows, PreparedOf, key_from, with_loader, with_key, each_asked, input_named, bound_asked, below_of, with_arguments, defined_asked, field_asked, first_asked, all_prepared, spot_of}
+use Rattle.plan_program.specs.Asked.{KeyFrom, fixed, of_column, BelowOf, ValueFrom, known as settled, cell, first_row, all_rows, each_row, joined_rows, PreparedOf, key_from, with_loader, with_key, each_asked, input_named, bound_asked, below_of, with_arguments, defined_asked, field_asked, first_asked, all_prepared, spot_of}
 use Rattle.plan_program.specs.PlanPrograms.{TypeOf, object_type, type_fault, type_of_row, places, fields_of, Objects, typed_object, row_object, with_rows, read_key, read_cell, read_from, read_if, first_object, asked_program, object_program, most_levels, plan_program}
 use Rattle.gq_resolve.specs.Evaluated.{reader}
 use Rattle.gq_resolve.specs.States.{told}
@@ -58,7 +58,7 @@ told-same m n le load lt = let e : nat_lt load.loader (length m.modes) ≡ true 
 
 -- ---- what groups ask for
 
-abbrev AskedBelow : ℕ → AskedOf → Type 0
+abbrev AskedBelow : ℕ → ValueFrom → Type 0
 AskedBelow n (settled own) = Unit {0}
 AskedBelow n (cell column t) = Unit {0}
 AskedBelow n (first_row loader key below) = loader < n
@@ -70,14 +70,14 @@ module _ (plan : PlanOf) where
   abbrev count : ℕ
   count = length plan.bindings.loaders
 
-  loader-below : (loader : ℕ) (asked : AskedOf) → (loader < length plan.bindings.loaders → AskedBelow (length plan.bindings.loaders) asked) → AskedBelow (length plan.bindings.loaders) (with_loader plan loader asked)
+  loader-below : (loader : ℕ) (asked : ValueFrom) → (loader < length plan.bindings.loaders → AskedBelow (length plan.bindings.loaders) asked) → AskedBelow (length plan.bindings.loaders) (with_loader plan loader asked)
   loader-below loader asked h = go (nat_lt loader (length plan.bindings.loaders)) refl
     where
       go : (b : Bool) → nat_lt loader (length plan.bindings.loaders) ≡ b → AskedBelow (length plan.bindings.loaders) (if b then asked else settled Null)
       go true e = h (true-below loader (length plan.bindings.loaders) e)
       go false e = tt
 
-  key-below : (key : Option KeyFrom) (asked : KeyFrom → AskedOf) → ((k : KeyFrom) → AskedBelow (length plan.bindings.loaders) (asked k)) → AskedBelow (length plan.bindings.loaders) (with_key key asked)
+  key-below : (key : Option KeyFrom) (asked : KeyFrom → ValueFrom) → ((k : KeyFrom) → AskedBelow (length plan.bindings.loaders) (asked k)) → AskedBelow (length plan.bindings.loaders) (with_key key asked)
   key-below None asked h = tt
   key-below (Some k) asked h = h k
 
@@ -97,7 +97,7 @@ module _ (plan : PlanOf) where
   bound-below t below values (Some (by_each loader name)) = loader-below loader _ (λ h. each-below loader below (input_named name values) h)
   bound-below t below values (Some (by_via loader key second column)) = loader-below loader _ (λ h. loader-below second _ (λ i. key-below (key_from values key) _ (λ k. (h, i))))
 
-  arguments-below : (a : ArgumentsOf) (asked : List ValueOf → AskedOf) → ((vs : List ValueOf) → AskedBelow (length plan.bindings.loaders) (asked vs)) → AskedBelow (length plan.bindings.loaders) (with_arguments a asked)
+  arguments-below : (a : ArgumentsOf) (asked : List ValueOf → ValueFrom) → ((vs : List ValueOf) → AskedBelow (length plan.bindings.loaders) (asked vs)) → AskedBelow (length plan.bindings.loaders) (with_arguments a asked)
   arguments-below (null_argument name) asked h = tt
   arguments-below (all_values vs) asked h = h vs
 
@@ -169,7 +169,7 @@ module _ (plan : PlanOf) where
     first_object-below below [] = tt
     first_object-below below (r ∷ rs) = row-below below r
 
-    asked-below : (row : RowOf) (a : AskedOf) → AskedBelow (length plan.bindings.loaders) a → LoadersBelow (length plan.bindings.loaders) (asked_program defs objects row a)
+    asked-below : (row : RowOf) (a : ValueFrom) → AskedBelow (length plan.bindings.loaders) a → LoadersBelow (length plan.bindings.loaders) (asked_program defs objects row a)
     asked-below row (settled own) i = tt
     asked-below row (cell column t) i = tt
     asked-below row (first_row loader key below) i = read_from-below loader key row _ i (λ rs. first_object-below below rs)

@@ -14,7 +14,7 @@ use Rattle.load_memory.specs.declared.key.Key.{Key}
 use Rattle.execution.specs.Program.{Program, Read}
 use Rattle.execution.specs.Residual.{rest}
 use Rattle.gq_check.specs.Plans.{PlanOf}
-use Rattle.plan_program.specs.Asked.{BelowOf, AskedOf, known, cell, first_row, all_rows, each_row, joined_rows, PreparedOf}
+use Rattle.plan_program.specs.Asked.{BelowOf, ValueFrom, known, cell, first_row, all_rows, each_row, joined_rows, PreparedOf}
 use Rattle.plan_program.specs.Prepared.{asked_seen, prepared_seen, below_seen, all_prepared_seen}
 use Rattle.load_memory.specs.Rows.{RowOf}
 use Rattle.plan_program.specs.PlanPrograms.{with_rows, fields_of, prepared_program, object_program}
@@ -40,7 +40,7 @@ fits-none : (plan : PlanOf) (levels : ℕ) (below : BelowOf) → Fits plan level
 fits-none plan zero below = tt
 fits-none plan (suc n) below = tt
 
-asked-none : (plan : PlanOf) (levels : ℕ) (asked : AskedOf) → AskedFits (Fits plan levels) asked []
+asked-none : (plan : PlanOf) (levels : ℕ) (asked : ValueFrom) → AskedFits (Fits plan levels) asked []
 asked-none plan levels (known own) = tt
 asked-none plan levels (cell column t) = tt
 asked-none plan levels (first_row loader key below) = fits-none plan levels below
@@ -49,10 +49,10 @@ asked-none plan levels (each_row loader keys below) = fits-none plan levels belo
 asked-none plan levels (joined_rows loader key second column below) = fits-none plan levels below
 
 -- what is let go still fits
-pub keeps-none : (plan : PlanOf) (asked : AskedOf) (old : List Shape) → KeepsAsked plan asked old []
+pub keeps-none : (plan : PlanOf) (asked : ValueFrom) (old : List Shape) → KeepsAsked plan asked old []
 keeps-none plan asked old = λ levels f. asked-none plan levels asked
 
-pub asked-then : (plan : PlanOf) (asked : AskedOf) (a b c : List Shape) → KeepsAsked plan asked a b → KeepsAsked plan asked b c → KeepsAsked plan asked a c
+pub asked-then : (plan : PlanOf) (asked : ValueFrom) (a b c : List Shape) → KeepsAsked plan asked a b → KeepsAsked plan asked b c → KeepsAsked plan asked a c
 asked-then plan asked a b c k l = λ levels f. l levels (k levels f)
 
 pub nothing-fits : (plan : PlanOf) (levels : ℕ) (ms : List Member) → NothingMet ms → MembersFit (Fits plan levels) ms
@@ -116,7 +116,7 @@ prepared-length [] = refl
 prepared-length (m ∷ ms) = ap suc (prepared-length ms)
 
 -- the step of a loop over members: what came of the next one is what is left of its program
-pub gathers-member : (plan : PlanOf) (R : Reader) (f : AskedOf → Program) (old now : List Member) (i : ℕ) (d : Member) (children children' : List (rust.Spot × State)) (spot : rust.Spot) (s : State)
+pub gathers-member : (plan : PlanOf) (R : Reader) (f : ValueFrom → Program) (old now : List Member) (i : ℕ) (d : Member) (children children' : List (rust.Spot × State)) (spot : rust.Spot) (s : State)
     → i < length now → prepared_in now ≡ prepared_in old → Gathers plan R (fields_of f (all_prepared_seen (take i (prepared_in old)))) children
     → program_of plan s ≡ rest (f (asked_seen (out-Member (get_or now i d)).prepared.asked)) R → spot_of spot ≡ (prepared_seen (out-Member (get_or now i d)).prepared).spot
     → children' ≡ children ++ (spot, s) ∷ [] → Gathers plan R (fields_of f (all_prepared_seen (take (i + 1) (prepared_in old)))) children'

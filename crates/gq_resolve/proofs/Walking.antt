@@ -13,7 +13,7 @@ use Rattle.execution.specs.Completion.{ResponseOf, ResponsesOf, Responding, Null
 use Rattle.execution.specs.Executed.{nulls, pulls_down, response, responses, errors as errors_at, all_errors, completed}
 use Rattle.execution.specs.Residual.{rest, all_rest, unanswered}
 use Rattle.gq_check.specs.Plans.{PlanOf}
-use Rattle.plan_program.specs.Asked.{AskedOf, BelowOf, PreparedOf}
+use Rattle.plan_program.specs.Asked.{ValueFrom, BelowOf, PreparedOf}
 use Rattle.plan_program.specs.Prepared.{asked_seen, prepared_seen, all_prepared_seen}
 use Rattle.plan_program.specs.PlanPrograms.{places, fields_of, or_bad, prepared_program, object_program}
 use Rattle.plan_program.specs.declared.prepared.Prepared.{Prepared}
@@ -150,7 +150,7 @@ bad-walked strict column (Some leaf) = refl
 -- ---- fields and items
 
 -- the step of a loop over fields
-puts-field : (R : Reader) (f : AskedOf → Program) (xs : List Prepared) (i : ℕ) (x : Prepared) (a b c d : Output) → i < length xs → x ≡ get_or xs i x
+puts-field : (R : Reader) (f : ValueFrom → Program) (xs : List Prepared) (i : ℕ) (x : Prepared) (a b c d : Output) → i < length xs → x ≡ get_or xs i x
     → Puts (all_walked ObjectOf (fields_of f (all_prepared_seen (take i xs))) R) a b → Puts (alone (key x.key.now ∷ [])) b c → Puts (walked x.non_null (f (asked_seen x.asked)) R) c d
     → Puts (all_walked ObjectOf (fields_of f (all_prepared_seen (take (i + 1) xs))) R) a d
 puts-field R f xs i x a b c d lt e p q s =
@@ -166,7 +166,7 @@ puts-field R f xs i x a b c d lt e p q s =
     subst (λ (w : Walked). Puts w a d) (sym is) (puts-then so_far (joined name here) a b d p (puts-then name here b c d q s))
 
 -- the step of a loop over members
-pub puts-member : (R : Reader) (f : AskedOf → Program) (old now : List Member) (i : ℕ) (m : Member) (a b c d : Output) → i < length now → prepared_in now ≡ prepared_in old
+pub puts-member : (R : Reader) (f : ValueFrom → Program) (old now : List Member) (i : ℕ) (m : Member) (a b c d : Output) → i < length now → prepared_in now ≡ prepared_in old
     → Puts (all_walked ObjectOf (fields_of f (all_prepared_seen (take i (prepared_in old)))) R) a b
     → Puts (alone (key (out-Member (get_or now i m)).prepared.key.now ∷ [])) b c
     → Puts (walked (out-Member (get_or now i m)).prepared.non_null (f (asked_seen (out-Member (get_or now i m)).prepared.asked)) R) c d
@@ -178,7 +178,7 @@ puts-member R f old now i m a b c d lt same p q s =
     puts-field R f (prepared_in old) i x a b c d within is p q s
 
 -- the end of a loop over fields
-pub fields-put : (R : Reader) (f : AskedOf → Program) (xs : List Prepared) (i : ℕ) (a b : Output) → length xs ≤ i → Puts (all_walked ObjectOf (fields_of f (all_prepared_seen (take i xs))) R) a b
+pub fields-put : (R : Reader) (f : ValueFrom → Program) (xs : List Prepared) (i : ℕ) (a b : Output) → length xs ≤ i → Puts (all_walked ObjectOf (fields_of f (all_prepared_seen (take i xs))) R) a b
     → Puts (all_walked ObjectOf (fields_of f (all_prepared_seen xs)) R) a b
 fields-put R f xs i a b le p = subst (λ (ps : List Prepared). Puts (all_walked ObjectOf (fields_of f (all_prepared_seen ps)) R) a b) (take_all i xs le) p
 

@@ -5,7 +5,7 @@ use Rattle.std.specs.declared.sync.Arc.{Arc}
 use Rattle.std.specs.declared.alloc.Global.{Global}
 use Rattle.gq_check.specs.Plans.{PlanOf}
 use Rattle.plan_program.specs.Groups.{nothing_collected, collect_below}
-use Rattle.plan_program.specs.Asked.{BelowOf, AskedOf, known, cell, first_row, all_rows, each_row, joined_rows, PreparedOf, all_prepared}
+use Rattle.plan_program.specs.Asked.{BelowOf, ValueFrom, known, cell, first_row, all_rows, each_row, joined_rows, PreparedOf, all_prepared}
 use Rattle.plan_program.specs.Prepared.{asked_seen, below_seen, all_prepared_seen}
 use Rattle.plan_program.specs.declared.prepared.Below.{Below}
 use Rattle.plan_program.specs.declared.prepared.Prepared.{Prepared}
@@ -35,7 +35,7 @@ abbrev pub Fitting : Type 1
 Fitting = BelowOf → List Shape → Type 0
 
 -- below a group stands what it asks for; nothing stands below a leaf
-abbrev pub AskedFits : Fitting → AskedOf → List Shape → Type 0
+abbrev pub AskedFits : Fitting → ValueFrom → List Shape → Type 0
 AskedFits F (known own) ss = Unit {0}
 AskedFits F (cell column t) ss = Unit {0}
 AskedFits F (first_row loader key below) ss = F below ss
@@ -66,7 +66,7 @@ Fits plan (suc levels) below ss = AreShapes plan (Fits plan levels) below ss
 abbrev pub Keeps : PlanOf → BelowOf → List Shape → List Shape → Type 0
 Keeps plan below old new = (levels : ℕ) → Fits plan levels below old → Fits plan levels below new
 
-abbrev pub KeepsAsked : PlanOf → AskedOf → List Shape → List Shape → Type 0
+abbrev pub KeepsAsked : PlanOf → ValueFrom → List Shape → List Shape → Type 0
 KeepsAsked plan asked old new = (levels : ℕ) → AskedFits (Fits plan levels) asked old → AskedFits (Fits plan levels) asked new
 
 -- of the same groups, and still fitting

@@ -2,7 +2,7 @@
 
 ghost use Rattle.std.specs.Prelude.{◌≡◌, ◌<◌, ℕ, suc, IfOk, IfSome, OnOk, length};
 ghost use Rattle.gq_check.specs.Plans.{plan_of};
-ghost use Rattle.plan_program.specs.Asked.{AskedOf};
+ghost use Rattle.plan_program.specs.Asked.{ValueFrom};
 ghost use Rattle.gq_resolve.specs.Shapes.{below_in, type_prepared, prepared_in, NothingMet, Fits, Keeps, KeepsAsked, type_at, prepared_at};
 
 use crate::no_memory::NoMemory;
@@ -110,7 +110,7 @@ fn groups_in(shape: &Shape<'_>) -> usize {
 /// Lets go of what was met below a group, where more groups are kept than there should be: below them it is prepared again
 /// when it is needed.
 pub fn let_go(walk: &Walk<'_, '_, '_>, met: &mut Vec<Shape<'_>>)
-    ensures { (asked : AskedOf) → KeepsAsked (plan_of walk.now.plan.now) asked met.old.items met.new.items }
+    ensures { (asked : ValueFrom) → KeepsAsked (plan_of walk.now.plan.now) asked met.old.items met.new.items }
 {
     if !walk.keeps_too_many() {
         return;

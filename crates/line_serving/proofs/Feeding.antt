@@ -7,7 +7,7 @@ use Rattle.std.proofs.lemmas.List.{flat_map_more}
 use Rattle.std.proofs.lemmas.Grind.{common_steps}
 use Rattle.std.proofs.lemmas.List.Concat.{flat_map-append}
 use Rattle.std.proofs.lemmas.List.Elements.{All-nil, All-cons, All-head, All-tail, All-append, All-push}
-use Rattle.line_serving.specs.Lines.{HasNoLineFeed, IsLine, IsLong, Splits, ended, line_feed, limit, lines_of, last_of, on_first}
+use Rattle.line_serving.specs.Lines.{HasNoLineFeed, IsLine, IsLong, Splits, ended, line_feed, limit, input_lines, last_of, on_first}
 use Rattle.line_serving.specs.Output.{AreAnswers, WithAnswer, WithAnswers, Sends, IsCut}
 use Rattle.line_serving.specs.Serving.{block_size, IsUnanswered, AtFault, Stopped, IsAnswered, Fails}
 use Rattle.line_serving.specs.declared.fault.ServeFault.{ServeFault}
@@ -86,6 +86,7 @@ stopped_at A fault.WriteFault a b c p q r text held line after rest x lines Read
 )
 stopped_at A fault.NoMemory a b c p q r text held line after rest x lines Read few cut whole each is one are sent h =
     (lines, held ++ rest, x, record { whole = whole; each = each }, are, (sends_nothing a b c p q r x sent h, behind held rest is few))
+stopped_at A fault.BadCount a b c p q r text held line after rest x lines Read few cut whole each is one are sent h = absurd h
 
 pub count_more : (n : ℕ) (lines : List (List ℕ)) (line : List ℕ) → n ≡ length lines → n + 1 ≡ length (lines ++ line ∷ [])
 count_more n lines line e = omega (arith, length-append lines (line ∷ []), e)
@@ -116,17 +117,18 @@ stopped_later A f a b c p q r lines x text Read each are sent (more, rest, y, s,
     cases fault.ReadFault k = absurd k.1
     cases fault.WriteFault k = cut_sends a b c p q x y sent k
     cases fault.NoMemory k = (all k.0, k.1)
+    cases fault.BadCount k = absurd k
 
-lines_of_line : (line rest : List ℕ) → HasNoLineFeed line → lines_of (ended line ++ rest) ≡ line ∷ lines_of rest
+lines_of_line : (line rest : List ℕ) → HasNoLineFeed line → input_lines (ended line ++ rest) ≡ line ∷ input_lines rest
 lines_of_line [] rest h = refl
 lines_of_line (b ∷ bs) rest h =
-    ap (λ t. cond t ([] ∷ lines_of (ended bs ++ rest)) (on_first b (lines_of (ended bs ++ rest)))) (ne_eqb b line_feed (All-head (λ x. x ≢ line_feed) b bs h))
+    ap (λ t. cond t ([] ∷ input_lines (ended bs ++ rest)) (on_first b (input_lines (ended bs ++ rest)))) (ne_eqb b line_feed (All-head (λ x. x ≢ line_feed) b bs h))
     ∙ ap (on_first b) (lines_of_line bs rest (All-tail (λ x. x ≢ line_feed) b bs h))
 
-lines_of_last : (last : List ℕ) → HasNoLineFeed last → lines_of last ≡ last_of last
+lines_of_last : (last : List ℕ) → HasNoLineFeed last → input_lines last ≡ last_of last
 lines_of_last [] h = refl
 lines_of_last (b ∷ bs) h =
-    ap (λ t. cond t ([] ∷ lines_of bs) (on_first b (lines_of bs))) (ne_eqb b line_feed (All-head (λ x. x ≢ line_feed) b bs h))
+    ap (λ t. cond t ([] ∷ input_lines bs) (on_first b (input_lines bs))) (ne_eqb b line_feed (All-head (λ x. x ≢ line_feed) b bs h))
     ∙ ap (on_first b) (lines_of_last bs (All-tail (λ x. x ≢ line_feed) b bs h)) ∙ joined bs
   where
     joined : (bs : List ℕ) → on_first b (last_of bs) ≡ (b ∷ bs) ∷ []
@@ -134,10 +136,10 @@ lines_of_last (b ∷ bs) h =
     joined (c ∷ cs) = refl
 
 -- the lines of whole lines and a last one
-pub lines_split : (lines : List (List ℕ)) (last : List ℕ) → All IsLine lines → HasNoLineFeed last → lines_of (flat_map ended lines ++ last) ≡ lines ++ last_of last
+pub lines_split : (lines : List (List ℕ)) (last : List ℕ) → All IsLine lines → HasNoLineFeed last → input_lines (flat_map ended lines ++ last) ≡ lines ++ last_of last
 lines_split [] last h k = lines_of_last last k
 lines_split (line ∷ lines) last h k =
-    ap lines_of (append_assoc (ended line) (flat_map ended lines) last)
+    ap input_lines (append_assoc (ended line) (flat_map ended lines) last)
     ∙ lines_of_line line (flat_map ended lines ++ last) (All-head IsLine line lines h).one
     ∙ ap (λ l. line ∷ l) (lines_split lines last (All-tail IsLine line lines h) k)
 
@@ -147,7 +149,7 @@ last_each (b ∷ bs) h = All-cons IsLine (b ∷ bs) [] h (All-nil IsLine)
 
 -- the answers of whole lines and of a last one are the output
 output_split : (A : List ℕ → List ℕ → Type 0) (lines : List (List ℕ)) (last x y : List ℕ) → All IsLine lines → IsLine last → AreAnswers A lines x → AreAnswers A (last_of last) y
-    → AreAnswers A (lines_of (flat_map ended lines ++ last)) (x ++ y)
+    → AreAnswers A (input_lines (flat_map ended lines ++ last)) (x ++ y)
 output_split A lines last x y each is h k = subst (λ ls. AreAnswers A ls (x ++ y)) (sym (lines_split lines last each is.one)) (are_append A lines (last_of last) x y h k)
 
 -- the end of the input
@@ -159,7 +161,7 @@ answered_all A a b c p q r lines last x m n each is e k are sent (y, ys, more) =
     let split = lines_split lines last each is.one in
     record {
       each = subst (λ ls. All IsLine ls) (sym split) (All-append IsLine lines (last_of last) each (last_each last is));
-      count = (let l : length (lines ++ last_of last) ≡ length lines + length (last_of last) = length-append lines (last_of last) in let s : length (lines_of (flat_map ended lines ++ last)) ≡ length (lines ++ last_of last) = ap length split in omega (arith, e, k, l, s));
+      count = (let l : length (lines ++ last_of last) ≡ length lines + length (last_of last) = length-append lines (last_of last) in let s : length (input_lines (flat_map ended lines ++ last)) ≡ length (lines ++ last_of last) = ap length split in omega (arith, e, k, l, s));
       output = x ++ y;
       answers = output_split A lines last x y each is are ys;
       sent = sends_trans a b c p q r x y sent more;
@@ -181,6 +183,7 @@ fails_last A fault.WriteFault a b c p q r lines last x left each is end are sent
     }
 fails_last A fault.NoMemory a b c p q r lines last x left each is end are sent h =
     inl (lines, last, x, record { whole = refl; each = each }, are, (sends_nothing a b c p q r x sent h, behind_line last is))
+fails_last A fault.BadCount a b c p q r lines last x left each is end are sent h = absurd h
 
 -- nothing more is pending
 pub sends_close : (a b c : Option (List ℕ)) (p xs : List ℕ) → Sends a [] b p xs → Appends b c p → Appends a c xs
@@ -216,6 +219,14 @@ cut_at_memory A a b c left p text Cut k (inr h) = absurd h
 pub cut_memory : (A : List ℕ → List ℕ → Type 0) (f : ServeFault) (a b c left : Option (List ℕ)) (p text : List ℕ) → f ≡ fault.NoMemory
     → IsCut b c p → Fails A text (Sends a [] b p) (IsCut a b) left f → Fails A text (Appends a c) (IsCut a c) left fault.WriteFault
 cut_memory A f a b c left p text e k h = cut_at_memory A a b c left p text (IsCut a b) k (subst (λ x. Fails A text (Sends a [] b p) (IsCut a b) left x) e h)
+
+at_bad_count : (A : List ℕ → List ℕ → Type 0) (left : Option (List ℕ)) (text : List ℕ) (Sent Cut : List ℕ → Type 0) → Fails A text Sent Cut left fault.BadCount → ⊥
+at_bad_count A left text Sent Cut (inl (lines, rest, x, s, are, h)) = h
+at_bad_count A left text Sent Cut (inr h) = h
+
+-- serving stops at no bad count
+pub no_bad_count : (A : List ℕ → List ℕ → Type 0) (f : ServeFault) (left : Option (List ℕ)) (text : List ℕ) (Sent Cut : List ℕ → Type 0) → f ≡ fault.BadCount → Fails A text Sent Cut left f → ⊥
+no_bad_count A f left text Sent Cut e h = at_bad_count A left text Sent Cut (subst (λ x. Fails A text Sent Cut left x) e h)
 
 pub fails_read : (A : List ℕ → List ℕ → Type 0) (a c left : Option (List ℕ)) (q : List ℕ) (lines : List (List ℕ)) (held x : List ℕ) → All IsLine lines → IsLine held → AreAnswers A lines x → Sends a [] c q x
     → Fails A (flat_map ended lines ++ held) (Sends a [] c q) (IsCut a c) left fault.ReadFault

@@ -27,9 +27,9 @@ on_first b [] = (b ∷ []) ∷ []
 on_first b (line ∷ lines) = (b ∷ line) ∷ lines
 
 -- Each line ends at a line feed or at the end of the input. A last line feed begins no further line.
-abbrev pub lines_of : List ℕ → List (List ℕ)
-lines_of [] = []
-lines_of (b ∷ bs) = if b == line_feed then [] ∷ lines_of bs else on_first b (lines_of bs)
+abbrev pub input_lines : List ℕ → List (List ℕ)
+input_lines [] = []
+input_lines (b ∷ bs) = if b == line_feed then [] ∷ input_lines bs else on_first b (input_lines bs)
 
 -- the last line, where the input doesn't end with a line feed
 abbrev pub last_of : List ℕ → List (List ℕ)

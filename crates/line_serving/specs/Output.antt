@@ -1,7 +1,18 @@
 -- What is written for an input, and how it goes out.
-use Rattle.std.specs.Prelude.{◌≡◌, ℕ, List, [], ◌∷◌, ◌++◌, Option}
+use Rattle.std.specs.Prelude.{◌≡◌, ℕ, List, [], ◌∷◌, ◌++◌, Option, Result, Ok, String, string_bytes}
+use Rattle.std.specs.Fn.{FnReturnsAt}
 use Rattle.std.specs.Io.KnownBytes.{Appends}
-use Rattle.line_serving.specs.Lines.{ended, lines_of}
+use denote.Param.Members.{Shared}
+use denote.Ref.{Bor}
+use Rattle.std.specs.declared.alloc.Global.{Global}
+use Rattle.line_serving.specs.declared.fault.NoMemory.{NoMemory}
+use Rattle.line_serving.specs.Lines.{ended, input_lines}
+
+-- a call of f with this line may give this text
+pub record Gives {F : Type 0} (g : Shared F (Bor (List ℕ) × Unit {0}) (Result (String Global) NoMemory)) (f : F) (line text : List ℕ) : Type 0 where
+  pub given : String Global
+  pub says : FnReturnsAt g f line (Ok given)
+  pub bytes : string_bytes given ≡ text
 
 -- the bytes are an answer of each line in order, each with a line feed
 abbrev pub AreAnswers : (List ℕ → List ℕ → Type 0) → List (List ℕ) → List ℕ → Type 0
@@ -18,7 +29,7 @@ WithAnswers Answers lines P = (out : List ℕ) × AreAnswers Answers lines out �
 
 -- Program output: what is written for an input
 abbrev pub IsOutput : (List ℕ → List ℕ → Type 0) → List ℕ → List ℕ → Type 0
-IsOutput Answers input out = AreAnswers Answers (lines_of input) out
+IsOutput Answers input out = AreAnswers Answers (input_lines input) out
 
 -- `gone` went out of what was pending and the text behind it, and the rest is pending later
 pub record SendsSome (old new : Option (List ℕ)) (pending later text gone : List ℕ) : Type 0 where

@@ -5,15 +5,16 @@ use Rattle.std.specs.Io.KnownBytes.{IsAtEnd}
 use Rattle.line_serving.specs.declared.fault.ServeFault.{ServeFault}
 use Rattle.line_serving.specs.declared.fault.ServeFault.TheVariants as fault
 use Rattle.line_serving.specs.Devices.{counted}
-use Rattle.line_serving.specs.Lines.{HasNoLineFeed, IsLine, IsLong, Splits, lines_of}
+use Rattle.line_serving.specs.Lines.{HasNoLineFeed, IsLine, IsLong, Splits, input_lines}
 use Rattle.line_serving.specs.Output.{AreAnswers, IsOutput}
 
--- what holds at each fault
+-- what holds at each fault; workers aren't counted while lines are served
 abbrev pub AtFault : ServeFault → Type 0 → Type 0 → Type 0 → Type 0 → Type 0
 AtFault fault.LineTooLong long read write memory = long
 AtFault fault.ReadFault long read write memory = read
 AtFault fault.WriteFault long read write memory = write
 AtFault fault.NoMemory long read write memory = memory
+AtFault fault.BadCount long read write memory = ⊥
 
 -- the most bytes that are read at once
 abbrev pub block_size : ℕ
@@ -43,6 +44,7 @@ is_same_fault fault.LineTooLong fault.LineTooLong = true
 is_same_fault fault.ReadFault fault.ReadFault = true
 is_same_fault fault.WriteFault fault.WriteFault = true
 is_same_fault fault.NoMemory fault.NoMemory = true
+is_same_fault fault.BadCount fault.BadCount = true
 is_same_fault a b = false
 
 -- a call counts one fault where it fails with this one
@@ -52,8 +54,8 @@ faults_at (Err e) fault n = if is_same_fault e fault then counted n else n
 
 -- each line of the text was answered, and this many there were
 pub record IsAnswered (Answers : List ℕ → List ℕ → Type 0) (text : List ℕ) (n : ℕ) (Sent : List ℕ → Type 0) : Type 0 where
-  pub each : All IsLine (lines_of text)
-  pub count : n ≡ length (lines_of text)
+  pub each : All IsLine (input_lines text)
+  pub count : n ≡ length (input_lines text)
   pub output : List ℕ
   pub answers : IsOutput Answers text output
   pub sent : Sent output

@@ -30,6 +30,8 @@ pub enum ServeFault {
     WriteFault,
     /// A growth was refused.
     NoMemory,
+    /// The number of workers is not 1 to 16.
+    BadCount,
 }
 
 impl ServeFault {
@@ -42,6 +44,7 @@ impl ServeFault {
             ServeFault::ReadFault => "X2 ReadFault",
             ServeFault::WriteFault => "X3 WriteFault",
             ServeFault::NoMemory => "X4 NoMemory",
+            ServeFault::BadCount => "X5 BadCount",
         }
     }
 }

@@ -3,38 +3,36 @@
 ghost use Rattle.std.specs.Prelude.{◌≡◌, ℕ, List, [], ◌++◌, ◌<◌, ◌≤◌, ◌+◌, ◌-◌, ◌^◌, length, OnOk, IfOk, IfErr};
 ghost use Rattle.line_serving.specs.Devices.{device_of, faults_of};
 ghost use Rattle.line_serving.specs.Lines.{limit, IsLine, Splits, last_of};
-ghost use Rattle.line_serving.specs.Output.{Sends, IsCut, WithAnswer, WithAnswers};
+ghost use Rattle.line_serving.specs.Output.{Gives, Sends, IsCut, WithAnswer, WithAnswers};
 ghost use Rattle.line_serving.specs.Serving.{block_size, AtFault, Stopped, faults_at};
 
-use crate::answerer::Answerer;
 use crate::device::Counted;
-use crate::fault::ServeFault;
+use crate::fault::{NoMemory, ServeFault};
 use crate::lines::cut_line;
 use crate::output::answer_line;
-use std::alloc::Global;
 use std::io::Write;
 
 /// The most bytes of a line, without its line feed.
 const LIMIT: usize = 4_194_304;
 
 // Answers the line that `held` and `line` are together. Nothing is held then.
-fn finish_line<A: Answerer, W: Write>(
-    alloc: Global,
-    answerer: &A,
+fn finish_line<F: Fn(&[u8]) -> Result<String, NoMemory>, W: Write>(
+    answer: &F,
     writer: &mut Counted<W>,
     pending: &mut Vec<u8>,
     held: &mut Vec<u8>,
     line: &[u8],
 ) -> Result<(), ServeFault>
-    requires { length held.old.items ≤ limit }
+    requires callable { F.IsAlwaysCallable answer.now }
+    requires held { length held.old.items ≤ limit }
     ensures ok { OnOk result ((held.new.items ≡ []) × (length (held.old.items ++ line.now) ≤ limit)
-        × WithAnswer (A.answered_by answerer.now) (held.old.items ++ line.now)
+        × WithAnswer (Gives F.Fn answer.now) (held.old.items ++ line.now)
         (Sends (W.contents (device_of writer.old)) pending.old.items (W.contents (device_of writer.new)) pending.new.items)) }
     ensures err { IfErr result (λ fault. AtFault fault
         (Sends (W.contents (device_of writer.old)) pending.old.items (W.contents (device_of writer.new)) pending.new.items []
         × (limit < length (held.old.items ++ line.now)))
         ⊥
-        ((length (held.old.items ++ line.now) ≤ limit) × WithAnswer (A.answered_by answerer.now) (held.old.items ++ line.now)
+        ((length (held.old.items ++ line.now) ≤ limit) × WithAnswer (Gives F.Fn answer.now) (held.old.items ++ line.now)
         (λ out. IsCut (W.contents (device_of writer.old)) (W.contents (device_of writer.new)) (pending.old.items ++ out)))
         (Sends (W.contents (device_of writer.old)) pending.old.items (W.contents (device_of writer.new)) pending.new.items [])) }
     ensures faults { faults_of writer.new ≡ faults_at result ServeFault.WriteFault (faults_of writer.old) }
@@ -43,7 +41,7 @@ fn finish_line<A: Answerer, W: Write>(
         return Err(ServeFault::LineTooLong);
     }
     if held.is_empty() {
-        return match answer_line(alloc, answerer, writer, pending, line) {
+        return match answer_line(answer, writer, pending, line) {
             Ok(()) => Ok(()),
             Err(fault) => Err(fault),
         };
@@ -51,7 +49,7 @@ fn finish_line<A: Answerer, W: Write>(
     if held.extend_from_slice(line).is_err() {
         return Err(ServeFault::NoMemory);
     }
-    match answer_line(alloc, answerer, writer, pending, held) {
+    match answer_line(answer, writer, pending, held) {
         Ok(()) => {
             held.clear();
             Ok(())
@@ -61,23 +59,23 @@ fn finish_line<A: Answerer, W: Write>(
 }
 
 /// Answers each line that ends in the block, says how many there were, and holds what is left.
-pub fn feed<A: Answerer, W: Write>(
-    alloc: Global,
-    answerer: &A,
+pub fn feed<F: Fn(&[u8]) -> Result<String, NoMemory>, W: Write>(
+    answer: &F,
     writer: &mut Counted<W>,
     pending: &mut Vec<u8>,
     held: &mut Vec<u8>,
     block: &[u8],
 ) -> Result<usize, ServeFault>
+    requires callable { F.IsAlwaysCallable answer.now }
     requires held { IsLine held.old.items }
     requires few { length block.now ≤ block_size }
     ensures ok { IfOk result (λ n. (lines : List (List ℕ)) × Splits (held.old.items ++ block.now) lines held.new.items
         × (n ≡ length lines)
-        × WithAnswers (A.answered_by answerer.now) lines
+        × WithAnswers (Gives F.Fn answer.now) lines
         (Sends (W.contents (device_of writer.old)) pending.old.items (W.contents (device_of writer.new)) pending.new.items)) }
     ensures held { OnOk result (IsLine held.new.items) }
     ensures count { IfOk result (λ n. n ≤ length block.now) }
-    ensures err { IfErr result (Stopped (A.answered_by answerer.now) (held.old.items ++ block.now)
+    ensures err { IfErr result (Stopped (Gives F.Fn answer.now) (held.old.items ++ block.now)
         (Sends (W.contents (device_of writer.old)) pending.old.items (W.contents (device_of writer.new)) pending.new.items)
         (λ out. IsCut (W.contents (device_of writer.old)) (W.contents (device_of writer.new)) (pending.old.items ++ out))
         (λ _. ⊥)) }
@@ -86,7 +84,7 @@ pub fn feed<A: Answerer, W: Write>(
     let mut rest = block;
     let mut count = 0;
     while let Some((line, after)) = cut_line(rest) {
-        match finish_line(alloc, answerer, writer, pending, held, line) {
+        match finish_line(answer, writer, pending, held, line) {
             Ok(()) => {
                 rest = after;
                 count += 1;
@@ -105,20 +103,20 @@ pub fn feed<A: Answerer, W: Write>(
 
 /// Answers the last line, where the input ends without a line feed, and says how many lines there were with the `count`
 /// before.
-pub fn finish<A: Answerer, W: Write>(
-    alloc: Global,
-    answerer: &A,
+pub fn finish<F: Fn(&[u8]) -> Result<String, NoMemory>, W: Write>(
+    answer: &F,
     writer: &mut Counted<W>,
     pending: &mut Vec<u8>,
     held: &Vec<u8>,
     count: u64,
 ) -> Result<u64, ServeFault>
-    requires { count < 2 ^ 63 }
+    requires callable { F.IsAlwaysCallable answer.now }
+    requires count { count < 2 ^ 63 }
     ensures ok { IfOk result (λ n. (n ≡ count + length (last_of held.now.items))
-        × WithAnswers (A.answered_by answerer.now) (last_of held.now.items)
+        × WithAnswers (Gives F.Fn answer.now) (last_of held.now.items)
         (Sends (W.contents (device_of writer.old)) pending.old.items (W.contents (device_of writer.new)) pending.new.items)) }
     ensures err { IfErr result (λ fault. AtFault fault ⊥ ⊥
-        (WithAnswers (A.answered_by answerer.now) (last_of held.now.items)
+        (WithAnswers (Gives F.Fn answer.now) (last_of held.now.items)
         (λ out. IsCut (W.contents (device_of writer.old)) (W.contents (device_of writer.new)) (pending.old.items ++ out)))
         (Sends (W.contents (device_of writer.old)) pending.old.items (W.contents (device_of writer.new)) pending.new.items [])) }
     ensures faults { faults_of writer.new ≡ faults_at result ServeFault.WriteFault (faults_of writer.old) }
@@ -126,7 +124,7 @@ pub fn finish<A: Answerer, W: Write>(
     if held.is_empty() {
         return Ok(count);
     }
-    match answer_line(alloc, answerer, writer, pending, held) {
+    match answer_line(answer, writer, pending, held) {
         Ok(()) => Ok(count + 1),
         Err(fault) => Err(fault),
     }

@@ -4,13 +4,11 @@ ghost use Rattle.std.specs.Prelude.{◌≡◌, ℕ, List, [], ◌∷◌, ◌++�
 ghost use Rattle.std.specs.Io.KnownBytes.{Appends};
 ghost use Rattle.line_serving.specs.Devices.{device_of, faults_of, faults_after};
 ghost use Rattle.line_serving.specs.Lines.{ended};
-ghost use Rattle.line_serving.specs.Output.{Sends, IsCut, WithAnswer};
+ghost use Rattle.line_serving.specs.Output.{Gives, Sends, IsCut, WithAnswer};
 ghost use Rattle.line_serving.specs.Serving.{AtFault, faults_at};
 
-use crate::answerer::Answerer;
 use crate::device::{Counted, DeviceFault};
 use crate::fault::{NoMemory, ServeFault};
-use std::alloc::Global;
 use std::io::Write;
 
 /// From how many pending bytes on they are written before more are added. A text of so many is written without being added.
@@ -62,10 +60,14 @@ fn put<W: Write>(
 }
 
 // The answer of a line, with its line feed.
-fn answer_whole<A: Answerer>(alloc: Global, answerer: &A, line: &[u8]) -> Result<String, NoMemory>
-    ensures { IfOk result (λ text. WithAnswer (A.answered_by answerer.now) line.now (λ out. string_bytes text ≡ out)) }
+fn answer_whole<F: Fn(&[u8]) -> Result<String, NoMemory>>(
+    answer: &F,
+    line: &[u8],
+) -> Result<String, NoMemory>
+    requires { F.IsAlwaysCallable answer.now }
+    ensures { IfOk result (λ text. WithAnswer (Gives F.Fn answer.now) line.now (λ out. string_bytes text ≡ out)) }
 {
-    let mut text = answerer.answer(alloc, line)?;
+    let mut text = answer(line)?;
     text.push_str("\n")?;
     Ok(text)
 }
@@ -75,21 +77,21 @@ fn answer_whole<A: Answerer>(alloc: Global, answerer: &A, line: &[u8]) -> Result
 /// # Errors
 ///
 /// `WriteFault` and `NoMemory`. After `NoMemory` nothing of the answer was written.
-pub fn answer_line<A: Answerer, W: Write>(
-    alloc: Global,
-    answerer: &A,
+pub fn answer_line<F: Fn(&[u8]) -> Result<String, NoMemory>, W: Write>(
+    answer: &F,
     writer: &mut Counted<W>,
     pending: &mut Vec<u8>,
     line: &[u8],
 ) -> Result<(), ServeFault>
-    ensures ok { OnOk result (WithAnswer (A.answered_by answerer.now) line.now
+    requires { F.IsAlwaysCallable answer.now }
+    ensures ok { OnOk result (WithAnswer (Gives F.Fn answer.now) line.now
         (Sends (W.contents (device_of writer.old)) pending.old.items (W.contents (device_of writer.new)) pending.new.items)) }
     ensures err { IfErr result (λ fault. AtFault fault ⊥ ⊥
-        (WithAnswer (A.answered_by answerer.now) line.now (λ out. IsCut (W.contents (device_of writer.old)) (W.contents (device_of writer.new)) (pending.old.items ++ out)))
+        (WithAnswer (Gives F.Fn answer.now) line.now (λ out. IsCut (W.contents (device_of writer.old)) (W.contents (device_of writer.new)) (pending.old.items ++ out)))
         (Sends (W.contents (device_of writer.old)) pending.old.items (W.contents (device_of writer.new)) pending.new.items [])) }
     ensures faults { faults_of writer.new ≡ faults_at result ServeFault.WriteFault (faults_of writer.old) }
 {
-    match answer_whole(alloc, answerer, line) {
+    match answer_whole(answer, line) {
         Ok(text) => match put(writer, pending, text.as_bytes()) {
             Ok(()) => Ok(()),
             Err(_) => Err(ServeFault::WriteFault),

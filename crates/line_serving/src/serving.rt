@@ -3,10 +3,9 @@
 ghost use Rattle.std.specs.Prelude.{◌≡◌, ℕ, List, [], ◌++◌, ◌<◌, ◌≤◌, ◌+◌, ◌^◌, ⊤, length, OnOk, IfOk, IfErr, vec_len};
 ghost use Rattle.std.specs.Io.KnownBytes.{Appends, Consumes, IsAtEnd};
 ghost use Rattle.line_serving.specs.Devices.{bound, counted, device_of, faults_of, calls_of, given_of};
-ghost use Rattle.line_serving.specs.Output.{Sends, IsCut};
+ghost use Rattle.line_serving.specs.Output.{Gives, Sends, IsCut};
 ghost use Rattle.line_serving.specs.Serving.{AtFault, IsAnswered, Fails, faults_at};
 
-use crate::answerer::Answerer;
 use crate::device::Counted;
 use crate::fault::{NoMemory, ServeFault};
 use crate::feed::{feed, finish};
@@ -26,22 +25,23 @@ fn new_block(alloc: Global) -> Result<Vec<u8>, NoMemory>
 
 // Reads to the end, and answers each line. What is pending may not be written yet, but it is before each further read, so
 // that who asks by a pipe sees an answer before the next question.
-fn serve_lines<A: Answerer, R: Read, W: Write>(
+fn serve_lines<F: Fn(&[u8]) -> Result<String, NoMemory>, R: Read, W: Write>(
     alloc: Global,
-    answerer: &A,
+    answer: &F,
     reader: &mut Counted<R>,
     writer: &mut Counted<W>,
     pending: &mut Vec<u8>,
     block: &mut [u8],
 ) -> Result<u64, ServeFault>
+    requires callable { F.IsAlwaysCallable answer.now }
     requires nothing { pending.old.items ≡ [] }
     requires room { length block.old ≡ 65536 }
     ensures ok { IfOk result (λ n. (text : List ℕ) × Consumes (R.remaining (device_of reader.old)) (R.remaining (device_of reader.new)) text
         × IsAtEnd (R.remaining (device_of reader.new))
-        × IsAnswered (A.answered_by answerer.now) text n
+        × IsAnswered (Gives F.Fn answer.now) text n
         (Sends (W.contents (device_of writer.old)) [] (W.contents (device_of writer.new)) pending.new.items)) }
     ensures err { IfErr result (λ fault. (text : List ℕ) × Consumes (R.remaining (device_of reader.old)) (R.remaining (device_of reader.new)) text
-        × Fails (A.answered_by answerer.now) text
+        × Fails (Gives F.Fn answer.now) text
         (Sends (W.contents (device_of writer.old)) [] (W.contents (device_of writer.new)) pending.new.items)
         (IsCut (W.contents (device_of writer.old)) (W.contents (device_of writer.new)))
         (R.remaining (device_of reader.new))
@@ -59,12 +59,12 @@ fn serve_lines<A: Answerer, R: Read, W: Write>(
             Err(_) => return Err(ServeFault::ReadFault),
         };
         if n == 0 {
-            match finish(alloc, answerer, writer, pending, &held, count) {
+            match finish(answer, writer, pending, &held, count) {
                 Ok(total) => return Ok(total),
                 Err(fault) => return Err(fault),
             }
         }
-        match feed(alloc, answerer, writer, pending, &mut held, &block[..n]) {
+        match feed(answer, writer, pending, &mut held, &block[..n]) {
             Ok(more) => count += more as u64,
             Err(fault) => return Err(fault),
         }
@@ -76,20 +76,21 @@ fn serve_lines<A: Answerer, R: Read, W: Write>(
 }
 
 // Reads to the end, and answers each line. What is pending may not be written yet.
-fn serve_blocks<A: Answerer, R: Read, W: Write>(
+fn serve_blocks<F: Fn(&[u8]) -> Result<String, NoMemory>, R: Read, W: Write>(
     alloc: Global,
-    answerer: &A,
+    answer: &F,
     reader: &mut Counted<R>,
     writer: &mut Counted<W>,
     pending: &mut Vec<u8>,
 ) -> Result<u64, ServeFault>
-    requires { pending.old.items ≡ [] }
+    requires callable { F.IsAlwaysCallable answer.now }
+    requires nothing { pending.old.items ≡ [] }
     ensures ok { IfOk result (λ n. (text : List ℕ) × Consumes (R.remaining (device_of reader.old)) (R.remaining (device_of reader.new)) text
         × IsAtEnd (R.remaining (device_of reader.new))
-        × IsAnswered (A.answered_by answerer.now) text n
+        × IsAnswered (Gives F.Fn answer.now) text n
         (Sends (W.contents (device_of writer.old)) [] (W.contents (device_of writer.new)) pending.new.items)) }
     ensures err { IfErr result (λ fault. (text : List ℕ) × Consumes (R.remaining (device_of reader.old)) (R.remaining (device_of reader.new)) text
-        × Fails (A.answered_by answerer.now) text
+        × Fails (Gives F.Fn answer.now) text
         (Sends (W.contents (device_of writer.old)) [] (W.contents (device_of writer.new)) pending.new.items)
         (IsCut (W.contents (device_of writer.old)) (W.contents (device_of writer.new)))
         (R.remaining (device_of reader.new))
@@ -103,34 +104,37 @@ fn serve_blocks<A: Answerer, R: Read, W: Write>(
         Ok(block) => block,
         Err(_) => return Err(ServeFault::NoMemory),
     };
-    match serve_lines(alloc, answerer, reader, writer, pending, &mut block) {
+    match serve_lines(alloc, answer, reader, writer, pending, &mut block) {
         Ok(count) => Ok(count),
         Err(fault) => Err(fault),
     }
 }
 
-/// Answers each line of the reader by a line to the writer, and says how many there were. A line ends at a line feed or at
-/// the end of the input; a last line feed begins no further line. The writer is flushed once, at the end, after a fault of
-/// the reader, a line that is too long and want of memory too.
+/// Answers each line of the reader by a line to the writer, and says how many there were. `answer` gives the answer of a line,
+/// both without a line feed, and fails only where a growth was refused. A line ends at a line feed or at the end of the input;
+/// a last line feed begins no further line. The writer is flushed once, at the end, after a fault of the reader, a line that
+/// is too long and want of memory too.
 ///
 /// # Errors
 ///
 /// `LineTooLong` for a line of more than 4,194,304 bytes, `ReadFault`, `WriteFault` and `NoMemory`. How far the reader was
 /// read then isn't said. Where the writer fails after another fault, that is `WriteFault`.
-pub fn serve<A: Answerer, R: Read, W: Write>(
+pub fn serve<F: Fn(&[u8]) -> Result<String, NoMemory>, R: Read, W: Write>(
     alloc: Global,
-    answerer: &A,
     reader: &mut Counted<R>,
     writer: &mut Counted<W>,
+    answer: F,
 ) -> Result<u64, ServeFault>
+    requires { F.IsAlwaysCallable answer }
+
     // All of the input was read, and what was written is the output of its lines.
     ensures ok { IfOk result (λ n. (text : List ℕ) × Consumes (R.remaining (device_of reader.old)) (R.remaining (device_of reader.new)) text
         × IsAtEnd (R.remaining (device_of reader.new))
-        × IsAnswered (A.answered_by answerer.now) text n (Appends (W.contents (device_of writer.old)) (W.contents (device_of writer.new)))) }
+        × IsAnswered (Gives F.Fn answer) text n (Appends (W.contents (device_of writer.old)) (W.contents (device_of writer.new)))) }
 
     // After a fault the answers of the lines before it were written, or a front of them where the writer failed.
     ensures err { IfErr result (λ fault. (text : List ℕ) × Consumes (R.remaining (device_of reader.old)) (R.remaining (device_of reader.new)) text
-        × Fails (A.answered_by answerer.now) text
+        × Fails (Gives F.Fn answer) text
         (Appends (W.contents (device_of writer.old)) (W.contents (device_of writer.new)))
         (IsCut (W.contents (device_of writer.old)) (W.contents (device_of writer.new)))
         (R.remaining (device_of reader.new))
@@ -152,7 +156,7 @@ pub fn serve<A: Answerer, R: Read, W: Write>(
     ensures grown { (calls_of reader.old ≤ calls_of reader.new) × (given_of reader.old ≤ given_of reader.new) }
 {
     let mut pending = Vec::new(alloc);
-    match serve_blocks(alloc, answerer, reader, writer, &mut pending) {
+    match serve_blocks(alloc, &answer, reader, writer, &mut pending) {
         Ok(count) => match close(writer, &mut pending) {
             Ok(()) => Ok(count),
             Err(_) => Err(ServeFault::WriteFault),
@@ -170,5 +174,6 @@ pub fn serve<A: Answerer, R: Read, W: Write>(
             Ok(()) => Err(ServeFault::NoMemory),
             Err(_) => Err(ServeFault::WriteFault),
         },
+        Err(ServeFault::BadCount) => unreachable!(),
     }
 }

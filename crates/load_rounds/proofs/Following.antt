@@ -14,7 +14,7 @@ use Rattle.execution.specs.Loads.{Load, Memory, read}
 use Rattle.execution.specs.Program.{Program, needs}
 use Rattle.execution.specs.Completion.{AnsweredOf}
 use Rattle.execution.specs.Front.{front, missing, wanting, modes_wanted, keys_for}
-use Rattle.execution.specs.Rounds.{RuleOf, rule_of, modes_of, orders_of, may_at, AreReplies, AreRounds, AreLimited, HasLoaders, after_round, without_failed}
+use Rattle.execution.specs.Rounds.{RuleOf, rule_of, modes_of, round_orders, may_at, AreReplies, AreRounds, AreLimited, HasLoaders, after_round, without_failed}
 use Rattle.execution.specs.Sessions.{Forgot, Asked}
 use Rattle.execution.proofs.OnceLaws.{asked-once, answered-in}
 use Rattle.execution.proofs.RoundLaws.{rounds-chain, rounds-sparing, rounds-more}
@@ -83,8 +83,8 @@ module _ {S : Type 0} (may : S → List KeyOf → AnswerOf → Type 0) where
       let loads : List Load = front (session_modes cur) p cur.memory in
       let r : List ReplyOf = ran.replies in
       let same : session_modes cur ≡ session_modes old = ap modes_of is.rules in
-      let asked : AreReplies (may_at may old.loaders) (orders_of (rules_of cur) loads) r = replies-over old.loaders cur.loaders is.sources (orders_of (rules_of cur) loads) r ran.answered in
-      let told : AreReplies (may_at may old.loaders) (orders_of rules (front (modes_of rules) p cur.memory)) r = rw is.rules at asked in
+      let asked : AreReplies (may_at may old.loaders) (round_orders (rules_of cur) loads) r = replies-over old.loaders cur.loaders is.sources (round_orders (rules_of cur) loads) r ran.answered in
+      let told : AreReplies (may_at may old.loaders) (round_orders rules (front (modes_of rules) p cur.memory)) r = rw is.rules at asked in
       let lacks : front (modes_of rules) p cur.memory ≢ [] = λ e. some (ap (λ ms. front ms p cur.memory) same ∙ e) in
       let memory : new.memory ≡ after_round rules cur.memory r = ap (λ (s : StateOf S). s.memory) ran.after ∙ ap (λ rs. after_round rs cur.memory r) is.rules in
       let grown : AreRounds (may_at may old.loaders) rules p M0 (is.log ++ r ∷ []) (after_round rules cur.memory r) = rounds-more (may_at may old.loaders) rules p M0 cur.memory is.log r is.made.rounds lacks told in

@@ -13,7 +13,7 @@ use Rattle.load_queue.specs.Orders.{OrderOf, order_of}
 use Rattle.load_queue.proofs.PieceLaws.{are-batches}
 use Rattle.execution.specs.Loads.{Load, Memory, read, IsOneOf}
 use Rattle.execution.specs.Front.{keys_for, missing}
-use Rattle.execution.specs.Rounds.{rule_of, orders_from, orders_of, AreLimited}
+use Rattle.execution.specs.Rounds.{rule_of, orders_from, round_orders, AreLimited}
 use Rattle.execution.specs.Sessions.{Cell, key_cell, cell_of, AreApart, order_cells, Step, Forgot, Asked, Lost, Primed, Cleared, ClearedAll, AreMissing}
 use Rattle.execution.proofs.Same.{one-left, one-right, one-either}
 use Rattle.execution.proofs.ReplyLaws.{firsts-apart}
@@ -183,9 +183,9 @@ module _ {S : Type 0} (modes : List KeyMode) (n : ℕ) where
       let later = in-orders (suc m) i xs l loads c limited.1 (omega (arith, e)) at one in
       rw (order-append modes (map (order_of m) ps) (orders_from (suc m) (map rule_of xs) loads)) (one-right c (order_cells modes (map (order_of m) ps)) (order_cells modes (orders_from (suc m) (map rule_of xs) loads)) later)
 
-  pub asked-orders : (s : StateOf S) (loads : List Load) (replies : List ReplyOf) (c : Cell) → AreLimited (rules_of s) → IsOneOf c (step_cells s (Asked loads replies)) → IsOneOf c (order_cells modes (orders_of (rules_of s) loads))
+  pub asked-orders : (s : StateOf S) (loads : List Load) (replies : List ReplyOf) (c : Cell) → AreLimited (rules_of s) → IsOneOf c (step_cells s (Asked loads replies)) → IsOneOf c (order_cells modes (round_orders (rules_of s) loads))
   asked-orders s loads replies c limited one = go (slice_get s.loaders n) refl (rw (asked-cells s loads replies limited) at one) where
-    go : (x : Option (LoaderOf S)) → slice_get s.loaders n ≡ x → IsOneOf c (loader_cells x loads) → IsOneOf c (order_cells modes (orders_of (rules_of s) loads))
+    go : (x : Option (LoaderOf S)) → slice_get s.loaders n ≡ x → IsOneOf c (loader_cells x loads) → IsOneOf c (order_cells modes (round_orders (rules_of s) loads))
     go None e h = absurd h
     go (Some l) e h = in-orders 0 n s.loaders l loads c limited (omega arith) e h
 
@@ -199,7 +199,7 @@ module _ {S : Type 0} (modes : List KeyMode) (n : ℕ) where
     pub replies : List ReplyOf
     pub rest : List Step
     pub is : steps ≡ before ++ Asked loads replies ∷ rest
-    pub ordered : IsOneOf c (order_cells modes (orders_of (rules_of s) loads))
+    pub ordered : IsOneOf c (order_cells modes (round_orders (rules_of s) loads))
 
   pub asked-in : (s : StateOf S) (steps : List Step) (c : Cell) → AreLimited (rules_of s) → IsOneOf c (all_cells s steps) → AskedIn s steps c
   asked-in s [] c limited one = absurd one

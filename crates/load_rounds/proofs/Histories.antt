@@ -10,7 +10,7 @@ use Rattle.load_queue.specs.Loaders.{LoaderOf}
 use Rattle.execution.specs.Loads.{Load, Memory, read, same}
 use Rattle.execution.specs.Program.{Program, needs}
 use Rattle.execution.specs.Front.{missing, firsts, front}
-use Rattle.execution.specs.Rounds.{RuleOf, modes_of, orders_of, may_at, AreRounds, after_round, without_failed}
+use Rattle.execution.specs.Rounds.{RuleOf, modes_of, round_orders, may_at, AreRounds, after_round, without_failed}
 use Rattle.execution.specs.Sessions.{Step, Forgot, Asked, Lost, Primed, Cleared, ClearedAll, after, AreMissing, IsStep, AreSteps}
 use Rattle.execution.proofs.Same.{same-is}
 use Rattle.load_rounds.specs.Sessions.{StateOf, rules_of, session_modes, after_step, after_steps, of_first}
@@ -124,7 +124,7 @@ module _ {S : Type 0} where
     -- what may be over the loaders as they are may be over them as they were
     over-step : (old cur : List (LoaderOf S)) → SameSources old cur → (rules : List RuleOf) (M : Memory) (step : Step) → IsStep (may_at may cur) rules M step → IsStep (may_at may old) rules M step
     over-step old cur from rules M Forgot h = tt
-    over-step old cur from rules M (Asked loads replies) h = (h.0, replies-over may old cur from (orders_of rules loads) replies h.1)
+    over-step old cur from rules M (Asked loads replies) h = (h.0, replies-over may old cur from (round_orders rules loads) replies h.1)
     over-step old cur from rules M (Lost loads) h = h
     over-step old cur from rules M (Primed pair) h = tt
     over-step old cur from rules M (Cleared cell) h = tt

@@ -14,7 +14,7 @@ use Rattle.execution.specs.Program.{Program}
 use Rattle.execution.specs.Completion.{AnsweredOf}
 use Rattle.execution.specs.Executed.{exec}
 use Rattle.execution.specs.Front.{front}
-use Rattle.execution.specs.Rounds.{MayAnswer, RuleOf, rule_of, modes_of, may_at, orders_of, AreReplies, AreRounds, IsLawful, after_round, without_failed, key_by_key, direct, RespectsCacheKeys, IsTold}
+use Rattle.execution.specs.Rounds.{MayAnswer, RuleOf, rule_of, modes_of, may_at, round_orders, AreReplies, AreRounds, IsLawful, after_round, without_failed, key_by_key, direct, RespectsCacheKeys, HoldsItems}
 use Rattle.execution.specs.Sessions.{Forgot}
 use Rattle.execution.proofs.OneLog.{one-log, log-direct}
 use Rattle.load_rounds.specs.Sessions.{StateOf, rules_of, session_modes, after_steps}
@@ -34,7 +34,7 @@ module _ (may other : MayAnswer) (weaker : (loader : ℕ) (keys : List KeyOf) (a
   rounds-weaker : (rules : List RuleOf) (p : Program) (M : Memory) (rounds : List (List ReplyOf)) (end : Memory) → AreRounds may rules p M rounds end → AreRounds other rules p M rounds end
   rounds-weaker rules p M [] end h = h
   rounds-weaker rules p M (round ∷ rounds) end h =
-      (h.0, replies-weaker (orders_of rules (front (modes_of rules) p M)) round h.1, rounds-weaker rules p (after_round rules M round) rounds end h.2)
+      (h.0, replies-weaker (round_orders rules (front (modes_of rules) p M)) round h.1, rounds-weaker rules p (after_round rules M round) rounds end h.2)
 
 some-same : {X : Type 0} (a b : X) → Some a ≡ Some b → a ≡ b
 some-same a b e = cc e
@@ -91,7 +91,7 @@ module _ {S : Type 0} (may : S → List KeyOf → AnswerOf → Type 0) (item : S
             rw at (respects l.source j k (rw mode at same))
 
     -- the text of an answer is that of direct execution
-    pub text-direct : (old new : StateOf S) (p : Program) (text_of : AnsweredOf → List ℕ) (text : List ℕ) (rounds : ℕ) → CompareAlike mode_of old.loaders → IsTold (session_modes old) (item_over item old.loaders) (without_failed old.memory)
+    pub text-direct : (old new : StateOf S) (p : Program) (text_of : AnsweredOf → List ℕ) (text : List ℕ) (rounds : ℕ) → CompareAlike mode_of old.loaders → HoldsItems (session_modes old) (item_over item old.loaders) (without_failed old.memory)
         → Headline may old new p text_of text rounds → IsTextOf text_of p (direct (item_over item old.loaders)) text
     text-direct old new p text_of text rounds alike first h =
         let same = log-direct (item_over item old.loaders) (rules_of old) p (respects-alike old.loaders alike) (without_failed old.memory) h.log new.memory first (lawful-told old new p text_of text rounds h) in

@@ -10,7 +10,7 @@ use Rattle.load_queue.specs.Answers.{AnswerOf}
 use Rattle.execution.specs.Loads.{Load, Memory, Reader, read, IsOneOf}
 use Rattle.execution.specs.Program.{Program, Programs, Is, Read, Under, End, With, Null, ListOf, Item, Spot, given, all_needs}
 use Rattle.execution.specs.Front.{missing, firsts, front, front_of_keys}
-use Rattle.execution.specs.Rounds.{RuleOf, modes_of, orders_of, AreReplies, AreLimited, HasLoaders, after_round, pairs_of}
+use Rattle.execution.specs.Rounds.{RuleOf, modes_of, round_orders, AreReplies, AreLimited, HasLoaders, after_round, pairs_of}
 use Rattle.execution.proofs.ChainLaws.{covered}
 use Rattle.execution.proofs.RoundLaws.{round-fills, stored-extends}
 use Rattle.load_rounds.specs.Calls.{load_of}
@@ -42,7 +42,7 @@ all-known loader (k ∷ ks) P h = All-cons (λ k. P (load_of loader k)) k ks (h 
 
 -- after the round of what is missing all are known
 pub known-after : (may : ℕ → List KeyOf → AnswerOf → Type 0) (rules : List RuleOf) (loader : ℕ) (ks : List KeyOf) (M : Memory) (replies : List ReplyOf) → AreLimited rules → loader < length rules
-    → AreReplies may (orders_of rules (front_of_keys (modes_of rules) loader ks M)) replies → All (λ k. IsSome (read (modes_of rules) (after_round rules M replies) (load_of loader k))) ks
+    → AreReplies may (round_orders rules (front_of_keys (modes_of rules) loader ks M)) replies → All (λ k. IsSome (read (modes_of rules) (after_round rules M replies) (load_of loader k))) ks
 known-after may rules loader ks M replies limited lt h =
     let modes : List KeyMode = modes_of rules in
     let p : Program = Under ListOf (reading loader ks) in

@@ -16,7 +16,7 @@ use Rattle.execution.specs.Loads.{Load, Memory, IsOneOf, read}
 use Rattle.execution.specs.Program.{Program}
 use Rattle.execution.specs.Completion.{AnsweredOf}
 use Rattle.execution.specs.Front.{front, keys_for}
-use Rattle.execution.specs.Rounds.{RuleOf, rule_of, modes_of, orders_from, orders_of, may_at, AreReplies, AreLimited, HasLoaders, after_round, without_failed}
+use Rattle.execution.specs.Rounds.{RuleOf, rule_of, modes_of, orders_from, round_orders, may_at, AreReplies, AreLimited, HasLoaders, after_round, without_failed}
 use Rattle.execution.specs.Sessions.{Forgot, Asked, Lost}
 use Rattle.execution.proofs.ChainLaws.{front-needs}
 use Rattle.execution.proofs.ReplyLaws.{reply-order}
@@ -91,7 +91,7 @@ head-key l ls = λ h. let own = rw (eq-eqb l.loader l.loader refl) at h in absur
 module _ {S : Type 0} where
   pub front-orders : (s : StateOf S) (p : Program) (loaders : ℕ) → HasLoaders loaders p → loaders ≤ length s.loaders → front_in s p ≢ [] → orders_in s p ≢ []
   front-orders s p loaders within enough ne = go (front_in s p) refl where
-    go : (ls : List Load) → front_in s p ≡ ls → orders_of (rules_of s) ls ≢ []
+    go : (ls : List Load) → front_in s p ≡ ls → round_orders (rules_of s) ls ≢ []
     go [] e = absurd (ne e)
     go (l ∷ ls) e =
         let one : IsOneOf l (front_in s p) = rw e (inl refl) in
@@ -101,7 +101,7 @@ module _ {S : Type 0} where
   -- so the round is counted
   pub round-counted : (s new : StateOf S) (p : Program) (loaders : ℕ) → HasLoaders loaders p → loaders ≤ length s.loaders → front_in s p ≢ [] → new ≡ after_step s (Lost (front_in s p)) → new.rounds ≡ s.rounds + 1
   round-counted s new p loaders within enough ne entered =
-      let one = made-one (orders_of (rules_of s) (front_in s p)) (front-orders s p loaders within enough ne) in
+      let one = made-one (round_orders (rules_of s) (front_in s p)) (front-orders s p loaders within enough ne) in
       ap (λ (t : StateOf S). t.rounds) entered ∙ ap (λ n. s.rounds + n) one
 
   pub modes-size : (s : StateOf S) → length (session_modes s) ≡ length s.loaders
@@ -114,9 +114,9 @@ module _ {S : Type 0} where
       let rules : List RuleOf = rules_of b in
       let own : (m : ℕ) → m < N → keys_for m loads ≡ keys_for m (of_first N loads) = λ m lt. sym (keys-first N m loads ∙ first-some (λ l. keys_for l loads) N m lt) in
       let same = orders-same 0 (λ m. keys_for m loads) (λ m. keys_for m (of_first N loads)) rules (λ m le lt. own m (omega (arith, lt, length-map b.loaders rule_of))) in
-      let orders : orders_of rules loads ≡ orders_of rules (of_first N loads) = sym (orders-loads 0 rules loads) ∙ same ∙ orders-loads 0 rules (of_first N loads) in
+      let orders : round_orders rules loads ≡ round_orders rules (of_first N loads) = sym (orders-loads 0 rules loads) ∙ same ∙ orders-loads 0 rules (of_first N loads) in
       let logs = logged-same false (b.rounds + 1) 0 (λ m. keys_for m loads) (λ m. keys_for m (of_first N loads)) b.loaders (λ m le lt. own m (omega (arith, lt))) in
-      state-is (logged_from 0 false (b.rounds + 1) (λ m. keys_for m loads) b.loaders) (logged_from 0 false (b.rounds + 1) (λ m. keys_for m (of_first N loads)) b.loaders) b.memory b.memory (b.rounds + made (orders_of rules loads)) (b.rounds + made (orders_of rules (of_first N loads)))
+      state-is (logged_from 0 false (b.rounds + 1) (λ m. keys_for m loads) b.loaders) (logged_from 0 false (b.rounds + 1) (λ m. keys_for m (of_first N loads)) b.loaders) b.memory b.memory (b.rounds + made (round_orders rules loads)) (b.rounds + made (round_orders rules (of_first N loads)))
       logs refl (ap (λ os. b.rounds + made os) orders)
 
   pub lost-rules : (b : StateOf S) (loads : List Load) → rules_of (after_step b (Lost loads)) ≡ rules_of b
@@ -126,7 +126,7 @@ module _ {S : Type 0} where
   pub round-orders : (p : Program) (old new : StateOf S) (orders : List OrderOf) → IsRound p old new orders → orders_in new p ≡ orders
   round-orders p old new orders is =
       let loads : List Load = front_in old p in
-      ap (λ (t : StateOf S). orders_in t p) is.entered ∙ ap (λ rs. orders_of rs (front (modes_of rs) p old.memory)) (lost-rules old loads) ∙ sym is.batches
+      ap (λ (t : StateOf S). orders_in t p) is.entered ∙ ap (λ rs. round_orders rs (front (modes_of rs) p old.memory)) (lost-rules old loads) ∙ sym is.batches
 
   -- and each is of one of the loaders
   pub round-below : (p : Program) (old new : StateOf S) (orders : List OrderOf) → IsRound p old new orders → All (λ (o : OrderOf). o.loader < length new.loaders) orders
@@ -178,7 +178,7 @@ module _ {S : Type 0} where
       → state new M rounds ≡ after_step (state old M before) (Lost loads)
   cut-state keys loads old new M round before rounds wanted next h =
       let logs = h.loaders ∙ wanted-logged keys loads old wanted false round ∙ ap (λ n. logged_from 0 false n (λ m. keys_for m loads) old) next in
-      state-is new (logged_from 0 false (before + 1) (λ m. keys_for m loads) old) M M rounds (before + made (orders_of (map rule_of old) loads)) logs refl (h.rounds ∙ ap (λ os. before + made os) (wanted-orders keys loads old wanted))
+      state-is new (logged_from 0 false (before + 1) (λ m. keys_for m loads) old) M M rounds (before + made (round_orders (map rule_of old) loads)) logs refl (h.rounds ∙ ap (λ os. before + made os) (wanted-orders keys loads old wanted))
 
   -- a round whose batches were entered, and then its replies stored, was run
   pub received-is : (b s : StateOf S) (loads : List Load) (shown replies : List ReplyOf) → s ≡ after_step b (Lost loads) → s.rounds ≡ b.rounds + 1 → AreNumbered b.rounds b.loaders → after_round (rules_of s) s.memory shown ≡ after_round (rules_of b) b.memory replies
@@ -186,7 +186,7 @@ module _ {S : Type 0} where
   received-is b s loads shown replies is counted numbered memory =
       let keys = λ (n : ℕ). keys_for n loads in
       let logs = ap (λ r. map (λ l. stored_in l r) s.loaders) counted ∙ ap (λ (t : StateOf S). map (λ l. stored_in l (b.rounds + 1)) t.loaders) is ∙ marked-round (b.rounds + 1) b.rounds 0 keys b.loaders (omega arith) numbered in
-      state-is (map (λ l. stored_in l s.rounds) s.loaders) (logged_from 0 true (b.rounds + 1) keys b.loaders) (after_round (rules_of s) s.memory shown) (after_round (rules_of b) b.memory replies) s.rounds (b.rounds + made (orders_of (rules_of b) loads))
+      state-is (map (λ l. stored_in l s.rounds) s.loaders) (logged_from 0 true (b.rounds + 1) keys b.loaders) (after_round (rules_of s) s.memory shown) (after_round (rules_of b) b.memory replies) s.rounds (b.rounds + made (round_orders (rules_of b) loads))
       logs memory (ap (λ (t : StateOf S). t.rounds) is)
 
   module _ (may : S → List KeyOf → AnswerOf → Type 0) (p : Program) where
@@ -252,8 +252,8 @@ module _ {S : Type 0} where
       out-front : front_in s p ≡ front_in is.before p
       out-front = ap (λ rs. front (modes_of rs) p s.memory) out-rules ∙ ap (λ (M : Memory). front (session_modes is.before) p M) out-memory
 
-      out-orders : orders_of (rules_of s) (front_in s p) ≡ orders_of (rules_of is.before) (front_in is.before p)
-      out-orders = ap (λ rs. orders_of rs (front_in s p)) out-rules ∙ ap (λ ls. orders_of (rules_of is.before) ls) out-front
+      out-orders : round_orders (rules_of s) (front_in s p) ≡ round_orders (rules_of is.before) (front_in is.before p)
+      out-orders = ap (λ rs. round_orders rs (front_in s p)) out-rules ∙ ap (λ ls. round_orders (rules_of is.before) ls) out-front
 
       pub out-loaders : length s.loaders ≡ length begun.loaders
       out-loaders = sym (length-map s.loaders rule_of) ∙ ap length out-rules ∙ length-map is.before.loaders rule_of ∙ between-loaders begun is.before is.made is.between
@@ -265,11 +265,11 @@ module _ {S : Type 0} where
           let loads : List Load = front_in b p in
           let moved = received-moved (may_at may s.loaders) s p h.replies shown limited h.fit h.moved in
           let memory = ap (λ (t : StateOf S). t.memory) moved ∙ ap (λ rs. after_round rs s.memory h.replies) out-rules ∙ ap (λ (M : Memory). after_round (rules_of b) M h.replies) out-memory in
-          let fit : AreReplies (may_at may s.loaders) (orders_of (rules_of b) loads) h.replies = rw out-orders at h.fit in
-          let told : AreReplies (may_at may (after_step b (Lost loads)).loaders) (orders_of (rules_of b) loads) h.replies = rw is.entered at fit in
+          let fit : AreReplies (may_at may s.loaders) (round_orders (rules_of b) loads) h.replies = rw out-orders at h.fit in
+          let told : AreReplies (may_at may (after_step b (Lost loads)).loaders) (round_orders (rules_of b) loads) h.replies = rw is.entered at fit in
           let ran : RoundRan may b (received s shown) loads = record {
             replies = h.replies;
-            answered = replies-before false (b.rounds + 1) (λ n. keys_for n loads) may b.loaders (orders_of (rules_of b) loads) h.replies told;
+            answered = replies-before false (b.rounds + 1) (λ n. keys_for n loads) may b.loaders (round_orders (rules_of b) loads) h.replies told;
             after = received-is b s loads shown h.replies is.entered is.counted is.numbered memory;
           } in
           in-between begun (received s shown) rounds (in-more may begun b (received s shown) p is.made rounds (between-in begun b is.made is.between) is.one_more is.lacks ran)
@@ -291,8 +291,8 @@ module _ {S : Type 0} where
     run-stops begun now rounds Failed is = is
 
 -- each reply is of one of the loaders
-pub received-below : (may : ℕ → List KeyOf → AnswerOf → Type 0) (most : ℕ) (rules : List RuleOf) (loads : List Load) (shown : List ReplyOf) → length rules ≤ most → AreReceived may (orders_of rules loads) shown → All (λ (r : ReplyOf). r.loader < most) shown
+pub received-below : (may : ℕ → List KeyOf → AnswerOf → Type 0) (most : ℕ) (rules : List RuleOf) (loads : List Load) (shown : List ReplyOf) → length rules ≤ most → AreReceived may (round_orders rules loads) shown → All (λ (r : ReplyOf). r.loader < most) shown
 received-below may most rules loads shown le h =
     let all = orders-below 0 most rules (λ m. keys_for m loads) (omega (arith, le)) in
     let below = rw (orders-loads 0 rules loads) at all in
-    All-permutation (λ (r : ReplyOf). r.loader < most) h.replies shown h.moved (replies-below may most (orders_of rules loads) h.replies h.fit below)
+    All-permutation (λ (r : ReplyOf). r.loader < most) h.replies shown h.moved (replies-below may most (round_orders rules loads) h.replies h.fit below)

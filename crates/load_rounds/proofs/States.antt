@@ -11,7 +11,7 @@ use Rattle.load_memory.proofs.ReplyPairs.{mode-at}
 use Rattle.load_queue.specs.Loaders.{LoaderOf, stored_in}
 use Rattle.execution.specs.Loads.{Load, Memory}
 use Rattle.execution.specs.Front.{keys_for}
-use Rattle.execution.specs.Rounds.{rule_of, modes_of, orders_of, after_round, stored}
+use Rattle.execution.specs.Rounds.{rule_of, modes_of, round_orders, after_round, stored}
 use Rattle.execution.specs.Sessions.{Asked, Lost}
 use Rattle.load_rounds.specs.Sessions.{StateOf, logged_from, made, after_step, of_first, IsSession}
 use Rattle.load_rounds.specs.Rounds.{orders_by, first_keys, Enters}
@@ -58,7 +58,7 @@ module _ {S : Type 0} where
         }
 
   module _ (keys : ℕ → List KeyOf) (loads : List Load) (old : List (LoaderOf S)) (wanted : (m : ℕ) → m < length old → keys m ≡ keys_for m loads) where
-    pub wanted-orders : orders_by 0 (map rule_of old) keys ≡ orders_of (map rule_of old) loads
+    pub wanted-orders : orders_by 0 (map rule_of old) keys ≡ round_orders (map rule_of old) loads
     wanted-orders = orders-same 0 keys (λ m. keys_for m loads) (map rule_of old) (λ m le lt. wanted m (omega (arith, lt, length-map old rule_of))) ∙ orders-loads 0 (map rule_of old) loads
 
     pub wanted-logged : (stored : Bool) (round : ℕ) → logged_from 0 stored round keys old ≡ logged_from 0 stored round (λ m. keys_for m loads) old
@@ -74,7 +74,7 @@ module _ {S : Type 0} where
     pub state-ran : (round before after : ℕ) (cut new : List (LoaderOf S)) (memory later : MemoryOf) (replies : List ReplyOf) → round ≡ before + 1 → IsSession old memory before → Enters round keys old cut before after → new ≡ map (λ l. stored_in l round) cut
         → IsWith memory.pairs (pairs_of memory.modes replies) later.pairs → state new (look later.pairs) after ≡ after_step (state old (look memory.pairs) before) (Asked loads replies)
     state-ran round before after cut new memory later replies next is h marks kept =
-        state-is new (logged_from 0 true (before + 1) (λ m. keys_for m loads) old) (look later.pairs) (after_round (map rule_of old) (look memory.pairs) replies) after (before + made (orders_of (map rule_of old) loads))
+        state-is new (logged_from 0 true (before + 1) (λ m. keys_for m loads) old) (look later.pairs) (after_round (map rule_of old) (look memory.pairs) replies) after (before + made (round_orders (map rule_of old) loads))
         (marked-loaders round before after keys old cut new memory later next is h marks ∙ wanted-logged true round ∙ ap (λ n. logged_from 0 true n (λ m. keys_for m loads) old) next)
         (same-memory (look later.pairs) (after_round (map rule_of old) (look memory.pairs) replies) (λ l k. rw (← is.modes) (kept l k)))
         (h.rounds ∙ ap (λ os. before + made os) wanted-orders)
@@ -85,7 +85,7 @@ module _ {S : Type 0} where
     state-lost round before after n cut memory later next h same =
         let keys-same = logged-same false round 0 (first_keys n keys) (λ m. keys_for m (of_first n loads)) old (λ m le lt. first-wanted n m (omega (arith, lt))) in
         let orders = orders-same 0 (first_keys n keys) (λ m. keys_for m (of_first n loads)) (map rule_of old) (λ m le lt. first-wanted n m (omega (arith, lt, length-map old rule_of))) ∙ orders-loads 0 (map rule_of old) (of_first n loads) in
-        state-is cut (logged_from 0 false (before + 1) (λ m. keys_for m (of_first n loads)) old) (look later.pairs) (look memory.pairs) after (before + made (orders_of (map rule_of old) (of_first n loads)))
+        state-is cut (logged_from 0 false (before + 1) (λ m. keys_for m (of_first n loads)) old) (look later.pairs) (look memory.pairs) after (before + made (round_orders (map rule_of old) (of_first n loads)))
         (h.loaders ∙ keys-same ∙ ap (λ i. logged_from 0 false i (λ m. keys_for m (of_first n loads)) old) next)
         (same-memory (look later.pairs) (look memory.pairs) same)
         (h.rounds ∙ ap (λ os. before + made os) orders)

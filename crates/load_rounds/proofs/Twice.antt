@@ -6,7 +6,7 @@ use Rattle.load_memory.specs.Outcomes.{ItemOf, OutcomeOf, known, batch_fault}
 use Rattle.load_memory.specs.Replies.{ReplyOf}
 use Rattle.load_queue.specs.Answers.{AnswerOf}
 use Rattle.execution.specs.Loads.{Load, Memory, IsOneOf}
-use Rattle.execution.specs.Rounds.{RuleOf, modes_of, orders_of, may_at, unless_failed, AreLimited}
+use Rattle.execution.specs.Rounds.{RuleOf, modes_of, round_orders, may_at, unless_failed, AreLimited}
 use Rattle.execution.specs.Sessions.{Cell, AreApart, order_cells, Step, Forgot, Asked, Lost, Primed, Cleared, ClearedAll, after, IsStep, AreSteps, clears}
 use Rattle.execution.proofs.Same.{one-either}
 use Rattle.execution.proofs.ReplyLaws.{append-apart}
@@ -118,7 +118,7 @@ record Found {S : Type 0} (may : S → List KeyOf → AnswerOf → Type 0) (old 
   pub leads : Leads may old (Forgot ∷ (before ++ Asked loads replies ∷ rest)) new
   pub first : AreAsking before
   pub last : AreAsking rest
-  pub ordered : IsOneOf c (order_cells (session_modes old) (orders_of (rules_of old) loads))
+  pub ordered : IsOneOf c (order_cells (session_modes old) (round_orders (rules_of old) loads))
 
 module _ {S : Type 0} (may : S → List KeyOf → AnswerOf → Type 0) where
   found : (call : Call) (old new : StateOf S) (c : Cell) → AreLimited (rules_of old) → IsCall may call old new → IsEntered c old new → Found may old new c
@@ -128,7 +128,7 @@ module _ {S : Type 0} (may : S → List KeyOf → AnswerOf → Type 0) where
       go made.0 made.1 made.2 (asked-in (session_modes old) c.0 old (Forgot ∷ made.0) c limited (rw cells at one))
     where
       split : (own before rest : List Step) (loads : List Load) (replies : List ReplyOf) → Leads may old (Forgot ∷ own) new → IsMadeOf call own → Forgot ∷ own ≡ before ++ Asked loads replies ∷ rest
-          → IsOneOf c (order_cells (session_modes old) (orders_of (rules_of old) loads)) → Found may old new c
+          → IsOneOf c (order_cells (session_modes old) (round_orders (rules_of old) loads)) → Found may old new c
       split own [] rest loads replies leads made e ordered = absurd (cc e)
       split own (b ∷ bs) rest loads replies leads made e ordered =
           let same : own ≡ bs ++ Asked loads replies ∷ rest = cc e in
@@ -212,7 +212,7 @@ module _ {S : Type 0} (may : ℕ → List KeyOf → AnswerOf → Type 0) (rules 
       own : AreLimited (rules_of s)
       own = rw same limited
 
-      ordered : (c : Cell) → IsOneOf c (step_cells (modes_of rules) n s (Asked loads replies)) → IsOneOf c (order_cells (modes_of rules) (orders_of rules loads))
+      ordered : (c : Cell) → IsOneOf c (step_cells (modes_of rules) n s (Asked loads replies)) → IsOneOf c (order_cells (modes_of rules) (round_orders rules loads))
       ordered c i = rw same at (asked-orders (modes_of rules) n s loads replies c own i)
 
       there : (c : Cell) → IsOneOf c (step_cells (modes_of rules) n s (Asked loads replies)) → (o : OutcomeOf) × (after (rules_of s) s.memory (Asked loads replies) c.0 c.1 ≡ Some o)

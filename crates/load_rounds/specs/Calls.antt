@@ -6,7 +6,7 @@ use Rattle.load_memory.specs.Replies.{ReplyOf}
 use Rattle.load_queue.specs.Answers.{AnswerOf}
 use Rattle.execution.specs.Loads.{Load, read}
 use Rattle.execution.specs.Front.{front_of_keys}
-use Rattle.execution.specs.Rounds.{orders_of, may_at, AreReplies, without_failed}
+use Rattle.execution.specs.Rounds.{round_orders, may_at, AreReplies, without_failed}
 use Rattle.execution.specs.Sessions.{Forgot, Asked, Lost, Cell, key_cell}
 use Rattle.load_rounds.specs.Sessions.{StateOf, rules_of, session_modes, after_step, of_first}
 
@@ -30,7 +30,7 @@ module _ {S : Type 0} where
     -- a round was run: it asked these loads, and each batch was answered as its source may
     pub record RoundRan (old new : StateOf S) (loads : List Load) : Type 0 where
       pub replies : List ReplyOf
-      pub answered : AreReplies (may_at may old.loaders) (orders_of (rules_of old) loads) replies
+      pub answered : AreReplies (may_at may old.loaders) (round_orders (rules_of old) loads) replies
       pub after : new ≡ after_step old (Asked loads replies)
 
     -- the loads were asked in one round, where there are some

@@ -18,7 +18,7 @@ use Rattle.execution.specs.Rounds.{HasLoaders}
 use Rattle.gq_check.specs.Plans.{PlanOf}
 use Rattle.plan_program.specs.Groups.{FieldOf, GroupOf, selections_in, nothing_collected, collect, collect_below}
 use Rattle.plan_program.specs.Arguments.{ArgumentsOf, ValueOf, all_values, null_argument, arguments_of}
-use Rattle.plan_program.specs.Asked.{KeyFrom, fixed, of_column, BelowOf, AskedOf, known as settled, cell, first_row, all_rows, each_row, joined_rows, PreparedOf, with_loader, with_key, key_from, each_asked, input_named, bound_asked, below_of, with_arguments, defined_asked, field_asked, first_asked, spot_of, all_prepared}
+use Rattle.plan_program.specs.Asked.{KeyFrom, fixed, of_column, BelowOf, ValueFrom, known as settled, cell, first_row, all_rows, each_row, joined_rows, PreparedOf, with_loader, with_key, key_from, each_asked, input_named, bound_asked, below_of, with_arguments, defined_asked, field_asked, first_asked, spot_of, all_prepared}
 use Rattle.plan_program.specs.PlanPrograms.{TypeOf, object_type, type_fault, type_of_row, places, list_of, fields_of, Objects, typed_object, row_object, with_rows, read_key, read_cell, read_from, read_if, first_object, all_objects, joined_objects, asked_program, object_program, most_levels, root_prepared, plan_program}
 
 split : (l : Load) (xs ys : List Load) → IsOneOf l (xs ++ ys) → IsOneOf l xs ⊎ IsOneOf l ys
@@ -86,7 +86,7 @@ module _ (n : ℕ) where
   within-list below f xs h = within-places below.item_non_null below.place 0 f xs h
 
   -- what is asked, of loaders that are there
-  abbrev IsAskedWithin : AskedOf → Type 0
+  abbrev IsAskedWithin : ValueFrom → Type 0
   IsAskedWithin (settled own) = Unit {0}
   IsAskedWithin (cell column t) = Unit {0}
   IsAskedWithin (first_row loader key below) = loader < n
@@ -110,7 +110,7 @@ module _ (n : ℕ) where
     within-first below [] = λ R l h. absurd h
     within-first below (r ∷ rs) = within-row below r
 
-    within-asked : (row : RowOf) (a : AskedOf) → IsAskedWithin a → HasLoaders n (asked_program defs objects row a)
+    within-asked : (row : RowOf) (a : ValueFrom) → IsAskedWithin a → HasLoaders n (asked_program defs objects row a)
     within-asked row (settled own) lt = within-is own
     within-asked row (cell column t) lt = λ R l h. absurd h
     within-asked row (first_row loader key below) lt = within-from loader key row (first_object defs objects below) lt (within-first below)
@@ -128,13 +128,13 @@ typename_asked ty f g = record { spot = spot_of g.key f.place true; asked = sett
 
 -- what a plan's groups ask
 module _ (plan : PlanOf) where
-  asked-loader : (loader : ℕ) (a : AskedOf) → (loader < length plan.bindings.loaders → IsAskedWithin (length plan.bindings.loaders) a) → IsAskedWithin (length plan.bindings.loaders) (with_loader plan loader a)
+  asked-loader : (loader : ℕ) (a : ValueFrom) → (loader < length plan.bindings.loaders → IsAskedWithin (length plan.bindings.loaders) a) → IsAskedWithin (length plan.bindings.loaders) (with_loader plan loader a)
   asked-loader loader a h = go (nat_lt loader (length plan.bindings.loaders)) refl where
     go : (b : Bool) → nat_lt loader (length plan.bindings.loaders) ≡ b → IsAskedWithin (length plan.bindings.loaders) (if b then a else settled Null)
     go true e = h (ltb-true loader (length plan.bindings.loaders) e)
     go false e = tt
 
-  asked-key : (key : Option KeyFrom) (f : KeyFrom → AskedOf) → ((k : KeyFrom) → IsAskedWithin (length plan.bindings.loaders) (f k)) → IsAskedWithin (length plan.bindings.loaders) (with_key key f)
+  asked-key : (key : Option KeyFrom) (f : KeyFrom → ValueFrom) → ((k : KeyFrom) → IsAskedWithin (length plan.bindings.loaders) (f k)) → IsAskedWithin (length plan.bindings.loaders) (with_key key f)
   asked-key None f h = tt
   asked-key (Some k) f h = h k
 
@@ -158,7 +158,7 @@ module _ (plan : PlanOf) where
       asked-loader loader (with_loader plan second (with_key (key_from values key) (λ k. joined_rows loader k second column below)))
       (λ one. asked-loader second (with_key (key_from values key) (λ k. joined_rows loader k second column below)) (λ two. asked-key (key_from values key) (λ k. joined_rows loader k second column below) (λ k. (one, two))))
 
-  asked-with : (args : ArgumentsOf) (f : List ValueOf → AskedOf) → ((values : List ValueOf) → IsAskedWithin (length plan.bindings.loaders) (f values)) → IsAskedWithin (length plan.bindings.loaders) (with_arguments args f)
+  asked-with : (args : ArgumentsOf) (f : List ValueOf → ValueFrom) → ((values : List ValueOf) → IsAskedWithin (length plan.bindings.loaders) (f values)) → IsAskedWithin (length plan.bindings.loaders) (with_arguments args f)
   asked-with (null_argument name) f h = tt
   asked-with (all_values values) f h = h values
 

@@ -9,7 +9,7 @@ use Rattle.execution.specs.Loads.{Load, read}
 use Rattle.execution.specs.Program.{Program}
 use Rattle.execution.specs.Completion.{AnsweredOf}
 use Rattle.execution.specs.Front.{front}
-use Rattle.execution.specs.Rounds.{orders_of, AreReplies, after_round}
+use Rattle.execution.specs.Rounds.{round_orders, AreReplies, after_round}
 use Rattle.execution.specs.Sessions.{Lost}
 use Rattle.load_rounds.specs.declared.run.Next.{Next}
 use Rattle.load_rounds.specs.declared.run.Next.TheVariants as next
@@ -41,7 +41,7 @@ module _ {S : Type 0} where
 
   -- its batches, in order of the loaders
   abbrev pub orders_in : StateOf S → Program → List OrderOf
-  orders_in s p = orders_of (rules_of s) (front_in s p)
+  orders_in s p = round_orders (rules_of s) (front_in s p)
 
   -- the state once the replies to the latest round are stored: its entries are marked, and those of no other round
   abbrev pub received : StateOf S → List ReplyOf → StateOf S

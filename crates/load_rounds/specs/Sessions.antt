@@ -10,7 +10,7 @@ use Rattle.load_queue.specs.Loaders.{LoaderOf, AskedOf}
 use Rattle.load_queue.specs.Orders.{OrderOf}
 use Rattle.execution.specs.Loads.{Load, Memory}
 use Rattle.execution.specs.Front.{keys_for}
-use Rattle.execution.specs.Rounds.{RuleOf, rule_of, modes_of, orders_of, may_at, AreLimited}
+use Rattle.execution.specs.Rounds.{RuleOf, rule_of, modes_of, round_orders, may_at, AreLimited}
 use Rattle.execution.specs.Sessions.{Step, Forgot, Asked, Lost, Primed, Cleared, ClearedAll, AreSteps, after}
 
 -- the loaders with their logs, the pairs that are known in no order that means anything, and how many rounds were made
@@ -62,7 +62,7 @@ module _ {S : Type 0} where
   asked stored loads memory s = record {
     loaders = logged_from 0 stored (s.rounds + 1) (λ n. keys_for n loads) s.loaders;
     memory = memory;
-    rounds = s.rounds + made (orders_of (rules_of s) loads);
+    rounds = s.rounds + made (round_orders (rules_of s) loads);
   }
 
   -- the state after a step: the logs gain the batches of a round, which are stored unless the round was lost

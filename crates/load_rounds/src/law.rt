@@ -7,7 +7,7 @@ ghost use Rattle.execution.specs.Rounds.{AreLimited};
 ghost use Rattle.execution.specs.Sessions.{Cell, Step, Forgot, Primed, AreApart, IsAnsweredIn};
 ghost use Rattle.execution.specs.Completion.{AnsweredOf};
 ghost use Rattle.execution.specs.Program.{Program};
-ghost use Rattle.execution.specs.Rounds.{IsLawful, key_by_key, direct, IsTold, without_failed};
+ghost use Rattle.execution.specs.Rounds.{IsLawful, key_by_key, direct, HoldsItems, without_failed};
 ghost use Rattle.gq_check.specs.Plans.{plan_of};
 ghost use Rattle.gq_resolve.specs.Answered.{answer_text};
 ghost use Rattle.plan_program.specs.PlanPrograms.{plan_program};
@@ -63,7 +63,7 @@ pub fn answers_key_by_key<S: Asks>()
         → (new ≡ other) × (text ≡ more) × (rounds ≡ count) }
     ensures direct { (item : S → KeyOf → ItemOf) (mode_of : S → KeyMode) (old new : StateOf S) (p : Program) (text_of : AnsweredOf → List ℕ) (text : List ℕ) (rounds : ℕ)
         → AnswerKeyByKey S.may_tell item → RespectModes mode_of item → CompareAlike mode_of old.loaders
-        → IsTold (session_modes old) (item_over item old.loaders) (without_failed old.memory)
+        → HoldsItems (session_modes old) (item_over item old.loaders) (without_failed old.memory)
         → Headline S.may_tell old new p text_of text rounds → IsTextOf text_of p (direct (item_over item old.loaders)) text }
 {}
 

@@ -8,7 +8,7 @@ ghost use Rattle.load_queue.specs.Logs.{asked_of};
 ghost use Rattle.load_queue.specs.Wanted.{WantedOf, nothing_wanted};
 ghost use Rattle.execution.specs.Loads.{Load, read};
 ghost use Rattle.execution.specs.Front.{front_of_keys};
-ghost use Rattle.execution.specs.Rounds.{AreLimited, orders_of, without_failed};
+ghost use Rattle.execution.specs.Rounds.{AreLimited, round_orders, without_failed};
 ghost use Rattle.execution.specs.Sessions.{Forgot, Lost, Asked};
 ghost use Rattle.load_rounds.specs.Rounds.{AreWanted};
 
@@ -76,7 +76,7 @@ impl<S> Session<S> {
     pub(crate) fn cut(&mut self, wants: &mut Wants) -> Result<Vec<Order>, NoMemory>
         requires { length wants.old ≡ length self.old.loaders }
         ensures orders { (loads : List Load) → AreWanted wants.old loads
-            → IfOk result (λ orders. orders.items ≡ orders_of (rules_of (state_of self.old)) loads) }
+            → IfOk result (λ orders. orders.items ≡ round_orders (rules_of (state_of self.old)) loads) }
         ensures entered { (loads : List Load) → AreWanted wants.old loads
             → OnOk result (state_of self.new ≡ after_step (state_of self.old) (Lost loads)) }
         ensures lost { (loads : List Load) → AreWanted wants.old loads

@@ -10,7 +10,7 @@ use Rattle.gq_schema.specs.BindingsTree.{BindingOf, by_column, by_one, by_many, 
 use Rattle.gq_check.specs.Plans.{PlanOf}
 use Rattle.plan_program.specs.Groups.{FieldOf, GroupOf}
 use Rattle.plan_program.specs.Arguments.{ValueOf, arguments_of}
-use Rattle.plan_program.specs.Asked.{BelowOf, AskedOf, PreparedOf, bound_asked, below_of, with_arguments, defined_asked, field_asked, first_asked, prepared}
+use Rattle.plan_program.specs.Asked.{BelowOf, ValueFrom, PreparedOf, bound_asked, below_of, with_arguments, defined_asked, field_asked, first_asked, prepared}
 use Rattle.plan_laws.specs.Met.{IsAskedBy, AreThere, IsBound, asked_by_binding}
 
 module _ (plan : PlanOf) where
@@ -24,7 +24,7 @@ module _ (plan : PlanOf) where
       let other : nat_lt second (length plan.bindings.loaders) ≡ true = lt-ltb second (length plan.bindings.loaders) h.1 in
       rw (there, other) refl
 
-  abbrev asked : PreparedOf → AskedOf
+  abbrev asked : PreparedOf → ValueFrom
   asked p = p.asked
 
   pub group-asks : (ty : List ℕ) (g : GroupOf) (f : FieldOf) (d : Field) → IsAskedBy g f → field_in plan.definitions ty f.name ≡ Some d → (bound : IsBound plan.bindings ty f.name)

@@ -14,7 +14,7 @@ use Rattle.spread_graph.specs.Levels.{levels_in, levels_among, levels_from, leve
 use Rattle.plan_program.specs.Chosen.{is_left_out, applies}
 use Rattle.plan_program.specs.Groups.{FieldOf, GroupOf, Collected, Entering, nothing_collected, with_field, chosen_field, has_entered, collect_one, collect_set, collect_all, enter_fragment, entering, collect_from, collect, collect_below, selections_in, selections_below}
 use Rattle.plan_program.specs.Arguments.{ArgumentsOf, ValueOf, all_values, null_argument, arguments_of}
-use Rattle.plan_program.specs.Asked.{KeyFrom, of_column, BelowOf, AskedOf, known as settled, cell, first_row, all_rows, each_row, joined_rows, PreparedOf, key_from, with_loader, with_key, each_asked, input_named, bound_asked, below_of, with_arguments, defined_asked, field_asked, first_asked, prepared, all_prepared, spot_of}
+use Rattle.plan_program.specs.Asked.{KeyFrom, of_column, BelowOf, ValueFrom, known as settled, cell, first_row, all_rows, each_row, joined_rows, PreparedOf, key_from, with_loader, with_key, each_asked, input_named, bound_asked, below_of, with_arguments, defined_asked, field_asked, first_asked, prepared, all_prepared, spot_of}
 use Rattle.plan_program.specs.PlanPrograms.{TypeOf, object_type, type_fault, type_of_row, list_of, fields_of, Objects, typed_object, row_object, read_from, read_if, first_object, all_objects, joined_objects, asked_program, prepared_program, object_program, most_levels, plan_program}
 use Rattle.plan_laws.specs.Levels.{program_with}
 
@@ -29,7 +29,7 @@ IfAny [] P = Unit {0}
 IfAny (f ∷ fs) P = P
 
 -- what holds of the fields that select below what is asked
-abbrev OverFields : (List FieldOf → Type 0) → AskedOf → Type 0
+abbrev OverFields : (List FieldOf → Type 0) → ValueFrom → Type 0
 OverFields P (settled own) = Unit {0}
 OverFields P (cell column t) = Unit {0}
 OverFields P (first_row loader key b) = P b.fields
@@ -40,14 +40,14 @@ OverFields P (joined_rows loader key second column b) = P b.fields
 -- ---- what a group asks has the group's fields below it
 
 module _ (plan : PlanOf) (P : List FieldOf → Type 0) where
-  loader-over : (loader : ℕ) (asked : AskedOf) → OverFields P asked → OverFields P (with_loader plan loader asked)
+  loader-over : (loader : ℕ) (asked : ValueFrom) → OverFields P asked → OverFields P (with_loader plan loader asked)
   loader-over loader asked h = go (nat_lt loader (length plan.bindings.loaders))
     where
       go : (b : Bool) → OverFields P (if b then asked else settled Null)
       go true = h
       go false = tt
 
-  key-over : (key : Option KeyFrom) (asked : KeyFrom → AskedOf) → ((k : KeyFrom) → OverFields P (asked k)) → OverFields P (with_key key asked)
+  key-over : (key : Option KeyFrom) (asked : KeyFrom → ValueFrom) → ((k : KeyFrom) → OverFields P (asked k)) → OverFields P (with_key key asked)
   key-over None asked h = tt
   key-over (Some k) asked h = h k
 
@@ -67,7 +67,7 @@ module _ (plan : PlanOf) (P : List FieldOf → Type 0) where
   bound-over t b values (Some (by_each loader name)) h = loader-over loader _ (each-over loader b (input_named name values) h)
   bound-over t b values (Some (by_via loader key second column)) h = loader-over loader _ (loader-over second _ (key-over (key_from values key) _ (λ k. h)))
 
-  arguments-over : (a : ArgumentsOf) (asked : List ValueOf → AskedOf) → ((vs : List ValueOf) → OverFields P (asked vs)) → OverFields P (with_arguments a asked)
+  arguments-over : (a : ArgumentsOf) (asked : List ValueOf → ValueFrom) → ((vs : List ValueOf) → OverFields P (asked vs)) → OverFields P (with_arguments a asked)
   arguments-over (null_argument name) asked h = tt
   arguments-over (all_values vs) asked h = h vs
 
@@ -112,7 +112,7 @@ module _ (defs : List Definition) (objects other : Objects) where
   joined-alike : (b : BelowOf) (second : ℕ) (column : List ℕ) → AlikeOver objects other b.fields → joined_objects defs objects b second column ≡ joined_objects defs other b second column
   joined-alike b second column h = fun_ext (λ rs. ap (λ (next : List RowOf → Program). list_of b (map (λ (r : RowOf). read_from second (of_column column) r next) rs)) (firsts-alike b h))
 
-  asked-alike : (row : RowOf) (a : AskedOf) → OverFields (AlikeOver objects other) a → asked_program defs objects row a ≡ asked_program defs other row a
+  asked-alike : (row : RowOf) (a : ValueFrom) → OverFields (AlikeOver objects other) a → asked_program defs objects row a ≡ asked_program defs other row a
   asked-alike row (settled own) h = refl
   asked-alike row (cell column t) h = refl
   asked-alike row (first_row loader key b) h = ap (λ (next : List RowOf → Program). read_from loader key row next) (firsts-alike b h)

@@ -14,7 +14,7 @@ use Rattle.gq_check.specs.Planned.{IsPlan}
 use Rattle.plan_program.specs.Chosen.{given_to}
 use Rattle.plan_program.specs.Groups.{FieldOf, GroupOf, selections_in, nothing_collected, collect, collect_below}
 use Rattle.plan_program.specs.Arguments.{ValueOf, arguments_of}
-use Rattle.plan_program.specs.Asked.{BelowOf, AskedOf, cell, first_row, all_rows, joined_rows, input_named, key_from, with_key, each_asked, with_arguments, below_of, prepared}
+use Rattle.plan_program.specs.Asked.{BelowOf, ValueFrom, cell, first_row, all_rows, joined_rows, input_named, key_from, with_key, each_asked, with_arguments, below_of, prepared}
 use Rattle.plan_program.specs.PlanPrograms.{object_type, type_of_row}
 
 -- an object of this type can stand where a type of this name is wanted: some row tells so
@@ -75,7 +75,7 @@ pub record IsBound (b : BindingsOf) (ty name : List ℕ) : Type 0 where
   pub there : AreThere (length b.loaders) binding
 
 -- what a binding asks, with its loaders there
-abbrev pub asked_by_binding : TypeTree → BelowOf → List ValueOf → BindingOf → AskedOf
+abbrev pub asked_by_binding : TypeTree → BelowOf → List ValueOf → BindingOf → ValueFrom
 asked_by_binding t below values (by_column column) = cell column t
 asked_by_binding t below values (by_one loader key) = with_key (key_from values key) (λ k. first_row loader k below)
 asked_by_binding t below values (by_many loader key) = with_key (key_from values key) (λ k. all_rows loader k below)

@@ -31,23 +31,23 @@ pub record BelowOf : Type 0 where
   pub place : Place
   pub fields : List FieldOf
 
-pub data AskedOf : Type 0 where
+pub data ValueFrom : Type 0 where
   -- the same for each row
-  known : Own → AskedOf
+  known : Own → ValueFrom
   -- a column's field, at a type
-  cell : List ℕ → TypeTree → AskedOf
+  cell : List ℕ → TypeTree → ValueFrom
   -- the key's first row, or all of its rows
-  first_row : ℕ → KeyFrom → BelowOf → AskedOf
-  all_rows : ℕ → KeyFrom → BelowOf → AskedOf
+  first_row : ℕ → KeyFrom → BelowOf → ValueFrom
+  all_rows : ℕ → KeyFrom → BelowOf → ValueFrom
   -- for each key its first row; no key is null
-  each_row : ℕ → List (Option KeyOf) → BelowOf → AskedOf
+  each_row : ℕ → List (Option KeyOf) → BelowOf → ValueFrom
   -- the key's rows, and for each the second loader's first row of the key in a column
-  joined_rows : ℕ → KeyFrom → ℕ → List ℕ → BelowOf → AskedOf
+  joined_rows : ℕ → KeyFrom → ℕ → List ℕ → BelowOf → ValueFrom
 
 -- the position of a group, and what it asks for
 pub record PreparedOf : Type 0 where
   pub spot : Spot
-  pub asked : AskedOf
+  pub asked : ValueFrom
 
 -- ---- keys
 
@@ -77,19 +77,19 @@ keys_of (and_input i is) = key_of_input i ∷ keys_of is
 -- ---- loads
 
 -- A loader that the bindings define. Bindings that are read of a text name no other; else the field is null.
-abbrev pub with_loader : PlanOf → ℕ → AskedOf → AskedOf
+abbrev pub with_loader : PlanOf → ℕ → ValueFrom → ValueFrom
 with_loader plan loader asked = if nat_lt loader (length plan.bindings.loaders) then asked else known Null
 
 -- no key gives null and makes no load
-abbrev pub with_key : Option KeyFrom → (KeyFrom → AskedOf) → AskedOf
+abbrev pub with_key : Option KeyFrom → (KeyFrom → ValueFrom) → ValueFrom
 with_key None asked = known Null
 with_key (Some key) asked = asked key
 
-abbrev pub each_asked : ℕ → BelowOf → Option Input → AskedOf
+abbrev pub each_asked : ℕ → BelowOf → Option Input → ValueFrom
 each_asked loader below (Some (Items is)) = each_row loader (keys_of is) below
 each_asked loader below _ = known Null
 
-abbrev pub bound_asked : PlanOf → TypeTree → BelowOf → List ValueOf → Option BindingOf → AskedOf
+abbrev pub bound_asked : PlanOf → TypeTree → BelowOf → List ValueOf → Option BindingOf → ValueFrom
 bound_asked plan t below values None = known Null
 bound_asked plan t below values (Some (by_column column)) = cell column t
 bound_asked plan t below values (Some (by_one loader key)) = with_loader plan loader (with_key (key_from values key) (λ k. first_row loader k below))
@@ -108,7 +108,7 @@ abbrev pub below_of : TypeTree → Place → List FieldOf → BelowOf
 below_of t place fields = record { type_name = (core_of t).text; item_non_null = is_non_null (item_type t); place = place; fields = fields }
 
 -- an argument's field error is the field's fault
-abbrev pub with_arguments : ArgumentsOf → (List ValueOf → AskedOf) → AskedOf
+abbrev pub with_arguments : ArgumentsOf → (List ValueOf → ValueFrom) → ValueFrom
 with_arguments (null_argument name) asked = known (Fault (null_argument_message name))
 with_arguments (all_values values) asked = asked values
 

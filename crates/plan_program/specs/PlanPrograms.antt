@@ -14,7 +14,7 @@ use Rattle.load_memory.specs.Outcomes.{OutcomeOf, known, batch_fault, rows, key_
 use Rattle.execution.specs.Program.{Leaf, Text, Int, Boolean, Own, Value, Null, Fault, ListOf as Listed, ObjectOf, Item, Spot, Program, Is, Read, Under, Programs, End, With}
 use Rattle.gq_check.specs.Plans.{PlanOf}
 use Rattle.plan_program.specs.Groups.{FieldOf, selections_in, nothing_collected, collect, collect_below}
-use Rattle.plan_program.specs.Asked.{KeyFrom, fixed, of_column, BelowOf, AskedOf, known as settled, cell, first_row, all_rows, each_row, joined_rows, PreparedOf, all_prepared}
+use Rattle.plan_program.specs.Asked.{KeyFrom, fixed, of_column, BelowOf, ValueFrom, known as settled, cell, first_row, all_rows, each_row, joined_rows, PreparedOf, all_prepared}
 use Rattle.plan_program.specs.Texts.{bad_value_message, no_column_message, no_type_message, not_type_message, is_int_text}
 
 -- ---- cells
@@ -81,7 +81,7 @@ abbrev pub list_of : BelowOf → List Program → Program
 list_of below ps = Under Listed (places below.item_non_null below.place 0 ps)
 
 -- the positions of an object
-abbrev pub fields_of : (AskedOf → Program) → List PreparedOf → Programs
+abbrev pub fields_of : (ValueFrom → Program) → List PreparedOf → Programs
 fields_of program [] = End
 fields_of program (p ∷ ps) = With p.spot (program p.asked) (fields_of program ps)
 
@@ -133,7 +133,7 @@ module _ (defs : List Definition) (objects : Objects) where
   joined_objects below second column rs = list_of below (map (λ r. read_from second (of_column column) r (first_object below)) rs)
 
   -- what comes of what a group asks for, over a row
-  abbrev pub asked_program : RowOf → AskedOf → Program
+  abbrev pub asked_program : RowOf → ValueFrom → Program
   asked_program row (settled own) = Is own
   asked_program row (cell column t) = Is (cell_value defs column t (cell_of row column))
   asked_program row (first_row loader key below) = read_from loader key row (first_object below)

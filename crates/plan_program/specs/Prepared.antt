@@ -14,7 +14,7 @@ use Rattle.plan_program.specs.declared.prepared.Asked.{Asked}
 use Rattle.plan_program.specs.declared.prepared.Asked.TheVariants as asked
 use Rattle.plan_program.specs.declared.prepared.Prepared.{Prepared}
 use Rattle.plan_program.specs.Seen.{fields_seen}
-use Rattle.plan_program.specs.Asked.{KeyFrom, fixed, of_column, BelowOf, AskedOf, known, cell, first_row, all_rows, each_row, joined_rows, PreparedOf, spot_of}
+use Rattle.plan_program.specs.Asked.{KeyFrom, fixed, of_column, BelowOf, ValueFrom, known, cell, first_row, all_rows, each_row, joined_rows, PreparedOf, spot_of}
 
 abbrev pub own_seen : rust-own.Own → Own
 own_seen (own.Text t) = Value (Text (string_bytes t))
@@ -33,7 +33,7 @@ below_seen b = record { type_name = b.type_name.now; item_non_null = b.item_non_
 abbrev pub keys_seen : List (Option Key) → List (Option KeyOf)
 keys_seen ks = map (λ (k : Option Key). option_map key_of k) ks
 
-abbrev pub asked_seen : Asked → AskedOf
+abbrev pub asked_seen : Asked → ValueFrom
 asked_seen (asked.Known o) = known (own_seen o)
 asked_seen (asked.Cell column ty) = cell column.now (type_of ty.now)
 asked_seen (asked.First loader k b) = first_row loader (key_from_seen k) (below_seen (arc_value b))

@@ -1,5 +1,5 @@
 -- What a run of the program writes, and how it ends.
-use Rattle.std.specs.Prelude.{◌≡◌, ◌⊎◌, ℕ, List, [], ◌∷◌, ◌++◌, Option, None, codes, string_bytes}
+use Rattle.std.specs.Prelude.{◌≡◌, ◌⊎◌, ℕ, List, [], ◌∷◌, ◌++◌, Option, Some, None, codes, string_bytes}
 use Rattle.std.specs.Io.KnownBytes.{Appends, Keeps, Consumes, IsAtEnd}
 use Rattle.line_serving.specs.declared.fault.ServeFault.TheVariants as serve
 use Rattle.line_serving.specs.Lines.{line_feed}
@@ -13,6 +13,7 @@ use Rattle.world.specs.Sources.{TableOf}
 use Rattle.world.specs.Worlds.{WorldOf, IsWorld}
 use Rattle.world_files.specs.Opening.{IsUnmade}
 use Rattle.world_answers.specs.Answers.{IsAnswer}
+use Rattle.batch_workers.specs.Workers.{IsBadCount}
 
 -- The lines of a reader were served over a world. All of the input was read, and what was written is the output of its lines; or
 -- serving stopped at a fault.
@@ -26,6 +27,18 @@ IsServed world unread rest old new (stop.Command text) = ⊥
 IsServed world unread rest old new (stop.World fault) = ⊥
 IsServed world unread rest old new (stop.Table fault) = ⊥
 IsServed world unread rest old new stop.File = ⊥
+
+-- the number of workers isn't 1 to 16, and nothing was read or written
+pub record IsMiscounted (workers : ℕ) (unread rest old new : Option (List ℕ)) (end : Stop) : Type 0 where
+  pub bad : IsBadCount workers
+  pub told : end ≡ stop.Serve serve.BadCount
+  pub unasked : Keeps unread rest
+  pub kept : Keeps old new
+
+-- with workers lines are served alike, if there may be so many
+abbrev pub IsServedBy : Option ℕ → WorldOf → Option (List ℕ) → Option (List ℕ) → Option (List ℕ) → Option (List ℕ) → Stop → Type 0
+IsServedBy None world unread rest old new end = IsServed world unread rest old new end
+IsServedBy (Some workers) world unread rest old new end = IsServed world unread rest old new end ⊎ IsMiscounted workers unread rest old new end
 
 -- the world of texts and tables that were read
 abbrev pub IsWorldOfSome : Option ℕ → WorldOf → Type 0
@@ -44,7 +57,7 @@ IsSampleRun unread rest old new end = ((world : WorldOf) × IsWorldOfSome None w
 -- the request lines of a file were served over the world of the other files; what the files hold isn't known
 abbrev pub IsFilesRun : Words → Option (List ℕ) → Option (List ℕ) → Stop → Type 0
 IsFilesRun words old new end = ((world : WorldOf) × (unread : Option (List ℕ)) × (rest : Option (List ℕ)) × IsWorldOfSome words.max_batch world
-    × IsServed world unread rest old new end)
+    × IsServedBy words.workers world unread rest old new end)
     ⊎ IsUnserved words.max_batch old new end
 
 -- the help was written with a line feed, or a front of it went out
@@ -58,14 +71,14 @@ IsShown help old new (stop.Table fault) = ⊥
 IsShown help old new stop.File = ⊥
 
 -- words that are refused end the run, and help is shown
-abbrev pub IsTold : Stop → Option (List ℕ) → Option (List ℕ) → Stop → Type 0
-IsTold (stop.Help text) old new end = IsShown (string_bytes text) old new end
-IsTold refusal old new end = (end ≡ refusal) × Keeps old new
+abbrev pub EndsAsRefused : Stop → Option (List ℕ) → Option (List ℕ) → Stop → Type 0
+EndsAsRefused (stop.Help text) old new end = IsShown (string_bytes text) old new end
+EndsAsRefused refusal old new end = (end ≡ refusal) × Keeps old new
 
 -- a run of words: of the files that they name, where they are read, or else of what is said of them
 abbrev pub IsWordsRun : List (List ℕ) → Option (List ℕ) → Option (List ℕ) → Stop → Type 0
 IsWordsRun texts old new end = ((words : Words) × IsRead texts words × IsFilesRun words old new end)
-    ⊎ ((refusal : Stop) × IsRefused texts refusal × IsTold refusal old new end)
+    ⊎ ((refusal : Stop) × IsRefused texts refusal × EndsAsRefused refusal old new end)
 
 -- Without words the sample world is served from the reader. Else nothing is read of it.
 abbrev pub IsProgramRun : List (List ℕ) → Option (List ℕ) → Option (List ℕ) → Option (List ℕ) → Option (List ℕ) → Stop → Type 0

@@ -5,7 +5,7 @@ ghost use Rattle.std.specs.Io.KnownBytes.{Appends};
 ghost use Rattle.line_serving.specs.Devices.{device_of};
 ghost use Rattle.line_serving.specs.Lines.{line_feed};
 ghost use Rattle.line_serving.specs.Output.{IsCut};
-ghost use Rattle.program_run.specs.Runs.{IsServed, IsShown, IsTold, IsSampleRun, IsFilesRun, IsProgramRun, IsWordless};
+ghost use Rattle.program_run.specs.Runs.{IsServed, IsServedBy, IsShown, EndsAsRefused, IsSampleRun, IsFilesRun, IsProgramRun, IsWordless};
 
 use command_line::{Stop, Words};
 use line_serving::{Counted, DeviceFault, ServeFault};
@@ -13,9 +13,12 @@ use std::alloc::Global;
 use std::env;
 use std::io::{ErrorKind, Read, Write};
 use std::rt::{Env, Files};
+use std::sync::Wait;
+use std::thread::Threads;
 use world::World;
 use world_answers::serve;
 use world_files::{open_requests, open_world, sample_world};
+use world_workers::{NoGate, serve_with};
 
 /// What `clap` says of words that are no text.
 const NOT_TEXT: &str = "error: invalid UTF-8 was detected in one or more arguments";
@@ -54,6 +57,26 @@ fn serve_world<R: Read, W: Write>(
     }
 }
 
+/// Serves the lines of a reader over a world, with workers where their number is given.
+fn serve_words<R: Threads + Wait + AllocGlobal + Sync, I: Read, W: Write>(
+    rt: &R,
+    workers: Option<u32>,
+    world: &World,
+    reader: &mut Counted<I>,
+    writer: &mut Counted<W>,
+) -> Stop
+    ensures { IsServedBy workers world.now (I.remaining (device_of reader.old)) (I.remaining (device_of reader.new))
+        (W.contents (device_of writer.old)) (W.contents (device_of writer.new)) result }
+{
+    let Some(workers) = workers else {
+        return serve_world(rt.alloc(), world, reader, writer);
+    };
+    match serve_with(rt, world, &NoGate, reader, writer, workers as usize) {
+        Ok(_) => Stop::Served,
+        Err(fault) => Stop::Serve(fault),
+    }
+}
+
 /// Serves the lines of a reader over the sample world.
 fn run_sample<R: Read, W: Write>(
     alloc: Global,
@@ -69,8 +92,8 @@ fn run_sample<R: Read, W: Write>(
     }
 }
 
-/// Serves the request lines of a file over the world of the other files.
-fn run_files<R: Files + AllocGlobal, W: Write>(
+/// Serves the request lines of a file over the world of the other files, with the workers that the words give.
+fn run_files<R: Files + Threads + Wait + AllocGlobal + Sync, W: Write>(
     rt: &R,
     words: &Words,
     writer: &mut Counted<W>,
@@ -82,7 +105,7 @@ fn run_files<R: Files + AllocGlobal, W: Write>(
         Err(stop) => return stop,
     };
     match open_requests(rt, words) {
-        Ok(file) => serve_world(rt.alloc(), &world, &mut Counted::new(file), writer),
+        Ok(file) => serve_words(rt, words.workers, &world, &mut Counted::new(file), writer),
         Err(stop) => stop,
     }
 }
@@ -117,7 +140,7 @@ fn show<W: Write>(writer: &mut Counted<W>, text: String) -> Stop
 
 /// Ends a run whose words are refused. Help is written to the writer; of the others the end says all.
 fn tell<W: Write>(stop: Stop, writer: &mut Counted<W>) -> Stop
-    ensures { IsTold stop (W.contents (device_of writer.old)) (W.contents (device_of writer.new)) result }
+    ensures { EndsAsRefused stop (W.contents (device_of writer.old)) (W.contents (device_of writer.new)) result }
 {
     match stop {
         Stop::Help(text) => show(writer, text),
@@ -132,7 +155,7 @@ fn tell<W: Write>(stop: Stop, writer: &mut Counted<W>) -> Stop
 
 /// A run of the words after the program's name. Without any it serves the sample world from the reader; else it serves the
 /// files that the words name, and reads nothing of the reader. Help is written to the writer.
-pub fn run<R: Files + AllocGlobal, I: Read, W: Write>(
+pub fn run<R: Files + Threads + Wait + AllocGlobal + Sync, I: Read, W: Write>(
     rt: &R,
     words: &[String],
     reader: &mut Counted<I>,

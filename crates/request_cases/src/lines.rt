@@ -6,20 +6,12 @@ use crate::sources::{counters, session};
 use crate::ways::answer_in_turn;
 use crate::worlds::{plan_of, refusal};
 use anyhow::Result;
-use line_serving::{Answerer, Counted, NoMemory, serve};
+use line_serving::{Counted, NoMemory, serve};
 use std::alloc::Global;
 use std::sync::atomic::{AtomicU64, Ordering};
 use world::World;
 
-/// Answers each line, which is a query, in a session of its own, by the text of the answer and how often each source was asked.
-/// It counts how often it answers.
-#[derive(Drop)]
-struct Lines<'w, 'c> {
-    world: &'w World,
-    calls: &'c AtomicU64,
-}
-
-/// The answer of a line.
+/// The text of the answer of a line, which is a query, in a session of its own, and how often each source was asked.
 fn line_told(alloc: Global, world: &World, line: &[u8]) -> Result<String> {
     let counters = counters(alloc, world)?;
     let manner = Manner::plain(alloc);
@@ -33,15 +25,17 @@ fn line_told(alloc: Global, world: &World, line: &[u8]) -> Result<String> {
     Ok(format!(in alloc; "{} {calls}", answer.text)?)
 }
 
-impl<'w, 'c> Answerer for Lines<'w, 'c> {
-    ghost answered_by = { λ _ _ _. Unit {0} };
-
-    fn answer(&self, alloc: Global, line: &[u8]) -> Result<String, NoMemory> {
-        self.calls.fetch_add(1, Ordering::SeqCst);
-        match line_told(alloc, self.world, line) {
-            Ok(text) => Ok(text),
-            Err(error) => Ok(format!(in alloc; "an error: {error}")?),
-        }
+/// The answer of a line, or why there is none, where the calls are counted.
+fn counted_line(
+    alloc: Global,
+    world: &World,
+    calls: &AtomicU64,
+    line: &[u8],
+) -> Result<String, NoMemory> {
+    calls.fetch_add(1, Ordering::SeqCst);
+    match line_told(alloc, world, line) {
+        Ok(text) => Ok(text),
+        Err(error) => Ok(format!(in alloc; "an error: {error}")?),
     }
 }
 
@@ -51,15 +45,9 @@ pub fn told(alloc: Global, world: &World, text: &str) -> Result<String> {
     let mut reader = Counted::new(text.as_bytes());
     let mut written = Vec::new(alloc);
     let mut writer = Counted::new(&mut written);
-    let served = serve(
-        alloc,
-        &Lines {
-            world,
-            calls: &calls,
-        },
-        &mut reader,
-        &mut writer,
-    )?;
+    let served = serve(alloc, &mut reader, &mut writer, |line: &[u8]| {
+        counted_line(alloc, world, &calls, line)
+    })?;
     drop(writer);
     let answered = calls.load(Ordering::SeqCst);
     let written = str::from_utf8(written.as_slice())?;

@@ -41,12 +41,12 @@ abbrev pub run : Core → List Event → Core
 run s [] = s
 run s (e ∷ es) = run (step s e) es
 
-abbrev pub orders_of : Core → List OrderOf
-orders_of s = s.waiting ++ (map (λ h. h.1) s.held ++ s.stored)
+abbrev pub all_orders : Core → List OrderOf
+all_orders s = s.waiting ++ (map (λ h. h.1) s.held ++ s.stored)
 
 -- the orders waiting, held and stored are the round's, each once, and those waiting are a suffix of them
 pub record IsOf (orders : List OrderOf) (s : Core) : Type 0 where
-  pub each_once : IsPermutation orders (orders_of s)
+  pub each_once : IsPermutation orders (all_orders s)
   pub gone : List OrderOf
   pub suffix : orders ≡ gone ++ s.waiting
 

@@ -1,14 +1,19 @@
-//! Whole runs.
+//! Whole runs, without workers. They go as `program_run` has them, which a teller can't call, since its `run` may start threads.
 
 use crate::serving::Narrow;
 use crate::shelf::{Device, Shelf};
 use crate::stops::end_of;
 use crate::words::split;
+use crate::worlds::built_in;
 use anyhow::Result;
-use line_serving::Counted;
-use program_run::run;
+use command_line::{Stop, Words};
+use line_serving::{Counted, DeviceFault, ServeFault};
 use std::alloc::{AllocGlobal, Global};
+use std::io::{Read, Write};
 use std::rt::Files;
+use world::World;
+use world_answers::serve;
+use world_files::{open_requests, open_world};
 
 /// Standard input: the file of a case that has this name, or else one without bytes.
 pub fn input_of<R: Files + AllocGlobal>(alloc: Global, shelf: &Shelf<'_, R>) -> Device {
@@ -26,6 +31,55 @@ pub fn room_of(words: &str) -> Result<usize> {
     }
 }
 
+/// Serves the lines of a reader over a world.
+fn served<R: Read, W: Write>(
+    alloc: Global,
+    world: &World,
+    reader: &mut Counted<R>,
+    writer: &mut Counted<W>,
+) -> Stop {
+    match serve(alloc, world, reader, writer) {
+        Ok(_) => Stop::Served,
+        Err(fault) => Stop::Serve(fault),
+    }
+}
+
+/// Serves the request lines of a file over the world of the other files.
+fn files_served<R: Files + AllocGlobal, W: Write>(
+    rt: &R,
+    words: &Words,
+    writer: &mut Counted<W>,
+) -> Result<Stop, Stop> {
+    let world = open_world(rt, words)?;
+    let mut requests = Counted::new(open_requests(rt, words)?);
+    Ok(served(rt.alloc(), &world, &mut requests, writer))
+}
+
+fn write_line<W: Write>(writer: &mut Counted<W>, text: &str) -> Result<(), DeviceFault> {
+    writer.write_whole(text.as_bytes())?;
+    writer.write_whole(b"\n")?;
+    writer.flush()
+}
+
+/// How a run of words ends, of which there are some.
+fn end_of_words<R: Files + AllocGlobal, W: Write>(
+    rt: &R,
+    words: &[String],
+    writer: &mut Counted<W>,
+) -> Stop {
+    match Words::read(rt.alloc(), words) {
+        Ok(words) => match files_served(rt, &words, writer) {
+            Ok(stop) => stop,
+            Err(stop) => stop,
+        },
+        Err(Stop::Help(text)) => match write_line(writer, text.as_str()) {
+            Ok(()) => Stop::Help(text),
+            Err(_) => Stop::Serve(ServeFault::WriteFault),
+        },
+        Err(stop) => stop,
+    }
+}
+
 /// What a run of the words of a line writes to standard output, which has so much room, and behind it how it ends.
 pub fn told<R: Files + AllocGlobal>(
     rt: &R,
@@ -38,7 +92,11 @@ pub fn told<R: Files + AllocGlobal>(
     let mut narrow = Narrow { bytes, room };
     let mut reader = Counted::new(input);
     let mut writer = Counted::new(&mut narrow);
-    let stop = run(rt, words.as_slice(), &mut reader, &mut writer);
+    let stop = if words.is_empty() {
+        served(rt.alloc(), &built_in(rt.alloc())?, &mut reader, &mut writer)
+    } else {
+        end_of_words(rt, words.as_slice(), &mut writer)
+    };
     drop(writer);
     let written = str::from_utf8(narrow.bytes.as_slice())?;
     let end = end_of(rt.alloc(), &stop)?;

@@ -38,6 +38,7 @@ fn serve_fault(name: &str) -> Result<ServeFault> {
         "ReadFault" => ServeFault::ReadFault,
         "WriteFault" => ServeFault::WriteFault,
         "NoMemory" => ServeFault::NoMemory,
+        "BadCount" => ServeFault::BadCount,
         _ => bail!("no such fault"),
     })
 }

@@ -29,6 +29,9 @@ fn parts(alloc: Global, words: &Words) -> Result<String, AllocError> {
     if let Some(most) = words.max_batch {
         write!(told, ", at most {most} keys")?;
     }
+    if let Some(workers) = words.workers {
+        write!(told, ", {workers} workers")?;
+    }
     for table in &words.tables {
         write!(told, ", table {:?} in {:?}", table.name, table.file)?;
     }

@@ -27,10 +27,10 @@ IsSyntax text tokens None place = IsUnexpectedAt tokens (Some place) ⊎ ((place
 IsSyntax text tokens (Some lexical) place = IsUnexpectedAt tokens (Some place) ⊎ ((place ≡ lexical) × IsReadable tokens)
 
 -- the first fault; of memory this says nothing
-abbrev pub IsFault : List ℕ → List Token → Option Place → SyntaxFault → Type 0
-IsFault text tokens lexical (Syntax place) = IsSyntax text tokens lexical place
-IsFault text tokens lexical (NotServed place) = IsNotServedAt tokens place
-IsFault text tokens lexical NoMemory = Unit {0}
+abbrev pub IsSyntaxFault : List ℕ → List Token → Option Place → SyntaxFault → Type 0
+IsSyntaxFault text tokens lexical (Syntax place) = IsSyntax text tokens lexical place
+IsSyntaxFault text tokens lexical (NotServed place) = IsNotServedAt tokens place
+IsSyntaxFault text tokens lexical NoMemory = Unit {0}
 
 -- this tree was found, unless memory ran out
 abbrev pub FindsTree : List Definition → Result SchemaDocument SyntaxFault → Type 0
@@ -48,6 +48,6 @@ pub record IsSchemaOf (text : List ℕ) (ds : List Definition) : Type 0 where
 -- The first fault of a text: it is too long, or it is a list of tokens, or it has tokens and then a lexical fault. Of memory this says nothing.
 pub data IsTextFault (text : List ℕ) : SyntaxFault → Type 0 where
   too_long : most_bytes < length text → IsTextFault text (Syntax (record { line = 1; column = 1 }))
-  of_tokens : {fault : SyntaxFault} (tokens : List lexer.Token) → length text ≤ most_bytes → AreTokens text tokens → IsFault text (tokens_of text tokens) None fault → IsTextFault text fault
-  before_lexical : {fault : SyntaxFault} (tokens : List lexer.Token) (lexical : LexFault) → length text ≤ most_bytes → AreTokensBefore text tokens lexical → IsFault text (tokens_of text tokens) (place_of_fault lexical) fault → IsTextFault text fault
+  of_tokens : {fault : SyntaxFault} (tokens : List lexer.Token) → length text ≤ most_bytes → AreTokens text tokens → IsSyntaxFault text (tokens_of text tokens) None fault → IsTextFault text fault
+  before_lexical : {fault : SyntaxFault} (tokens : List lexer.Token) (lexical : LexFault) → length text ≤ most_bytes → AreTokensBefore text tokens lexical → IsSyntaxFault text (tokens_of text tokens) (place_of_fault lexical) fault → IsTextFault text fault
   memory : IsTextFault text NoMemory

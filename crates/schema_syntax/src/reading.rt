@@ -6,7 +6,7 @@ ghost use Rattle.gq_parser.specs.Word.{tokens_of};
 ghost use Rattle.gq_parser.specs.Fault.{IsShallow, most_brackets};
 ghost use Rattle.schema_syntax.specs.Tree.{definitions_of, Definition as tree_definition};
 ghost use Rattle.schema_syntax.specs.Grammar.{IsDocument};
-ghost use Rattle.schema_syntax.specs.Text.{IsFault, FindsTree, IsSchemaOf, IsTextFault};
+ghost use Rattle.schema_syntax.specs.Text.{IsSyntaxFault, FindsTree, IsSchemaOf, IsTextFault};
 
 use crate::fault::{Stop, SyntaxFault};
 use crate::parser::definitions;
@@ -37,7 +37,7 @@ pub fn read_tokens(
     ensures only { (ds : List tree_definition) → IsDocument ds (tokens_of text.now tokens.now) → IsShallow most_brackets (tokens_of text.now tokens.now) → lexical ≡ None → FindsTree ds result }
 
     // Otherwise the first fault is named.
-    ensures fault { IfErr result (IsFault text.now (tokens_of text.now tokens.now) lexical) }
+    ensures fault { IfErr result (IsSyntaxFault text.now (tokens_of text.now tokens.now) lexical) }
 {
     match definitions(alloc, text, tokens) {
         Ok(document) => match lexical {

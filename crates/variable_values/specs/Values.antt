@@ -71,7 +71,7 @@ abbrev pub coerced_variables : List Definition → List VariableDefinition → D
 coerced_variables defs vs given = if gives_values given then values_of defs given vs else Err not_object
 
 -- the fault that is told where values are wanted; of memory this says nothing
-abbrev pub IsFault : Result (List VariableOf) FaultOf → VariableFault → Type 0
-IsFault want fault.NotObject = want ≡ Err not_object
-IsFault want (fault.Bad name) = want ≡ Err (bad_variable (string_bytes name))
-IsFault want fault.NoMemory = Unit {0}
+abbrev pub IsVariableFault : Result (List VariableOf) FaultOf → VariableFault → Type 0
+IsVariableFault want fault.NotObject = want ≡ Err not_object
+IsVariableFault want (fault.Bad name) = want ≡ Err (bad_variable (string_bytes name))
+IsVariableFault want fault.NoMemory = Unit {0}

@@ -7,7 +7,7 @@ ghost use Rattle.gq_parser.specs.Tree.{type_of, variable_of as definition_of, va
 ghost use Rattle.gq_schema.specs.Types.{tree_of, is_non_null};
 ghost use Rattle.gq_schema.specs.Inputs.{input_of};
 ghost use Rattle.variable_values.specs.Variables.{variables_of};
-ghost use Rattle.variable_values.specs.Values.{right_value, default_value, given_value, coerced_variables, IsFault};
+ghost use Rattle.variable_values.specs.Values.{right_value, default_value, given_value, coerced_variables, IsVariableFault};
 ghost use Rattle.variable_values.specs.Seen.{value_seen};
 
 use crate::fault::VariableFault;
@@ -107,7 +107,7 @@ pub fn coerce_variables(
     given: &Value,
 ) -> Result<Vec<Variable>, VariableFault>
     ensures ok { IfOk result (λ variables. coerced_variables (tree_of schema.now) (definitions_of definitions.now) (view given.now) ≡ Ok (variables_of variables.items)) }
-    ensures err { IfErr result (IsFault (coerced_variables (tree_of schema.now) (definitions_of definitions.now) (view given.now))) }
+    ensures err { IfErr result (IsVariableFault (coerced_variables (tree_of schema.now) (definitions_of definitions.now) (view given.now))) }
 {
     if !given.is_null() && !given.is_object() {
         return Err(VariableFault::NotObject);

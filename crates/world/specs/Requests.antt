@@ -5,7 +5,7 @@ use Rattle.gq_lexer.specs.declared.fault.LexFault.{LexFault}
 use Rattle.gq_lexer.specs.declared.fault.LexFault.TheVariants as lex
 use Rattle.gq_parser.specs.declared.fault.ParseFault.{ParseFault}
 use Rattle.gq_parser.specs.declared.fault.ParseFault.TheVariants as parse
-use Rattle.gq_parser.specs.Fault.{IsDocumentOf, IsFault, place_of_parse_fault}
+use Rattle.gq_parser.specs.Fault.{IsDocumentOf, IsParseFault, place_of_parse_fault}
 use Rattle.gq_parser.specs.Tree.{Document}
 use Rattle.serde_json.specs.Data.{Data}
 use Rattle.schema_syntax.specs.Tree.{Definition}
@@ -44,7 +44,7 @@ pub record IsUnprepared (defs : List Definition) (query : List ℕ) (name : Opti
 
 -- why a request has no plan; of memory this says nothing more
 abbrev pub IsRequestFault : List Definition → List ℕ → Option (List ℕ) → Data → RequestFault → Type 0
-IsRequestFault defs query name given (fault.Parse e) = IsFault query e
+IsRequestFault defs query name given (fault.Parse e) = IsParseFault query e
 IsRequestFault defs query name given (fault.Check e) = IsInvalid defs query e
 IsRequestFault defs query name given (fault.Prepare e) = IsUnprepared defs query name given e
 

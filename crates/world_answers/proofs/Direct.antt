@@ -9,7 +9,7 @@ use Rattle.load_memory.specs.declared.key.KeyMode.{KeyMode}
 use Rattle.csv_source.specs.Tables.{SourceOf, item_of_key}
 use Rattle.csv_source.specs.KeyLaws.{item_of_key-folded}
 use Rattle.load_queue.specs.Loaders.{LoaderOf}
-use Rattle.execution.specs.Rounds.{without_failed, direct, IsTold}
+use Rattle.execution.specs.Rounds.{without_failed, direct, HoldsItems}
 use Rattle.gq_schema.specs.BindingsTree as bindings
 use Rattle.gq_check.specs.Plans.{PlanOf}
 use Rattle.gq_check.specs.Planned.{IsPlan}
@@ -44,7 +44,7 @@ module _ (limit : Option ℕ) where
   items-over (line ∷ lines) (source ∷ sources) zero key e = refl
   items-over (line ∷ lines) (source ∷ sources) (suc loader) key e = items-over lines sources loader key (cc e)
 
-  nothing-told : (modes : List KeyMode) (item : ℕ → KeyOf → ItemOf) → IsTold modes item (without_failed (look []))
+  nothing-told : (modes : List KeyMode) (item : ℕ → KeyOf → ItemOf) → HoldsItems modes item (without_failed (look []))
   nothing-told modes item = λ loader key outcome h. absurd (none-some outcome h)
 
 -- an answer in the session of a world is the text of direct execution

@@ -4,7 +4,7 @@ use Rattle.std.specs.Prelude.{Result, Ok, Err}
 use Rattle.gq_lexer.specs.declared.place.Place.{Place}
 use Rattle.gq_parser.specs.declared.fault.ParseFault.{ParseFault}
 use Rattle.gq_parser.specs.declared.fault.ParseFault.TheVariants as parse
-use Rattle.gq_parser.specs.Fault.{IsDocumentOf, IsFault, place_of_parse_fault}
+use Rattle.gq_parser.specs.Fault.{IsDocumentOf, IsParseFault, place_of_parse_fault}
 use Rattle.gq_parser.specs.Tree.{Operation, Fragment, Document}
 use Rattle.schema_syntax.specs.Tree.{Definition}
 use Rattle.gq_schema.specs.BindingsTree.{BindingsOf}

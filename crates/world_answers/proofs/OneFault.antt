@@ -17,7 +17,7 @@ use Rattle.gq_parser.specs.declared.fault.ParseFault.TheVariants as fault
 use Rattle.gq_parser.specs.Word.{Token, at, word, tokens_of, IsSpelled, AreSpelled, place_of_next}
 use Rattle.gq_parser.specs.Tree.{Document}
 use Rattle.gq_parser.specs.Grammar.{IsDocument}
-use Rattle.gq_parser.specs.Fault.{most_bytes, Bracket, Opening, Closing, Neither, bracket, RoomAfter, IsShallow, most_brackets, IsViable, IsUnexpected, IsUnexpectedAt, IsTooDeepAt, IsDocumentOf, IsLexFault, OfTokens, IsFault}
+use Rattle.gq_parser.specs.Fault.{most_bytes, Bracket, Opening, Closing, Neither, bracket, RoomAfter, IsShallow, most_brackets, IsViable, IsUnexpected, IsUnexpectedAt, IsTooDeepAt, IsDocumentOf, IsLexFault, OfTokens, IsParseFault}
 use Rattle.gq_parser.proofs.Unique.{document_one}
 
 -- ---- fronts
@@ -195,7 +195,7 @@ pub data Told (text : List ℕ) (f : ParseFault) : Type 0 where
   of_place : (place : Option Place) → OfTokens text (λ tokens. IsUnexpectedAt tokens place) → f ≡ unexpected_at text place → Told text f
   of_depth : (p : Place) → OfTokens text (λ tokens. IsTooDeepAt tokens p) → f ≡ fault.TooDeep p → Told text f
 
-told : (text : List ℕ) (f : ParseFault) → f ≢ fault.NoMemory → IsFault text f → Told text f
+told : (text : List ℕ) (f : ParseFault) → f ≢ fault.NoMemory → IsParseFault text f → Told text f
 told text (fault.Lex l) some h = of_lex l (lexed text l h) refl
 told text (fault.Unexpected p) some h = of_place (Some p) h refl
 told text (fault.UnexpectedEnd p) some h = of_place None h.0 (ap fault.UnexpectedEnd h.1)
@@ -230,10 +230,10 @@ document_or_told text d f h (of_depth p k e) =
 
 -- ---- one document or one fault
 
-pub one_fault : (text : List ℕ) (f g : ParseFault) → f ≢ fault.NoMemory → g ≢ fault.NoMemory → IsFault text f → IsFault text g → f ≡ g
+pub one_fault : (text : List ℕ) (f g : ParseFault) → f ≢ fault.NoMemory → g ≢ fault.NoMemory → IsParseFault text f → IsParseFault text g → f ≡ g
 one_fault text f g some some' h k = told_one text f g (told text f some h) (told text g some' k)
 
-pub document_or_fault : (text : List ℕ) (d : Document) (f : ParseFault) → f ≢ fault.NoMemory → IsDocumentOf text d → IsFault text f → ⊥
+pub document_or_fault : (text : List ℕ) (d : Document) (f : ParseFault) → f ≢ fault.NoMemory → IsDocumentOf text d → IsParseFault text f → ⊥
 document_or_fault text d f some h k = document_or_told text d f h (told text f some k)
 
 pub one_document : (text : List ℕ) (d e : Document) → IsDocumentOf text d → IsDocumentOf text e → d ≡ e

@@ -15,7 +15,10 @@ use Rattle.request_line.specs.Requests.{RequestOf, IsRequest, asked}
 use Rattle.world.specs.declared.request.RequestFault.{RequestFault}
 use Rattle.world.specs.Requests.{IsPlanOf, IsRequestFault, is_want_of_memory, request_message, request_place}
 use Rattle.world.specs.Worlds.{WorldOf}
-use Rattle.world_answers.specs.Answers.{values_of, IsAnsweredAnew, refusal_text, AnswersRequest, faulty, planned}
+use Rattle.world_answers.specs.declared.planning.LinePlan.{LinePlan}
+use Rattle.world_answers.specs.declared.planning.LinePlan.TheVariants as line
+use Rattle.world_answers.specs.Answers.{values_of, IsPlanned, refusal_text, AnswersRequest, faulty, request}
+use Rattle.world_answers.specs.Planning.{PlansRequest, PlansLine}
 
 pub null-view : view value.Null ≡ null
 null-view = ap view (sym value.rolls-Null) ∙ fold-roll-Value Data view_step Value-F.Null
@@ -24,10 +27,10 @@ pub values-are : (variables : Option (Bor Value)) (none chosen : Bor Value) → 
 values-are None none chosen is e = ap (λ v. view v.now) is ∙ e
 values-are (Some v) none chosen is e = ap (λ v. view v.now) is
 
-pub planned-text : (w : WorldOf) (r : RequestOf) (plan : PlanParts) (given : Data) (text : List ℕ) → given ≡ values_of r.variables → plan.definitions ≡ w.definitions → plan.bindings ≡ w.bindings
-    → IsPlanOf (tree_of w.definitions) r.query r.operation_name given (plan_of plan) → IsAnsweredAnew w (plan_of plan) text → AnswersRequest w r text
-planned-text w r plan given text v d b is x =
-    planned (record { definitions = ap tree_of d; bindings = b; planned = subst (λ z. IsPlanOf (tree_of w.definitions) r.query r.operation_name z (plan_of plan)) v is }) x
+pub is-planned : (w : WorldOf) (r : RequestOf) (plan : PlanParts) (given : Data) → given ≡ values_of r.variables → plan.definitions ≡ w.definitions → plan.bindings ≡ w.bindings
+    → IsPlanOf (tree_of w.definitions) r.query r.operation_name given (plan_of plan) → IsPlanned w r (plan_of plan)
+is-planned w r plan given v d b is =
+    record { definitions = ap tree_of d; bindings = b; planned = subst (λ z. IsPlanOf (tree_of w.definitions) r.query r.operation_name z (plan_of plan)) v is }
 
 pub faulty-text : (w : WorldOf) (r : RequestOf) (fault : RequestFault) (given : Data) (text : List ℕ) → given ≡ values_of r.variables → IsRequestFault (tree_of w.definitions) r.query r.operation_name given fault
     → is_want_of_memory fault ≡ false → text ≡ refusal_text (request_message fault) (request_place fault) → AnswersRequest w r text
@@ -36,3 +39,8 @@ faulty-text w r fault given text v is some told =
 
 pub request-read : (line : List ℕ) (d : Data) (r : RequestOf) → IsUtf8 line → read line ≡ Some d → Some r ≡ asked d → IsRequest line r
 request-read line d r text reads asks = record { text = text; members = ap (option_and_then asked) reads ∙ sym asks }
+
+-- what a line that is this request asks
+pub line-planned : (w : WorldOf) (bytes : List ℕ) (r : RequestOf) (plan : LinePlan) → IsRequest bytes r → PlansRequest w r plan → PlansLine w bytes plan
+line-planned w bytes r (line.Refused text) is h = request is h
+line-planned w bytes r (line.Planned plan) is h = (r, is, h)

@@ -4,15 +4,18 @@
 //! [`World`](world::World). The text is a refusal, or that of direct execution, where each load is answered at once by the
 //! rows of its key (`specs/Answers.antt`): no memory, round, batch or limit changes it. And it was answered with the headline
 //! (`load_rounds`, `specs/Headline.antt`) in the session of the world, which [`Sessions`] gives and of which each line has its
-//! own: a new one, over the world's sources, with its limit.
+//! own: a new one, over the world's sources, with its limit. A crate that answers plans in another way takes what a line asks
+//! from [`plan_line`].
 #![tactic(auto)]
 
 mod answers;
 mod law;
+mod planning;
 mod serving;
 mod sessions;
 
-pub use answers::LineAnswers;
+pub use answers::answer_line;
 pub use law::one_answer;
+pub use planning::{LinePlan, plan_line};
 pub use serving::serve;
 pub use sessions::Sessions;

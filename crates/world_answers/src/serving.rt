@@ -1,14 +1,14 @@
 //! Request lines over a world, answered one after another.
 
-ghost use Rattle.std.specs.Prelude.{◌≡◌, ℕ, List, ◌<◌, ◌≤◌, ⊤, OnOk, IfOk, IfErr};
+ghost use Rattle.std.specs.Prelude.{◌≡◌, ℕ, List, ◌<◌, ◌≤◌, ⊤, OnOk, IfOk, IfErr, string_bytes};
 ghost use Rattle.std.specs.Io.KnownBytes.{Appends, Consumes, IsAtEnd};
 ghost use Rattle.line_serving.specs.Devices.{bound, counted, device_of, faults_of, calls_of, given_of};
 ghost use Rattle.line_serving.specs.Output.{IsCut};
 ghost use Rattle.line_serving.specs.Serving.{AtFault, IsAnswered, Fails, faults_at};
 ghost use Rattle.world_answers.specs.Answers.{IsAnswer};
 
-use crate::answers::LineAnswers;
-use line_serving::{Counted, ServeFault, serve as serve_lines};
+use crate::answers::answer_line;
+use line_serving::{Counted, NoMemory, ServeFault, serve as serve_lines};
 use std::alloc::Global;
 use std::io::{Read, Write};
 use world::World;
@@ -55,7 +55,10 @@ pub fn serve<R: Read, W: Write>(
     ensures bounded { OnOk result ((calls_of reader.new ≤ bound) × (given_of reader.new < bound)) }
     ensures grown { (calls_of reader.old ≤ calls_of reader.new) × (given_of reader.old ≤ given_of reader.new) }
 {
-    match serve_lines(alloc, &LineAnswers::new(world), reader, writer) {
+    let answer = |line: &[u8]| -> Result<String, NoMemory>
+        ensures { IfOk result (λ text. IsAnswer world.entry.now line.now (string_bytes text)) }
+    { answer_line(alloc, world, line) };
+    match serve_lines(alloc, reader, writer, answer) {
         Ok(count) => Ok(count),
         Err(fault) => Err(fault),
     }

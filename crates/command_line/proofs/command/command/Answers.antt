@@ -10,6 +10,7 @@ returns c =
     let bare : app_of c.no_binary_name.result ≡ unnamed = ap app_of_fields c.no_binary_name.ensures ∙ ap (λ (a : App). record a { top = record a.top { no_binary_name = true } }) (ap app_of_fields c.about.ensures) ∙ ap (λ (a : App). record a { top = record a.top { no_binary_name = true } }) c.new.ensures.app in
     let first = c.in_ok-arg.ensures.shape c.schema.ensures.local ∙ ap₂ with_rule bare c.schema.ensures.rule in
     let second = c.in_ok-arg-2.ensures.shape c.bindings.ensures.local ∙ ap₂ with_rule first c.bindings.ensures.rule in
-    let third = c.in_ok-arg-3.ensures.shape c.max_batch.ensures.local ∙ ap₂ with_rule second c.max_batch.ensures.rule in
-    let fourth = c.in_ok-arg-4.ensures.shape c.requests.ensures.local ∙ ap₂ with_rule third c.requests.ensures.rule in
-    IfOk-weaker c.arg-5.result _ _ (λ r added. added.shape c.tables.ensures.local ∙ ap₂ with_rule fourth c.tables.ensures.rule) c.arg-5.ensures
+    let third = c.in_ok-arg-3.ensures.shape c.workers.ensures.local ∙ ap₂ with_rule second c.workers.ensures.rule in
+    let fourth = c.in_ok-arg-4.ensures.shape c.max_batch.ensures.local ∙ ap₂ with_rule third c.max_batch.ensures.rule in
+    let fifth = c.in_ok-arg-5.ensures.shape c.requests.ensures.local ∙ ap₂ with_rule fourth c.requests.ensures.rule in
+    IfOk-weaker c.arg-6.result _ _ (λ r added. added.shape c.tables.ensures.local ∙ ap₂ with_rule fifth c.tables.ensures.rule) c.arg-6.ensures

@@ -6,7 +6,7 @@ use Rattle.load_memory.specs.declared.key.Key.{Key}
 use Rattle.execution.specs.Program.{Program}
 use Rattle.execution.specs.Residual.{rest}
 use Rattle.gq_check.specs.Plans.{PlanOf, plan_of}
-use Rattle.plan_program.specs.Asked.{AskedOf, BelowOf}
+use Rattle.plan_program.specs.Asked.{ValueFrom, BelowOf}
 use Rattle.plan_program.specs.Prepared.{below_seen, asked_seen}
 use Rattle.plan_program.specs.PlanPrograms.{list_of, row_object, read_cell, read_if, first_object, asked_program, object_program}
 use Rattle.gq_resolve.specs.States.{told, then_rows}
@@ -19,7 +19,7 @@ use Rattle.gq_resolve.proofs.build.+build.Goals as goal
 pub object-loop-member-preserved : goal.object-loop-member-preserved
 object-loop-member-preserved t c =
     let plan : PlanOf = plan_of c.args.walk.now.plan.now in
-    let f : AskedOf → Program = asked_program plan.definitions (object_program plan c.args.levels) c.args.row.now in
+    let f : ValueFrom → Program = asked_program plan.definitions (object_program plan c.args.levels) c.args.row.now in
     let old : List Member = c.args.members.now in
     let now : List Member = c.loop-member.members in
     let i : ℕ = c.loop-member.member-index in
@@ -32,7 +32,7 @@ object-loop-member-preserved t c =
 pub object-returns-clause-state : goal.object-returns-clause-state
 object-returns-clause-state t c =
     let plan : PlanOf = plan_of c.args.walk.now.plan.now in
-    let f : AskedOf → Program = asked_program plan.definitions (object_program plan c.args.levels) c.args.row.now in
+    let f : ValueFrom → Program = asked_program plan.definitions (object_program plan c.args.levels) c.args.row.now in
     λ fits. fields-done plan (told c.args.walk.now.memory.now) f (prepared_in c.args.members.now) c.loop-member.member-index c.loop-member.children
     (members-end c.args.members.now c.loop-member.member-index c.loop-member-test.false) (c.loop-member.invariant.1 fits)
 

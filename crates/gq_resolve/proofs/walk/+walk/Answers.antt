@@ -6,7 +6,7 @@ use Rattle.load_memory.specs.declared.key.Key.{Key}
 use Rattle.execution.specs.Loads.{Reader}
 use Rattle.execution.specs.Program.{Program, ListOf}
 use Rattle.gq_check.specs.Plans.{PlanOf, plan_of}
-use Rattle.plan_program.specs.Asked.{AskedOf, BelowOf}
+use Rattle.plan_program.specs.Asked.{ValueFrom, BelowOf}
 use Rattle.plan_program.specs.Prepared.{asked_seen}
 use Rattle.plan_program.specs.PlanPrograms.{places, row_object, read_cell, read_if, first_object, asked_program, object_program}
 use Rattle.plan_program.specs.declared.prepared.Below.{Below}
@@ -25,7 +25,7 @@ object-loop-member-init t c = (members-self (plan_of c.args.walk.now.plan.now) c
 pub object-loop-member-preserved : goal.object-loop-member-preserved
 object-loop-member-preserved t c =
     let plan : PlanOf = plan_of c.args.walk.now.plan.now in
-    let f : AskedOf → Program = asked_program plan.definitions (object_program plan c.args.levels) c.args.row.now in
+    let f : ValueFrom → Program = asked_program plan.definitions (object_program plan c.args.levels) c.args.row.now in
     let old : List Member = c.args.members.now in
     let now : List Member = c.loop-member.members in
     let i : ℕ = c.loop-member.member-index in

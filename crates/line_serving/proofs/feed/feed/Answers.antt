@@ -1,6 +1,7 @@
 use Rattle.std.proofs.Common.{subst, ◌≡◌, ◌≢◌, ℕ, List, [], ◌∷◌, ◌++◌, length, refl, sym, ap, ◌∙◌, append-nil, arith, length-append}
 use Rattle.std.specs.List.{flat_map}
 use Rattle.std.proofs.lemmas.List.Elements.{All-nil, All-append, All-push}
+use Rattle.line_serving.specs.Output.{Gives}
 use Rattle.line_serving.specs.Lines.{IsLine, ended, line_feed}
 use Rattle.line_serving.proofs.Known.{sends_none, sends_trans}
 use Rattle.line_serving.proofs.Feeding.{are_more, one_more, is_line, behind, stopped_at, count_more, no_line}
@@ -28,7 +29,7 @@ loop-line-preserved g c =
         one_more _ _ _ c.in-Some.after.now _ lines cut.0 inv.answered.2 ∙ ap (λ l. flat_map ended (lines ++ line ∷ []) ++ (l ++ c.in-Some.after.now)) (sym done.0),
         All-push IsLine lines line inv.answered.3 (is_line _ _ inv.held cut.1 done.1),
         count_more _ lines line inv.answered.4,
-        are_more (g.A.Answerer.answered_by c.args.answerer.now) lines line inv.answered.1 done.2.0 inv.answered.5 done.2.1,
+        are_more (Gives g.F.Fn c.args.answer.now) lines line inv.answered.1 done.2.0 inv.answered.5 done.2.1,
         sends_trans _ (g.W.Write.contents c.loop-line.writer.device) _ _ c.loop-line.pending.items _ inv.answered.1 (ended done.2.0) inv.answered.6 done.2.2,
       );
       held = subst IsLine (sym done.0) no_line;
@@ -40,7 +41,7 @@ pub returns-in-Err-clause-err : goal.returns-in-Err-clause-err
 returns-in-Err-clause-err g c =
     let inv = c.loop-line.invariant in
     let cut = c.in-Some.ensures in
-    stopped_at (g.A.Answerer.answered_by c.args.answerer.now) c.in-Err.fault _ (g.W.Write.contents c.loop-line.writer.device) _ _ c.loop-line.pending.items _ _ _ _ _ _ inv.answered.1 inv.answered.0 _ (omega (arith, inv.count, c.requires.few)) cut.0 inv.answered.2 inv.answered.3 inv.held cut.1 inv.answered.5 inv.answered.6 c.in-Err.ensures.err
+    stopped_at (Gives g.F.Fn c.args.answer.now) c.in-Err.fault _ (g.W.Write.contents c.loop-line.writer.device) _ _ c.loop-line.pending.items _ _ _ _ _ _ inv.answered.1 inv.answered.0 _ (omega (arith, inv.count, c.requires.few)) cut.0 inv.answered.2 inv.answered.3 inv.held cut.1 inv.answered.5 inv.answered.6 c.in-Err.ensures.err
 
 pub returns-then-rest-len-clause-err : goal.returns-then-rest-len-clause-err
 returns-then-rest-len-clause-err g c =

@@ -9,18 +9,18 @@ use Rattle.gq_parser.specs.Fault.{IsShallow, most_brackets, most_bytes}
 use Rattle.schema_syntax.specs.declared.fault.SyntaxFault.{SyntaxFault}
 use Rattle.schema_syntax.specs.declared.tree.SchemaDocument.{SchemaDocument}
 use Rattle.schema_syntax.specs.Grammar.{IsDocument}
-use Rattle.schema_syntax.specs.Text.{IsFault, IsTextFault, too_long, of_tokens, before_lexical, memory}
+use Rattle.schema_syntax.specs.Text.{IsSyntaxFault, IsTextFault, too_long, of_tokens, before_lexical, memory}
 use Rattle.schema_syntax.proofs.reading.read.Goals as goal
 
-token_fault : (text : List ℕ) (tokens slice : List lexer.Token) (r : Result SchemaDocument SyntaxFault) → length text ≤ most_bytes → AreTokens text tokens → slice ≡ tokens → IfErr r (IsFault text (tokens_of text slice) None) → IfErr r (IsTextFault text)
+token_fault : (text : List ℕ) (tokens slice : List lexer.Token) (r : Result SchemaDocument SyntaxFault) → length text ≤ most_bytes → AreTokens text tokens → slice ≡ tokens → IfErr r (IsSyntaxFault text (tokens_of text slice) None) → IfErr r (IsTextFault text)
 token_fault text tokens slice (Ok d) short reads same h = tt
-token_fault text tokens slice (Err f) short reads same h = of_tokens tokens short reads (subst (λ ts. IsFault text (tokens_of text ts) None f) same h)
+token_fault text tokens slice (Err f) short reads same h = of_tokens tokens short reads (subst (λ ts. IsSyntaxFault text (tokens_of text ts) None f) same h)
 
 lexical_fault : (text : List ℕ) (tokens slice : List lexer.Token) (f : LexFault) (place : Option Place) (r : Result SchemaDocument SyntaxFault) → length text ≤ most_bytes → AreTokensBefore text tokens f → slice ≡ tokens → place ≡ place_of_fault f
-    → IfErr r (IsFault text (tokens_of text slice) place) → IfErr r (IsTextFault text)
+    → IfErr r (IsSyntaxFault text (tokens_of text slice) place) → IfErr r (IsTextFault text)
 lexical_fault text tokens slice f place (Ok d) short before same e h = tt
 lexical_fault text tokens slice f place (Err g) short before same e h =
-    before_lexical tokens f short before (subst (λ p. IsFault text (tokens_of text tokens) p g) e (subst (λ ts. IsFault text (tokens_of text ts) place g) same h))
+    before_lexical tokens f short before (subst (λ p. IsSyntaxFault text (tokens_of text tokens) p g) e (subst (λ ts. IsSyntaxFault text (tokens_of text ts) place g) same h))
 
 pub returns-then-text-gt-MAX_BYTES-clause-fault : goal.returns-then-text-gt-MAX_BYTES-clause-fault
 returns-then-text-gt-MAX_BYTES-clause-fault c = too_long (omega arith)

@@ -1,7 +1,23 @@
+use Rattle.std.proofs.Common.{subst}
+use Rattle.line_serving.proofs.Widening.{answered_widened, fails_widened}
+use Rattle.world_answers.specs.Answers.{IsAnswer}
 use Rattle.world_answers.proofs.serving.serve.Goals as goal
 
 pub returns-in-Ok-clause-ok : goal.returns-in-Ok-clause-ok
-returns-in-Ok-clause-ok g c = rw c.new.ensures at c.in-Ok.ensures.ok
+returns-in-Ok-clause-ok g c =
+    let w = c.args.world.now in
+    let was = c.in-Ok.ensures.ok in (
+      was.0,
+      was.1,
+      was.2,
+      answered_widened _ (IsAnswer w) (λ line text h. subst (λ l. IsAnswer w l text) h.says.shows (subst (λ t. IsAnswer w h.says.shown.now t) h.bytes h.says.says.met)) was.0 _ _ was.3,
+    )
 
 pub returns-in-Err-clause-err : goal.returns-in-Err-clause-err
-returns-in-Err-clause-err g c = rw c.new.ensures at c.in-Err.ensures.err
+returns-in-Err-clause-err g c =
+    let w = c.args.world.now in
+    let was = c.in-Err.ensures.err in (
+      was.0,
+      was.1,
+      fails_widened _ (IsAnswer w) (λ line text h. subst (λ l. IsAnswer w l text) h.says.shows (subst (λ t. IsAnswer w h.says.shown.now t) h.bytes h.says.says.met)) was.0 _ _ _ c.in-Err.fault was.2,
+    )

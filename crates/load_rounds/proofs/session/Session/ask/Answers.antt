@@ -4,7 +4,7 @@ use Rattle.load_memory.specs.Replies.{ReplyOf, reply_of}
 use Rattle.load_memory.proofs.PartLaws.{SomeIff-at}
 use Rattle.load_memory.proofs.ReplyPairs.{All-of_map}
 use Rattle.load_queue.specs.Wanted.{keys_wanted}
-use Rattle.execution.specs.Rounds.{RuleOf, rule_of, orders_of, may_at}
+use Rattle.execution.specs.Rounds.{RuleOf, rule_of, round_orders, may_at}
 use Rattle.load_rounds.specs.Rounds.{first_keys}
 use Rattle.load_rounds.proofs.Cutting.{length-logged}
 use Rattle.load_rounds.proofs.Numbering.{orders-below, replies-below, replies-before}
@@ -140,6 +140,6 @@ returns-clause-ran g c = λ loads wanted.
     let kept = c.in_ok-keep_owned.ensures.pairs in
     rw (← c.self.view_is) (record {
       replies = replies;
-      answered = replies-before false round keys g.S.Asks.may_tell L (orders_of (map rule_of L) loads) replies told;
+      answered = replies-before false round keys g.S.Asks.may_tell L (round_orders (map rule_of L) loads) replies told;
       after = state-ran keys loads L own round r c.cut_all.new.rounds c.cut_all.new.loaders.items c.mark_all.new.loaders.items M c.keep_owned.new.self replies next c.self.invariant h c.mark_all.ensures kept;
     })

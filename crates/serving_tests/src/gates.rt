@@ -1,0 +1,119 @@
+//! Serving with workers, behind gates.
+
+use crate::expect;
+use crate::sample::world;
+use line_serving::Counted;
+use std::alloc::AllocGlobal;
+use std::sync::Wait;
+use std::sync::atomic::{AtomicBool, AtomicU64, Ordering};
+use std::test::Fail;
+use std::thread::Threads;
+use world::World;
+use world_workers::{Gate, NoGate, serve_with};
+
+/// How often a batch looks for the other one before it goes on alone. One that is asked at the same time has long been seen then.
+const TURNS: u32 = 100_000_000;
+
+/// A gate at which a batch of the first loader and one of the second wait a while for each other. It counts those that went on
+/// alone.
+#[derive(Drop)]
+struct Meeting {
+    first: AtomicBool,
+    second: AtomicBool,
+    missed: AtomicU64,
+}
+
+impl Meeting {
+    fn new() -> Meeting {
+        Meeting {
+            first: AtomicBool::new(false),
+            second: AtomicBool::new(false),
+            missed: AtomicU64::new(0),
+        }
+    }
+
+    // Shows a flag until the other is shown; if it soon isn't, the flag is taken back.
+    fn wait(&self, own: &AtomicBool, other: &AtomicBool) {
+        own.store(true, Ordering::SeqCst);
+        for _ in 0..TURNS {
+            if other.load(Ordering::SeqCst) {
+                return;
+            }
+        }
+        own.store(false, Ordering::SeqCst);
+        self.missed.fetch_add(1, Ordering::SeqCst);
+    }
+}
+
+impl Gate for Meeting {
+    fn enter(&self, loader: usize) {
+        match loader {
+            0 => self.wait(&self.first, &self.second),
+            1 => self.wait(&self.second, &self.first),
+            _ => {}
+        }
+    }
+}
+
+/// What serving lines with so many workers writes and tells.
+fn served<R: Threads + Wait + AllocGlobal + Sync, G: Gate>(
+    rt: &R,
+    world: &World,
+    gate: &G,
+    lines: &str,
+    workers: usize,
+) -> Result<String, Fail> {
+    let mut written = Vec::new(rt.alloc());
+    let mut reader = Counted::new(lines.as_bytes());
+    let mut writer = Counted::new(&mut written);
+    let result = serve_with(rt, world, gate, &mut reader, &mut writer, workers);
+    drop(writer);
+    let text = str::from_utf8(written.as_slice())?;
+    match result {
+        Ok(lines) => Ok(format!(in rt.alloc(); "{text}{lines} lines")?),
+        Err(fault) => Ok(format!(in rt.alloc(); "{text}{fault}")?),
+    }
+}
+
+const LINES: &str =
+    "{\"query\":\"{user(id:1){name}}\"}\n[]\n\n{\"query\":\"{user(id:1){name}}\",\"operationName\":null,\"variables\":null}";
+
+const ANSWERS: &str =
+    "{\"data\":{\"user\":{\"name\":\"Ada\"}}}\n{\"errors\":[{\"message\":\"not a request\"}]}\n{\"errors\":[{\"message\":\"not a request\"}]}\n{\"data\":{\"user\":{\"name\":\"Ada\"}}}\n4 lines";
+
+/// Numbers of workers, lines, and what is told of them.
+const RUNS: &[(usize, &str, &str)] = &[
+    (2, LINES, ANSWERS),
+    (2, "", "0 lines"),
+    (0, LINES, "X5 BadCount"),
+    (17, LINES, "X5 BadCount"),
+];
+
+#[test]
+fn workers_serve_lines_in_order(rt: HostRuntime) -> Result<(), Fail> {
+    let world = world(rt.alloc())?;
+    for (workers, lines, want) in RUNS {
+        let found = served(&rt, &world, &NoGate, lines, *workers)?;
+        expect(&rt, &found, want, lines);
+    }
+    Ok(())
+}
+
+const BOTH: &str = "{\"query\":\"{user(id:1){name} users{id}}\"}";
+
+const BOTH_ANSWERED: &str =
+    "{\"data\":{\"user\":{\"name\":\"Ada\"},\"users\":[{\"id\":\"1\"},{\"id\":\"2\"},{\"id\":\"3\"},{\"id\":\"4\"}]}}\n1 lines";
+
+/// Two workers meet at a gate, where one worker misses itself twice. The answer is the same.
+#[test]
+fn workers_run_batches_at_the_same_time(rt: HostRuntime) -> Result<(), Fail> {
+    let world = world(rt.alloc())?;
+    for (workers, missed) in [(2_usize, "0"), (1, "2")] {
+        let gate = Meeting::new();
+        let found = served(&rt, &world, &gate, BOTH, workers)?;
+        expect(&rt, &found, BOTH_ANSWERED, BOTH);
+        let misses = format!(in rt.alloc(); "{}", gate.missed.load(Ordering::SeqCst))?;
+        expect(&rt, &misses, missed, "missed");
+    }
+    Ok(())
+}

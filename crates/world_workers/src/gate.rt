@@ -1,0 +1,17 @@
+//! Gates, which batches enter before they are asked.
+
+/// What each fetch of a batch enters first, on the thread of the worker that runs it: it can count calls, or hold one back for
+/// a while. It changes no answer.
+pub trait Gate: Sync {
+    /// A batch of the loader of this number, from 0, is about to be asked.
+    fn enter(&self, loader: usize);
+}
+
+/// A gate that stands open.
+#[derive(Clone, Copy, Debug, Drop)]
+pub struct NoGate;
+
+impl Gate for NoGate {
+    /// Does nothing, and takes no memory.
+    fn enter(&self, _loader: usize) {}
+}

@@ -1,0 +1,67 @@
+//! Sources behind a gate.
+
+ghost use Rattle.std.specs.Prelude.{◌≡◌, map};
+ghost use Rattle.load_queue.specs.Answers.{given};
+ghost use Rattle.csv_source.specs.Tables.{item_of_key};
+ghost use Rattle.csv_source.specs.KeyLaws.{item_of_key-folded};
+
+use crate::gate::Gate;
+use csv_source::CsvSource;
+use load_memory::{Item, Key, KeyMode};
+use load_queue::{FetchFault, PerKey, Source};
+use std::alloc::Global;
+use std::marker::Model;
+
+/// A source of a table behind a gate: each fetch first enters the gate with the number of the loader.
+///
+/// A contract sees it as the source.
+#[derive(Drop)]
+pub struct Gated<'w, 'g, G> {
+    source: CsvSource<'w>,
+    gate: &'g G,
+    loader: usize,
+}
+
+impl<'w, 'g, G> Model for Gated<'w, 'g, G> {
+    ghost use Rattle.csv_source.specs.Tables.{SourceOf};
+
+    ghost Value = { SourceOf };
+
+    ghost view = { λ s. s.source };
+}
+
+impl<'w, 'g, G> Gated<'w, 'g, G> {
+    /// The source of the loader of this number, behind a gate.
+    pub fn new(source: CsvSource<'w>, gate: &'g G, loader: usize) -> Gated<'w, 'g, G>
+        ensures { result ≡ source.entry }
+    {
+        Gated {
+            source,
+            gate,
+            loader,
+        }
+    }
+}
+
+impl<'w, 'g, G: Gate> Source for Gated<'w, 'g, G> {
+    ghost may_answer = { λ s keys answer. answer ≡ given (map (item_of_key s) keys) };
+
+    fn fetch(&self, alloc: Global, keys: &[Key]) -> Result<Vec<Item>, FetchFault> {
+        self.gate.enter(self.loader);
+        self.source.fetch(alloc, keys)
+    }
+}
+
+impl<'w, 'g, G: Gate> PerKey for Gated<'w, 'g, G> {
+    ghost mode_of = { λ s. s.mode };
+
+    ghost item_at = { item_of_key };
+
+    ghost key_by_key = { λ s keys answer is. is };
+
+    ghost respects = { item_of_key-folded };
+
+    fn mode(&self) -> KeyMode {
+        self.source.mode()
+    }
+}

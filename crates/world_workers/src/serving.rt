@@ -1,0 +1,149 @@
+//! Request lines over a world, answered one after another, each by workers.
+
+ghost use Rattle.std.specs.Prelude.{◌≡◌, ℕ, List, ◌<◌, ◌≤◌, ◌↔◌, ⊤, OnOk, IfOk, IfErr, IsErrOf, length, string_bytes};
+ghost use Rattle.std.specs.Io.KnownBytes.{Appends, Consumes, IsAtEnd, Keeps};
+ghost use Rattle.gq_check.specs.Plans.{plan_of};
+ghost use Rattle.load_rounds.specs.Sessions.{state_of};
+ghost use Rattle.batch_workers.specs.Workers.{IsBadCount};
+ghost use Rattle.line_serving.specs.Devices.{bound, counted, device_of, faults_of, calls_of, given_of};
+ghost use Rattle.line_serving.specs.Output.{IsCut};
+ghost use Rattle.line_serving.specs.Serving.{AtFault, IsAnswered, Fails, faults_at};
+ghost use Rattle.world_answers.specs.Answers.{IsAnswer, IsAnsweredAnew, AnswersAnew};
+
+use crate::gate::Gate;
+use crate::gated::Gated;
+use crate::sessions::gated_session;
+use batch_workers::{WorkFault, answer_with};
+use gq_check::Plan;
+use line_serving::{Counted, NoMemory, ServeFault, serve as serve_lines};
+use load_rounds::{Answer, Session};
+use round_workers::round::MOST_WORKERS;
+use std::alloc::{AllocGlobal, Global};
+use std::io::{Read, Write};
+use std::sync::Wait;
+use std::thread::Threads;
+use world::World;
+use world_answers::{LinePlan, plan_line};
+
+// The answer of a plan over a world, and the session of its own in which it was given, by so many workers.
+fn answer_plan<'w, 'g, R: Threads + Wait + AllocGlobal + Sync, G: Gate>(
+    rt: &R,
+    world: &'w World,
+    gate: &'g G,
+    plan: &Plan<'_>,
+    workers: usize,
+) -> Result<(Session<Gated<'w, 'g, G>>, Answer), NoMemory>
+    requires plan { (plan_of plan.now).bindings ≡ world.now.bindings }
+    requires count { ¬ (IsBadCount workers) }
+    ensures anew { IfOk result (λ given. AnswersAnew world.now (plan_of plan.now) (state_of given.0) (string_bytes given.1.text) given.1.rounds) }
+    // Each loader of the bindings has a source.
+    ensures each { OnOk result (length world.now.sources ≡ length world.now.bindings.loaders) }
+{
+    // A contract sees here that the plan is of a valid document.
+    let _ = plan.operation();
+    let Ok(mut session) = gated_session(rt.alloc(), world, gate) else {
+        return Err(NoMemory);
+    };
+    match answer_with(rt, &mut session, plan, workers) {
+        Ok(answer) => Ok((session, answer)),
+        Err(WorkFault::NoMemory) => Err(NoMemory),
+        Err(WorkFault::BadCount) => unreachable!(),
+    }
+}
+
+// The text of the answer of a plan over a world, by so many workers.
+fn plan_text<R: Threads + Wait + AllocGlobal + Sync, G: Gate>(
+    rt: &R,
+    world: &World,
+    gate: &G,
+    plan: &Plan<'_>,
+    workers: usize,
+) -> Result<String, NoMemory>
+    requires plan { (plan_of plan.now).bindings ≡ world.now.bindings }
+    requires count { ¬ (IsBadCount workers) }
+    ensures { IfOk result (λ text. IsAnsweredAnew world.now (plan_of plan.now) (string_bytes text)) }
+{
+    match answer_plan(rt, world, gate, plan, workers) {
+        Ok((_, answer)) => Ok(answer.text),
+        Err(want) => Err(want),
+    }
+}
+
+// The answer of a line over a world, both without a line feed, by so many workers.
+fn answer_line<R: Threads + Wait + AllocGlobal + Sync, G: Gate>(
+    rt: &R,
+    world: &World,
+    gate: &G,
+    line: &[u8],
+    workers: usize,
+) -> Result<String, NoMemory>
+    requires { ¬ (IsBadCount workers) }
+    ensures { IfOk result (λ text. IsAnswer world.now line.now (string_bytes text)) }
+{
+    match plan_line(rt.alloc(), world, line) {
+        Ok(LinePlan::Refused(text)) => Ok(text),
+        Ok(LinePlan::Planned(plan)) => plan_text(rt, world, gate, &plan, workers),
+        Err(want) => Err(want),
+    }
+}
+
+/// Answers each request line of the reader by a line to the writer, as [`serve`](world_answers::serve) does, and says how many
+/// there were. The batches of a round are run by this many workers at the same time, 1 to 16, and each enters the gate first.
+/// All workers have ended before the next line is read.
+///
+/// # Errors
+///
+/// `BadCount` exactly where the number of workers isn't 1 to 16, before all others: nothing is read or written then. The others
+/// are those of `serve`.
+pub fn serve_with<R: Threads + Wait + AllocGlobal + Sync, G: Gate, I: Read, W: Write>(
+    rt: &R,
+    world: &World,
+    gate: &G,
+    reader: &mut Counted<I>,
+    writer: &mut Counted<W>,
+    workers: usize,
+) -> Result<u64, ServeFault>
+    // Another number of workers than 1 to 16 is refused, and both devices are left alone.
+    ensures bad_count { IsErrOf result ServeFault.BadCount ↔ IsBadCount workers }
+    ensures unread { IsBadCount workers → (reader.new ≡ reader.old) × (writer.new ≡ writer.old) }
+
+    // All of the input was read, and what was written is the answer of each of its lines over the world, in order.
+    ensures ok { IfOk result (λ n. (text : List ℕ) × Consumes (I.remaining (device_of reader.old)) (I.remaining (device_of reader.new)) text
+        × IsAtEnd (I.remaining (device_of reader.new))
+        × IsAnswered (IsAnswer world.now) text n (Appends (W.contents (device_of writer.old)) (W.contents (device_of writer.new)))) }
+
+    // After a fault the answers of the lines before it were written, or a front of them where the writer failed.
+    ensures err { ¬ (IsBadCount workers) → IfErr result (λ fault. (text : List ℕ) × Consumes (I.remaining (device_of reader.old)) (I.remaining (device_of reader.new)) text
+        × Fails (IsAnswer world.now) text
+        (Appends (W.contents (device_of writer.old)) (W.contents (device_of writer.new)))
+        (IsCut (W.contents (device_of writer.old)) (W.contents (device_of writer.new)))
+        (I.remaining (device_of reader.new))
+        fault) }
+
+    // The writer's fault comes exactly where the writer counted one.
+    ensures written { faults_of writer.new ≡ faults_at result ServeFault.WriteFault (faults_of writer.old) }
+
+    // The reader's fault comes only where the reader counted one, and it counts no other.
+    ensures read { OnOk result (faults_of reader.new ≡ faults_of reader.old) }
+    ensures read_fault { ¬ (IsBadCount workers) → IfErr result (λ fault. AtFault fault
+        (faults_of reader.new ≡ faults_of reader.old)
+        (faults_of reader.new ≡ counted (faults_of reader.old))
+        (⊤)
+        (faults_of reader.new ≡ faults_of reader.old)) }
+
+    // Past a bound of the reader no input is served to its end.
+    ensures bounded { OnOk result ((calls_of reader.new ≤ bound) × (given_of reader.new < bound)) }
+    ensures grown { (calls_of reader.old ≤ calls_of reader.new) × (given_of reader.old ≤ given_of reader.new) }
+{
+    if workers == 0 || workers > MOST_WORKERS {
+        return Err(ServeFault::BadCount);
+    }
+    let answer = |line: &[u8]| -> Result<String, NoMemory>
+        requires { ¬ (IsBadCount workers) }
+        ensures { IfOk result (λ text. IsAnswer world.entry.now line.now (string_bytes text)) }
+    { answer_line(rt, world, gate, line, workers) };
+    match serve_lines(rt.alloc(), reader, writer, answer) {
+        Ok(count) => Ok(count),
+        Err(fault) => Err(fault),
+    }
+}

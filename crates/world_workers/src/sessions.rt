@@ -1,0 +1,51 @@
+//! The session of a world behind a gate.
+
+ghost use Rattle.std.specs.Prelude.{◌≡◌, ◌<◌, IfOk, OnOk, get_or, length};
+ghost use Rattle.csv_source.specs.Tables.{SourceOf};
+ghost use Rattle.world_answers.specs.Sessions.{loader_over, session_over};
+
+use crate::gate::Gate;
+use crate::gated::Gated;
+use load_memory::NoMemory;
+use load_queue::{Loader, PerKey, QueueFault};
+use load_rounds::Session;
+use std::alloc::Global;
+use world::World;
+
+/// A session of the world that knows nothing and has asked nothing, whose sources stand behind the gate.
+pub fn gated_session<'w, 'g, G: Gate>(
+    alloc: Global,
+    world: &'w World,
+    gate: &'g G,
+) -> Result<Session<Gated<'w, 'g, G>>, NoMemory>
+    ensures opened { IfOk result (λ session. session ≡ session_over world.now) }
+    // Each loader of the bindings is there.
+    ensures each { OnOk result (length world.now.sources ≡ length world.now.bindings.loaders) }
+{
+    let mut loaders = Vec::with_capacity(alloc, world.loaders())?;
+    for (number, line) in world.bindings().loaders().iter().enumerate() {
+        loaders.push(gated_loader(alloc, world, gate, number, line.name.as_str())?)?;
+    }
+    Session::new(alloc, loaders)
+}
+
+// The loader of this number, under its name, whose source stands behind the gate.
+fn gated_loader<'w, 'g, G: Gate>(
+    alloc: Global,
+    world: &'w World,
+    gate: &'g G,
+    number: usize,
+    name: &str,
+) -> Result<Loader<Gated<'w, 'g, G>>, NoMemory>
+    requires { number < length world.now.sources }
+    ensures { (d : SourceOf) → IfOk result (λ l. l ≡ loader_over world.now.limit name.now (get_or world.now.sources number d)) }
+{
+    let source = world.source(number);
+    let mode = source.mode();
+    let gated = Gated::new(source, gate, number);
+    match Loader::new(alloc, name, gated, mode, world.limit()) {
+        Ok(loader) => Ok(loader),
+        Err(QueueFault::NoMemory) => Err(NoMemory),
+        Err(QueueFault::BadLimit) => unreachable!(),
+    }
+}
