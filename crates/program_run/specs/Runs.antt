@@ -28,9 +28,8 @@ IsServed world unread rest old new (stop.World fault) = ⊥
 IsServed world unread rest old new (stop.Table fault) = ⊥
 IsServed world unread rest old new stop.File = ⊥
 
--- the number of workers isn't 1 to 16, and nothing was read or written
-pub record IsMiscounted (workers : ℕ) (unread rest old new : Option (List ℕ)) (end : Stop) : Type 0 where
-  pub bad : IsBadCount workers
+-- the number of workers isn't 1 to 16: that is said, and nothing was read or written
+pub record IsMiscounted (unread rest old new : Option (List ℕ)) (end : Stop) : Type 0 where
   pub told : end ≡ stop.Serve serve.BadCount
   pub unasked : Keeps unread rest
   pub kept : Keeps old new
@@ -38,7 +37,8 @@ pub record IsMiscounted (workers : ℕ) (unread rest old new : Option (List ℕ)
 -- with workers lines are served alike, if there may be so many
 abbrev pub IsServedBy : Option ℕ → WorldOf → Option (List ℕ) → Option (List ℕ) → Option (List ℕ) → Option (List ℕ) → Stop → Type 0
 IsServedBy None world unread rest old new end = IsServed world unread rest old new end
-IsServedBy (Some workers) world unread rest old new end = IsServed world unread rest old new end ⊎ IsMiscounted workers unread rest old new end
+IsServedBy (Some workers) world unread rest old new end = (¬ (IsBadCount workers) → IsServed world unread rest old new end)
+    × (IsBadCount workers → IsMiscounted unread rest old new end)
 
 -- the world of texts and tables that were read
 abbrev pub IsWorldOfSome : Option ℕ → WorldOf → Type 0

@@ -5,7 +5,8 @@ ghost use Rattle.std.specs.Io.KnownBytes.{Appends};
 ghost use Rattle.line_serving.specs.Devices.{device_of};
 ghost use Rattle.line_serving.specs.Lines.{line_feed};
 ghost use Rattle.line_serving.specs.Output.{IsCut};
-ghost use Rattle.program_run.specs.Runs.{IsServed, IsServedBy, IsShown, EndsAsRefused, IsSampleRun, IsFilesRun, IsProgramRun, IsWordless};
+ghost use Rattle.batch_workers.specs.Workers.{IsBadCount};
+ghost use Rattle.program_run.specs.Runs.{IsServed, IsMiscounted, IsServedBy, IsShown, EndsAsRefused, IsSampleRun, IsFilesRun, IsProgramRun, IsWordless};
 
 use command_line::{Stop, Words};
 use line_serving::{Counted, DeviceFault, ServeFault};
@@ -57,6 +58,25 @@ fn serve_world<R: Read, W: Write>(
     }
 }
 
+/// Serves the lines of a reader over a world with so many workers.
+fn serve_counted<R: Threads + Wait + AllocGlobal + Sync, I: Read, W: Write>(
+    rt: &R,
+    workers: usize,
+    world: &World,
+    reader: &mut Counted<I>,
+    writer: &mut Counted<W>,
+) -> Stop
+    ensures served { ¬ (IsBadCount workers) → IsServed world.now (I.remaining (device_of reader.old)) (I.remaining (device_of reader.new))
+        (W.contents (device_of writer.old)) (W.contents (device_of writer.new)) result }
+    ensures miscounted { IsBadCount workers → IsMiscounted (I.remaining (device_of reader.old)) (I.remaining (device_of reader.new))
+        (W.contents (device_of writer.old)) (W.contents (device_of writer.new)) result }
+{
+    match serve_with(rt, world, &NoGate, reader, writer, workers) {
+        Ok(_) => Stop::Served,
+        Err(fault) => Stop::Serve(fault),
+    }
+}
+
 /// Serves the lines of a reader over a world, with workers where their number is given.
 fn serve_words<R: Threads + Wait + AllocGlobal + Sync, I: Read, W: Write>(
     rt: &R,
@@ -68,12 +88,9 @@ fn serve_words<R: Threads + Wait + AllocGlobal + Sync, I: Read, W: Write>(
     ensures { IsServedBy workers world.now (I.remaining (device_of reader.old)) (I.remaining (device_of reader.new))
         (W.contents (device_of writer.old)) (W.contents (device_of writer.new)) result }
 {
-    let Some(workers) = workers else {
-        return serve_world(rt.alloc(), world, reader, writer);
-    };
-    match serve_with(rt, world, &NoGate, reader, writer, workers as usize) {
-        Ok(_) => Stop::Served,
-        Err(fault) => Stop::Serve(fault),
+    match workers {
+        Some(workers) => serve_counted(rt, workers as usize, world, reader, writer),
+        None => serve_world(rt.alloc(), world, reader, writer),
     }
 }
 
