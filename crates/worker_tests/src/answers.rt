@@ -49,6 +49,9 @@ const THREE_NAMES: &str = "{usersByIds(ids:[1,2,3]){name}}";
 
 const TWO_NAMES: &str = "{usersByIds(ids:[1,2]){name}}";
 
+const TWO_FOR_THREE: &str =
+    "{\"errors\":[{\"message\":\"the source answered 2 results for 3 keys\",\"locations\":[{\"line\":1,\"column\":2}],\"path\":[\"usersByIds\",0]},{\"message\":\"the source answered 2 results for 3 keys\",\"locations\":[{\"line\":1,\"column\":2}],\"path\":[\"usersByIds\",1]},{\"message\":\"the source answered 2 results for 3 keys\",\"locations\":[{\"line\":1,\"column\":2}],\"path\":[\"usersByIds\",2]}],\"data\":{\"usersByIds\":[null,null,null]}} 1 rounds";
+
 /// Batches that are run at the same time, and numbers of workers that are refused.
 const SIDE_BY_SIDE: &[Case] = &[
     // The two batches of the one round are run at the same time by two workers, and one after the other by one.
@@ -160,11 +163,19 @@ const BREAKDOWNS: &[Case] = &[
         manner: Manner::Giving(4),
         limit: None,
         workers: TWO,
-        query: TWO_NAMES,
+        query: THREE_NAMES,
         answers: &[
-            "{\"errors\":[{\"message\":\"the source answered 4 results for 2 keys\",\"locations\":[{\"line\":1,\"column\":2}],\"path\":[\"usersByIds\",0]},{\"message\":\"the source answered 4 results for 2 keys\",\"locations\":[{\"line\":1,\"column\":2}],\"path\":[\"usersByIds\",1]}],\"data\":{\"usersByIds\":[null,null]}} 1 rounds",
+            "{\"errors\":[{\"message\":\"the source answered 4 results for 3 keys\",\"locations\":[{\"line\":1,\"column\":2}],\"path\":[\"usersByIds\",0]},{\"message\":\"the source answered 4 results for 3 keys\",\"locations\":[{\"line\":1,\"column\":2}],\"path\":[\"usersByIds\",1]},{\"message\":\"the source answered 4 results for 3 keys\",\"locations\":[{\"line\":1,\"column\":2}],\"path\":[\"usersByIds\",2]}],\"data\":{\"usersByIds\":[null,null,null]}} 1 rounds",
         ],
-        asked: "userById 1: 1 2; 1 calls, 2 known",
+        asked: "userById 1: 1 2 3; 1 calls, 3 known",
+    },
+    Case {
+        manner: Manner::Giving(2),
+        limit: None,
+        workers: TWO,
+        query: THREE_NAMES,
+        answers: &[TWO_FOR_THREE, TWO_FOR_THREE],
+        asked: "userById 1: 1 2 3; userById 2: 1 2 3; 2 calls, 3 known",
     },
     Case {
         manner: Manner::Giving(0),
