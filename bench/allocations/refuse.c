@@ -55,10 +55,11 @@ __attribute__((destructor)) static void end(void) {
     close(to);
 }
 
+// Threads may allocate at the same time: which of them gets a number is left to chance, and each number is given once.
 static int is_refused(void) {
     if (!is_ready) return 0;
-    calls++;
-    if (!refused_at || calls < refused_at || (calls > refused_at && !is_all)) return 0;
+    unsigned long number = __atomic_add_fetch(&calls, 1, __ATOMIC_SEQ_CST);
+    if (!refused_at || number < refused_at || (number > refused_at && !is_all)) return 0;
     errno = ENOMEM;
     return 1;
 }

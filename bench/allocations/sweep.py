@@ -9,6 +9,8 @@ import subprocess
 import sys
 import tempfile
 
+SECONDS = 60  # for one run
+
 program, input_file, words = os.path.abspath(sys.argv[1]), sys.argv[2], sys.argv[3:]
 here = os.path.dirname(os.path.abspath(__file__))
 room = tempfile.mkdtemp()
@@ -22,7 +24,10 @@ def run(number, is_all=False):
     if is_all:
         settings["REFUSE_ALL"] = "1"
     with open(input_file, "rb") as given:
-        ran = subprocess.run([program, *words], stdin=given, capture_output=True, env=settings, timeout=60)
+        try:
+            ran = subprocess.run([program, *words], stdin=given, capture_output=True, env=settings, timeout=SECONDS)
+        except subprocess.TimeoutExpired as late:
+            return None, late.stdout or b"", "doesn't end", 0
     with open(told) as count:
         return ran.returncode, ran.stdout, ran.stderr.decode(), int(count.read())
 
@@ -38,7 +43,7 @@ for is_all in (False, True):
         status, written, said, _ = run(number, is_all)
         if (status, written) == (plain_status, plain):
             seen["ends the same"] += 1
-        elif status > 0 and written in beginnings and len(said.splitlines()) == 1:
+        elif status and status > 0 and written in beginnings and len(said.splitlines()) == 1:
             seen[f"status {status}: {said.strip()}"] += 1
         else:
             is_odd = True

@@ -2,12 +2,18 @@
 
 use crate::directory::Directory;
 use crate::server::Server;
+use batch_workers::answer_with;
 use load_memory::{Item, Key, Row};
 use load_rounds::Session;
-use std::alloc::Global;
+use std::alloc::{AllocGlobal, Global};
+use std::sync::Wait;
+use std::thread::Threads;
 
 /// The number of the one loader.
 const PERSON_BY_ID: usize = 0;
+
+/// How many threads ask the directory at the same time. The one that answers the client is among them.
+const WORKERS: usize = 4;
 
 fn key_of(alloc: Global, id: &str) -> anyhow::Result<Key> {
     Ok(Key::Text(String::from_str(alloc, id)?))
@@ -49,12 +55,13 @@ fn log(alloc: Global, session: &Session<Directory>) -> anyhow::Result<String> {
 }
 
 // The answer of a query, and its rounds. A query without a plan is refused by the first fault that it has.
-fn answer(
-    alloc: Global,
+fn answer<R: Threads + Wait + AllocGlobal + Sync>(
+    rt: &R,
     server: &Server,
     session: &mut Session<Directory>,
     query: &str,
 ) -> anyhow::Result<String> {
+    let alloc = rt.alloc();
     let plan = match server.plan(alloc, query) {
         Ok(plan) => plan,
         Err(fault) => return Ok(format!(in alloc; "refused: {fault}")?),
@@ -62,17 +69,18 @@ fn answer(
     if session.loaders().len() < plan.loaders() {
         return Ok(String::from_str(alloc, "refused: too few loaders")?);
     }
-    let answer = session.answer(&plan)?;
+    let answer = answer_with(rt, session, &plan, WORKERS)?;
     Ok(format!(in alloc; "{} rounds: {}", answer.rounds, answer.text)?)
 }
 
 /// What a client reads for its line.
-pub fn reply(
-    alloc: Global,
+pub fn reply<R: Threads + Wait + AllocGlobal + Sync>(
+    rt: &R,
     server: &Server,
     session: &mut Session<Directory>,
     line: &str,
 ) -> anyhow::Result<String> {
+    let alloc = rt.alloc();
     if line == "log" {
         return log(alloc, session);
     }
@@ -84,6 +92,6 @@ pub fn reply(
         .and_then(|rest| rest.split_once(' '))
     {
         Some((id, name)) => prime(alloc, session, id, name),
-        None => answer(alloc, server, session, line),
+        None => answer(rt, server, session, line),
     }
 }

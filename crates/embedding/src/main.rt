@@ -17,7 +17,7 @@ fn main(rt: HostRuntime) -> anyhow::Result<()> {
     let mut session = server.session(alloc)?;
     for line in rt.lines(alloc) {
         let line = line?;
-        let text = reply(alloc, &server, &mut session, line.as_str())?;
+        let text = reply(&rt, &server, &mut session, line.as_str())?;
         println!(rt; "{text}")?;
     }
     Ok(())

@@ -22,8 +22,8 @@ field Query.person one personById arg id
 field Query.people each personById arg ids
 field Person.manager one personById column manager";
 
-/// At most how many ids the directory takes in one call.
-const MOST_IDS: u32 = 100;
+/// At most how many ids the directory takes in one call. A longer list makes several calls, which workers make at the same time.
+const MOST_IDS: u32 = 2;
 
 /// The types, and how their fields are answered. Clients share them.
 #[derive(Drop)]

@@ -1,8 +1,11 @@
-//! Tests of `world_workers`, of what no clause says: that lines are answered with workers over the sample world, and that
-//! workers run the batches of a round at the same time. They need threads, and so are no lines of a file; and they stand apart
-//! from that crate so that the gate proves it once.
+//! Tests over the sample world, of what no clause says: that lines are answered with workers, that these run the batches of a
+//! round at the same time, and that with any number of them the text, the rounds, the logs and the memory are those of an answer
+//! in turn. They need threads, and so are no lines of a file; and they stand apart from `batch_workers` and `world_workers` so
+//! that the gate proves those once.
 #![tactic(auto)]
 
+#[cfg(test)]
+mod alike;
 #[cfg(test)]
 mod gates;
 #[cfg(test)]

@@ -1,4 +1,4 @@
-//! Answers with workers: their texts, their rounds and what was asked.
+//! Answers with workers: their texts, their rounds, what was asked and what is known then.
 
 use crate::expect;
 use crate::probe::{Board, Manner, Probe};
@@ -14,119 +14,197 @@ use std::sync::Wait;
 use std::test::Fail;
 use std::thread::Threads;
 
-/// The first of these users and one who isn't there were loaded before.
-const MISSING: &str = "{usersByIds(ids:[1,9,2]){name}}";
-
-const ASKED_ONCE: &str =
-    "{\"data\":{\"usersByIds\":[{\"name\":\"Ada\"},null,{\"name\":\"Bob\"}]}} 1 rounds: userById 1: 1 9;userById 2: 2; 2 calls";
-
-/// A query over sources of this manner, and what is told of its answer with so many workers.
+/// A query over sources of this manner, at most so many keys in a batch. What is told of its answers by a new session is the
+/// same with each of these numbers of workers.
 struct Case {
     manner: Manner,
     limit: Option<u32>,
-    workers: usize,
+    workers: &'static [usize],
     query: &'static str,
-    told: &'static str,
+    /// The text and the rounds of each answer, or the fault: the session answers the query so often.
+    answers: &'static [&'static str],
+    /// The batches in order of the loaders, each with its round, and with a mark if it isn't stored; how often sources were
+    /// asked, and how many keys are known.
+    asked: &'static str,
 }
+
+/// Every number of workers that the cases try, but for those of which something is told.
+const ANY: &[usize] = &[1, 2, 4, 16];
+
+const TWO: &[usize] = &[2];
 
 const BOTH: &str = "{user(id:1){name} users{id}}";
 
 const AUTHORS: &str = "{users{posts{author{name}}}}";
 
+const AUTHORS_TOLD: &str =
+    "{\"data\":{\"users\":[{\"posts\":[{\"author\":{\"name\":\"Ada\"}},{\"author\":{\"name\":\"Ada\"}}]},{\"posts\":[{\"author\":{\"name\":\"Bob\"}}]},{\"posts\":[]},{\"posts\":[]}]}} 3 rounds";
+
 const FOUR: &str = "{usersByIds(ids:[1,2,3,4]){id}}";
 
-const FOUR_USERS: &str =
-    "{\"data\":{\"usersByIds\":[{\"id\":\"1\"},{\"id\":\"2\"},{\"id\":\"3\"},{\"id\":\"4\"}]}} 1 rounds: userById 1: 1;userById 1: 2;userById 1: 3;userById 1: 4; 4 calls";
+const FOUR_TOLD: &str =
+    "{\"data\":{\"usersByIds\":[{\"id\":\"1\"},{\"id\":\"2\"},{\"id\":\"3\"},{\"id\":\"4\"}]}} 1 rounds";
 
-const THREE_ROUNDS: &str =
-    "{\"data\":{\"users\":[{\"posts\":[{\"author\":{\"name\":\"Ada\"}},{\"author\":{\"name\":\"Ada\"}}]},{\"posts\":[{\"author\":{\"name\":\"Bob\"}}]},{\"posts\":[]},{\"posts\":[]}]}} 3 rounds: userById 3: 1 2;allUsers 1: all;postsByAuthor 2: 1 2 3 4; 3 calls";
+const THREE_NAMES: &str = "{usersByIds(ids:[1,2,3]){name}}";
 
-const IN_THREES: &str =
-    "{\"data\":{\"users\":[{\"posts\":[{\"author\":{\"name\":\"Ada\"}},{\"author\":{\"name\":\"Ada\"}}]},{\"posts\":[{\"author\":{\"name\":\"Bob\"}}]},{\"posts\":[]},{\"posts\":[]}]}} 3 rounds: userById 3: 1 2;allUsers 1: all;postsByAuthor 2: 1 2 3;postsByAuthor 2: 4; 4 calls";
+const TWO_NAMES: &str = "{usersByIds(ids:[1,2]){name}}";
 
-const REFUSED: &str = "bad number of workers 0 calls";
+const TWO_FOR_THREE: &str =
+    "{\"errors\":[{\"message\":\"the source answered 2 results for 3 keys\",\"locations\":[{\"line\":1,\"column\":2}],\"path\":[\"usersByIds\",0]},{\"message\":\"the source answered 2 results for 3 keys\",\"locations\":[{\"line\":1,\"column\":2}],\"path\":[\"usersByIds\",1]},{\"message\":\"the source answered 2 results for 3 keys\",\"locations\":[{\"line\":1,\"column\":2}],\"path\":[\"usersByIds\",2]}],\"data\":{\"usersByIds\":[null,null,null]}} 1 rounds";
 
-const CASES: &[Case] = &[
+/// Batches that are run at the same time, and numbers of workers that are refused.
+const SIDE_BY_SIDE: &[Case] = &[
     // The two batches of the one round are run at the same time by two workers, and one after the other by one.
     Case {
         manner: Manner::Meeting,
         limit: None,
-        workers: 2,
+        workers: TWO,
         query: BOTH,
-        told: "{\"data\":{\"user\":{\"name\":\"Ada\"},\"users\":[{\"id\":\"1\"},{\"id\":\"2\"},{\"id\":\"3\"},{\"id\":\"4\"}]}} 1 rounds: userById 1: 1;allUsers 1: all; 2 calls",
+        answers: &[
+            "{\"data\":{\"user\":{\"name\":\"Ada\"},\"users\":[{\"id\":\"1\"},{\"id\":\"2\"},{\"id\":\"3\"},{\"id\":\"4\"}]}} 1 rounds",
+        ],
+        asked: "userById 1: 1; allUsers 1: all; 2 calls, 2 known",
     },
     Case {
         manner: Manner::Meeting,
         limit: None,
-        workers: 1,
+        workers: &[1],
         query: BOTH,
-        told: "{\"errors\":[{\"message\":\"not met\",\"locations\":[{\"line\":1,\"column\":2}],\"path\":[\"user\"]},{\"message\":\"not met\",\"locations\":[{\"line\":1,\"column\":19}],\"path\":[\"users\"]}],\"data\":null} 1 rounds: userById 1: 1;allUsers 1: all; 2 calls",
+        answers: &[
+            "{\"errors\":[{\"message\":\"not met\",\"locations\":[{\"line\":1,\"column\":2}],\"path\":[\"user\"]},{\"message\":\"not met\",\"locations\":[{\"line\":1,\"column\":19}],\"path\":[\"users\"]}],\"data\":null} 1 rounds",
+        ],
+        asked: "userById 1: 1; allUsers 1: all; 2 calls, 2 known",
+    },
+    // The batch of the first user waits for the three others: another worker takes these one after another.
+    Case {
+        manner: Manner::Last,
+        limit: Some(1),
+        workers: &[2, 3, 4, 16],
+        query: FOUR,
+        answers: &[FOUR_TOLD],
+        asked: "userById 1: 1; userById 1: 2; userById 1: 3; userById 1: 4; 4 calls, 4 known",
     },
     // However many workers there are, the text, the rounds and what is asked are the same.
     Case {
         manner: Manner::Prompt,
         limit: None,
-        workers: 1,
+        workers: ANY,
         query: AUTHORS,
-        told: THREE_ROUNDS,
-    },
-    Case {
-        manner: Manner::Prompt,
-        limit: None,
-        workers: 2,
-        query: AUTHORS,
-        told: THREE_ROUNDS,
-    },
-    Case {
-        manner: Manner::Prompt,
-        limit: None,
-        workers: 16,
-        query: AUTHORS,
-        told: THREE_ROUNDS,
+        answers: &[AUTHORS_TOLD],
+        asked: "userById 3: 1 2; allUsers 1: all; postsByAuthor 2: 1 2 3 4; 3 calls, 7 known",
     },
     Case {
         manner: Manner::Prompt,
         limit: Some(3),
-        workers: 1,
+        workers: ANY,
         query: AUTHORS,
-        told: IN_THREES,
-    },
-    Case {
-        manner: Manner::Prompt,
-        limit: Some(3),
-        workers: 2,
-        query: AUTHORS,
-        told: IN_THREES,
-    },
-    Case {
-        manner: Manner::Prompt,
-        limit: Some(3),
-        workers: 16,
-        query: AUTHORS,
-        told: IN_THREES,
+        answers: &[AUTHORS_TOLD],
+        asked: "userById 3: 1 2; allUsers 1: all; postsByAuthor 2: 1 2 3; postsByAuthor 2: 4; 4 calls, 7 known",
     },
     // Other numbers of workers are refused, and nothing is asked.
     Case {
         manner: Manner::Prompt,
         limit: None,
-        workers: 0,
+        workers: &[0, 17],
         query: AUTHORS,
-        told: REFUSED,
+        answers: &["bad number of workers"],
+        asked: "0 calls, 0 known",
+    },
+];
+
+/// Sources at which something goes wrong.
+const BREAKDOWNS: &[Case] = &[
+    // One batch of two fails, and is asked again by the next answer.
+    Case {
+        manner: Manner::FailingOnce,
+        limit: Some(2),
+        workers: ANY,
+        query: THREE_NAMES,
+        answers: &[
+            "{\"errors\":[{\"message\":\"down\",\"locations\":[{\"line\":1,\"column\":2}],\"path\":[\"usersByIds\",0]},{\"message\":\"down\",\"locations\":[{\"line\":1,\"column\":2}],\"path\":[\"usersByIds\",1]}],\"data\":{\"usersByIds\":[null,null,{\"name\":\"Cy\"}]}} 1 rounds",
+            "{\"data\":{\"usersByIds\":[{\"name\":\"Ada\"},{\"name\":\"Bob\"},{\"name\":\"Cy\"}]}} 1 rounds",
+        ],
+        asked: "userById 1: 1 2; userById 1: 3; userById 2: 1 2; 3 calls, 3 known",
     },
     Case {
-        manner: Manner::Prompt,
-        limit: None,
-        workers: 17,
-        query: AUTHORS,
-        told: REFUSED,
-    },
-    // The batch of the first user waits for the three others: the second worker takes these one after another.
-    Case {
-        manner: Manner::Last,
+        manner: Manner::Failing,
         limit: Some(1),
-        workers: 2,
+        workers: ANY,
+        query: TWO_NAMES,
+        answers: &[
+            "{\"errors\":[{\"message\":\"down\",\"locations\":[{\"line\":1,\"column\":2}],\"path\":[\"usersByIds\",0]},{\"message\":\"down\",\"locations\":[{\"line\":1,\"column\":2}],\"path\":[\"usersByIds\",1]}],\"data\":{\"usersByIds\":[null,null]}} 1 rounds",
+        ],
+        asked: "userById 1: 1; userById 1: 2; 2 calls, 2 known",
+    },
+    // The fault of a key stays known.
+    Case {
+        manner: Manner::Faulty,
+        limit: Some(1),
+        workers: ANY,
+        query: TWO_NAMES,
+        answers: &[
+            "{\"errors\":[{\"message\":\"no\",\"locations\":[{\"line\":1,\"column\":2}],\"path\":[\"usersByIds\",1]}],\"data\":{\"usersByIds\":[{\"name\":\"Ada\"},null]}} 1 rounds",
+            "{\"errors\":[{\"message\":\"no\",\"locations\":[{\"line\":1,\"column\":2}],\"path\":[\"usersByIds\",1]}],\"data\":{\"usersByIds\":[{\"name\":\"Ada\"},null]}} 0 rounds",
+        ],
+        asked: "userById 1: 1; userById 1: 2; 2 calls, 2 known",
+    },
+    // Another number of items than keys is a fault of the whole batch.
+    Case {
+        manner: Manner::Giving(1),
+        limit: Some(2),
+        workers: ANY,
+        query: THREE_NAMES,
+        answers: &[
+            "{\"errors\":[{\"message\":\"the source answered 1 results for 2 keys\",\"locations\":[{\"line\":1,\"column\":2}],\"path\":[\"usersByIds\",0]},{\"message\":\"the source answered 1 results for 2 keys\",\"locations\":[{\"line\":1,\"column\":2}],\"path\":[\"usersByIds\",1]}],\"data\":{\"usersByIds\":[null,null,{\"name\":\"Cy\"}]}} 1 rounds",
+        ],
+        asked: "userById 1: 1 2; userById 1: 3; 2 calls, 3 known",
+    },
+    Case {
+        manner: Manner::Giving(4),
+        limit: None,
+        workers: TWO,
+        query: THREE_NAMES,
+        answers: &[
+            "{\"errors\":[{\"message\":\"the source answered 4 results for 3 keys\",\"locations\":[{\"line\":1,\"column\":2}],\"path\":[\"usersByIds\",0]},{\"message\":\"the source answered 4 results for 3 keys\",\"locations\":[{\"line\":1,\"column\":2}],\"path\":[\"usersByIds\",1]},{\"message\":\"the source answered 4 results for 3 keys\",\"locations\":[{\"line\":1,\"column\":2}],\"path\":[\"usersByIds\",2]}],\"data\":{\"usersByIds\":[null,null,null]}} 1 rounds",
+        ],
+        asked: "userById 1: 1 2 3; 1 calls, 3 known",
+    },
+    Case {
+        manner: Manner::Giving(2),
+        limit: None,
+        workers: TWO,
+        query: THREE_NAMES,
+        answers: &[TWO_FOR_THREE, TWO_FOR_THREE],
+        asked: "userById 1: 1 2 3; userById 2: 1 2 3; 2 calls, 3 known",
+    },
+    Case {
+        manner: Manner::Giving(0),
+        limit: None,
+        workers: TWO,
+        query: "{user(id:1){name}}",
+        answers: &[
+            "{\"errors\":[{\"message\":\"the source answered 0 results for 1 keys\",\"locations\":[{\"line\":1,\"column\":2}],\"path\":[\"user\"]}],\"data\":{\"user\":null}} 1 rounds",
+        ],
+        asked: "userById 1: 1; 1 calls, 1 known",
+    },
+    // Memory is wanting in one batch of four: the worker that met it takes none more, the other one runs the rest to its end, and
+    // the round is lost. The same session, asked again, asks all four again.
+    Case {
+        manner: Manner::LackingOnce,
+        limit: Some(1),
+        workers: TWO,
         query: FOUR,
-        told: FOUR_USERS,
+        answers: &["out of memory", FOUR_TOLD],
+        asked: "userById 1: 1?; userById 1: 2?; userById 1: 3?; userById 1: 4?; userById 2: 1; userById 2: 2; userById 2: 3; userById 2: 4; 8 calls, 4 known",
+    },
+    // With one worker nothing is asked after that.
+    Case {
+        manner: Manner::LackingOnce,
+        limit: Some(1),
+        workers: &[1],
+        query: FOUR,
+        answers: &["out of memory", FOUR_TOLD],
+        asked: "userById 1: 1?; userById 1: 2?; userById 1: 3?; userById 1: 4?; userById 2: 1; userById 2: 2; userById 2: 3; userById 2: 4; 5 calls, 4 known",
     },
 ];
 
@@ -143,95 +221,118 @@ fn answer<R: Threads + Wait + Sync>(
     Ok(answer_with(rt, session, plan, workers))
 }
 
-/// Adds what the loaders were asked, in order of their numbers: of each batch the name of the loader, the round and the keys, and
-/// a mark where it isn't stored.
-fn push_asked(text: &mut String, session: &Session<Probe<'_>>) -> Result<(), AllocError> {
+/// What is told of an answer, and whether a source was still being asked when it was there.
+fn answer_told(
+    alloc: Global,
+    answered: Result<Answer, WorkFault>,
+    board: &Board,
+) -> Result<String, AllocError> {
+    let mut text = String::new(alloc);
+    match answered {
+        Ok(answer) => write!(text, "{} {} rounds", answer.text, answer.rounds)?,
+        Err(fault) => write!(text, "{fault}")?,
+    }
+    text.push_str(if board.is_quiet() {
+        ""
+    } else {
+        ", and a source is still asked"
+    })?;
+    Ok(text)
+}
+
+/// What the loaders were asked, in order of their numbers: of each batch the name of the loader, the round and the keys, and a
+/// mark where it isn't stored. Then how often sources were asked, and how many keys are known.
+fn asked(alloc: Global, session: &Session<Probe<'_>>, board: &Board) -> Result<String, AllocError> {
+    let mut text = String::new(alloc);
     for loader in session.loaders() {
         for batch in loader.log() {
             write!(text, "{} {}:", loader.name(), batch.round)?;
             for key in &batch.keys {
                 text.push(' ')?;
-                push_key(text, key)?;
+                push_key(&mut text, key)?;
             }
-            text.push_str(if batch.stored { ";" } else { "?;" })?;
+            text.push_str(if batch.stored { "; " } else { "?; " })?;
         }
     }
-    Ok(())
-}
-
-/// What is told of an answer of a session and of its calls.
-fn told(
-    alloc: Global,
-    answered: Result<Answer, WorkFault>,
-    session: &Session<Probe<'_>>,
-    board: &Board,
-) -> Result<String, Fail> {
-    let mut text = String::new(alloc);
-    match answered {
-        Ok(answer) => write!(text, "{} {} rounds: ", answer.text, answer.rounds)?,
-        Err(fault) => write!(text, "{fault}")?,
-    }
-    push_asked(&mut text, session)?;
-    write!(text, " {} calls", board.calls())?;
+    write!(
+        text,
+        "{} calls, {} known",
+        board.calls(),
+        session.memory().len()
+    )?;
     Ok(text)
 }
 
-/// What is told of the answer of a new session, and of its calls.
-fn case_told<R: Threads + Wait + AllocGlobal + Sync>(
+/// What is told of the answers of a new session is what is wanted.
+fn expect_case<R: Threads + Wait + AllocGlobal + Abort + Sync>(
     rt: &R,
     schema: &Schema,
     bindings: &Bindings,
     case: &Case,
-) -> Result<String, Fail> {
+    workers: usize,
+) -> Result<(), Fail> {
     let board = Board::new();
     let plan = plan_of(rt.alloc(), schema, bindings, case.query)?;
     let mut session = session(rt.alloc(), &board, case.manner, case.limit)?;
-    let answered = answer(rt, &mut session, &plan, case.workers)?;
-    told(rt.alloc(), answered, &session, &board)
+    for wanted in case.answers {
+        let answered = answer(rt, &mut session, &plan, workers)?;
+        let found = answer_told(rt.alloc(), answered, &board)?;
+        expect(rt, &found, wanted, case.query);
+    }
+    let found = asked(rt.alloc(), &session, &board)?;
+    expect(rt, &found, case.asked, case.query);
+    Ok(())
 }
 
-/// Of each case what is wanted is told.
+/// Of each case what is wanted is told, with each of its numbers of workers.
 fn expect_cases<R: Threads + Wait + AllocGlobal + Abort + Sync>(
     rt: &R,
     cases: &[Case],
 ) -> Result<(), Fail> {
     let (schema, bindings) = read(rt.alloc())?;
     for case in cases {
-        let found = case_told(rt, &schema, &bindings, case)?;
-        expect(rt, &found, case.told, case.query);
+        for workers in case.workers {
+            expect_case(rt, &schema, &bindings, case, *workers)?;
+        }
     }
     Ok(())
+}
+
+#[test]
+fn batches_are_run_at_the_same_time(rt: HostRuntime) -> Result<(), Fail> {
+    expect_cases(&rt, SIDE_BY_SIDE)
+}
+
+#[test]
+fn broken_sources_are_told_as_in_turn(rt: HostRuntime) -> Result<(), Fail> {
+    expect_cases(&rt, BREAKDOWNS)
 }
 
 fn text_key(alloc: Global, key: &str) -> Result<Key, AllocError> {
     Ok(Key::Text(String::from_str(alloc, key)?))
 }
 
-/// What is told of an answer by two workers after two users were loaded.
-fn told_after<R: Threads + Wait + AllocGlobal + Sync>(
-    rt: &R,
-    first: &str,
-    second: &str,
-    query: &str,
-) -> Result<String, Fail> {
+/// The first of these users and one who isn't there were loaded before.
+const MISSING: &str = "{usersByIds(ids:[1,9,2]){name}}";
+
+const MISSING_TOLD: &str =
+    "{\"data\":{\"usersByIds\":[{\"name\":\"Ada\"},null,{\"name\":\"Bob\"}]}} 1 rounds";
+
+const ASKED_ONCE: &str = "userById 1: 1 9; userById 2: 2; 2 calls, 3 known";
+
+/// After two users were loaded two workers ask the third alone.
+#[test]
+fn workers_ask_what_is_missing(rt: HostRuntime) -> Result<(), Fail> {
     let (schema, bindings) = read(rt.alloc())?;
     let board = Board::new();
     let mut session = session(rt.alloc(), &board, Manner::Prompt, None)?;
-    let keys = [text_key(rt.alloc(), first)?, text_key(rt.alloc(), second)?];
+    let keys = [text_key(rt.alloc(), "1")?, text_key(rt.alloc(), "9")?];
     let _known = session.load_many(0, &keys)?;
-    let plan = plan_of(rt.alloc(), &schema, &bindings, query)?;
-    let answered = answer(rt, &mut session, &plan, 2)?;
-    told(rt.alloc(), answered, &session, &board)
-}
-
-#[test]
-fn answers_with_workers(rt: HostRuntime) -> Result<(), Fail> {
-    expect_cases(&rt, CASES)
-}
-
-#[test]
-fn workers_ask_what_is_missing(rt: HostRuntime) -> Result<(), Fail> {
-    let found = told_after(&rt, "1", "9", MISSING)?;
+    let plan = plan_of(rt.alloc(), &schema, &bindings, MISSING)?;
+    let answered = answer(&rt, &mut session, &plan, 2)?;
+    let found = answer_told(rt.alloc(), answered, &board)?;
+    expect(&rt, &found, MISSING_TOLD, MISSING);
+    let found = asked(rt.alloc(), &session, &board)?;
     expect(&rt, &found, ASKED_ONCE, MISSING);
     Ok(())
 }

@@ -1,4 +1,4 @@
-//! Sources that notice whether others are asked at the same time.
+//! Sources that notice whether others are asked at the same time, and sources at which something goes wrong.
 
 ghost use Rattle.std.specs.Prelude.{⊤};
 
@@ -11,10 +11,13 @@ use std::sync::atomic::{AtomicBool, AtomicU64, Ordering};
 /// How often a source looks for another one before it gives up. A source that is asked at the same time has long been seen then.
 const TURNS: u32 = 100_000_000;
 
+/// For how many turns a batch goes on after another one broke down. A caller that didn't wait for it would long be back.
+const LATER: u32 = 1_000_000;
+
 /// How many batches without the first user a source of [`Manner::Last`] waits for.
 const OTHERS: u64 = 3;
 
-/// What a source does before it answers.
+/// What a source does.
 #[derive(Clone, Copy)]
 pub enum Manner {
     /// It answers at once.
@@ -23,6 +26,16 @@ pub enum Manner {
     Meeting,
     /// It answers the first user where all others were asked before it gave up.
     Last,
+    /// That of the first loader fails.
+    Failing,
+    /// That of the first loader fails at the first batch that has the first user.
+    FailingOnce,
+    /// It has a fault of the second user.
+    Faulty,
+    /// That of the first loader gives so many items, whatever it is asked.
+    Giving(usize),
+    /// At the first batch that has the first user memory is wanting. The batches of others wait for that, and then go on a while.
+    LackingOnce,
 }
 
 /// What the sources of a session tell one another.
@@ -31,7 +44,9 @@ pub struct Board {
     first: AtomicBool,
     second: AtomicBool,
     others: AtomicU64,
+    broken: AtomicU64,
     calls: AtomicU64,
+    ended: AtomicU64,
 }
 
 impl Board {
@@ -40,13 +55,25 @@ impl Board {
             first: AtomicBool::new(false),
             second: AtomicBool::new(false),
             others: AtomicU64::new(0),
+            broken: AtomicU64::new(0),
             calls: AtomicU64::new(0),
+            ended: AtomicU64::new(0),
         }
     }
 
     /// How often a source was asked.
     pub fn calls(&self) -> u64 {
         self.calls.load(Ordering::SeqCst)
+    }
+
+    /// Whether no source is being asked.
+    pub fn is_quiet(&self) -> bool {
+        self.ended.load(Ordering::SeqCst) == self.calls()
+    }
+
+    // Whether nothing has gone wrong before, and something does now.
+    fn breaks_first(&self) -> bool {
+        self.broken.fetch_add(1, Ordering::SeqCst) == 0
     }
 
     // Whether all others are asked soon.
@@ -57,6 +84,18 @@ impl Board {
             }
         }
         false
+    }
+
+    // Waits until something has gone wrong, and a while longer.
+    fn outlasts_breakdown(&self) {
+        for _ in 0..TURNS {
+            if self.broken.load(Ordering::SeqCst) > 0 {
+                break;
+            }
+        }
+        for _ in 0..LATER {
+            let _ = self.calls();
+        }
     }
 }
 
@@ -96,22 +135,88 @@ impl<'b> Probe<'b> {
             _ => true,
         }
     }
+
+    // Whether a batch of the first loader fails.
+    fn fails(&self, keys: &[Key]) -> bool {
+        match self.manner {
+            Manner::Failing => true,
+            Manner::FailingOnce => keys.iter().any(is_first) && self.board.breaks_first(),
+            _ => false,
+        }
+    }
+
+    // Whether memory is wanting for a batch of the first loader.
+    fn lacks_memory(&self, keys: &[Key]) -> bool {
+        match self.manner {
+            Manner::LackingOnce => {
+                if keys.iter().any(is_first) {
+                    return self.board.breaks_first();
+                }
+                self.board.outlasts_breakdown();
+                false
+            }
+            _ => false,
+        }
+    }
+
+    // What goes wrong with a batch of the first loader.
+    fn break_down(&self, alloc: Global, keys: &[Key]) -> Result<(), FetchFault> {
+        if self.fails(keys) {
+            return Err(FetchFault::Failed(text(alloc, "down")?));
+        }
+        if self.lacks_memory(keys) {
+            return Err(FetchFault::NoMemory);
+        }
+        Ok(())
+    }
+
+    // The item of a key.
+    fn item(&self, alloc: Global, key: &Key, met: bool) -> Result<Item, NoMemory> {
+        if !met {
+            return Ok(Item::KeyFault(text(alloc, "not met")?));
+        }
+        match self.manner {
+            Manner::Faulty if is_second(key) => Ok(Item::KeyFault(text(alloc, "no")?)),
+            _ => Ok(Item::Rows(rows_of(alloc, self.loader, key)?)),
+        }
+    }
+
+    // An item for each key, or as many as its manner says.
+    fn items(&self, alloc: Global, keys: &[Key]) -> Result<Vec<Item>, FetchFault> {
+        if self.loader == 0 {
+            self.break_down(alloc, keys)?;
+        }
+        let met = self.is_met(keys);
+        let mut items = Vec::with_capacity(alloc, keys.len())?;
+        for key in keys {
+            items.push(self.item(alloc, key, met)?)?;
+        }
+        if let (Manner::Giving(count), 0) = (self.manner, self.loader) {
+            resize(alloc, &mut items, count)?;
+        }
+        Ok(items)
+    }
 }
 
 fn is_first(key: &Key) -> bool {
     matches!(key, Key::Text(id) if id.as_str() == "1")
 }
 
-// The item of a key.
-fn item(alloc: Global, loader: usize, key: &Key, met: bool) -> Result<Item, NoMemory> {
-    if met {
-        return Ok(Item::Rows(rows_of(alloc, loader, key)?));
-    }
-    Ok(Item::KeyFault(not_met(alloc)?))
+fn is_second(key: &Key) -> bool {
+    matches!(key, Key::Text(id) if id.as_str() == "2")
 }
 
-fn not_met(alloc: Global) -> Result<String, AllocError> {
-    String::from_str(alloc, "not met")
+fn text(alloc: Global, words: &str) -> Result<String, AllocError> {
+    String::from_str(alloc, words)
+}
+
+// So many items: the first of those that there are, and then items without rows.
+fn resize(alloc: Global, items: &mut Vec<Item>, count: usize) -> Result<(), AllocError> {
+    items.truncate(count);
+    for _ in items.len()..count {
+        items.push(Item::Rows(Vec::new(alloc)))?;
+    }
+    Ok(())
 }
 
 impl<'b> Source for Probe<'b> {
@@ -119,11 +224,8 @@ impl<'b> Source for Probe<'b> {
 
     fn fetch(&self, alloc: Global, keys: &[Key]) -> Result<Vec<Item>, FetchFault> {
         self.board.calls.fetch_add(1, Ordering::SeqCst);
-        let met = self.is_met(keys);
-        let mut items = Vec::with_capacity(alloc, keys.len())?;
-        for key in keys {
-            items.push(item(alloc, self.loader, key, met)?)?;
-        }
-        Ok(items)
+        let items = self.items(alloc, keys);
+        self.board.ended.fetch_add(1, Ordering::SeqCst);
+        items
     }
 }

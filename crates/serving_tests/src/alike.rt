@@ -1,0 +1,180 @@
+//! Answers with workers beside answers in turn, over the sample world.
+
+ghost use Rattle.std.specs.Prelude.{◌≡◌};
+
+use crate::expect;
+use crate::sample::world;
+use batch_workers::answer_with;
+use csv_source::CsvSource;
+use gq_check::Plan;
+use load_memory::{Cell, Key, Outcome, Row, cache_key};
+use load_queue::{Loader, PerKey};
+use load_rounds::{Answer, Session};
+use std::alloc::{AllocError, AllocGlobal, Global};
+use std::process::Abort;
+use std::sync::Wait;
+use std::test::Fail;
+use std::thread::Threads;
+use world::World;
+use world_answers::{LinePlan, plan_line};
+
+/// Request lines that have plans.
+const LINES: &[&str] = &[
+    "{\"query\":\"{user(id:1){name}}\"}",
+    "{\"query\":\"{a:user(id:1){best{name}} b:user(id:2){name}}\"}",
+    "{\"query\":\"{users{posts{author{name}}}}\"}",
+    "{\"query\":\"{usersByIds(ids:[3,3,9,1]){name}}\"}",
+    "{\"query\":\"{user(id:3){best{name}}}\"}",
+    "{\"query\":\"{user(id:4){name}}\"}",
+    "{\"query\":\"{users{name}}\"}",
+    "{\"query\":\"query($i:ID=\\\"1\\\"){user(id:$i){name}}\",\"variables\":{\"i\":null}}",
+    "{\"query\":\"query($i:ID=\\\"1\\\"){user(id:$i){name}}\"}",
+    "{\"query\":\"{named(id:2){__typename ...on User{id} ...on Bot{model} name@skip(if:true)@include(if:true)}}\"}",
+    "{\"query\":\"{named(id:3){name}}\"}",
+    "{\"query\":\"{user(id:1){name@skip(if:true)}}\"}",
+    "{\"query\":\"{user(id:1){liked{title}}}\"}",
+    "{\"query\":\"{user(id:3){liked{title}}}\"}",
+    "{\"query\":\"{usersByIds(ids:[1,3]){best{best{name}}}}\"}",
+    "{\"query\":\"{user(id:1){name} users{id best{id} posts{title} liked{title author{name}}} named(id:1){name}}\"}",
+    "{\"query\":\"query A{users{id}} query B{users{id}}\",\"operationName\":\"B\"}",
+];
+
+/// The columns of the sample world's tables.
+const COLUMNS: [&str; 9] = [
+    "id",
+    "name",
+    "best",
+    "author",
+    "title",
+    "user",
+    "post",
+    "model",
+    "__typename",
+];
+
+fn push_row(text: &mut String, row: &Row) -> Result<(), AllocError> {
+    for column in COLUMNS {
+        match row.get(column) {
+            Cell::NoColumn => {}
+            Cell::Null => write!(text, "{column} is null,")?,
+            Cell::Text(cell) => write!(text, "{column} is {cell},")?,
+        }
+    }
+    Ok(())
+}
+
+fn push_outcome(text: &mut String, outcome: &Outcome) -> Result<(), AllocError> {
+    match outcome {
+        Outcome::KeyFault(fault) => write!(text, "key fault {fault}"),
+        Outcome::BatchFault(fault) => write!(text, "batch fault {fault}"),
+        Outcome::Rows(rows) => {
+            for row in rows {
+                push_row(text, row)?;
+                text.push('|')?;
+            }
+            Ok(())
+        }
+    }
+}
+
+/// Adds a key of a loader, and what is known of it.
+fn push_known(
+    text: &mut String,
+    session: &Session<CsvSource<'_>>,
+    number: usize,
+    key: &Key,
+) -> Result<(), Fail> {
+    let memory = session.memory();
+    if number >= memory.modes().len() {
+        return Err(Fail::from("no such loader"));
+    }
+    match key {
+        Key::All => write!(text, " all: ")?,
+        Key::Text(key) => write!(text, " {key}: ")?,
+    }
+    let cached = cache_key(*text.allocator(), key, memory.mode(number))?;
+    match memory.get(number, &cached) {
+        Some(outcome) => push_outcome(text, outcome)?,
+        None => text.push_str("unknown")?,
+    }
+    Ok(())
+}
+
+/// What is told of an answer: its text and rounds, the batches of the logs with what is known of their keys, and how many keys are
+/// known.
+fn told(alloc: Global, answer: &Answer, session: &Session<CsvSource<'_>>) -> Result<String, Fail> {
+    let mut text = format!(in alloc; "{} {} rounds;", answer.text, answer.rounds)?;
+    for (number, loader) in session.loaders().iter().enumerate() {
+        for batch in loader.log() {
+            let mark = if batch.stored { "" } else { " lost" };
+            write!(text, " {number} in round {}{mark}:", batch.round)?;
+            for key in &batch.keys {
+                push_known(&mut text, session, number, key)?;
+            }
+        }
+    }
+    write!(text, " {} known", session.memory().len())?;
+    Ok(text)
+}
+
+/// A new session over the sample world, with at most so many keys in a batch.
+fn session<'w>(
+    alloc: Global,
+    world: &'w World,
+    limit: Option<u32>,
+) -> Result<Session<CsvSource<'w>>, Fail> {
+    let mut loaders = Vec::new(alloc);
+    for number in 0..world.loaders() {
+        let source = world.source(number);
+        let mode = source.mode();
+        loaders.push(Loader::new(alloc, "loader", source, mode, limit)?)?;
+    }
+    Ok(Session::new(alloc, loaders)?)
+}
+
+/// What is told of the answer of a new session with so many workers, or in turn.
+fn answer_told<R: Threads + Wait + AllocGlobal + Sync>(
+    rt: &R,
+    world: &World,
+    plan: &Plan<'_>,
+    limit: Option<u32>,
+    workers: Option<usize>,
+) -> Result<String, Fail> {
+    let mut session = session(rt.alloc(), world, limit)?;
+    if session.loaders().len() < plan.loaders() {
+        return Err(Fail::from("too few loaders"));
+    }
+    let answer = match workers {
+        Some(workers) => answer_with(rt, &mut session, plan, workers)?,
+        None => session.answer(plan)?,
+    };
+    told(rt.alloc(), &answer, &session)
+}
+
+/// What is told of the answer of a line with any number of workers is what is told of it in turn.
+fn expect_alike<R: Threads + Wait + AllocGlobal + Abort + Sync>(
+    rt: &R,
+    world: &World,
+    line: &str,
+) -> Result<(), Fail> {
+    let LinePlan::Planned(plan) = plan_line(rt.alloc(), world, line.as_bytes())? else {
+        return Err(Fail::from("no plan"));
+    };
+    for limit in [None, Some(1), Some(2)] {
+        let in_turn = answer_told(rt, world, &plan, limit, None)?;
+        for workers in [1, 2, 4, 16] {
+            let found = answer_told(rt, world, &plan, limit, Some(workers))?;
+            expect(rt, &found, &in_turn, line);
+        }
+    }
+    Ok(())
+}
+
+#[test]
+fn workers_change_nothing(rt: HostRuntime) -> Result<(), Fail> {
+    let world = world(rt.alloc())?;
+    for line in LINES {
+        expect_alike(&rt, &world, line)?;
+    }
+    Ok(())
+}
