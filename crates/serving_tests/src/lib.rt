@@ -1,8 +1,10 @@
-//! Tests of `world_workers`, of what no clause says: that lines are answered with workers over the sample world, and that
-//! workers run the batches of a round at the same time. They need threads, and so are no lines of a file; and they stand apart
+//! Tests of `world_workers`, of what no clause says: that lines are answered with workers over the sample world, also from
+//! and to devices that fail, and that workers run the batches of a round at the same time. They need threads, and so are no lines of a file; and they stand apart
 //! from that crate so that the gate proves it once.
 #![tactic(auto)]
 
+#[cfg(test)]
+mod devices;
 #[cfg(test)]
 mod gates;
 #[cfg(test)]

@@ -35,6 +35,12 @@ const AUTHORS: &str = "{users{posts{author{name}}}}";
 
 const FOUR: &str = "{usersByIds(ids:[1,2,3,4]){id}}";
 
+const ONE: &str = "{user(id:1){name}}";
+
+const TWO: &str = "{usersByIds(ids:[1,2]){name}}";
+
+const THREE: &str = "{usersByIds(ids:[1,2,3]){name}}";
+
 const FOUR_USERS: &str =
     "{\"data\":{\"usersByIds\":[{\"id\":\"1\"},{\"id\":\"2\"},{\"id\":\"3\"},{\"id\":\"4\"}]}} 1 rounds: userById 1: 1;userById 1: 2;userById 1: 3;userById 1: 4; 4 calls";
 
@@ -127,6 +133,49 @@ const CASES: &[Case] = &[
         workers: 2,
         query: FOUR,
         told: FOUR_USERS,
+    },
+    // Sources that fail, have a fault of a key, fail for one batch of two, or give too few items or too many.
+    Case {
+        manner: Manner::Down,
+        limit: None,
+        workers: 2,
+        query: TWO,
+        told: "{\"errors\":[{\"message\":\"down\",\"locations\":[{\"line\":1,\"column\":2}],\"path\":[\"usersByIds\",0]},{\"message\":\"down\",\"locations\":[{\"line\":1,\"column\":2}],\"path\":[\"usersByIds\",1]}],\"data\":{\"usersByIds\":[null,null]}} 1 rounds: userById 1: 1 2; 1 calls",
+    },
+    Case {
+        manner: Manner::Doubts,
+        limit: None,
+        workers: 2,
+        query: TWO,
+        told: "{\"errors\":[{\"message\":\"no\",\"locations\":[{\"line\":1,\"column\":2}],\"path\":[\"usersByIds\",1]}],\"data\":{\"usersByIds\":[{\"name\":\"Ada\"},null]}} 1 rounds: userById 1: 1 2; 1 calls",
+    },
+    Case {
+        manner: Manner::DownOnce,
+        limit: Some(2),
+        workers: 2,
+        query: THREE,
+        told: "{\"errors\":[{\"message\":\"down\",\"locations\":[{\"line\":1,\"column\":2}],\"path\":[\"usersByIds\",0]},{\"message\":\"down\",\"locations\":[{\"line\":1,\"column\":2}],\"path\":[\"usersByIds\",1]}],\"data\":{\"usersByIds\":[null,null,{\"name\":\"Cy\"}]}} 1 rounds: userById 1: 1 2;userById 1: 3; 2 calls",
+    },
+    Case {
+        manner: Manner::Gives(2),
+        limit: None,
+        workers: 2,
+        query: THREE,
+        told: "{\"errors\":[{\"message\":\"the source answered 2 results for 3 keys\",\"locations\":[{\"line\":1,\"column\":2}],\"path\":[\"usersByIds\",0]},{\"message\":\"the source answered 2 results for 3 keys\",\"locations\":[{\"line\":1,\"column\":2}],\"path\":[\"usersByIds\",1]},{\"message\":\"the source answered 2 results for 3 keys\",\"locations\":[{\"line\":1,\"column\":2}],\"path\":[\"usersByIds\",2]}],\"data\":{\"usersByIds\":[null,null,null]}} 1 rounds: userById 1: 1 2 3; 1 calls",
+    },
+    Case {
+        manner: Manner::Gives(4),
+        limit: None,
+        workers: 2,
+        query: THREE,
+        told: "{\"errors\":[{\"message\":\"the source answered 4 results for 3 keys\",\"locations\":[{\"line\":1,\"column\":2}],\"path\":[\"usersByIds\",0]},{\"message\":\"the source answered 4 results for 3 keys\",\"locations\":[{\"line\":1,\"column\":2}],\"path\":[\"usersByIds\",1]},{\"message\":\"the source answered 4 results for 3 keys\",\"locations\":[{\"line\":1,\"column\":2}],\"path\":[\"usersByIds\",2]}],\"data\":{\"usersByIds\":[null,null,null]}} 1 rounds: userById 1: 1 2 3; 1 calls",
+    },
+    Case {
+        manner: Manner::Gives(0),
+        limit: None,
+        workers: 2,
+        query: ONE,
+        told: "{\"errors\":[{\"message\":\"the source answered 0 results for 1 keys\",\"locations\":[{\"line\":1,\"column\":2}],\"path\":[\"user\"]}],\"data\":{\"user\":null}} 1 rounds: userById 1: 1; 1 calls",
     },
 ];
 
@@ -222,6 +271,28 @@ fn told_after<R: Threads + Wait + AllocGlobal + Sync>(
     let plan = plan_of(rt.alloc(), &schema, &bindings, query)?;
     let answered = answer(rt, &mut session, &plan, 2)?;
     told(rt.alloc(), answered, &session, &board)
+}
+
+/// What is told of the second answer of a session by two workers, in which one batch failed the first time.
+fn told_again<R: Threads + Wait + AllocGlobal + Sync>(rt: &R) -> Result<String, Fail> {
+    let (schema, bindings) = read(rt.alloc())?;
+    let board = Board::new();
+    let mut session = session(rt.alloc(), &board, Manner::DownOnce, Some(2))?;
+    let plan = plan_of(rt.alloc(), &schema, &bindings, THREE)?;
+    let _failed = answer(rt, &mut session, &plan, 2)?;
+    let answered = answer(rt, &mut session, &plan, 2)?;
+    told(rt.alloc(), answered, &session, &board)
+}
+
+/// What failed is asked again, and nothing else.
+const ASKED_AGAIN: &str =
+    "{\"data\":{\"usersByIds\":[{\"name\":\"Ada\"},{\"name\":\"Bob\"},{\"name\":\"Cy\"}]}} 1 rounds: userById 1: 1 2;userById 1: 3;userById 2: 1 2; 3 calls";
+
+#[test]
+fn workers_ask_again_what_failed(rt: HostRuntime) -> Result<(), Fail> {
+    let found = told_again(&rt)?;
+    expect(&rt, &found, ASKED_AGAIN, THREE);
+    Ok(())
 }
 
 #[test]

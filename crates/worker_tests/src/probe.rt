@@ -23,6 +23,14 @@ pub enum Manner {
     Meeting,
     /// It answers the first user where all others were asked before it gave up.
     Last,
+    /// That of the first loader fails.
+    Down,
+    /// That of the first loader fails the first time that it is asked the first user.
+    DownOnce,
+    /// That of the first loader has a fault of the second user.
+    Doubts,
+    /// That of the first loader gives so many items, whatever it is asked.
+    Gives(usize),
 }
 
 /// What the sources of a session tell one another.
@@ -32,6 +40,7 @@ pub struct Board {
     second: AtomicBool,
     others: AtomicU64,
     calls: AtomicU64,
+    failures: AtomicU64,
 }
 
 impl Board {
@@ -41,6 +50,7 @@ impl Board {
             second: AtomicBool::new(false),
             others: AtomicU64::new(0),
             calls: AtomicU64::new(0),
+            failures: AtomicU64::new(0),
         }
     }
 
@@ -96,10 +106,54 @@ impl<'b> Probe<'b> {
             _ => true,
         }
     }
+
+    // Whether it fails this time.
+    fn is_down(&self, keys: &[Key]) -> bool {
+        match (self.manner, self.loader) {
+            (Manner::Down, 0) => true,
+            (Manner::DownOnce, 0) => {
+                keys.iter().any(is_first) && self.board.failures.fetch_add(1, Ordering::SeqCst) == 0
+            }
+            _ => false,
+        }
+    }
+
+    // Spoils the items of some keys, where it is to.
+    fn spoil(&self, alloc: Global, keys: &[Key], items: &mut Vec<Item>) -> Result<(), AllocError> {
+        match (self.manner, self.loader) {
+            (Manner::Gives(count), 0) => resize(alloc, items, count),
+            (Manner::Doubts, 0) => {
+                if let Some(place) = keys.iter().position(is_second)
+                    && place < items.len()
+                {
+                    items[place] = Item::KeyFault(String::from_str(alloc, "no")?);
+                }
+                Ok(())
+            }
+            _ => Ok(()),
+        }
+    }
 }
 
 fn is_first(key: &Key) -> bool {
     matches!(key, Key::Text(id) if id.as_str() == "1")
+}
+
+fn is_second(key: &Key) -> bool {
+    matches!(key, Key::Text(id) if id.as_str() == "2")
+}
+
+fn down(alloc: Global) -> Result<FetchFault, AllocError> {
+    Ok(FetchFault::Failed(String::from_str(alloc, "down")?))
+}
+
+/// So many items: the first of those that there are, and then items without rows.
+fn resize(alloc: Global, items: &mut Vec<Item>, count: usize) -> Result<(), AllocError> {
+    items.truncate(count);
+    for _ in items.len()..count {
+        items.push(Item::Rows(Vec::new(alloc)))?;
+    }
+    Ok(())
 }
 
 // The item of a key.
@@ -119,11 +173,15 @@ impl<'b> Source for Probe<'b> {
 
     fn fetch(&self, alloc: Global, keys: &[Key]) -> Result<Vec<Item>, FetchFault> {
         self.board.calls.fetch_add(1, Ordering::SeqCst);
+        if self.is_down(keys) {
+            return Err(down(alloc)?);
+        }
         let met = self.is_met(keys);
         let mut items = Vec::with_capacity(alloc, keys.len())?;
         for key in keys {
             items.push(item(alloc, self.loader, key, met)?)?;
         }
+        self.spoil(alloc, keys, &mut items)?;
         Ok(items)
     }
 }
