@@ -17,28 +17,22 @@ use Rattle.command_line.specs.declared.origin.Spot.{Spot}
 use Rattle.command_line.specs.declared.origin.Spot.TheVariants as spot
 use Rattle.command_line.specs.declared.origin.Origin.{Origin}
 
--- where in its text a schema has a fault
-abbrev pub spot_of_schema : SchemaFault → Spot
-spot_of_schema (schema.Syntax place) = spot.At place
-spot_of_schema (schema.Duplicate place) = spot.At place
-spot_of_schema (schema.UnknownType place) = spot.At place
-spot_of_schema (schema.BadImplements place) = spot.At place
-spot_of_schema schema.NoQueryRoot = spot.Whole
-spot_of_schema (schema.ReservedName place) = spot.At place
-spot_of_schema (schema.NotServed place) = spot.At place
-spot_of_schema (schema.BadBinding line) = spot.Line line
-spot_of_schema schema.NoMemory = spot.Whole
-spot_of_schema (schema.BadKind place) = spot.At place
-spot_of_schema (schema.BadDefault place) = spot.At place
-
 abbrev pub in_file : Subject → Spot → Option Origin
 in_file file at = Some (record { subject = file; spot = at })
 
--- the file of a fault of the schema or the bindings
+-- the place of a schema's fault, and the line of a bindings' one
 abbrev pub origin_of_schema : SchemaFault → Option Origin
-origin_of_schema schema.NoMemory = None
+origin_of_schema (schema.Syntax place) = in_file subject.Schema (spot.At place)
+origin_of_schema (schema.Duplicate place) = in_file subject.Schema (spot.At place)
+origin_of_schema (schema.UnknownType place) = in_file subject.Schema (spot.At place)
+origin_of_schema (schema.BadImplements place) = in_file subject.Schema (spot.At place)
+origin_of_schema schema.NoQueryRoot = in_file subject.Schema spot.Whole
+origin_of_schema (schema.ReservedName place) = in_file subject.Schema (spot.At place)
+origin_of_schema (schema.NotServed place) = in_file subject.Schema (spot.At place)
 origin_of_schema (schema.BadBinding line) = in_file subject.Bindings (spot.Line line)
-origin_of_schema fault = in_file subject.Schema (spot_of_schema fault)
+origin_of_schema schema.NoMemory = None
+origin_of_schema (schema.BadKind place) = in_file subject.Schema (spot.At place)
+origin_of_schema (schema.BadDefault place) = in_file subject.Schema (spot.At place)
 
 -- a table that is missing, or lacks a column, is named by the bindings
 abbrev pub origin_of_world : WorldFault → Option Origin

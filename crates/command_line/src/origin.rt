@@ -1,9 +1,10 @@
 //! Where the fault is that ends a run.
 
 ghost use Rattle.std.specs.Prelude.{◌≡◌, IfOk, IfSome, None, string_bytes};
+ghost use Rattle.command_line.specs.declared.origin.Spot.TheVariants.{Line, At, Reason};
 ghost use Rattle.command_line.specs.declared.stop.Stop.TheVariants.{Serve};
 ghost use Rattle.line_serving.specs.declared.fault.ServeFault.TheVariants.{NoMemory};
-ghost use Rattle.command_line.specs.Origins.{spot_of_schema, origin_of_world, origin_of_serve, origin_of, file_of, IsWritten, Explains};
+ghost use Rattle.command_line.specs.Origins.{in_file, origin_of_schema, origin_of_world, origin_of_serve, origin_of, file_of, IsWritten, Explains};
 
 use crate::stop::Stop;
 use crate::words::Words;
@@ -60,51 +61,53 @@ pub struct End {
     pub explanation: Option<String>,
 }
 
-// Where in its text a schema or bindings have a fault. Want of memory is nowhere.
-fn spot_of_schema(fault: &SchemaFault) -> Spot
-    ensures { result ≡ spot_of_schema fault.now }
+// An origin that is known.
+fn in_file(subject: Subject, spot: Spot) -> Option<Origin>
+    ensures { result ≡ in_file subject spot }
+{
+    Some(Origin { subject, spot })
+}
+
+// The place of a schema's fault, and the line of a bindings' one. Want of memory is nowhere.
+fn origin_of_schema(fault: &SchemaFault) -> Option<Origin>
+    ensures { result ≡ origin_of_schema fault.now }
 {
     match fault {
-        SchemaFault::Syntax(place)
-        | SchemaFault::Duplicate(place)
-        | SchemaFault::UnknownType(place)
-        | SchemaFault::BadImplements(place)
-        | SchemaFault::ReservedName(place)
-        | SchemaFault::NotServed(place)
-        | SchemaFault::BadKind(place)
-        | SchemaFault::BadDefault(place) => Spot::At(*place),
-        SchemaFault::BadBinding(line) => Spot::Line(*line),
-        SchemaFault::NoQueryRoot | SchemaFault::NoMemory => Spot::Whole,
+        SchemaFault::Syntax(place) => in_file(Subject::Schema, Spot::At(*place)),
+        SchemaFault::Duplicate(place) => in_file(Subject::Schema, Spot::At(*place)),
+        SchemaFault::UnknownType(place) => in_file(Subject::Schema, Spot::At(*place)),
+        SchemaFault::BadImplements(place) => in_file(Subject::Schema, Spot::At(*place)),
+        SchemaFault::NoQueryRoot => in_file(Subject::Schema, Spot::Whole),
+        SchemaFault::ReservedName(place) => in_file(Subject::Schema, Spot::At(*place)),
+        SchemaFault::NotServed(place) => in_file(Subject::Schema, Spot::At(*place)),
+        SchemaFault::BadBinding(line) => in_file(Subject::Bindings, Spot::Line(*line)),
+        SchemaFault::NoMemory => None,
+        SchemaFault::BadKind(place) => in_file(Subject::Schema, Spot::At(*place)),
+        SchemaFault::BadDefault(place) => in_file(Subject::Schema, Spot::At(*place)),
     }
 }
 
+// A table that is missing, or lacks a column, is named by the bindings.
 fn origin_of_world(fault: &WorldFault) -> Option<Origin>
     ensures { result ≡ origin_of_world fault.now }
 {
-    let (subject, spot) = match fault {
-        WorldFault::BadLimit
-        | WorldFault::NoMemory
-        | WorldFault::DuplicateTable
-        | WorldFault::Schema(SchemaFault::NoMemory) => return None,
-        WorldFault::Schema(SchemaFault::BadBinding(line)) => (Subject::Bindings, Spot::Line(*line)),
-        WorldFault::Schema(fault) => (Subject::Schema, spot_of_schema(fault)),
-        WorldFault::NoSuchTable | WorldFault::NoSuchColumn => (Subject::Bindings, Spot::Whole),
-    };
-    Some(Origin { subject, spot })
+    match fault {
+        WorldFault::Schema(fault) => origin_of_schema(fault),
+        WorldFault::NoSuchTable | WorldFault::NoSuchColumn => {
+            in_file(Subject::Bindings, Spot::Whole)
+        }
+        WorldFault::BadLimit | WorldFault::DuplicateTable | WorldFault::NoMemory => None,
+    }
 }
 
 fn origin_of_serve(fault: ServeFault) -> Option<Origin>
     ensures { result ≡ origin_of_serve fault }
 {
-    let subject = match fault {
-        ServeFault::LineTooLong | ServeFault::ReadFault => Subject::Requests,
-        ServeFault::WriteFault => Subject::Output,
-        ServeFault::BadCount | ServeFault::NoMemory => return None,
-    };
-    Some(Origin {
-        subject,
-        spot: Spot::Whole,
-    })
+    match fault {
+        ServeFault::LineTooLong | ServeFault::ReadFault => in_file(Subject::Requests, Spot::Whole),
+        ServeFault::WriteFault => in_file(Subject::Output, Spot::Whole),
+        ServeFault::BadCount | ServeFault::NoMemory => None,
+    }
 }
 
 impl Stop {
@@ -170,10 +173,30 @@ impl Words {
     }
 }
 
-// The file and the reason.
-fn with_reason(alloc: Global, file: &str, error: &io::Error) -> Result<String, AllocError> {
+// A line of a file, or the file alone for line 0.
+fn written_line(alloc: Global, file: &str, line: u64) -> Result<String, AllocError>
+    ensures { IfOk result (λ text. IsWritten file.now (Line line) (string_bytes text)) }
+{
+    if line == 0 {
+        return String::from_str(alloc, file);
+    }
+    format!(in alloc; "{file}:{line}")
+}
+
+// A line and a column of a file.
+fn written_place(alloc: Global, file: &str, place: Place) -> Result<String, AllocError>
+    ensures { IfOk result (λ text. IsWritten file.now (At place) (string_bytes text)) }
+{
+    let Place { line, column } = place;
+    format!(in alloc; "{file}:{line}:{column}")
+}
+
+// A file, and what the system says of it.
+fn written_reason(alloc: Global, file: &str, reason: io::Error) -> Result<String, AllocError>
+    ensures { IfOk result (λ text. IsWritten file.now (Reason reason) (string_bytes text)) }
+{
     let mut text = format!(in alloc; "{file}: ")?;
-    let reason = error.to_string(alloc)?;
+    let reason = reason.to_string(alloc)?;
     text.push_str(reason.as_str())?;
     Ok(text)
 }
@@ -183,19 +206,16 @@ fn written(alloc: Global, file: &str, spot: Spot) -> Result<String, AllocError>
     ensures { IfOk result (λ text. IsWritten file.now spot (string_bytes text)) }
 {
     match spot {
-        Spot::Whole | Spot::Line(0) => String::from_str(alloc, file),
-        Spot::Line(line) => format!(in alloc; "{file}:{line}"),
-        Spot::At(place) => {
-            let Place { line, column } = place;
-            format!(in alloc; "{file}:{line}:{column}")
-        }
-        Spot::Reason(error) => with_reason(alloc, file, &error),
+        Spot::Whole => String::from_str(alloc, file),
+        Spot::Line(line) => written_line(alloc, file, line),
+        Spot::At(place) => written_place(alloc, file, place),
+        Spot::Reason(reason) => written_reason(alloc, file, reason),
     }
 }
 
 // What is said of a fault, where it is asked for and memory allows.
 fn explanation(alloc: Global, words: &Words, origin: Option<Origin>) -> Option<String>
-    ensures { IfSome result (Explains words.now origin) }
+    ensures { IfSome result (λ text. Explains words.now origin (string_bytes text)) }
 {
     if !words.explain {
         return None;
@@ -222,7 +242,7 @@ impl End {
     /// The end of a run of these words.
     pub fn of(alloc: Global, words: &Words, end: LocatedStop) -> End
         ensures stop { result.stop ≡ end.stop }
-        ensures explanation { IfSome result.explanation (Explains words.now end.origin) }
+        ensures explanation { IfSome result.explanation (λ text. Explains words.now end.origin (string_bytes text)) }
     {
         End {
             stop: end.stop,

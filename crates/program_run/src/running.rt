@@ -1,11 +1,12 @@
 //! A run of the program.
 
-ghost use Rattle.std.specs.Prelude.{[], ◌∷◌, ◌++◌, map, IfErr, OnOk, OnErr, string_bytes};
+ghost use Rattle.std.specs.Prelude.{[], ◌∷◌, ◌++◌, map, IfSome, IfErr, OnOk, OnErr, string_bytes};
 ghost use Rattle.std.specs.Io.KnownBytes.{Appends};
 ghost use Rattle.line_serving.specs.Devices.{device_of};
 ghost use Rattle.line_serving.specs.Lines.{line_feed};
 ghost use Rattle.line_serving.specs.Output.{IsCut};
-ghost use Rattle.program_run.specs.Runs.{IsServed, IsServedBy, IsShown, EndsAsRefused, IsSampleRun, IsFilesRun, IsProgramRun, IsWordless};
+ghost use Rattle.program_run.specs.Runs.{IsServed, IsServedBy, IsShown, EndsAsRefused, IsSampleRun, IsFilesRun, IsProgramRun, SaysWhere, IsWordless};
+ghost use Rattle.world_files.specs.Opening.{IsPlaced};
 
 use command_line::{End, LocatedStop, Stop, Words};
 use line_serving::{Counted, DeviceFault, ServeFault};
@@ -98,7 +99,8 @@ fn run_files<R: Files + Threads + Wait + AllocGlobal + Sync, W: Write>(
     words: &Words,
     writer: &mut Counted<W>,
 ) -> LocatedStop
-    ensures { IsFilesRun words.now (W.contents (device_of writer.old)) (W.contents (device_of writer.new)) result.stop }
+    ensures run { IsFilesRun words.now (W.contents (device_of writer.old)) (W.contents (device_of writer.new)) result.stop }
+    ensures placed { IsPlaced words.now result }
 {
     let world = match open_world(rt, words) {
         Ok(world) => world,
@@ -168,8 +170,9 @@ pub fn run<R: Files + Threads + Wait + AllocGlobal + Sync, I: Read, W: Write>(
     reader: &mut Counted<I>,
     writer: &mut Counted<W>,
 ) -> End
-    ensures { IsProgramRun (map string_bytes words.now) (I.remaining (device_of reader.old)) (I.remaining (device_of reader.new))
+    ensures run { IsProgramRun (map string_bytes words.now) (I.remaining (device_of reader.old)) (I.remaining (device_of reader.new))
         (W.contents (device_of writer.old)) (W.contents (device_of writer.new)) result.stop }
+    ensures explained { IfSome result.explanation (λ text. SaysWhere (map string_bytes words.now) result.stop (string_bytes text)) }
 {
     if words.is_empty() {
         return End::from(run_sample(rt.alloc(), reader, writer));

@@ -66,6 +66,10 @@ IsFileOf words subject.Output = ⊥
 abbrev pub IsLocated : Words → LocatedStop → Type 0
 IsLocated words end = (end.origin ≡ origin_of end.stop) ⊎ ((subject : Subject) × IsFileOf words subject × IsIn subject end.stop end.origin)
 
+-- the same, or the file of the request lines
+abbrev pub IsPlaced : Words → LocatedStop → Type 0
+IsPlaced words end = IsLocated words end ⊎ IsIn subject.Requests end.stop end.origin
+
 -- the file of a table can't be opened, or holds none
 pub record IsUnopenedOf (words : Words) (end : LocatedStop) : Type 0 where
   pub unopened : IsUnopened end.stop

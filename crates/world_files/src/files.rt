@@ -127,6 +127,7 @@ fn bindings_file<R: Files + AllocGlobal>(rt: &R, path: &str) -> io::Result<Strin
 }
 
 // A reader that keeps the last fault that it met.
+#[derive(Drop)]
 struct Keeping<R> {
     inner: R,
     fault: Option<io::Error>,
