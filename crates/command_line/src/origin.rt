@@ -1,7 +1,6 @@
 //! Where the fault is that ends a run.
 
 ghost use Rattle.std.specs.Prelude.{◌≡◌, IfOk, IfSome, None, string_bytes};
-ghost use Rattle.command_line.specs.declared.origin.Spot.TheVariants.{Line, At, Reason};
 ghost use Rattle.command_line.specs.declared.stop.Stop.TheVariants.{Serve};
 ghost use Rattle.line_serving.specs.declared.fault.ServeFault.TheVariants.{NoMemory};
 ghost use Rattle.command_line.specs.Origins.{in_file, origin_of_schema, origin_of_world, origin_of_serve, origin_of, file_of, IsWritten, Explains};
@@ -175,7 +174,7 @@ impl Words {
 
 // A line of a file, or the file alone for line 0.
 fn written_line(alloc: Global, file: &str, line: u64) -> Result<String, AllocError>
-    ensures { IfOk result (λ text. IsWritten file.now (Line line) (string_bytes text)) }
+    ensures { IfOk result (λ text. IsWritten file.now (Spot.Line line) (string_bytes text)) }
 {
     if line == 0 {
         return String::from_str(alloc, file);
@@ -185,7 +184,7 @@ fn written_line(alloc: Global, file: &str, line: u64) -> Result<String, AllocErr
 
 // A line and a column of a file.
 fn written_place(alloc: Global, file: &str, place: Place) -> Result<String, AllocError>
-    ensures { IfOk result (λ text. IsWritten file.now (At place) (string_bytes text)) }
+    ensures { IfOk result (λ text. IsWritten file.now (Spot.At place) (string_bytes text)) }
 {
     let Place { line, column } = place;
     format!(in alloc; "{file}:{line}:{column}")
@@ -193,7 +192,7 @@ fn written_place(alloc: Global, file: &str, place: Place) -> Result<String, Allo
 
 // A file, and what the system says of it.
 fn written_reason(alloc: Global, file: &str, reason: io::Error) -> Result<String, AllocError>
-    ensures { IfOk result (λ text. IsWritten file.now (Reason reason) (string_bytes text)) }
+    ensures { IfOk result (λ text. IsWritten file.now (Spot.Reason reason) (string_bytes text)) }
 {
     let mut text = format!(in alloc; "{file}: ")?;
     let reason = reason.to_string(alloc)?;

@@ -4,7 +4,6 @@ ghost use Rattle.std.specs.Prelude.{◌≡◌, ◌<◌, ◌≤◌, ℕ, List, le
 ghost use Rattle.std.specs.String.{from_utf8_error_vec};
 ghost use Rattle.world.specs.Sources.{TableOf};
 ghost use Rattle.world.specs.Worlds.{IsWorld};
-ghost use Rattle.command_line.specs.declared.origin.Subject.TheVariants.{Table, Requests};
 ghost use Rattle.world_files.specs.Opening.{IsUnreadIn, IsUnopenedIn, IsUnopenedOf, IsUnmade, IsLocated, IsWholeOrLong};
 
 use command_line::{LocatedStop, Origin, Spot, Stop, Subject, Words};
@@ -161,7 +160,7 @@ fn refused(subject: Subject, fault: TableFault, kept: Option<io::Error>) -> Loca
 
 // The table of a file. One that is longer than a table may be isn't read to its end.
 fn table_file<R: Files + AllocGlobal>(rt: &R, path: &str, place: usize) -> Result<Table, LocatedStop>
-    ensures err { IfErr result (IsUnopenedIn (Table place)) }
+    ensures err { IfErr result (IsUnopenedIn (Subject.Table place)) }
 {
     let subject = Subject::Table(place);
     let file = match fs::open(rt, path) {
@@ -241,7 +240,7 @@ pub fn open_world<R: Files + AllocGlobal>(rt: &R, words: &Words) -> Result<World
 ///
 /// `File` where it can't be opened, with the reason, and want of memory.
 pub fn open_requests<R: Files>(rt: &R, words: &Words) -> Result<R::File, LocatedStop>
-    ensures err { IfErr result (IsUnreadIn Requests) }
+    ensures err { IfErr result (IsUnreadIn Subject.Requests) }
 {
     match fs::open(rt, words.requests.as_str()) {
         Ok(file) => Ok(file),
