@@ -20,8 +20,8 @@ number_read gives sound (Some text) None none some = let read = some text refl i
 
 -- what `get_flag` reads is a flag
 pub flag_read : (o : Option (List ℕ)) (b : Bool) → (o ≡ None → b ≡ false) → (o ≡ Some (codes "true") → b ≡ true) → (o ≡ Some (codes "false") → b ≡ false) → IsFlag o b
-flag_read None b none yes no = none refl
-flag_read (Some text) b none yes no = (λ e. yes (ap Some e), λ e. no (ap Some e))
+flag_read None b none set unset = none refl
+flag_read (Some text) b none set unset = (λ e. set (ap Some e), λ e. unset (ap Some e))
 
 pub lacks_equals : (text : List ℕ) → ((i : ℕ) → i < length text → get_or text i 0 ≢ equals_sign) → HasNoEquals text
 lacks_equals text lacks k d lt e = lacks k lt (get_or_default text k 0 d lt ∙ e)

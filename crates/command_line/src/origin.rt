@@ -179,7 +179,7 @@ fn written_line(alloc: Global, file: &str, line: u64) -> Result<String, AllocErr
     if line == 0 {
         return String::from_str(alloc, file);
     }
-    format!(in alloc; "{file}:{line}")
+    Ok(format!(in alloc; "{file}:{line}")?)
 }
 
 // A line and a column of a file.
@@ -187,7 +187,7 @@ fn written_place(alloc: Global, file: &str, place: Place) -> Result<String, Allo
     ensures { IfOk result (λ text. IsWritten file.now (Spot.At place) (string_bytes text)) }
 {
     let Place { line, column } = place;
-    format!(in alloc; "{file}:{line}:{column}")
+    Ok(format!(in alloc; "{file}:{line}:{column}")?)
 }
 
 // A file, and what the system says of it.
