@@ -15,7 +15,9 @@ fn workers<'a>(alloc: Global) -> Arg<'a>
     Arg::new(alloc, "workers")
         .long("workers")
         .value_name("N")
-        .help("How many workers run the batches of a round at the same time, from 1 to 16; in turn if left out")
+        .help(
+            "How many workers run the batches of a round at the same time, from 1 to 16; in turn if left out",
+        )
         .value_parser(clap::value_parser!(u32).range(1..=16))
 }
 
@@ -78,9 +80,9 @@ fn tables<'a>(alloc: Global) -> Arg<'a>
     ensures rule { rule_of result ≡ table_rule }
     ensures local { result.global ≡ false }
 {
-    Arg::new(alloc, "NAME=F")
-        .action(ArgAction::Append)
-        .help("A table by its name, and its CSV file; any number of these")
+    Arg::new(alloc, "NAME=F").action(ArgAction::Append).help(
+        "A table by its name, and its CSV file; any number of these",
+    )
 }
 
 // What stands at the end of the help.

@@ -103,12 +103,7 @@ pub fn told<R: Files + AllocGlobal>(
     let mut reader = Counted::new(input);
     let mut writer = Counted::new(&mut narrow);
     let end = if words.is_empty() {
-        End::from(served(
-            rt.alloc(),
-            &built_in(rt.alloc())?,
-            &mut reader,
-            &mut writer,
-        ))
+        End::from(served(rt.alloc(), &built_in(rt.alloc())?, &mut reader, &mut writer))
     } else {
         end_of_words(rt, words.as_slice(), &mut writer)
     };

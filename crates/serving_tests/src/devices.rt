@@ -154,7 +154,12 @@ fn workers_serve_to_a_failing_writer(rt: HostRuntime) -> Result<(), Fail> {
     for call in 1..=WRITTEN {
         let reader = slow(ErrorKind::Other, 0);
         let found = told(&rt, &world, reader, narrow(ErrorKind::Other, call))?;
-        expect(&rt, &found, &cut_told(rt.alloc(), call)?, "a write that fails");
+        expect(
+            &rt,
+            &found,
+            &cut_told(rt.alloc(), call)?,
+            "a write that fails",
+        );
         let reader = slow(ErrorKind::Other, 0);
         let found = told(&rt, &world, reader, narrow(ErrorKind::Interrupted, call))?;
         expect(&rt, &found, SERVED, "a write that is interrupted");

@@ -1,6 +1,5 @@
 -- How a run ends where files give no world.
 use Rattle.std.specs.Prelude.{◌≡◌, ◌<◌, ◌⊎◌, ℕ, List, length, Option, Some, None, IsSomeAnd}
-use Rattle.std_io.specs.declared.io.error.Error.{Error}
 use Rattle.line_serving.specs.declared.fault.ServeFault.TheVariants as serve
 use Rattle.command_line.specs.declared.stop.Stop.{Stop}
 use Rattle.command_line.specs.declared.stop.Stop.TheVariants as stop
@@ -36,7 +35,7 @@ IsUnopened other = IsUnread other
 -- it is about this file, and says what the system says
 abbrev pub IsReasonOf : Subject → Option Origin → Type 0
 IsReasonOf subject None = ⊥
-IsReasonOf subject (Some origin) = (origin.subject ≡ subject) × ((error : Error) × (origin.spot ≡ spot.Reason error))
+IsReasonOf subject (Some origin) = (origin.subject ≡ subject) × ((error : _) × (origin.spot ≡ spot.Reason error))
 
 -- a file that can't be opened or read has a reason, a table is named, and want of memory is in no file
 abbrev pub IsIn : Subject → Stop → Option Origin → Type 0

@@ -52,10 +52,7 @@ fn too_long() -> io::Error {
 
 // What is said of a file that is no text, as the library says it.
 fn no_text() -> io::Error {
-    io::Error::new(
-        ErrorKind::InvalidData,
-        "stream did not contain valid UTF-8",
-    )
+    io::Error::new(ErrorKind::InvalidData, "stream did not contain valid UTF-8")
 }
 
 /// The text that a reader gives, of so many bytes at most. What comes behind these isn't read, however long the reader goes on.
@@ -159,7 +156,11 @@ fn refused(subject: Subject, fault: TableFault, kept: Option<io::Error>) -> Loca
 }
 
 // The table of a file. One that is longer than a table may be isn't read to its end.
-fn table_file<R: Files + AllocGlobal>(rt: &R, path: &str, place: usize) -> Result<Table, LocatedStop>
+fn table_file<R: Files + AllocGlobal>(
+    rt: &R,
+    path: &str,
+    place: usize,
+) -> Result<Table, LocatedStop>
     ensures err { IfErr result (IsUnopenedIn (Subject.Table place)) }
 {
     let subject = Subject::Table(place);
@@ -182,7 +183,10 @@ fn table_file<R: Files + AllocGlobal>(rt: &R, path: &str, place: usize) -> Resul
 }
 
 // The tables of a command line, in the order of its words.
-fn table_files<R: Files + AllocGlobal>(rt: &R, words: &Words) -> Result<Vec<(String, Table)>, LocatedStop>
+fn table_files<R: Files + AllocGlobal>(
+    rt: &R,
+    words: &Words,
+) -> Result<Vec<(String, Table)>, LocatedStop>
     ensures err { IfErr result (IsUnopenedOf words.now) }
 {
     let mut tables = Vec::new(rt.alloc());
