@@ -1,5 +1,5 @@
 #!/usr/bin/env python3
-"""Runs the built program on random input: fuzz.py PROGRAM [--cases N] [--seed S] [--jobs J].
+"""Runs the built program on random input: fuzz.py PROGRAM [--cases N] [--seed S] [--jobs J] [--workers W].
 
 A case is a document, a request line, a schema, a bindings text or a table: of random bytes, of random tokens, a tree of the
 grammar, or one of those with a few bytes changed. Documents and request lines go to the program many lines a run, over the
@@ -177,7 +177,7 @@ def is_answer(text):
 
 def ran(program, folder, requests, **files):
     """The status, standard output and standard error of a run over the files of examples/, of which some are given."""
-    words = [program]
+    words = list(program)
     for name in ("schema", "bindings"):
         words += [f"--{name}", files.get(name) or EXAMPLE_FILE[name]]
     words += [requests] + [f"{name}={files.get(name) or EXAMPLE_FILE[name]}" for name in TABLES]
@@ -286,16 +286,19 @@ def main():
     words.add_argument("--cases", type=int, default=1_000_000)
     words.add_argument("--seed", type=int, default=1)
     words.add_argument("--jobs", type=int, default=os.cpu_count())
+    words.add_argument("--workers", type=int, help="the program's own option")
     given = words.parse_args()
+    program = [os.path.abspath(given.program)] + (["--workers", str(given.workers)] if given.workers else [])
     counts, failures = collections.Counter(), 0
     with multiprocessing.Pool(given.jobs) as pool:
-        for kind, count, found in pool.imap_unordered(work, jobs(os.path.abspath(given.program), given.cases, given.seed)):
+        for kind, count, found in pool.imap_unordered(work, jobs(program, given.cases, given.seed)):
             counts[kind] += count
             failures += len(found)
             for fault, about in found:
                 print(f"{kind}: {fault}", *(f"  {it!r}" for it in about), sep="\n", flush=True)
     kinds = ", ".join(f"{count:,} of kind {kind}" for kind, count in sorted(counts.items()))
-    print(f"seed {given.seed}: {sum(counts.values()):,} cases ({kinds}), {failures} failures")
+    seed = f"seed {given.seed}" + (f", {given.workers} workers" if given.workers else "")
+    print(f"{seed}: {sum(counts.values()):,} cases ({kinds}), {failures} failures")
     return 1 if failures else 0
 
 

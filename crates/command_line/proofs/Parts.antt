@@ -1,6 +1,6 @@
 -- Numbers, tables and texts among the words of a command line.
 use Rattle.std.proofs.Common.{zero, suc, subst, ◌≡◌, ◌≢◌, ℕ, ◌+◌, ◌<◌, List, [], ◌∷◌, ◌++◌, length, get_or, drop, map, refl, sym, ap, ◌∙◌, Some, None, Option, append_assoc, drop-cons, add-one, arith}
-use Rattle.std.specs.Prelude.{Result, Ok, Err, Any, string_bytes}
+use Rattle.std.specs.Prelude.{Result, Ok, Err, Any, Bool, true, false, codes, string_bytes}
 use Rattle.std.specs.Borrow.{Bor}
 use Rattle.std.specs.List.{All}
 use Rattle.std.proofs.lemmas.List.{map-append}
@@ -8,7 +8,7 @@ use Rattle.std.proofs.lemmas.List.Elements.{All-nil}
 use Rattle.std.specs.Str.Parse.{ParsesUnsigned}
 use Rattle.std.proofs.lemmas.List.{get_or_default}
 use Rattle.clap.specs.Words.{ReadsOne}
-use Rattle.command_line.specs.Words.{HasNoEquals, IsNumber, AreTables, joined, equals_sign}
+use Rattle.command_line.specs.Words.{HasNoEquals, IsNumber, IsFlag, AreTables, joined, equals_sign}
 use Rattle.command_line.specs.declared.words.TableFile.{TableFile}
 
 -- what `get_one` reads is a number
@@ -17,6 +17,11 @@ pub number_read : {E : Type 0} (gives : List ℕ → Result ℕ E → Type 0) �
 number_read gives sound None n none some = none refl
 number_read gives sound (Some text) (Some n) none some = sound text (Ok n) (some text refl)
 number_read gives sound (Some text) None none some = let read = some text refl in sound text (Err read.0) read.1
+
+-- what `get_flag` reads is a flag
+pub flag_read : (o : Option (List ℕ)) (b : Bool) → (o ≡ None → b ≡ false) → (o ≡ Some (codes "true") → b ≡ true) → (o ≡ Some (codes "false") → b ≡ false) → IsFlag o b
+flag_read None b none set unset = none refl
+flag_read (Some text) b none set unset = (λ e. set (ap Some e), λ e. unset (ap Some e))
 
 pub lacks_equals : (text : List ℕ) → ((i : ℕ) → i < length text → get_or text i 0 ≢ equals_sign) → HasNoEquals text
 lacks_equals text lacks k d lt e = lacks k lt (get_or_default text k 0 d lt ∙ e)

@@ -1,7 +1,7 @@
 -- The command that `clap` reads.
 use Rattle.std.specs.Prelude.{Some, true, pos, codes}
 use Rattle.clap.specs.Words.{App, Rule, new_app, new_rule, with_rule}
-use Rattle.clap.specs.declared.builder.action.ArgAction.TheVariants.{Append}
+use Rattle.clap.specs.declared.builder.action.ArgAction.TheVariants.{Append, SetTrue}
 use Rattle.clap.specs.declared.builder.value_parser.ValueParser.TheVariants as parser
 
 abbrev pub schema_rule : Rule
@@ -16,20 +16,23 @@ workers_rule = record (new_rule (codes "workers")) { long = Some (codes "workers
 abbrev pub max_batch_rule : Rule
 max_batch_rule = record (new_rule (codes "max-batch")) { long = Some (codes "max-batch"); value_names = 1; parser = Some (parser.Signed (pos 1) (pos 65535)) }
 
+abbrev pub explain_rule : Rule
+explain_rule = record (new_rule (codes "explain")) { long = Some (codes "explain"); action = Some SetTrue }
+
 abbrev pub requests_rule : Rule
 requests_rule = record (new_rule (codes "REQUESTS")) { required = true }
 
 abbrev pub table_rule : Rule
 table_rule = record (new_rule (codes "NAME=F")) { action = Some Append }
 
--- the program without its name
+-- the program without its name, which tells its version
 abbrev pub unnamed : App
-unnamed = let a : App = new_app (codes "query_cli") in record a { top = record a.top { no_binary_name = true } }
+unnamed = let a : App = new_app (codes "query_cli") in record a { top = record a.top { no_binary_name = true; has_version = true } }
 
 -- the options
 abbrev pub options : App
-options = with_rule (with_rule (with_rule (with_rule unnamed schema_rule) bindings_rule) workers_rule) max_batch_rule
+options = with_rule (with_rule (with_rule (with_rule (with_rule unnamed schema_rule) bindings_rule) workers_rule) max_batch_rule) explain_rule
 
--- two files, two numbers if wanted, a file of requests, and any number of tables
+-- two files, two numbers and a flag if wanted, a file of requests, and any number of tables
 abbrev pub command_line : App
 command_line = with_rule (with_rule options requests_rule) table_rule

@@ -1,5 +1,5 @@
 -- The parts of a command line.
-use Rattle.std.specs.Prelude.{◌≡◌, ◌≢◌, ◌⊎◌, ◌<◌, ◌^◌, ℕ, List, [], ◌∷◌, ◌++◌, Option, Some, None, Any, codes, map, string_bytes, unwrap_or}
+use Rattle.std.specs.Prelude.{◌≡◌, ◌≢◌, ◌⊎◌, ◌<◌, ◌^◌, ℕ, List, [], ◌∷◌, ◌++◌, Bool, true, false, Option, Some, None, Any, codes, map, string_bytes, unwrap_or}
 use Rattle.std.specs.List.{All}
 use Rattle.std.specs.Option.{SomeIff}
 use Rattle.std.specs.Str.Parse.{IsNumeral, digits_value, without_leading_plus}
@@ -33,6 +33,11 @@ abbrev pub IsNumber : Option (List ℕ) → Option ℕ → Type 0
 IsNumber None n = n ≡ None
 IsNumber (Some text) n = SomeIff n (IsNumeral 10 (without_leading_plus text) × (digits_value 10 (without_leading_plus text) < 2 ^ 32)) (digits_value 10 (without_leading_plus text))
 
+-- whether `clap` has set a flag
+abbrev pub IsFlag : Option (List ℕ) → Bool → Type 0
+IsFlag None b = b ≡ false
+IsFlag (Some text) b = (text ≡ codes "true" → b ≡ true) × (text ≡ codes "false" → b ≡ false)
+
 -- the text of an argument, empty where it has none
 abbrev pub text_at : List Row → List ℕ → List ℕ
 text_at rows id = unwrap_or (first_of id rows) []
@@ -47,6 +52,7 @@ pub record IsWords (rows : List Row) (words : Words) : Type 0 where
   pub bindings : string_bytes words.bindings ≡ text_at rows (codes "bindings")
   pub workers : IsNumber (one_of (codes "workers") rows) words.workers
   pub max_batch : IsNumber (one_of (codes "max-batch") rows) words.max_batch
+  pub explain : IsFlag (one_of (codes "explain") rows) words.explain
   pub requests : string_bytes words.requests ≡ text_at rows (codes "REQUESTS")
   pub tables : AreTables (table_words rows) words.tables.items
 

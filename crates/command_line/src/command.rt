@@ -2,7 +2,7 @@
 
 ghost use Rattle.std.specs.Prelude.{◌≡◌, IfOk, false};
 ghost use Rattle.clap.specs.Words.{app_of, rule_of};
-ghost use Rattle.command_line.specs.Command.{command_line, schema_rule, bindings_rule, workers_rule, max_batch_rule, requests_rule, table_rule};
+ghost use Rattle.command_line.specs.Command.{command_line, schema_rule, bindings_rule, workers_rule, max_batch_rule, explain_rule, requests_rule, table_rule};
 
 use clap::{Arg, ArgAction, Command};
 use std::alloc::{AllocError, Global};
@@ -15,7 +15,9 @@ fn workers<'a>(alloc: Global) -> Arg<'a>
     Arg::new(alloc, "workers")
         .long("workers")
         .value_name("N")
-        .help("How many workers run the batches of a round at the same time")
+        .help(
+            "How many workers run the batches of a round at the same time, from 1 to 16; in turn if left out",
+        )
         .value_parser(clap::value_parser!(u32).range(1..=16))
 }
 
@@ -27,8 +29,19 @@ fn max_batch<'a>(alloc: Global) -> Arg<'a>
     Arg::new(alloc, "max-batch")
         .long("max-batch")
         .value_name("N")
-        .help("At most how many keys one batch has")
+        .help("At most how many keys one batch has, from 1 to 65535; no bound if left out")
         .value_parser(clap::value_parser!(u32).range(1..=65_535))
+}
+
+// A flag.
+fn explain<'a>(alloc: Global) -> Arg<'a>
+    ensures rule { rule_of result ≡ explain_rule }
+    ensures local { result.global ≡ false }
+{
+    Arg::new(alloc, "explain")
+        .long("explain")
+        .action(ArgAction::SetTrue)
+        .help("Where a fault ends the run, say in a second line in which file it is, and where")
 }
 
 // An option for a file.
@@ -67,22 +80,40 @@ fn tables<'a>(alloc: Global) -> Arg<'a>
     ensures rule { rule_of result ≡ table_rule }
     ensures local { result.global ≡ false }
 {
-    Arg::new(alloc, "NAME=F")
-        .action(ArgAction::Append)
-        .help("A table by its name, and its CSV file")
+    Arg::new(alloc, "NAME=F").action(ArgAction::Append).help(
+        "A table by its name, and its CSV file; any number of these",
+    )
 }
+
+// What stands at the end of the help.
+const MORE_HELP: &str = "\
+Without any word it serves a built-in sample world from standard input: users with their best friends, posts and likes.
+
+Exit status:
+  0  every line was answered, or help or the version was asked for
+  2  the command line is refused
+  3  the schema, the bindings or a table is refused
+  4  a file can't be opened or read, a line is too long, or an answer can't be written
+  5  memory was refused
+
+Examples:
+  query_cli --schema schema.graphql --bindings bindings.txt requests.jsonl users=users.csv
+  echo '{\"query\":\"{user(id:1){name}}\"}' | query_cli";
 
 /// The command, whose words begin after the program's name.
 pub fn command<'a>(alloc: Global) -> Result<Command<'a>, AllocError>
     ensures { IfOk result (λ c. app_of c ≡ command_line) }
 {
     Command::new(alloc, "query_cli")
+        .version("0.1.0")
         .about("Answers GraphQL queries over tables, a request line by an answer line")
+        .after_help(MORE_HELP)
         .no_binary_name(true)
         .arg(schema(alloc))?
         .arg(bindings(alloc))?
         .arg(workers(alloc))?
         .arg(max_batch(alloc))?
+        .arg(explain(alloc))?
         .arg(requests(alloc))?
         .arg(tables(alloc))
 }

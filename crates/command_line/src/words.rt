@@ -2,7 +2,7 @@
 
 ghost use Rattle.std.specs.Prelude.{◌≡◌, ℕ, List, IfOk, IfErr, MatchOption, Any, map, string_bytes};
 ghost use Rattle.clap.specs.Words.{found_of, kind_of, rows_of, one_of};
-ghost use Rattle.command_line.specs.Words.{HasNoEquals, joined, text_at, table_words, AreTables, IsNumber, IsWords, IsRead, IsRefused, IsUnread, Refuses};
+ghost use Rattle.command_line.specs.Words.{HasNoEquals, joined, text_at, table_words, AreTables, IsNumber, IsFlag, IsWords, IsRead, IsRefused, IsUnread, Refuses};
 
 use crate::command::command;
 use crate::stop::Stop;
@@ -18,7 +18,7 @@ pub struct TableFile {
     pub file: String,
 }
 
-/// The parts of a command line: `--schema F --bindings F [--workers N] [--max-batch N] REQUESTS [NAME=F]..`.
+/// The parts of a command line: `--schema F --bindings F [--workers N] [--max-batch N] [--explain] REQUESTS [NAME=F]..`.
 #[derive(Debug, Drop)]
 pub struct Words {
     /// The file of the schema.
@@ -29,6 +29,8 @@ pub struct Words {
     pub workers: Option<u32>,
     /// At most how many keys one batch has, from 1 to 65,535; no bound where it isn't given.
     pub max_batch: Option<u32>,
+    /// Whether a run that ends by a fault says where it is.
+    pub explain: bool,
     /// The file of the request lines.
     pub requests: String,
     /// The tables in the order of their words.
@@ -67,6 +69,13 @@ fn number_of(matches: &ArgMatches<'_>, id: &str) -> Option<u32>
     ensures { IsNumber (one_of id.now (rows_of (found_of matches.now))) result }
 {
     matches.get_one::<u32>(id)
+}
+
+// Whether a flag is given.
+fn is_given(matches: &ArgMatches<'_>, id: &str) -> bool
+    ensures { IsFlag (one_of id.now (rows_of (found_of matches.now))) result }
+{
+    matches.get_flag(id)
 }
 
 // The table that a word names, where it has a `=`.
@@ -122,6 +131,7 @@ fn words_of(alloc: Global, matches: &ArgMatches<'_>) -> Result<Words, Stop>
         bindings: text_of(alloc, matches, "bindings")?,
         workers: number_of(matches, "workers"),
         max_batch: number_of(matches, "max-batch"),
+        explain: is_given(matches, "explain"),
         requests: text_of(alloc, matches, "REQUESTS")?,
         tables,
     })
@@ -132,7 +142,7 @@ impl Words {
     ///
     /// # Errors
     ///
-    /// `Help` with the text of `clap` where help is asked for; `Command` with the text of `clap` where it refuses the words,
+    /// `Help` with the text of `clap` where help or the version is asked for; `Command` with the text of `clap` where it refuses the words,
     /// or with `bad table` where it takes them and the word of a table has no `=`; and `Serve` for want of memory.
     pub fn read(alloc: Global, words: &[String]) -> Result<Words, Stop>
         ensures ok { IfOk result (IsRead (map string_bytes words.now)) }

@@ -51,6 +51,7 @@ fn told_of_table(alloc: Global, asked: &Asked, text: &str) -> Result<String> {
 fn told_of_lines(alloc: Global, asked: &Asked, text: &str) -> Result<String> {
     match asked.words.as_str() {
         "request" => requests::told(alloc, text),
+        "fronts of a request" => requests::fronts_told(alloc, text),
         "answer" => writing::told(alloc, text),
         "answer beside a plain writer" => writing::plain_told(alloc, text),
         "serve" => serving::lines_told(alloc, text),

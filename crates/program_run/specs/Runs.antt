@@ -9,9 +9,11 @@ use Rattle.command_line.specs.declared.stop.Stop.{Stop}
 use Rattle.command_line.specs.declared.stop.Stop.TheVariants as stop
 use Rattle.command_line.specs.declared.words.Words.{Words}
 use Rattle.command_line.specs.Words.{IsRead, IsRefused}
+use Rattle.command_line.specs.declared.origin.LocatedStop.{LocatedStop}
+use Rattle.command_line.specs.Origins.{Explains}
 use Rattle.world.specs.Sources.{TableOf}
 use Rattle.world.specs.Worlds.{WorldOf, IsWorld}
-use Rattle.world_files.specs.Opening.{IsUnmade}
+use Rattle.world_files.specs.Opening.{IsUnmade, IsPlaced}
 use Rattle.world_answers.specs.Answers.{IsAnswer}
 use Rattle.batch_workers.specs.Workers.{IsBadCount}
 
@@ -84,6 +86,11 @@ IsWordsRun texts old new end = ((words : Words) × IsRead texts words × IsFiles
 abbrev pub IsProgramRun : List (List ℕ) → Option (List ℕ) → Option (List ℕ) → Option (List ℕ) → Option (List ℕ) → Stop → Type 0
 IsProgramRun [] unread rest old new end = IsSampleRun unread rest old new end
 IsProgramRun (word ∷ words) unread rest old new end = Keeps unread rest × IsWordsRun (word ∷ words) old new end
+
+-- what is said besides: the words asked for it, and it names the file of the fault and where in it that is, as far as that is known
+abbrev pub SaysWhere : List (List ℕ) → Stop → List ℕ → Type 0
+SaysWhere texts stop text = (words : Words) × (end : LocatedStop) × IsRead texts words × (end.stop ≡ stop) × IsPlaced words end
+    × Explains words end.origin text
 
 -- why the program has no words
 abbrev pub IsWordless : Stop → Type 0

@@ -1,14 +1,15 @@
 //! A run of the program.
 
-ghost use Rattle.std.specs.Prelude.{[], ◌∷◌, ◌++◌, map, IfErr, OnOk, OnErr, string_bytes};
+ghost use Rattle.std.specs.Prelude.{[], ◌∷◌, ◌++◌, map, IfSome, IfErr, OnOk, OnErr, string_bytes};
 ghost use Rattle.std.specs.Io.KnownBytes.{Appends};
 ghost use Rattle.line_serving.specs.Devices.{device_of};
 ghost use Rattle.line_serving.specs.Lines.{line_feed};
 ghost use Rattle.line_serving.specs.Output.{IsCut};
 ghost use Rattle.batch_workers.specs.Workers.{IsBadCount};
-ghost use Rattle.program_run.specs.Runs.{IsServed, IsMiscounted, IsServedBy, IsShown, EndsAsRefused, IsSampleRun, IsFilesRun, IsProgramRun, IsWordless};
+ghost use Rattle.program_run.specs.Runs.{IsServed, IsMiscounted, IsServedBy, IsShown, EndsAsRefused, IsSampleRun, IsFilesRun, IsProgramRun, SaysWhere, IsWordless};
+ghost use Rattle.world_files.specs.Opening.{IsPlaced};
 
-use command_line::{Stop, Words};
+use command_line::{End, LocatedStop, Stop, Words};
 use line_serving::{Counted, DeviceFault, ServeFault};
 use std::alloc::Global;
 use std::env;
@@ -114,15 +115,22 @@ fn run_files<R: Files + Threads + Wait + AllocGlobal + Sync, W: Write>(
     rt: &R,
     words: &Words,
     writer: &mut Counted<W>,
-) -> Stop
-    ensures { IsFilesRun words.now (W.contents (device_of writer.old)) (W.contents (device_of writer.new)) result }
+) -> LocatedStop
+    ensures run { IsFilesRun words.now (W.contents (device_of writer.old)) (W.contents (device_of writer.new)) result.stop }
+    ensures placed { IsPlaced words.now result }
 {
     let world = match open_world(rt, words) {
         Ok(world) => world,
         Err(stop) => return stop,
     };
     match open_requests(rt, words) {
-        Ok(file) => serve_words(rt, words.workers, &world, &mut Counted::new(file), writer),
+        Ok(file) => LocatedStop::from(serve_words(
+            rt,
+            words.workers,
+            &world,
+            &mut Counted::new(file),
+            writer,
+        )),
         Err(stop) => stop,
     }
 }
@@ -171,21 +179,26 @@ fn tell<W: Write>(stop: Stop, writer: &mut Counted<W>) -> Stop
 }
 
 /// A run of the words after the program's name. Without any it serves the sample world from the reader; else it serves the
-/// files that the words name, and reads nothing of the reader. Help is written to the writer.
+/// files that the words name, and reads nothing of the reader. Help is written to the writer. Where the words ask for it, the end
+/// also says in which file a fault is.
 pub fn run<R: Files + Threads + Wait + AllocGlobal + Sync, I: Read, W: Write>(
     rt: &R,
     words: &[String],
     reader: &mut Counted<I>,
     writer: &mut Counted<W>,
-) -> Stop
-    ensures { IsProgramRun (map string_bytes words.now) (I.remaining (device_of reader.old)) (I.remaining (device_of reader.new))
-        (W.contents (device_of writer.old)) (W.contents (device_of writer.new)) result }
+) -> End
+    ensures run { IsProgramRun (map string_bytes words.now) (I.remaining (device_of reader.old)) (I.remaining (device_of reader.new))
+        (W.contents (device_of writer.old)) (W.contents (device_of writer.new)) result.stop }
+    ensures explained { IfSome result.explanation (λ text. SaysWhere (map string_bytes words.now) result.stop (string_bytes text)) }
 {
     if words.is_empty() {
-        return run_sample(rt.alloc(), reader, writer);
+        return End::from(run_sample(rt.alloc(), reader, writer));
     }
     match Words::read(rt.alloc(), words) {
-        Ok(words) => run_files(rt, &words, writer),
-        Err(stop) => tell(stop, writer),
+        Ok(words) => {
+            let stop = run_files(rt, &words, writer);
+            End::of(rt.alloc(), &words, stop)
+        }
+        Err(stop) => End::from(tell(stop, writer)),
     }
 }

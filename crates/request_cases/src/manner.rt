@@ -14,11 +14,13 @@ pub enum Deed {
     Gives(usize),
 }
 
-/// At most how many keys a batch has, the key that each source has a fault of, and what the source of a loader does.
+/// At most how many keys a batch has, the key that each source has a fault of, the key with which each source fails the first time
+/// that it is asked it, and what the source of a loader does.
 #[derive(Drop)]
 pub struct Manner<'a> {
     pub limit: Option<u32>,
     pub bad_key: Option<&'a str>,
+    pub bad_once: Option<&'a str>,
     deeds: Vec<(&'a str, Deed)>,
 }
 
@@ -36,11 +38,12 @@ fn deed_of(words: &str) -> Result<Deed> {
 }
 
 impl<'a> Manner<'a> {
-    /// The manner of `batches of 3`, `fault of bad` and `userById fails`, which `, ` parts.
+    /// The manner of `batches of 3`, `fault of bad`, `failure of bad` and `userById fails`, which `, ` parts.
     pub fn of(alloc: Global, words: &'a str) -> Result<Manner<'a>> {
         let mut manner = Manner {
             limit: None,
             bad_key: None,
+            bad_once: None,
             deeds: Vec::new(alloc),
         };
         for part in words.split(", ") {
@@ -48,6 +51,7 @@ impl<'a> Manner<'a> {
             match (first, rest.strip_prefix("of ")) {
                 ("batches", Some(limit)) => manner.limit = Some(limit.parse()?),
                 ("fault", Some(key)) => manner.bad_key = Some(key),
+                ("failure", Some(key)) => manner.bad_once = Some(key),
                 _ => manner.deeds.push((first, deed_of(rest)?))?,
             }
         }
@@ -59,6 +63,7 @@ impl<'a> Manner<'a> {
         Manner {
             limit: None,
             bad_key: None,
+            bad_once: None,
             deeds: Vec::new(alloc),
         }
     }

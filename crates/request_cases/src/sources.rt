@@ -19,7 +19,31 @@ pub struct CountingSource<'w> {
     source: CsvSource<'w>,
     calls: Arc<AtomicU64>,
     bad_key: Option<String>,
+    bad_once: Option<String>,
+    failures: AtomicU64,
     deed: Deed,
+}
+
+impl CountingSource<'_> {
+    /// Whether this is the first batch that has the key with which the source fails once.
+    fn fails_now(&self, keys: &[Key]) -> bool {
+        match &self.bad_once {
+            Some(bad) => has_text(keys, bad) && self.failures.fetch_add(1, Ordering::SeqCst) == 0,
+            None => false,
+        }
+    }
+}
+
+/// Whether one of the keys has a text.
+fn has_text(keys: &[Key], wanted: &str) -> bool {
+    for key in keys {
+        if let Key::Text(text) = key
+            && text.as_str() == wanted
+        {
+            return true;
+        }
+    }
+    false
 }
 
 /// Gives the key of a text a fault.
@@ -50,18 +74,26 @@ fn resize(alloc: Global, items: &mut Vec<Item>, count: usize) -> Result<(), Allo
     Ok(())
 }
 
+/// What a source says that fails.
+fn failed(alloc: Global) -> Result<FetchFault, AllocError> {
+    Ok(FetchFault::Failed(String::from_str(alloc, "no light")?))
+}
+
 impl<'w> Source for CountingSource<'w> {
     ghost may_answer = { λ _ _ _. ⊤ };
 
     fn fetch(&self, alloc: Global, keys: &[Key]) -> Result<Vec<Item>, FetchFault> {
         self.calls.fetch_add(1, Ordering::SeqCst);
+        if self.fails_now(keys) {
+            return Err(failed(alloc)?);
+        }
         let mut items = self.source.fetch(alloc, keys)?;
         if let Some(bad) = &self.bad_key {
             give_fault(alloc, &mut items, keys, bad)?;
         }
         match self.deed {
             Deed::Answers => {}
-            Deed::Fails => return Err(FetchFault::Failed(String::from_str(alloc, "no light")?)),
+            Deed::Fails => return Err(failed(alloc)?),
             Deed::LacksMemory => return Err(FetchFault::NoMemory),
             Deed::Gives(count) => resize(alloc, &mut items, count)?,
         }
@@ -78,6 +110,14 @@ pub fn counters(alloc: Global, world: &World) -> Result<Vec<Arc<AtomicU64>>, All
     Ok(counters)
 }
 
+/// A copy of a key's text, where there is one.
+fn copied(alloc: Global, key: Option<&str>) -> Result<Option<String>, AllocError> {
+    match key {
+        Some(key) => Ok(Some(String::from_str(alloc, key)?)),
+        None => Ok(None),
+    }
+}
+
 /// The loader of a world by its number, which has asked nothing.
 fn loader<'w>(
     alloc: Global,
@@ -92,17 +132,15 @@ fn loader<'w>(
         bail!("no such loader");
     }
     let calls = Arc::try_clone(counters.get(number).context("no counter")?)?;
-    let bad_key = match manner.bad_key {
-        Some(key) => Some(String::from_str(alloc, key)?),
-        None => None,
-    };
     let name = world.bindings().loaders()[number].name.as_str();
     let source = world.source(number);
     let mode = source.mode();
     let counting = CountingSource {
         source,
         calls,
-        bad_key,
+        bad_key: copied(alloc, manner.bad_key)?,
+        bad_once: copied(alloc, manner.bad_once)?,
+        failures: AtomicU64::new(0),
         deed: manner.deed(name),
     };
     Ok(Loader::new(alloc, name, counting, mode, world.limit())?)

@@ -6,7 +6,7 @@ use crate::stops::end_of;
 use crate::words::split;
 use crate::worlds::built_in;
 use anyhow::Result;
-use command_line::{Stop, Words};
+use command_line::{End, LocatedStop, Stop, Words};
 use line_serving::{Counted, DeviceFault, ServeFault};
 use std::alloc::{AllocGlobal, Global};
 use std::io::{Read, Write};
@@ -49,10 +49,23 @@ fn files_served<R: Files + AllocGlobal, W: Write>(
     rt: &R,
     words: &Words,
     writer: &mut Counted<W>,
-) -> Result<Stop, Stop> {
+) -> Result<Stop, LocatedStop> {
     let world = open_world(rt, words)?;
     let mut requests = Counted::new(open_requests(rt, words)?);
     Ok(served(rt.alloc(), &world, &mut requests, writer))
+}
+
+/// How a run of files ends.
+fn end_of_files<R: Files + AllocGlobal, W: Write>(
+    rt: &R,
+    words: &Words,
+    writer: &mut Counted<W>,
+) -> End {
+    let stop = match files_served(rt, words, writer) {
+        Ok(stop) => LocatedStop::from(stop),
+        Err(stop) => stop,
+    };
+    End::of(rt.alloc(), words, stop)
 }
 
 fn write_line<W: Write>(writer: &mut Counted<W>, text: &str) -> Result<(), DeviceFault> {
@@ -66,17 +79,14 @@ fn end_of_words<R: Files + AllocGlobal, W: Write>(
     rt: &R,
     words: &[String],
     writer: &mut Counted<W>,
-) -> Stop {
+) -> End {
     match Words::read(rt.alloc(), words) {
-        Ok(words) => match files_served(rt, &words, writer) {
-            Ok(stop) => stop,
-            Err(stop) => stop,
-        },
+        Ok(words) => end_of_files(rt, &words, writer),
         Err(Stop::Help(text)) => match write_line(writer, text.as_str()) {
-            Ok(()) => Stop::Help(text),
-            Err(_) => Stop::Serve(ServeFault::WriteFault),
+            Ok(()) => End::from(Stop::Help(text)),
+            Err(_) => End::from(Stop::Serve(ServeFault::WriteFault)),
         },
-        Err(stop) => stop,
+        Err(stop) => End::from(stop),
     }
 }
 
@@ -92,13 +102,16 @@ pub fn told<R: Files + AllocGlobal>(
     let mut narrow = Narrow { bytes, room };
     let mut reader = Counted::new(input);
     let mut writer = Counted::new(&mut narrow);
-    let stop = if words.is_empty() {
-        served(rt.alloc(), &built_in(rt.alloc())?, &mut reader, &mut writer)
+    let end = if words.is_empty() {
+        End::from(served(rt.alloc(), &built_in(rt.alloc())?, &mut reader, &mut writer))
     } else {
         end_of_words(rt, words.as_slice(), &mut writer)
     };
     drop(writer);
     let written = str::from_utf8(narrow.bytes.as_slice())?;
-    let end = end_of(rt.alloc(), &stop)?;
-    Ok(format!(in rt.alloc(); "{written}{end}")?)
+    let told = end_of(rt.alloc(), &end.stop)?;
+    match end.explanation {
+        Some(more) => Ok(format!(in rt.alloc(); "{written}{told}\n{more}")?),
+        None => Ok(format!(in rt.alloc(); "{written}{told}")?),
+    }
 }

@@ -32,6 +32,9 @@ fn parts(alloc: Global, words: &Words) -> Result<String, AllocError> {
     if let Some(workers) = words.workers {
         write!(told, ", {workers} workers")?;
     }
+    if words.explain {
+        told.push_str(", explained")?;
+    }
     for table in &words.tables {
         write!(told, ", table {:?} in {:?}", table.name, table.file)?;
     }

@@ -169,7 +169,7 @@ pub fn opened<R: Files + AllocGlobal>(rt: &R, line: &str) -> Result<String> {
     };
     match open_world(rt, &words) {
         Ok(world) => Ok(told_of(rt.alloc(), &world)?),
-        Err(stop) => Ok(part_of(rt.alloc(), &stop)?),
+        Err(end) => Ok(part_of(rt.alloc(), &end.stop)?),
     }
 }
 
@@ -180,6 +180,6 @@ pub fn requested<R: Files + AllocGlobal>(rt: &R, line: &str) -> Result<String> {
     };
     match open_requests(rt, &words) {
         Ok(_) => Ok(String::from_str(rt.alloc(), "open")?),
-        Err(stop) => Ok(part_of(rt.alloc(), &stop)?),
+        Err(end) => Ok(part_of(rt.alloc(), &end.stop)?),
     }
 }

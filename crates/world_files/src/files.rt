@@ -4,10 +4,10 @@ ghost use Rattle.std.specs.Prelude.{◌≡◌, ◌<◌, ◌≤◌, ℕ, List, le
 ghost use Rattle.std.specs.String.{from_utf8_error_vec};
 ghost use Rattle.world.specs.Sources.{TableOf};
 ghost use Rattle.world.specs.Worlds.{IsWorld};
-ghost use Rattle.world_files.specs.Opening.{IsUnread, IsUnopened, IsUnmade, IsWholeOrLong};
+ghost use Rattle.world_files.specs.Opening.{IsUnreadIn, IsUnopenedIn, IsUnopenedOf, IsUnmade, IsLocated, IsWholeOrLong};
 
-use command_line::{Stop, Words};
-use csv_source::Table;
+use command_line::{LocatedStop, Origin, Spot, Stop, Subject, Words};
+use csv_source::{Table, TableFault};
 use gq_lexer::MAX_BYTES;
 use line_serving::ServeFault;
 use std::alloc::Global;
@@ -27,40 +27,56 @@ const MAX_BINDINGS: u32 = 16_777_216;
 const MAX_TABLE: u32 = 4_294_967_295;
 
 // How a failed call on a file ends a run.
-fn stop_of(error: &io::Error) -> Stop
-    ensures { IsUnread result }
+fn stopped_at(subject: Subject, error: &io::Error) -> LocatedStop
+    ensures { IsUnreadIn subject result }
 {
     if error.kind() == ErrorKind::OutOfMemory {
-        Stop::Serve(ServeFault::NoMemory)
-    } else {
-        Stop::File
+        return LocatedStop {
+            stop: Stop::Serve(ServeFault::NoMemory),
+            origin: None,
+        };
     }
+    LocatedStop {
+        stop: Stop::File,
+        origin: Some(Origin {
+            subject,
+            spot: Spot::Reason(*error),
+        }),
+    }
+}
+
+// What is said of a file that is longer than it may be.
+fn too_long() -> io::Error {
+    io::Error::new(ErrorKind::FileTooLarge, "the file is too long")
+}
+
+// What is said of a file that is no text, as the library says it.
+fn no_text() -> io::Error {
+    io::Error::new(ErrorKind::InvalidData, "stream did not contain valid UTF-8")
 }
 
 /// The text that a reader gives, of so many bytes at most. What comes behind these isn't read, however long the reader goes on.
 ///
 /// # Errors
 ///
-/// `File` where it fails, gives no UTF-8 or gives more, and `Serve` for want of memory.
-pub fn read_text<R: Read + Drop>(alloc: Global, reader: R, most: u32) -> Result<String, Stop>
+/// Why the reader fails; and where it gives no UTF-8, or gives more.
+pub fn read_text<R: Read + Drop>(alloc: Global, reader: R, most: u32) -> io::Result<String>
     ensures ok { IfOk result (λ text. IfSome (R.remaining reader) (λ bytes. string_bytes text ≡ bytes)) }
     ensures within { IfOk result (λ text. string_len text ≤ most) }
-    ensures err { IfErr result IsUnread }
 {
     let text = match io::read_to_string(alloc, reader.take(most as u64 + 1)) {
         Ok(text) => text,
-        Err(error) => return Err(stop_of(&error)),
+        Err(error) => return Err(error),
     };
     if text.len() > most as usize {
-        return Err(Stop::File);
+        return Err(too_long());
     }
     Ok(text)
 }
 
 // The text before the first fault, where it is longer than a schema may be.
-fn long_text(error: FromUtf8Error<Global>) -> Result<String, Stop>
+fn long_text(error: FromUtf8Error<Global>) -> io::Result<String>
     ensures ok { IfOk result (λ text. (MAX_BYTES < string_len text) × (string_len text ≤ length (from_utf8_error_vec error).items)) }
-    ensures err { IfErr result IsUnread }
 {
     let front = error.utf8_error().valid_up_to();
     let mut bytes = error.into_bytes();
@@ -70,9 +86,9 @@ fn long_text(error: FromUtf8Error<Global>) -> Result<String, Stop>
             if text.len() > MAX_BYTES {
                 return Ok(text);
             }
-            Err(Stop::File)
+            Err(no_text())
         }
-        Err(_) => Err(Stop::File),
+        Err(_) => Err(no_text()),
     }
 }
 
@@ -81,15 +97,14 @@ fn long_text(error: FromUtf8Error<Global>) -> Result<String, Stop>
 ///
 /// # Errors
 ///
-/// `File` where it fails, or what is read is no UTF-8 but for a character that the end cuts; and `Serve` for want of memory.
-pub fn read_schema<R: Read + Drop>(alloc: Global, reader: R) -> Result<String, Stop>
+/// Why the reader fails; and where what is read is no UTF-8 but for a character that the end cuts.
+pub fn read_schema<R: Read + Drop>(alloc: Global, reader: R) -> io::Result<String>
     ensures ok { IfOk result (λ text. IfSome (R.remaining reader) (λ bytes. IsWholeOrLong MAX_BYTES bytes (string_bytes text))) }
-    ensures err { IfErr result IsUnread }
 {
     let mut bytes = Vec::new(alloc);
     match reader.take(SCHEMA_FRONT).read_to_end(&mut bytes) {
         Ok(_) => {}
-        Err(error) => return Err(stop_of(&error)),
+        Err(error) => return Err(error),
     }
     match String::from_utf8(bytes) {
         Ok(text) => Ok(text),
@@ -97,55 +112,86 @@ pub fn read_schema<R: Read + Drop>(alloc: Global, reader: R) -> Result<String, S
     }
 }
 
-fn open<R: Files>(rt: &R, path: &str) -> Result<R::File, Stop>
-    ensures err { IfErr result IsUnread }
-{
-    match fs::open(rt, path) {
-        Ok(file) => Ok(file),
-        Err(error) => Err(stop_of(&error)),
-    }
-}
-
-fn schema_file<R: Files + AllocGlobal>(rt: &R, path: &str) -> Result<String, Stop>
-    ensures err { IfErr result IsUnread }
-{
-    let file = open(rt, path)?;
+fn schema_file<R: Files + AllocGlobal>(rt: &R, path: &str) -> io::Result<String> {
+    let file = fs::open(rt, path)?;
     read_schema(rt.alloc(), file)
 }
 
-fn bindings_file<R: Files + AllocGlobal>(rt: &R, path: &str) -> Result<String, Stop>
-    ensures err { IfErr result IsUnread }
-{
-    let file = open(rt, path)?;
+fn bindings_file<R: Files + AllocGlobal>(rt: &R, path: &str) -> io::Result<String> {
+    let file = fs::open(rt, path)?;
     read_text(rt.alloc(), file, MAX_BINDINGS)
 }
 
-// The table of a file. One that is longer than a table may be isn't read to its end.
-fn table_file<R: Files + AllocGlobal>(rt: &R, path: &str) -> Result<Table, Stop>
-    ensures err { IfErr result IsUnopened }
+// A reader that keeps the last fault that it met.
+#[derive(Drop)]
+struct Keeping<R> {
+    inner: R,
+    fault: Option<io::Error>,
+}
+
+impl<R: Read> Read for Keeping<R> {
+    fn read(&mut self, buf: &mut [u8]) -> io::Result<usize> {
+        match self.inner.read(buf) {
+            Ok(count) => Ok(count),
+            Err(error) => {
+                self.fault = Some(error);
+                Err(error)
+            }
+        }
+    }
+}
+
+// How a table's fault ends a run. Of a file that couldn't be read its reader has kept the reason.
+fn refused(subject: Subject, fault: TableFault, kept: Option<io::Error>) -> LocatedStop
+    ensures { IsUnopenedIn subject result }
 {
-    let file = match open(rt, path) {
-        Ok(file) => file,
-        Err(stop) => return Err(stop),
+    let spot = match (fault, kept) {
+        (TableFault::ReadFault, Some(error)) => Spot::Reason(error),
+        _ => Spot::Whole,
     };
-    let mut front = file.take(MAX_TABLE as u64 + 1);
+    LocatedStop {
+        stop: Stop::Table(fault),
+        origin: Some(Origin { subject, spot }),
+    }
+}
+
+// The table of a file. One that is longer than a table may be isn't read to its end.
+fn table_file<R: Files + AllocGlobal>(
+    rt: &R,
+    path: &str,
+    place: usize,
+) -> Result<Table, LocatedStop>
+    ensures err { IfErr result (IsUnopenedIn (Subject.Table place)) }
+{
+    let subject = Subject::Table(place);
+    let file = match fs::open(rt, path) {
+        Ok(file) => file,
+        Err(error) => return Err(stopped_at(subject, &error)),
+    };
+    let mut front = Keeping {
+        inner: file.take(MAX_TABLE as u64 + 1),
+        fault: None,
+    };
     let table = Table::read(rt.alloc(), &mut front);
-    if front.limit() == 0 {
-        return Err(Stop::File);
+    if front.inner.limit() == 0 {
+        return Err(stopped_at(subject, &too_long()));
     }
     match table {
         Ok(table) => Ok(table),
-        Err(fault) => Err(Stop::Table(fault)),
+        Err(fault) => Err(refused(subject, fault, front.fault)),
     }
 }
 
 // The tables of a command line, in the order of its words.
-fn table_files<R: Files + AllocGlobal>(rt: &R, words: &Words) -> Result<Vec<(String, Table)>, Stop>
-    ensures err { IfErr result IsUnopened }
+fn table_files<R: Files + AllocGlobal>(
+    rt: &R,
+    words: &Words,
+) -> Result<Vec<(String, Table)>, LocatedStop>
+    ensures err { IfErr result (IsUnopenedOf words.now) }
 {
     let mut tables = Vec::new(rt.alloc());
-    for given in &words.tables {
-        let table = match table_file(rt, given.file.as_str()) {
+    for (place, given) in words.tables.iter().enumerate() {
+        let table = match table_file(rt, given.file.as_str(), place) {
             Ok(table) => table,
             Err(stop) => return Err(stop),
         };
@@ -161,19 +207,20 @@ fn table_files<R: Files + AllocGlobal>(rt: &R, words: &Words) -> Result<Vec<(Str
 ///
 /// `File` where the schema, the bindings or a table can't be opened, the first two can't be read or are no UTF-8, or the bindings
 /// have more than 16,777,216 bytes or a table more than 4,294,967,295; `Table` where a table is refused or its file can't be
-/// read; `World` where there is no world of what was read; and want of memory.
-pub fn open_world<R: Files + AllocGlobal>(rt: &R, words: &Words) -> Result<World, Stop>
+/// read; `World` where there is no world of what was read; and want of memory. Each has its file, and the place in it or the reason.
+pub fn open_world<R: Files + AllocGlobal>(rt: &R, words: &Words) -> Result<World, LocatedStop>
     ensures ok { IfOk result (λ world. (schema : List ℕ) × (bindings : List ℕ) × (tables : List TableOf)
         × IsWorld schema bindings tables words.now.max_batch world) }
-    ensures err { IfErr result (IsUnmade words.now.max_batch) }
+    ensures err { IfErr result (λ end. IsUnmade words.now.max_batch end.stop) }
+    ensures origin { IfErr result (IsLocated words.now) }
 {
     let schema = match schema_file(rt, words.schema.as_str()) {
         Ok(text) => text,
-        Err(stop) => return Err(stop),
+        Err(error) => return Err(stopped_at(Subject::Schema, &error)),
     };
     let bindings = match bindings_file(rt, words.bindings.as_str()) {
         Ok(text) => text,
-        Err(stop) => return Err(stop),
+        Err(error) => return Err(stopped_at(Subject::Bindings, &error)),
     };
     let tables = match table_files(rt, words) {
         Ok(tables) => tables,
@@ -187,7 +234,7 @@ pub fn open_world<R: Files + AllocGlobal>(rt: &R, words: &Words) -> Result<World
         words.max_batch,
     ) {
         Ok(world) => Ok(world),
-        Err(fault) => Err(Stop::World(fault)),
+        Err(fault) => Err(LocatedStop::from(Stop::World(fault))),
     }
 }
 
@@ -195,9 +242,12 @@ pub fn open_world<R: Files + AllocGlobal>(rt: &R, words: &Words) -> Result<World
 ///
 /// # Errors
 ///
-/// `File` where it can't be opened, and want of memory.
-pub fn open_requests<R: Files>(rt: &R, words: &Words) -> Result<R::File, Stop>
-    ensures err { IfErr result IsUnread }
+/// `File` where it can't be opened, with the reason, and want of memory.
+pub fn open_requests<R: Files>(rt: &R, words: &Words) -> Result<R::File, LocatedStop>
+    ensures err { IfErr result (IsUnreadIn Subject.Requests) }
 {
-    open(rt, words.requests.as_str())
+    match fs::open(rt, words.requests.as_str()) {
+        Ok(file) => Ok(file),
+        Err(error) => Err(stopped_at(Subject::Requests, &error)),
+    }
 }

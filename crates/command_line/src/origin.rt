@@ -1,0 +1,251 @@
+//! Where the fault is that ends a run.
+
+ghost use Rattle.std.specs.Prelude.{◌≡◌, IfOk, IfSome, None, string_bytes};
+ghost use Rattle.command_line.specs.declared.stop.Stop.TheVariants.{Serve};
+ghost use Rattle.line_serving.specs.declared.fault.ServeFault.TheVariants.{NoMemory};
+ghost use Rattle.command_line.specs.Origins.{in_file, origin_of_schema, origin_of_world, origin_of_serve, origin_of, file_of, IsWritten, Explains};
+
+use crate::stop::Stop;
+use crate::words::Words;
+use gq_lexer::Place;
+use gq_schema::SchemaFault;
+use line_serving::ServeFault;
+use std::alloc::{AllocError, AllocFailed, Global};
+use std::io;
+use world::WorldFault;
+
+/// One of the files of a command line.
+#[derive(Clone, Copy, Debug)]
+pub enum Subject {
+    Schema,
+    Bindings,
+    /// The table of this place among the words, from 0.
+    Table(usize),
+    Requests,
+    /// No file of the words, but standard output.
+    Output,
+}
+
+/// Where in a file a fault is, or why the file can't be read.
+#[derive(Clone, Copy, Debug)]
+pub enum Spot {
+    /// Nowhere but in the whole file.
+    Whole,
+    /// In a line, from 1.
+    Line(u64),
+    /// At a line and a column.
+    At(Place),
+    /// What the system says.
+    Reason(io::Error),
+}
+
+/// The file that a fault is about, and where in it.
+#[derive(Clone, Copy, Debug)]
+pub struct Origin {
+    pub subject: Subject,
+    pub spot: Spot,
+}
+
+/// How a run ends, and where the fault is, as far as that is known.
+#[derive(Debug, Drop)]
+pub struct LocatedStop {
+    pub stop: Stop,
+    pub origin: Option<Origin>,
+}
+
+/// How a run ends, and what is said of it behind the line of its [`Stop`], where `--explain` asks for that.
+#[derive(Debug, Drop)]
+pub struct End {
+    pub stop: Stop,
+    pub explanation: Option<String>,
+}
+
+// An origin that is known.
+fn in_file(subject: Subject, spot: Spot) -> Option<Origin>
+    ensures { result ≡ in_file subject spot }
+{
+    Some(Origin { subject, spot })
+}
+
+// The place of a schema's fault, and the line of a bindings' one. Want of memory is nowhere.
+fn origin_of_schema(fault: &SchemaFault) -> Option<Origin>
+    ensures { result ≡ origin_of_schema fault.now }
+{
+    match fault {
+        SchemaFault::Syntax(place) => in_file(Subject::Schema, Spot::At(*place)),
+        SchemaFault::Duplicate(place) => in_file(Subject::Schema, Spot::At(*place)),
+        SchemaFault::UnknownType(place) => in_file(Subject::Schema, Spot::At(*place)),
+        SchemaFault::BadImplements(place) => in_file(Subject::Schema, Spot::At(*place)),
+        SchemaFault::NoQueryRoot => in_file(Subject::Schema, Spot::Whole),
+        SchemaFault::ReservedName(place) => in_file(Subject::Schema, Spot::At(*place)),
+        SchemaFault::NotServed(place) => in_file(Subject::Schema, Spot::At(*place)),
+        SchemaFault::BadBinding(line) => in_file(Subject::Bindings, Spot::Line(*line)),
+        SchemaFault::NoMemory => None,
+        SchemaFault::BadKind(place) => in_file(Subject::Schema, Spot::At(*place)),
+        SchemaFault::BadDefault(place) => in_file(Subject::Schema, Spot::At(*place)),
+    }
+}
+
+// A table that is missing, or lacks a column, is named by the bindings.
+fn origin_of_world(fault: &WorldFault) -> Option<Origin>
+    ensures { result ≡ origin_of_world fault.now }
+{
+    match fault {
+        WorldFault::Schema(fault) => origin_of_schema(fault),
+        WorldFault::NoSuchTable | WorldFault::NoSuchColumn => {
+            in_file(Subject::Bindings, Spot::Whole)
+        }
+        WorldFault::BadLimit | WorldFault::DuplicateTable | WorldFault::NoMemory => None,
+    }
+}
+
+fn origin_of_serve(fault: ServeFault) -> Option<Origin>
+    ensures { result ≡ origin_of_serve fault }
+{
+    match fault {
+        ServeFault::LineTooLong | ServeFault::ReadFault => in_file(Subject::Requests, Spot::Whole),
+        ServeFault::WriteFault => in_file(Subject::Output, Spot::Whole),
+        ServeFault::BadCount | ServeFault::NoMemory => None,
+    }
+}
+
+impl Stop {
+    /// Where the fault is, as far as the end itself says that: the place of a schema's fault, the line of a bindings' one,
+    /// and the file of one in serving.
+    pub fn origin(&self) -> Option<Origin>
+        ensures { result ≡ origin_of self.now }
+    {
+        match self {
+            Stop::World(fault) => origin_of_world(fault),
+            Stop::Serve(fault) => origin_of_serve(*fault),
+            Stop::Served | Stop::Help(_) | Stop::Command(_) | Stop::Table(_) | Stop::File => None,
+        }
+    }
+}
+
+impl From<AllocError> for LocatedStop {
+    ghost from_gives = { λ _ end. (end.stop ≡ Serve NoMemory) × (end.origin ≡ None) };
+
+    fn from(_: AllocError) -> LocatedStop {
+        LocatedStop {
+            stop: Stop::Serve(ServeFault::NoMemory),
+            origin: None,
+        }
+    }
+}
+
+impl<T: Drop> From<AllocFailed<T>> for LocatedStop {
+    ghost from_gives = { λ _ end. (end.stop ≡ Serve NoMemory) × (end.origin ≡ None) };
+
+    fn from(_: AllocFailed<T>) -> LocatedStop {
+        LocatedStop {
+            stop: Stop::Serve(ServeFault::NoMemory),
+            origin: None,
+        }
+    }
+}
+
+impl From<Stop> for LocatedStop {
+    ghost from_gives = { λ stop end. (end.stop ≡ stop) × (end.origin ≡ origin_of stop) };
+
+    fn from(stop: Stop) -> LocatedStop {
+        let origin = stop.origin();
+        LocatedStop { stop, origin }
+    }
+}
+
+impl Words {
+    // The name of a file.
+    fn file(&self, subject: Subject) -> &str
+        ensures { result.now ≡ file_of self.now subject }
+    {
+        match subject {
+            Subject::Schema => self.schema.as_str(),
+            Subject::Bindings => self.bindings.as_str(),
+            Subject::Table(place) => match self.tables.get(place) {
+                Some(table) => table.file.as_str(),
+                None => "",
+            },
+            Subject::Requests => self.requests.as_str(),
+            Subject::Output => "standard output",
+        }
+    }
+}
+
+// A line of a file, or the file alone for line 0.
+fn written_line(alloc: Global, file: &str, line: u64) -> Result<String, AllocError>
+    ensures { IfOk result (λ text. IsWritten file.now (Spot.Line line) (string_bytes text)) }
+{
+    if line == 0 {
+        return String::from_str(alloc, file);
+    }
+    Ok(format!(in alloc; "{file}:{line}")?)
+}
+
+// A line and a column of a file.
+fn written_place(alloc: Global, file: &str, place: Place) -> Result<String, AllocError>
+    ensures { IfOk result (λ text. IsWritten file.now (Spot.At place) (string_bytes text)) }
+{
+    let Place { line, column } = place;
+    Ok(format!(in alloc; "{file}:{line}:{column}")?)
+}
+
+// A file, and what the system says of it.
+fn written_reason(alloc: Global, file: &str, reason: io::Error) -> Result<String, AllocError>
+    ensures { IfOk result (λ text. IsWritten file.now (Spot.Reason reason) (string_bytes text)) }
+{
+    let mut text = format!(in alloc; "{file}: ")?;
+    let reason = reason.to_string(alloc)?;
+    text.push_str(reason.as_str())?;
+    Ok(text)
+}
+
+// The file, and where in it.
+fn written(alloc: Global, file: &str, spot: Spot) -> Result<String, AllocError>
+    ensures { IfOk result (λ text. IsWritten file.now spot (string_bytes text)) }
+{
+    match spot {
+        Spot::Whole => String::from_str(alloc, file),
+        Spot::Line(line) => written_line(alloc, file, line),
+        Spot::At(place) => written_place(alloc, file, place),
+        Spot::Reason(reason) => written_reason(alloc, file, reason),
+    }
+}
+
+// What is said of a fault, where it is asked for and memory allows.
+fn explanation(alloc: Global, words: &Words, origin: Option<Origin>) -> Option<String>
+    ensures { IfSome result (λ text. Explains words.now origin (string_bytes text)) }
+{
+    if !words.explain {
+        return None;
+    }
+    let origin = origin?;
+    match written(alloc, words.file(origin.subject), origin.spot) {
+        Ok(text) => Some(text),
+        Err(_) => None,
+    }
+}
+
+impl From<Stop> for End {
+    ghost from_gives = { λ stop end. (end.stop ≡ stop) × (end.explanation ≡ None) };
+
+    fn from(stop: Stop) -> End {
+        End {
+            stop,
+            explanation: None,
+        }
+    }
+}
+
+impl End {
+    /// The end of a run of these words.
+    pub fn of(alloc: Global, words: &Words, end: LocatedStop) -> End
+        ensures stop { result.stop ≡ end.stop }
+        ensures explanation { IfSome result.explanation (λ text. Explains words.now end.origin (string_bytes text)) }
+    {
+        End {
+            stop: end.stop,
+            explanation: explanation(alloc, words, end.origin),
+        }
+    }
+}
