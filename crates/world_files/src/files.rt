@@ -234,7 +234,11 @@ pub fn open_world<R: Files + AllocGlobal>(rt: &R, words: &Words) -> Result<World
         words.max_batch,
     ) {
         Ok(world) => Ok(world),
-        Err(fault) => Err(LocatedStop::from(Stop::World(fault))),
+        Err(fault) => {
+            let stop = Stop::World(fault);
+            let origin = stop.origin();
+            Err(LocatedStop { stop, origin })
+        }
     }
 }
 
