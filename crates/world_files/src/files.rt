@@ -99,7 +99,7 @@ fn long_text(error: FromUtf8Error<Global>) -> io::Result<String>
 ///
 /// Why the reader fails; and where what is read is no UTF-8 but for a character that the end cuts.
 pub fn read_schema<R: Read + Drop>(alloc: Global, reader: R) -> io::Result<String>
-    ensures ok { IfOk result (λ text. IfSome (R.remaining reader) (λ bytes. IsWholeOrLong MAX_BYTES bytes (string_bytes text))) }
+    ensures { IfOk result (λ text. IfSome (R.remaining reader) (λ bytes. IsWholeOrLong MAX_BYTES bytes (string_bytes text))) }
 {
     let mut bytes = Vec::new(alloc);
     match reader.take(SCHEMA_FRONT).read_to_end(&mut bytes) {
@@ -234,7 +234,11 @@ pub fn open_world<R: Files + AllocGlobal>(rt: &R, words: &Words) -> Result<World
         words.max_batch,
     ) {
         Ok(world) => Ok(world),
-        Err(fault) => Err(LocatedStop::from(Stop::World(fault))),
+        Err(fault) => {
+            let stop = Stop::World(fault);
+            let origin = stop.origin();
+            Err(LocatedStop { stop, origin })
+        }
     }
 }
 

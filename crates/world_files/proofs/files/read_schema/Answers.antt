@@ -8,8 +8,8 @@ use Rattle.world_files.proofs.Fronts.{front-read, bounded-read}
 use Rattle.world_files.specs.Opening.{IsWholeOrLong}
 use Rattle.world_files.proofs.files.read_schema.Goals as goal
 
-pub returns-in-Ok-from_utf8-clause-ok : goal.returns-in-Ok-from_utf8-clause-ok
-returns-in-Ok-from_utf8-clause-ok g c =
+pub returns-in-Ok-from_utf8 : goal.returns-in-Ok-from_utf8
+returns-in-Ok-from_utf8 g c =
     let remaining = g.R.Read.remaining in
     let items = c.read_to_end.new.buf.items in
     let known = remaining c.args.reader in
@@ -17,8 +17,8 @@ returns-in-Ok-from_utf8-clause-ok g c =
     bounded-read _ remaining c.take.result c.args.reader 1048580 c.new-bytes.result.items items c.take.ensures.inner c.take.ensures.limit c.new-bytes.ensures.items c.in-Ok.ensures.bytes in
     front-read known 1048580 MAX_BYTES items (string_bytes c.in-Ok-from_utf8.text) (lit< tt) read (inl (ap (λ (v : Vec ℕ). v.items) c.in-Ok-from_utf8.ensures.ok))
 
-pub returns-in-Err-from_utf8-clause-ok : goal.returns-in-Err-from_utf8-clause-ok
-returns-in-Err-from_utf8-clause-ok g c =
+pub returns-in-Err-from_utf8 : goal.returns-in-Err-from_utf8
+returns-in-Err-from_utf8 g c =
     let remaining = g.R.Read.remaining in
     let items = c.read_to_end.new.buf.items in
     let known = remaining c.args.reader in
