@@ -76,12 +76,12 @@ self-small x h = grind (arith, nat_tests)
 escape-small : (x : ℕ) → EscapeOf x (short_escape x)
 unfolding short_escape
 escape-small x =
-    escape-if x _ _ _ (λ t. (self-small x t, self-small x t))
-    (escape-if x _ _ _ (escape-as x 98 8 (omega arith) (omega arith))
-    (escape-if x _ _ _ (escape-as x 102 12 (omega arith) (omega arith))
-    (escape-if x _ _ _ (escape-as x 110 10 (omega arith) (omega arith))
-    (escape-if x _ _ _ (escape-as x 114 13 (omega arith) (omega arith))
-    (escape-if x _ _ _ (escape-as x 116 9 (omega arith) (omega arith)) tt)))))
+    escape-if x (eqb x 34 || eqb x 92 || eqb x 47) (Some x) _ (λ t. (self-small x t, self-small x t))
+    (escape-if x (eqb x 98) (Some 8) _ (escape-as x 98 8 (omega arith) (omega arith))
+    (escape-if x (eqb x 102) (Some 12) _ (escape-as x 102 12 (omega arith) (omega arith))
+    (escape-if x (eqb x 110) (Some 10) _ (escape-as x 110 10 (omega arith) (omega arith))
+    (escape-if x (eqb x 114) (Some 13) _ (escape-as x 114 13 (omega arith) (omega arith))
+    (escape-if x (eqb x 116) (Some 9) None (escape-as x 116 9 (omega arith) (omega arith)) tt)))))
 
 record IsUnit (a b c d v : ℕ) : Type 0 where
   first : a < 128
@@ -163,33 +163,49 @@ Holds after_backslash = Unit {0}
 Holds after_u = Unit {0}
 Holds (after_high h) = is_high_surrogate h ≡ true
 
+-- what a code unit goes on with
+abbrev after-unit : List ℕ → ℕ → Option (List ℕ)
+after-unit xs v = cond (is_high_surrogate v) (content (after_high v) xs) (cond (is_low_surrogate v) None (prepend (encode_utf8 v) (content plain xs)))
+
+-- and the second one of a pair
+abbrev after-pair : List ℕ → ℕ → ℕ → Option (List ℕ)
+after-pair xs h v = cond (is_low_surrogate v) (prepend (encode_utf8 (surrogate_pair h v)) (content plain xs)) None
+
+four-bytes : (a b c d v : ℕ) (xs : List ℕ) → IsUnit a b c d v → IsUtf8 (a ∷ b ∷ c ∷ d ∷ xs) → IsUtf8 xs
+four-bytes a b c d v xs h utf8 = after-byte [] d xs (after-byte [] c (d ∷ xs) (after-byte [] b (c ∷ d ∷ xs) (after-byte [] a (b ∷ c ∷ d ∷ xs) utf8 h.first) h.second) h.third) h.fourth
+
 pub content-reads : (w : Within) (pre xs : List ℕ) → Holds w → IsUtf8 (front w pre ++ xs) → Reads (front w pre) (length xs) (content w xs)
 unfolding content
 content-reads plain pre [] holds utf8 = tt
 content-reads plain pre (x ∷ xs) holds utf8 =
-    either pre (length (x ∷ xs)) (eqb x 34) _ _ (λ q. let is = eqb-true x 34 q in (subst IsUtf8 (sym (append-nil pre)) (before-byte pre x xs utf8 (omega (arith, is))), omega arith))
-    (λ q. either pre (length (x ∷ xs)) (eqb x 92) _ _
-    (λ b. let is = eqb-true x 92 b in let small : x < 128 = omega (arith, is) in behind pre (length (x ∷ xs)) (length xs) (content after_backslash xs) (before-byte pre x xs utf8 small) (omega arith) (content-reads after_backslash [] xs tt (after-byte pre x xs utf8 small)))
-    (λ b. either pre (length (x ∷ xs)) (ltb x 32) _ _ (λ c. tt)
-    (λ c. moved pre (x ∷ []) (length (x ∷ xs)) (length xs) (content plain xs) (omega arith) (content-reads plain (pre ++ x ∷ []) xs tt (subst IsUtf8 (sym (append_assoc pre (x ∷ []) xs)) utf8)))))
+    let n = length (x ∷ xs) in
+    either pre n (eqb x 34) (Some []) (cond (eqb x 92) (content after_backslash xs) (cond (ltb x 32) None (prepend (x ∷ []) (content plain xs))))
+    (λ q. let is = eqb-true x 34 q in (subst IsUtf8 (sym (append-nil pre)) (before-byte pre x xs utf8 (omega (arith, is))), omega arith))
+    (λ q. either pre n (eqb x 92) (content after_backslash xs) (cond (ltb x 32) None (prepend (x ∷ []) (content plain xs)))
+    (λ b. let is = eqb-true x 92 b in
+      let small : x < 128 = omega (arith, is) in
+      behind pre n (length xs) (content after_backslash xs) (before-byte pre x xs utf8 small) (omega arith) (content-reads after_backslash [] xs tt (after-byte pre x xs utf8 small)))
+    (λ b. either pre n (ltb x 32) None (prepend (x ∷ []) (content plain xs)) (λ c. tt)
+    (λ c. moved pre (x ∷ []) n (length xs) (content plain xs) (omega arith) (content-reads plain (pre ++ x ∷ []) xs tt (subst IsUtf8 (sym (append_assoc pre (x ∷ []) xs)) utf8)))))
 content-reads after_backslash pre [] holds utf8 = tt
 content-reads after_backslash pre (x ∷ xs) holds utf8 =
-    either [] (length (x ∷ xs)) (eqb x 117) _ _
-    (λ q. let is = eqb-true x 117 q in behind [] (length (x ∷ xs)) (length xs) (content after_u xs) IsUtf8-nil (omega arith) (content-reads after_u [] xs tt (after-byte [] x xs utf8 (omega (arith, is)))))
-    (λ q. given (length (x ∷ xs)) (EscapeOf x) _ (short_escape x) (escape-small x)
+    let n = length (x ∷ xs) in
+    either [] n (eqb x 117) (content after_u xs) (option_and_then (λ c. prepend (c ∷ []) (content plain xs)) (short_escape x))
+    (λ q. let is = eqb-true x 117 q in behind [] n (length xs) (content after_u xs) IsUtf8-nil (omega arith) (content-reads after_u [] xs tt (after-byte [] x xs utf8 (omega (arith, is)))))
+    (λ q. given n (EscapeOf x) (λ c. prepend (c ∷ []) (content plain xs)) (short_escape x) (escape-small x)
     (λ c h. let rest = after-byte [] x xs utf8 h.0 in
-      moved [] (c ∷ []) (length (x ∷ xs)) (length xs) (content plain xs) (omega arith) (content-reads plain (c ∷ []) xs tt (IsUtf8-append (c ∷ []) xs (one-byte c h.1) rest))))
+      moved [] (c ∷ []) n (length xs) (content plain xs) (omega arith) (content-reads plain (c ∷ []) xs tt (IsUtf8-append (c ∷ []) xs (one-byte c h.1) rest))))
 content-reads after_u pre [] holds utf8 = tt
 content-reads after_u pre (a ∷ []) holds utf8 = tt
 content-reads after_u pre (a ∷ b ∷ []) holds utf8 = tt
 content-reads after_u pre (a ∷ b ∷ c ∷ []) holds utf8 = tt
 content-reads after_u pre (a ∷ b ∷ c ∷ d ∷ xs) holds utf8 =
     let n = length (a ∷ b ∷ c ∷ d ∷ xs) in
-    given n (UnitOf a b c d) _ (code_unit a b c d) (unit-small a b c d)
-    (λ v h. let rest : IsUtf8 xs = after-byte [] d xs (after-byte [] c (d ∷ xs) (after-byte [] b (c ∷ d ∷ xs) (after-byte [] a (b ∷ c ∷ d ∷ xs) utf8 h.first) h.second) h.third) h.fourth in
-      either [] n (is_high_surrogate v) _ _
+    given n (UnitOf a b c d) (after-unit xs) (code_unit a b c d) (unit-small a b c d)
+    (λ v h. let rest = four-bytes a b c d v xs h utf8 in
+      either [] n (is_high_surrogate v) (content (after_high v) xs) (cond (is_low_surrogate v) None (prepend (encode_utf8 v) (content plain xs)))
       (λ high. behind [] n (length xs) (content (after_high v) xs) IsUtf8-nil (omega arith) (content-reads (after_high v) [] xs high rest))
-      (λ high. either [] n (is_low_surrogate v) _ _ (λ low'. tt)
+      (λ high. either [] n (is_low_surrogate v) None (prepend (encode_utf8 v) (content plain xs)) (λ low'. tt)
       (λ low'. let short = encoded-short v in
         moved [] (encode_utf8 v) n (length xs) (content plain xs) (omega (arith, short)) (content-reads plain (encode_utf8 v) xs tt (IsUtf8-append (encode_utf8 v) xs (IsUtf8-encode v (no-surrogate v h.value high low')) rest)))))
 content-reads (after_high h) pre [] holds utf8 = tt
@@ -200,20 +216,23 @@ content-reads (after_high h) pre (s ∷ u ∷ a ∷ b ∷ []) holds utf8 = tt
 content-reads (after_high h) pre (s ∷ u ∷ a ∷ b ∷ c ∷ []) holds utf8 = tt
 content-reads (after_high h) pre (s ∷ u ∷ a ∷ b ∷ c ∷ d ∷ xs) holds utf8 =
     let n = length (s ∷ u ∷ a ∷ b ∷ c ∷ d ∷ xs) in
-    either [] n (eqb s 92 && eqb u 117) _ _
+    either [] n (eqb s 92 && eqb u 117) (option_and_then (after-pair xs h) (code_unit a b c d)) None
     (λ e. let p = and_parts (eqb s 92) (eqb u 117) e in
       let s-is = eqb-true s 92 p.0 in
       let u-is = eqb-true u 117 p.1 in
       let digits : IsUtf8 (a ∷ b ∷ c ∷ d ∷ xs) = after-byte [] u (a ∷ b ∷ c ∷ d ∷ xs) (after-byte [] s (u ∷ a ∷ b ∷ c ∷ d ∷ xs) utf8 (omega (arith, s-is))) (omega (arith, u-is)) in
-      given n (UnitOf a b c d) _ (code_unit a b c d) (unit-small a b c d)
-      (λ l k. let rest : IsUtf8 xs = after-byte [] d xs (after-byte [] c (d ∷ xs) (after-byte [] b (c ∷ d ∷ xs) (after-byte [] a (b ∷ c ∷ d ∷ xs) digits k.first) k.second) k.third) k.fourth in
-        either [] n (is_low_surrogate l) _ _
+      given n (UnitOf a b c d) (after-pair xs h) (code_unit a b c d) (unit-small a b c d)
+      (λ l k. let rest = four-bytes a b c d l xs k digits in
+        either [] n (is_low_surrogate l) (prepend (encode_utf8 (surrogate_pair h l)) (content plain xs)) None
         (λ low'. let hr = high-range h holds in
           let lr = low-range l low' in
-          let h0 = hr.0 in let h1 = hr.1 in let l0 = lr.0 in let l1 = lr.1 in
-          let v = surrogate_pair h l in
-          let short = encoded-short v in
-          moved [] (encode_utf8 v) n (length xs) (content plain xs) (omega (arith, short))
-          (content-reads plain (encode_utf8 v) xs tt (IsUtf8-append (encode_utf8 v) xs (IsUtf8-encode v (scalar-above v (omega (arith, h0, h1, l0, l1)) (omega (arith, h0, h1, l0, l1)))) rest)))
+          let h0 = hr.0 in
+          let h1 = hr.1 in
+          let l0 = lr.0 in
+          let l1 = lr.1 in
+          let short = encoded-short (surrogate_pair h l) in
+          moved [] (encode_utf8 (surrogate_pair h l)) n (length xs) (content plain xs) (omega (arith, short))
+          (content-reads plain (encode_utf8 (surrogate_pair h l)) xs tt
+          (IsUtf8-append (encode_utf8 (surrogate_pair h l)) xs (IsUtf8-encode (surrogate_pair h l) (scalar-above (surrogate_pair h l) (omega (arith, h0, h1, l0, l1)) (omega (arith, h0, h1, l0, l1)))) rest)))
         (λ low'. tt)))
     (λ e. tt)

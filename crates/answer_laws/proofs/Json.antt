@@ -1,5 +1,5 @@
 -- The name of an operation that a line asks for is UTF-8, and no longer than the line.
-use Rattle.std.proofs.Common.{◌≡◌, ◌<◌, ◌≤◌, ◌+◌, ℕ, zero, suc, Bool, true, false, cond, eqb, List, [], ◌∷◌, ◌++◌, length, Option, Some, None, IsUtf8, codes, refl, sym, subst, arith, append_assoc}
+use Rattle.std.proofs.Common.{◌≡◌, ◌<◌, ◌≤◌, ◌+◌, ◌-◌, ℕ, zero, suc, Bool, true, false, cond, eqb, List, [], ◌∷◌, ◌++◌, length, take, Option, Some, None, IsUtf8, codes, refl, sym, subst, arith, append_assoc}
 use Rattle.std.specs.Option.{option_map, option_and_then}
 use Rattle.std.specs.Ordering.{nat_cmp, match_ordering}
 use Rattle.std.specs.Cmp.Lexicographic.{slice_cmp}
@@ -11,7 +11,7 @@ use Rattle.json.specs.Word.{word, literal, number_before, ends_word, after_numbe
 use Rattle.json.specs.Lex.{Lexeme, token, comma, colon, Class, quote, backslash, operator, space, other, class, operator_lexeme, string_token, Mode, between, in_word, in_string, in_escape, lex_byte, lex, Place, fresh, after_value, after_comma, after_key, begins_colon, may_begin, may_close, if_allowed, place_token, punctuate, tokens}
 use Rattle.json.specs.Json as json
 use Rattle.json.specs.Json.{Parse, parse_map, after_end_array, read_key, items_step, members_step, items, members, value_with, value, if_last}
-use Rattle.serde_json.specs.Data as data
+use Rattle.serde_json.specs.Data as parsed
 use Rattle.serde_json.specs.Data.{Num, Data, Items, Members, no_members, member, put}
 use Rattle.serde_json.specs.Read.{number_of, of_json, of_items, of_members, max_depth, read}
 use Rattle.serde_json.specs.Find.{get_member, get, as_str}
@@ -54,7 +54,7 @@ module _ (n : ℕ) where
 
   number-fits : (t : List ℕ) (o : Option (List ℕ)) → TokenFits (number_before t o)
   number-fits t None = tt
-  number-fits t (Some rest) = token-if (ends_word rest) _ bad tt tt
+  number-fits t (Some rest) = token-if (ends_word rest) (number (take (length t - length rest) t)) bad tt tt
 
   word-fits : (t : List ℕ) → TokenFits (word t)
   unfolding word
@@ -254,7 +254,7 @@ module _ (n : ℕ) where
   -- ---- data
 
   abbrev DataFits : Data → Type 0
-  DataFits (data.string s) = Fits s
+  DataFits (parsed.string s) = Fits s
   DataFits _ = Unit {0}
 
   abbrev AllFit : Members → Type 0
@@ -262,7 +262,7 @@ module _ (n : ℕ) where
   AllFit (member k d ms) = DataFits d × AllFit ms
 
   abbrev ObjectFits : Data → Type 0
-  ObjectFits (data.object ms) = AllFit ms
+  ObjectFits (parsed.object ms) = AllFit ms
   ObjectFits _ = Unit {0}
 
   ordered : (o : Ordering) (a b c : Members) → AllFit a → AllFit b → AllFit c → AllFit (match_ordering o a b c)
@@ -274,15 +274,15 @@ module _ (n : ℕ) where
   put-fits k d no_members p h = (p, tt)
   put-fits k d (member l e ms) p h = ordered (slice_cmp nat_cmp k l) (member k d (member l e ms)) (member l d ms) (member l e (put k d ms)) (p, h) (p, h.1) (h.0, put-fits k d ms p h.1)
 
-  number-data : (o : Option Num) → Maybe DataFits (option_map data.number o)
+  number-data : (o : Option Num) → Maybe DataFits (option_map parsed.number o)
   number-data None = tt
   number-data (Some x) = tt
 
-  array-data : (o : Option Items) → Maybe DataFits (option_map data.array o)
+  array-data : (o : Option Items) → Maybe DataFits (option_map parsed.array o)
   array-data None = tt
   array-data (Some x) = tt
 
-  object-data : (o : Option Members) → Maybe DataFits (option_map data.object o)
+  object-data : (o : Option Members) → Maybe DataFits (option_map parsed.object o)
   object-data None = tt
   object-data (Some x) = tt
 
@@ -299,11 +299,11 @@ module _ (n : ℕ) where
   all-fit (json.member k j ms) found h p =
       maybe-and_then DataFits AllFit (λ d. of_members ms (put k d found)) (of_json j) (λ d q. all-fit ms (put k d found) h.1 (put-fits k d found q p)) (data-fits j h.0)
 
-  number-object : (o : Option Num) → Maybe ObjectFits (option_map data.number o)
+  number-object : (o : Option Num) → Maybe ObjectFits (option_map parsed.number o)
   number-object None = tt
   number-object (Some x) = tt
 
-  array-object : (o : Option Items) → Maybe ObjectFits (option_map data.array o)
+  array-object : (o : Option Items) → Maybe ObjectFits (option_map parsed.array o)
   array-object None = tt
   array-object (Some x) = tt
 
@@ -313,7 +313,7 @@ module _ (n : ℕ) where
   object-fits (json.number s) h = number-object (number_of s)
   object-fits (json.string s) h = tt
   object-fits (json.array js) h = array-object (of_items js)
-  object-fits (json.object ms) h = maybe-map AllFit ObjectFits data.object (of_members ms no_members) (λ x p. p) (all-fit ms no_members h tt)
+  object-fits (json.object ms) h = maybe-map AllFit ObjectFits parsed.object (of_members ms no_members) (λ x p. p) (all-fit ms no_members h tt)
 
   last-fits : (p : json.Json × List Token) → Parsed ValueFits p → Maybe ValueFits (if_last p.0 p.1)
   last-fits (j, []) h = h.0
@@ -336,21 +336,21 @@ module _ (n : ℕ) where
   member-of k (member l e ms) h = chosen (slice_cmp nat_cmp k l) (get_member k ms) (Some e) (get_member k ms) (member-of k ms h.1) h.0 (member-of k ms h.1)
 
   get-fits : (k : List ℕ) (d : Data) → ObjectFits d → Maybe DataFits (get k d)
-  get-fits k data.null h = tt
-  get-fits k (data.boolean b) h = tt
-  get-fits k (data.number x) h = tt
-  get-fits k (data.string s) h = tt
-  get-fits k (data.array ds) h = tt
-  get-fits k (data.object ms) h = member-of k ms h
+  get-fits k parsed.null h = tt
+  get-fits k (parsed.boolean b) h = tt
+  get-fits k (parsed.number x) h = tt
+  get-fits k (parsed.string s) h = tt
+  get-fits k (parsed.array ds) h = tt
+  get-fits k (parsed.object ms) h = member-of k ms h
 
   name-fits : (o : Option Data) → Maybe DataFits o → Maybe (Maybe Fits) (name_of o)
   name-fits None h = tt
-  name-fits (Some data.null) h = tt
-  name-fits (Some (data.boolean b)) h = tt
-  name-fits (Some (data.number x)) h = tt
-  name-fits (Some (data.string s)) h = h
-  name-fits (Some (data.array ds)) h = tt
-  name-fits (Some (data.object ms)) h = tt
+  name-fits (Some parsed.null) h = tt
+  name-fits (Some (parsed.boolean b)) h = tt
+  name-fits (Some (parsed.number x)) h = tt
+  name-fits (Some (parsed.string s)) h = h
+  name-fits (Some (parsed.array ds)) h = tt
+  name-fits (Some (parsed.object ms)) h = tt
 
   abbrev RequestFits : RequestOf → Type 0
   RequestFits r = Maybe Fits r.operation_name

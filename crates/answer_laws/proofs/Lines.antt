@@ -177,8 +177,8 @@ module _ (w : WorldOf) (has : HasSources w) (line : List ℕ) where
 
   line-answered : ((r : RequestOf) → IsRequest line r → Maybe IsSaid r.operation_name) → (text : List ℕ) × IsAnswer w line text
   line-answered called = elim (cases_Bool (is_utf8 line)) [
-    | inl yes ↦ of-reading called (IsUtf8-from_is_utf8 line yes) (option_and_then asked (read line)) refl
-    | inr no ↦ refused (λ r is. true≢false (sym (is_utf8-from_IsUtf8 line is.text) ∙ no))
+    | inl text ↦ of-reading called (IsUtf8-from_is_utf8 line text) (option_and_then asked (read line)) refl
+    | inr other ↦ refused (λ r is. true≢false (sym (is_utf8-from_IsUtf8 line is.text) ∙ other))
   ]
 
   -- the name that it asks for, as a string

@@ -347,8 +347,8 @@ module _ (p : PartsOf) (h : PartsNames p) where
 
   merging-said : {D : Fields ℕ} {sets : List SetOf} {bs : List BrokenOf} → AreBroken D (key_of p) sets bs → AllSaid bs
   merging-said none = tt
-  merging-said (merges can others) = merging-said others
-  merging-said (fails {f = f} no first others) = (key-of-said p.fields f h.fields, merging-said others)
+  merging-said (merges alike others) = merging-said others
+  merging-said (fails {f = f} apart first others) = (key-of-said p.fields f h.fields, merging-said others)
 
   after-said : (first v : Option FaultOf) → Maybe FaultSaid first → IsVerdictAfter p first v → Maybe FaultSaid v
   after-said (Some f) v q is = subst (Maybe FaultSaid) (sym is) q
