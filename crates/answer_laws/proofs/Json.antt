@@ -1,5 +1,7 @@
 -- The name of an operation that a line asks for is UTF-8, and no longer than the line.
-use Rattle.std.proofs.Common.{◌≡◌, ◌<◌, ◌≤◌, ◌+◌, ◌-◌, ℕ, zero, suc, Bool, true, false, cond, eqb, List, [], ◌∷◌, ◌++◌, length, take, Option, Some, None, IsUtf8, codes, refl, sym, subst, arith, append_assoc}
+use Rattle.std.proofs.Common.{◌≡◌, ◌<◌, ◌≤◌, ◌+◌, ◌-◌, ℕ, zero, suc, Bool, true, false, cond, eqb, List, [], ◌∷◌, ◌++◌, length, take, drop, ◌&&◌, Option, Some, None, IsUtf8, codes, refl, sym, subst, arith, append_assoc}
+use Rattle.std.specs.Prelude.{nat_eq, ◌==◌}
+use Rattle.std.specs.List.{starts_with}
 use Rattle.std.specs.Option.{option_map, option_and_then}
 use Rattle.std.specs.Ordering.{nat_cmp, match_ordering}
 use Rattle.std.specs.Cmp.Lexicographic.{slice_cmp}
@@ -7,7 +9,8 @@ use Rattle.std.proofs.Common.{Ordering, Less, Equal, Greater}
 use Rattle.std.proofs.lemmas.Bool.{eqb-true}
 use Rattle.json.specs.Text.{content, plain}
 use Rattle.json.specs.Token.{Token, begin_object, end_object, begin_array, end_array, key, string, number, boolean, null, bad}
-use Rattle.json.specs.Word.{word, literal, number_before, ends_word, after_number, is_operator, is_space}
+use Rattle.json.specs.Ascii as ascii
+use Rattle.json.specs.Word.{word, head, literal, number_before, ends_word, after_number, is_operator, is_space}
 use Rattle.json.specs.Lex.{Lexeme, token, comma, colon, Class, quote, backslash, operator, space, other, class, operator_lexeme, string_token, Mode, between, in_word, in_string, in_escape, lex_byte, lex, Place, fresh, after_value, after_comma, after_key, begins_colon, may_begin, may_close, if_allowed, place_token, punctuate, tokens}
 use Rattle.json.specs.Json as json
 use Rattle.json.specs.Json.{Parse, parse_map, after_end_array, read_key, items_step, members_step, items, members, value_with, value, if_last}
@@ -50,18 +53,25 @@ module _ (n : ℕ) where
 
   operator-fits : (x : ℕ) → LexemeFits (operator_lexeme x)
   operator-fits x =
-      lexeme-if _ (token begin_object) _ tt (lexeme-if _ (token end_object) _ tt (lexeme-if _ (token begin_array) _ tt (lexeme-if _ (token end_array) _ tt (lexeme-if _ comma colon tt tt))))
+      lexeme-if (x == 123) (token begin_object) (cond (x == 125) (token end_object) (cond (x == 91) (token begin_array) (cond (x == 93) (token end_array) (cond (x == 44) comma colon)))) tt
+      (lexeme-if (x == 125) (token end_object) (cond (x == 91) (token begin_array) (cond (x == 93) (token end_array) (cond (x == 44) comma colon))) tt
+      (lexeme-if (x == 91) (token begin_array) (cond (x == 93) (token end_array) (cond (x == 44) comma colon)) tt
+      (lexeme-if (x == 93) (token end_array) (cond (x == 44) comma colon) tt (lexeme-if (x == 44) comma colon tt tt))))
 
   number-fits : (t : List ℕ) (o : Option (List ℕ)) → TokenFits (number_before t o)
   number-fits t None = tt
   number-fits t (Some rest) = token-if (ends_word rest) (number (take (length t - length rest) t)) bad tt tt
 
+  literal-fits : (name : List ℕ) (u : Token) (t : List ℕ) → TokenFits u → TokenFits (literal name u t)
+  literal-fits name u t p = token-if (starts_with nat_eq t name && ends_word (drop (length name) t)) u bad p tt
+
   word-fits : (t : List ℕ) → TokenFits (word t)
   unfolding word
   word-fits t =
-      token-if _ _ _ (token-if _ (boolean true) bad tt tt)
-      (token-if _ _ _ (token-if _ (boolean false) bad tt tt)
-      (token-if _ _ _ (token-if _ null bad tt tt) (number-fits t (after_number t))))
+      token-if (head t == 116) (literal ascii.true_text (boolean true) t)
+      (cond (head t == 102) (literal ascii.false_text (boolean false) t) (cond (head t == 110) (literal ascii.null_text null t) (number_before t (after_number t)))) (literal-fits ascii.true_text (boolean true) t tt)
+      (token-if (head t == 102) (literal ascii.false_text (boolean false) t) (cond (head t == 110) (literal ascii.null_text null t) (number_before t (after_number t))) (literal-fits ascii.false_text (boolean false) t tt)
+      (token-if (head t == 110) (literal ascii.null_text null t) (number_before t (after_number t)) (literal-fits ascii.null_text null t tt) (number-fits t (after_number t))))
 
   string-fits : (m : ℕ) (o : Option (List ℕ)) → m ≤ n → Reads [] m o → TokenFits (string_token o)
   string-fits m None le h = tt
