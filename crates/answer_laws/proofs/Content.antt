@@ -109,14 +109,14 @@ unfolding code_unit
 unit-small a b c d =
     unit-if a b c d (is_digit a 16 && is_digit b 16 && is_digit c 16 && is_digit d 16) (digit_value a * 4096 + digit_value b * 256 + digit_value c * 16 + digit_value d)
     (λ t.
-      let p = and_parts (is_digit a 16 && is_digit b 16 && is_digit c 16) (is_digit d 16) t in
-      let q = and_parts (is_digit a 16 && is_digit b 16) (is_digit c 16) p.0 in
-      let r = and_parts (is_digit a 16) (is_digit b 16) q.0 in
-      let va = hex-value a r.0 in
-      let vb = hex-value b r.1 in
-      let vc = hex-value c q.1 in
-      let vd = hex-value d p.1 in
-      record { first = hex-small a r.0; second = hex-small b r.1; third = hex-small c q.1; fourth = hex-small d p.1; value = omega (arith, va, vb, vc, vd) })
+    let p = and_parts (is_digit a 16 && is_digit b 16 && is_digit c 16) (is_digit d 16) t in
+    let q = and_parts (is_digit a 16 && is_digit b 16) (is_digit c 16) p.0 in
+    let r = and_parts (is_digit a 16) (is_digit b 16) q.0 in
+    let va = hex-value a r.0 in
+    let vb = hex-value b r.1 in
+    let vc = hex-value c q.1 in
+    let vd = hex-value d p.1 in
+    record { first = hex-small a r.0; second = hex-small b r.1; third = hex-small c q.1; fourth = hex-small d p.1; value = omega (arith, va, vb, vc, vd) })
 
 -- ---- characters
 
@@ -183,8 +183,8 @@ content-reads plain pre (x ∷ xs) holds utf8 =
     (λ q. let is = eqb-true x 34 q in (subst IsUtf8 (sym (append-nil pre)) (before-byte pre x xs utf8 (omega (arith, is))), omega arith))
     (λ q. either pre n (eqb x 92) (content after_backslash xs) (cond (ltb x 32) None (prepend (x ∷ []) (content plain xs)))
     (λ b. let is = eqb-true x 92 b in
-      let small : x < 128 = omega (arith, is) in
-      behind pre n (length xs) (content after_backslash xs) (before-byte pre x xs utf8 small) (omega arith) (content-reads after_backslash [] xs tt (after-byte pre x xs utf8 small)))
+    let small : x < 128 = omega (arith, is) in
+    behind pre n (length xs) (content after_backslash xs) (before-byte pre x xs utf8 small) (omega arith) (content-reads after_backslash [] xs tt (after-byte pre x xs utf8 small)))
     (λ b. either pre n (ltb x 32) None (prepend (x ∷ []) (content plain xs)) (λ c. tt)
     (λ c. moved pre (x ∷ []) n (length xs) (content plain xs) (omega arith) (content-reads plain (pre ++ x ∷ []) xs tt (subst IsUtf8 (sym (append_assoc pre (x ∷ []) xs)) utf8)))))
 content-reads after_backslash pre [] holds utf8 = tt
@@ -194,7 +194,7 @@ content-reads after_backslash pre (x ∷ xs) holds utf8 =
     (λ q. let is = eqb-true x 117 q in behind [] n (length xs) (content after_u xs) IsUtf8-nil (omega arith) (content-reads after_u [] xs tt (after-byte [] x xs utf8 (omega (arith, is)))))
     (λ q. given n (EscapeOf x) (λ c. prepend (c ∷ []) (content plain xs)) (short_escape x) (escape-small x)
     (λ c h. let rest = after-byte [] x xs utf8 h.0 in
-      moved [] (c ∷ []) n (length xs) (content plain xs) (omega arith) (content-reads plain (c ∷ []) xs tt (IsUtf8-append (c ∷ []) xs (one-byte c h.1) rest))))
+    moved [] (c ∷ []) n (length xs) (content plain xs) (omega arith) (content-reads plain (c ∷ []) xs tt (IsUtf8-append (c ∷ []) xs (one-byte c h.1) rest))))
 content-reads after_u pre [] holds utf8 = tt
 content-reads after_u pre (a ∷ []) holds utf8 = tt
 content-reads after_u pre (a ∷ b ∷ []) holds utf8 = tt
@@ -203,11 +203,11 @@ content-reads after_u pre (a ∷ b ∷ c ∷ d ∷ xs) holds utf8 =
     let n = length (a ∷ b ∷ c ∷ d ∷ xs) in
     given n (UnitOf a b c d) (after-unit xs) (code_unit a b c d) (unit-small a b c d)
     (λ v h. let rest = four-bytes a b c d v xs h utf8 in
-      either [] n (is_high_surrogate v) (content (after_high v) xs) (cond (is_low_surrogate v) None (prepend (encode_utf8 v) (content plain xs)))
-      (λ high. behind [] n (length xs) (content (after_high v) xs) IsUtf8-nil (omega arith) (content-reads (after_high v) [] xs high rest))
-      (λ high. either [] n (is_low_surrogate v) None (prepend (encode_utf8 v) (content plain xs)) (λ low'. tt)
-      (λ low'. let short = encoded-short v in
-        moved [] (encode_utf8 v) n (length xs) (content plain xs) (omega (arith, short)) (content-reads plain (encode_utf8 v) xs tt (IsUtf8-append (encode_utf8 v) xs (IsUtf8-encode v (no-surrogate v h.value high low')) rest)))))
+    either [] n (is_high_surrogate v) (content (after_high v) xs) (cond (is_low_surrogate v) None (prepend (encode_utf8 v) (content plain xs)))
+    (λ high. behind [] n (length xs) (content (after_high v) xs) IsUtf8-nil (omega arith) (content-reads (after_high v) [] xs high rest))
+    (λ high. either [] n (is_low_surrogate v) None (prepend (encode_utf8 v) (content plain xs)) (λ low'. tt)
+    (λ low'. let short = encoded-short v in
+    moved [] (encode_utf8 v) n (length xs) (content plain xs) (omega (arith, short)) (content-reads plain (encode_utf8 v) xs tt (IsUtf8-append (encode_utf8 v) xs (IsUtf8-encode v (no-surrogate v h.value high low')) rest)))))
 content-reads (after_high h) pre [] holds utf8 = tt
 content-reads (after_high h) pre (s ∷ []) holds utf8 = tt
 content-reads (after_high h) pre (s ∷ u ∷ []) holds utf8 = tt
@@ -218,21 +218,21 @@ content-reads (after_high h) pre (s ∷ u ∷ a ∷ b ∷ c ∷ d ∷ xs) holds 
     let n = length (s ∷ u ∷ a ∷ b ∷ c ∷ d ∷ xs) in
     either [] n (eqb s 92 && eqb u 117) (option_and_then (after-pair xs h) (code_unit a b c d)) None
     (λ e. let p = and_parts (eqb s 92) (eqb u 117) e in
-      let s-is = eqb-true s 92 p.0 in
-      let u-is = eqb-true u 117 p.1 in
-      let digits : IsUtf8 (a ∷ b ∷ c ∷ d ∷ xs) = after-byte [] u (a ∷ b ∷ c ∷ d ∷ xs) (after-byte [] s (u ∷ a ∷ b ∷ c ∷ d ∷ xs) utf8 (omega (arith, s-is))) (omega (arith, u-is)) in
-      given n (UnitOf a b c d) (after-pair xs h) (code_unit a b c d) (unit-small a b c d)
-      (λ l k. let rest = four-bytes a b c d l xs k digits in
-        either [] n (is_low_surrogate l) (prepend (encode_utf8 (surrogate_pair h l)) (content plain xs)) None
-        (λ low'. let hr = high-range h holds in
-          let lr = low-range l low' in
-          let h0 = hr.0 in
-          let h1 = hr.1 in
-          let l0 = lr.0 in
-          let l1 = lr.1 in
-          let short = encoded-short (surrogate_pair h l) in
-          moved [] (encode_utf8 (surrogate_pair h l)) n (length xs) (content plain xs) (omega (arith, short))
-          (content-reads plain (encode_utf8 (surrogate_pair h l)) xs tt
-          (IsUtf8-append (encode_utf8 (surrogate_pair h l)) xs (IsUtf8-encode (surrogate_pair h l) (scalar-above (surrogate_pair h l) (omega (arith, h0, h1, l0, l1)) (omega (arith, h0, h1, l0, l1)))) rest)))
-        (λ low'. tt)))
+    let s-is = eqb-true s 92 p.0 in
+    let u-is = eqb-true u 117 p.1 in
+    let digits : IsUtf8 (a ∷ b ∷ c ∷ d ∷ xs) = after-byte [] u (a ∷ b ∷ c ∷ d ∷ xs) (after-byte [] s (u ∷ a ∷ b ∷ c ∷ d ∷ xs) utf8 (omega (arith, s-is))) (omega (arith, u-is)) in
+    given n (UnitOf a b c d) (after-pair xs h) (code_unit a b c d) (unit-small a b c d)
+    (λ l k. let rest = four-bytes a b c d l xs k digits in
+    either [] n (is_low_surrogate l) (prepend (encode_utf8 (surrogate_pair h l)) (content plain xs)) None
+    (λ low'. let hr = high-range h holds in
+    let lr = low-range l low' in
+    let h0 = hr.0 in
+    let h1 = hr.1 in
+    let l0 = lr.0 in
+    let l1 = lr.1 in
+    let short = encoded-short (surrogate_pair h l) in
+    moved [] (encode_utf8 (surrogate_pair h l)) n (length xs) (content plain xs) (omega (arith, short))
+    (content-reads plain (encode_utf8 (surrogate_pair h l)) xs tt
+    (IsUtf8-append (encode_utf8 (surrogate_pair h l)) xs (IsUtf8-encode (surrogate_pair h l) (scalar-above (surrogate_pair h l) (omega (arith, h0, h1, l0, l1)) (omega (arith, h0, h1, l0, l1)))) rest)))
+    (λ low'. tt)))
     (λ e. tt)
