@@ -1,5 +1,15 @@
+pub mod Documents
 pub mod Deciding
 pub mod Verdicts
 pub mod Logs
 pub mod Answered
 pub mod Telling
+pub mod Each
+pub mod Names
+pub mod Written
+pub mod Strings
+pub mod Parts
+pub mod Rules
+pub mod Content
+pub mod Json
+pub mod Lines

@@ -1,6 +1,9 @@
 //! Where a verdict or an answer is there.
-ghost use Rattle.std.specs.Prelude.{◌≡◌, ℕ, List, Option, Some, length};
+ghost use Rattle.std.specs.Prelude.{◌≡◌, ◌≢◌, ◌⊎◌, ◌<◌, ◌^◌, ℕ, List, Option, Some, length};
 ghost use Rattle.serde_json.specs.Data.{Data};
+ghost use Rattle.gq_parser.specs.declared.fault.ParseFault.{ParseFault};
+ghost use Rattle.gq_parser.specs.declared.fault.ParseFault.TheVariants as parse;
+ghost use Rattle.gq_parser.specs.Fault.{IsDocumentOf, IsParseFault};
 ghost use Rattle.gq_parser.specs.Tree.{Document};
 ghost use Rattle.schema_syntax.specs.Tree.{Definition};
 ghost use Rattle.load_memory.specs.Keys.{KeyOf};
@@ -15,8 +18,14 @@ ghost use Rattle.gq_check.specs.Plans.{PlanOf};
 ghost use Rattle.gq_check.specs.Planned.{IsPlan};
 ghost use Rattle.gq_check.specs.Verdict.{FaultOf, IsVerdict};
 ghost use Rattle.world.specs.Worlds.{WorldOf, HasSources};
-ghost use Rattle.world_answers.specs.Answers.{IsAnsweredAnew};
+ghost use Rattle.world_answers.specs.Answers.{IsAnsweredAnew, IsAnswer};
 ghost use Rattle.answer_laws.specs.Told.{IsRefusedOrAnswered};
+
+/// Each text is a document, or has a first fault. `NoMemory`, which says nothing of a text, isn't counted as one.
+pub fn texts_are_told()
+    ensures { (text : List ℕ) → ((d : Document) × IsDocumentOf text d)
+        ⊎ ((f : ParseFault) × (f ≢ parse.NoMemory) × IsParseFault text f) }
+{}
 
 /// Each document has a verdict over each schema, and so exactly one (`one_verdict` of `gq_check`). Of Field Selection Merging
 /// (section 5.3.2 of the GraphQL specification of October 2021), which is a relation, it can be told for each selection set whether
@@ -44,4 +53,11 @@ pub fn plans_are_answered()
 /// and its variables, or to an answer.
 pub fn requests_are_told()
     ensures { (w : WorldOf) (d : Document) (name : Option (List ℕ)) (given : Data) → HasSources w → IsRefusedOrAnswered w d name given }
+{}
+
+/// Each line has an answer over a world, and so exactly one (`one_answer` of `world_answers`): it is no request, or its query is no
+/// document, or one to which `requests_are_told` applies, and a string can hold every name that a refusal tells. Of a line that
+/// no memory holds, one of 2^63 bytes or more, this isn't said.
+pub fn lines_are_answered()
+    ensures { (w : WorldOf) (line : List ℕ) → HasSources w → length line < 2 ^ 63 → (text : List ℕ) × IsAnswer w line text }
 {}

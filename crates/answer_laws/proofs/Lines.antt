@@ -1,0 +1,190 @@
+-- Each line has an answer.
+use Rattle.std.proofs.Common.{◌≡◌, ◌≢◌, ◌<◌, ◌≤◌, ◌^◌, length, arith, cond, refl, sym, ap, subst, ◌∙◌, ℕ, Bool, true, false, List, [], ◌∷◌, Option, Some, None, Result, Ok, Err, inl, inr, IsUtf8, string_bytes}
+use Rattle.std.specs.Option.{option_and_then}
+use Rattle.std.specs.Prelude.{find, codes}
+use Rattle.std.specs.Str.{is_utf8}
+use Rattle.std.proofs.lemmas.Bool.{cases_Bool, true≢false}
+use Rattle.std.proofs.lemmas.Str.{IsUtf8-from_is_utf8, is_utf8-from_IsUtf8}
+use Rattle.serde_json.specs.Data.{Data}
+use Rattle.serde_json.specs.Read.{read}
+use Rattle.gq_parser.specs.declared.fault.ParseFault.{ParseFault}
+use Rattle.gq_parser.specs.declared.fault.ParseFault.TheVariants as parse
+use Rattle.gq_parser.specs.Fault.{IsDocumentOf, IsParseFault}
+use Rattle.gq_parser.specs.Tree.{Document, VariableDefinition, Operation}
+use Rattle.schema_syntax.specs.Tree.{Definition}
+use Rattle.gq_schema.specs.Types.{tree_of}
+use Rattle.gq_schema.specs.Inputs.{Input}
+use Rattle.variable_values.specs.Variables.{VariableOf}
+use Rattle.variable_values.specs.Values as values
+use Rattle.document_parts.specs.Listing.{parts_of}
+use Rattle.gq_check.specs.declared.fault.CheckFault.TheVariants as check
+use Rattle.gq_check.specs.declared.fault.PrepareFault.TheVariants as prepare
+use Rattle.gq_check.specs.Plans.{PlanOf}
+use Rattle.gq_check.specs.Prepared.{PreparedOf, FaultOf as Unprepared, no_such_operation, operation_needed, variables_not_object, bad_variable, is_operation, found_operation, only_operation, chosen_operation, with_variables, prepared_operation, prepared}
+use Rattle.gq_check.specs.Verdict.{FaultOf, Breaks, TooComplex, TooDeep, NotServed, IsVerdict, IsValid}
+use Rattle.request_line.specs.Requests.{RequestOf, asked, IsRequest, IsNoRequest}
+use Rattle.world.specs.declared.request.RequestFault.{RequestFault}
+use Rattle.world.specs.declared.request.RequestFault.TheVariants as fault
+use Rattle.world.specs.Requests.{IsPlanOf, IsInvalid, IsUnprepared, IsRequestFault, is_want_of_memory, request_message, request_place}
+use Rattle.world.specs.Worlds.{WorldOf, HasSources}
+use Rattle.world_answers.specs.Answers.{values_of, IsPlanned, IsFaulty, IsAnsweredAnew, refusal_text, AnswersRequest, faulty, planned, IsAnswer, no_request, request}
+use Rattle.answer_laws.specs.Told.{IsPlanFor, IsRefusedOrAnswered, invalid, unprepared, answered}
+use Rattle.answer_laws.proofs.Telling.{told-there}
+use Rattle.answer_laws.proofs.Documents.{IsTold, text-told}
+use Rattle.answer_laws.proofs.Each.{Each, Maybe, each-find}
+use Rattle.answer_laws.proofs.Names.{DocumentNames}
+use Rattle.answer_laws.proofs.Written.{IsWritten, document-written}
+use Rattle.answer_laws.proofs.Strings.{IsSaid, said, said-name}
+use Rattle.answer_laws.proofs.Json.{Fits, request-fits}
+use Rattle.answer_laws.proofs.Parts.{VariableNames, OperationNames, schema-said, parts-named}
+use Rattle.answer_laws.proofs.Rules.{FaultSaid, verdict-said}
+
+-- ---- what can't be prepared has a name that a string says
+
+abbrev PrepareSaid : Unprepared → Type 0
+PrepareSaid (no_such_operation n) = IsSaid n
+PrepareSaid operation_needed = Unit {0}
+PrepareSaid variables_not_object = Unit {0}
+PrepareSaid (bad_variable n) = IsSaid n
+
+abbrev OperationSaid : Result Operation Unprepared → Type 0
+OperationSaid (Ok o) = OperationNames o
+OperationSaid (Err f) = PrepareSaid f
+
+abbrev ValuesSaid : Result (List VariableOf) values.FaultOf → Type 0
+ValuesSaid (Ok vs) = Unit {0}
+ValuesSaid (Err values.not_object) = Unit {0}
+ValuesSaid (Err (values.bad_variable n)) = IsSaid n
+
+abbrev ResultSaid : Result PreparedOf Unprepared → Type 0
+ResultSaid (Ok p) = Unit {0}
+ResultSaid (Err f) = PrepareSaid f
+
+found-said : (n : List ℕ) (o : Option Operation) → Maybe OperationNames o → IsSaid n → OperationSaid (found_operation n o)
+found-said n None h said = said
+found-said n (Some o) h said = h
+
+chosen-said : (os : List Operation) (name : Option (List ℕ)) → Each OperationNames os → Maybe IsSaid name → OperationSaid (chosen_operation os name)
+chosen-said os (Some n) h said = found-said n (find (is_operation n) os) (each-find OperationNames (is_operation n) os h) said
+chosen-said [] None h said = tt
+chosen-said (o ∷ []) None h said = h.0
+chosen-said (o ∷ p ∷ os) None h said = tt
+
+before-said : (v : VariableOf) (r : Result (List VariableOf) values.FaultOf) → ValuesSaid r → ValuesSaid (values.before v r)
+before-said v (Ok vs) h = tt
+before-said v (Err values.not_object) h = tt
+before-said v (Err (values.bad_variable n)) h = h
+
+and-said : (n : List ℕ) (x : values.ValueOf) (r : Result (List VariableOf) values.FaultOf) → IsSaid n → ValuesSaid r → ValuesSaid (values.and_then n x r)
+and-said n (values.a_value i) r said h = before-said (record { name = n; value = i }) r h
+and-said n values.no_value r said h = h
+and-said n values.bad_value r said h = said
+
+module _ (defs : List Definition) (given : Data) where
+  values-said : (vs : List VariableDefinition) → Each VariableNames vs → ValuesSaid (values.values_of defs given vs)
+  values-said [] h = tt
+  values-said (v ∷ vs) h = and-said v.name (values.value_of defs given v) (values.values_of defs given vs) (said-name h.0.0) (values-said vs h.1)
+
+  coerced-said : (vs : List VariableDefinition) → Each VariableNames vs → ValuesSaid (values.coerced_variables defs vs given)
+  coerced-said vs h = go (values.gives_values given)
+    where
+      go : (b : Bool) → ValuesSaid (cond b (values.values_of defs given vs) (Err values.not_object))
+      go true = values-said vs h
+      go false = tt
+
+  with-said : (o : Operation) (r : Result (List VariableOf) values.FaultOf) → ValuesSaid r → ResultSaid (with_variables o r)
+  with-said o (Ok vs) h = tt
+  with-said o (Err values.not_object) h = tt
+  with-said o (Err (values.bad_variable n)) h = h
+
+  operation-said : (r : Result Operation Unprepared) → OperationSaid r → ResultSaid (prepared_operation defs given r)
+  operation-said (Ok o) h = with-said o (values.coerced_variables defs o.variables given) (coerced-said o.variables h.1)
+  operation-said (Err f) h = h
+
+  prepared-said : (os : List Operation) (name : Option (List ℕ)) → Each OperationNames os → Maybe IsSaid name → ResultSaid (prepared defs os name given)
+  prepared-said os name h said = operation-said (chosen_operation os name) (chosen-said os name h said)
+
+-- ---- a request
+
+some-fault : (f : ParseFault) → f ≢ parse.NoMemory → is_want_of_memory (fault.Parse f) ≡ false
+some-fault (parse.Lex f) some = refl
+some-fault (parse.Unexpected p) some = refl
+some-fault (parse.UnexpectedEnd p) some = refl
+some-fault (parse.TooDeep p) some = refl
+some-fault parse.NoMemory some = absurd (some refl)
+
+module _ (w : WorldOf) (has : HasSources w) (r : RequestOf) (called : Maybe IsSaid r.operation_name) where
+  abbrev HasAnswer : Type 0
+  HasAnswer = (text : List ℕ) × AnswersRequest w r text
+
+  abbrev defs' : List Definition
+  defs' = tree_of w.definitions
+
+  at-fault : (f : RequestFault) → is_want_of_memory f ≡ false → IsRequestFault defs' r.query r.operation_name (values_of r.variables) f → HasAnswer
+  at-fault f some is = (refusal_text (request_message f) (request_place f), faulty {fault = f} (record { told = some; faulty = is }) refl)
+
+  module _ (d : Document) (says : IsDocumentOf r.query d) where
+    of-invalid : (f : FaultOf) → FaultSaid f → IsVerdict defs' d (Some f) → HasAnswer
+    of-invalid (Breaks rule n p) said is =
+        at-fault (fault.Check (check.Rule rule said.0 p)) refl (record { document = d; says = says; fault = subst (λ m. IsVerdict defs' d (Some (Breaks rule m p))) (sym said.1) is })
+    of-invalid TooComplex said is = at-fault (fault.Check check.TooComplex) refl (record { document = d; says = says; fault = is })
+    of-invalid (TooDeep p) said is = at-fault (fault.Check (check.TooDeep p)) refl (record { document = d; says = says; fault = is })
+    of-invalid (NotServed n p) said is =
+        at-fault (fault.Check (check.NotServed said.0 p)) refl (record { document = d; says = says; fault = subst (λ m. IsVerdict defs' d (Some (NotServed m p))) (sym said.1) is })
+
+    abbrev want : Result PreparedOf Unprepared
+    want = prepared defs' d.operations r.operation_name (values_of r.variables)
+
+    of-unprepared : (f : Unprepared) → PrepareSaid f → IsValid defs' d → want ≡ Err f → HasAnswer
+    of-unprepared (no_such_operation n) said valid e =
+        at-fault (fault.Prepare (prepare.NoSuchOperation said.0)) refl (record { document = d; says = says; valid = valid; fault = subst (λ m. want ≡ Err (no_such_operation m)) (sym said.1) e })
+    of-unprepared operation_needed said valid e = at-fault (fault.Prepare prepare.OperationNeeded) refl (record { document = d; says = says; valid = valid; fault = e })
+    of-unprepared variables_not_object said valid e = at-fault (fault.Prepare prepare.VariablesNotObject) refl (record { document = d; says = says; valid = valid; fault = e })
+    of-unprepared (bad_variable n) said valid e =
+        at-fault (fault.Prepare (prepare.BadVariable said.0)) refl (record { document = d; says = says; valid = valid; fault = subst (λ m. want ≡ Err (bad_variable m)) (sym said.1) e })
+
+    of-plan : (plan : PlanOf) (text : List ℕ) → IsValid defs' d → IsPlanFor w d r.operation_name (values_of r.variables) plan → IsAnsweredAnew w plan text → HasAnswer
+    of-plan plan text valid is anew =
+        (text, planned {plan = plan} (record { definitions = is.definitions; bindings = is.bindings; planned = record { document = d; says = says; valid = valid; fragments = is.fragments; prepared = is.prepares } }) anew)
+
+    of-told : DocumentNames IsWritten d → IsRefusedOrAnswered w d r.operation_name (values_of r.variables) → HasAnswer
+    of-told names (invalid f is) = of-invalid f (verdict-said (parts_of defs' d) (parts-named defs' d (schema-said w.definitions) names) (Some f) is) is
+    of-told names (unprepared f valid e) = of-unprepared f (subst ResultSaid e (prepared-said defs' (values_of r.variables) d.operations r.operation_name names.operations called)) valid e
+    of-told names (answered {plan = plan} {text = text} valid is anew) = of-plan plan text valid is anew
+
+  of-query : IsTold r.query → HasAnswer
+  of-query (inl (d, says)) = of-told d says (document-written r.query d says) (told-there w has d r.operation_name (values_of r.variables))
+  of-query (inr (f, some, is)) = at-fault (fault.Parse f) (some-fault f some) is
+
+  pub request-answered : (text : List ℕ) × AnswersRequest w r text
+  request-answered = of-query (text-told r.query)
+
+-- ---- a line
+
+none-some : (r : RequestOf) → None ≡ Some r → ⊥
+none-some r e = cc e
+
+module _ (w : WorldOf) (has : HasSources w) (line : List ℕ) where
+  refused : IsNoRequest line → (text : List ℕ) × IsAnswer w line text
+  refused none = (refusal_text (codes "not a request") None, no_request none refl)
+
+  of-reading : ((r : RequestOf) → IsRequest line r → Maybe IsSaid r.operation_name) → IsUtf8 line → (o : Option RequestOf) → option_and_then asked (read line) ≡ o → (text : List ℕ) × IsAnswer w line text
+  of-reading called utf8 None e = refused (λ r is. none-some r (sym e ∙ is.members))
+  of-reading called utf8 (Some r) e =
+      let is : IsRequest line r = record { text = utf8; members = e } in
+      let a = request-answered w has r (called r is) in
+      (a.0, request {r = r} is a.1)
+
+  line-answered : ((r : RequestOf) → IsRequest line r → Maybe IsSaid r.operation_name) → (text : List ℕ) × IsAnswer w line text
+  line-answered called = elim (cases_Bool (is_utf8 line)) [
+    | inl text ↦ of-reading called (IsUtf8-from_is_utf8 line text) (option_and_then asked (read line)) refl
+    | inr other ↦ refused (λ r is. true≢false (sym (is_utf8-from_IsUtf8 line is.text) ∙ other))
+  ]
+
+  -- the name that it asks for, as a string
+  name-said : (name : Option (List ℕ)) → length line < 2 ^ 63 → Maybe (Fits (length line)) name → Maybe IsSaid name
+  name-said None short h = tt
+  name-said (Some n) short h = let le = h.short in said n (omega (arith, short, le)) h.utf8
+
+  pub line-there : length line < 2 ^ 63 → (text : List ℕ) × IsAnswer w line text
+  line-there short = line-answered (λ r is. name-said r.operation_name short (request-fits (length line) line r (omega arith) is))
