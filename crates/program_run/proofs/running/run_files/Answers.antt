@@ -1,5 +1,10 @@
-use Rattle.std.proofs.Common.{inl}
+use Rattle.std.proofs.Common.{◌≡◌, ◌∙◌, ap, sym, inl}
+use Rattle.command_line.specs.Origins.{origin_of}
 use Rattle.program_run.proofs.running.run_files.Goals as goal
 
-pub returns-in-Ok-open_requests : goal.returns-in-Ok-open_requests
-returns-in-Ok-open_requests g c = inl (c.in-Ok.world, _, _, c.in-Ok.ensures.ok, c.serve_words.ensures)
+pub returns-in-Ok-open_requests-clause-run : goal.returns-in-Ok-open_requests-clause-run
+returns-in-Ok-open_requests-clause-run g c =
+    rw c.from.ensures.0 (inl (c.in-Ok.world, _, _, c.in-Ok.ensures.ok, c.serve_words.ensures))
+
+pub returns-in-Ok-open_requests-clause-placed : goal.returns-in-Ok-open_requests-clause-placed
+returns-in-Ok-open_requests-clause-placed g c = inl (inl (c.from.ensures.1 ∙ ap origin_of (sym c.from.ensures.0)))
