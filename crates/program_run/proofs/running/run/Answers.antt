@@ -7,18 +7,18 @@ use Rattle.program_run.proofs.running.run.Goals as goal
 pub returns-in-Ok-clause-run : goal.returns-in-Ok-clause-run
 returns-in-Ok-clause-run g c =
     rw c.of.ensures.stop (
-      words-run string_bytes c.args.words.now (g.I.Read.remaining (device_of c.args.reader.now)) (g.W.Write.contents (device_of c.args.writer.now)) (g.W.Write.contents (device_of c.run_files.new.writer)) c.run_files.result.stop
-      (search rules) (inl (c.in-Ok.words, c.in-Ok.ensures.ok, c.run_files.ensures.run))
+    words-run string_bytes c.args.words.now (g.I.Read.remaining (device_of c.args.reader.now)) (g.W.Write.contents (device_of c.args.writer.now)) (g.W.Write.contents (device_of c.run_files-stop.new.writer)) c.run_files-stop.result.stop
+    (search rules) (inl (c.in-Ok.words, c.in-Ok.ensures.ok, c.run_files-stop.ensures.run))
     )
 
 pub returns-in-Ok-clause-explained : goal.returns-in-Ok-clause-explained
 returns-in-Ok-clause-explained g c =
     IfSome_then c.of.result.explanation c.of.ensures.explanation
-    (λ text says. (c.in-Ok.words, c.run_files.result, c.in-Ok.ensures.ok, sym c.of.ensures.stop, c.run_files.ensures.placed, says))
+    (λ text says. (c.in-Ok.words, c.run_files-stop.result, c.in-Ok.ensures.ok, sym c.of.ensures.stop, c.run_files-stop.ensures.placed, says))
 
 pub returns-in-Err-clause-run : goal.returns-in-Err-clause-run
 returns-in-Err-clause-run g c =
     rw c.from-in-Err.ensures.0 (
-      words-run string_bytes c.args.words.now (g.I.Read.remaining (device_of c.args.reader.now)) (g.W.Write.contents (device_of c.args.writer.now)) (g.W.Write.contents (device_of c.tell.new.writer)) c.tell.result
-      (search rules) (inr (c.in-Err.stop, c.in-Err.ensures.err, c.tell.ensures))
+    words-run string_bytes c.args.words.now (g.I.Read.remaining (device_of c.args.reader.now)) (g.W.Write.contents (device_of c.args.writer.now)) (g.W.Write.contents (device_of c.tell.new.writer)) c.tell.result
+    (search rules) (inr (c.in-Err.stop, c.in-Err.ensures.err, c.tell.ensures))
     )
