@@ -109,8 +109,9 @@ pub fn told<R: Files + AllocGlobal>(
     };
     drop(writer);
     let written = str::from_utf8(narrow.bytes.as_slice())?;
-    let told = end_of(rt.alloc(), &end.stop)?;
-    match end.explanation {
+    let End { stop, explanation } = end;
+    let told = end_of(rt.alloc(), &stop)?;
+    match explanation {
         Some(more) => Ok(format!(in rt.alloc(); "{written}{told}\n{more}")?),
         None => Ok(format!(in rt.alloc(); "{written}{told}")?),
     }

@@ -320,19 +320,35 @@ const MISSING_TOLD: &str =
 
 const ASKED_ONCE: &str = "userById 1: 1 9; userById 2: 2; 2 calls, 3 known";
 
+/// Loads two users, of whom one isn't there.
+fn load_two(alloc: Global, session: &mut Session<Probe<'_>>) -> Result<(), Fail> {
+    let keys = [text_key(alloc, "1")?, text_key(alloc, "9")?];
+    let _known = session.load_many(0, &keys)?;
+    Ok(())
+}
+
+/// What is told of an answer by two workers after two users were loaded, and what was asked.
+fn told_after_two<R: Threads + Wait + AllocGlobal + Sync>(
+    rt: &R,
+    board: &Board,
+    query: &str,
+) -> Result<(String, String), Fail> {
+    let (schema, bindings) = read(rt.alloc())?;
+    let mut session = session(rt.alloc(), board, Manner::Prompt, None)?;
+    load_two(rt.alloc(), &mut session)?;
+    let plan = plan_of(rt.alloc(), &schema, &bindings, query)?;
+    let answered = answer(rt, &mut session, &plan, 2)?;
+    let found = answer_told(rt.alloc(), answered, board)?;
+    let batches = asked(rt.alloc(), &session, board)?;
+    Ok((found, batches))
+}
+
 /// After two users were loaded two workers ask the third alone.
 #[test]
 fn workers_ask_what_is_missing(rt: HostRuntime) -> Result<(), Fail> {
-    let (schema, bindings) = read(rt.alloc())?;
     let board = Board::new();
-    let mut session = session(rt.alloc(), &board, Manner::Prompt, None)?;
-    let keys = [text_key(rt.alloc(), "1")?, text_key(rt.alloc(), "9")?];
-    let _known = session.load_many(0, &keys)?;
-    let plan = plan_of(rt.alloc(), &schema, &bindings, MISSING)?;
-    let answered = answer(&rt, &mut session, &plan, 2)?;
-    let found = answer_told(rt.alloc(), answered, &board)?;
+    let (found, batches) = told_after_two(&rt, &board, MISSING)?;
     expect(&rt, &found, MISSING_TOLD, MISSING);
-    let found = asked(rt.alloc(), &session, &board)?;
-    expect(&rt, &found, ASKED_ONCE, MISSING);
+    expect(&rt, &batches, ASKED_ONCE, MISSING);
     Ok(())
 }

@@ -15,14 +15,14 @@ next_round-requires-clause-loaders g c =
 pub run_round-requires-clause-loaders : goal.run_round-requires-clause-loaders
 run_round-requires-clause-loaders g c =
     let p : Program = g.P.Execute.program c.in_ok-run.run'.plan in
-    let next = rw c.in-Round.is at c.in_ok-next_round.ensures.next in
+    let next = rw c.in-Round.is at c.in_ok-orders.ensures.next in
     λ κs l. rw c.loaders.ensures (round-below p (state_of c.begin.new.self) (state_of c.next_round.new.session) c.in-Round.orders.items next.0)
 
 pub take-requires-clause-round : goal.take-requires-clause-round
 take-requires-clause-round g c =
     let may = g.S.Source.may_answer in
     let p : Program = g.P.Execute.program c.in_ok-run.run'.plan in
-    let next = rw c.in-Round.is at c.in_ok-next_round.ensures.next in
+    let next = rw c.in-Round.is at c.in_ok-orders.ensures.next in
     let s = state_of c.next_round.new.session in
     let same : c.next_round.new.self.plan ≡ c.in_ok-run.run'.plan = ap (λ (r : RunOf _). r.plan) next.1 in
     let orders = round-orders p (state_of c.begin.new.self) s c.in-Round.orders.items next.0 in
