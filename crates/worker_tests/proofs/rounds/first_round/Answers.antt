@@ -27,4 +27,4 @@ take-requires-clause-round g c =
     let same : c.next_round.new.self.plan ≡ c.in_ok-run.run'.plan = ap (λ (r : RunOf _). r.plan) next.1 in
     let orders = round-orders p (state_of c.begin.new.self) s c.in-Round.orders.items next.0 in
     let answered = rw c.loaders.ensures at c.in_ok-receipts.ensures.answered in
-    rw (same, orders, c.as_slice.ensures.value) (received may s.loaders c.in_ok-shelf.shelf c.in-Round.orders.items c.in_ok-receipts.receipts.items answered)
+    rw (same, orders, c.as_slice-2.ensures.value) (received may s.loaders c.in_ok-shelf.shelf c.in-Round.orders.items c.in_ok-receipts.receipts.items answered)
