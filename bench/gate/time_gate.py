@@ -50,6 +50,9 @@ def timed(module):
 
 
 def main():
+    if sys.argv[1:]:
+        print(__doc__, file=sys.stderr)
+        return 2
     os.makedirs("out", exist_ok=True)
     with open("out/gate-times.tsv", "w", encoding="utf-8") as times:
         times.write("end\tseconds\tprocesses\tcrate\tstep\n")

@@ -4,7 +4,6 @@
 #![tactic(auto)]
 
 mod fields;
-mod members;
 mod merging;
 mod parts;
 mod rules;
@@ -30,7 +29,6 @@ impl Teller for Validation {
         match asked.words.as_str() {
             "table" => tables::table(alloc, text),
             "sets of a table" => tables::sets(alloc, text),
-            "members" => members::told(alloc, text),
             "earliest" => rules::earliest(alloc, text),
             "usages" => types::usages(alloc, text),
             "overlaps" => types::overlaps(alloc, asked.file(0)?, text),

@@ -1,40 +1,36 @@
 //! What the rule on field merging tells of documents, beside a plain slow program for what it means.
+ghost use Rattle.std.specs.Prelude.{◌≡◌};
+ghost use Rattle.document_parts.specs.Listing.{parts_of};
+ghost use Rattle.document_parts.specs.Parts.{parts_in};
 
+use crate::rules::displayed;
 use crate::slow_merging;
-use anyhow::Result;
-use document_parts::{Broken, BrokenName, Parts};
+use anyhow::{Result, bail};
+use document_parts::Parts;
 use field_merging::field_merging;
-use spread_graph::Graph;
-use std::alloc::{AllocError, Global};
-
-/// How it is told, with its place.
-fn displayed(
-    alloc: Global,
-    told: Result<Option<Broken>, AllocError>,
-) -> Result<String, AllocError> {
-    let broken = match told {
-        Ok(Some(broken)) => broken,
-        Ok(None) => return String::from_str(alloc, "kept"),
-        Err(_) => return String::from_str(alloc, "out of reach"),
-    };
-    let name = match broken.name {
-        BrokenName::Plain(name) => name,
-        BrokenName::Variable(name) => name,
-    };
-    let place = broken.place;
-    format!(in alloc; "{name} {}:{}", place.line, place.column)
-}
+use spread_graph::{Graph, fragment_cycles};
+use std::alloc::Global;
 
 /// What the rule tells of a document.
-pub fn told(alloc: Global, parts: &Parts) -> Result<String> {
+pub fn told(alloc: Global, parts: &Parts) -> Result<String>
+    requires { parts_in parts.now ≡ parts_of (parts_in parts.now).definitions (parts_in parts.now).document }
+{
     let graph = Graph::new(alloc, parts)?;
-    Ok(displayed(alloc, field_merging(alloc, parts, &graph))?)
+    if parts.fields.len() > 1024 {
+        bail!("more fields than the rule is asked of");
+    }
+    match fragment_cycles(alloc, parts, &graph)? {
+        Some(_) => bail!("a fragment that reaches itself"),
+        None => Ok(displayed(alloc, field_merging(alloc, parts, &graph)?)?),
+    }
 }
 
 /// What the rule and the slow program tell of a document, or how they differ.
-pub fn by_both(alloc: Global, parts: &Parts) -> Result<String> {
+pub fn by_both(alloc: Global, parts: &Parts) -> Result<String>
+    requires { parts_in parts.now ≡ parts_of (parts_in parts.now).definitions (parts_in parts.now).document }
+{
     let found = told(alloc, parts)?;
-    let slow = displayed(alloc, Ok(slow_merging::field_merging(parts)))?;
+    let slow = displayed(alloc, slow_merging::field_merging(parts))?;
     if found == slow {
         Ok(found)
     } else {

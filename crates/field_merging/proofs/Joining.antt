@@ -4,7 +4,7 @@ use Rattle.std.specs.Prelude.{slice_get, slice_index_or, filter, filter_map, fin
 use Rattle.std.specs.List.{list_any}
 use Rattle.std.proofs.lemmas.List.Elements.{filter-append}
 use Rattle.std.proofs.lemmas.Bool.{both_ways, or_left, or_right, eq-eqb}
-use Rattle.gq_parser.specs.Tree.{Below, nothing_below, below, Fragment}
+use Rattle.gq_parser.specs.Tree.{Below, nothing_below, below}
 use Rattle.document_parts.specs.Broken.{BrokenOf, with_broken, with_broken_if, earliest}
 use Rattle.document_parts.specs.Parts.{PartsOf}
 use Rattle.merge_table.specs.declared.field.Field as table
@@ -15,14 +15,13 @@ use Rattle.merge_table.specs.Numbered.{is_in}
 use Rattle.merge_table.specs.Renumbered.{IsRenumbered}
 use Rattle.merge_table.specs.Sets.{has}
 use Rattle.merge_table.specs.Table.{fail, entry, Tells, TellsAll}
-use Rattle.selection_members.specs.Members.{SetOf, sets_of, members_of_fragment, members_below, count_in, count_below, count_operations}
+use Rattle.selection_members.specs.Members.{SetOf, sets_of, members_of_fragment, members_below, count_below, count_operations, count_fragments}
 use Rattle.selection_members.specs.Walks.{to, clash, is_clashing, is_key}
 use Rattle.selection_members.proofs.Entering.{drop-next}
-use Rattle.selection_members.proofs.Below as under
 use Rattle.selection_members.proofs.Below.{AllUnder, AreFields, in-under, spread-under, document-fields}
 use Rattle.field_merging.specs.Compare.{have_one_key}
 use Rattle.field_merging.specs.Members.{members_at, fields_of}
-use Rattle.field_merging.specs.Numbered.{AreNumbered, IsInverse, AreInside, count_fragments}
+use Rattle.field_merging.specs.Numbered.{AreNumbered, IsInverse, AreInside}
 use Rattle.field_merging.specs.Rule.{IsMerging, key_of}
 use Rattle.field_merging.specs.Told.{told_set, told_sets}
 use Rattle.field_merging.proofs.Classes.{same-key}
@@ -101,14 +100,10 @@ got-below [] i y e = cc
 got-below (z ∷ ys) zero y e = omega arith
 got-below (z ∷ ys) (suc i) y e = let rest = got-below ys i y e in omega (arith, rest)
 
-pub same-count : (fs : List Fragment) → under.count_fragments fs ≡ count_fragments fs
-same-count [] = refl
-same-count (f ∷ fs) = ap (λ (n : ℕ). count_in f.selection_set + n) (same-count fs)
-
 module _ (p : PartsOf) (numbers order : List ℕ) (xs : List table.Field) (rows : List (List ℕ))
     (are : AreNumbered p numbers (members_of_fragment p.document) order xs)
     (inverse : IsInverse order numbers (length order)) (whole : length order ≡ length p.fields) (inside : AreInside p.fields)
-    (counted : count_operations p.document.operations + count_fragments p.document.fragments ≤ length p.fields)
+    (counted : count_operations p.document.operations + count_fragments p.document.fragments ≡ length p.fields)
     (len : length xs ≡ length order) (told : TellsAll (Merges (numbered.fields_of xs)) (numbered.fields_of xs) (length xs) rows) where
   abbrev pub n : ℕ
   n = length p.fields
@@ -119,18 +114,18 @@ module _ (p : PartsOf) (numbers order : List ℕ) (xs : List table.Field) (rows 
   abbrev pub E : Fields ℕ
   E = numbered.fields_of xs
 
+  most : count_operations p.document.operations + count_fragments p.document.fragments ≤ n
+  most = omega (arith, counted)
+
   stands : IsInverse order numbers n
   stands a h = inverse a (omega (arith, whole, h))
 
   placed : (a : ℕ) → a < n → to numbers a < n
   placed a h = let g = got-below order (to numbers a) a (stands a h) in omega (arith, whole, g)
 
-  count : count_operations p.document.operations + under.count_fragments p.document.fragments ≤ n
-  count = let same = same-count p.document.fragments in omega (arith, same, counted)
-
   below-under : (k : ℕ) (b : Below) → k + count_below b ≤ n → AllUnder n (members_below (members_of_fragment p.document) k b)
   below-under k nothing_below le = λ c e. absurd (both_ways false refl e)
-  below-under k (below s) le = in-under n (members_of_fragment p.document) (spread-under n p.document count) k s le
+  below-under k (below s) le = in-under n (members_of_fragment p.document) (spread-under n p.document most) k s le
 
   known : (a c : ℕ) → a < n → is_in (members_at p a) c ≡ true → c < n
   known a c h e =
@@ -148,7 +143,7 @@ module _ (p : PartsOf) (numbers order : List ℕ) (xs : List table.Field) (rows 
   tells = told-clash D E n numbers (λ i. slice_index_or order i 0) (members_at p) rows renumbered (λ c d hc hd. told c d (omega (arith, len, whole, hc)) (omega (arith, len, whole, hd)))
 
   pub sets-under : AreFields n (sets_of p.document)
-  sets-under = document-fields n p.document count
+  sets-under = document-fields n p.document most
 
   key-same : (ms : List ℕ) → AllUnder n ms → (f : ℕ) → f < n → key_clashes E.one_key (fail rows) (map (to numbers) ms) (to numbers f) ≡ key_clashes D.one_key (clash rows numbers) ms f
   key-same ms us f h =

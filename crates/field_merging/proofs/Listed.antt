@@ -6,7 +6,7 @@ use Rattle.std.proofs.lemmas.List.{map-append, length-map}
 use Rattle.std.proofs.lemmas.Option.{slice_get-map}
 use Rattle.gq_parser.specs.Tree.{Field, Spread, Inline, Below, nothing_below, below, SelectionSet, set_at, Selection, Selections, no_selection, and_selection, Operation, Fragment, Document}
 use Rattle.schema_syntax.specs.Tree.{Definition}
-use Rattle.selection_members.specs.Members.{count_below, count_operations}
+use Rattle.selection_members.specs.Members.{count_below, count_operations, count_fragments}
 use Rattle.selection_members.specs.Written.{written_in, written_among, written_from, written_below, written_operations, written_fragments, written_fields, own_below, belows}
 use Rattle.selection_members.proofs.Places.{fields-followed, fields-count}
 use Rattle.document_parts.specs.declared.part.Owner.{Owner}
@@ -15,8 +15,7 @@ use Rattle.document_parts.specs.Parts.{FieldPart, SelectionPart}
 use Rattle.document_parts.specs.Parents.{known_field, inside_operation, inside_field, inside_condition, inside_inline}
 use Rattle.document_parts.specs.Selections.{selections_in, selections_among, selections_from, selections_below, operation_selections, fragment_selections}
 use Rattle.document_parts.specs.Listing.{field_part, fields_in, fields_of}
-use Rattle.field_merging.specs.Numbered.{as_written, count_fragments}
-use Rattle.field_merging.proofs.Joining.{same-count}
+use Rattle.field_merging.specs.Numbered.{as_written}
 
 fields-append : (xs ys : List SelectionPart) → fields_in (xs ++ ys) ≡ fields_in xs ++ fields_in ys
 fields-append [] ys = refl
@@ -82,5 +81,5 @@ module _ (defs : List Definition) where
     pub inside-at : (a : ℕ) (f : FieldPart) → slice_get fields a ≡ Some f → (a + 1) + count_below f.below ≤ length fields
     inside-at a f e = let le = fields-followed d a (as_written f) (written-at a f e) in let same = many in omega (arith, le, same)
 
-    pub counted : count_operations d.operations + count_fragments d.fragments ≤ length fields
-    counted = let count = fields-count d in let same = same-count d.fragments in let all = many in omega (arith, count, same, all)
+    pub counted : count_operations d.operations + count_fragments d.fragments ≡ length fields
+    counted = sym (fields-count d) ∙ many

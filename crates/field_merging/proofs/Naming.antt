@@ -14,7 +14,7 @@ use Rattle.field_merging.specs.Selected.{selected_in, selected_among, selected_f
 
 -- ---- places in lists
 
-get-left : {A : Type 0} (xs ys : List A) (i : ℕ) (x : A) → slice_get xs i ≡ Some x → slice_get (xs ++ ys) i ≡ Some x
+pub get-left : {A : Type 0} (xs ys : List A) (i : ℕ) (x : A) → slice_get xs i ≡ Some x → slice_get (xs ++ ys) i ≡ Some x
 get-left [] ys i x e = cc
 get-left (z ∷ xs) ys zero x e = e
 get-left (z ∷ xs) ys (suc i) x e = get-left xs ys i x e

@@ -33,7 +33,7 @@ at-is g d (x ∷ fs) (suc a) f e = at-is g d fs a f e
 pub test-is : (t : FieldPart → FieldPart → Bool) (fs : List FieldPart) (a b : ℕ) (f g : FieldPart) → slice_get fs a ≡ Some f → slice_get fs b ≡ Some g → test_at t fs a b ≡ t f g
 test-is t fs a b f g ha hb = at-is (λ x. at (t x) false fs b) false fs a f ha ∙ at-is (t f) false fs b g hb
 
-table-is : {A : Type 0} (g : table.Field → A) (d : A) (xs : List table.Field) (i : ℕ) (x : table.Field) → slice_get xs i ≡ Some x → numbered.at g d xs i ≡ g x
+pub table-is : {A : Type 0} (g : table.Field → A) (d : A) (xs : List table.Field) (i : ℕ) (x : table.Field) → slice_get xs i ≡ Some x → numbered.at g d xs i ≡ g x
 table-is g d [] i x e = cc
 table-is g d (y ∷ xs) zero x e = let same : y ≡ x = cc in ap g same
 table-is g d (y ∷ xs) (suc i) x e = table-is g d xs i x e
@@ -51,7 +51,7 @@ numbered-push p numbers spread [] (y ∷ xs) a x are is = absurd are
 numbered-push p numbers spread (b ∷ order) [] a x are is = absurd are
 
 -- the field of the table at a place of the order
-found : (p : PartsOf) (numbers : List ℕ) (spread : List ℕ → List ℕ) (order : List ℕ) (xs : List table.Field) (i a : ℕ) (f : FieldPart) → AreNumbered p numbers spread order xs
+pub found : (p : PartsOf) (numbers : List ℕ) (spread : List ℕ → List ℕ) (order : List ℕ) (xs : List table.Field) (i a : ℕ) (f : FieldPart) → AreNumbered p numbers spread order xs
     → slice_get order i ≡ Some a → slice_get p.fields a ≡ Some f → (x : table.Field) × (slice_get xs i ≡ Some x) × IsNumbered p numbers spread a f x
 found p numbers spread [] [] i a f are e h = cc
 found p numbers spread (b ∷ order) (y ∷ xs) zero a f are e h = let same : a ≡ b = cc in (y, refl, subst (λ (n : ℕ). IsNumbered p numbers spread n f y) (sym same) (are.0 f (subst (λ (n : ℕ). slice_get p.fields n ≡ Some f) same h)))

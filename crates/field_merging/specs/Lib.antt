@@ -1,7 +1,9 @@
+pub mod Agreeing
 pub mod Attributes
 pub mod Compare
 pub mod Members
 pub mod Numbered
+pub mod Orders
 pub mod Rule
 pub mod Told
 pub mod Selected

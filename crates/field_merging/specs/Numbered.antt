@@ -3,8 +3,8 @@ use Rattle.std.specs.Prelude.{◌≡◌, ◌<◌, ◌≤◌, ◌+◌, ℕ, List,
 use Rattle.merge_table.specs.declared.field.Field as table
 use Rattle.merge_table.specs.Numbered.{is_in}
 use Rattle.merge_table.specs.Sets.{has}
-use Rattle.gq_parser.specs.Tree.{Field, Selection, Fragment}
-use Rattle.selection_members.specs.Members.{count_in, count_below, members_below}
+use Rattle.gq_parser.specs.Tree.{Field, Selection}
+use Rattle.selection_members.specs.Members.{count_below, members_below}
 use Rattle.selection_members.specs.Walks.{to, renumbered}
 use Rattle.document_parts.specs.Parts.{FieldPart, PartsOf}
 use Rattle.field_merging.specs.declared.attributes.Attribute.TheVariants.{Key, Selected, Parent, Shape}
@@ -31,11 +31,6 @@ AreNumbered p numbers spread [] [] = Unit {0}
 AreNumbered p numbers spread (a ∷ order) (x ∷ fields) = ((f : FieldPart) → slice_get p.fields a ≡ Some f → IsNumbered p numbers spread a f x) × AreNumbered p numbers spread order fields
 AreNumbered p numbers spread [] (x ∷ fields) = ⊥
 AreNumbered p numbers spread (a ∷ order) [] = ⊥
-
--- the fields of fragments, each counted where it is written
-abbrev pub count_fragments : List Fragment → ℕ
-count_fragments [] = 0
-count_fragments (f ∷ fs) = count_in f.selection_set + count_fragments fs
 
 -- the fields below each of these have numbers of these
 abbrev pub AreInside : List FieldPart → Type 0

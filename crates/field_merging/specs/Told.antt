@@ -12,6 +12,7 @@ use Rattle.merge_table.specs.declared.field.Field as table
 use Rattle.merge_table.specs.declared.sets.Reached.{Reached}
 use Rattle.selection_members.specs.Fragments.{place_in}
 use Rattle.selection_members.specs.Members.{SetOf, members_of_fragment}
+use Rattle.selection_members.specs.Ranked.{AreRanked}
 use Rattle.selection_members.specs.Walks.{Knows}
 use Rattle.field_merging.specs.Numbered.{AreNumbered}
 
@@ -35,7 +36,8 @@ abbrev pub earliest_set : List SetOf → Option SetOf
 earliest_set = fold with_set None
 
 -- what is known where the fields of a document have been compared under their numbers
-pub record AreCompared (p : PartsOf) (numbers order : List ℕ) (fields : List table.Field) (rows : List (List ℕ)) (fragments : List (Option Reached)) : Type 0 where
+pub record AreCompared (p : PartsOf) (numbers order : List ℕ) (fields : List table.Field) (rows : List (List ℕ)) (fragments : List Reached) : Type 0 where
   pub numbered : AreNumbered p numbers (members_of_fragment p.document) order fields
   pub told : TellsAll (Merges (of_table.fields_of fields)) (of_table.fields_of fields) (length fields) rows
+  pub ranked : ∥ AreRanked (place_in p.document.fragments) p.document.fragments ∥₁
   pub known : Knows rows numbers fragments (place_in p.document.fragments) (members_of_fragment p.document)

@@ -42,7 +42,8 @@ fn have_one_key(one: &FieldPart, other: &FieldPart) -> bool
     response_key(one) == response_key(other)
 }
 
-fn do_agree(one: &FieldPart, other: &FieldPart) -> bool
+/// Whether two fields have one name with equal arguments.
+pub fn do_agree(one: &FieldPart, other: &FieldPart) -> bool
     ensures { result ≡ do_agree (field_part_of one.now) (field_part_of other.now) }
 {
     one.field.name.as_str() == other.field.name.as_str()
@@ -135,9 +136,9 @@ fn type_name_is_like(schema: &Schema, of_type: &TypeRef) -> bool
     }
 }
 
-// Whether the return types are the same, where only the names of composite types are overlooked. `__typename` has no definition
-// and is a `String!` (section 4.4).
-fn are_alike(schema: &Schema, one: &FieldPart, other: &FieldPart) -> bool
+/// Whether the return types are the same, where only the names of composite types are overlooked. `__typename` has no definition
+/// and is a `String!` (section 4.4).
+pub fn are_alike(schema: &Schema, one: &FieldPart, other: &FieldPart) -> bool
     ensures { result ≡ are_alike (tree_of schema.now) (field_part_of one.now) (field_part_of other.now) }
 {
     match one.definition {

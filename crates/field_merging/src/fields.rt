@@ -1,6 +1,6 @@
 //! The fields of a document under their numbers in the table of pairs.
 
-ghost use Rattle.std.specs.Prelude.{◌≡◌, ◌+◌, ℕ, List, Some, slice_get, IfOk};
+ghost use Rattle.std.specs.Prelude.{◌≡◌, ◌<◌, ◌+◌, ℕ, List, Some, length, slice_get, IfOk};
 ghost use Rattle.merge_table.specs.Numbered.{is_in};
 ghost use Rattle.merge_table.specs.Sets.{has};
 ghost use Rattle.selection_members.specs.Members.{members_below};
@@ -16,37 +16,30 @@ use merge_table::{Field, Row};
 use std::alloc::{AllocError, Global};
 
 // The members of the own set of the field of a number, where `members` are those of all fields.
-fn members_of(parts: &Parts, members: &[Row], number: usize) -> Result<Row, AllocError>
-    ensures { (numbers : List ℕ) (spread : List ℕ → List ℕ) (f : listed.FieldPart) → AreOwn numbers spread 0 (belows (written_fields (parts_in parts.now).document)) members.now → slice_get (parts_in parts.now).fields number ≡ Some f → IfOk result (λ row. (i : ℕ) → has row i ≡ is_in (renumbered numbers (members_below spread (number + 1) f.below)) i) }
+fn members_of(parts: &Parts, members: &[Row], number: usize) -> Row
+    requires there { number < length members.now }
+    ensures { (numbers : List ℕ) (spread : List ℕ → List ℕ) (f : listed.FieldPart) → AreOwn numbers spread 0 (belows (written_fields (parts_in parts.now).document)) members.now → slice_get (parts_in parts.now).fields number ≡ Some f → (i : ℕ) → has result i ≡ is_in (renumbered numbers (members_below spread (number + 1) f.below)) i }
 {
-    match members.get(number) {
-        Some(own) => {
-            let mut row = Row::new();
-            row.add_all(own);
-            Ok(row)
-        }
-        None => Err(AllocError),
-    }
+    let mut row = Row::new();
+    row.add_all(&members[number]);
+    row
 }
 
 // The field of a number, as the table of pairs sees it.
-fn numbered(parts: &Parts, members: &[Row], number: usize) -> Result<Field, AllocError>
-    ensures { (numbers : List ℕ) (spread : List ℕ → List ℕ) (f : listed.FieldPart) → AreOwn numbers spread 0 (belows (written_fields (parts_in parts.now).document)) members.now → slice_get (parts_in parts.now).fields number ≡ Some f → IfOk result (IsNumbered (parts_in parts.now) numbers spread number f) }
+fn numbered(parts: &Parts, members: &[Row], number: usize) -> Field
+    requires there { number < length (parts_in parts.now).fields }
+    requires len { length members.now ≡ length (parts_in parts.now).fields }
+    ensures { (numbers : List ℕ) (spread : List ℕ → List ℕ) (f : listed.FieldPart) → AreOwn numbers spread 0 (belows (written_fields (parts_in parts.now).document)) members.now → slice_get (parts_in parts.now).fields number ≡ Some f → IsNumbered (parts_in parts.now) numbers spread number f result }
 {
-    match parts.fields.get(number) {
-        Some(field) => {
-            let own = members_of(parts, members, number)?;
-            Ok(Field {
-                key: number_of(parts, Attribute::Key, field),
-                name: number_of(parts, Attribute::Selected, field),
-                arguments: 0,
-                parent: number_of(parts, Attribute::Parent, field),
-                object: is_object_parent(parts.schema, field),
-                shape: number_of(parts, Attribute::Shape, field),
-                members: own,
-            })
-        }
-        None => Err(AllocError),
+    let field = &parts.fields[number];
+    Field {
+        key: number_of(parts, Attribute::Key, field),
+        name: number_of(parts, Attribute::Selected, field),
+        arguments: 0,
+        parent: number_of(parts, Attribute::Parent, field),
+        object: is_object_parent(parts.schema, field),
+        shape: number_of(parts, Attribute::Shape, field),
+        members: members_of(parts, members, number),
     }
 }
 
@@ -58,11 +51,13 @@ pub fn numbered_fields(
     members: &[Row],
     order: &[usize],
 ) -> Result<Vec<Field>, AllocError>
+    requires there { (k a : ℕ) → slice_get order.now k ≡ Some a → a < length (parts_in parts.now).fields }
+    requires len { length members.now ≡ length (parts_in parts.now).fields }
     ensures { (numbers : List ℕ) (spread : List ℕ → List ℕ) → AreOwn numbers spread 0 (belows (written_fields (parts_in parts.now).document)) members.now → IfOk result (λ fields. AreNumbered (parts_in parts.now) numbers spread order.now fields.items) }
 {
     let mut fields = Vec::with_capacity(alloc, order.len())?;
     for number in order {
-        fields.push(numbered(parts, members, *number)?)?;
+        fields.push(numbered(parts, members, *number))?;
     }
     Ok(fields)
 }

@@ -5,17 +5,17 @@ ghost use Rattle.gq_parser.specs.Tree.{document_of};
 ghost use Rattle.merge_table.specs.Numbered.{AreInOrder};
 ghost use Rattle.merge_table.specs.Table.{IsBelow};
 ghost use Rattle.selection_members.specs.Fragments.{place_in, AreTargets};
-ghost use Rattle.selection_members.specs.Members.{count_operations, members_of_fragment, starts_from};
+ghost use Rattle.selection_members.specs.Members.{count_operations, count_fragments, members_of_fragment, starts_from};
+ghost use Rattle.selection_members.specs.Placed.{ArePlaced, IsNumbering};
+ghost use Rattle.selection_members.specs.Ranked.{IsOrder};
 ghost use Rattle.selection_members.specs.Walks.{to, Knows, IsFixed};
 ghost use Rattle.document_parts.specs.Parts.{parts_in};
-ghost use Rattle.field_merging.specs.Numbered.{count_fragments, AreInside, IsInverse, AreNumbered};
+ghost use Rattle.field_merging.specs.Numbered.{AreInside, IsInverse, AreNumbered};
 
 use crate::fields::numbered_fields;
-use crate::places::Numbering;
-use crate::ranks::Ranks;
 use document_parts::Parts;
-use merge_table::{Field, Row, is_in_order};
-use selection_members::{Source, Targets, Walk, is_ranked, known_fragments, members_of_fields};
+use merge_table::{Field, Row};
+use selection_members::{Numbering, Source, Targets, Walk, known_fragments, members_of_fields};
 use std::alloc::{AllocError, Global};
 
 /// What is known of a document whose fragments don't reach themselves.
@@ -30,42 +30,35 @@ pub struct Grounds<'a, 'd> {
     ghost whole: { length numbers.now ≡ length order.now },
     ghost all: { length order.now ≡ length (parts_in parts.now).fields },
     ghost inverse: { IsInverse order.now numbers.now (length order.now) },
+    ghost placed: { ArePlaced (document_of parts.now.document.now) order.now numbers.now },
     ghost named: { AreTargets (document_of parts.now.document.now).fragments targets.now },
     ghost started: { starts.now ≡ starts_from (count_operations (document_of parts.now.document.now).operations) (document_of parts.now.document.now).fragments },
-    ghost counted: { count_operations (document_of parts.now.document.now).operations + count_fragments (document_of parts.now.document.now).fragments ≤ length (parts_in parts.now).fields },
+    ghost counted: { count_operations (document_of parts.now.document.now).operations + count_fragments (document_of parts.now.document.now).fragments ≡ length (parts_in parts.now).fields },
     ghost inside: { AreInside (parts_in parts.now).fields },
     ghost fixed: { IsFixed (members_of_fragment (document_of parts.now.document.now)) (document_of parts.now.document.now) },
 }
 
-/// What these rest on, where it holds.
-///
-/// # Errors
-///
-/// Also where it doesn't: where a fragment reaches itself.
+/// These, where fields have places.
 pub fn grounds_of<'a, 'd>(
     parts: &'a Parts<'d>,
     targets: &'a Targets<'d>,
     starts: &'a [usize],
     numbering: &'a Numbering,
-    ranks: &Ranks,
-) -> Result<Grounds<'a, 'd>, AllocError>
+) -> Grounds<'a, 'd>
+    requires few { length (parts_in parts.now).fields ≤ 1024 }
     requires named { AreTargets (document_of parts.now.document.now).fragments targets.now }
     requires started { starts.now ≡ starts_from (count_operations (document_of parts.now.document.now).operations) (document_of parts.now.document.now).fragments }
-    ensures { IfOk result (λ grounds. grounds.parts.now ≡ parts.now) }
+    requires fixed { IsFixed (members_of_fragment (document_of parts.now.document.now)) (document_of parts.now.document.now) }
+    requires numbering { IsNumbering (document_of parts.now.document.now) numbering.now.order.items numbering.now.numbers.items }
+    ensures { result.parts.now ≡ parts.now }
 {
-    if numbering.order.len() != parts.fields.len() {
-        return Err(AllocError);
-    }
-    if !is_ranked(&ranks.places, targets, &parts.document.fragments) {
-        return Err(AllocError);
-    }
-    Ok(Grounds {
+    Grounds {
         parts,
         targets,
         starts,
         order: &numbering.order,
         numbers: &numbering.numbers,
-    })
+    }
 }
 
 // So many rows without any field.
@@ -80,16 +73,13 @@ fn blank_rows(alloc: Global, count: usize) -> Result<Vec<Row>, AllocError>
     Ok(rows)
 }
 
-/// The fields of a document in the table of pairs; `fragments` are the fragments in the order in which they are learned.
-///
-/// # Errors
-///
-/// Also where a field comes before one that its selection set has.
+/// The fields of a document in the table of pairs; `fragments` are the fragments, each after those that it spreads.
 pub fn fields_in_order(
     alloc: Global,
     grounds: &Grounds,
     fragments: &[usize],
 ) -> Result<Vec<Field>, AllocError>
+    requires fragments { IsOrder fragments.now (place_in (document_of grounds.now.parts.now.document.now).fragments) (document_of grounds.now.parts.now.document.now).fragments }
     ensures numbered { IfOk result (λ fields. AreNumbered (parts_in grounds.now.parts.now) grounds.now.numbers.now (members_of_fragment (document_of grounds.now.parts.now.document.now)) grounds.now.order.now fields.items) }
     ensures order { IfOk result (λ fields. AreInOrder fields.items) }
 {
@@ -110,8 +100,5 @@ pub fn fields_in_order(
     };
     let members = members_of_fields(alloc, &walk, grounds.parts.document)?;
     let fields = numbered_fields(alloc, grounds.parts, &members, grounds.order)?;
-    if !is_in_order(&fields) {
-        return Err(AllocError);
-    }
     Ok(fields)
 }

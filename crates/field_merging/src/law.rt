@@ -1,15 +1,15 @@
 //! What holds of the definition.
 
-ghost use Rattle.std.specs.Prelude.{◌≡◌, ◌≤◌, ◌+◌, ℕ, List, Option, Some, length, map, slice_get};
+ghost use Rattle.std.specs.Prelude.{◌≡◌, ◌≤◌, ◌+◌, ℕ, List, [], Option, Some, length, map, slice_get};
 ghost use Rattle.gq_parser.specs.Tree.{Document, Selection};
 ghost use Rattle.schema_syntax.specs.Tree.{Definition};
-ghost use Rattle.selection_members.specs.Fragments.{place_in};
 ghost use Rattle.selection_members.specs.Members.{members_below, members_entered, members_of_fragment, sets_of};
-ghost use Rattle.selection_members.specs.Ranked.{IsRanked};
 ghost use Rattle.selection_members.specs.Written.{written_fields, own_below};
 ghost use Rattle.document_parts.specs.Broken.{BrokenOf};
-ghost use Rattle.document_parts.specs.Listing.{fields_of};
+ghost use Rattle.document_parts.specs.Listing.{fields_of, parts_of};
 ghost use Rattle.document_parts.specs.Parts.{PartsOf};
+ghost use Rattle.spread_graph.specs.Levels.{levels_expanded};
+ghost use Rattle.spread_graph.specs.Rules.{fragment_cycles};
 ghost use Rattle.field_merging.specs.Numbered.{as_written};
 ghost use Rattle.field_merging.specs.Rule.{IsMerging};
 ghost use Rattle.field_merging.specs.Selected.{selected_below, selected_by_fragment, selecting_sets, looked_up};
@@ -32,8 +32,14 @@ pub fn numbers_name_fields()
     ensures own { (d : Document) (a : ℕ) (f : Selection) → slice_get (written_fields d) a ≡ Some f → map (slice_get (written_fields d)) (members_below (members_of_fragment d) (a + 1) (own_below f)) ≡ map Some (selected_below (selected_by_fragment d) (own_below f)) }
 {}
 
-/// Where fragments have ranks above those of what they spread, so that none reaches itself, a fragment has the same members
-/// however many fragments may be entered, one inside another: as many as there are cut nothing off.
+/// Where no fragment reaches itself, a fragment has the same members however many fragments may be entered, one inside another: as
+/// many as there are cut nothing off.
 pub fn all_members_are_entered()
-    ensures { (d : Document) (ranks : List ℕ) → IsRanked ranks (place_in d.fragments) d.fragments → (k : ℕ) → length d.fragments ≤ k → (name : List ℕ) → members_entered k d name ≡ members_of_fragment d name }
+    ensures { (definitions : List Definition) (d : Document) → fragment_cycles (parts_of definitions d) ≡ [] → (k : ℕ) → length d.fragments ≤ k → (name : List ℕ) → members_entered k d name ≡ members_of_fragment d name }
+{}
+
+/// Where no fragment reaches itself, a fragment has the same levels however many fragments a path may expand: as many as there are
+/// cut nothing off.
+pub fn all_levels_are_counted()
+    ensures { (definitions : List Definition) (d : Document) → fragment_cycles (parts_of definitions d) ≡ [] → (k : ℕ) → length d.fragments ≤ k → (j : ℕ) → levels_expanded k d.fragments j ≡ levels_expanded (length d.fragments) d.fragments j }
 {}

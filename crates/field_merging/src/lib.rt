@@ -3,21 +3,20 @@
 //! The layer above may rely on this: the rule is defined over documents (`specs/Rule.antt`), and tells one set at most
 //! ([`one_set_is_told`]); [`field_merging`] tells it. Fields are put into the table of pairs under numbers, where equal numbers
 //! stand for what is the same, and so that what a field's set has comes before the field. What a table of these fields tells of the
-//! document is proved (`proofs/Joining.antt`). [`operation_fields`] is the number of the first field in fragments.
+//! document is proved (`proofs/Joining.antt`).
 #![tactic(auto)]
 
+mod agreeing;
 mod attributes;
 mod clashing;
-mod counting;
 mod fields;
 mod grounds;
 mod law;
 mod merging;
-mod places;
 mod ranks;
 
-pub use counting::operation_fields;
 pub use law::{
-    all_members_are_entered, fields_are_listed_as_written, numbers_name_fields, one_set_is_told,
+    all_levels_are_counted, all_members_are_entered, fields_are_listed_as_written,
+    numbers_name_fields, one_set_is_told,
 };
 pub use merging::field_merging;

@@ -1,16 +1,14 @@
-//! An order of fragments in which each comes after those that it spreads, where none reaches itself. Nothing is claimed of it:
-//! what rests on the order is asked of it where it is used.
+//! An order of fragments in which each comes after those that it spreads.
+
+ghost use Rattle.std.specs.Prelude.{◌≡◌, ◌<◌, ℕ, true, false, length, slice_index_or, IsTrue, IfOk, OnOk};
+ghost use Rattle.document_parts.specs.declared.part.Owner.TheVariants as owner;
+ghost use Rattle.spread_graph.specs.Graphs.{row};
+ghost use Rattle.spread_graph.specs.Walks.{IsMarked};
+ghost use Rattle.field_merging.specs.Orders.{are_marked, IsFree, IsPart, IsGraphOrder};
 
 use document_parts::Owner;
 use spread_graph::Graph;
 use std::alloc::{AllocError, Global};
-
-/// The fragments in an order, and the place of each in it.
-#[derive(Drop)]
-pub struct Ranks {
-    pub order: Vec<usize>,
-    pub places: Vec<usize>,
-}
 
 // Who spreads each fragment, once for each spread.
 fn users(alloc: Global, graph: &Graph) -> Result<Vec<Vec<usize>>, AllocError> {
@@ -41,19 +39,8 @@ fn settle(users: &[usize], left: &mut [usize], order: &mut Vec<usize>) -> Result
     Ok(())
 }
 
-// The place of each number in an order.
-fn inverse(alloc: Global, order: &[usize], count: usize) -> Result<Vec<usize>, AllocError> {
-    let mut places = vec![in alloc; 0usize; count]?;
-    for (i, number) in order.iter().enumerate() {
-        if let Some(place) = places.get_mut(*number) {
-            *place = i;
-        }
-    }
-    Ok(places)
-}
-
-/// Each fragment once all that it spreads have come.
-pub fn rank_fragments(alloc: Global, graph: &Graph) -> Result<Ranks, AllocError> {
+// Each fragment once all that it spreads have come. Nothing is claimed of it: it is the order in which fragments are looked at first.
+fn likely_order(alloc: Global, graph: &Graph) -> Result<Vec<usize>, AllocError> {
     let users = users(alloc, graph)?;
     let mut left = Vec::with_capacity(alloc, graph.len())?;
     let mut order = Vec::with_capacity(alloc, graph.len())?;
@@ -71,6 +58,108 @@ pub fn rank_fragments(alloc: Global, graph: &Graph) -> Result<Ranks, AllocError>
             settle(list, &mut left, &mut order)?;
         }
     }
-    let places = inverse(alloc, &order, graph.len())?;
-    Ok(Ranks { order, places })
+    Ok(order)
+}
+
+fn is_marked(taken: &[bool], fragment: usize) -> bool
+    ensures { result ≡ slice_index_or taken.now fragment false }
+{
+    match taken.get(fragment) {
+        Some(is_taken) => *is_taken,
+        None => false,
+    }
+}
+
+fn are_marked(taken: &[bool], fragments: &[usize]) -> bool
+    ensures { result ≡ are_marked taken.now fragments.now }
+{
+    for fragment in fragments {
+        if !is_marked(taken, *fragment) {
+            return false;
+        }
+    }
+    true
+}
+
+fn are_all_marked(taken: &[bool]) -> bool
+    ensures { IsTrue result → (x : ℕ) → x < length taken.now → IsMarked taken.now x }
+{
+    for i in 0..taken.len() {
+        if !taken[i] {
+            return false;
+        }
+    }
+    true
+}
+
+// Takes a fragment into an order, where all that it spreads are taken.
+fn take_next(
+    graph: &Graph,
+    fragment: usize,
+    taken: &mut Vec<bool>,
+    order: &mut Vec<usize>,
+) -> Result<(), AllocError>
+    requires part { IsPart graph.now order.old.items taken.old.items }
+    ensures part { OnOk result (IsPart graph.now order.new.items taken.new.items) }
+    ensures kept { (x : ℕ) → IsMarked taken.old.items x → OnOk result (IsMarked taken.new.items x) }
+    ensures taken { fragment < length graph.now.fragments → are_marked taken.old.items (row graph.now (owner.Fragment fragment)) ≡ true → OnOk result (IsMarked taken.new.items fragment) }
+{
+    if fragment >= graph.len() {
+        return Ok(());
+    }
+    if is_marked(taken, fragment) {
+        return Ok(());
+    }
+    if !are_marked(taken, graph.row(Owner::Fragment(fragment))) {
+        return Ok(());
+    }
+    order.push(fragment)?;
+    taken[fragment] = true;
+    Ok(())
+}
+
+// Takes each fragment all of whose spreads are taken.
+fn take_all(graph: &Graph, taken: &mut Vec<bool>, order: &mut Vec<usize>) -> Result<(), AllocError>
+    requires part { IsPart graph.now order.old.items taken.old.items }
+    ensures part { OnOk result (IsPart graph.now order.new.items taken.new.items) }
+    ensures taken { (x : ℕ) → x < length graph.now.fragments → are_marked taken.old.items (row graph.now (owner.Fragment x)) ≡ true → OnOk result (IsMarked taken.new.items x) }
+{
+    for fragment in 0..graph.len() {
+        take_next(graph, fragment, taken, order)?;
+    }
+    Ok(())
+}
+
+// Takes these fragments, where all that each of them spreads are taken.
+fn take_these(
+    graph: &Graph,
+    fragments: &[usize],
+    taken: &mut Vec<bool>,
+    order: &mut Vec<usize>,
+) -> Result<(), AllocError>
+    requires part { IsPart graph.now order.old.items taken.old.items }
+    ensures part { OnOk result (IsPart graph.now order.new.items taken.new.items) }
+{
+    for fragment in fragments {
+        take_next(graph, *fragment, taken, order)?;
+    }
+    Ok(())
+}
+
+/// The fragments, each after those that it spreads. It is linear in the spreads.
+pub fn rank_fragments(alloc: Global, graph: &Graph) -> Result<Vec<usize>, AllocError>
+    requires free { IsFree graph.now }
+    ensures { IfOk result (λ order. IsGraphOrder graph.now order.items) }
+{
+    let mut taken = vec![in alloc; false; graph.len()]?;
+    let mut order = Vec::with_capacity(alloc, graph.len())?;
+    let likely = likely_order(alloc, graph)?;
+    take_these(graph, &likely, &mut taken, &mut order)?;
+    for _ in 0..graph.len() {
+        if are_all_marked(&taken) {
+            return Ok(order);
+        }
+        take_all(graph, &mut taken, &mut order)?;
+    }
+    Ok(order)
 }

@@ -1,9 +1,13 @@
 -- What a valid document keeps.
-use Rattle.std.proofs.Common.{◌≡◌, ◌∙◌, sym, ap, subst, refl, ℕ, Bool, true, false, List, [], ◌∷◌, Option, Some, None, if◌then◌else◌}
-use Rattle.std.specs.Prelude.{option_map, fold, All}
+use Rattle.std.proofs.Common.{◌≡◌, ◌∙◌, sym, ap, subst, refl, ℕ, Bool, true, false, List, [], ◌∷◌, ◌≤◌, length, Option, Some, None, if◌then◌else◌, arith}
+use Rattle.std.specs.Prelude.{option_map, fold, nat_lt, All}
+use Rattle.std.proofs.lemmas.Bool.{ltb-false}
 use Rattle.std.proofs.lemmas.List.Elements.{All-nil, All-cons, All-head, All-tail}
 use Rattle.gq_schema.specs.Scan.{or_else}
 use Rattle.document_parts.specs.Broken.{BrokenOf, earlier, with_broken, earliest}
+use Rattle.gq_parser.specs.Tree.{Document}
+use Rattle.schema_syntax.specs.Tree.{Definition}
+use Rattle.document_parts.specs.Listing.{parts_of}
 use Rattle.document_parts.specs.Parts.{PartsOf}
 use Rattle.document_rules.specs.OperationNames.{operation_name_uniqueness}
 use Rattle.document_rules.specs.LoneAnonymous.{lone_anonymous_operation}
@@ -46,7 +50,7 @@ fold-some : (b : BrokenOf) (bs : List BrokenOf) → fold with_broken (Some b) bs
 fold-some b [] e = cc e
 fold-some b (c ∷ bs) e = fold-some (earlier b c) bs e
 
-nothing-broken : (bs : List BrokenOf) → earliest bs ≡ None → bs ≡ []
+pub nothing-broken : (bs : List BrokenOf) → earliest bs ≡ None → bs ≡ []
 nothing-broken [] e = refl
 nothing-broken (b ∷ bs) e = absurd (fold-some b bs e)
 
@@ -113,6 +117,31 @@ too_deep_fault b = TooDeep b.place
 alone : (p : PartsOf) (first : Option FaultOf) → IsVerdictAfter p first None → (first ≡ None) × IsMergingFault p None
 alone p (Some f) h = absurd (cc h)
 alone p None h = (refl, h)
+
+-- the parts are listed of what they are over
+pub listed-own : (p : PartsOf) (defs : List Definition) (d : Document) → p ≡ parts_of defs d → p ≡ parts_of p.definitions p.document
+listed-own p defs d e =
+    let one : p.definitions ≡ defs = ap (λ (q : PartsOf). q.definitions) e in
+    let two : p.document ≡ d = ap (λ (q : PartsOf). q.document) e in
+    e ∙ (ap (λ (x : List Definition). parts_of x d) (sym one) ∙ ap (λ (x : Document). parts_of p.definitions x) (sym two))
+
+-- what is known of a document where its fields are asked to merge
+pub before-merging : (p : PartsOf) → first_fault p ≡ None → (fragment_cycles p ≡ []) × (length p.fields ≤ 1024)
+before-merging p e =
+    let whole = parted (rules_fault p) (limits_fault p) e in
+    let served = parted (served_fault p) _ whole.0 in
+    let operations = parted (operations_fault p) _ served.1 in
+    let fields = parted (fields_fault p) _ operations.1 in
+    let arguments = parted (arguments_fault p) _ fields.1 in
+    let fragments = parted (fragments_fault p) _ arguments.1 in
+    let spreads = parted (spreads_fault p) _ fragments.1 in
+    let at_spread_targets = parted (told rule.FragmentSpreadTargetDefined (fragment_spread_target_defined p)) _ spreads.0 in
+    let at_cycles = parted (told rule.FragmentSpreadsMustNotFormCycles (fragment_cycles p)) _ at_spread_targets.1 in
+    let limits = parted (option_map too_deep_fault (earliest (too_deep p))) _ whole.1 in
+    (kept (breaks rule.FragmentSpreadsMustNotFormCycles) (fragment_cycles p) at_cycles.0, at-most (length p.fields) (few (is_too_complex p) limits.1))
+  where
+    at-most : (n : ℕ) → nat_lt 1000 n ≡ false → n ≤ 1024
+    at-most n h = let le = ltb-false 1000 n h in omega (arith, le)
 
 pub valid-keeps : (p : PartsOf) → IsVerdictAfter p (first_fault p) None → KeepsRules p
 valid-keeps p h =

@@ -1,3 +1,4 @@
+pub mod Held
 pub mod Plans
 pub mod Prepared
 pub mod Texts

@@ -3,7 +3,7 @@ use Rattle.std.specs.Prelude.{ℕ, Bool, List, Option, map, find, bytes_eq}
 use Rattle.gq_parser.specs.declared.tree.Operation as rust-operation
 use Rattle.gq_parser.specs.declared.tree.Fragment as rust-fragment
 use Rattle.gq_parser.specs.declared.tree.Document as rust-document
-use Rattle.gq_parser.specs.Tree.{Operation, Fragment, operation_of, fragment_of}
+use Rattle.gq_parser.specs.Tree.{Document, Operation, Fragment, operation_of, fragment_of}
 use Rattle.schema_syntax.specs.declared.tree.Definition as rust-definition
 use Rattle.schema_syntax.specs.Tree.{Definition}
 use Rattle.gq_schema.specs.Types.{tree_of}
@@ -24,6 +24,12 @@ pub record CheckedParts : Type 0 where
   pub definitions : List rust-definition.Definition
   pub document : rust-document.Document
 
+-- a kept document as the program holds it, and the definitions of the schema over which it was checked
+pub record KeptParts : Type 0 where
+  pub definitions : List rust-definition.Definition
+  pub operations : List rust-operation.Operation
+  pub fragments : List rust-fragment.Fragment
+
 -- A plan: the definitions of the schema, how its fields are answered, the chosen operation, the fragments of its document,
 -- and the variables that have a value.
 pub record PlanOf : Type 0 where
@@ -35,6 +41,9 @@ pub record PlanOf : Type 0 where
 
 abbrev pub fragments_of : List rust-fragment.Fragment → List Fragment
 fragments_of fs = map fragment_of fs
+
+abbrev pub kept_document : KeptParts → Document
+kept_document k = record { operations = map operation_of k.operations; fragments = fragments_of k.fragments }
 
 abbrev pub plan_of : PlanParts → PlanOf
 plan_of p = record {

@@ -48,6 +48,13 @@ impl<'a> Checked<'a> {
         Checked { schema, document }
     }
 
+    /// The schema.
+    pub fn schema(&self) -> &'a Schema
+        ensures { result.now ≡ self.now.definitions }
+    {
+        self.schema
+    }
+
     /// The document.
     pub fn document(&self) -> &Document
         ensures same { result.now ≡ self.now.document }

@@ -5,24 +5,27 @@ ghost use Rattle.std.specs.Option.{option_map, option_copied};
 ghost use Rattle.gq_parser.specs.Tree.{fragment_of};
 ghost use Rattle.gq_schema.specs.Inputs.{input_of};
 ghost use Rattle.variable_values.specs.Variables.{value_in};
+ghost use Rattle.gq_check.specs.Held.{held_of};
 ghost use Rattle.gq_check.specs.Plans.{plan_of, fragment_in};
 ghost use Rattle.gq_check.specs.Planned.{IsPlan};
 
 use crate::fragments::Fragments;
+use crate::held::Held;
 use crate::variables::Variables;
 use gq_parser::{Fragment, Operation};
 use gq_schema::{Bindings, Input, Schema};
 use std::marker::Model;
 
 /// An operation of a checked document with the values of its variables, ready to be executed over a schema and its bindings.
+/// It owns its operation and its fragments, or borrows them from a [`KeptDocument`](crate::KeptDocument).
 ///
 /// A contract sees its parts, and `plan_of` says what they are.
 #[derive(Drop)]
 pub struct Plan<'a> {
     schema: &'a Schema,
     bindings: &'a Bindings,
-    operation: Operation,
-    fragments: Fragments,
+    operation: Held<'a, Operation>,
+    fragments: Held<'a, Fragments>,
     variables: Variables,
 }
 
@@ -39,22 +42,23 @@ impl<'a> Model for Plan<'a> {
 
     ghost coded = { Prim.hlevel (codes, type_ref.the_row.coded, literal.the_row.coded, argument.the_row.coded, set.the_row.coded, input.the_row.coded) };
 
+    ghost use Rattle.gq_check.specs.Held.{held_of};
     ghost use Rattle.gq_check.specs.Plans.{plan_of};
     ghost use Rattle.gq_check.specs.Planned.{IsPlan};
 
     ghost view = { λ p. record {
       definitions = p.schema.now;
       bindings = p.bindings.now;
-      operation = p.operation;
-      fragments = p.fragments;
+      operation = held_of p.operation;
+      fragments = held_of p.fragments;
       variables = p.variables;
     } };
 
     ghost invariant = { λ p. IsPlan (plan_of (record {
       definitions = p.schema.now;
       bindings = p.bindings.now;
-      operation = p.operation;
-      fragments = p.fragments;
+      operation = held_of p.operation;
+      fragments = held_of p.fragments;
       variables = p.variables;
     })) };
 }
@@ -64,12 +68,12 @@ impl<'a> Plan<'a> {
     pub(crate) fn of(
         schema: &'a Schema,
         bindings: &'a Bindings,
-        operation: Operation,
-        fragments: Fragments,
+        operation: Held<'a, Operation>,
+        fragments: Held<'a, Fragments>,
         variables: Variables,
     ) -> Plan<'a>
-        requires { IsPlan (plan_of (record { definitions = schema.now; bindings = bindings.now; operation = operation; fragments = fragments; variables = variables })) }
-        ensures { result ≡ record { definitions = schema.now; bindings = bindings.now; operation = operation; fragments = fragments; variables = variables } }
+        requires { IsPlan (plan_of (record { definitions = schema.now; bindings = bindings.now; operation = held_of operation; fragments = held_of fragments; variables = variables })) }
+        ensures { result ≡ record { definitions = schema.now; bindings = bindings.now; operation = held_of operation.entry; fragments = held_of fragments.entry; variables = variables } }
     {
         Plan {
             schema,
@@ -100,21 +104,21 @@ impl<'a> Plan<'a> {
         // It is of a valid document, and the values of its variables are those that were given.
         ensures prepared { IsPlan (plan_of self.now) }
     {
-        &self.operation
+        self.operation.get()
     }
 
     /// The fragments of the document, in the order of the text.
     pub fn fragments(&self) -> &[Fragment]
         ensures { result.now ≡ self.now.fragments }
     {
-        self.fragments.as_slice()
+        self.fragments.get().as_slice()
     }
 
     /// The fragment of this name. It takes constant time.
     pub fn fragment(&self, name: &str) -> Option<&Fragment>
         ensures { option_map fragment_of (option_copied result) ≡ fragment_in (plan_of self.now).fragments name.now }
     {
-        self.fragments.get(name)
+        self.fragments.get().get(name)
     }
 
     /// The value of the variable of this name, which is without the `$`; nothing where it has none. It takes constant time.

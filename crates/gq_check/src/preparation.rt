@@ -5,16 +5,20 @@ ghost use Rattle.std.specs.Option.{option_map};
 ghost use Rattle.serde_json.specs.View.{view};
 ghost use Rattle.gq_parser.specs.Tree.{operation_of};
 ghost use Rattle.gq_schema.specs.Types.{tree_of};
-ghost use Rattle.gq_check.specs.Plans.{plan_of};
-ghost use Rattle.gq_check.specs.Prepared.{prepared, prepare_fault, IsPrepareFault};
+ghost use Rattle.gq_check.specs.Held.{held_of};
+ghost use Rattle.gq_check.specs.Plans.{plan_of, fragments_of};
+ghost use Rattle.gq_check.specs.Planned.{IsChosen};
+ghost use Rattle.gq_check.specs.Prepared.{prepared, prepared_operation, prepare_fault, IsPrepareFault};
 
 use crate::checked::Checked;
 use crate::fault::PrepareFault;
 use crate::fragments::Fragments;
+use crate::held::Held;
+use crate::kept::KeptDocument;
 use crate::operation::chosen_operation;
 use crate::plan::Plan;
 use crate::variables::Variables;
-use gq_parser::Document;
+use gq_parser::{Document, Operation};
 use gq_schema::{Bindings, Schema};
 use serde_json::Value;
 use std::alloc::Global;
@@ -30,6 +34,29 @@ impl From<VariableFault> for PrepareFault {
             VariableFault::NoMemory => PrepareFault::NoMemory,
         }
     }
+}
+
+// The plan of a chosen operation, with the values that are given for its variables.
+fn with_values<'a>(
+    alloc: Global,
+    schema: &'a Schema,
+    bindings: &'a Bindings,
+    operation: Held<'a, Operation>,
+    fragments: Held<'a, Fragments>,
+    variables: &Value,
+) -> Result<Plan<'a>, PrepareFault>
+    requires { IsChosen (tree_of schema.now) (operation_of (held_of operation)) (fragments_of (held_of fragments)) }
+    ensures schema { IfOk result (λ plan. plan.definitions ≡ schema.now) }
+    ensures bindings { IfOk result (λ plan. plan.bindings ≡ bindings.now) }
+    ensures fragments { IfOk result (λ plan. plan.fragments ≡ held_of fragments.entry) }
+    ensures ok { IfOk result (λ plan. prepared_operation (tree_of schema.now) (view variables.now) (Ok (operation_of (held_of operation.entry)))
+        ≡ Ok (record { operation = (plan_of plan).operation; variables = (plan_of plan).variables })) }
+    ensures err { IfErr result (IsPrepareFault (prepared_operation (tree_of schema.now) (view variables.now) (Ok (operation_of (held_of operation.entry))))) }
+{
+    let definitions = &operation.get().variables;
+    let variables = coerce_variables(alloc, schema, definitions, variables)?;
+    let variables = Variables::of(alloc, variables)?;
+    Ok(Plan::of(schema, bindings, operation, fragments, variables))
 }
 
 /// The plan of an operation of a checked document: the one of this name, or the only one, with the values that are given for
@@ -59,12 +86,44 @@ pub fn prepare<'a>(
     ensures err { IfErr result (IsPrepareFault (prepared (tree_of schema.now) (map operation_of checked.entry.document.operations.items) (option_map (λ name. name.now) operation_name.entry) (view variables.now))) }
 {
     let Document {
-        operations,
+        mut operations,
         fragments,
     } = checked.into_document();
-    let operation = chosen_operation(alloc, operations, operation_name)?;
-    let variables = coerce_variables(alloc, schema, &operation.variables, variables)?;
-    let fragments = Fragments::of(alloc, fragments)?;
-    let variables = Variables::of(alloc, variables)?;
-    Ok(Plan::of(schema, bindings, operation, fragments, variables))
+    let place = chosen_operation(alloc, &operations, operation_name)?;
+    let operation = Held::Owned(operations.swap_remove(place));
+    let fragments = Held::Owned(Fragments::of(alloc, fragments)?);
+    with_values(alloc, schema, bindings, operation, fragments, variables)
+}
+
+/// The plan of an operation of a kept document, as [`prepare`] gives it. It borrows the document, and nothing of it is copied.
+///
+/// # Errors
+///
+/// Those of [`prepare`].
+pub fn prepare_kept<'a>(
+    alloc: Global,
+    bindings: &'a Bindings,
+    kept: &'a KeptDocument<'a>,
+    operation_name: Option<&str>,
+    variables: &Value,
+) -> Result<Plan<'a>, PrepareFault>
+    ensures schema { IfOk result (λ plan. plan.definitions ≡ kept.now.definitions) }
+    ensures bindings { IfOk result (λ plan. plan.bindings ≡ bindings.now) }
+    ensures fragments { IfOk result (λ plan. plan.fragments ≡ kept.now.fragments) }
+    ensures ok { IfOk result (λ plan. prepared (tree_of kept.now.definitions) (map operation_of kept.now.operations) (option_map (λ name. name.now) operation_name.entry) (view variables.now)
+        ≡ Ok (record { operation = (plan_of plan).operation; variables = (plan_of plan).variables })) }
+    ensures err { IfErr result (IsPrepareFault (prepared (tree_of kept.now.definitions) (map operation_of kept.now.operations) (option_map (λ name. name.now) operation_name.entry) (view variables.now))) }
+{
+    let operations = kept.operations();
+    let place = chosen_operation(alloc, operations, operation_name)?;
+    let operation = Held::Lent(&operations[place]);
+    let fragments = Held::Lent(kept.fragments());
+    with_values(
+        alloc,
+        kept.schema(),
+        bindings,
+        operation,
+        fragments,
+        variables,
+    )
 }

@@ -2,6 +2,7 @@
 
 ghost use Rattle.std.specs.Prelude.{◌≡◌, ◌≤◌, None, IfOk, length, option_map};
 ghost use Rattle.document_parts.specs.Broken.{broken_of, earliest};
+ghost use Rattle.document_parts.specs.Listing.{parts_of};
 ghost use Rattle.document_parts.specs.Parts.{parts_in};
 ghost use Rattle.spread_graph.specs.Graphs.{graph_of};
 ghost use Rattle.spread_graph.specs.Rules.{fragment_cycles};
@@ -217,12 +218,15 @@ fn first_fault<'d>(
     }
 }
 
-// Field Selection Merging.
+// Field Selection Merging, where nothing else is told.
 fn merging_fault<'d>(
     alloc: Global,
     parts: &Parts<'d>,
     graph: &Graph,
 ) -> Result<Option<Told<'d>>, AllocError>
+    requires listed { parts_in parts.now ≡ parts_of (parts_in parts.now).definitions (parts_in parts.now).document }
+    requires graph { graph.now ≡ graph_of (parts_in parts.now) }
+    requires untold { first_fault (parts_in parts.now) ≡ None }
     ensures { IfOk result (λ fault. IsMergingFault (parts_in parts.now) (option_map told_of fault)) }
 {
     let broken = field_merging(alloc, parts, graph)?;
@@ -235,7 +239,8 @@ pub fn verdict<'d>(
     parts: &Parts<'d>,
     graph: &Graph,
 ) -> Result<Option<Told<'d>>, AllocError>
-    requires { graph.now ≡ graph_of (parts_in parts.now) }
+    requires listed { parts_in parts.now ≡ parts_of (parts_in parts.now).definitions (parts_in parts.now).document }
+    requires graph { graph.now ≡ graph_of (parts_in parts.now) }
     ensures { IfOk result (λ fault. IsVerdictOf (parts_in parts.now) (option_map told_of fault)) }
 {
     match first_fault(alloc, parts, graph)? {

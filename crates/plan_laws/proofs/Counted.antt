@@ -9,8 +9,7 @@ use Rattle.document_parts.specs.Parts.{SelectionPart, FieldPart}
 use Rattle.document_parts.specs.Parents.{known_field, inside_operation, inside_field, inside_condition, inside_inline}
 use Rattle.document_parts.specs.Selections.{selections_in, selections_among, selections_from, selections_below, operation_selections, fragment_selections}
 use Rattle.document_parts.specs.Listing.{field_part, fields_in, parts_of}
-use Rattle.selection_members.specs.Members.{count_in, count_among, count_from, count_below, count_operations}
-use Rattle.selection_members.proofs.Below.{count_fragments}
+use Rattle.selection_members.specs.Members.{count_in, count_among, count_from, count_below, count_operations, count_fragments}
 
 -- the fields of a list of selections
 abbrev pub many : List SelectionPart → ℕ

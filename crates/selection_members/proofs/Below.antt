@@ -5,11 +5,7 @@ use Rattle.gq_parser.specs.Tree.{Field, Spread, Inline, Below, nothing_below, be
 use Rattle.merge_table.specs.Numbered.{is_in}
 use Rattle.merge_table.proofs.ReachLaws.{in-append}
 use Rattle.selection_members.specs.Fragments.{is_named}
-use Rattle.selection_members.specs.Members.{count_in, count_among, count_from, count_below, count_operations, members_in, members_among, members_from, members_named, members_entered, members_of_fragment, SetOf, sets_in, sets_among, sets_from, sets_below, operation_sets, fragment_sets, sets_of}
-
-abbrev pub count_fragments : List Fragment → ℕ
-count_fragments [] = 0
-count_fragments (f ∷ fs) = count_in f.selection_set + count_fragments fs
+use Rattle.selection_members.specs.Members.{count_in, count_among, count_from, count_below, count_operations, count_fragments, members_in, members_among, members_from, members_named, members_entered, members_of_fragment, SetOf, sets_in, sets_among, sets_from, sets_below, operation_sets, fragment_sets, sets_of}
 
 -- each of these is below a bound
 abbrev pub AllUnder : ℕ → List ℕ → Type 0

@@ -1,21 +1,21 @@
 -- What sets have, as their selections are entered.
 use Rattle.std.proofs.Common.{◌≡◌, ◌∙◌, sym, ap, subst, ℕ, suc, ◌+◌, ◌<◌, List, [], ◌∷◌, ◌++◌, length, get_or, drop, drop-cons, add-one, append_assoc, append-nil, Option, Some, None, IfSome}
+use Rattle.std.specs.Prelude.{slice_get}
 use Rattle.std.proofs.lemmas.List.{map-append}
 use Rattle.gq_parser.specs.Tree.{Selection, Selections, no_selection, and_selection}
 use Rattle.merge_table.specs.declared.sets.Reached.{Reached}
 use Rattle.merge_table.specs.Entered.{IsReached}
 use Rattle.selection_members.specs.Members.{count_from, members_from, members_among}
-use Rattle.selection_members.specs.Walks.{to, renumbered, known_at, KnowsAt, Knows}
+use Rattle.selection_members.specs.Walks.{to, renumbered, KnowsAt}
 
-pub knows-known : (rows : List (List ℕ)) (numbers : List ℕ) (fragments : List (Option Reached)) (place : List ℕ → Option ℕ) (spread : List ℕ → List ℕ) (name : List ℕ) (j : ℕ) (r : Reached)
-    → Knows rows numbers fragments place spread → place name ≡ Some j → known_at fragments j ≡ Some r → IsReached rows (renumbered numbers (spread name)) r
-knows-known rows numbers fragments place spread name j r knows at known =
-    let here : IfSome (known_at fragments j) (IsReached rows (renumbered numbers (spread name))) = subst (KnowsAt rows numbers fragments (spread name)) at (knows name) in
-    subst (λ (o : Option Reached). IfSome o (IsReached rows (renumbered numbers (spread name)))) known here
+pub known-here : (rows : List (List ℕ)) (numbers ms : List ℕ) (fragments : List Reached) (o : Option ℕ) (j : ℕ) (r : Reached)
+    → KnowsAt rows numbers fragments ms o → o ≡ Some j → slice_get fragments j ≡ Some r → IsReached rows (renumbered numbers ms) r
+known-here rows numbers ms fragments o j r knows at known =
+    let here : IfSome (slice_get fragments j) (IsReached rows (renumbered numbers ms)) = subst (KnowsAt rows numbers fragments ms) at knows in
+    subst (λ (o : Option Reached). IfSome o (IsReached rows (renumbered numbers ms))) known here
 
-pub knows-none : (rows : List (List ℕ)) (numbers : List ℕ) (fragments : List (Option Reached)) (place : List ℕ → Option ℕ) (spread : List ℕ → List ℕ) (name : List ℕ)
-    → Knows rows numbers fragments place spread → place name ≡ None → spread name ≡ []
-knows-none rows numbers fragments place spread name knows at = subst (KnowsAt rows numbers fragments (spread name)) at (knows name)
+pub known-nowhere : (rows : List (List ℕ)) (numbers ms : List ℕ) (fragments : List Reached) (o : Option ℕ) → KnowsAt rows numbers fragments ms o → o ≡ None → ms ≡ []
+known-nowhere rows numbers ms fragments o knows at = subst (KnowsAt rows numbers fragments ms) at knows
 
 -- renumbered members stay apart as they are joined
 pub joined-members : (rows : List (List ℕ)) (numbers ms ns : List ℕ) (r : Reached) → IsReached rows (renumbered numbers ms ++ renumbered numbers ns) r → IsReached rows (renumbered numbers (ms ++ ns)) r

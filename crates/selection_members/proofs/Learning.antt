@@ -1,13 +1,17 @@
 -- What is known of fragments grows, one after the other.
-use Rattle.std.proofs.Common.{◌≡◌, ◌∙◌, sym, ap, subst, refl, ℕ, zero, suc, ◌+◌, ◌≤◌, inl, inr, Bool, true, false, cond, List, [], ◌∷◌, set, Option, Some, None, IfSome, arith}
+use Rattle.std.proofs.Common.{◌≡◌, ◌∙◌, sym, ap, subst, refl, ℕ, zero, suc, ◌+◌, ◌≤◌, ◌<◌, ◌==◌, inl, inr, Bool, true, false, cond, List, [], ◌∷◌, ◌++◌, length, Option, Some, None, IfSome, arith}
 use Rattle.std.specs.Prelude.{slice_get}
-use Rattle.std.proofs.lemmas.Bool.{cases_eq}
+use Rattle.std.specs.Option.{option_map_or}
+use Rattle.std.proofs.lemmas.Bool.{cases_eq, or_cases, eqb-true, both_ways}
 use Rattle.gq_parser.specs.Tree.{Fragment, Document}
 use Rattle.merge_table.specs.declared.sets.Reached.{Reached}
 use Rattle.merge_table.specs.Entered.{IsReached}
+use Rattle.merge_table.specs.Numbered.{is_in}
+use Rattle.merge_table.proofs.ReachLaws.{in-append}
 use Rattle.selection_members.specs.Fragments.{is_named, place_from, place_in}
-use Rattle.selection_members.specs.Members.{count_in, count_operations, starts_from, members_in, members_named, members_entered}
-use Rattle.selection_members.specs.Walks.{renumbered, known_at, KnowsAt, Knows, IsSettled}
+use Rattle.selection_members.specs.Members.{count_in, count_operations, count_fragments, starts_from, members_in, members_named, members_entered, members_of_fragment}
+use Rattle.selection_members.specs.Ranked.{is_among}
+use Rattle.selection_members.specs.Walks.{renumbered, KnowsAt, KnowsSome, Knows, IsFixed}
 
 -- ---- by names
 
@@ -46,63 +50,79 @@ named-at spread name m base (g ∷ fs) (suc i) j s f e at here start = go (is_na
     go true h rest = let same : m ≡ j = cc in absurd (omega (arith, same, at))
     go false h rest = rest h
 
+-- the first field of each fragment, and those after it, are among all
+pub start-inside : (base : ℕ) (fs : List Fragment) (i s : ℕ) (f : Fragment) → slice_get fs i ≡ Some f → slice_get (starts_from base fs) i ≡ Some s → s + count_in f.selection_set ≤ base + count_fragments fs
+start-inside base [] i s f here start = cc
+start-inside base (g ∷ fs) zero s f here start =
+    let same : g ≡ f = cc in
+    let from : base ≡ s = cc in
+    rw (← same, ← from) (omega arith)
+start-inside base (g ∷ fs) (suc i) s f here start = let le = start-inside (base + count_in g.selection_set) fs i s f here start in omega (arith, le)
+
+pub starts-length : (base : ℕ) (fs : List Fragment) → length (starts_from base fs) ≡ length fs
+starts-length base [] = refl
+starts-length base (f ∷ fs) = ap suc (starts-length (base + count_in f.selection_set) fs)
+
+-- a name's fragment is there
+pub place-there : (name : List ℕ) (m : ℕ) (fs : List Fragment) (j : ℕ) → place_from m name fs ≡ Some j → (i : ℕ) × (f : Fragment) × (j ≡ m + i) × (i < length fs) × (slice_get fs i ≡ Some f)
+place-there name m [] j e = cc
+place-there name m (f ∷ fs) j e = go (is_named name f) e (place-there name (m + 1) fs j)
+  where
+    go : (t : Bool) → cond t (Some m) (place_from (m + 1) name fs) ≡ Some j → (place_from (m + 1) name fs ≡ Some j → (i : ℕ) × (g : Fragment) × (j ≡ (m + 1) + i) × (i < length fs) × (slice_get fs i ≡ Some g))
+        → (i : ℕ) × (g : Fragment) × (j ≡ m + i) × (i < length (f ∷ fs)) × (slice_get (f ∷ fs) i ≡ Some g)
+    go true h rest = let same : m ≡ j = cc in (0, f, omega (arith, same), omega arith, refl)
+    go false h rest = let r = rest h in let at = r.2 in let lt = r.3 in (suc r.0, r.1, omega (arith, at), omega (arith, lt), r.4)
+
+pub fragment-there : (name : List ℕ) (fs : List Fragment) (j : ℕ) → place_in fs name ≡ Some j → (f : Fragment) × (j < length fs) × (slice_get fs j ≡ Some f)
+fragment-there name fs j e =
+    let r = place-there name 0 fs j e in
+    let at = r.2 in
+    let lt = r.3 in
+    let same : r.0 ≡ j = omega (arith, at) in
+    (r.1, omega (arith, at, lt), subst (λ (n : ℕ). slice_get fs n ≡ Some r.1) same r.4)
+
 -- ---- a table that grows
 
 pub if-some : {A : Type 0} (o : Option A) (P : A → Type 0) → ((r : A) → o ≡ Some r → P r) → IfSome o P
 if-some None P f = tt
 if-some (Some r) P f = f r refl
 
-pub if-some-at : {A : Type 0} (o : Option A) (P : A → Type 0) (r : A) → IfSome o P → o ≡ Some r → P r
-if-some-at None P r h e = cc
-if-some-at (Some s) P r h e = let same : s ≡ r = cc in subst P same h
-
-own-at : (table : List (Option Reached)) (x : ℕ) (v : Option Reached) (r : Reached) → known_at (set table x v) x ≡ Some r → v ≡ Some r
-own-at [] x v r e = cc
-own-at (o ∷ table) zero v r e = e
-own-at (o ∷ table) (suc x) v r e = own-at table x v r e
-
-other-at : (table : List (Option Reached)) (x j : ℕ) (v : Option Reached) → (j ≡ x → ⊥) → known_at (set table x v) j ≡ known_at table j
-other-at [] x j v n = refl
-other-at (o ∷ table) zero zero v n = absurd (n refl)
-other-at (o ∷ table) zero (suc j) v n = refl
-other-at (o ∷ table) (suc x) zero v n = refl
-other-at (o ∷ table) (suc x) (suc j) v n = other-at table x j v (λ e. n (ap suc e))
+-- what the first of these fragments have is known
+abbrev pub Learned : List (List ℕ) → List ℕ → Document → List ℕ → List Reached → Type 0
+Learned rows numbers d done table =
+    (name : List ℕ) (j : ℕ) → place_in d.fragments name ≡ Some j → is_in done j ≡ true → IfSome (slice_get table j) (IsReached rows (renumbered numbers (members_of_fragment d name)))
 
 module _ (rows : List (List ℕ)) (numbers : List ℕ) (d : Document) where
-  -- what a fragment has, where the members of those that it spreads are these
-  abbrev Is : (List ℕ → List ℕ) → List ℕ → Reached → Type 0
-  Is spread name r = IsReached rows (renumbered numbers (members_named spread (count_operations d.operations) d.fragments name)) r
-
-  pub learn-settled : (table : List (Option Reached)) (k x : ℕ) (v : Option Reached) → IsSettled rows numbers table d k
-      → ((spread : List ℕ → List ℕ) (name : List ℕ) → Knows rows numbers table (place_in d.fragments) spread → place_in d.fragments name ≡ Some x → IfSome v (IsReached rows (renumbered numbers (members_named spread (count_operations d.operations) d.fragments name))))
-      → IsSettled rows numbers (set table x v) d (k + 1)
-  learn-settled table k x v settled is zero le name = absurd (omega arith)
-  learn-settled table k x v settled is (suc m) le name = go (place_in d.fragments name) refl
-    where
-      own : (j : ℕ) → place_in d.fragments name ≡ Some j → j ≡ x → (r : Reached) → known_at (set table x v) j ≡ Some r → Is (members_entered m d) name r
-      own j at same r known =
-          let K : ℕ → Type 0 = λ i. known_at (set table x v) i ≡ Some r in
-          if-some-at v (Is (members_entered m d) name) r (is (members_entered m d) name (settled m (omega (arith, le))) (at ∙ ap Some same)) (own-at table x v r (subst K same known))
-
-      other : (j : ℕ) → place_in d.fragments name ≡ Some j → (j ≡ x → ⊥) → (r : Reached) → known_at (set table x v) j ≡ Some r → Is (members_entered m d) name r
-      other j at ne r known =
-          let here : KnowsAt rows numbers table (members_entered (suc m) d name) (Some j) = subst (KnowsAt rows numbers table (members_entered (suc m) d name)) at (settled (suc m) (omega (arith, le)) name) in
-          if-some-at (known_at table j) (Is (members_entered m d) name) r here (sym (other-at table x j v ne) ∙ known)
-
-      go : (o : Option ℕ) → place_in d.fragments name ≡ o → KnowsAt rows numbers (set table x v) (members_entered (suc m) d name) o
-      go None at = named-none (members_entered m d) name 0 (count_operations d.operations) d.fragments at
-      go (Some j) at = if-some (known_at (set table x v) j) (Is (members_entered m d) name) (λ r known. elim (cases_eq j x) [ inl same ↦ own j at same r known | inr ne ↦ other j at ne r known ])
-
-  pub settled-next : (table : List (Option Reached)) (k : ℕ) → IsSettled rows numbers table d k → IsSettled rows numbers table d (k + 1)
-  settled-next table k settled m le = settled m (omega (arith, le))
-
-  entered-none : (m : ℕ) (name : List ℕ) → place_in d.fragments name ≡ None → members_entered m d name ≡ []
+  pub entered-none : (m : ℕ) (name : List ℕ) → place_in d.fragments name ≡ None → members_entered m d name ≡ []
   entered-none zero name at = refl
   entered-none (suc m) name at = named-none (members_entered m d) name 0 (count_operations d.operations) d.fragments at
 
-  pub settled-none : (table : List (Option Reached)) → ((j : ℕ) → known_at table j ≡ None) → IsSettled rows numbers table d 0
-  settled-none table none m le name = go (place_in d.fragments name) refl
+  -- what a fragment spreads is known, where it is one of these
+  pub learned-some : (done : List ℕ) (table : List Reached) → Learned rows numbers d done table → KnowsSome (is_among done (place_in d.fragments)) rows numbers table (place_in d.fragments) (members_of_fragment d)
+  learned-some done table learned name e = go (place_in d.fragments name) refl
     where
-      go : (o : Option ℕ) → place_in d.fragments name ≡ o → KnowsAt rows numbers table (members_entered m d name) o
-      go None at = entered-none m name at
-      go (Some j) at = subst (λ (o : Option Reached). IfSome o (IsReached rows (renumbered numbers (members_entered m d name)))) (sym (none j)) tt
+      go : (o : Option ℕ) → place_in d.fragments name ≡ o → KnowsAt rows numbers table (members_of_fragment d name) o
+      go None at = entered-none (length d.fragments) name at
+      go (Some j) at = learned name j at (ap (λ (o : Option ℕ). option_map_or (is_in done) o true) (sym at) ∙ e)
+
+  pub learned-all : (done : List ℕ) (table : List Reached) → Learned rows numbers d done table → ((j : ℕ) → j < length d.fragments → is_in done j ≡ true) → Knows rows numbers table (place_in d.fragments) (members_of_fragment d)
+  learned-all done table learned all name = go (place_in d.fragments name) refl
+    where
+      go : (o : Option ℕ) → place_in d.fragments name ≡ o → KnowsAt rows numbers table (members_of_fragment d name) o
+      go None at = entered-none (length d.fragments) name at
+      go (Some j) at = learned name j at (all j (fragment-there name d.fragments j at).1)
+
+  pub learned-more : (done more : List ℕ) (x : ℕ) (old new : List Reached) → IsFixed (members_of_fragment d) d → more ≡ done ++ x ∷ [] → Learned rows numbers d done old
+      → ((j : ℕ) → (j ≡ x → ⊥) → slice_get new j ≡ slice_get old j)
+      → ((name : List ℕ) → place_in d.fragments name ≡ Some x → IfSome (slice_get new x) (IsReached rows (renumbered numbers (members_named (members_of_fragment d) (count_operations d.operations) d.fragments name))))
+      → Learned rows numbers d more new
+  learned-more done more x old new fixed is learned others own name j at e = elim (cases_eq j x) [
+    | inl same ↦ rw (same, fixed name) (own name (at ∙ ap Some same))
+    | inr ne ↦ rw (others j ne) (learned name j at (before ne))
+  ]
+    where
+      before : (j ≡ x → ⊥) → is_in done j ≡ true
+      before ne = elim (or_cases (is_in done j) (is_in (x ∷ []) j) (sym (in-append done (x ∷ []) j) ∙ (ap (λ (xs : List ℕ). is_in xs j) (sym is) ∙ e))) [
+        | inl h ↦ h
+        | inr h ↦ elim (or_cases (j == x) false h) [ inl same ↦ absurd (ne (eqb-true j x same)) | inr out ↦ absurd (both_ways false refl out) ]
+      ]

@@ -1,4 +1,5 @@
 pub mod Entering
+pub mod Spreading
 pub mod FirstLaws
 pub mod Learning
 pub mod RankedLaws
@@ -6,3 +7,6 @@ pub mod Below
 pub mod Clashing
 pub mod Adding
 pub mod Places
+pub mod Tallies
+pub mod Placing
+pub mod Depth

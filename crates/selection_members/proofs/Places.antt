@@ -1,12 +1,11 @@
 -- The fields of a document by their places.
-use Rattle.std.proofs.Common.{◌≡◌, ◌∙◌, sym, ap, subst, refl, ℕ, zero, suc, ◌+◌, ◌≤◌, ◌⊎◌, inl, inr, List, [], ◌∷◌, ◌++◌, length, Some, arith}
+use Rattle.std.proofs.Common.{◌≡◌, subst, refl, ℕ, zero, suc, ◌+◌, ◌≤◌, ◌⊎◌, inl, inr, List, [], ◌∷◌, ◌++◌, length, Some, arith}
 use Rattle.std.specs.Prelude.{slice_get}
 use Rattle.std.proofs.lemmas.List.{length-append}
 use Rattle.gq_parser.specs.Tree.{Field, Spread, Inline, Below, nothing_below, below, SelectionSet, set_at, Selection, Selections, no_selection, and_selection, Operation, Fragment, Document}
-use Rattle.selection_members.specs.Members.{count_in, count_below, count_operations, members_below}
+use Rattle.selection_members.specs.Members.{count_below, count_operations, count_fragments, members_below}
 use Rattle.selection_members.specs.Written.{written_in, written_among, written_from, written_below, written_operations, written_fragments, written_fields, own_below, HasAll, AreOwn}
 use Rattle.selection_members.proofs.Adding.{in-count, below-count, operations-count}
-use Rattle.selection_members.proofs.Below.{count_fragments}
 
 -- what stands at a place of two lists
 pub in-either : {A : Type 0} (xs ys : List A) (a : ℕ) (x : A) → slice_get (xs ++ ys) a ≡ Some x → (slice_get xs a ≡ Some x) ⊎ ((i : ℕ) × (a ≡ length xs + i) × (slice_get ys i ≡ Some x))

@@ -1,6 +1,7 @@
 pub mod Fragments
 pub mod Meeting
 pub mod Members
+pub mod Placed
 pub mod Ranked
 pub mod Walks
 pub mod Written

@@ -1,5 +1,5 @@
 -- Where the first member of a set that passes a test is met.
-use Rattle.std.specs.Prelude.{◌≡◌, ℕ, Bool, List, Option, Some, None, IsSome, find}
+use Rattle.std.specs.Prelude.{◌≡◌, ℕ, Bool, true, List, Option, Some, None, IsSome, find}
 use Rattle.selection_members.specs.declared.meeting.Met.{Met}
 use Rattle.selection_members.specs.declared.meeting.Met.TheVariants.{Field, Fragment}
 use Rattle.selection_members.specs.declared.meeting.Came.{Came}
@@ -27,3 +27,8 @@ met_of (Past n) = None
 abbrev pub IsPast : ℕ → Came → Type 0
 IsPast end (to_met m) = Unit {0}
 IsPast end (Past n) = n ≡ end
+
+-- a fragment that is met is that of a name that passes a test
+abbrev pub IsSpread : (List ℕ → Option ℕ) → (List ℕ → Bool) → Option Met → Type 0
+IsSpread place test (Some (Fragment j)) = (name : List ℕ) × (place name ≡ Some j) × (test name ≡ true)
+IsSpread place test _ = Unit {0}

@@ -1,6 +1,6 @@
 -- The fields of a document by their numbers, which are their places in the list of its fields from 0, and the members of its
 -- selection sets (section 5.3.2). A field's number is that of the first field of its own selection set less one.
-use Rattle.std.specs.Prelude.{ℕ, zero, suc, ◌+◌, List, [], ◌∷◌, ◌++◌, length, if◌then◌else◌}
+use Rattle.std.specs.Prelude.{ℕ, zero, suc, ◌+◌, ◌-◌, ◌^◌, min, List, [], ◌∷◌, ◌++◌, length, if◌then◌else◌}
 use Rattle.gq_lexer.specs.declared.place.Place.{Place}
 use Rattle.gq_parser.specs.Tree.{Field, Spread, Inline, Below, nothing_below, below, SelectionSet, set_at, Selection, Selections, no_selection, and_selection, Operation, Fragment, Document}
 use Rattle.selection_members.specs.Fragments.{is_named}
@@ -27,6 +27,15 @@ abbrev mutual
 abbrev pub count_operations : List Operation → ℕ
 count_operations [] = 0
 count_operations (o ∷ os) = count_in o.selection_set + count_operations os
+
+-- the fields of fragments, each counted where it is written
+abbrev pub count_fragments : List Fragment → ℕ
+count_fragments [] = 0
+count_fragments (f ∷ fs) = count_in f.selection_set + count_fragments fs
+
+-- a count up to the greatest that there is
+abbrev pub capped : ℕ → ℕ
+capped n = min n (2 ^ 64 - 1)
 
 -- the number of the first field of each of these fragments, of which the first begins with the number n
 abbrev pub starts_from : ℕ → List Fragment → List ℕ

@@ -1,6 +1,7 @@
 -- Numbers of fragments that show that none reaches itself.
-use Rattle.std.specs.Prelude.{◌≡◌, ◌<◌, ℕ, Bool, true, ◌&&◌, nat_lt, List, length, Option, Some, slice_get, slice_index_or}
+use Rattle.std.specs.Prelude.{◌≡◌, ◌<◌, ℕ, Bool, true, ◌&&◌, nat_lt, List, length, take, Option, Some, slice_get, slice_index_or}
 use Rattle.std.specs.Option.{option_map_or}
+use Rattle.merge_table.specs.Numbered.{is_in}
 use Rattle.gq_parser.specs.Tree.{Field, Spread, Inline, Below, nothing_below, below, SelectionSet, set_at, Selection, Selections, no_selection, and_selection, Fragment}
 
 -- the names of all spreads in it pass a test
@@ -32,3 +33,17 @@ is_under ranks place bound name = option_map_or (λ j. nat_lt (rank_of ranks j) 
 pub record IsRanked (ranks : List ℕ) (place : List ℕ → Option ℕ) (fragments : List Fragment) : Type 0 where
   pub below : (i : ℕ) (f : Fragment) → slice_get fragments i ≡ Some f → rank_of ranks i < length fragments
   pub under : (i : ℕ) (f : Fragment) → slice_get fragments i ≡ Some f → spreads_in (is_under ranks place (rank_of ranks i)) f.selection_set ≡ true
+
+-- some numbers show that none of these fragments reaches itself
+abbrev pub AreRanked : (List ℕ → Option ℕ) → List Fragment → Type 0
+AreRanked place fragments = (ranks : List ℕ) × IsRanked ranks place fragments
+
+-- the fragment of a name is one of these, if there is one
+abbrev pub is_among : List ℕ → (List ℕ → Option ℕ) → List ℕ → Bool
+is_among numbers place name = option_map_or (is_in numbers) (place name) true
+
+-- An order of fragments, in which each of them stands. Before a fragment stand those that it spreads, at whatever depth.
+pub record IsOrder (order : List ℕ) (place : List ℕ → Option ℕ) (fragments : List Fragment) : Type 0 where
+  pub all : (i : ℕ) → i < length fragments → is_in order i ≡ true
+  pub below : (k i : ℕ) → slice_get order k ≡ Some i → i < length fragments
+  pub after : (k i : ℕ) (f : Fragment) → slice_get order k ≡ Some i → slice_get fragments i ≡ Some f → spreads_in (is_among (take k order) place) f.selection_set ≡ true

@@ -1,7 +1,6 @@
 -- What is known where the members of selection sets are gathered. Fields have other numbers in a table of pairs than in their
 -- document.
-use Rattle.std.specs.Prelude.{◌≡◌, ◌≤◌, ℕ, Bool, List, [], map, slice_index_or, slice_get, Option, Some, None, IfSome}
-use Rattle.std.specs.Option.{option_and_then}
+use Rattle.std.specs.Prelude.{◌≡◌, ◌<◌, ◌≤◌, ◌+◌, ℕ, Bool, true, List, [], map, slice_index_or, slice_get, Option, Some, None, IfSome}
 use Rattle.gq_parser.specs.Tree.{Document, SelectionSet, set_at, set_of}
 use Rattle.gq_lexer.specs.declared.place.Place.{Place}
 use Rattle.merge_table.specs.declared.sets.Reached.{Reached}
@@ -9,9 +8,8 @@ use Rattle.merge_table.specs.Entered.{IsReached}
 use Rattle.merge_table.specs.Clashes.{has_clash}
 use Rattle.merge_table.specs.Sets.{has}
 use Rattle.merge_table.specs.Table.{fail}
-use Rattle.selection_members.specs.Fragments.{place_in}
 use Rattle.selection_members.specs.declared.visiting.ClashingSet as rust
-use Rattle.selection_members.specs.Members.{SetOf, count_operations, members_in, members_named, members_entered}
+use Rattle.selection_members.specs.Members.{SetOf, count_in, count_operations, members_in, members_named}
 
 -- the number that a field has in the table
 abbrev pub to : List ℕ → ℕ → ℕ
@@ -24,22 +22,22 @@ renumbered numbers ms = map (to numbers) ms
 abbrev pub clash : List (List ℕ) → List ℕ → ℕ → ℕ → Bool
 clash rows numbers a b = fail rows (to numbers a) (to numbers b)
 
--- what is known of the fragment of a number
-abbrev pub known_at : List (Option Reached) → ℕ → Option Reached
-known_at fragments j = option_and_then (λ r. r) (slice_get fragments j)
-
 -- what is known of the fragment of a number are these members; a name of no fragment has none
-abbrev pub KnowsAt : List (List ℕ) → List ℕ → List (Option Reached) → List ℕ → Option ℕ → Type 0
+abbrev pub KnowsAt : List (List ℕ) → List ℕ → List Reached → List ℕ → Option ℕ → Type 0
 KnowsAt rows numbers fragments ms None = ms ≡ []
-KnowsAt rows numbers fragments ms (Some j) = IfSome (known_at fragments j) (IsReached rows (renumbered numbers ms))
+KnowsAt rows numbers fragments ms (Some j) = IfSome (slice_get fragments j) (IsReached rows (renumbered numbers ms))
 
--- the members of each fragment that is known are those that `spread` gives, where `place` gives its number
-abbrev pub Knows : List (List ℕ) → List ℕ → List (Option Reached) → (List ℕ → Option ℕ) → (List ℕ → List ℕ) → Type 0
+-- the members of each fragment whose name passes a test are those that `spread` gives, where `place` gives its number
+abbrev pub KnowsSome : (List ℕ → Bool) → List (List ℕ) → List ℕ → List Reached → (List ℕ → Option ℕ) → (List ℕ → List ℕ) → Type 0
+KnowsSome test rows numbers fragments place spread = (name : List ℕ) → test name ≡ true → KnowsAt rows numbers fragments (spread name) (place name)
+
+-- the same of all fragments
+abbrev pub Knows : List (List ℕ) → List ℕ → List Reached → (List ℕ → Option ℕ) → (List ℕ → List ℕ) → Type 0
 Knows rows numbers fragments place spread = (name : List ℕ) → KnowsAt rows numbers fragments (spread name) (place name)
 
--- what is known are the members where k fragments or more may be entered, one inside another
-abbrev pub IsSettled : List (List ℕ) → List ℕ → List (Option Reached) → Document → ℕ → Type 0
-IsSettled rows numbers fragments d k = (m : ℕ) → k ≤ m → Knows rows numbers fragments (place_in d.fragments) (members_entered m d)
+-- the numbers that `place` gives are those of so many fragments
+abbrev pub AreThere : (List ℕ → Option ℕ) → ℕ → Type 0
+AreThere place count = (name : List ℕ) (j : ℕ) → place name ≡ Some j → j < count
 
 -- ---- sets with a clash
 
@@ -60,3 +58,7 @@ is_key keys numbers f = has keys (to numbers f)
 -- the members of a fragment are those of its set
 abbrev pub IsFixed : (List ℕ → List ℕ) → Document → Type 0
 IsFixed spread d = (name : List ℕ) → spread name ≡ members_named spread (count_operations d.operations) d.fragments name
+
+-- a set has so many fields at most up to its last
+abbrev pub IsInside : ℕ → rust.ClashingSet → Type 0
+IsInside many c = c.first + count_in (set_of c.set.now) ≤ many

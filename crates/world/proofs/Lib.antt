@@ -2,3 +2,5 @@ pub mod Columns
 pub mod Names
 pub mod Loaders
 pub mod Worlds
+pub mod Keepings
+pub mod KeptPlans

@@ -3,3 +3,4 @@ pub mod Sources
 pub mod Kept
 pub mod Worlds
 pub mod Requests
+pub mod Keeping

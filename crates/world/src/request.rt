@@ -1,14 +1,18 @@
 //! The plans of requests.
 
-ghost use Rattle.std.specs.Prelude.{◌≡◌, IfOk, IfErr, string_bytes};
+ghost use Rattle.std.specs.Prelude.{◌≡◌, ℕ, List, Option, IfOk, IfErr, string_bytes};
 ghost use Rattle.std.specs.Option.{option_map};
+ghost use Rattle.serde_json.specs.Data.{Data};
 ghost use Rattle.serde_json.specs.View.{view};
+ghost use Rattle.gq_parser.specs.Fault.{IsDocumentOf};
+ghost use Rattle.gq_parser.specs.Tree.{document_of};
 ghost use Rattle.gq_schema.specs.Types.{tree_of};
 ghost use Rattle.gq_check.specs.Plans.{plan_of};
+ghost use Rattle.gq_check.specs.Verdict.{IsValid};
 ghost use Rattle.world.specs.Requests.{IsPlanOf, IsRequestFault, token_message, parse_message, request_message, request_place};
 
 use crate::world::World;
-use gq_check::{CheckFault, Plan, PrepareFault, check, prepare};
+use gq_check::{CheckFault, Checked, Plan, PrepareFault, check, prepare};
 use gq_lexer::{LexFault, Place};
 use gq_parser::{ParseFault, parse};
 use serde_json::Value;
@@ -88,6 +92,27 @@ impl RequestFault {
     }
 }
 
+/// The checked document of a query.
+pub fn checked<'w>(
+    alloc: Global,
+    world: &'w World,
+    query: &str,
+) -> Result<Checked<'w>, RequestFault>
+    ensures definitions { IfOk result (λ c. c.definitions ≡ world.now.definitions) }
+    ensures says { IfOk result (λ c. IsDocumentOf query.now (document_of c.document)) }
+    ensures valid { IfOk result (λ c. IsValid (tree_of world.now.definitions) (document_of c.document)) }
+    ensures err { (name : Option (List ℕ)) (given : Data) → IfErr result (IsRequestFault (tree_of world.now.definitions) query.now name given) }
+{
+    let document = match parse(alloc, query) {
+        Ok(document) => document,
+        Err(fault) => return Err(RequestFault::Parse(fault)),
+    };
+    match check(alloc, world.schema(), document) {
+        Ok(checked) => Ok(checked),
+        Err(fault) => Err(RequestFault::Check(fault)),
+    }
+}
+
 impl World {
     /// The plan of a request: its query is parsed and checked, and the operation of this name, or the only one, is prepared
     /// with the values that are given for its variables.
@@ -108,13 +133,9 @@ impl World {
         ensures ok { IfOk result (λ plan. IsPlanOf (tree_of self.now.definitions) query.now (option_map (λ name. name.now) operation_name.entry) (view variables.now) (plan_of plan)) }
         ensures err { IfErr result (IsRequestFault (tree_of self.now.definitions) query.now (option_map (λ name. name.now) operation_name.entry) (view variables.now)) }
     {
-        let document = match parse(alloc, query) {
-            Ok(document) => document,
-            Err(fault) => return Err(RequestFault::Parse(fault)),
-        };
-        let checked = match check(alloc, self.schema(), document) {
+        let checked = match checked(alloc, self, query) {
             Ok(checked) => checked,
-            Err(fault) => return Err(RequestFault::Check(fault)),
+            Err(fault) => return Err(fault),
         };
         match prepare(
             alloc,

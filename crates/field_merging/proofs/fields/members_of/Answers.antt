@@ -12,14 +12,14 @@ use Rattle.document_parts.specs.Parts.{field_part_of}
 use Rattle.field_merging.proofs.Listed.{below-at}
 use Rattle.field_merging.proofs.fields.members_of.Goals as goal
 
-pub returns-in-Some : goal.returns-in-Some
-returns-in-Some c = λ numbers spread f own here i.
+pub returns : goal.returns
+returns c = λ numbers spread f own here i.
     let parts = c.args.parts.now in
     let d = document_of parts.document.now in
     let rows = c.args.members.now in
     let number = c.args.number in
-    let row = c.in-Some.own.now in
-    let found : slice_get rows number ≡ Some row = slice_get_read rows (length rows) number row refl c.in-Some.ensures.lookup.3.0 c.in-Some.ensures.lookup.1 in
+    let row = c.index-members-number.result in
+    let found : slice_get rows number ≡ Some row = slice_get_read rows (length rows) number row refl c.requires.there c.index-members-number.is in
     let copied : has c.add_all.new.self i ≡ has row i = c.add_all.ensures i ∙ ap (λ (b : Bool). b || has row i) (c.new-row.ensures i) in
     copied ∙ ∥∥₁_elim parts.listed (Bool-set _ _) (λ listed.
     own-row numbers spread 0 (belows (written_fields d)) rows number number f.below row own (omega arith)

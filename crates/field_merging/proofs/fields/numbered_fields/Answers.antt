@@ -10,4 +10,4 @@ loop-number-preserved c = λ numbers spread own.
     let i = c.loop-number.number-index in
     let a = get_or order i 0 in
     let more : take (i + 1) order ≡ take i order ++ a ∷ [] = rw add-one (take-suc order i 0 c.loop-number-test.true) in
-    rw (c.in_ok-push.ensures.items, more) (numbered-push p numbers spread (take i order) c.loop-number.fields.items a c.in_ok-numbered.field-0 (c.loop-number.invariant numbers spread own) (λ f here. c.in_ok-numbered.ensures numbers spread f own here))
+    rw (c.in_ok-push.ensures.items, more) (numbered-push p numbers spread (take i order) c.loop-number.fields.items a c.numbered.result (c.loop-number.invariant numbers spread own) (λ f here. c.numbered.ensures numbers spread f own here))

@@ -1,4 +1,4 @@
-use Rattle.std.proofs.Common.{sym, ap, subst, length, arith}
+use Rattle.std.proofs.Common.{◌∙◌, sym, ap, subst, length, arith}
 use Rattle.merge_table.specs.Table.{IsBelow}
 use Rattle.selection_members.specs.Members.{members_of_fragment}
 use Rattle.document_parts.specs.Parts.{parts_in}
@@ -24,11 +24,14 @@ invariant_of-source c =
     let len = c.in_ok-rows.ensures.len in
     let few = g.few in
     let whole = g.whole in
+    let all = g.all in
+    let count = g.counted in
     record {
       few = omega (arith, many, read, rows, len, few);
       below = subst IsBelow (sym c.deref-2.ensures.value) c.in_ok-rows.ensures.below;
       known = λ a h. let place = has-place g.order.now g.numbers.now g.inverse a (omega (arith, whole, h)) in omega (arith, many, read, rows, len, place);
       named = g.named;
+      counted = omega (arith, whole, all, count);
       started = g.started;
     }
 
@@ -45,4 +48,5 @@ invariant_of-compared c =
       len = omega (arith, read, fields, rows, len);
       all = omega (arith, many, fields);
       below = subst IsBelow (sym c.deref-4.ensures.value) c.in_ok-rows.ensures.below;
+      there = ap length c.deref-5.ensures.value ∙ c.in_ok-known.ensures.len;
     }

@@ -1,12 +1,11 @@
 use Rattle.std.proofs.Common.{◌≡◌, ◌∙◌, sym, ap, length, map, Option, Some, None}
 use Rattle.std.specs.Prelude.{filter}
 use Rattle.std.specs.Option.{option_map, option_and_then}
-use Rattle.std.proofs.lemmas.Result.{IfOk-weaker}
 use Rattle.selection_members.specs.declared.visiting.ClashingSet.{ClashingSet}
 use Rattle.selection_members.specs.Members.{SetOf, members_of_fragment, sets_of}
 use Rattle.selection_members.specs.Walks.{clash, is_clashing, clashing_of}
 use Rattle.selection_members.proofs.Below.{AreFields}
-use Rattle.document_parts.specs.Broken.{broken_of, earliest}
+use Rattle.document_parts.specs.Broken.{earliest}
 use Rattle.document_parts.specs.Parts.{parts_in}
 use Rattle.field_merging.specs.Members.{fields_of}
 use Rattle.field_merging.specs.Rule.{IsMerging, key_of}
@@ -14,6 +13,22 @@ use Rattle.field_merging.specs.Told.{told_set, told_sets, earliest_set}
 use Rattle.field_merging.proofs.EarliestSet.{AllTold, all-told, earliest-told, earliest-under}
 use Rattle.field_merging.proofs.Joining.{sets-under, fields-kept, is-told, reflexive}
 use Rattle.field_merging.proofs.merging.first_told.Goals as goal
+
+pub told-requires-clause-under : goal.told-requires-clause-under
+told-requires-clause-under c =
+    let compared = c.args.compared.now in
+    let grounds = compared.grounds in
+    let p = parts_in grounds.parts.now in
+    let rows = compared.rows.now in
+    let numbers = grounds.numbers.now in
+    let clashing = clashing_of (members_of_fragment p.document) in
+    let ss = filter (is_clashing rows numbers) (sets_of p.document) in
+    let listed : map clashing c.deref.result.now ≡ ss = rw c.deref.ensures.value c.in_ok-sets.ensures.sets in
+    let under : AreFields (length p.fields) (sets_of p.document) =
+    sets-under p numbers grounds.order.now compared.fields.now rows c.requires.compared.numbered grounds.inverse grounds.all grounds.inside grounds.counted compared.all c.requires.compared.told in
+    let first : earliest_set ss ≡ Some (clashing c.in-Some.set) =
+    sym (c.earliest_set.ensures.set (members_of_fragment p.document) ∙ ap earliest_set listed) ∙ ap (λ (o : Option ClashingSet). option_map clashing o) c.in-Some.is in
+    earliest-under (length p.fields) ss (clashing c.in-Some.set) (fields-kept (length p.fields) (is_clashing rows numbers) (sets_of p.document) under) first
 
 pub returns-in-Some : goal.returns-in-Some
 returns-in-Some c =
@@ -25,19 +40,18 @@ returns-in-Some c =
     let clashing = clashing_of (members_of_fragment p.document) in
     let f = told_set (fields_of p).one_key (clash rows numbers) (key_of p) in
     let ss = filter (is_clashing rows numbers) (sets_of p.document) in
-    let listed : map clashing c.deref.result.now ≡ ss = rw c.deref.ensures.value c.in_ok-sets.ensures in
+    let listed : map clashing c.deref.result.now ≡ ss = rw c.deref.ensures.value c.in_ok-sets.ensures.sets in
     let under : AreFields (length p.fields) (sets_of p.document) =
     sets-under p numbers grounds.order.now compared.fields.now rows c.requires.compared.numbered grounds.inverse grounds.all grounds.inside grounds.counted compared.all c.requires.compared.told in
     let own = reflexive p numbers grounds.order.now compared.fields.now rows c.requires.compared.numbered grounds.inverse grounds.all grounds.inside grounds.counted compared.all c.requires.compared.told in
     let all : AllTold f ss = all-told (fields_of p).one_key (clash rows numbers) (key_of p) (length p.fields) own (sets_of p.document) under in
     let first : earliest_set ss ≡ Some (clashing c.in-Some.set) =
-    sym (c.earliest_set.ensures (members_of_fragment p.document) ∙ ap earliest_set listed) ∙ ap (λ (o : Option ClashingSet). option_map clashing o) c.in-Some.is in
+    sym (c.earliest_set.ensures.set (members_of_fragment p.document) ∙ ap earliest_set listed) ∙ ap (λ (o : Option ClashingSet). option_map clashing o) c.in-Some.is in
     let merging : IsMerging p (earliest (told_sets (fields_of p).one_key (clash rows numbers) (key_of p) ss)) =
     is-told p numbers grounds.order.now compared.fields.now rows c.requires.compared.numbered grounds.inverse grounds.all grounds.inside grounds.counted compared.all c.requires.compared.told in
     let same : f (clashing c.in-Some.set) ≡ earliest (told_sets (fields_of p).one_key (clash rows numbers) (key_of p) ss) =
     sym (earliest-told f ss all ∙ ap (λ (o : Option SetOf). option_and_then f o) first) in
-    IfOk-weaker c.told.result (λ b. option_map broken_of b ≡ f (clashing c.in-Some.set)) (λ b. IsMerging p (option_map broken_of b)) (λ b e. (merging.0, merging.1, e ∙ (same ∙ merging.2)))
-    (c.told.ensures (earliest-under (length p.fields) ss (clashing c.in-Some.set) (fields-kept (length p.fields) (is_clashing rows numbers) (sets_of p.document) under) first))
+    (merging.0, merging.1, c.told.ensures ∙ (same ∙ merging.2))
 
 pub returns : goal.returns
 returns c =
@@ -49,13 +63,13 @@ returns c =
     let clashing = clashing_of (members_of_fragment p.document) in
     let f = told_set (fields_of p).one_key (clash rows numbers) (key_of p) in
     let ss = filter (is_clashing rows numbers) (sets_of p.document) in
-    let listed : map clashing c.deref.result.now ≡ ss = rw c.deref.ensures.value c.in_ok-sets.ensures in
+    let listed : map clashing c.deref.result.now ≡ ss = rw c.deref.ensures.value c.in_ok-sets.ensures.sets in
     let under : AreFields (length p.fields) (sets_of p.document) =
     sets-under p numbers grounds.order.now compared.fields.now rows c.requires.compared.numbered grounds.inverse grounds.all grounds.inside grounds.counted compared.all c.requires.compared.told in
     let own = reflexive p numbers grounds.order.now compared.fields.now rows c.requires.compared.numbered grounds.inverse grounds.all grounds.inside grounds.counted compared.all c.requires.compared.told in
     let all : AllTold f ss = all-told (fields_of p).one_key (clash rows numbers) (key_of p) (length p.fields) own (sets_of p.document) under in
     let first : earliest_set ss ≡ None =
-    sym (c.earliest_set.ensures (members_of_fragment p.document) ∙ ap earliest_set listed) ∙ ap (λ (o : Option ClashingSet). option_map clashing o) c.in-None.is in
+    sym (c.earliest_set.ensures.set (members_of_fragment p.document) ∙ ap earliest_set listed) ∙ ap (λ (o : Option ClashingSet). option_map clashing o) c.in-None.is in
     let merging : IsMerging p (earliest (told_sets (fields_of p).one_key (clash rows numbers) (key_of p) ss)) =
     is-told p numbers grounds.order.now compared.fields.now rows c.requires.compared.numbered grounds.inverse grounds.all grounds.inside grounds.counted compared.all c.requires.compared.told in
     (merging.0, merging.1, sym (earliest-told f ss all ∙ ap (λ (o : Option SetOf). option_and_then f o) first) ∙ merging.2)

@@ -1,6 +1,7 @@
-use Rattle.std.proofs.Common.{◌≡◌, ◌∙◌, sym, ap, refl, ℕ, Bool, List, [], length, Option, Some}
+use Rattle.std.proofs.Common.{◌≡◌, ◌∙◌, sym, ap, refl, ℕ, Bool, List, [], length, Option, Some, arith}
 use Rattle.std.specs.Prelude.{slice_get}
 use Rattle.std.specs.Option.{option_map}
+use Rattle.std.proofs.lemmas.List.{length-map}
 use Rattle.std.proofs.lemmas.Option.{slice_get-map, slice_get_read}
 use Rattle.gq_lexer.specs.declared.place.Place.{Place}
 use Rattle.gq_parser.proofs.Views.{of_set}
@@ -25,18 +26,18 @@ told-some : (one_key clashes : ℕ → ℕ → Bool) (key : ℕ → List ℕ) (s
     → Some (broken n q) ≡ told_set one_key clashes key s
 told-some one_key clashes key s f n q first name place = rw (← first, name, place) refl
 
-pub returns-in-Some-get : goal.returns-in-Some-get
-returns-in-Some-get c = λ under.
+pub returns : goal.returns
+returns c =
     let compared = c.args.compared.now in
     let parts = compared.grounds.parts.now in
     let p = parts_in parts in
-    let number = c.in-Some.number in
-    let f = c.in-Some-get.field.now in
-    let all = c.deref.result.now in
+    let number = c.in_ok-number.number in
+    let f = c.index-field.result.now in
     let s = clashing_of (members_of_fragment p.document) c.args.set in
-    let first : Some number ≡ first_clash (fields_of p).one_key (clash compared.rows.now compared.grounds.numbers.now) s.members = sym c.in-Some.is ∙ c.in_ok-number.ensures under in
-    let found : slice_get all number ≡ Some f = slice_get_read all (length all) number f refl c.in-Some-get.ensures.lookup.3.0 c.in-Some-get.ensures.lookup.1 in
-    let there : slice_get parts.fields.items number ≡ Some f = rw c.deref.ensures.value at found in
+    let first : Some number ≡ first_clash (fields_of p).one_key (clash compared.rows.now compared.grounds.numbers.now) s.members = sym c.in_ok-number.was ∙ c.first_clashing.ensures.first in
+    let inside = c.in_ok-number.ensures.there in
+    let many = length-map parts.fields.items field_part_of in
+    let there : slice_get parts.fields.items number ≡ Some f = slice_get_read parts.fields.items (length parts.fields.items) number f refl (omega (arith, inside, many)) c.index-field.ensures in
     let here : slice_get p.fields number ≡ Some (field_part_of f) = slice_get-map field_part_of parts.fields.items number ∙ ap (λ (o : Option rust-field.FieldPart). option_map field_part_of o) there in
     let key : key_of p number ≡ response_key (field_part_of f) = at-is response_key [] p.fields number (field_part_of f) here in
     let set = c.args.set.set.now in

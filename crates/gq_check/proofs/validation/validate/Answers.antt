@@ -7,7 +7,14 @@ use Rattle.gq_check.specs.declared.told.Told.{Told}
 use Rattle.gq_check.specs.Told.{told_of}
 use Rattle.gq_check.specs.Verdict.{IsVerdict, IsVerdictOf}
 use Rattle.gq_check.proofs.Faults.{tells}
+use Rattle.gq_check.proofs.Validity.{listed-own}
 use Rattle.gq_check.proofs.validation.validate.Goals as goal
+
+pub verdict-requires : goal.verdict-requires
+verdict-requires c = record {
+  listed = listed-own (parts_in c.in_ok-parts.parts) (tree_of c.args.schema.now) (document_of c.args.document.now) c.in_ok-parts.ensures;
+  graph = c.in_ok-graph.ensures;
+}
 
 pub returns-in-Some-clause-err : goal.returns-in-Some-clause-err
 returns-in-Some-clause-err c =

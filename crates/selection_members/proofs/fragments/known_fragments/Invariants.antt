@@ -1,10 +1,13 @@
-use Rattle.std.proofs.Common.{◌≡◌, ℕ, None}
+use Rattle.std.proofs.Common.{◌≡◌, length, take}
 use Rattle.gq_parser.specs.Tree.{document_of}
-use Rattle.selection_members.specs.Walks.{known_at, IsSettled}
+use Rattle.selection_members.proofs.Learning.{Learned}
 use Rattle.selection_members.proofs.fragments.known_fragments.Given as goal
 
 abbrev pub invariant-loop : goal.invariant-loop
-invariant-loop l = (j : ℕ) → known_at l.table.items j ≡ None
+invariant-loop l = length l.table.items ≡ l.counter
 
-abbrev pub invariant-loop-i : goal.invariant-loop-i
-invariant-loop-i l = IsSettled l.source.rows.now l.source.numbers.now l.table.items (document_of l.source.document.now) l.i
+abbrev pub invariant-loop-number : goal.invariant-loop-number
+invariant-loop-number l = record {
+  len : length l.table.items ≡ length (document_of l.source.document.now).fragments;
+  learned : Learned l.source.rows.now l.source.numbers.now (document_of l.source.document.now) (take l.number-index l.order) l.table.items;
+}

@@ -1,32 +1,32 @@
-use Rattle.std.proofs.Common.{◌≡◌, ◌∙◌, sym, ap, subst, refl, ℕ, List, length, map, Option, Some, arith}
-use Rattle.std.specs.Prelude.{slice_get}
-use Rattle.std.specs.Option.{option_map}
-use Rattle.std.proofs.lemmas.Option.{slice_get-map, slice_get_read}
-use Rattle.gq_parser.specs.declared.tree.Fragment as rust-fragment
-use Rattle.gq_parser.specs.Tree.{fragment_of, operation_of}
+use Rattle.std.proofs.Common.{◌∙◌, sym, ap, subst, ℕ, List, arith}
+use Rattle.gq_parser.specs.Tree.{SelectionSet, document_of}
 use Rattle.merge_table.specs.Entered.{IsReached}
 use Rattle.selection_members.specs.Fragments.{target_at}
-use Rattle.selection_members.specs.Members.{count_operations, starts_from}
-use Rattle.selection_members.specs.Walks.{renumbered, KnowsAt, Knows}
-use Rattle.selection_members.proofs.Learning.{named-at}
+use Rattle.selection_members.specs.Ranked.{spreads_in}
+use Rattle.selection_members.specs.Walks.{renumbered, KnowsAt, KnowsSome}
+use Rattle.selection_members.proofs.Learning.{fragment-there}
 use Rattle.selection_members.proofs.fragments.learned.Goals as goal
 
-pub returns-in-Ok : goal.returns-in-Ok
-returns-in-Ok c = λ spread name knows at.
+pub invariant_of-walk : goal.invariant_of-walk
+invariant_of-walk c =
+    let source = c.args.source.now in
+    let d = document_of source.document.now in
+    record {
+      few = source.few;
+      below = source.below;
+      known = source.known;
+      there = λ name j at. let lt = (fragment-there name d.fragments j (sym (source.named name) ∙ at)).1 in omega (arith, lt, c.requires.len);
+    }
+
+pub reached_in-requires : goal.reached_in-requires
+reached_in-requires c = record { inside = c.fragment_set-own.ensures.inside }
+
+pub returns : goal.returns
+returns c = λ spread name test f knows at here passes.
     let source = c.args.source.now in
     let rows = source.rows.now in
     let numbers = source.numbers.now in
-    let j = c.args.number in
-    let items = source.document.now.fragments.items in
-    let fragments = map fragment_of items in
-    let base = count_operations (map operation_of source.document.now.operations.items) in
-    let f = c.in_ok-fragment.fragment.now in
-    let s = c.in_ok-start.start.now in
-    let all = c.deref.result.now in
-    let found : slice_get all j ≡ Some f = slice_get_read all (length all) j f refl c.in_ok-fragment.ensures.lookup.3.0 c.in_ok-fragment.ensures.lookup.1 in
-    let there : slice_get items j ≡ Some f = rw c.deref.ensures.value at found in
-    let here : slice_get fragments j ≡ Some (fragment_of f) = slice_get-map fragment_of items j ∙ ap (λ (o : Option rust-fragment.Fragment). option_map fragment_of o) there in
-    let started : slice_get source.starts.now j ≡ Some s = slice_get_read source.starts.now (length source.starts.now) j s refl c.in_ok-start.ensures.lookup.3.0 c.in_ok-start.ensures.lookup.1 in
-    let start : slice_get (starts_from base fragments) j ≡ Some s = ap (λ (ns : List ℕ). slice_get ns j) (sym source.started) ∙ started in
-    let known : Knows rows numbers c.args.table.now (target_at source.targets.now) spread = λ q. subst (KnowsAt rows numbers c.args.table.now (spread q)) (sym (source.named q)) (knows q) in
-    subst (λ (ms : List ℕ). IsReached rows (renumbered numbers ms) c.in-Ok.reached) (sym (named-at spread name 0 base fragments j j s (fragment_of f) at (omega arith) here start)) (c.in-Ok.ensures spread known)
+    let own = c.fragment_set-own in
+    let known : KnowsSome test rows numbers c.args.table.now (target_at source.targets.now) spread = λ q e. subst (KnowsAt rows numbers c.args.table.now (spread q)) (sym (source.named q)) (knows q e) in
+    let pass = ap (λ (s : SelectionSet). spreads_in test s) (own.ensures.set f here) ∙ passes in
+    subst (λ (ms : List ℕ). IsReached rows (renumbered numbers ms) c.reached_in.result) (sym (own.ensures.members spread name at)) (c.reached_in.ensures spread test known pass)

@@ -1,24 +1,23 @@
-use Rattle.std.proofs.Common.{◌≡◌, ◌∙◌, sym, ap, subst, refl, ◌≤◌, ◌<◌, ◌+◌, ◌++◌, [], ◌∷◌, List, length, drop, drop_of_length-le, false, arith}
+use Rattle.std.proofs.Common.{◌≡◌, ◌∙◌, sym, ap, subst, refl, ◌≤◌, ◌+◌, ◌++◌, [], List, length, drop, drop_of_length-le, false, arith}
 use Rattle.std.proofs.lemmas.Bool.{both_ways}
 use Rattle.std.proofs.lemmas.List.{map-append}
 use Rattle.gq_parser.specs.declared.tree.Selection.{Selection}
 use Rattle.gq_parser.specs.Tree as tree
 use Rattle.gq_parser.specs.Tree.{Below, Inline, SelectionSet, and_selection, set_of, selection_of, map_selections, condition_if, directives_of}
 use Rattle.gq_parser.proofs.Views.{of_set, of_inline, selection_spread, selection_inline}
-use Rattle.merge_table.specs.Entered.{IsReached}
 use Rattle.selection_members.specs.Members.{count_in, count_from, count_among, members_in, members_from}
 use Rattle.selection_members.specs.Walks.{renumbered}
-use Rattle.selection_members.specs.Written.{written_in, written_among, written_from, own_below, belows, AreAdded}
+use Rattle.selection_members.specs.Written.{written_in, written_among, written_from, own_below, belows}
 use Rattle.selection_members.proofs.Adding.{Adding, adding-none, adding-more, adding-all, belows-length, from-count, field-added, field-place}
-use Rattle.selection_members.proofs.Entering.{Entered, joined-members, entered-more, entered-all, drop-next}
+use Rattle.selection_members.proofs.Entering.{Entered, joined-members, entered-more, drop-next}
 use Rattle.selection_members.proofs.gathering.+gathering.Goals as goal
 
-pub gather-returns-in_ok-add_fragment-in-Spread-clause-reached : goal.gather-returns-in_ok-add_fragment-in-Spread-clause-reached
-gather-returns-in_ok-add_fragment-in-Spread-clause-reached t c = λ spread ms knows is.
+pub gather-returns-in-Spread-clause-reached : goal.gather-returns-in-Spread-clause-reached
+gather-returns-in-Spread-clause-reached t c = λ spread ms knows is.
     let same : members_from spread c.args.number (selection_of c.args.selection.now) ≡ spread c.as_str.result.now =
     ap (λ (s : Selection). members_from spread c.args.number (selection_of s)) c.in-Spread.is
     ∙ (ap (λ (s : tree.Selection). members_from spread c.args.number s) (selection_spread c.in-Spread.spread) ∙ ap spread (sym c.as_str.ensures.value)) in
-    rw same (c.in_ok-add_fragment-in-Spread.ensures spread ms knows is)
+    rw same (c.add_fragment.ensures spread ms (knows c.as_str.result.now) is)
 
 pub gather-returns-in_ok-inside-in-Inline-clause-reached : goal.gather-returns-in_ok-inside-in-Inline-clause-reached
 gather-returns-in_ok-inside-in-Inline-clause-reached t c = λ spread ms knows is.
@@ -37,13 +36,13 @@ gather_field-returns-in-Some-get_mut-clause-rows t c = λ spread knows.
     let s = set_of c.in-Some.set in
     let added = c.in_ok-reached-in-Some.ensures.rows spread knows in
     let reached = c.in_ok-reached-in-Some.ensures.reached spread knows in
-    rw c.in-Some.is (field-added numbers spread c.args.number c.in_ok-first.first c.len-place.result (tree.below s) (belows (written_in s)) c.args.rows.now.items c.push.new.self.items c.gather_set.new.rows.items
-    c.new.result c.in_ok-reached-in-Some.field-0.reached.members c.in_ok-first.ensures (c.len-place.ensures ∙ c.args.rows.now.ok.0) c.in_ok-push.ensures.items added reached.members)
+    rw c.in-Some.is (field-added numbers spread c.args.number (c.args.number + 1) c.len-place.result (tree.below s) (belows (written_in s)) c.args.rows.now.items c.push.new.self.items c.gather_set.new.rows.items
+    c.new.result c.in_ok-reached-in-Some.field-0.reached.members refl (c.len-place.ensures ∙ c.args.rows.now.ok.0) c.in_ok-push.ensures.items added reached.members)
 
 pub gather_field-returns-in-None-get_mut-clause-rows : goal.gather_field-returns-in-None-get_mut-clause-rows
 gather_field-returns-in-None-get_mut-clause-rows t c = λ spread knows.
     let added = c.in_ok-reached-in-Some.ensures.rows spread knows in
-    let place = field-place c.args.walk.now.numbers.now spread c.in_ok-first.first c.len-place.result (belows (written_in (set_of c.in-Some.set))) c.args.rows.now.items c.push.new.self.items c.gather_set.new.rows.items
+    let place = field-place c.args.walk.now.numbers.now spread (c.args.number + 1) c.len-place.result (belows (written_in (set_of c.in-Some.set))) c.args.rows.now.items c.push.new.self.items c.gather_set.new.rows.items
     c.new.result (c.len-place.ensures ∙ c.args.rows.now.ok.0) c.in_ok-push.ensures.items added in
     let all = c.gather_set.new.rows.ok.0 in
     absurd (both_ways false refl (c.in-None-get_mut.ensures.variant.1 (omega (arith, place, all))))

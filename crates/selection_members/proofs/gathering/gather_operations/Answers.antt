@@ -1,4 +1,4 @@
-use Rattle.std.proofs.Common.{◌≡◌, ◌∙◌, sym, ap, subst, refl, ◌+◌, ◌++◌, [], ◌∷◌, ℕ, List, length, map, drop, drop_of_length-le, arith}
+use Rattle.std.proofs.Common.{◌≡◌, ◌∙◌, sym, ap, subst, refl, ◌+◌, ◌++◌, [], ◌∷◌, List, length, map, drop, drop_of_length-le, arith}
 use Rattle.std.proofs.lemmas.List.{map-append}
 use Rattle.gq_parser.specs.Tree.{Below, Operation, operation_of}
 use Rattle.gq_parser.specs.declared.tree.Operation as rust

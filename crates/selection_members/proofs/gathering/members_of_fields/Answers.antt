@@ -2,7 +2,6 @@ use Rattle.std.proofs.Common.{◌∙◌, ap, List, map}
 use Rattle.gq_parser.specs.Tree.{document_of, operation_of}
 use Rattle.gq_parser.specs.declared.tree.Operation as rust
 use Rattle.selection_members.specs.Members.{count_operations}
-use Rattle.selection_members.specs.Written.{written_fields, belows}
 use Rattle.selection_members.proofs.Adding.{added-both}
 use Rattle.selection_members.proofs.gathering.members_of_fields.Goals as goal
 

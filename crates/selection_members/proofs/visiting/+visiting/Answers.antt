@@ -10,12 +10,12 @@ use Rattle.selection_members.proofs.Clashing.{with-own, found-more}
 use Rattle.selection_members.proofs.Entering.{Entered, joined-members, entered-more, entered-all, drop-next}
 use Rattle.selection_members.proofs.visiting.+visiting.Goals as goal
 
-pub visit-returns-in_ok-add_fragment-in-Spread-clause-reached : goal.visit-returns-in_ok-add_fragment-in-Spread-clause-reached
-visit-returns-in_ok-add_fragment-in-Spread-clause-reached t c = λ spread ms knows is.
+pub visit-returns-in-Spread-clause-reached : goal.visit-returns-in-Spread-clause-reached
+visit-returns-in-Spread-clause-reached t c = λ spread ms knows is.
     let same : members_from spread c.args.number (selection_of c.args.selection.now) ≡ spread c.as_str.result.now =
     ap (λ (s : Selection). members_from spread c.args.number (selection_of s)) c.in-Spread.is
     ∙ (ap (λ (s : tree.Selection). members_from spread c.args.number s) (selection_spread c.in-Spread.spread) ∙ ap spread (sym c.as_str.ensures.value)) in
-    rw same (c.in_ok-add_fragment-in-Spread.ensures spread ms knows is)
+    rw same (c.add_fragment.ensures spread ms (knows c.as_str.result.now) is)
 
 pub visit-returns-in_ok-inside-in-Inline-clause-reached : goal.visit-returns-in_ok-inside-in-Inline-clause-reached
 visit-returns-in_ok-inside-in-Inline-clause-reached t c = λ spread ms knows is.
@@ -32,6 +32,7 @@ pub visit_set-loop-selection-init : goal.visit_set-loop-selection-init
 visit_set-loop-selection-init t c = record {
   counted = refl;
   entered = λ spread knows. record { done = []; whole = sym (ap (λ (s : SelectionSet). members_in spread c.args.first s) (of_set c.args.set.now.place c.args.set.now.selections)); is = c.new-reached.ensures c.args.walk.now.rows.now };
+  inside = λ all. all;
   found = λ spread knows. refl;
 }
 
@@ -55,12 +56,16 @@ visit_set-loop-selection-preserved t c =
           subst (λ (ss : tree.Selections). Entered rows numbers all spread n ss c.loop-selection.reached) left (c.loop-selection.invariant.entered spread knows) in
           entered-more rows numbers all spread n c.in_ok-next.next (selection_of x) rest c.loop-selection.reached c.visit.new.reached e
           c.in_ok-next.ensures.next (λ here. c.in_ok-next.ensures.reached spread e.done knows here);
+      inside = λ all. c.in_ok-next.ensures.inside (c.loop-selection.invariant.inside all);
       found = λ spread knows.
           let test = is_clashing rows numbers in
           let old = map (clashing_of spread) c.loop-selection.clashing.items in
           let before = ap (λ (ss : tree.Selections). old ++ filter test (sets_among spread n ss)) (sym left) ∙ c.loop-selection.invariant.found spread knows in
           found-more test spread n c.in_ok-next.next (selection_of x) rest old (map (clashing_of spread) c.visit.new.clashing.items) _ c.in_ok-next.ensures.next (c.in_ok-next.ensures.clashing spread knows) before;
     }
+
+pub visit_set-returns-clause-inside : goal.visit_set-returns-clause-inside
+visit_set-returns-clause-inside t c = λ all. c.in_ok-note.ensures.inside (length c.args.walk.now.numbers.now) c.requires.inside (c.loop-selection.invariant.inside all)
 
 pub visit_set-returns-clause-next : goal.visit_set-returns-clause-next
 visit_set-returns-clause-next t c =
@@ -88,4 +93,4 @@ visit_set-returns-clause-clashing t c = λ spread knows.
     let all = members_in spread c.args.first (set_of set) in
     let entered : Entered rows numbers all spread c.loop-selection.next tree.no_selection c.loop-selection.reached =
     subst (λ (ss : tree.Selections). Entered rows numbers all spread c.loop-selection.next ss c.loop-selection.reached) none (c.loop-selection.invariant.entered spread knows) in
-    with-own test spread c.args.first (set_of set) (map_selections items) old mid _ is before (c.in_ok-note.ensures rows numbers spread (entered-all rows numbers all spread c.loop-selection.next c.loop-selection.reached entered))
+    with-own test spread c.args.first (set_of set) (map_selections items) old mid _ is before (c.in_ok-note.ensures.sets rows numbers spread (entered-all rows numbers all spread c.loop-selection.next c.loop-selection.reached entered))

@@ -6,8 +6,8 @@ use Rattle.selection_members.specs.Walks.{renumbered, is_clashing, clashing_of}
 use Rattle.selection_members.proofs.Clashing.{clashing-same, told_set, own-kept, own-dropped}
 use Rattle.selection_members.proofs.visiting.note.Goals as goal
 
-pub returns-in_ok-push : goal.returns-in_ok-push
-returns-in_ok-push c = λ rows numbers spread is.
+pub returns-in_ok-push-clause-sets : goal.returns-in_ok-push-clause-sets
+returns-in_ok-push-clause-sets c = λ rows numbers spread is.
     let s = set_of c.args.set.now in
     let n = c.args.first in
     let old = c.args.clashing.now.items in
@@ -15,8 +15,8 @@ returns-in_ok-push c = λ rows numbers spread is.
     let yes : is_clashing rows numbers (told_set spread n s) ≡ true = sym (clashing-same rows numbers ms) ∙ (sym (c.has_clash.ensures rows (renumbered numbers ms) is) ∙ c.if-has_clash.true) in
     rw c.in_ok-push.ensures.items (map-append (clashing_of spread) old (record { set = c.args.set; first = n } ∷ []) ∙ ap (λ (xs : List SetOf). map (clashing_of spread) old ++ xs) (sym (own-kept (is_clashing rows numbers) spread n s yes)))
 
-pub returns-else-has_clash : goal.returns-else-has_clash
-returns-else-has_clash c = λ rows numbers spread is.
+pub returns-else-has_clash-clause-sets : goal.returns-else-has_clash-clause-sets
+returns-else-has_clash-clause-sets c = λ rows numbers spread is.
     let s = set_of c.args.set.now in
     let n = c.args.first in
     let old = c.args.clashing.now.items in
