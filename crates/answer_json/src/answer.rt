@@ -84,7 +84,7 @@ fn into_text(writer: Writer) -> String
 ///
 /// # Errors
 ///
-/// Only where a growth of the text was refused.
+/// Only when out of memory.
 pub fn write_answer(
     alloc: Global,
     response: &Response,
@@ -105,7 +105,7 @@ pub fn write_answer(
 ///
 /// # Errors
 ///
-/// Only where a growth of the text was refused.
+/// Only when out of memory.
 pub fn write_refusal(alloc: Global, message: &str, place: Option<Place>) -> Result<String, NoMemory>
     ensures text { IfOk result (λ s. string_bytes s ≡ json_text (refusal_json message.now place)) }
     ensures reads_back { IfOk result (λ s. (limit : ℕ) → depth (refusal_json message.now place) ≤ limit

@@ -1,4 +1,4 @@
-//! Want of memory.
+//! The fault of running out of memory.
 
 ghost use Rattle.std.specs.Prelude.{◌≡◌};
 ghost use Rattle.answer_json.specs.declared.memory.NoMemory.{NoMemory};
@@ -6,7 +6,7 @@ ghost use Rattle.answer_json.specs.declared.memory.NoMemory.{NoMemory};
 use std::alloc::AllocError;
 use thiserror::Error;
 
-/// A growth of the text was refused.
+/// Out of memory.
 #[derive(Clone, Copy, Debug, PartialEq, Eq, Error)]
 #[error("out of memory")]
 pub struct NoMemory;

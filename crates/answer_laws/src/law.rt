@@ -34,9 +34,9 @@ pub fn documents_have_verdicts()
     ensures { (defs : List Definition) (d : Document) → (v : Option FaultOf) × IsVerdict defs d v }
 {}
 
-/// Direct execution, in which each load is answered by its key's item, gives an answer for every program. Over sources that
-/// answer key by key, alike for keys that their loaders hold to be one, a lawful log is there from every memory that has what
-/// they would answer, as an empty one has.
+/// Direct execution, in which each load is answered by its key's item, has an answer for every program. Over sources that
+/// answer key by key, and equal cache keys alike, a lawful log exists from every memory that has what they would answer, as an
+/// empty one has.
 pub fn answers_are_there()
     ensures direct { (p : Program) (item : ℕ → KeyOf → ItemOf) → (answered : AnsweredOf) × (exec p (direct item) ≡ Some answered) }
     ensures log { (item : ℕ → KeyOf → ItemOf) (rules : List RuleOf) (p : Program) (M : Memory) → AreLimited rules → HasLoaders (length rules) p
@@ -44,7 +44,7 @@ pub fn answers_are_there()
 {}
 
 /// Each plan over the bindings of a world has an answer: a text that is that of direct execution, and a session of the world, new
-/// at first, in which it was answered with the headline. So want of memory alone keeps a plan from its answer.
+/// at first, in which it was answered with the headline. So only being out of memory keeps a plan from its answer.
 pub fn plans_are_answered()
     ensures { (w : WorldOf) (plan : PlanOf) → HasSources w → plan.bindings ≡ w.bindings → IsPlan plan → (text : List ℕ) × IsAnsweredAnew w plan text }
 {}

@@ -1,4 +1,4 @@
-//! Laws that a verdict and an answer are there, with no code that runs.
+//! Laws that verdicts and answers exist, with no code that runs.
 //!
 //! A definition of what may be answered could be one that nothing meets, and want of memory would stand in for every answer.
 //! The laws ([`law`]), each carried by a function that does nothing, say that this is not so: each text is a document or has a

@@ -20,9 +20,9 @@ use std::thread::Threads;
 ///
 /// # Errors
 ///
-/// [`BadCount`](WorkFault::BadCount) exactly where the number of workers isn't 1 to 16: nothing was asked then, and the session
-/// is as it was, failed batches too. [`NoMemory`](WorkFault::NoMemory) where a growth was refused: the finished rounds stay, and
-/// a round that was out is lost.
+/// [`BadCount`](WorkFault::BadCount) exactly if the number of workers isn't 1 to 16: nothing was asked then, and the session is
+/// as it was, failed batches too. [`NoMemory`](WorkFault::NoMemory) when out of memory: the finished rounds stay, and a round
+/// that was out is lost.
 pub fn answer_with<S: Source, P: Execute, R: Threads + Wait + Sync>(
     rt: &R,
     session: &mut Session<S>,

@@ -7,7 +7,7 @@ pub enum WorkFault {
     /// The number of workers is not 1 to 16.
     #[error("bad number of workers")]
     BadCount,
-    /// A growth was refused, here or in a source, or the rounds can't be counted on.
+    /// Out of memory, here or in a source; or the number of the next round would overflow.
     #[error("out of memory")]
     NoMemory,
 }

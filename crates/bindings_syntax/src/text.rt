@@ -18,7 +18,7 @@ use std::alloc::{AllocError, Global};
 ///
 /// # Errors
 ///
-/// Only for want of memory.
+/// Only when out of memory.
 pub fn read(alloc: Global, text: &str) -> Result<BindingsText<'_>, AllocError>
     ensures { IfOk result (λ read. text_seen read ≡ bindings_text text.now) }
 {

@@ -110,7 +110,7 @@ pub fn plan(alloc: Global, asked: &Asked, request: &str, text: &str) -> Result<S
     planned(alloc, &served, &request, text)
 }
 
-/// How want of memory is displayed.
+/// How being out of memory is displayed.
 pub fn no_memory(alloc: Global) -> Result<String> {
     let fault = PrepareFault::NoMemory;
     Ok(format!(in alloc; "{fault}")?)

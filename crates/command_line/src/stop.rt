@@ -26,7 +26,7 @@ pub enum Stop {
     Table(TableFault),
     /// A file can't be opened or read before serving begins, or is no text where it has to be.
     File,
-    /// Serving stopped, or memory was refused before it began.
+    /// Serving stopped, or memory ran out before it began.
     Serve(ServeFault),
 }
 
@@ -102,7 +102,7 @@ impl<T: Drop> From<AllocFailed<T>> for Stop {
 
 impl Stop {
     /// The exit status: 0 where all was served or help was asked for, 2 for the command line and its numbers, 3 for the schema,
-    /// the bindings or a table, 4 for files and for what serving stops at, 5 for want of memory wherever it comes.
+    /// the bindings or a table, 4 for files and for what serving stops at, 5 when out of memory, wherever that happens.
     pub fn status(&self) -> u8
         ensures { result ≡ status_of self.now }
     {

@@ -25,9 +25,9 @@ pub struct Words {
     pub schema: String,
     /// The file of the bindings.
     pub bindings: String,
-    /// How many workers run the batches of a round at the same time, from 1 to 16; they run in turn where it isn't given.
+    /// How many workers run the batches of a round at the same time, from 1 to 16; `None`: they run one after another.
     pub workers: Option<u32>,
-    /// At most how many keys one batch has, from 1 to 65,535; no bound where it isn't given.
+    /// The batch limit, from 1 to 65,535; `None`: no limit.
     pub max_batch: Option<u32>,
     /// Whether a run that ends by a fault says where it is.
     pub explain: bool,

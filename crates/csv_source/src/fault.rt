@@ -5,7 +5,7 @@ use load_memory::NoMemory;
 use std::alloc::AllocError;
 use thiserror::Error;
 
-/// Why a text is no table, or a table has no source of a kind.
+/// Why a text isn't a table, or a table has no such source.
 #[derive(Clone, Copy, PartialEq, Eq, Debug, Error)]
 pub enum TableFault {
     /// The text has no record.
@@ -17,7 +17,7 @@ pub enum TableFault {
     /// A field isn't UTF-8.
     #[error("NotText")]
     NotText,
-    /// A record has another number of fields than the header.
+    /// A record has more or fewer fields than the header.
     #[error("BadRecord")]
     BadRecord,
     /// More than 1,000,000 records follow the header.
@@ -29,7 +29,7 @@ pub enum TableFault {
     /// The reader failed.
     #[error("ReadFault")]
     ReadFault,
-    /// A growth was refused.
+    /// Out of memory.
     #[error("NoMemory")]
     NoMemory,
 }

@@ -18,8 +18,8 @@ fn mixed(hash: u64, byte: u8) -> u64
     (hash ^ u64::from(byte)).wrapping_mul(FNV_PRIME)
 }
 
-// A number that texts have in common where they are one key. It hangs on nothing but the text, so
-// whoever picks the keys can make them collide.
+// A hash that is equal for texts that are one key. It depends on the text alone, so whoever picks
+// the keys can make them collide.
 fn hash(mode: KeyMode, text: &str) -> u64
     ensures { result ≡ text_hash mode (fold_text mode text.now) }
 {

@@ -176,10 +176,10 @@ impl Table {
     ///
     /// The faults of the header come first, in the order `NoHeader`, `NotText`, `DuplicateColumn`,
     /// then those of each record in turn, in the order `BadRecord`, `NotText`, `TooManyRows`. A
-    /// reader that fails is `ReadFault`, and a growth that is refused is `NoMemory`, each when it
+    /// reader that fails is `ReadFault`, and being out of memory is `NoMemory`, each when it
     /// comes.
     ///
-    /// The result is that of the reader's text where the reader tells its bytes.
+    /// If the reader's contract knows its bytes, the result is that of these bytes.
     pub fn read<R: Read + Drop>(alloc: Global, reader: R) -> Result<Table, TableFault>
         ensures { (bytes : List ℕ) → R.remaining reader ≡ Some bytes
             → ReadIs (strip_bom bytes) result }

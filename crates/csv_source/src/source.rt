@@ -23,8 +23,8 @@ enum Finder<'t> {
     Shared(&'t ColumnIndex),
 }
 
-/// A source over a table: by a column, it has for a text the rows whose column equals the text;
-/// without one, it has all rows for `All`. It never fails but for want of memory.
+/// A source over a table. With a column, a text key has the rows whose column equals the text;
+/// without one, the key `All` has all rows. It fails only when out of memory.
 ///
 /// A contract sees it as its rows, its column, if it has one, and its mode.
 #[derive(Drop)]
@@ -85,7 +85,7 @@ impl<'t> CsvSource<'t> {
         })
     }
 
-    /// The source by an index that is there.
+    /// The source by an existing index.
     pub fn of_index(index: &'t ColumnIndex) -> CsvSource<'t>
         ensures { result ≡ source_by index.now.rows index.now.column index.now.mode }
     {

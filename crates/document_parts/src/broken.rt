@@ -1,4 +1,4 @@
-//! What breaks a rule, and which of several such is told.
+//! What breaks a rule, and which of several is reported.
 
 ghost use Rattle.std.specs.Prelude.{◌≡◌, None};
 ghost use Rattle.std.specs.Option.{option_map};
@@ -6,12 +6,12 @@ ghost use Rattle.document_parts.specs.Broken.{broken_of, with_broken, with_broke
 
 use gq_lexer::Place;
 
-/// A name as it is told.
+/// A name as it is reported.
 #[derive(Clone, Copy, Debug, PartialEq, Eq)]
 pub enum BrokenName<'d> {
     /// The name alone.
     Plain(&'d str),
-    /// A variable's name without the `$`, which is told with it.
+    /// A variable's name without the `$`, which is reported with it.
     Variable(&'d str),
 }
 
@@ -25,7 +25,7 @@ pub struct Broken<'d> {
 impl<'d> Broken<'d> {
     ghost use Rattle.document_parts.specs.Broken.{name_of};
 
-    /// A name that is told alone.
+    /// A name that is reported as it is.
     pub fn named(name: &'d str, place: Place) -> Broken<'d>
         ensures name { name_of result.name ≡ name.now }
         ensures place { result.place ≡ place }

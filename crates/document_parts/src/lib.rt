@@ -2,9 +2,9 @@
 //!
 //! The layer above may rely on this: [`Parts::new`] lists every field, spread, inline fragment, selection set, directive, argument,
 //! variable and use of a variable of a document, once, each with the operation or fragment that it stands in and with what the
-//! schema says of it (`specs/Listing.antt`). A rule is a pass over such a list, and what it tells is the [`Broken`] with the
-//! earliest place (`earliest`), which [`Earliest`] keeps. Nothing here rests on the places of a document being apart, nor on
-//! its names being unique.
+//! schema says of it (`specs/Listing.antt`). A rule is a pass over such a list, and returns the [`Broken`] with the earliest
+//! place (`earliest`), which [`Earliest`] keeps. Nothing here needs the places of a document to differ, or its names to be
+//! unique.
 #![tactic(auto)]
 
 mod arguments;

@@ -1,4 +1,5 @@
-//! What the operations of a batch define, and which uses they reach, by sets of operations for the numbers of names.
+//! Which operations of a batch define a variable of each name, and which use one, as a set of operations for each
+//! name.
 
 ghost use Rattle.std.specs.Prelude.{◌≡◌, ◌≤◌, ◌<◌, ◌+◌, ◌==◌, ◌||◌, ◌&&◌, ◌^◌, ℕ, List, IfOk, OnOk, bytes_eq, length, map, drop, slice_index, slice_index_or, false, nat_lt};
 ghost use Rattle.std.specs.List.{list_any};
@@ -19,10 +20,10 @@ use spread_graph::{
 };
 use std::alloc::{AllocError, Global};
 
-/// Of each number of a name, some operations of a batch.
+/// Some operations of a batch for each name, by the name's number.
 pub type Sets = Vec<BatchSet>;
 
-// Adds an operation to the sets of the numbers of its variables.
+// Adds an operation to the sets of its variables' names.
 fn add_defined(
     names: &Numbers,
     operation: &Operation,
@@ -41,7 +42,8 @@ fn add_defined(
     Ok(())
 }
 
-// Of each number the operations of a batch, so many from the first on, that define a variable of such a name.
+// For each name, the operations of a batch that define a variable of that name. The batch is `count` operations from
+// `first` on.
 fn defined(
     alloc: Global,
     names: &Numbers,
@@ -60,7 +62,8 @@ fn defined(
     Ok(sets)
 }
 
-/// Notes the uses that stand for those which an operation of a batch reaches without defining their variables.
+/// Notes the uses that an operation of a batch reaches without defining their variables: for each name in an
+/// operation or fragment the one use that stands for the others.
 pub fn note_lacking(
     alloc: Global,
     operations: &[Operation],
@@ -91,7 +94,7 @@ pub fn note_lacking(
     Ok(())
 }
 
-// Adds these operations to the sets of the numbers of the names of the uses in a row.
+// Adds these operations to the sets of the names that the uses in a row have.
 fn add_uses(
     row: &[usize],
     reached_by: BatchSet,
@@ -108,7 +111,7 @@ fn add_uses(
     Ok(())
 }
 
-// Adds the operations that reach fragments to the sets of the numbers of the names that are used there.
+// Adds the operations that reach a fragment to the sets of the names that are used in it, for each fragment.
 fn add_uses_in_fragments(
     rows: &[Vec<usize>],
     reached: &[BatchSet],
@@ -123,7 +126,7 @@ fn add_uses_in_fragments(
     Ok(())
 }
 
-// Adds the operations of a batch to the sets of the numbers of the names that they use themselves.
+// Adds each operation of a batch to the sets of the names that it uses itself.
 fn add_uses_in_operations(
     rows: &[Vec<usize>],
     first: usize,
@@ -142,7 +145,7 @@ fn add_uses_in_operations(
     Ok(())
 }
 
-/// Of each number the operations of a batch that reach a use of such a name.
+/// For each name, the operations of a batch that reach a use of it.
 pub fn used(
     alloc: Global,
     table: &UseTable,
@@ -161,7 +164,7 @@ pub fn used(
     Ok(sets)
 }
 
-/// Whether an operation of a batch is in the set of a number, which may not be there.
+/// Whether an operation of a batch is in the set of a name; false for a name without a number.
 pub fn has_if(sets: &[BatchSet], operation: usize, number: Option<usize>) -> bool
     requires { operation < 64 }
     ensures { result ≡ has_if sets.now operation number }

@@ -57,7 +57,7 @@ pub fn fragments_must_be_used<'d>(
     Ok(earliest.found)
 }
 
-/// Fragment Spread Target Defined (section 5.5.2.1): a spread of a fragment that there isn't.
+/// Fragment Spread Target Defined (section 5.5.2.1): a spread of an undefined fragment.
 pub fn fragment_spread_target_defined<'d>(parts: &Parts<'d>) -> Option<Broken<'d>>
     ensures { option_map broken_of result ≡ earliest (fragment_spread_target_defined (parts_in parts.now)) }
 {

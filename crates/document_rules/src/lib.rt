@@ -1,8 +1,8 @@
 //! The rules of validation that need no types, and what isn't served (GraphQL specification of October 2021, section 5).
 //!
-//! The layer above may rely on this: a rule is a function of the parts of a document that lists all that breaks it, a file of
-//! `specs/` for each, and the call of its name gives the earliest of that list ([`Broken`](document_parts::Broken)), or nothing
-//! where the document keeps the rule. Nothing rests on the places of a document being apart, nor on another rule being kept.
+//! The layer above may rely on this: a rule is defined as the list of everything in a document that breaks it, in a file of
+//! `specs/` for each rule. The call of the rule's name returns the earliest of that list ([`Broken`](document_parts::Broken)),
+//! or nothing if the document keeps the rule. No rule needs places to differ, nor another rule to be kept.
 #![tactic(auto)]
 
 mod arguments;

@@ -78,7 +78,7 @@ impl Named for Argument {
 /// The names that stood earlier in a list.
 pub type Names<'d> = HashSet<&'d str>;
 
-/// Notes a name, and tells of it where it stood earlier.
+/// Notes a name, and reports it if it was noted before.
 pub fn note<'d>(
     names: &mut Names<'d>,
     earliest: &mut Earliest<'d>,
@@ -94,7 +94,7 @@ pub fn note<'d>(
     Ok(())
 }
 
-/// Tells of the parts whose name stands before them in the list.
+/// Reports the parts whose name an earlier part of the list has.
 pub fn add_repeated<'d, T: Named>(
     alloc: Global,
     parts: &'d [T],

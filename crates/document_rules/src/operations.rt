@@ -30,7 +30,8 @@ pub fn operation_name_uniqueness<'d>(
     Ok(earliest.found)
 }
 
-/// Lone Anonymous Operation (section 5.2.2.1): an operation without a name beside another, which is told as `query`.
+/// Lone Anonymous Operation (section 5.2.2.1): an operation without a name beside another. It is reported as
+/// `query`.
 pub fn lone_anonymous_operation<'d>(parts: &Parts<'d>) -> Option<Broken<'d>>
     ensures { option_map broken_of result ≡ earliest (lone_anonymous_operation (parts_in parts.now)) }
 {

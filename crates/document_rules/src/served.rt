@@ -24,8 +24,8 @@ fn other_kind(kind: OperationKind) -> Option<&'static str>
     }
 }
 
-/// An operation of another kind than query, told by its kind's word, or a field `__schema` or `__type` of introspection, told by
-/// its name at its first token.
+/// An operation other than a query, reported by its keyword, or an introspection field `__schema` or `__type`, reported by its
+/// name at its first token.
 pub fn not_served<'d>(parts: &Parts<'d>) -> Option<Broken<'d>>
     ensures { option_map broken_of result ≡ earliest (not_served (parts_in parts.now)) }
 {

@@ -16,7 +16,7 @@ use std::collections::HashMap;
 /// The number of each name: the place of its first use.
 pub type Numbers<'d> = HashMap<&'d str, usize>;
 
-// Notes the place of a use, unless one of its name stands earlier.
+// Notes the place of a use, unless its name was noted before.
 fn note_use<'d>(names: &mut Numbers<'d>, name: &'d str, place: usize) -> Result<(), AllocError>
     ensures { (q : List ℕ) → OnOk result (get_by (λ k. bytes_eq q k.now) names.new ≡ or_else (get_by (λ k. bytes_eq q k.now) names.old) (if bytes_eq q name.now then Some place else None)) }
 {
@@ -34,7 +34,7 @@ fn first_uses<'d>(alloc: Global, uses: &[VariableUse<'d>]) -> Result<Numbers<'d>
     Ok(names)
 }
 
-// Of each use the number of its name.
+// The number of each use's name.
 fn numbers_of(
     alloc: Global,
     names: &Numbers,
@@ -116,11 +116,12 @@ fn stand_in(
     Ok(place)
 }
 
-/// The uses of variables, by what they stand in and by their names. A use goes by its place in the document's list.
+/// The uses of variables, by their operation or fragment and by their names. A use is known by its place in the document's
+/// list.
 #[derive(Drop)]
 pub struct UseTable<'d> {
     pub names: Numbers<'d>,
-    /// Of each use the number of its name.
+    /// The number of each use's name.
     pub numbers: Vec<usize>,
     /// Of each use the one that stands in the rows for it: one of its name, in the same operation or fragment.
     pub stand_ins: Vec<usize>,

@@ -39,7 +39,8 @@ pub fn variable_uniqueness<'d>(
     Ok(earliest.found)
 }
 
-// The uses that stand for those which an operation reaches without defining their variables.
+// Marks the uses that an operation reaches without defining their variables: for each name in an operation or fragment the one
+// use that stands for the others.
 fn lacking_uses(
     alloc: Global,
     operations: &[Operation],
@@ -99,7 +100,7 @@ pub fn all_variable_uses_defined<'d>(
     Ok(earliest.found)
 }
 
-// Tells of the variables of an operation whose names' sets don't have its number in the batch.
+// Reports the variables that this operation never uses.
 fn add_unused<'d>(
     operation: &'d Operation,
     names: &Numbers,
@@ -118,7 +119,7 @@ fn add_unused<'d>(
     }
 }
 
-// Tells of the variables of a batch of operations that reach no use of them.
+// Reports the variables that the operations of a batch never use.
 fn add_unused_of_batch<'d>(
     alloc: Global,
     operations: &'d [Operation],

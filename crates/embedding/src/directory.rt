@@ -21,7 +21,7 @@ const PRIVATE: &str = "0";
 /// The id at which the directory breaks down, with all that is asked together with it.
 const BROKEN: &str = "down";
 
-/// The directory. It gives an item for each key, or breaks down.
+/// The directory. It returns an item for each key, or fails as a whole.
 #[derive(Clone, Copy)]
 pub struct Directory;
 

@@ -15,7 +15,7 @@ use std::alloc::Global;
 const SCHEMA: &str = "type Query { person(id: ID!): Person people(ids: [ID!]!): [Person]! }
 type Person { id: ID! name: String! manager: Person }";
 
-/// The table of a loader's line is a name that the server gives a meaning to: here each is the directory.
+/// The table in a loader's line is just a name, and the server decides what it means: here it is the directory.
 const BINDINGS: &str = "bindings 1
 loader personById directory by id
 field Query.person one personById arg id
@@ -48,7 +48,7 @@ impl Server {
         Ok(Server { schema, bindings })
     }
 
-    /// A session for one client, which knows nothing: a loader for each loader's line, in their order.
+    /// A new session for one client: a loader for each loader's line, in their order.
     pub fn session(&self, alloc: Global) -> anyhow::Result<Session<Directory>> {
         let mut loaders = Vec::new(alloc);
         for line in self.bindings.loaders() {

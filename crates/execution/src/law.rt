@@ -15,8 +15,8 @@ ghost use Rattle.load_memory.specs.Pairs.{PairOf, look};
 ghost use Rattle.execution.specs.Residual.{rest, Fits, unanswered};
 ghost use Rattle.execution.specs.Executed.{exec, nulls};
 
-/// *Completion* (sections 6.4.3 and 6.4.4 of the GraphQL specification of October 2021): what `exec` computes from below
-/// is the one answer that the sentence on paths and the list of all positions allow.
+/// *Completion* (sections 6.4.3 and 6.4.4 of the GraphQL specification of October 2021): what `exec` computes bottom up is
+/// the one answer that the sentence on paths and the list of all positions allow.
 pub fn completion()
     ensures paths { (t : Tree) → (nulls t ≡ true) ↔ IsNullAt t }
     ensures answer { (p : Program) (R : Reader) (answered : AnsweredOf) → (exec p R ≡ Some answered) ↔ IsCompletion (tree p R) answered }
@@ -31,9 +31,9 @@ pub fn monotone_execution()
     ensures grows { (modes : List KeyMode) (p : Program) (M N : Memory) (load : Load) → Extends M N → IsOneOf load (needs p (read modes M)) → IsOneOf load (needs p (read modes N)) }
 {}
 
-/// A suspended program fits a reader where it has done only what the reader answers. A program fits every reader at
-/// first. What fits goes on fitting as more is answered; it is executed as its program is, and waits for the same loads;
-/// what is left of it fits; and what is left of a program holds its tree as done.
+/// A suspended program fits a reader if it has done only what the reader answers; a fresh program fits every reader. A
+/// suspended program that fits still fits when more is answered, has the same execution as its program, and waits for the
+/// same loads. What is left of it fits, and what is left of a program has its tree as done.
 pub fn suspended_programs()
     ensures goes_on { (suspended p : Program) (R Q : Reader) → Fits suspended p R → AnswersMore R Q → Fits suspended p Q }
     ensures executed { (suspended p : Program) (R : Reader) → Fits suspended p R → exec suspended R ≡ exec p R }
@@ -42,8 +42,8 @@ pub fn suspended_programs()
     ensures holds { (p : Program) (R : Reader) → tree (rest p R) unanswered ≡ tree p R }
 {}
 
-/// Wants are the front: to add the loads that are needed and missing, as an evaluation meets them, is to add of equal
-/// cache keys the first, and wants of nothing then hold the front's keys of each loader.
+/// Wants are the front. Adding the needed and missing loads, in the order in which an evaluation meets them, adds only the
+/// first of equal cache keys; and wants that were empty then hold the front's keys for each loader.
 pub fn wants_are_the_front()
     ensures first { (wants : List WantedOf) (loads : List Load) → wanting wants (firsts (modes_wanted wants) loads) ≡ wanting wants loads }
     ensures front { (modes : List KeyMode) (loads : List Load) (loader : ℕ) → loader < length modes
@@ -71,8 +71,8 @@ pub fn rounds_within_the_chain()
         → length rounds ≤ chain p (read (modes_of rules) end) }
 {}
 
-/// *No sparing run is shorter*: whatever the sources answer, asking in each step any part of what is needed and missing
-/// takes no fewer steps than a lawful log has rounds; and some such run takes as many, since the log is one itself.
+/// *No sparing run is shorter*: whatever the sources answer, a run that asks in each step for any part of what is needed and
+/// missing has no fewer steps than a lawful log has rounds. Some such run has as many, since the log is one itself.
 pub fn no_sparing_run_is_shorter()
     ensures attained { (rules : List RuleOf) (p : Program) (M : Memory) (rounds : List (List ReplyOf)) (end : Memory)
         → AreLimited rules → IsLawful any_answer rules p M rounds end
@@ -82,9 +82,9 @@ pub fn no_sparing_run_is_shorter()
         → IsSparing (modes_of rules) p end M steps → length rounds ≤ length steps }
 {}
 
-/// *Shared rounds are few*: of several programs that share rounds, as the parts of one program, each is executed over the
-/// last memory, and its own rounds are those in which something that it needs was missing: at most its own load chain, and
-/// no more than any sparing run of it alone has steps. One of them has as many rounds as there are.
+/// *Shared rounds are few*: if several programs share rounds, as the parts of one program, each is executed over the last
+/// memory. Its own rounds are those in which something that it needs was missing: at most its own load chain, and no more
+/// than the steps of any sparing run of it alone. For one of them all rounds are its own.
 pub fn shared_rounds_are_few()
     ensures executed { (rules : List RuleOf) (kind : Kind) (programs : Programs) (p : Program) (end : Memory)
         → IsBelow p programs → front (modes_of rules) (Under kind programs) end ≡ [] → front (modes_of rules) p end ≡ [] }
@@ -99,9 +99,9 @@ pub fn shared_rounds_are_few()
         → (p : Program) × IsBelow p programs × (own_rounds rules p M rounds ≡ length rounds) }
 {}
 
-/// *One lawful log*: over sources that answer key by key there is at most one lawful log from a memory, and one memory at
-/// its end. Where the sources answer keys alike that their loaders hold to be one, and what the memory has at first is
-/// what they would answer, as an empty one has, execution over the last memory is direct execution.
+/// *One lawful log*: over sources that answer key by key there is at most one lawful log from a memory, and one memory at its
+/// end. If the sources answer equal cache keys alike, and the memory has at first what they would answer, as an empty one
+/// has, execution over the last memory is direct execution.
 pub fn one_lawful_log()
     ensures rounds { (item : ℕ → KeyOf → ItemOf) (rules : List RuleOf) (p : Program) (M : Memory) (rounds others : List (List ReplyOf)) (end last : Memory)
         → IsLawful (key_by_key item) rules p M rounds end → IsLawful (key_by_key item) rules p M others last → rounds ≡ others }
@@ -113,7 +113,7 @@ pub fn one_lawful_log()
         → exec p (read (modes_of rules) end) ≡ exec p (direct item) }
 {}
 
-/// Within one log no cache key is asked twice of one loader, whatever the sources answer, and each pair of the last memory
+/// Within one log no loader is asked twice for one cache key, whatever the sources answer, and each pair of the last memory
 /// was there at first or is in a reply of the log.
 pub fn asked_once_and_answered()
     ensures once { (rules : List RuleOf) (p : Program) (M : Memory) (rounds : List (List ReplyOf)) (end : Memory)
@@ -125,10 +125,10 @@ pub fn asked_once_and_answered()
         → AreRounds any_answer rules p M rounds end → Extends M end }
 {}
 
-/// *No key twice*, over whatever steps of a session. The rounds of an answer, and that of a list of keys, ask some loads
-/// that the memory lacks, of equal cache keys the first. No round asks two equal cache keys of one loader. Between two rounds
-/// that ask one, it was cleared, or the earlier batch that asked it failed as a whole. What was primed, lost or answered in
-/// between makes no difference.
+/// *No key twice*, over any steps of a session. The rounds of an answer, and that of a list of keys, ask for loads that the
+/// memory lacks, of equal cache keys only the first. No round asks a loader for two equal cache keys. Between two rounds that
+/// ask for one, it was cleared, or the earlier batch that asked for it failed as a whole. What was primed, lost or answered
+/// in between makes no difference.
 pub fn no_key_twice()
     ensures front { (modes : List KeyMode) (p : Program) (M : Memory) → AreMissing modes M (front modes p M) }
     ensures keys { (modes : List KeyMode) (loader : ℕ) (keys : List KeyOf) (M : Memory) → AreMissing modes M (front_of_keys modes loader keys M) }

@@ -28,7 +28,8 @@ pub struct Compared<'a, 'd> {
     ghost there: { length fragments.now ≡ length (document_of grounds.parts.now.document.now).fragments },
 }
 
-// Adds the sets of operations in which two fields fail; the first field has the number 0. Answers the number after all fields.
+// Adds the sets of operations in which two fields conflict. The first field has the number 0. Returns the number after the
+// last field.
 fn add_operations<'d>(
     walk: &Walk,
     operations: &'d [Operation],
@@ -48,7 +49,7 @@ fn add_operations<'d>(
     Ok(next)
 }
 
-// Adds the sets of fragments in which two fields fail; the first field has the number `first`.
+// Adds the sets of fragments in which two fields conflict. The first field has the number `first`.
 fn add_fragments<'d>(
     walk: &Walk,
     fragments: &'d [Fragment],

@@ -1,9 +1,9 @@
 //! Field Selection Merging (section 5.3.2 of the GraphQL specification of October 2021) over the parts of a document.
 //!
-//! The layer above may rely on this: the rule is defined over documents (`specs/Rule.antt`), and tells one set at most
-//! ([`one_set_is_told`]); [`field_merging`] tells it. Fields are put into the table of pairs under numbers, where equal numbers
-//! stand for what is the same, and so that what a field's set has comes before the field. What a table of these fields tells of the
-//! document is proved (`proofs/Joining.antt`).
+//! The layer above may rely on this: the rule is defined over documents (`specs/Rule.antt`), and reports at most one set
+//! ([`one_set_is_told`]), which [`field_merging`] returns. Fields go into the table of pairs as numbers: equal numbers stand
+//! for equal things, and the fields of a field's own set come before the field. What the table says of the document is proved
+//! (`proofs/Joining.antt`).
 #![tactic(auto)]
 
 mod agreeing;

@@ -32,7 +32,7 @@ use selection_members::{
 use spread_graph::Graph;
 use std::alloc::{AllocError, Global};
 
-// The first member of a set whose response key has a clash, by its number in the document.
+// The first member of a set whose response key has a conflict, by its number in the document.
 fn first_clashing<'d>(compared: &Compared<'_, 'd>, set: ClashingSet<'d>) -> Option<usize>
     requires compared { AreCompared (parts_in compared.now.grounds.parts.now) compared.now.grounds.numbers.now compared.now.grounds.order.now compared.now.fields.now compared.now.rows.now compared.now.fragments.now }
     requires under { (c : ℕ) → is_in (clashing_of (members_of_fragment (document_of compared.now.grounds.parts.now.document.now)) set).members c ≡ true → c < length (parts_in compared.now.grounds.parts.now).fields }
@@ -58,7 +58,7 @@ fn first_clashing<'d>(compared: &Compared<'_, 'd>, set: ClashingSet<'d>) -> Opti
     first_member(&source, compared.fragments, &keys, set)
 }
 
-// What is told of a set in which two fields fail.
+// The fault to report for a set in which two fields conflict.
 fn told<'d>(compared: &Compared<'_, 'd>, set: ClashingSet<'d>) -> Option<Broken<'d>>
     requires compared { AreCompared (parts_in compared.now.grounds.parts.now) compared.now.grounds.numbers.now compared.now.grounds.order.now compared.now.fields.now compared.now.rows.now compared.now.fragments.now }
     requires under { (c : ℕ) → is_in (clashing_of (members_of_fragment (document_of compared.now.grounds.parts.now.document.now)) set).members c ≡ true → c < length (parts_in compared.now.grounds.parts.now).fields }
@@ -70,7 +70,7 @@ fn told<'d>(compared: &Compared<'_, 'd>, set: ClashingSet<'d>) -> Option<Broken<
     Some(Broken::named(response_key(field), set.set.place))
 }
 
-// The one of two sets that stands first, which is the first where both stand at one place.
+// The earlier one of two sets; the first one if both have the same place.
 fn earlier<'d>(kept: ClashingSet<'d>, other: ClashingSet<'d>) -> ClashingSet<'d>
     ensures inside { (many : ℕ) → IsInside many kept.entry → IsInside many other.entry → IsInside many result }
     ensures set { (spread : List ℕ → List ℕ) → clashing_of spread result ≡ earlier_set (clashing_of spread kept.entry) (clashing_of spread other.entry) }
@@ -97,7 +97,7 @@ fn earliest_set<'d>(sets: &[ClashingSet<'d>]) -> Option<ClashingSet<'d>>
     earliest
 }
 
-// The set with the earliest `{` that can't be merged. What it is told by is looked for in that set alone.
+// Finds the set with the earliest `{` that can't merge. Only in that set does it look for the response key to report.
 fn first_told<'d>(
     alloc: Global,
     compared: &Compared<'_, 'd>,

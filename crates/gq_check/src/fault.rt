@@ -109,7 +109,7 @@ impl Rule {
 /// Why a document is not valid. It is displayed as the message that a client reads, without the place.
 #[derive(Debug, Drop)]
 pub enum CheckFault {
-    /// A rule of validation is broken here, by what has this name.
+    /// What has this name and place breaks a rule of validation.
     Rule {
         rule: Rule,
         name: String,
@@ -125,7 +125,7 @@ pub enum CheckFault {
         name: String,
         place: Place,
     },
-    /// A growth was refused.
+    /// Out of memory.
     NoMemory,
 }
 
@@ -174,14 +174,14 @@ impl Error for CheckFault {}
 pub enum PrepareFault {
     /// No operation of the document has this name.
     NoSuchOperation(String),
-    /// No name is given, and the document has another number of operations than one.
+    /// The request names no operation, and the document doesn't have exactly one.
     OperationNeeded,
-    /// What the request gives for its variables is neither an object nor null.
+    /// The `variables` of the request are neither an object nor null.
     VariablesNotObject,
-    /// The variable of this name: the first, in the order of the definitions, whose value is not of its type, or that has
-    /// none and may not be null.
+    /// The variable of this name has a value that isn't of its type, or has none and may not be null. It is the first
+    /// such one, in the order of the definitions.
     BadVariable(String),
-    /// A growth was refused.
+    /// Out of memory.
     NoMemory,
 }
 

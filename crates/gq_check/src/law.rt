@@ -9,7 +9,7 @@ ghost use Rattle.gq_check.specs.Verdict.{FaultOf, IsVerdict, IsValid};
 
 use field_merging::one_set_is_told;
 
-/// A document has at most one verdict over a schema. So [`check`](crate::check) tells a fault only where the document is not
+/// A document has at most one verdict over a schema. So [`check`](crate::check) returns a fault only if the document isn't
 /// valid.
 pub fn one_verdict()
     ensures { (defs : List schema.Definition) (d : trees.Document) (v w : Option FaultOf) → IsVerdict defs d v → IsVerdict defs d w → v ≡ w }
@@ -17,8 +17,8 @@ pub fn one_verdict()
     one_set_is_told();
 }
 
-/// A document is valid exactly where it keeps every rule. So [`check`](crate::check) accepts a document only where nothing of it
-/// breaks a rule, and tells a fault only where something does.
+/// A document is valid exactly if it keeps every rule. So [`check`](crate::check) accepts a document only if nothing in it
+/// breaks a rule, and returns a fault only if something does.
 pub fn valid_documents()
     ensures { (defs : List schema.Definition) (d : trees.Document) → IsValid defs d ↔ KeepsRules (parts_of defs d) }
 {}

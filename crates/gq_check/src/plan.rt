@@ -121,7 +121,7 @@ impl<'a> Plan<'a> {
         self.fragments.get().get(name)
     }
 
-    /// The value of the variable of this name, which is without the `$`; nothing where it has none. It takes constant time.
+    /// The value of the variable of this name, without the `$`. `None` if it has no value. It takes constant time.
     pub fn variable(&self, name: &str) -> Option<&Input>
         ensures { option_map input_of (option_copied result) ≡ value_in (plan_of self.now).variables name.now }
     {

@@ -59,16 +59,16 @@ fn with_values<'a>(
     Ok(Plan::of(schema, bindings, operation, fragments, variables))
 }
 
-/// The plan of an operation of a checked document: the one of this name, or the only one, with the values that are given for
-/// its variables. Null gives no values. The empty name is a name.
+/// Prepares an operation of a checked document: the one named `operation_name`, or the only one. `variables` holds the
+/// values of its variables; null means none. The empty string is a name.
 ///
 /// # Errors
 ///
 /// The first of these: [`NoSuchOperation`](PrepareFault::NoSuchOperation),
 /// [`OperationNeeded`](PrepareFault::OperationNeeded), [`VariablesNotObject`](PrepareFault::VariablesNotObject),
 /// [`BadVariable`](PrepareFault::BadVariable) for the first in the order of the definitions.
-/// [`NoMemory`](PrepareFault::NoMemory) comes where a growth is refused, before any fault that would have been found later.
-/// The document is not given back.
+/// [`NoMemory`](PrepareFault::NoMemory) comes as soon as memory runs out, before any fault that would have been found
+/// later. The document is dropped then.
 pub fn prepare<'a>(
     alloc: Global,
     schema: &'a Schema,

@@ -1,4 +1,4 @@
-//! What is told of a document.
+//! The fault of a document, before its names are copied.
 
 ghost use Rattle.std.specs.Prelude.{◌≡◌, Some, IfOk, string_bytes};
 ghost use Rattle.document_parts.specs.Broken.{name_of};

@@ -35,7 +35,7 @@ fn validate(alloc: Global, schema: &Schema, document: &Document) -> Result<(), C
 /// The first of these: [`NotServed`](CheckFault::NotServed); [`Rule`](CheckFault::Rule) for the rule with the lowest section
 /// number at its earliest place, but Field Selection Merging; [`TooDeep`](CheckFault::TooDeep) for the earliest such operation;
 /// [`TooComplex`](CheckFault::TooComplex); [`Rule`](CheckFault::Rule) for Field Selection Merging.
-/// [`NoMemory`](CheckFault::NoMemory) comes where a growth is refused. The document is not given back.
+/// [`NoMemory`](CheckFault::NoMemory) comes when out of memory. The document is dropped in each of these cases.
 pub fn check(alloc: Global, schema: &Schema, document: Document) -> Result<Checked<'_>, CheckFault>
     ensures schema { IfOk result (λ checked. checked.definitions ≡ schema.now) }
     ensures document { IfOk result (λ checked. checked.document ≡ document) }

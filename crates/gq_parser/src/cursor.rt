@@ -65,7 +65,7 @@ impl<'a> Parser<'a> {
         Fault::Unexpected(self.rest.first().map(|token| token.place()))
     }
 
-    /// The next token, which there has to be.
+    /// Takes the next token; a fault if there is none.
     pub(crate) fn next(&mut self) -> Result<(Place, Lexeme<'a>), Fault>
         ensures { MatchResult result (λ t. self.old ≡ at t.0 (says t.1) ∷ self.new) (λ f. IsMissing f self.old) }
     {

@@ -10,29 +10,29 @@ use thiserror::Error;
 
 /// Why a text has no tree. It is displayed as the message that a client reads, without the place.
 ///
-/// A fault of the text's tokens comes first, wherever it stands. Of the others the first from the left is told; where
-/// one token is both unexpected and too deep, it is unexpected.
+/// A lexical fault comes first, wherever it is. Of the others the leftmost is returned; a token that is both
+/// unexpected and too deep is unexpected.
 #[derive(Debug, Drop, Error)]
 pub enum ParseFault {
-    /// The text is no list of tokens. It is never [`LexFault::NoMemory`].
+    /// The text has a lexical fault. It is never [`LexFault::NoMemory`].
     #[error("{0}")]
     Lex(LexFault),
-    /// No document begins with the tokens up to the one that stands here.
+    /// No document begins with the tokens up to and including the one here.
     #[error("unexpected token")]
     Unexpected(Place),
-    /// The text ends here, and a document does not.
+    /// The text ends here, within a document.
     #[error("unexpected end")]
     UnexpectedEnd(Place),
     /// The bracket here, `{`, `(` or `[`, is opened while 128 brackets are open.
     #[error("too deep")]
     TooDeep(Place),
-    /// Memory was refused.
+    /// Out of memory.
     #[error("out of memory")]
     NoMemory,
 }
 
 impl ParseFault {
-    /// The place of the fault. A text that is too long, or for which memory was refused, has none.
+    /// The place of the fault. A text that is too long, or for which memory ran out, has none.
     pub fn place(&self) -> Option<Place>
         ensures { result ≡ place_of_parse_fault self.now }
     {

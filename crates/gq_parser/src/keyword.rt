@@ -3,7 +3,8 @@
 ghost use Rattle.std.specs.Prelude.{◌≡◌};
 ghost use Rattle.gq_parser.specs.Keywords.{keyword_of};
 
-/// What a name is where a word is wanted. Elsewhere each of them is a plain name.
+/// The keyword that a name is, where the grammar expects one. Elsewhere each of these is a plain
+/// name.
 #[derive(Clone, Copy, Debug, PartialEq, Eq)]
 pub enum Keyword {
     Query,

@@ -61,14 +61,13 @@ fn parse_fault_of(fault: Fault, text: &str) -> ParseFault
     }
 }
 
-/// The document that a text is (October 2021, section 2).
+/// Parses a document (October 2021, section 2).
 ///
 /// # Errors
 ///
-/// A text that is no list of tokens, or longer than [`MAX_BYTES`], is refused first, whatever its tokens would say.
-/// Then the first token is refused with which no document begins, or the end of the text where a document may not end,
-/// or the first bracket that is opened while 128 are open. [`ParseFault::NoMemory`] comes where the tree could not grow,
-/// before any fault further on.
+/// A text longer than [`MAX_BYTES`] is refused first, and then a lexical fault, wherever it is. Otherwise the leftmost
+/// of these is returned: a token that can't come next; the end of the text within a document; a bracket that is opened
+/// while 128 are open. [`ParseFault::NoMemory`] comes as soon as memory runs out, before any fault further on.
 pub fn parse(alloc: Global, text: &str) -> Result<Document, ParseFault>
     // What is found is what the grammar says, and no bracket in it is opened while 128 are open.
     ensures found { IfOk result (λ d. IsDocumentOf text.now (document_of d)) }

@@ -13,7 +13,7 @@ use std::alloc::Global;
 ///
 /// # Errors
 ///
-/// Only where a growth was refused.
+/// Only when out of memory.
 pub fn answer_text(alloc: Global, answered: &Answered) -> Result<String, NoMemory>
     ensures { IfOk result (λ text. string_bytes text ≡ answer_text (answered_of answered.now)) }
 {

@@ -99,7 +99,7 @@ fn want_all(loads: &[Load<'_>], loaders: usize, wants: &mut Wants) -> Result<(),
 ///
 /// # Errors
 ///
-/// Only where a growth was refused. The wants hold what they held, and the first of what was to be added.
+/// Only when out of memory. The wants then hold what they held, and the first of the loads to add.
 pub fn evaluate(
     alloc: Global,
     plan: &Plan<'_>,

@@ -71,13 +71,13 @@ fn want_missing(
 
 /// Executes a plan over a memory to the text of its answer, from scratch (sections 6.2.1 and 7.1).
 ///
-/// Where the memory has all that the plan needs, the text is ready and the wants are as they were. Else the plan waits,
-/// and what it needs and the memory lacks is added to the wants, depth first. An answer without errors is written straight
-/// from the rows; one with errors is evaluated.
+/// If the memory has all that the plan needs, the text is ready and the wants are as they were. Otherwise the plan waits,
+/// and the loads that it needs and the memory lacks are added to the wants, depth first. An answer without errors is
+/// written straight from the rows; one with errors is evaluated.
 ///
 /// # Errors
 ///
-/// Only where a growth was refused. The wants hold what they held, and the first of what was to be added.
+/// Only when out of memory. The wants then hold what they held, and the first of the loads to add.
 pub fn execute_text(
     alloc: Global,
     plan: &Plan<'_>,

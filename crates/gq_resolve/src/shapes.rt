@@ -107,8 +107,7 @@ fn groups_in(shape: &Shape<'_>) -> usize {
     groups
 }
 
-/// Lets go of what was met below a group, where more groups are kept than there should be: below them it is prepared again
-/// when it is needed.
+/// Drops what was prepared below a group if too many groups are kept. It is prepared again when it is needed.
 pub fn let_go(walk: &Walk<'_, '_, '_>, met: &mut Vec<Shape<'_>>)
     ensures { (asked : ValueFrom) → KeepsAsked (plan_of walk.now.plan.now) asked met.old.items met.new.items }
 {

@@ -38,7 +38,8 @@ pub struct Missing {
     pub key: Key,
 }
 
-/// What a walk over a plan puts. It is written only while nothing is missing and no error was met.
+/// What a walk over a plan has written and which loads it misses. It writes only while nothing is missing and no
+/// error was met.
 #[derive(Drop)]
 pub struct Output {
     pub writer: Writer,
@@ -72,7 +73,8 @@ impl Output {
         self.is_plain && self.missing.is_empty()
     }
 
-    /// What the memory says of a key of a loader; nothing where there is no such loader. Nothing is put.
+    /// Looks up a key of a loader in the memory; `None` if it isn't known or there is no such loader. It writes
+    /// nothing.
     pub fn told<'m>(
         &mut self,
         alloc: Global,
@@ -86,7 +88,7 @@ impl Output {
         told_by(alloc, memory, &mut self.probe, loader, key)
     }
 
-    /// Notes a load that isn't answered, where it wasn't noted before.
+    /// Notes a missing load, unless it was noted before.
     pub fn lack(&mut self, loader: usize, key: Key) -> Result<(), NoMemory>
         ensures { OnOk result (Puts (lacking (record { loader = loader; key = key_of key })) self.old self.new) }
     {
@@ -202,7 +204,8 @@ impl Output {
         }
     }
 
-    /// Puts the cell of a column at a type, straight from the row. Nothing is read of it once nothing is written.
+    /// Writes the cell of a column at a type, straight from the row. It doesn't read the cell if nothing is being
+    /// written any more.
     pub fn put_cell(
         &mut self,
         schema: &Schema,

@@ -54,7 +54,7 @@ fn accepts_named(schema: &Schema, name: &str, strict: bool, literal: &Literal) -
     }
 }
 
-/// Whether a literal is right at a type, whatever its variables are: each is passed over (section 5.6.1).
+/// Whether a literal may stand where this type is expected (section 5.6.1). Variables in it are skipped.
 ///
 /// An `Int` takes an Int within signed 32 bits, an `ID` a string or an Int, a `String` a string, a `Boolean` `true` or
 /// `false`, an enum a name among its values. A list takes a list item by item, and another value as a list of one. `null` is
@@ -158,7 +158,7 @@ fn list_of_one(alloc: Global, item: Option<Input>) -> Result<Option<Input>, Allo
     }
 }
 
-/// The value that a literal gives at a type; nothing where it isn't right, or holds a variable (section 3, Input Coercion).
+/// Coerces a literal to a type (section 3, Input Coercion). Returns `None` if it isn't of that type, or holds a variable.
 ///
 /// It is right where `accepts` says so: an ID and an enum's value become a `Text`, an ID the text of an Int as it is written,
 /// and a value at a list type that is no list a list of one.

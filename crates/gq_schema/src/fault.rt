@@ -36,7 +36,7 @@ pub enum SchemaFault {
     BadBinding(u64),
     #[error("S9 NoMemory")]
     NoMemory,
-    /// A type's name, where a type of another kind has to stand.
+    /// The name of a type of the wrong kind.
     #[error("S10 BadKind")]
     BadKind(Place),
     /// A default that is not of its argument's type.

@@ -26,10 +26,10 @@ impl From<SyntaxFault> for SchemaFault {
 impl Schema {
     /// Reads a schema text (section 3, in the part that is served).
     ///
-    /// The fault that is told is [`SchemaFault::Syntax`] or [`SchemaFault::NotServed`], whichever comes first in the text,
-    /// else the first of these that the text has, at its earliest place: [`SchemaFault::ReservedName`],
+    /// The fault is [`SchemaFault::Syntax`] or [`SchemaFault::NotServed`], whichever comes first in the text; else the
+    /// first of these that the text has, at its earliest place: [`SchemaFault::ReservedName`],
     /// [`SchemaFault::Duplicate`], [`SchemaFault::UnknownType`], [`SchemaFault::BadKind`], [`SchemaFault::BadImplements`],
-    /// [`SchemaFault::BadDefault`], [`SchemaFault::NoQueryRoot`]. [`SchemaFault::NoMemory`] comes where memory is refused,
+    /// [`SchemaFault::BadDefault`], [`SchemaFault::NoQueryRoot`]. [`SchemaFault::NoMemory`] comes when out of memory,
     /// before any fault that would have been found later.
     pub fn read(alloc: Global, text: &str) -> Result<Schema, SchemaFault>
         // What is read is a schema, with the definitions that the text says.

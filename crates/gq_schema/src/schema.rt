@@ -46,7 +46,7 @@ impl Model for Schema {
 }
 
 impl Schema {
-    /// The schema of these definitions, whatever they are.
+    /// The schema of these definitions, which may break rules.
     pub(crate) fn of(alloc: Global, document: SchemaDocument) -> Result<Schema, AllocError>
         ensures { IfOk result (λ schema. schema ≡ document.definitions.items) }
     {
@@ -101,7 +101,7 @@ impl Schema {
         self.definition(name).is_some()
     }
 
-    /// What a type is; nothing where there is no type of this name.
+    /// The kind of a type; `None` if there is no type of this name.
     pub fn kind_of(&self, name: &str) -> Option<TypeKind>
         ensures { result ≡ kind_in (tree_of self.now) name.now }
     {
@@ -163,8 +163,9 @@ impl Schema {
         }
     }
 
-    /// Whether a type may stand for another (section 3.6): equal types; an object type for an interface that it implements
-    /// or a union that has it; a list for a list, where its items may; a non-null type for one that may be null.
+    /// Whether a type is covariant with another (section 3.6): equal types; an object type with an interface that it
+    /// implements or a union that has it; a list with a list, if their items are; a non-null type with one that may be
+    /// null.
     pub fn is_covariant(&self, own: &TypeRef, wanted: &TypeRef) -> bool
         ensures { result ≡ is_covariant (tree_of self.now) (type_of own.now) (type_of wanted.now) }
     {

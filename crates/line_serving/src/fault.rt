@@ -8,7 +8,7 @@ use std::error::Error as StdError;
 use std::fmt;
 use thiserror::Error;
 
-/// A growth was refused.
+/// Out of memory.
 #[derive(Clone, Copy, Debug, PartialEq, Eq, Error)]
 #[error("out of memory")]
 pub struct NoMemory;
@@ -28,7 +28,7 @@ pub enum ServeFault {
     ReadFault,
     /// The writer failed, took no byte or met a bound.
     WriteFault,
-    /// A growth was refused.
+    /// Out of memory.
     NoMemory,
     /// The number of workers is not 1 to 16.
     BadCount,

@@ -58,7 +58,7 @@ fn finish_line<F: Fn(&[u8]) -> Result<String, NoMemory>, W: Write>(
     }
 }
 
-/// Answers each line that ends in the block, says how many there were, and holds what is left.
+/// Answers each line that ends in the block, keeps the rest in `held`, and returns how many lines there were.
 pub fn feed<F: Fn(&[u8]) -> Result<String, NoMemory>, W: Write>(
     answer: &F,
     writer: &mut Counted<W>,

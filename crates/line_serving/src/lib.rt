@@ -1,8 +1,8 @@
 //! Answers the lines of a reader by lines to a writer.
 //!
-//! The layer above hands over what answers a line, and may rely on this: [`serve`] writes an answer of each line in order, or
-//! after a fault no more and no less than it says, and both devices have counted their faults. What a line asks is none of
-//! this crate's matter.
+//! The layer above passes a closure that answers a line, and may rely on this: [`serve`] writes an answer to each line in
+//! order, or after a fault exactly what it says, and both devices have counted their faults. This crate doesn't know what a
+//! line means.
 #![tactic(auto)]
 
 mod device;

@@ -11,7 +11,7 @@ use crate::device::{Counted, DeviceFault};
 use crate::fault::{NoMemory, ServeFault};
 use std::io::Write;
 
-/// From how many pending bytes on they are written before more are added. A text of so many is written without being added.
+/// Once this many bytes are pending, they are written before more are added. A text of this length is written directly.
 const PENDING: usize = 65_536;
 
 /// Writes what is pending.

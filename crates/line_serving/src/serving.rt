@@ -23,8 +23,8 @@ fn new_block(alloc: Global) -> Result<Vec<u8>, NoMemory>
     Ok(vec![in alloc; 0u8; BLOCK]?)
 }
 
-// Reads to the end, and answers each line. What is pending may not be written yet, but it is before each further read, so
-// that who asks by a pipe sees an answer before the next question.
+// Reads to the end, and answers each line. Pending answers are written before each further read, so that a client at a pipe
+// sees an answer before it asks again; at the end some may still be pending.
 fn serve_lines<F: Fn(&[u8]) -> Result<String, NoMemory>, R: Read, W: Write>(
     alloc: Global,
     answer: &F,
@@ -111,9 +111,9 @@ fn serve_blocks<F: Fn(&[u8]) -> Result<String, NoMemory>, R: Read, W: Write>(
 }
 
 /// Answers each line of the reader by a line to the writer, and says how many there were. `answer` gives the answer of a line,
-/// both without a line feed, and fails only where a growth was refused. A line ends at a line feed or at the end of the input;
+/// both without a line feed, and fails only when out of memory. A line ends at a line feed or at the end of the input;
 /// a last line feed begins no further line. The writer is flushed once, at the end, after a fault of the reader, a line that
-/// is too long and want of memory too.
+/// is too long, and when out of memory.
 ///
 /// # Errors
 ///

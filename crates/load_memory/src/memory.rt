@@ -42,7 +42,7 @@ impl Model for Memory {
 }
 
 impl Memory {
-    /// A memory that knows nothing. Its loaders are numbered from 0 in the order of their modes.
+    /// An empty memory. Its loaders are numbered from 0 in the order of their modes.
     pub fn new(alloc: Global, modes: Vec<KeyMode>) -> Result<Memory, NoMemory>
         ensures { IfOk result (λ m. m ≡ record { modes = modes.items; pairs = [] }) }
     {
@@ -97,8 +97,8 @@ impl Memory {
         self.len() == 0
     }
 
-    /// Adds what is known of a loader's key. Gives true where the key was absent. Where it was
-    /// there, its outcome stays and nothing changes.
+    /// Adds an item for a loader's key. Returns true if the key was absent. If it was there, its outcome stays
+    /// and nothing changes.
     pub fn prime(&mut self, loader: usize, key: CacheKey, item: Item) -> Result<bool, NoMemory>
         requires { loader < length self.old.modes }
         ensures told { IfOk result (λ added. added ≡ is_none (look self.old.pairs loader (cache_of key))) }
@@ -116,7 +116,7 @@ impl Memory {
         Ok(true)
     }
 
-    /// Forgets what is known of a loader's key. Gives true where it was known.
+    /// Forgets a loader's key. Returns true if it was known.
     pub fn clear(&mut self, loader: usize, key: &CacheKey) -> bool
         requires { loader < length self.old.modes }
         ensures told { result ≡ is_some (look self.old.pairs loader (cache_of key.now)) }
@@ -140,8 +140,8 @@ impl Memory {
         self.parts[loader].clear();
     }
 
-    /// Forgets the keys whose batch failed as a whole. Where no batch did since the last time, it looks
-    /// at no pair.
+    /// Forgets the keys whose batch failed as a whole. If no batch failed since the last call, it looks at no
+    /// pair.
     pub fn drop_failed(&mut self)
         ensures pairs { IsUnfailed self.old.pairs self.new.pairs }
         ensures modes { self.new.modes ≡ self.old.modes }
@@ -164,8 +164,8 @@ impl Memory {
         self.count -= drop_failed_of(&mut self.parts[loader]);
     }
 
-    /// Adds the pairs of replies, one after another, whose keys are absent, of equal keys the first.
-    /// After a refused growth every key is known or not as before.
+    /// Adds those pairs of replies whose keys are absent, one reply after another; of equal keys the first
+    /// counts. When out of memory, no pair is added.
     pub fn keep(&mut self, replies: &[Reply]) -> Result<(), NoMemory>
         requires { All (λ (r : Reply). r.loader < length self.old.modes) replies.now }
         ensures pairs { OnOk result (IsWith self.old.pairs
@@ -180,8 +180,8 @@ impl Memory {
         self.store(pairs)
     }
 
-    /// Adds the pairs of replies that are handed over, as [`keep`](Memory::keep) does. It copies no key and no
-    /// outcome, and drops the replies, also after a refused growth.
+    /// As [`keep`](Memory::keep), but takes the replies by value. It copies no key and no outcome. The replies
+    /// are gone even when out of memory.
     pub fn keep_owned(&mut self, replies: Vec<Reply>) -> Result<(), NoMemory>
         requires { All (λ (r : Reply). r.loader < length self.old.modes) replies.items }
         ensures pairs { OnOk result (IsWith self.old.pairs

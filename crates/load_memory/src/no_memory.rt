@@ -2,8 +2,8 @@
 use std::alloc::{AllocError, AllocFailed};
 use thiserror::Error;
 
-/// A growth was refused. It is answered at that moment, before any refusal that would have been
-/// found later.
+/// Out of memory: an allocation was refused. A call returns it at that moment, before any fault
+/// that it would have found later.
 #[derive(Clone, Copy, Debug, PartialEq, Eq, Error)]
 #[error("out of memory")]
 pub struct NoMemory;

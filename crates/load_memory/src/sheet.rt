@@ -84,7 +84,7 @@ impl Cells {
 /// A sheet that is being filled.
 ///
 /// A contract sees it as its columns, its whole rows, and the fields of the row that was begun.
-/// After a want of memory it is as it was.
+/// When out of memory, it is as it was.
 #[derive(Drop)]
 pub struct SheetBuilder {
     cells: Cells,

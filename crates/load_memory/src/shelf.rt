@@ -17,7 +17,7 @@ pub struct Shelf {
     replies: boxcar::Vec<Reply>,
 }
 
-/// What shows a reply that was put on a shelf. It takes little memory: the reply stays on the shelf.
+/// Finds a reply that was put on a shelf. It takes little memory: the reply stays on the shelf.
 #[derive(Drop)]
 pub struct Receipt {
     pushed: Pushed<Reply>,
@@ -30,8 +30,8 @@ impl Shelf {
         Ok(Shelf { replies })
     }
 
-    /// Puts a reply, and gives a receipt that shows it for good. Where a growth was refused, the reply
-    /// comes back. It may wait while another thread makes room.
+    /// Puts a reply on the shelf and returns a receipt that shows it for good. When out of memory, returns the
+    /// reply. It may wait while another thread makes room.
     pub fn put(&self, rt: &impl Wait, reply: Reply) -> Result<Receipt, Reply>
         ensures shown { IfOk result (λ r. IsOn self.now r × (shown r ≡ reply_of reply)) }
         ensures back { IfErr result (λ r. reply_of r ≡ reply_of reply) }

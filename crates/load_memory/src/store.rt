@@ -93,8 +93,8 @@ pub(crate) fn counts_of(
     Ok(counts)
 }
 
-/// Makes room for so many pairs more in each part. What the parts say stays, also after a refused
-/// growth.
+/// Makes room for this many more pairs in each part. The parts keep the same pairs, even when out of
+/// memory.
 pub(crate) fn make_room(parts: &mut Vec<Part>, counts: &[usize]) -> Result<(), NoMemory>
     requires lined_up { length counts.now ≡ length parts.old.items }
     requires own_keys { HaveOwnKeys parts.old.items }

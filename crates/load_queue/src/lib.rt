@@ -1,5 +1,5 @@
-//! Sources, the loaders that ask them, the orders that alone call them, and the keys that are
-//! wanted of each loader.
+//! Sources; the loaders that ask them; orders, the batches to ask, which alone call a source; and
+//! the keys that are wanted of each loader.
 //!
 //! The layer above may rely on this: only [`Loader::cut`] makes an [`Order`], and enters it in the
 //! loader's log as it does; a loader's source is reached by [`Order::run`] alone, which spends the

@@ -13,13 +13,13 @@ use std::alloc::{AllocError, Global};
 use std::marker::Model;
 use thiserror::Error;
 
-/// Why there is no such loader.
+/// Why a loader can't be made.
 #[derive(Clone, Copy, Debug, PartialEq, Eq, Error)]
 pub enum QueueFault {
     /// The limit is 0 or over 65,535.
     #[error("bad limit")]
     BadLimit,
-    /// A growth was refused.
+    /// Out of memory.
     #[error("out of memory")]
     NoMemory,
 }
@@ -35,7 +35,7 @@ impl From<AllocError> for QueueFault {
     }
 }
 
-/// No loader may ask its source for more keys at once.
+/// The largest batch limit.
 const LARGEST_LIMIT: u32 = 65_535;
 
 /// What was asked of a loader's source in one batch.
@@ -50,8 +50,7 @@ pub struct Asked {
     pub stored: bool,
 }
 
-/// A source with its name, how its keys are compared, how many of them it is asked at most at once,
-/// and the log of what was asked.
+/// A source with its name, the way its keys are compared, its batch limit, and the log of what was asked.
 ///
 /// A contract sees these five.
 #[derive(Drop)]
@@ -128,12 +127,11 @@ impl<S> Loader<S> {
         &self.source
     }
 
-    /// Cuts keys in order into pieces of at most the limit, makes an order of each, and enters each in
-    /// the log as asked in this round and not stored. Without a limit all keys are one piece; no keys
-    /// give no order.
+    /// Cuts keys in order into batches of at most the limit, makes an order of each, and enters each in the log as
+    /// asked in this round and not stored. Without a limit all keys are one batch; no keys make no order.
     ///
-    /// `loader` is the number that the orders and their replies bear. After a refused growth the
-    /// loader, its log included, is as it was.
+    /// `loader` is the number that the orders and their replies get. When out of memory, the loader and its log are
+    /// as they were.
     pub fn cut(&mut self, loader: usize, round: u32, keys: &[Key]) -> Result<Vec<Order>, NoMemory>
         ensures orders { IfOk result (λ orders. orders.items
             ≡ orders_of loader self.old.limit (map key_of keys.now)) }
@@ -146,7 +144,7 @@ impl<S> Loader<S> {
         self.cut_owned(loader, round, own)
     }
 
-    /// Cuts keys that are handed over, as [`cut`](Loader::cut) does: they go into the orders, and the log has copies.
+    /// As [`cut`](Loader::cut), but takes the keys by value: they move into the orders, and the log has copies.
     pub fn cut_owned(
         &mut self,
         loader: usize,
@@ -173,8 +171,8 @@ impl<S> Loader<S> {
         Ok(orders)
     }
 
-    /// Marks the entries of a round as stored, and changes nothing else. For the latest round it looks at no
-    /// entry before that round's first.
+    /// Marks the log entries of a round as stored, and changes nothing else. For the latest round it skips all
+    /// earlier entries.
     pub fn mark_stored(&mut self, round: u32)
         ensures { self.new ≡ stored_in self.old round }
     {
@@ -190,8 +188,8 @@ impl<S> Loader<S> {
 impl<S: Drop> Loader<S> {
     ghost use Rattle.load_queue.specs.Loaders.{IsBadLimit};
 
-    /// A loader that has asked nothing. It asks its source for at most `max` keys at once, which is 1
-    /// to 65,535; `None` is no bound.
+    /// A new loader with an empty log. It asks its source for at most `max` keys at once, 1 to 65,535; `None` is no
+    /// limit.
     pub fn new(
         alloc: Global,
         name: &str,

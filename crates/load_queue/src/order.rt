@@ -9,8 +9,8 @@ use load_memory::{Key, NoMemory, Reply};
 use std::alloc::Global;
 use std::marker::Model;
 
-/// Keys that a loader is to be asked together. Only [`Loader::cut`](crate::Loader::cut) makes one,
-/// and [`run`](Order::run) spends it.
+/// A batch that is still to be asked: keys for one call of a loader's source. Only
+/// [`Loader::cut`](crate::Loader::cut) makes one, and [`run`](Order::run) spends it.
 ///
 /// A contract sees its loader's number and its keys.
 #[derive(Drop)]
@@ -54,12 +54,12 @@ impl Order {
         self.keys.as_slice()
     }
 
-    /// Asks the source of the loader of the order's number, once, and gives the outcomes of its keys
-    /// place by place. A list of one item for each key gives its items. Where the source failed, each
-    /// key has a batch fault with the source's words; where it answered N items for M keys, each has
-    /// one with the text `the source answered N results for M keys`.
+    /// Asks the source of the order's loader once, and returns an outcome for each key, in order: the
+    /// items of the source's list if it has one for each key. If the source failed, each key gets a
+    /// batch fault with the source's message; if it returned N items for M keys, one with the text
+    /// `the source answered N results for M keys`.
     ///
-    /// After a refused growth, here or in the source, the order is spent and there is no reply.
+    /// When out of memory, here or in the source, the order is spent and there is no reply.
     pub fn run<S: Asks>(self, alloc: Global, loaders: &[Loader<S>]) -> Result<Reply, NoMemory>
         requires { self.loader < length loaders.now }
         ensures { IfOk result (λ reply. IsReplyTo S.may_tell loaders.now self (reply_of reply)) }

@@ -7,8 +7,8 @@ ghost use Rattle.load_queue.specs.Answers.{AnswerOf, given};
 use crate::source::Source;
 use load_memory::KeyMode;
 
-/// A source whose answer has one item for each key, which follows from that key alone, and the same
-/// item for keys that are one under its mode. So it never fails as a whole; it may still answer
+/// A source that answers key by key: the item of each key depends on that key alone, and keys that
+/// are equal under its mode have equal items. So it never fails as a whole; it may still return
 /// [`NoMemory`](crate::FetchFault::NoMemory).
 pub trait PerKey: Source {
     ghost use Rattle.load_memory.specs.declared.key.KeyMode.{KeyMode};

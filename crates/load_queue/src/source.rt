@@ -1,4 +1,4 @@
-//! What answers keys.
+//! Sources: what a server writes to answer keys.
 ghost use Rattle.std.specs.Prelude.{List, map};
 ghost use Rattle.load_memory.specs.Keys.{KeyOf, key_of};
 ghost use Rattle.load_queue.specs.Answers.{AnswerOf};
@@ -13,7 +13,7 @@ pub enum FetchFault {
     /// The batch failed as a whole, with the source's own words.
     #[error("{0}")]
     Failed(String),
-    /// A growth was refused.
+    /// Out of memory.
     #[error("out of memory")]
     NoMemory,
 }
@@ -53,9 +53,9 @@ impl<T: Drop> From<AllocFailed<T>> for FetchFault {
 
 /// A source of items, which threads share.
 ///
-/// What it means is a relation: the answers that it may give to a list of keys. It may answer a list
-/// of any length, and whoever asked it judges the answer. Nothing is said of a fetch that answers
-/// [`NoMemory`](FetchFault::NoMemory).
+/// Its meaning is a relation: which answers it may give to a list of keys. It may return a list of
+/// any length; one of another length than the keys fails the batch. Nothing is promised of a fetch
+/// that returns [`NoMemory`](FetchFault::NoMemory).
 pub trait Source: Sync {
     ghost use Rattle.load_queue.specs.Fetched.{Fetched};
 
@@ -67,8 +67,8 @@ pub trait Source: Sync {
         ensures { Fetched (may_answer self.now (map key_of keys.now)) result };
 }
 
-/// A source, for code that runs in turn and doesn't ask for `Sync`. Each [`Source`] is one, with the
-/// same meaning.
+/// A source for code that runs on one thread and doesn't need `Sync`. Each [`Source`] is one, with
+/// the same meaning.
 pub trait Asks {
     ghost use Rattle.load_queue.specs.Fetched.{Fetched};
 

@@ -90,7 +90,7 @@ impl Model for Wants {
 }
 
 impl Wants {
-    /// Nothing is wanted of the memory's loaders, whose modes say when two keys are the same.
+    /// No wanted keys yet, for the memory's loaders, whose modes say when two keys are the same.
     pub fn new(alloc: Global, memory: &Memory) -> Result<Wants, NoMemory>
         ensures { IfOk result (λ w. w ≡ map nothing_wanted memory.now.modes) }
     {
@@ -110,7 +110,7 @@ impl Wants {
         self.parts[loader].keys()
     }
 
-    /// Takes the keys that are wanted of a loader, in the order in which they were added. None is wanted of it then.
+    /// Takes the wanted keys of a loader out, in the order in which they were added.
     pub fn take_keys(&mut self, loader: usize) -> Vec<Key>
         requires { loader < length self.old }
         ensures keys { map key_of result.items ≡ keys_wanted self.old loader }
@@ -119,9 +119,9 @@ impl Wants {
         self.parts[loader].take_keys()
     }
 
-    /// Adds a key to those that are wanted of a loader. Gives true where no equal cache key was there.
-    /// Where one was, the first key stays and nothing changes. After a refused growth the wants are as
-    /// they were.
+    /// Adds a key to those that are wanted of a loader. Returns true if no equal cache key was there.
+    /// If one was, the first key stays and nothing changes. When out of memory, the wants are as they
+    /// were.
     pub fn add(&mut self, loader: usize, key: Key) -> Result<bool, NoMemory>
         requires { loader < length self.old }
         ensures told { IfOk result (λ added. added ≡ not (is_key_wanted self.old loader (key_of key))) }

@@ -20,10 +20,10 @@ impl<S: Asks> Session<S> {
     ghost use Rattle.load_rounds.specs.Sessions.{state_of};
     ghost use Rattle.load_rounds.specs.Headline.{Headline, StopsAnswering};
 
-    /// Answers a plan on this thread. Failed batches are forgotten, then each round asks all that is needed and
-    /// missing, until nothing is.
+    /// Answers a plan on this thread. It forgets failed batches, and then makes rounds until nothing is
+    /// missing. Each round asks for all keys that are needed and missing.
     ///
-    /// After a refused growth the finished rounds stay, and a round that was out is lost.
+    /// When out of memory, the finished rounds stay, and a round that was out is lost.
     pub fn answer<P: Execute>(&mut self, plan: &P) -> Result<Answer, NoMemory>
         requires { P.loaders plan.now ≤ length self.old.loaders }
         ensures answer { IfOk result (λ a. Headline S.may_tell (state_of self.old) (state_of self.new)

@@ -25,14 +25,14 @@ use std::mem;
 enum Progress<S> {
     /// It wasn't polled yet.
     Unpolled(Session<S>),
-    /// It has made so many rounds, one per poll.
+    /// It has made this many rounds, one per poll.
     Polled(Session<S>, u32),
-    /// It has answered, and the session is given back.
+    /// It has answered, and has returned the session.
     Over,
 }
 
-/// An answer to come, made by [`Session::into_answering`]. Each poll makes one round in turn and asks to be polled
-/// again; the poll that finds nothing missing gives the session back with the answer. It isn't polled after that.
+/// A future of an answer, made by [`Session::into_answering`]. Each poll makes one round in turn and asks to be polled
+/// again. The poll that finds nothing missing returns the session with the answer. It isn't polled after that.
 ///
 /// A contract sees what is executed, and how far it is.
 #[derive(Drop)]
@@ -69,7 +69,8 @@ impl<S: Asks> Session<S> {
     ghost use Rattle.load_rounds.specs.Calls.{RoundLost};
     ghost use Rattle.load_rounds.specs.Answerings.{Turned};
 
-    /// The text of a plan where nothing is missing, and else one round that asks what is needed and missing.
+    /// Returns the text of a plan if nothing is missing, and otherwise makes one round that asks for what is needed and
+    /// missing.
     pub(crate) fn turn<P: Execute>(&mut self, plan: &P) -> Result<Poll<String>, NoMemory>
         requires { P.loaders plan.now ≤ length self.old.loaders }
         ensures turned { IfOk result (λ polled. Turned S.may_tell (P.text_of plan.now) (state_of self.old)

@@ -10,8 +10,8 @@ use load_memory::{Memory, NoMemory};
 use load_queue::Wants;
 use std::alloc::Global;
 
-/// What asks loads and answers a text: a program. It is ready over a memory that has all that it needs, and else
-/// says exactly what is missing.
+/// Something that loads keys and returns a text, as a plan does. It is ready over a memory that has everything
+/// it needs, and otherwise says exactly which loads are missing.
 pub trait Execute {
     // what it asks, one load at a time
     ghost program: { Self → Program };
@@ -22,7 +22,7 @@ pub trait Execute {
     // it asks loaders below this number
     ghost loaders: { Self → ℕ };
 
-    /// Executes it over the memory. Where something is missing, the front is added to the wants.
+    /// Executes it over the memory. If loads are missing, adds them to the wants.
     fn execute(
         &self,
         alloc: Global,

@@ -9,7 +9,7 @@ pub enum SessionFault {
     /// The session has no loader of that number.
     #[error("no such loader")]
     NoSuchLoader,
-    /// A growth was refused, here or in a source, or the rounds can't be counted on.
+    /// Out of memory, here or in a source; or the number of the next round would overflow.
     #[error("out of memory")]
     NoMemory,
 }

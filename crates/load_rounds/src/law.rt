@@ -22,9 +22,9 @@ ghost use Rattle.load_rounds.specs.Histories.{Call, Priming, IsMadeOf, AreMadeOf
 use gq_check::Plan;
 use load_queue::Asks;
 
-/// What each call does is a list of steps, each of which may be: a round asks only what the memory lacks at that moment,
-/// of equal cache keys the first. Calls one after another make their steps one after another. So each pair of the memory
-/// after them was there before, was primed by one of them, or is in a reply of one of their rounds.
+/// Each call is a list of steps, and each step is lawful: a round asks only for what the memory lacks at that moment, of equal
+/// cache keys only the first. Calls in a row make their steps in a row. So each pair of the memory after them was there
+/// before, was primed by one of them, or is in a reply of one of their rounds.
 pub fn calls_are_steps<S: Asks>()
     ensures one { (call : Call) (old new : StateOf S) → IsCall S.may_tell call old new
         → (steps : List Step) × Leads S.may_tell old (Forgot ∷ steps) new × IsMadeOf call steps }
@@ -36,10 +36,10 @@ pub fn calls_are_steps<S: Asks>()
         ⊎ ((steps : List Step) × Leads S.may_tell old steps new × AreMadeOf calls steps × IsAnsweredIn (session_modes old) pair (replies_of steps)) }
 {}
 
-/// *No key twice*, over any list of calls. No call asks a cache key of a loader twice. Where two calls each have a stored
-/// entry that asks one cache key of a loader, a call between them cleared it, or the earlier batch failed as a whole: what
-/// the memory has of it after the earlier call is that batch's fault. Entries of a lost round aren't stored, and their keys
-/// may be asked again. A run by hand counts as one call, at whatever stage it was dropped, unless another call changed its
+/// *No key twice*, over any list of calls. No call asks a loader twice for one cache key. If two calls each have a stored log
+/// entry that asks a loader for one cache key, a call between them cleared it, or the earlier batch failed as a whole: after
+/// the earlier call the memory has that batch's fault for it. Entries of a lost round aren't stored, and their keys may be
+/// asked for again. A run by hand counts as one call, at whatever stage it was dropped, unless another call changed its
 /// session before that.
 pub fn no_key_twice<S: Asks>()
     ensures together { (call : Call) (old new : StateOf S) (loader : ℕ) → AreLimited (rules_of old) → IsCall S.may_tell call old new
@@ -50,10 +50,10 @@ pub fn no_key_twice<S: Asks>()
         → (list_any (clears_at cell) between ≡ true) ⊎ IsFailedAt cell mid }
 {}
 
-/// *One lawful log*, of answers. Over sources that answer key by key, as each `PerKey` source does by its laws, an answer's
-/// log is lawful with each reply fixed, so two answers from one state are one: the same text, rounds, memory and logs, whoever
-/// ran the orders. Where the loaders compare keys as their sources do, and what the memory has at first is what these would
-/// answer, as in a new session, the text is that of direct execution.
+/// *One lawful log*, of answers. Over sources that answer key by key, as each `PerKey` source does by its laws, every reply in
+/// an answer's log is fixed. So two answers from one state are one: the same text, rounds, memory and logs, whoever ran the
+/// orders. If the loaders compare keys as their sources do, and the memory has at first what the sources would answer, as in a
+/// new session, the text is that of direct execution.
 pub fn answers_key_by_key<S: Asks>()
     ensures lawful { (item : S → KeyOf → ItemOf) (old new : StateOf S) (p : Program) (text_of : AnsweredOf → List ℕ) (text : List ℕ) (rounds : ℕ)
         → AnswerKeyByKey S.may_tell item → (h : Headline S.may_tell old new p text_of text rounds)
@@ -67,7 +67,7 @@ pub fn answers_key_by_key<S: Asks>()
         → Headline S.may_tell old new p text_of text rounds → IsTextOf text_of p (direct (item_over item old.loaders)) text }
 {}
 
-/// The headline, of a plan: each is of a document that keeps every rule, so an answer to it has the whole sentence.
+/// The headline for a plan. Each plan is of a document that keeps every rule, so the whole sentence holds of its answer.
 pub fn answers_of_plans<S: Asks>(plan: &Plan<'_>)
     ensures { (old new : StateOf S) (text : List ℕ) (rounds : ℕ)
         → Headline S.may_tell old new (plan_program (plan_of plan.now)) answer_text text rounds

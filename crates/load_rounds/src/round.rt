@@ -11,9 +11,9 @@ use load_memory::{NoMemory, Reply};
 use load_queue::{Asks, Loader, Order, Wants};
 use std::alloc::Global;
 
-/// Enters the batches of what is wanted in the logs of their loaders, as asked in this round, and gives their
-/// orders, which have the keys themselves: nothing is wanted then. The round is counted as soon as there is an order of
-/// it. After a refused growth the batches of the first loaders are entered, perhaps of none.
+/// Cuts the wanted keys into batches, enters these in the logs of their loaders as asked in this round, and returns
+/// their orders. The keys move from the wants to the orders. The round is counted as soon as it has an order. When out
+/// of memory, the logs have the batches of the first loaders, perhaps of none.
 pub(crate) fn cut_all<S>(
     loaders: &mut Vec<Loader<S>>,
     rounds: &mut u32,

@@ -17,15 +17,15 @@ use std::marker::Model;
 pub enum Stage {
     /// [`next_round`](Run::next_round) may be called.
     Ready,
-    /// A round is out, whose receipts [`take`](Run::take) wants.
+    /// A round is out. [`take`](Run::take) expects its receipts.
     Out,
-    /// The answer was given: it is only dropped.
+    /// The answer was returned. The run can only be dropped.
     Finished,
-    /// A growth was refused: it is only dropped.
+    /// Out of memory. The run can only be dropped.
     Failed,
 }
 
-/// What comes next of a run.
+/// What [`Run::next_round`] returns.
 #[derive(Drop)]
 pub enum Next {
     /// Nothing is missing any more.
@@ -60,7 +60,7 @@ impl<S: Asks> Session<S> {
     ghost use Rattle.load_rounds.specs.Sessions.{state_of, after_step};
     ghost use Rattle.load_rounds.specs.Runs.{run_of, IsRun};
 
-    /// Begins to answer a plan, whose rounds the caller runs. Failed batches are forgotten.
+    /// Begins an answer to a plan whose rounds the caller runs. Forgets failed batches.
     pub fn begin<'p, P: Execute>(&mut self, plan: &'p P) -> Result<Run<'p, P>, NoMemory>
         requires { P.loaders plan.now ≤ length self.old.loaders }
         ensures run { IfOk result (λ run. run ≡ run_of plan.now 0 Stage.Ready) }
@@ -91,10 +91,10 @@ impl<'p, P: Execute> Run<'p, P> {
     ghost use Rattle.load_rounds.specs.Sessions.{StateOf, state_of};
     ghost use Rattle.load_rounds.specs.Runs.{run_of, orders_in, received, AreReceived, IsNext, IsRun, AnswersRun, IsUnasked};
 
-    /// The answer where nothing is missing any more, and else the orders of the next round, which is then out.
+    /// Returns the answer if nothing is missing, and otherwise the orders of the next round, which is then out.
     ///
-    /// After a refused growth the session is as it was, or the round is lost, with the batches of the first loaders
-    /// entered in the logs.
+    /// When out of memory, the session is as it was, or the round is lost and the logs have the batches of its
+    /// first loaders.
     pub fn next_round<S: Asks>(&mut self, session: &mut Session<S>) -> Result<Next, NoMemory>
         requires ready { self.old.stage ≡ Stage.Ready }
         requires loaders { P.loaders self.old.plan ≤ length session.old.loaders }
@@ -128,9 +128,9 @@ impl<'p, P: Execute> Run<'p, P> {
         }
     }
 
-    /// Takes the replies to the round that is out, which receipts of a shelf show in any order, and stores them.
+    /// Stores the replies to the round that is out, given by their receipts in any order.
     ///
-    /// After a refused growth the session is as it was: the round is lost.
+    /// When out of memory, the session is as it was, and the round is lost.
     pub fn take<S: Asks>(
         &mut self,
         session: &mut Session<S>,

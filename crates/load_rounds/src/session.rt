@@ -20,8 +20,8 @@ use load_queue::{Asked, Asks, Loader, Order, Wants};
 use std::alloc::Global;
 use std::marker::Model;
 
-/// Loaders, and what is known of their keys. A contract sees the loaders with their logs, the pairs that are
-/// known, and how many rounds were made.
+/// A set of loaders with one cache of what they returned. A contract sees the loaders with their logs, the known pairs,
+/// and how many rounds were made.
 #[derive(Drop)]
 pub struct Session<S> {
     loaders: Vec<Loader<S>>,
@@ -64,15 +64,15 @@ impl<S> Session<S> {
         let _ = &self.memory;
     }
 
-    /// Nothing is wanted of the loaders.
+    /// An empty list of wanted keys for each loader.
     pub(crate) fn nothing_wanted(&self) -> Result<Wants, NoMemory>
         ensures { IfOk result (λ wants. wants ≡ map nothing_wanted (session_modes (state_of self.now))) }
     {
         Wants::new(self.alloc(), &self.memory)
     }
 
-    /// Enters the batches of what is wanted in the logs, as the next round, and gives their orders, which have the keys
-    /// themselves. A contract also sees here that the entries bear the numbers of rounds that were made.
+    /// Cuts the wanted keys into the batches of the next round, enters these in the logs, and returns their orders, into
+    /// which the keys move. A contract also sees here that the log's entries have the numbers of rounds that were made.
     pub(crate) fn cut(&mut self, wants: &mut Wants) -> Result<Vec<Order>, NoMemory>
         requires { length wants.old ≡ length self.old.loaders }
         ensures orders { (loads : List Load) → AreWanted wants.old loads
@@ -87,8 +87,8 @@ impl<S> Session<S> {
         cut_all(&mut self.loaders, &mut self.rounds, round, wants)
     }
 
-    /// Stores the replies to the latest round, which receipts show in any order, and marks its entries. A contract
-    /// also sees here that no loader's limit is 0.
+    /// Stores the replies to the latest round, given by their receipts in any order, and marks its log entries as
+    /// stored. A contract also sees here that no loader's limit is 0.
     pub(crate) fn receive(&mut self, shelf: &Shelf, receipts: &[Receipt]) -> Result<(), NoMemory>
         requires shelf { All (IsOn shelf.now) receipts.now }
         requires loaders { All (λ r. (shown r).loader < length self.old.loaders) receipts.now }
@@ -117,7 +117,7 @@ impl<S> Session<S> {
         self.loaders.as_slice()
     }
 
-    /// What was asked of a loader, oldest first. There is no log past the last loader.
+    /// The batches that a loader was asked for, oldest first. `None` if there is no loader of that number.
     pub fn logs(&self, loader: usize) -> Option<&[Asked]>
         ensures { option_map (map asked_of) (option_copied result)
             ≡ option_map (λ l. l.log) (slice_get self.now.loaders loader) }
@@ -128,8 +128,8 @@ impl<S> Session<S> {
         }
     }
 
-    /// Adds what is known of a loader's key, after failed batches are forgotten. Gives true where the key was
-    /// absent. Where it was there, its outcome stays.
+    /// Forgets failed batches, and then adds an item for a loader's key unless the key is known. Returns true if it was
+    /// added. A known key keeps its outcome.
     pub fn prime(&mut self, loader: usize, key: &Key, item: Item) -> Result<bool, SessionFault>
         ensures no_loader { IsErrOf result SessionFault.NoSuchLoader ↔ (length self.old.loaders ≤ loader) }
         ensures refused { IsErrOf result SessionFault.NoSuchLoader → self.new ≡ self.old }
@@ -148,8 +148,7 @@ impl<S> Session<S> {
         Ok(self.memory.prime(loader, key, item)?)
     }
 
-    /// Forgets what is known of a loader's key, after failed batches are forgotten. Gives true where it was
-    /// known.
+    /// Forgets failed batches, and then what is known of a loader's key. Returns true if the key was still known then.
     pub fn clear(&mut self, loader: usize, key: &Key) -> Result<bool, SessionFault>
         ensures no_loader { IsErrOf result SessionFault.NoSuchLoader ↔ (length self.old.loaders ≤ loader) }
         ensures refused { IsErrOf result SessionFault.NoSuchLoader → self.new ≡ self.old }
@@ -168,8 +167,8 @@ impl<S> Session<S> {
         Ok(self.memory.clear(loader, &key))
     }
 
-    /// Forgets what is known of one loader's keys, after failed batches are forgotten. It takes no memory: its
-    /// one fault is [`NoSuchLoader`](SessionFault::NoSuchLoader).
+    /// Forgets failed batches, and then all keys of one loader. It takes no memory: its only fault is
+    /// [`NoSuchLoader`](SessionFault::NoSuchLoader).
     pub fn clear_all(&mut self, loader: usize) -> Result<(), SessionFault>
         ensures no_loader { IsErrOf result SessionFault.NoSuchLoader ↔ (length self.old.loaders ≤ loader) }
         ensures refused { OnErr result (self.new ≡ self.old) }
@@ -186,7 +185,7 @@ impl<S> Session<S> {
 }
 
 impl<S: Drop> Session<S> {
-    /// A session that knows nothing, over loaders that have asked nothing. They are numbered from 0.
+    /// A new, empty session, over loaders that haven't been asked yet. They are numbered from 0.
     pub fn new(alloc: Global, loaders: Vec<Loader<S>>) -> Result<Session<S>, NoMemory>
         requires { All (λ l. l.log ≡ []) loaders.items }
         ensures { IfOk result (λ s. s ≡ record { loaders = loaders.items; pairs = []; rounds = 0 }) }
@@ -209,8 +208,8 @@ impl<S: Asks> Session<S> {
     ghost use Rattle.load_rounds.specs.Calls.{AsksOnce, RoundRan, RoundLost};
     ghost use Rattle.load_rounds.specs.Histories.{IsCall, Loading, StoppedLoading};
 
-    /// What comes of a loader's key, after failed batches are forgotten: what is known of it, and else what its
-    /// source answers in a round of this one key, which is then known. It copies the outcome.
+    /// Loads one key of a loader, after it forgets failed batches. Returns a copy of the key's outcome: the known one,
+    /// or else what the source returns in a round of this one key, which is kept.
     pub fn load(&mut self, loader: usize, key: Key) -> Result<Outcome, SessionFault>
         ensures no_loader { IsErrOf result SessionFault.NoSuchLoader ↔ (length self.old.loaders ≤ loader) }
         ensures refused { IsErrOf result SessionFault.NoSuchLoader → self.new ≡ self.old }
@@ -227,8 +226,8 @@ impl<S: Asks> Session<S> {
         }
     }
 
-    /// What comes of keys of a loader, place by place, as [`load`](Session::load) does of one. The keys that
-    /// aren't known are asked in one round, of equal cache keys the first.
+    /// Loads keys of a loader, as [`load`](Session::load) does one, and returns an outcome for each, in order. The
+    /// unknown keys are asked for in one round, of equal cache keys only the first.
     pub fn load_many(&mut self, loader: usize, keys: &[Key]) -> Result<Vec<Outcome>, SessionFault>
         ensures no_loader { IsErrOf result SessionFault.NoSuchLoader ↔ (length self.old.loaders ≤ loader) }
         ensures refused { IsErrOf result SessionFault.NoSuchLoader → self.new ≡ self.old }
@@ -245,7 +244,7 @@ impl<S: Asks> Session<S> {
         Ok(known_outcomes(*self.loaders.allocator(), &self.memory, loader, keys)?)
     }
 
-    /// Asks those of the keys that aren't known in one round, if there are some.
+    /// Asks for those of the keys that aren't known, if any, in one round.
     fn ask_missing(&mut self, loader: usize, keys: &[Key]) -> Result<(), NoMemory>
         requires { loader < length self.old.loaders }
         ensures ran { OnOk result (AsksOnce S.may_tell (state_of self.old) (state_of self.new)
@@ -260,7 +259,8 @@ impl<S: Asks> Session<S> {
         self.ask(wants)
     }
 
-    /// Asks what is wanted, in one round in turn, and stores the replies. The wants are gone once their orders are made.
+    /// Asks for the wanted keys in one round, batch after batch, and stores the replies. The wants are dropped once
+    /// their orders are made.
     pub(crate) fn ask(&mut self, wants: Wants) -> Result<(), NoMemory>
         requires { length wants ≡ length self.old.loaders }
         ensures ran { (loads : List Load) → AreWanted wants loads

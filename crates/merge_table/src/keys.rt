@@ -25,7 +25,7 @@ fn has_failing_key(fields: &[Field], reached: &Reached, f: usize) -> bool
     false
 }
 
-/// Enters field `f` among those whose response key fails.
+/// Adds field `f` to `keys` if its response key has a conflict.
 fn note_key(keys: &mut Row, fields: &[Field], reached: &Reached, f: usize)
     requires f { f < length fields.now }
     requires most { length fields.now ≤ 1024 }
@@ -38,7 +38,8 @@ fn note_key(keys: &mut Row, fields: &[Field], reached: &Reached, f: usize)
     }
 }
 
-/// The fields that have the response key of a member that fails with another: those that keep the set from being merged.
+/// The fields whose response key is that of a member which conflicts with another one: those that keep the set from
+/// being merged.
 pub fn failing_keys(fields: &[Field], reached: &Reached) -> Row
     requires most { length fields.now ≤ 1024 }
     ensures { (rows : List (List ℕ)) (ms : List ℕ) → ((c : ℕ) → is_in ms c ≡ true → c < length fields.now) → IsReached rows ms reached.now → (f : ℕ) → f < length fields.now → has result f ≡ key_clashes (fields_of fields.now).one_key (fail rows) ms f }

@@ -1,10 +1,10 @@
 //! Field selection merging (section 5.3.2) over fields that are already numbered, at most 1,024.
 //!
-//! The layer above may rely on this: [`failing_pairs`] finds every pair of fields that can't stand
-//! together in one selection set, by the two recursions of the standard (`specs/Merging.antt`), and
-//! [`first_failing`] tells of a set of fields whether it can be merged, and else the first of its
-//! members whose response key has such a pair. Fields are numbered so that what a field's selection
-//! set has comes before the field. The time is that of some `n² / 4` word steps for `n` fields.
+//! The layer above may rely on this: [`failing_pairs`] finds every pair of fields that conflict in
+//! one selection set, by the two recursions of the specification (`specs/Merging.antt`).
+//! [`first_failing`] says whether a set of fields can merge, and otherwise returns the first of its
+//! members whose response key has a conflict. Fields are numbered so that those of a field's
+//! selection set come before the field. It takes some `n² / 4` word steps for `n` fields.
 #![tactic(auto)]
 
 mod field;

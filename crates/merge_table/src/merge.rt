@@ -10,7 +10,7 @@ use crate::row::Row;
 use crate::table::{Rule, is_one_key, marks_of, members_of, table};
 use std::alloc::{AllocError, Global};
 
-/// Which pairs of fields can't stand together: row `b` has each earlier field that fails with `b`.
+/// Which pairs of fields conflict: row `b` has each earlier field that conflicts with `b`.
 pub fn failing_pairs(alloc: Global, fields: &[Field]) -> Result<Vec<Row>, AllocError>
     requires most { length fields.now ≤ 1024 }
     requires order { AreInOrder fields.now }
@@ -76,8 +76,9 @@ fn first_marked(fields: &[Field], marks: &Row, members: &[usize]) -> Option<usiz
     None
 }
 
-/// The first member of a set whose response key has a failing pair, or nothing where the set can be
-/// merged. `members` is the set in order of first meeting, and `rows` are the [`failing_pairs`].
+/// The first member of a set whose response key has a conflict, or nothing if the set can merge.
+/// `members` is the set in the order in which its fields are first met, and `rows` are the
+/// [`failing_pairs`].
 pub fn first_failing(fields: &[Field], rows: &[Row], members: &[usize]) -> Option<usize>
     requires most { length fields.now ≤ 1024 }
     requires len { length rows.now ≡ length fields.now }

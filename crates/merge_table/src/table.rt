@@ -1,4 +1,4 @@
-//! Which pairs of fields fail, by a table of pairs.
+//! Which pairs of fields conflict, by a table of pairs.
 ghost use Rattle.std.specs.Prelude.{◌≡◌, ◌≢◌, ◌<◌, ◌≤◌, ◌||◌, ◌&&◌, ◌==◌, ◌+◌, ℕ, [], ◌∷◌, length, IfOk, true, false};
 ghost use Rattle.merge_table.specs.Sets.{has, Meets};
 ghost use Rattle.merge_table.specs.Numbered.{fields_of, members_at, is_in, AreInOrder};
@@ -8,14 +8,14 @@ use crate::field::Field;
 use crate::row::Row;
 use std::alloc::{AllocError, Global};
 
-/// The recursion of the rule whose failing pairs a table tells.
+/// Which of the rule's two recursions a table is for.
 #[derive(Clone, Copy)]
 pub enum Rule {
     Shape,
     Merge,
 }
 
-/// Whether two fields fail.
+/// Whether two fields conflict.
 fn is_failing(rows: &[Row], c: usize, d: usize) -> bool
     requires c { c < length rows.now }
     requires d { d < length rows.now }
@@ -25,7 +25,7 @@ fn is_failing(rows: &[Row], c: usize, d: usize) -> bool
     rows[c].has(d) || rows[d].has(c)
 }
 
-/// The fields that fail with one of a set's members.
+/// The fields that conflict with one of a set's members.
 pub fn marks_of(rows: &[Row], members: &Row) -> Row
     requires most { length rows.now ≤ 1024 }
     requires below { IsBelow rows.now }
@@ -47,7 +47,7 @@ pub fn marks_of(rows: &[Row], members: &Row) -> Row
     marks
 }
 
-/// The fields that fail with one field.
+/// The fields that conflict with one field.
 pub fn marks_of_field(rows: &[Row], field: usize) -> Row
     requires known { field < length rows.now }
     requires most { length rows.now ≤ 1024 }
@@ -63,7 +63,7 @@ pub fn marks_of_field(rows: &[Row], field: usize) -> Row
     marks
 }
 
-/// Whether two fields fail by themselves, where they have one key.
+/// Whether two fields with one response key conflict by themselves, whatever is below them.
 fn fails_itself(rule: Rule, fields: &[Field], shapes: &[Row], a: usize, b: usize) -> bool
     requires a { a < length fields.now }
     requires b { b < length fields.now }
@@ -78,7 +78,7 @@ fn fails_itself(rule: Rule, fields: &[Field], shapes: &[Row], a: usize, b: usize
     }
 }
 
-/// Whether two fields ask the members of their joined selection sets, where they have one key.
+/// Whether the members of their joined selection sets count for two fields with one response key.
 fn asks_members(rule: Rule, fields: &[Field], a: usize, b: usize) -> bool
     requires a { a < length fields.now }
     requires b { b < length fields.now }
@@ -90,7 +90,7 @@ fn asks_members(rule: Rule, fields: &[Field], a: usize, b: usize) -> bool
     }
 }
 
-/// Whether two fields fail, where `joined` says whether members of their joined selection sets do.
+/// Whether two fields conflict; `joined` says whether members of their joined selection sets do.
 fn fails_with(
     rule: Rule,
     fields: &[Field],
@@ -108,8 +108,8 @@ fn fails_with(
     fails_itself(rule, fields, shapes, a, b) || (asks_members(rule, fields, a, b) && joined)
 }
 
-/// Whether members of the joined selection sets of two fields fail, by the marks of those that fail
-/// with a member of `b`, and by the fields that have failing pairs among their own members.
+/// Whether members of the joined selection sets of two fields conflict. `marks` are the fields that
+/// conflict with a member of `b`, and `inner` the fields of which two own members conflict.
 fn joined_fails(fields: &[Field], marks: &Row, inner: &Row, a: usize, b: usize) -> bool
     requires a { a < length fields.now }
     requires b { b < length fields.now }
@@ -128,7 +128,7 @@ pub(crate) fn is_one_key(fields: &[Field], a: usize, b: usize) -> bool
     fields[a].has_one_key(&fields[b])
 }
 
-/// Whether field `a` fails with a later field `b`.
+/// Whether field `a` conflicts with a later field `b`.
 fn pair_fails(
     rule: Rule,
     fields: &[Field],
@@ -151,7 +151,7 @@ fn pair_fails(
     fails_with(rule, fields, shapes, joined, a, b)
 }
 
-/// The earlier fields that fail with field `b`.
+/// The earlier fields that conflict with field `b`.
 fn next_row(rule: Rule, fields: &[Field], shapes: &[Row], marks: &Row, inner: &Row, b: usize) -> Row
     requires b { b < length fields.now }
     requires most { length fields.now ≤ 1024 }
@@ -168,8 +168,8 @@ fn next_row(rule: Rule, fields: &[Field], shapes: &[Row], marks: &Row, inner: &R
     row
 }
 
-/// Enters among the fields that have a failing pair among their own members the field `b`, if the
-/// marks of those that fail with its members meet them.
+/// Adds field `b` if two of its own members conflict: if `marks`, the fields that conflict with a
+/// member, has one of the members.
 fn note_inner(inner: &mut Row, marks: &Row, members: &Row, b: usize)
     requires small { b < 1024 }
     requires absent { has inner.old b ≡ false }
@@ -189,8 +189,8 @@ pub(crate) fn members_of(fields: &[Field], a: usize) -> &Row
     &fields[a].members
 }
 
-/// The table: which pairs fail by one of the rule's two recursions. `shapes` is the table of the
-/// other, where the rule rests on it.
+/// The table: which pairs conflict by one of the rule's two recursions. `shapes` is the table of
+/// the other one, if this one needs it.
 pub(crate) fn table(
     alloc: Global,
     fields: &[Field],

@@ -17,8 +17,8 @@ ghost use Rattle.plan_laws.specs.Unset.{has_unset};
 ghost use Rattle.plan_program.specs.Groups.{FieldOf, GroupOf, Collected, has_entered, enter_fragment, entering, collect_all, collect_from};
 
 /// Collection ends (section 6.3.2 of the GraphQL specification of October 2021): no more fragments are entered one inside
-/// another than the plan has, so what is collected is the same where more may be entered; and a fragment that is entered
-/// gives what its selections give, with fragments in them entered in the same way.
+/// another than the plan has, so a higher bound would collect the same. A fragment that is entered collects what its selections
+/// collect, with fragments in them entered in the same way.
 pub fn collection_ends()
     ensures more { (plan : PlanOf) (ty : List ℕ) (left : ℕ) (so_far : Collected) (ss : Selections) → length plan.fragments ≤ left
         → collect_all plan ty (entering plan ty left) so_far ss ≡ collect_from plan ty so_far ss }
@@ -32,8 +32,8 @@ pub fn more_levels_change_nothing()
     ensures { (plan : PlanOf) (levels : ℕ) → IsPlan plan → most_levels ≤ levels → program_with plan levels ≡ plan_program plan }
 {}
 
-/// Bindings that are read over a schema bind each field of each object type, and name no loader that they don't define. So
-/// where a plan's bindings are of its own schema, no field of an object type is null for want of either.
+/// Bindings that are read over a schema bind each field of each object type, and name only loaders that they define. So if a
+/// plan's bindings are of its own schema, no field of an object type is null because either is lacking.
 pub fn fields_are_bound()
     ensures bound { (defs : List Definition) (b : BindingsOf) (ty name : List ℕ) (d : Field) → AreRead defs b → is_object_type defs ty ≡ true
         → field_in defs ty name ≡ Some d → IsBound b ty name }
@@ -41,10 +41,10 @@ pub fn fields_are_bound()
         → binding_in b.fields ty name ≡ Some binding → AreThere (length b.loaders) binding }
 {}
 
-/// Each group of fields that the execution of a plan can meet has a first field, by which it is answered. This, where it isn't
-/// `__typename`, has a definition in the type of its object. Where the plan's bindings were read over its own schema it has a
-/// binding too, whose loaders are there, and what the group asks is what that binding asks. So no such plan's program has a null
-/// for a field without any of these.
+/// Each group of fields that the execution of a plan can meet is answered by its first field. Unless that is `__typename`, it
+/// has a definition in the type of its object. If the plan's bindings were read over its own schema, it also has a binding,
+/// whose loaders exist, and the group asks for what that binding asks for. So in such a plan's program no field is null because
+/// it lacks one of these.
 pub fn met_fields_are_answered()
     ensures first { (plan : PlanOf) (ty : List ℕ) (g : GroupOf) → IsOverSchema plan → CanBeMet plan ty g → HasFirst g }
     ensures defined { (plan : PlanOf) (ty : List ℕ) (g : GroupOf) (f : FieldOf) → IsOverSchema plan → IsMetBy plan ty g f

@@ -33,10 +33,10 @@ pub struct Args {
 /// Why a field has no arguments.
 #[derive(Debug, Drop, Error)]
 pub enum ArgFault {
-    /// The first argument by definition that has no value, or null, at a non-null type.
+    /// The first argument, in order of definition, of non-null type that has no value or null.
     #[error("null for the non-null argument {0}")]
     NullArgument(String),
-    /// A growth was refused.
+    /// Out of memory.
     #[error("out of memory")]
     NoMemory,
 }
@@ -338,7 +338,7 @@ fn coerced_arguments(
 /// # Errors
 ///
 /// `NullArgument` with the first argument, in order of definition, that has no value, or null, at a non-null type.
-/// `NoMemory` only where a growth was refused.
+/// `NoMemory` only when out of memory.
 pub fn arguments_of(
     alloc: Global,
     plan: &Plan<'_>,

@@ -156,12 +156,12 @@ fn collect_field<'p>(
     }
 }
 
-/// The fields of an object type that selections choose, grouped by response key in the order in which the keys come first
+/// Collects the fields of an object type from selections, grouped by response key in the order in which the keys first come
 /// (section 6.3.2). Each named fragment is entered once.
 ///
 /// # Errors
 ///
-/// Only where a growth was refused.
+/// Only when out of memory.
 pub fn collect<'p>(
     alloc: Global,
     plan: &'p Plan<'_>,
@@ -175,11 +175,11 @@ pub fn collect<'p>(
     Ok(collected.into_groups())
 }
 
-/// The same of what several fields select, joined in order (section 6.3.2, MergeSelectionSets).
+/// The same for what several fields select, joined in order (section 6.3.2, MergeSelectionSets).
 ///
 /// # Errors
 ///
-/// Only where a growth was refused.
+/// Only when out of memory.
 pub fn collect_below<'p>(
     alloc: Global,
     plan: &'p Plan<'_>,

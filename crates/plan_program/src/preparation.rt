@@ -281,7 +281,7 @@ fn prepare_one<'p>(
 ///
 /// # Errors
 ///
-/// Only where a growth was refused.
+/// Only when out of memory.
 pub fn prepare<'p>(
     alloc: Global,
     plan: &'p Plan<'_>,

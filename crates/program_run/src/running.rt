@@ -29,7 +29,7 @@ const NOT_TEXT: &str = "error: invalid UTF-8 was detected in one or more argumen
 ///
 /// # Errors
 ///
-/// `Command` where one of them is no UTF-8, and want of memory.
+/// `Command` if one of them isn't UTF-8; `Serve` when out of memory.
 pub fn program_words<R: Env + AllocGlobal>(rt: &R) -> Result<Vec<String>, Stop>
     ensures { IfErr result IsWordless }
 {
@@ -163,7 +163,7 @@ fn show<W: Write>(writer: &mut Counted<W>, text: String) -> Stop
     }
 }
 
-/// Ends a run whose words are refused. Help is written to the writer; of the others the end says all.
+/// Ends a run whose words are refused. Help is written to the writer; any other refusal is in the end itself.
 fn tell<W: Write>(stop: Stop, writer: &mut Counted<W>) -> Stop
     ensures { EndsAsRefused stop (W.contents (device_of writer.old)) (W.contents (device_of writer.new)) result }
 {

@@ -12,7 +12,7 @@ use serde_json::error::Category;
 use std::alloc::Global;
 use thiserror::Error;
 
-/// A growth was refused.
+/// Out of memory.
 #[derive(Clone, Copy, Debug, PartialEq, Eq, Error)]
 #[error("out of memory")]
 pub struct NoMemory;
@@ -33,7 +33,7 @@ pub struct Request<'v> {
 ///
 /// # Errors
 ///
-/// Only where a growth was refused.
+/// Only when out of memory.
 pub fn read_value(alloc: Global, line: &[u8]) -> Result<Option<Value>, NoMemory>
     ensures { IfOk result (λ r. MatchOption r (IsUtf8 line.now → read line.now ≡ None)
         (λ value. IsUtf8 line.now × (read line.now ≡ Some (view value)))) }

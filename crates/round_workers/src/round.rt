@@ -135,7 +135,7 @@ fn share<S: Source, R: Threads + Wait + Sync>(
     (worker, joined(mine, theirs))
 }
 
-// The receipts of both, or want of memory.
+// The receipts of both, unless one is out of memory.
 fn joined(
     mine: Result<Vec<Receipt>, NoMemory>,
     theirs: Result<Vec<Receipt>, NoMemory>,
@@ -169,8 +169,8 @@ fn put_all<R: Wait>(rt: &R, desk: &Desk, mut worker: Worker, orders: Vec<Order>)
 /// started than there are orders, and one of them is the calling thread. A worker for which no thread can be made runs on the
 /// thread that would have started it.
 ///
-/// All workers have ended when it returns. After a refused growth, here or in a source, the worker that met it takes no
-/// order more, those that are left are dropped unrun, and the round is lost.
+/// All workers have ended when it returns. A worker that runs out of memory, here or in a source, takes no further order. The
+/// orders that are left are dropped unrun, and the round is lost.
 pub fn run_round<S: Source, R: Threads + Wait + Sync>(
     rt: &R,
     alloc: Global,

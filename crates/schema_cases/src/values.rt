@@ -58,7 +58,7 @@ pub fn variables(alloc: Global, schema: &str, text: &str) -> Result<String> {
     }
 }
 
-/// How want of memory is displayed.
+/// How being out of memory is displayed.
 pub fn no_memory(alloc: Global) -> Result<String> {
     let fault = VariableFault::NoMemory;
     Ok(format!(in alloc; "{fault}")?)

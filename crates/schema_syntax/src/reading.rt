@@ -20,7 +20,7 @@ use std::alloc::Global;
 ///
 /// The first fault from the left: [`SyntaxFault::NotServed`] at the word, the `@` or the `[` that isn't served,
 /// [`SyntaxFault::Syntax`] at any other token that can't come, at a bracket that is opened while 128 are open, or
-/// else at the lexical fault or at the end. [`SyntaxFault::NoMemory`] comes where the tree could not grow, before
+/// else at the lexical fault or at the end. [`SyntaxFault::NoMemory`] comes when memory runs out, before
 /// any fault further on.
 pub fn read_tokens(
     alloc: Global,
@@ -61,7 +61,7 @@ pub fn read_tokens(
 /// A text of more than [`MAX_BYTES`] bytes is [`SyntaxFault::Syntax`] at line 1, column 1. Otherwise the first fault
 /// from the left is answered: [`SyntaxFault::NotServed`] at the word, the `@` or the `[` that isn't served, and
 /// [`SyntaxFault::Syntax`] at any other token that can't come, at a bracket that is opened while 128 are open, at a
-/// lexical fault, or at the end. [`SyntaxFault::NoMemory`] comes where the tokens or the tree could not grow.
+/// lexical fault, or at the end. [`SyntaxFault::NoMemory`] comes when out of memory.
 pub fn read(alloc: Global, text: &str) -> Result<SchemaDocument, SyntaxFault>
     // What is found is what the grammar says of the text's tokens, and no bracket in it is opened while 128 are open.
     ensures found { IfOk result (λ d. IsSchemaOf text.now (definitions_of d)) }

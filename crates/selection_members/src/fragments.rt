@@ -72,7 +72,7 @@ fn learned(source: &Source, table: &[Reached], number: usize) -> Reached
     reached_in(&walk, own.set, own.first)
 }
 
-// Learns what a fragment has.
+// Computes the members of a fragment, where those of the fragments that it spreads are known.
 fn learn(source: &Source, table: &mut Vec<Reached>, number: usize)
     requires there { number < length (document_of source.now.document.now).fragments }
     requires len { length table.old.items ≡ length (document_of source.now.document.now).fragments }

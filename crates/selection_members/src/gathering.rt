@@ -43,7 +43,7 @@ fn gather_set(
     Ok(Gathered { reached, next })
 }
 
-// Adds the rows of the fields in a selection and what it has, and answers the number after its fields.
+// Adds the rows of the fields in a selection and its members, and returns the number after its fields.
 #[cycle(gathering)]
 fn gather(
     walk: &Walk,

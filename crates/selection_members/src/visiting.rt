@@ -29,8 +29,8 @@ struct Visited {
     next: usize,
 }
 
-/// Adds the sets in which two fields fail: this set, whose first field has the number `first`, and those inside it. Each selection
-/// is visited once.
+/// Adds those of this set and the sets inside it in which two fields conflict. The first field of this set has the number
+/// `first`. Each selection is visited once.
 pub fn add_clashing<'d>(
     walk: &Walk,
     set: &'d SelectionSet,
@@ -45,7 +45,7 @@ pub fn add_clashing<'d>(
     Ok(())
 }
 
-// Notes a set, if two of its fields fail.
+// Adds a set if two of its fields conflict.
 fn note<'d>(
     reached: &Reached,
     set: &'d SelectionSet,
@@ -61,7 +61,7 @@ fn note<'d>(
     Ok(())
 }
 
-// Visits a set: what it has, after the sets in it with two fields that fail are added.
+// Visits a set: adds the sets in it in which two fields conflict, and returns its members.
 #[cycle(visiting)]
 fn visit_set<'d>(
     walk: &Walk,

@@ -61,7 +61,8 @@ fn is_ordered(ranks: &[usize], graph: &Graph) -> bool
     true
 }
 
-// Whether a fragment reaches itself. None does that is above all that it spreads; from any other it takes a walk.
+// Whether a fragment reaches itself. One that ranks above everything that it spreads doesn't; for any other it
+// takes a walk.
 fn is_cyclic(
     walk: &mut Walk,
     ranks: &[usize],

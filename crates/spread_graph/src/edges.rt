@@ -27,8 +27,8 @@ fn add_edges(edges: &mut Vec<Edge>, graph: &Graph, from: usize) -> Result<(), Al
     Ok(())
 }
 
-/// What the fragments spread. Where there is no cycle, those of a fragment come after all that lead to it, of which nothing is
-/// claimed.
+/// What the fragments spread. If there is no cycle, what a fragment spreads comes after everything that leads to it; no
+/// contract says so.
 pub fn edges_of(alloc: Global, graph: &Graph) -> Result<Vec<Edge>, AllocError>
     ensures { IfOk result (λ edges. AreEdges graph.now edges.items) }
 {

@@ -179,7 +179,7 @@ fn deep_operation<'d>(
     }
 }
 
-/// The earliest operation with more than 128 fields on a path, fragments expanded. No name is told of it.
+/// The earliest operation with more than 128 fields on a path, fragments expanded. It is reported without a name.
 ///
 /// Linear in a document without cycles; the graph serves to order its fragments.
 pub fn too_deep<'d>(

@@ -1,4 +1,4 @@
-//! Places in rows that operations of a batch reach, where a set lacks one of those.
+//! Places that an operation of a batch reaches, where the place's set lacks that operation.
 
 ghost use Rattle.std.specs.Prelude.{◌≡◌, ◌≤◌, ◌<◌, ◌||◌, ◌&&◌, ◌^◌, ℕ, not, false, length, slice_index, slice_index_or, OnOk};
 ghost use Rattle.spread_graph.specs.Reach.{is_among};
@@ -19,7 +19,7 @@ pub fn set_of(sets: &[BatchSet], number: usize) -> BatchSet
     }
 }
 
-// Notes the places of a row whose numbers' sets lack one of these operations.
+// Notes those places of a row whose sets lack one of these operations.
 fn note_row(
     row: &[usize],
     reached_by: BatchSet,
@@ -38,7 +38,7 @@ fn note_row(
     Ok(())
 }
 
-/// Notes the places in fragments whose numbers' sets lack an operation that reaches the fragment.
+/// Notes those places in fragments whose sets lack an operation that reaches the fragment.
 pub fn note_missing_in_fragments(
     rows: &[Vec<usize>],
     reached: &[BatchSet],
@@ -60,7 +60,8 @@ pub fn note_missing_in_fragments(
     Ok(())
 }
 
-/// Notes the places in operations of a batch, so many from the first on, whose numbers' sets lack the operation.
+/// Notes those places in operations of a batch whose sets lack the operation. The batch is `count` operations
+/// from `first` on.
 pub fn note_missing_in_operations(
     rows: &[Vec<usize>],
     first: usize,

@@ -42,7 +42,7 @@ fn with_or_without(set: BatchSet, number: usize, is_in: bool) -> BatchSet
     }
 }
 
-// Says of a use whether the operation with this number in its batch allows it by a variable.
+// Notes whether the operation with this number in its batch allows a use of this variable.
 fn allow_use(
     uses: &[VariableUse],
     place: usize,
@@ -60,7 +60,7 @@ fn allow_use(
     Ok(())
 }
 
-// The same of all uses that stand for others of the variable's name.
+// The same for all uses of the variable's name that stand for others.
 fn allow_by_variable(
     kinds: &UseKinds,
     uses: &[VariableUse],
@@ -99,7 +99,8 @@ fn allow_by_operation(
     Ok(())
 }
 
-/// Of each use that stands for others, the operations of a batch, so many from the first on, that allow it where it stands.
+/// For each use that stands for others, the operations of a batch that allow it where it is. The batch is `count` operations
+/// from `first` on.
 pub fn allowed(
     alloc: Global,
     kinds: &UseKinds,

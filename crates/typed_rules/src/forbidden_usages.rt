@@ -28,7 +28,7 @@ struct UseTable<'d> {
     kinds: UseKinds<'d>,
 }
 
-// Marks the uses that an operation of a batch, so many from the first on, has as parts and forbids.
+// Marks the uses that an operation of a batch includes and forbids. The batch is `count` operations from `first` on.
 fn mark_batch(
     alloc: Global,
     parts: &Parts,
@@ -84,9 +84,8 @@ fn is_marked(marks: &[bool], place: usize) -> bool
     marks.get(place).copied().unwrap_or(false)
 }
 
-/// The earliest use of a variable that some operation, which has the use as a part, doesn't allow where it stands: in the
-/// operation itself or in a fragment that it reaches by spreads (section 5.8.5). Uses of variables that the operation doesn't
-/// define are passed over.
+/// The earliest use of a variable that isn't allowed where it stands by an operation that includes it, in itself or in a
+/// fragment that it reaches by spreads (section 5.8.5). Uses of variables that the operation doesn't define are skipped.
 #[tactic(auto, using(crate::proofs::Keeping::keep_next))]
 pub fn variable_usages<'d>(
     alloc: Global,

@@ -1,8 +1,8 @@
 //! The rules of validation that speak of types, fields, arguments, values and the types of variables (GraphQL
 //! specification of October 2021, section 5).
 //!
-//! The layer above may rely on this: each rule is a function that tells what breaks it with the earliest place, of the list that its
-//! definition in `specs/` gives. Nothing rests on the other rules being kept: a rule that needs something unknown passes over it.
+//! The layer above may rely on this: each rule's function returns what breaks the rule at the earliest place, of the list that
+//! its definition in `specs/` gives. No rule needs another one to be kept: one that needs something unknown skips it.
 #![tactic(auto)]
 
 mod allowed_uses;

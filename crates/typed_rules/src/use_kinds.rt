@@ -11,10 +11,10 @@ use document_parts::{Location, VariableUse};
 use std::alloc::{AllocError, Global};
 use std::collections::HashMap;
 
-/// Of each name uses, by their places, that stand for all of the name.
+/// For each name, the places of the uses that stand for all uses of it.
 type Known<'d> = HashMap<&'d str, Vec<usize>>;
 
-/// Uses that stand for others of their kind. A use goes by its place among all.
+/// Uses that stand for others of their kind. A use is known by its place among all.
 #[derive(Drop)]
 pub struct UseKinds<'d> {
     known: Known<'d>,

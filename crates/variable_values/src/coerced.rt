@@ -93,8 +93,8 @@ fn given_value(
 
 /// The variables that have a value, in the order of their definitions.
 ///
-/// A variable that is not given has its default; one that is given has the value that is given, also where that is null.
-/// Members of the object that are no variables are ignored.
+/// A variable that the request doesn't give has its default; one that it gives has that value, even null. Members of the
+/// object that aren't variables are ignored.
 ///
 /// # Errors
 ///

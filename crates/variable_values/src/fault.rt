@@ -9,14 +9,14 @@ use thiserror::Error;
 /// Why variables have no values. It is displayed as the message that a client reads.
 #[derive(Debug, Drop, Error)]
 pub enum VariableFault {
-    /// What the request gives for its variables is neither an object nor null.
+    /// The `variables` of the request are neither an object nor null.
     #[error("variables must be an object")]
     NotObject,
-    /// The variable of this name: the first, in the order of the definitions, whose value is not of its type, or that has
-    /// none and may not be null.
+    /// The variable of this name has a value that isn't of its type, or has none and may not be null. It is the first
+    /// such one, in the order of the definitions.
     #[error("bad value for variable ${0}")]
     Bad(String),
-    /// A growth was refused.
+    /// Out of memory.
     #[error("out of memory")]
     NoMemory,
 }

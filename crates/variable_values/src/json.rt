@@ -92,7 +92,7 @@ fn list_of_one(alloc: Global, item: Option<Input>) -> Result<Option<Input>, Allo
     }
 }
 
-/// The value that a JSON value gives at a type; nothing where it isn't right.
+/// Coerces a JSON value to a type. Returns `None` if it isn't of that type.
 ///
 /// An ID and an enum's value become a `Text`, an ID that is a number its decimal, and a value at a list type that is no array
 /// a list of one.

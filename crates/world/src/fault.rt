@@ -15,15 +15,16 @@ use std::fmt;
 pub enum WorldFault {
     /// The limit is 0, or over 65,535.
     BadLimit,
-    /// The schema is refused, or the bindings are, with `BadBinding`. Never for want of memory.
+    /// The schema is refused, or the bindings are, with `BadBinding`. It is never the schema's
+    /// `NoMemory`.
     Schema(SchemaFault),
     /// Two tables have the same name.
     DuplicateTable,
     /// The table of a loader isn't given.
     NoSuchTable,
-    /// The table of a loader has no column of the name that the loader goes by.
+    /// A loader's table doesn't have the column by which the loader finds rows.
     NoSuchColumn,
-    /// A growth was refused.
+    /// Out of memory.
     NoMemory,
 }
 
@@ -47,8 +48,8 @@ fn schema_code_and_name(fault: &SchemaFault) -> &'static str
 }
 
 impl WorldFault {
-    /// The code and the name, as a program prints them for its user: `S8 BadBinding`. Want of memory
-    /// is `X4 NoMemory`, wherever it comes.
+    /// The code and the name, as a program prints them for its user: `S8 BadBinding`. Being out of
+    /// memory is `X4 NoMemory`, wherever it happens.
     pub fn code_and_name(&self) -> &'static str
         ensures { result.now ≡ code_and_name self.now }
     {

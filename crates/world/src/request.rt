@@ -21,11 +21,11 @@ use std::alloc::{AllocError, Global};
 /// Why a request has no plan.
 #[derive(Debug, Drop)]
 pub enum RequestFault {
-    /// The query is no document.
+    /// The query isn't a document.
     Parse(ParseFault),
     /// The document is not valid.
     Check(CheckFault),
-    /// There is no such operation, or its variables have no values.
+    /// There is no such operation, or a variable has a bad value.
     Prepare(PrepareFault),
 }
 
@@ -57,7 +57,7 @@ fn parse_message(fault: &ParseFault) -> &'static str
 impl RequestFault {
     ghost use Rattle.world.specs.Requests.{is_want_of_memory, request_message, request_place};
 
-    /// Whether memory was refused. Every other fault is told to the client.
+    /// Whether it is out of memory. Every other fault is shown to the client.
     pub fn is_want_of_memory(&self) -> bool
         ensures { result ≡ is_want_of_memory self.now }
     {
@@ -120,7 +120,7 @@ impl World {
     /// # Errors
     ///
     /// [`Parse`](RequestFault::Parse), else [`Check`](RequestFault::Check), else [`Prepare`](RequestFault::Prepare), each
-    /// with its fault, which may be want of memory.
+    /// with its fault, which may be that it is out of memory.
     pub fn plan(
         &self,
         alloc: Global,

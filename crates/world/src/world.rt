@@ -17,8 +17,8 @@ use std::marker::Model;
 /// The greatest limit on the keys of one batch.
 pub const MAX_LIMIT: u32 = 65_535;
 
-/// A schema, how its fields are answered, at most how many keys one batch has, and for each loader of
-/// the bindings what its source is made from.
+/// A schema, its bindings, the batch limit, and for each loader of the bindings the table or the index
+/// that its source uses.
 ///
 /// A contract sees it as these four: the definitions of the schema, the bindings, the limit, and the
 /// sources in the order of their loaders.
@@ -64,9 +64,9 @@ fn limited(max: Option<u32>) -> Result<Option<u32>, WorldFault>
 }
 
 impl World {
-    /// The world of a schema text, a bindings text and tables by their names, with at most `max` keys
-    /// in a batch where it is given. Tables that no loader uses are taken, and not kept. Loaders of
-    /// the same column that compare keys alike share one index.
+    /// Makes the world of a schema text, a bindings text and tables with their names. A batch has at
+    /// most `max` keys; `None` is no limit. Tables that no loader uses are dropped. Loaders of the
+    /// same column that compare keys alike share one index.
     ///
     /// # Errors
     ///
@@ -74,7 +74,7 @@ impl World {
     /// [`Schema`](WorldFault::Schema) with the schema's fault, and then with `BadBinding`;
     /// [`DuplicateTable`](WorldFault::DuplicateTable); and for the loaders in order
     /// [`NoSuchTable`](WorldFault::NoSuchTable) or [`NoSuchColumn`](WorldFault::NoSuchColumn).
-    /// [`NoMemory`](WorldFault::NoMemory) comes where a growth is refused, before any fault that would
+    /// [`NoMemory`](WorldFault::NoMemory) comes when out of memory, before any fault that would
     /// have been found later.
     pub fn new(
         alloc: Global,
@@ -135,7 +135,7 @@ impl World {
         &self.bindings
     }
 
-    /// At most how many keys one batch has, from 1 to [`MAX_LIMIT`]; no bound where there is none.
+    /// The batch limit, from 1 to [`MAX_LIMIT`]; `None` is no limit.
     pub fn limit(&self) -> Option<u32>
         ensures value { result ≡ self.now.limit }
         ensures fits { IsLimit self.now.limit }
@@ -151,8 +151,7 @@ impl World {
         self.sources.len()
     }
 
-    /// The source of the loader of this number. It is made without memory, and nothing is indexed
-    /// anew.
+    /// The source of the loader of this number. It takes no memory, and indexes nothing.
     pub fn source(&self, loader: usize) -> CsvSource<'_>
         requires { loader < length self.now.sources }
         ensures { (d : SourceOf) → result ≡ get_or self.now.sources loader d }

@@ -52,7 +52,7 @@ fn plan_text(alloc: Global, world: &World, plan: &Plan<'_>) -> Result<String, No
 ///
 /// # Errors
 ///
-/// Only where a growth was refused.
+/// Only when out of memory.
 pub fn answer_line(alloc: Global, world: &World, line: &[u8]) -> Result<String, NoMemory>
     ensures { IfOk result (λ text. IsAnswer world.now line.now (string_bytes text)) }
 {

@@ -71,7 +71,7 @@ fn plan_request<'w>(
 ///
 /// # Errors
 ///
-/// Only where a growth was refused.
+/// Only when out of memory.
 pub fn plan_line<'w>(alloc: Global, world: &'w World, line: &[u8]) -> Result<LinePlan<'w>, NoMemory>
     ensures { IfOk result (PlansLine world.now line.now) }
 {

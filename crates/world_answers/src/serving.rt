@@ -13,14 +13,14 @@ use std::alloc::Global;
 use std::io::{Read, Write};
 use world::World;
 
-/// Answers each request line of the reader by a line to the writer, and says how many there were. A line ends at a line feed
-/// or at the end of the input; a last line feed begins no further line. The writer is flushed once, at the end, after a fault
-/// of the reader, a line that is too long and want of memory too.
+/// Answers each request line of the reader with a line to the writer, and returns how many there were. A line ends at a line
+/// feed or at the end of the input; a last line feed begins no further line. The writer is flushed once, at the end; also
+/// after a fault of the reader, after a line that is too long, and when out of memory.
 ///
 /// # Errors
 ///
-/// `LineTooLong` for a line of more than 4,194,304 bytes, `ReadFault`, `WriteFault` and `NoMemory`. How far the reader was
-/// read then isn't said. Where the writer fails after another fault, that is `WriteFault`.
+/// `LineTooLong` for a line of more than 4,194,304 bytes, `ReadFault`, `WriteFault` and `NoMemory`. No clause says how far
+/// the reader was read by then. If the writer fails after another fault, the fault is `WriteFault`.
 pub fn serve<R: Read, W: Write>(
     alloc: Global,
     world: &World,

@@ -11,13 +11,13 @@ use load_rounds::Session;
 use std::alloc::Global;
 use world::World;
 
-/// What opens sessions.
+/// Opens sessions.
 pub trait Sessions {
-    /// A session that knows nothing and has asked nothing.
+    /// A new, empty session.
     ///
     /// # Errors
     ///
-    /// Only where a growth was refused.
+    /// Only when out of memory.
     fn session(&self, alloc: Global) -> Result<Session<CsvSource<'_>>, NoMemory>;
 }
 

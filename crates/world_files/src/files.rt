@@ -55,7 +55,7 @@ fn no_text() -> io::Error {
     io::Error::new(ErrorKind::InvalidData, "stream did not contain valid UTF-8")
 }
 
-/// The text that a reader gives, of so many bytes at most. What comes behind these isn't read, however long the reader goes on.
+/// Reads a text of at most this many bytes. It doesn't read further, however long the reader goes on.
 ///
 /// # Errors
 ///
@@ -92,8 +92,8 @@ fn long_text(error: FromUtf8Error<Global>) -> io::Result<String>
     }
 }
 
-/// The text of a schema. Of one that is longer than a schema may be, a front that is: what comes behind isn't read, however long the
-/// reader goes on.
+/// Reads the text of a schema. Of one that is longer than a schema may be, it returns a front that is too long as well, and
+/// doesn't read further, however long the reader goes on.
 ///
 /// # Errors
 ///

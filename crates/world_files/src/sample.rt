@@ -68,7 +68,7 @@ fn sample_tables(alloc: Global) -> Result<Vec<(String, Table)>, Stop>
 ///
 /// # Errors
 ///
-/// Only for want of memory, since its parts are accepted.
+/// Only when out of memory, since its parts are accepted.
 pub fn sample_world(alloc: Global) -> Result<World, Stop>
     ensures ok { IfOk result (λ world. (tables : List TableOf) × IsWorld SCHEMA.now BINDINGS.now tables None world) }
     ensures err { IfErr result (IsUnmade None) }

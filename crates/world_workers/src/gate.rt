@@ -1,7 +1,7 @@
 //! Gates, which batches enter before they are asked.
 
-/// What each fetch of a batch enters first, on the thread of the worker that runs it: it can count calls, or hold one back for
-/// a while. It changes no answer.
+/// Each batch enters a gate before it is fetched, on the thread of the worker that runs it. A gate can count calls, or hold
+/// one back for a while. It changes no answer.
 pub trait Gate: Sync {
     /// A batch of the loader of this number, from 0, is about to be asked.
     fn enter(&self, loader: usize);

@@ -12,7 +12,7 @@ use load_rounds::Session;
 use std::alloc::Global;
 use world::World;
 
-/// A session of the world that knows nothing and has asked nothing, whose sources stand behind the gate.
+/// A new session of the world, whose sources are behind the gate.
 pub fn gated_session<'w, 'g, G: Gate>(
     alloc: Global,
     world: &'w World,

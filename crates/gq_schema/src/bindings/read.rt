@@ -86,7 +86,7 @@ impl Bindings {
     ghost use Rattle.gq_schema.specs.BindingsReading.{nothing, after_loader, after_statement, after_statements, settled_field, settled_fields, settled, bindings_of, accepted};
     ghost use Rattle.gq_schema.specs.BindingsFaults.{Refuses};
 
-    /// What a bindings text says over a schema.
+    /// Reads a bindings text over a schema.
     ///
     /// Loaders are defined before they are used. A field has at most one line, and its type is an
     /// object type. `column` is for a leaf, `one` for a composite, and `many`, `each` and `via` are for a
@@ -119,8 +119,8 @@ impl Bindings {
         }
     }
 
-    /// How a field of an object type is answered; nothing where there is no such field, or the type
-    /// is no object type. A field of leaf type without a line is bound to the column of its own name.
+    /// The binding of a field of an object type; `None` if there is no such field, or the type isn't an
+    /// object type. A field of leaf type without a line is bound to the column of its own name.
     pub fn binding_of(&self, ty: &str, field: &str) -> Option<&Binding>
         ensures { option_map binding_of (option_copied result) ≡ binding_in self.now.fields ty.now field.now }
     {

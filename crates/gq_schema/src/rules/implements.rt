@@ -71,7 +71,7 @@ fn is_required(argument: &ArgumentDefinition) -> bool
     is_non_null(&argument.of_type) && argument.default.is_none()
 }
 
-// Whether an argument is one of the wanted ones, or may be left out.
+// Whether the interface's field has this argument too, or it may be left out.
 fn may_stand(wanted: &Arguments, argument: &ArgumentDefinition) -> bool
     ensures { result ≡ may_stand (arguments_of wanted.now.arguments.now) (argument_of argument.now) }
 {
@@ -89,7 +89,7 @@ fn may_all_stand(wanted: &Arguments, arguments: &[ArgumentDefinition]) -> bool
     true
 }
 
-// Whether a field serves as the wanted one.
+// Whether a field implements the interface's field.
 fn serves(
     alloc: Global,
     schema: &Schema,
@@ -109,7 +109,7 @@ fn serves(
     Ok(may_all_stand(&wanted_arguments, &own.arguments))
 }
 
-// Whether a type has a field that serves as the wanted one.
+// Whether a type has a field that implements the interface's field.
 fn has_field(
     alloc: Global,
     schema: &Schema,

@@ -16,7 +16,7 @@ use std::collections::HashSet;
 /// The texts of the names that stood earlier.
 type Seen<'a> = HashSet<&'a str>;
 
-// Notes a name, and says whether it is the first of its text.
+// Notes a name; true if it wasn't noted before.
 fn note<'a>(seen: &mut Seen<'a>, name: &'a Name) -> Result<bool, AllocError>
     ensures first { IfOk result (λ first. first ≡ not (has_text seen.old (string_bytes name.now.text))) }
     ensures noted { (q : List ℕ) → OnOk result (has_text seen.new q ≡ (bytes_eq q (string_bytes name.now.text) || has_text seen.old q)) }
