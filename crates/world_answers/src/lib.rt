@@ -11,11 +11,13 @@
 mod answers;
 mod law;
 mod planning;
+mod run;
 mod serving;
 mod sessions;
 
 pub use answers::answer_line;
 pub use law::one_answer;
 pub use planning::{LinePlan, plan_line};
+pub use run::{RunDocuments, Served};
 pub use serving::serve;
 pub use sessions::Sessions;
