@@ -1,9 +1,11 @@
 //! The documents that are kept while the lines of one run are answered.
 
-ghost use Rattle.std.specs.Prelude.{◌≡◌, IfOk, IfSome, string_bytes};
+ghost use Rattle.std.specs.Prelude.{◌≡◌, ℕ, List, Option, IfOk, IfErr};
+ghost use Rattle.serde_json.specs.Data.{Data};
+ghost use Rattle.gq_schema.specs.Types.{tree_of};
 ghost use Rattle.request_line.specs.Seen.{request_of};
+ghost use Rattle.world.specs.Requests.{IsRequestFault};
 ghost use Rattle.world.specs.Worlds.{WorldOf};
-ghost use Rattle.world_answers.specs.Answers.{AnswersRequest};
 ghost use Rattle.world_answers.specs.Planning.{PlansRequest, PlansLine};
 ghost use Rattle.world_answers.specs.Run.{empty_world};
 
@@ -13,7 +15,7 @@ use request_line::{Request, read_value};
 use serde_json::Value;
 use std::alloc::Global;
 use std::marker::{Brand, Model, PhantomData};
-use world::{KeptDocuments, World};
+use world::{KeptDocuments, RequestFault, World};
 
 /// The world of a run, for the prover alone. A clause knows only what a cell's type says of what the cell holds, so the type of
 /// the kept documents names their world.
@@ -66,17 +68,11 @@ impl<'w, B: Served> RunDocuments<'w, B> {
         self.kept.world()
     }
 
-    // Keeps the document of a request, or returns the refusal that answers it.
-    fn keep(&mut self, alloc: Global, request: &Request<'_>) -> Result<Option<String>, NoMemory>
-        ensures { IfOk result (λ refused. IfSome refused (λ text. AnswersRequest B.world (request_of request.now) (string_bytes text))) }
+    // Keeps the document of a query.
+    fn keep(&mut self, alloc: Global, query: &str) -> Result<(), RequestFault>
+        ensures { (name : Option (List ℕ)) (given : Data) → IfErr result (IsRequestFault (tree_of B.world.definitions) query.now name given) }
     {
-        match self.kept.keep(alloc, request.query) {
-            Ok(()) => Ok(None),
-            Err(fault) => match refusal(alloc, &fault) {
-                Ok(text) => Ok(Some(text)),
-                Err(want) => Err(want),
-            },
-        }
+        self.kept.keep(alloc, query)
     }
 
     // What a request asks, by the kept document of its query if there is one.
@@ -103,10 +99,12 @@ impl<'w, B: Served> RunDocuments<'w, B> {
     ) -> Result<LinePlan<'_>, NoMemory>
         ensures { IfOk result (PlansRequest B.world (request_of request.now)) }
     {
-        match self.keep(alloc, request) {
-            Ok(None) => self.plan(alloc, request),
-            Ok(Some(text)) => Ok(LinePlan::Refused(text)),
-            Err(want) => Err(want),
+        match self.keep(alloc, request.query) {
+            Ok(()) => self.plan(alloc, request),
+            Err(fault) => match refusal(alloc, &fault) {
+                Ok(text) => Ok(LinePlan::Refused(text)),
+                Err(want) => Err(want),
+            },
         }
     }
 
