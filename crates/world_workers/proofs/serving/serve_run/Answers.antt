@@ -14,8 +14,8 @@ returns-in-Ok-clause-ok g c =
       answered_widened _ (IsAnswer w) (λ line text h. own line text (subst (λ l. IsAnswer g.B.Served.world l text) h.says.shows (subst (λ t. IsAnswer g.B.Served.world h.says.shown.now t) h.bytes h.says.says.met))) was.0 _ _ was.3,
     )
 
-pub returns-in-Err-clause-err : goal.returns-in-Err-clause-err
-returns-in-Err-clause-err g c =
+pub returns-clause-err : goal.returns-clause-err
+returns-clause-err g c =
     let w = c.args.world.now in
     let own : (line text : List ℕ) → IsAnswer g.B.Served.world line text → IsAnswer w line text = λ line text h. subst (λ x. IsAnswer x line text) (sym c.requires) h in
     let was = c.in-Err.ensures.err in
