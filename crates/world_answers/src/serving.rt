@@ -58,6 +58,9 @@ fn serve_run<B: Served, R: Read, W: Write>(
 /// feed or at the end of the input; a last line feed begins no further line. The writer is flushed once, at the end; also
 /// after a fault of the reader, after a line that is too long, and when out of memory.
 ///
+/// The documents of valid queries are kept until it returns, within the bounds of [`KeptDocuments`](world::KeptDocuments), so
+/// that a query that comes again is neither parsed nor checked again. That changes no answer.
+///
 /// # Errors
 ///
 /// `LineTooLong` for a line of more than 4,194,304 bytes, `ReadFault`, `WriteFault` and `NoMemory`. No clause says how far

@@ -179,7 +179,7 @@ fn serve_run<R: Threads + Wait + AllocGlobal + Sync, G: Gate, B: Served, I: Read
 
 /// Answers each request line of the reader by a line to the writer, as [`serve`](world_answers::serve) does, and says how many
 /// there were. The batches of a round are run by this many workers at the same time, 1 to 16, and each enters the gate first.
-/// All workers have ended before the next line is read.
+/// All workers have ended before the next line is read. Documents are kept as `serve` keeps them, by the calling thread alone.
 ///
 /// # Errors
 ///
