@@ -1,3 +1,4 @@
 pub mod Sessions
 pub mod Answers
 pub mod Planning
+pub mod Run

@@ -6,12 +6,14 @@ ghost use Rattle.load_rounds.specs.Sessions.{state_of};
 ghost use Rattle.world_answers.specs.Answers.{IsAnswer, IsAnsweredAnew, AnswersAnew};
 
 use crate::planning::{LinePlan, plan_line};
+use crate::run::{RunDocuments, Served};
 use crate::sessions::Sessions;
 use csv_source::CsvSource;
 use gq_check::Plan;
 use line_serving::NoMemory;
 use load_rounds::{Answer, Session};
 use std::alloc::Global;
+use std::cell::RefCell;
 use world::World;
 
 // The answer of a plan over a world, and the session of its own in which it was given: only its own calls write its log, so
@@ -60,5 +62,38 @@ pub fn answer_line(alloc: Global, world: &World, line: &[u8]) -> Result<String, 
         Ok(LinePlan::Refused(text)) => Ok(text),
         Ok(LinePlan::Planned(plan)) => plan_text(alloc, world, &plan),
         Err(want) => Err(want),
+    }
+}
+
+// The answer of a line over the world of a run, by its kept documents.
+fn answer_kept<B: Served>(
+    alloc: Global,
+    documents: &mut RunDocuments<'_, B>,
+    line: &[u8],
+) -> Result<String, NoMemory>
+    ensures { IfOk result (λ text. IsAnswer B.world line.now (string_bytes text)) }
+{
+    let world = documents.world();
+    match documents.plan_line(alloc, line) {
+        Ok(LinePlan::Refused(text)) => Ok(text),
+        Ok(LinePlan::Planned(plan)) => plan_text(alloc, world, &plan),
+        Err(want) => Err(want),
+    }
+}
+
+// The answer of a line over the world of a run, whose kept documents are in a cell. If the cell is in use, the line is answered
+// without them.
+pub(crate) fn answer_in_run<B: Served>(
+    alloc: Global,
+    world: &World,
+    documents: &RefCell<RunDocuments<'_, B>>,
+    line: &[u8],
+) -> Result<String, NoMemory>
+    requires { world.now ≡ B.world }
+    ensures { IfOk result (λ text. IsAnswer B.world line.now (string_bytes text)) }
+{
+    match documents.try_borrow_mut() {
+        Ok(mut documents) => answer_kept(alloc, &mut documents, line),
+        Err(_) => answer_line(alloc, world, line),
     }
 }

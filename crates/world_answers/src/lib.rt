@@ -5,17 +5,19 @@
 //! rows of its key (`specs/Answers.antt`): no memory, round, batch or limit changes it. And it was answered with the headline
 //! (`load_rounds`, `specs/Headline.antt`) in the session of the world, which [`Sessions`] gives and of which each line has its
 //! own: a new one, over the world's sources, with its limit. A crate that answers plans in another way takes what a line asks
-//! from [`plan_line`].
+//! from [`plan_line`], or from [`RunDocuments::plan_line`], which keeps documents by their texts and plans the same.
 #![tactic(auto)]
 
 mod answers;
 mod law;
 mod planning;
+mod run;
 mod serving;
 mod sessions;
 
 pub use answers::answer_line;
 pub use law::one_answer;
 pub use planning::{LinePlan, plan_line};
+pub use run::{RunDocuments, Served};
 pub use serving::serve;
 pub use sessions::Sessions;

@@ -24,7 +24,7 @@ pub enum LinePlan<'w> {
 }
 
 // The refusal of a request that has no plan.
-fn refusal(alloc: Global, fault: &RequestFault) -> Result<String, NoMemory>
+pub(crate) fn refusal(alloc: Global, fault: &RequestFault) -> Result<String, NoMemory>
     ensures { IfOk result (λ text. (is_want_of_memory fault.now ≡ false)
         × (string_bytes text ≡ refusal_text (request_message fault.now) (request_place fault.now))) }
 {
@@ -39,7 +39,7 @@ fn refusal(alloc: Global, fault: &RequestFault) -> Result<String, NoMemory>
 }
 
 // The refusal of a line that is no request.
-fn not_a_request(alloc: Global) -> Result<String, NoMemory>
+pub(crate) fn not_a_request(alloc: Global) -> Result<String, NoMemory>
     ensures { IfOk result (λ text. string_bytes text ≡ refusal_text (codes "not a request") None) }
 {
     match write_refusal(alloc, "not a request", None) {

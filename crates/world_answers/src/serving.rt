@@ -7,15 +7,59 @@ ghost use Rattle.line_serving.specs.Output.{IsCut};
 ghost use Rattle.line_serving.specs.Serving.{AtFault, IsAnswered, Fails, faults_at};
 ghost use Rattle.world_answers.specs.Answers.{IsAnswer};
 
-use crate::answers::answer_line;
+use crate::answers::answer_in_run;
+use crate::run::{RunDocuments, Served};
 use line_serving::{Counted, NoMemory, ServeFault, serve as serve_lines};
 use std::alloc::Global;
+use std::cell::RefCell;
 use std::io::{Read, Write};
+use std::marker::Brand;
 use world::World;
+
+// As [`serve`], for a world that a type names. No clause knows what is in a cell but what its type says.
+fn serve_run<B: Served, R: Read, W: Write>(
+    alloc: Global,
+    world: &World,
+    reader: &mut Counted<R>,
+    writer: &mut Counted<W>,
+) -> Result<u64, ServeFault>
+    requires { world.now ≡ B.world }
+    ensures ok { IfOk result (λ n. (text : List ℕ) × Consumes (R.remaining (device_of reader.old)) (R.remaining (device_of reader.new)) text
+        × IsAtEnd (R.remaining (device_of reader.new))
+        × IsAnswered (IsAnswer world.now) text n (Appends (W.contents (device_of writer.old)) (W.contents (device_of writer.new)))) }
+    ensures err { IfErr result (λ fault. (text : List ℕ) × Consumes (R.remaining (device_of reader.old)) (R.remaining (device_of reader.new)) text
+        × Fails (IsAnswer world.now) text
+        (Appends (W.contents (device_of writer.old)) (W.contents (device_of writer.new)))
+        (IsCut (W.contents (device_of writer.old)) (W.contents (device_of writer.new)))
+        (R.remaining (device_of reader.new))
+        fault) }
+    ensures written { faults_of writer.new ≡ faults_at result ServeFault.WriteFault (faults_of writer.old) }
+    ensures read { OnOk result (faults_of reader.new ≡ faults_of reader.old) }
+    ensures read_fault { IfErr result (λ fault. AtFault fault
+        (faults_of reader.new ≡ faults_of reader.old)
+        (faults_of reader.new ≡ counted (faults_of reader.old))
+        (⊤)
+        (faults_of reader.new ≡ faults_of reader.old)) }
+    ensures bounded { OnOk result ((calls_of reader.new ≤ bound) × (given_of reader.new < bound)) }
+    ensures grown { (calls_of reader.old ≤ calls_of reader.new) × (given_of reader.old ≤ given_of reader.new) }
+{
+    let documents: RefCell<RunDocuments<'_, B>> = RefCell::new(RunDocuments::new(alloc, world));
+    let answer = |line: &[u8]| -> Result<String, NoMemory>
+        requires { world.now ≡ B.world }
+        ensures { IfOk result (λ text. IsAnswer B.world line.now (string_bytes text)) }
+    { answer_in_run(alloc, world, &documents, line) };
+    match serve_lines(alloc, reader, writer, answer) {
+        Ok(count) => Ok(count),
+        Err(fault) => Err(fault),
+    }
+}
 
 /// Answers each request line of the reader with a line to the writer, and returns how many there were. A line ends at a line
 /// feed or at the end of the input; a last line feed begins no further line. The writer is flushed once, at the end; also
 /// after a fault of the reader, after a line that is too long, and when out of memory.
+///
+/// The documents of valid queries are kept until it returns, within the bounds of [`KeptDocuments`](world::KeptDocuments), so
+/// that a query that comes again is neither parsed nor checked again. That changes no answer.
 ///
 /// # Errors
 ///
@@ -55,11 +99,5 @@ pub fn serve<R: Read, W: Write>(
     ensures bounded { OnOk result ((calls_of reader.new ≤ bound) × (given_of reader.new < bound)) }
     ensures grown { (calls_of reader.old ≤ calls_of reader.new) × (given_of reader.old ≤ given_of reader.new) }
 {
-    let answer = |line: &[u8]| -> Result<String, NoMemory>
-        ensures { IfOk result (λ text. IsAnswer world.entry.now line.now (string_bytes text)) }
-    { answer_line(alloc, world, line) };
-    match serve_lines(alloc, reader, writer, answer) {
-        Ok(count) => Ok(count),
-        Err(fault) => Err(fault),
-    }
+    serve_run::<Brand, R, W>(alloc, world, reader, writer)
 }

@@ -19,11 +19,13 @@ use line_serving::{Counted, NoMemory, ServeFault, serve as serve_lines};
 use load_rounds::{Answer, Session};
 use round_workers::round::MOST_WORKERS;
 use std::alloc::{AllocGlobal, Global};
+use std::cell::RefCell;
 use std::io::{Read, Write};
+use std::marker::Brand;
 use std::sync::Wait;
 use std::thread::Threads;
 use world::World;
-use world_answers::{LinePlan, plan_line};
+use world_answers::{LinePlan, RunDocuments, Served, plan_line};
 
 // The answer of a plan over a world, and the session of its own in which it was given, by so many workers.
 fn answer_plan<'w, 'g, R: Threads + Wait + AllocGlobal + Sync, G: Gate>(
@@ -87,9 +89,97 @@ fn answer_line<R: Threads + Wait + AllocGlobal + Sync, G: Gate>(
     }
 }
 
+// The answer of a line over the world of a run, by its kept documents and so many workers.
+fn answer_kept<R: Threads + Wait + AllocGlobal + Sync, G: Gate, B: Served>(
+    rt: &R,
+    gate: &G,
+    documents: &mut RunDocuments<'_, B>,
+    line: &[u8],
+    workers: usize,
+) -> Result<String, NoMemory>
+    requires { ¬ (IsBadCount workers) }
+    ensures { IfOk result (λ text. IsAnswer B.world line.now (string_bytes text)) }
+{
+    let world = documents.world();
+    match documents.plan_line(rt.alloc(), line) {
+        Ok(LinePlan::Refused(text)) => Ok(text),
+        Ok(LinePlan::Planned(plan)) => plan_text(rt, world, gate, &plan, workers),
+        Err(want) => Err(want),
+    }
+}
+
+// The answer of a line over the world of a run, whose kept documents are in a cell, by so many workers. If the cell is in use,
+// the line is answered without them.
+fn answer_in_run<R: Threads + Wait + AllocGlobal + Sync, G: Gate, B: Served>(
+    rt: &R,
+    world: &World,
+    gate: &G,
+    documents: &RefCell<RunDocuments<'_, B>>,
+    line: &[u8],
+    workers: usize,
+) -> Result<String, NoMemory>
+    requires world { world.now ≡ B.world }
+    requires count { ¬ (IsBadCount workers) }
+    ensures { IfOk result (λ text. IsAnswer B.world line.now (string_bytes text)) }
+{
+    match documents.try_borrow_mut() {
+        Ok(mut documents) => answer_kept(rt, gate, &mut documents, line, workers),
+        Err(_) => answer_line(rt, world, gate, line, workers),
+    }
+}
+
+// As [`serve_with`], for a world that a type names. No clause knows what is in a cell but what its type says.
+fn serve_run<R: Threads + Wait + AllocGlobal + Sync, G: Gate, B: Served, I: Read, W: Write>(
+    rt: &R,
+    world: &World,
+    gate: &G,
+    reader: &mut Counted<I>,
+    writer: &mut Counted<W>,
+    workers: usize,
+) -> Result<u64, ServeFault>
+    requires { world.now ≡ B.world }
+    ensures bad_count { IsErrOf result ServeFault.BadCount ↔ IsBadCount workers }
+    ensures unread { IsBadCount workers → (reader.new ≡ reader.old) × (writer.new ≡ writer.old) }
+    ensures ok { IfOk result (λ n. (text : List ℕ) × Consumes (I.remaining (device_of reader.old)) (I.remaining (device_of reader.new)) text
+        × IsAtEnd (I.remaining (device_of reader.new))
+        × IsAnswered (IsAnswer world.now) text n (Appends (W.contents (device_of writer.old)) (W.contents (device_of writer.new)))) }
+    ensures err { ¬ (IsBadCount workers) → IfErr result (λ fault. (text : List ℕ) × Consumes (I.remaining (device_of reader.old)) (I.remaining (device_of reader.new)) text
+        × Fails (IsAnswer world.now) text
+        (Appends (W.contents (device_of writer.old)) (W.contents (device_of writer.new)))
+        (IsCut (W.contents (device_of writer.old)) (W.contents (device_of writer.new)))
+        (I.remaining (device_of reader.new))
+        fault) }
+    ensures written { faults_of writer.new ≡ faults_at result ServeFault.WriteFault (faults_of writer.old) }
+    ensures read { OnOk result (faults_of reader.new ≡ faults_of reader.old) }
+    ensures read_fault { ¬ (IsBadCount workers) → IfErr result (λ fault. AtFault fault
+        (faults_of reader.new ≡ faults_of reader.old)
+        (faults_of reader.new ≡ counted (faults_of reader.old))
+        (⊤)
+        (faults_of reader.new ≡ faults_of reader.old)) }
+    ensures bounded { OnOk result ((calls_of reader.new ≤ bound) × (given_of reader.new < bound)) }
+    ensures grown { (calls_of reader.old ≤ calls_of reader.new) × (given_of reader.old ≤ given_of reader.new) }
+{
+    if workers == 0 || workers > MOST_WORKERS {
+        return Err(ServeFault::BadCount);
+    }
+    let documents: RefCell<RunDocuments<'_, B>> = RefCell::new(RunDocuments::new(
+        rt.alloc(),
+        world,
+    ));
+    let answer = |line: &[u8]| -> Result<String, NoMemory>
+        requires world { world.now ≡ B.world }
+        requires count { ¬ (IsBadCount workers) }
+        ensures { IfOk result (λ text. IsAnswer B.world line.now (string_bytes text)) }
+    { answer_in_run(rt, world, gate, &documents, line, workers) };
+    match serve_lines(rt.alloc(), reader, writer, answer) {
+        Ok(count) => Ok(count),
+        Err(fault) => Err(fault),
+    }
+}
+
 /// Answers each request line of the reader by a line to the writer, as [`serve`](world_answers::serve) does, and says how many
 /// there were. The batches of a round are run by this many workers at the same time, 1 to 16, and each enters the gate first.
-/// All workers have ended before the next line is read.
+/// All workers have ended before the next line is read. Documents are kept as `serve` keeps them, by the calling thread alone.
 ///
 /// # Errors
 ///
@@ -135,15 +225,5 @@ pub fn serve_with<R: Threads + Wait + AllocGlobal + Sync, G: Gate, I: Read, W: W
     ensures bounded { OnOk result ((calls_of reader.new ≤ bound) × (given_of reader.new < bound)) }
     ensures grown { (calls_of reader.old ≤ calls_of reader.new) × (given_of reader.old ≤ given_of reader.new) }
 {
-    if workers == 0 || workers > MOST_WORKERS {
-        return Err(ServeFault::BadCount);
-    }
-    let answer = |line: &[u8]| -> Result<String, NoMemory>
-        requires { ¬ (IsBadCount workers) }
-        ensures { IfOk result (λ text. IsAnswer world.entry.now line.now (string_bytes text)) }
-    { answer_line(rt, world, gate, line, workers) };
-    match serve_lines(rt.alloc(), reader, writer, answer) {
-        Ok(count) => Ok(count),
-        Err(fault) => Err(fault),
-    }
+    serve_run::<R, G, Brand, I, W>(rt, world, gate, reader, writer, workers)
 }

@@ -1,0 +1,133 @@
+//! The documents that are kept while the lines of one run are answered.
+
+ghost use Rattle.std.specs.Prelude.{◌≡◌, ℕ, List, Option, IfOk, IfErr};
+ghost use Rattle.serde_json.specs.Data.{Data};
+ghost use Rattle.gq_schema.specs.Types.{tree_of};
+ghost use Rattle.request_line.specs.Seen.{request_of};
+ghost use Rattle.world.specs.Requests.{IsRequestFault};
+ghost use Rattle.world.specs.Worlds.{WorldOf};
+ghost use Rattle.world_answers.specs.Planning.{PlansRequest, PlansLine};
+ghost use Rattle.world_answers.specs.Run.{empty_world};
+
+use crate::planning::{LinePlan, not_a_request, refusal};
+use line_serving::NoMemory;
+use request_line::{Request, read_value};
+use serde_json::Value;
+use std::alloc::Global;
+use std::marker::{Brand, Model, PhantomData};
+use world::{KeptDocuments, RequestFault, World};
+
+/// The world of a run, for the prover alone. A clause knows only what a cell's type says of what the cell holds, so the type of
+/// the kept documents names their world.
+pub trait Served {
+    ghost world: { WorldOf };
+}
+
+impl Served for Brand {
+    ghost world = { empty_world };
+}
+
+/// Kept documents over the world of a run.
+#[derive(Drop)]
+pub struct RunDocuments<'w, B: Served> {
+    kept: KeptDocuments<'w>,
+    of: PhantomData<B>,
+}
+
+impl<'w, B: Served> Model for RunDocuments<'w, B> {
+    ghost use Rattle.std.specs.Prelude.{◌≡◌};
+    ghost use Rattle.std.specs.Coded.{codes};
+    ghost use Rattle.gq_parser.specs.contracts.tree.TypeRef as type_ref;
+    ghost use Rattle.gq_parser.specs.contracts.tree.Literal as literal;
+    ghost use Rattle.world.specs.Keeping.{KeepingOf};
+
+    ghost Value = { KeepingOf };
+
+    ghost coded = { Prim.hlevel (codes, type_ref.the_row.coded, literal.the_row.coded) };
+
+    ghost view = { λ d. d.kept };
+
+    ghost invariant = { λ d. d.kept.world ≡ B.world };
+}
+
+impl<'w, B: Served> RunDocuments<'w, B> {
+    /// No documents yet.
+    pub fn new(alloc: Global, world: &'w World) -> RunDocuments<'w, B>
+        requires { world.now ≡ B.world }
+    {
+        RunDocuments {
+            kept: KeptDocuments::new(alloc, world),
+            of: PhantomData,
+        }
+    }
+
+    /// The world of the run.
+    pub fn world(&self) -> &'w World
+        ensures { result.now ≡ B.world }
+    {
+        self.kept.world()
+    }
+
+    // Keeps the document of a query.
+    fn keep(&mut self, alloc: Global, query: &str) -> Result<(), RequestFault>
+        ensures { (name : Option (List ℕ)) (given : Data) → IfErr result (IsRequestFault (tree_of B.world.definitions) query.now name given) }
+    {
+        self.kept.keep(alloc, query)
+    }
+
+    // What a request asks, by the kept document of its query if there is one.
+    fn plan(&self, alloc: Global, request: &Request<'_>) -> Result<LinePlan<'_>, NoMemory>
+        ensures { IfOk result (PlansRequest B.world (request_of request.now)) }
+    {
+        let none = Value::Null;
+        let values = request.variables.unwrap_or(&none);
+        let kept = &self.kept;
+        match kept.plan(alloc, request.query, request.operation_name, values) {
+            Ok(plan) => Ok(LinePlan::Planned(plan)),
+            Err(fault) => match refusal(alloc, &fault) {
+                Ok(text) => Ok(LinePlan::Refused(text)),
+                Err(want) => Err(want),
+            },
+        }
+    }
+
+    // What a request asks, whose document is kept.
+    fn plan_request(
+        &mut self,
+        alloc: Global,
+        request: &Request<'_>,
+    ) -> Result<LinePlan<'_>, NoMemory>
+        ensures { IfOk result (PlansRequest B.world (request_of request.now)) }
+    {
+        match self.keep(alloc, request.query) {
+            Ok(()) => self.plan(alloc, request),
+            Err(fault) => match refusal(alloc, &fault) {
+                Ok(text) => Ok(LinePlan::Refused(text)),
+                Err(want) => Err(want),
+            },
+        }
+    }
+
+    /// What a line asks over the world of the run, as [`plan_line`](crate::plan_line) returns it. A query that is kept is neither
+    /// parsed nor checked again.
+    ///
+    /// # Errors
+    ///
+    /// Only when out of memory.
+    pub fn plan_line(&mut self, alloc: Global, line: &[u8]) -> Result<LinePlan<'_>, NoMemory>
+        ensures { IfOk result (PlansLine B.world line.now) }
+    {
+        let Ok(value) = read_value(alloc, line) else {
+            return Err(NoMemory);
+        };
+        if let Some(value) = value {
+            if let Some(request) = Request::of_value(&value) {
+                return self.plan_request(alloc, &request);
+            }
+        }
+        match not_a_request(alloc) {
+            Ok(text) => Ok(LinePlan::Refused(text)),
+            Err(want) => Err(want),
+        }
+    }
+}
