@@ -1,6 +1,7 @@
 //! Answers with workers: round after round until nothing is missing, each by workers over a shelf of its own.
 ghost use Rattle.std.specs.Prelude.{◌≡◌, ◌<◌, ◌≤◌, ◌↔◌, length, IfOk, OnOk, OnErr, IsErrOf, string_bytes};
-ghost use Rattle.load_rounds.specs.Sessions.{state_of};
+ghost use Rattle.gq_resolve.specs.Evaluated.{GrowsTo};
+ghost use Rattle.load_rounds.specs.Sessions.{state_of, memory_of};
 ghost use Rattle.load_rounds.specs.Headline.{Headline, StopsAnswering};
 ghost use Rattle.load_rounds.specs.Runs.{run_of, orders_in};
 ghost use Rattle.batch_workers.specs.Workers.{IsBadCount, StoresRound, LosesRound};
@@ -23,10 +24,10 @@ use std::thread::Threads;
 /// [`BadCount`](WorkFault::BadCount) exactly if the number of workers isn't 1 to 16: nothing was asked then, and the session is
 /// as it was, failed batches too. [`NoMemory`](WorkFault::NoMemory) when out of memory: the finished rounds stay, and a round
 /// that was out is lost.
-pub fn answer_with<S: Source, P: Execute, R: Threads + Wait + Sync>(
+pub fn answer_with<'p, S: Source, P: Execute<'p>, R: Threads + Wait + Sync>(
     rt: &R,
     session: &mut Session<S>,
-    plan: &P,
+    plan: &'p P,
     workers: usize,
 ) -> Result<Answer, WorkFault>
     requires loaders { P.loaders plan.now ≤ length session.old.loaders }
@@ -46,11 +47,11 @@ pub fn answer_with<S: Source, P: Execute, R: Threads + Wait + Sync>(
     }
 }
 
-// Makes round after round until nothing is missing.
-fn answered<S: Source, P: Execute, R: Threads + Wait + Sync>(
+// Makes round after round until nothing is missing, over one execution of the plan.
+fn answered<'p, S: Source, P: Execute<'p>, R: Threads + Wait + Sync>(
     rt: &R,
     session: &mut Session<S>,
-    plan: &P,
+    plan: &'p P,
     workers: usize,
 ) -> Result<Answer, NoMemory>
     requires count { (0 < workers) × (workers ≤ 16) }
@@ -61,8 +62,9 @@ fn answered<S: Source, P: Execute, R: Threads + Wait + Sync>(
         (P.program plan.now)) }
 {
     let mut run = session.begin(plan)?;
+    let mut progress = plan.start();
     loop {
-        match run.next_round(session)? {
+        match run.resume(session, &mut progress)? {
             Next::Finished(answer) => return Ok(answer),
             Next::Round(orders) => make_round(rt, session, &mut run, orders, workers)?,
         }
@@ -70,10 +72,10 @@ fn answered<S: Source, P: Execute, R: Threads + Wait + Sync>(
 }
 
 // Runs the orders of the round that is out, and stores their replies.
-fn make_round<S: Source, P: Execute, R: Threads + Wait + Sync>(
+fn make_round<'p, S: Source, P: Execute<'p>, R: Threads + Wait + Sync>(
     rt: &R,
     session: &mut Session<S>,
-    run: &mut Run<'_, P>,
+    run: &mut Run<'p, P>,
     orders: Vec<Order>,
     workers: usize,
 ) -> Result<(), NoMemory>
@@ -83,6 +85,7 @@ fn make_round<S: Source, P: Execute, R: Threads + Wait + Sync>(
     ensures ready { OnOk result (run.new ≡ run_of run.old.plan run.old.rounds Stage.Ready) }
     ensures made { OnOk result (StoresRound S.may_answer (P.program run.old.plan) (state_of session.old)
         (state_of session.new) run.old.rounds) }
+    ensures grown { OnOk result (GrowsTo (memory_of session.old) (memory_of session.new)) }
     ensures lost { OnErr result (LosesRound S.may_answer (P.program run.old.plan) (state_of session.old)
         (state_of session.new) run.old.rounds) }
 {

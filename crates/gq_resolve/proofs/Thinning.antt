@@ -1,21 +1,16 @@
 -- Loads that are noted each once, and what they add to the wants.
 use Rattle.std.proofs.Common.{◌≡◌, ℕ, zero, suc, ◌||◌, Bool, true, false, List, [], ◌∷◌, ◌++◌, refl, sym, ap, ◌∙◌, if◌then◌else◌, eqb-true, append_assoc}
 use Rattle.std.proofs.lemmas.Bool.{and_parts}
-use Rattle.std.proofs.lemmas.List.{map-append}
 use Rattle.std.proofs.lemmas.List.Folds.{list_any-append}
 use Rattle.std.specs.List.{list_any}
 use Rattle.load_memory.specs.Keys.{KeyOf, folded, same_key}
 use Rattle.load_memory.proofs.Looks.{same_key-is, same_key-refl}
-use Rattle.load_memory.proofs.PartLaws.{key-eq}
 use Rattle.load_queue.specs.Wanted.{WantedOf, is_wanted, with_key, with_wanted}
 use Rattle.execution.specs.Loads.{Load}
 use Rattle.execution.specs.Front.{wanting}
-use Rattle.indexmap.specs.IndexSet.{insert_key}
 use Rattle.gq_resolve.specs.Evaluated.{AddsPart}
-use Rattle.gq_resolve.specs.Walked.{lacking, load_of, lacked, is_load, with_load, thinned, Puts}
-use Rattle.gq_resolve.specs.declared.writing.Missing.{Missing}
-use Rattle.gq_resolve.specs.declared.writing.Output.{Output}
-use Rattle.gq_resolve.specs.contracts.writing.MissingPartialEq.TheImpl as missing_eq
+use Rattle.gq_resolve.specs.Composing.{thinned-append}
+use Rattle.gq_resolve.specs.Written.{is_load, with_load, thinned}
 
 -- ---- a list of loads
 
@@ -24,10 +19,6 @@ load-is a b h =
     let loader : a.loader ≡ b.loader = eqb-true a.loader b.loader (and_parts _ _ h).0 in
     let key : a.key ≡ b.key = same_key-is a.key b.key (and_parts _ _ h).1 in
     ap (λ n. let l : Load = record { loader = n; key = a.key } in l) loader ∙ ap (λ k. let l : Load = record { loader = b.loader; key = k } in l) key
-
-pub thinned-append : (noted xs ys : List Load) → thinned noted (xs ++ ys) ≡ thinned (thinned noted xs) ys
-thinned-append noted [] ys = refl
-thinned-append noted (x ∷ xs) ys = thinned-append (with_load noted x) xs ys
 
 -- those of the loads that go last
 abbrev news : List Load → List Load → List Load
@@ -165,38 +156,11 @@ part-thinned old new ls h =
       added = h.added ∙ ap (wanting old) (sym (thinned-news [] r.0 ∙ r.3)) ∙ wanting-thinned old r.0;
     }
 
--- ---- the set of what is noted
-
-pub lacked-none : (ms : List Missing) → lacked ms ≡ [] → ms ≡ []
-lacked-none [] h = refl
-lacked-none (m ∷ ms) h = absurd (cc h)
-
-missing-eq : (m n : Missing) → (missing_eq.eq-value).it m n ≡ is_load (load_of m) (load_of n)
-missing-eq m n = rw (← key-eq m.key n.key) refl
-
-any-lacked : (m : Missing) (ms : List Missing) → list_any ((missing_eq.eq-value).it m) ms ≡ list_any (is_load (load_of m)) (lacked ms)
-any-lacked m [] = refl
-any-lacked m (n ∷ ms) = rw (missing-eq m n, any-lacked m ms) refl
-
-lacked-insert : (ms : List Missing) (m : Missing) → lacked (insert_key (missing_eq.eq-value).it ms m) ≡ with_load (lacked ms) (load_of m)
-lacked-insert ms m = go (list_any ((missing_eq.eq-value).it m) ms) (any-lacked m ms)
-  where
-    go : (b : Bool) → b ≡ list_any (is_load (load_of m)) (lacked ms) → lacked (if b then ms else ms ++ m ∷ []) ≡ with_load (lacked ms) (load_of m)
-    go true e = rw (← e) refl
-    go false e = rw (← e) (map-append load_of ms (m ∷ []))
-
--- what was inserted into isn't empty
-insert-some : (ms : List Missing) (m : Missing) → insert_key (missing_eq.eq-value).it ms m ≡ [] → ⊥
-insert-some [] m h = cc h
-insert-some (n ∷ ms) m h = go (list_any ((missing_eq.eq-value).it m) (n ∷ ms)) h
-  where
-    go : (b : Bool) → (if b then n ∷ ms else (n ∷ ms) ++ m ∷ []) ≡ [] → ⊥
-    go true e = cc e
-    go false e = cc e
-
-pub puts-lack : (m : Missing) (a b : Output) → b.writer.before ≡ a.writer.before → b.missing.keys ≡ insert_key (missing_eq.eq-value).it a.missing.keys m → Puts (lacking (load_of m)) a b
-puts-lack m a b same is = record {
-  before = same;
-  missing = ap lacked is ∙ lacked-insert a.missing.keys m;
-  written = λ w. absurd (insert-some a.missing.keys m (sym is ∙ w.whole));
+-- the first of some loads, each once, are the first of them all, each once
+pub thinned-part : (old new : List WantedOf) (ls : List Load) → AddsPart old new ls → AddsPart old new (thinned [] ls)
+thinned-part old new ls h = record {
+  part = thinned [] h.part;
+  left = news (thinned [] h.part) h.left;
+  split = ap (thinned []) h.split ∙ thinned-append [] h.part h.left ∙ thinned-news (thinned [] h.part) h.left;
+  added = h.added ∙ sym (wanting-thinned old h.part);
 }

@@ -3,7 +3,7 @@ use Rattle.std.specs.Prelude.{◌≡◌, ◌≢◌, ◌≤◌, List, [], ◌++�
 use Rattle.std.specs.declared.alloc.Global.{Global}
 use Rattle.load_memory.specs.Pairs.{MemoryOf, look}
 use Rattle.load_queue.specs.Wanted.{WantedOf}
-use Rattle.execution.specs.Loads.{Load, Reader, read}
+use Rattle.execution.specs.Loads.{Load, Reader, read, Extends}
 use Rattle.execution.specs.Program.{Program}
 use Rattle.execution.specs.Completion.{AnsweredOf}
 use Rattle.execution.specs.Executed.{exec}
@@ -43,3 +43,8 @@ pub record AddsPart (old new : List WantedOf) (loads : List Load) : Type 0 where
 pub record CanEvaluate (plan : PlanOf) (m : MemoryOf) (wants : List WantedOf) : Type 0 where
   pub loaders : length plan.bindings.loaders ≤ length m.modes
   pub modes : modes_wanted wants ≡ m.modes
+
+-- the second memory has each pair of the first, and the same loaders
+pub record GrowsTo (m n : MemoryOf) : Type 0 where
+  pub modes : n.modes ≡ m.modes
+  pub pairs : Extends (look m.pairs) (look n.pairs)

@@ -3,5 +3,12 @@ pub mod Evaluated
 pub mod States
 pub mod Cells
 pub mod Completing
-pub mod Shapes
-pub mod Walked
+pub mod Puts
+pub mod Spots
+pub mod Leaves
+pub mod Groups
+pub mod Walks
+pub mod Written
+pub mod Composing
+pub mod Suspended
+pub mod Built

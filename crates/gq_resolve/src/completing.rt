@@ -3,10 +3,9 @@
 ghost use Rattle.std.specs.Prelude.{◌≡◌};
 ghost use Rattle.gq_parser.specs.Tree.{type_of};
 ghost use Rattle.gq_schema.specs.Types.{is_non_null};
-ghost use Rattle.gq_resolve.specs.Answered.{response_of};
+ghost use Rattle.gq_resolve.specs.Answered.{response_of, is_null_response};
 ghost use Rattle.gq_resolve.specs.Completing.{complete, completed_of};
 
-use crate::finish::is_null;
 use answer_json::Response;
 use gq_parser::TypeRef;
 
@@ -22,6 +21,20 @@ pub enum Completed {
         /// Whether this position adds an error.
         new: bool,
     },
+}
+
+// Whether it is null.
+fn is_null(response: &Response) -> bool
+    ensures { result ≡ is_null_response (response_of response.now) }
+{
+    match response {
+        Response::Null => true,
+        Response::Text(_) => false,
+        Response::Int(_) => false,
+        Response::Bool(_) => false,
+        Response::List(_) => false,
+        Response::Object(_) => false,
+    }
 }
 
 /// Completes a response at a type. A null of non-null type adds an error, unless the position has one: it is `faulted`.

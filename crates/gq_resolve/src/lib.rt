@@ -6,22 +6,27 @@
 //! the same with the text of the answer, and builds nothing where there are no errors.
 #![tactic(auto)]
 
+mod advance;
 mod answer;
 mod answered;
-mod build;
+mod builder;
 mod cells;
 mod completing;
 mod evaluation;
 mod executing;
-mod finish;
+mod groups;
+mod kept;
+mod level;
 mod no_memory;
-mod over;
+mod output;
 mod reading;
-mod shapes;
-mod state;
-mod waiting;
-mod walk;
-mod writing;
+mod resolve;
+mod responding;
+mod root_state;
+mod sink;
+mod spot;
+mod tour;
+mod wanting;
 
 pub use answer::answer_text;
 pub use answered::Answered;
@@ -30,3 +35,5 @@ pub use evaluation::evaluate;
 pub use executing::execute_text;
 pub use no_memory::NoMemory;
 pub use plan_program::{ArgFault, Args, Group, arguments_of, collect};
+pub use resolve::Resolve;
+pub use root_state::RootState;

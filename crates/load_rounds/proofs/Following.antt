@@ -1,5 +1,5 @@
 -- Rounds that follow one another, until nothing is missing.
-use Rattle.std.proofs.Common.{true, ◌≡◌, ◌≢◌, ◌<◌, ◌≤◌, ◌+◌, ℕ, List, [], ◌∷◌, ◌++◌, map, length, Some, refl, ap, ◌∙◌, sym, arith, length-append}
+use Rattle.std.proofs.Common.{true, ◌≡◌, ◌≢◌, ◌<◌, ◌≤◌, ◌+◌, ℕ, List, [], ◌∷◌, ◌++◌, map, length, Some, refl, ap, ◌∙◌, sym, arith, ◌⊎◌, length-append}
 use Rattle.std.proofs.Math.Path.{fun_ext}
 use Rattle.std.specs.Prelude.{slice_get}
 use Rattle.std.proofs.lemmas.List.{length-map}
@@ -21,8 +21,8 @@ use Rattle.execution.proofs.RoundLaws.{rounds-chain, rounds-sparing, rounds-more
 use Rattle.execution.proofs.Wanting.{wanting-front, wanting-firsts}
 use Rattle.load_rounds.specs.Sessions.{StateOf, rules_of, session_modes, after_step, after_steps}
 use Rattle.load_rounds.specs.Rounds.{AreWanted}
-use Rattle.load_rounds.specs.Calls.{RoundRan}
-use Rattle.load_rounds.specs.Headline.{IsTextOf, asked_steps, MakesRounds, Headline}
+use Rattle.load_rounds.specs.Calls.{RoundRan, RoundLost}
+use Rattle.load_rounds.specs.Headline.{IsTextOf, asked_steps, MakesRounds, Headline, StopsAnswering}
 use Rattle.load_rounds.proofs.Numbering.{source-at}
 pub use Rattle.load_rounds.proofs.Stepping.{SameSources}
 use Rattle.load_rounds.proofs.Onces.{ran-rules}
@@ -102,6 +102,15 @@ module _ {S : Type 0} (may : S → List KeyOf → AnswerOf → Type 0) where
             let first = is.sources i there.0 there.1 in
             (first.0, first.1, there.2 ∙ first.2);
       }
+
+  pub in-loaders : (old cur : StateOf S) (p : Program) (rounds : ℕ) → InRounds old cur p rounds → length cur.loaders ≡ length old.loaders
+  in-loaders old cur p rounds is = sym (length-map cur.loaders rule_of) ∙ ap length is.rules ∙ length-map old.loaders rule_of
+
+  -- memory was wanted: the rounds so far stay, and perhaps one more is lost
+  pub in-stops : (old cur new : StateOf S) (p : Program) (rounds : ℕ) → InRounds old cur p rounds → (new ≡ cur) ⊎ RoundLost cur new (front (session_modes cur) p cur.memory) → StopsAnswering may old new p
+  in-stops old cur new p rounds is end =
+      let same : session_modes cur ≡ session_modes old = ap modes_of is.rules in
+      record { log = is.log; mid = cur; made = is.made; end = rw (ap (λ ms. front ms p cur.memory) same) at end }
 
   -- nothing is missing
   pub in-all : (old cur : StateOf S) (p : Program) (rounds loaders : ℕ) (text_of : AnsweredOf → List ℕ) (text : List ℕ) → InRounds old cur p rounds → AreLimited (rules_of old) → HasLoaders loaders p → loaders ≤ length old.loaders

@@ -1,6 +1,7 @@
 pub mod Cutting
 pub mod Following
 pub mod Gaining
+pub mod Growing
 pub mod Histories
 pub mod KeyByKey
 pub mod Keyed

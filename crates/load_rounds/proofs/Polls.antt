@@ -1,8 +1,9 @@
 -- Polls of an answering future that follow one another.
-use Rattle.std.proofs.Common.{◌≡◌, ◌≢◌, ◌≤◌, ◌+◌, ℕ, List, [], length, Some, None, Result, Ok, Err, refl, ap, ◌∙◌, sym, arith, inl, ◌⊎◌}
+use Rattle.std.proofs.Common.{◌≡◌, ◌≢◌, ◌≤◌, ◌+◌, ℕ, List, [], length, IsSome, Some, None, Result, Ok, Err, refl, ap, ◌∙◌, sym, arith, inl, ◌⊎◌}
 use Rattle.std.proofs.lemmas.List.{length-map}
 use Rattle.std.specs.Prelude.{slice_get, string_bytes}
 use Rattle.load_memory.specs.Keys.{KeyOf}
+use Rattle.load_memory.specs.Pairs.{MemoryOf}
 use Rattle.load_memory.specs.declared.no_memory.NoMemory.{NoMemory}
 use Rattle.load_queue.specs.Answers.{AnswerOf}
 use Rattle.execution.specs.Loads.{read}
@@ -12,10 +13,10 @@ use Rattle.execution.specs.Front.{front}
 use Rattle.execution.specs.Rounds.{rule_of, modes_of, may_at, AreLimited, HasLoaders, without_failed}
 use Rattle.execution.specs.Sessions.{Forgot}
 use Rattle.execution.proofs.RoundLaws.{rounds-chain}
-use Rattle.load_rounds.specs.Sessions.{SessionOf, StateOf, state_of, rules_of, session_modes, after_step}
+use Rattle.load_rounds.specs.Sessions.{SessionOf, StateOf, state_of, rules_of, session_modes, memory_of, after_step}
 use Rattle.load_rounds.specs.Calls.{RoundRan, RoundLost}
 use Rattle.load_rounds.specs.Headline.{IsTextOf, asked_steps, Answers}
-use Rattle.load_rounds.specs.Answerings.{FarOf, handed, polled, over, rounds_of, begun, HasMade, CanPoll, Gives, PollRan}
+use Rattle.load_rounds.specs.Answerings.{FarOf, handed, polled, over, rounds_of, begun, FitsFar, HasMade, CanPoll, Gives, PollRan}
 use Rattle.load_rounds.specs.declared.answer.Answer.{Answer}
 use Rattle.load_rounds.proofs.Following.{InRounds, in-none, in-more, in-all}
 use Rattle.load_rounds.proofs.Stepping.{steps-rules, steps-sources}
@@ -45,21 +46,36 @@ module _ {S : Type 0} (may : S → List KeyOf → AnswerOf → Type 0) where
   size : (old cur : StateOf S) (p : Program) (n : ℕ) → InRounds may old cur p n → length cur.loaders ≡ length old.loaders
   size old cur p n is = sym (length-map cur.loaders rule_of) ∙ ap length is.rules ∙ length-map old.loaders rule_of
 
-  module _ (loaders : ℕ) (p : Program) where
+  module _ {E : Type 0} (fits : E → MemoryOf → Type 0) (loaders : ℕ) (p : Program) where
+    pub can-fits : (st : FarOf S E) → CanPoll may fits loaders p st → FitsFar fits st
+    can-fits (handed s) can = tt
+    can-fits (polled s rounds progress) can = can.1
+    can-fits over can = tt
+
+    pub can-begin : (st : FarOf S E) → CanPoll may fits loaders p st → IsSome (begun st)
+    can-begin (handed s) can = refl
+    can-begin (polled s rounds progress) can = refl
+    can-begin over can = absurd can
+
+    pub can-ask : (st : FarOf S E) (cur : StateOf S) → begun st ≡ Some cur → CanPoll may fits loaders p st → loaders ≤ length cur.loaders
+    can-ask (handed s) cur at can = rw (← some-is _ _ at) can
+    can-ask (polled s rounds progress) cur at can = rw (← some-is _ _ at) can.0
+    can-ask over cur at can = absurd can
+
     -- the state from which the rounds so far were made
-    from-some : (st : FarOf S) (cur : StateOf S) (n : ℕ) → begun st ≡ Some cur → n ≡ rounds_of st → CanPoll may loaders p st → (old : StateOf S) × (loaders ≤ length old.loaders) × InRounds may old cur p n
+    from-some : (st : FarOf S E) (cur : StateOf S) (n : ℕ) → begun st ≡ Some cur → n ≡ rounds_of st → CanPoll may fits loaders p st → (old : StateOf S) × (loaders ≤ length old.loaders) × InRounds may old cur p n
     from-some (handed s) cur n at is can = (state_of s, can, rw is (in-none may (state_of s) cur p (sym (some-is _ _ at))))
-    from-some (polled s rounds) cur n at is can =
-        let made = in-made can.1 (state_of s) p rounds can.2 in
+    from-some (polled s rounds progress) cur n at is can =
+        let made = in-made can.2 (state_of s) p rounds can.3 in
         let same : state_of s ≡ cur = some-is _ _ at in
-        (can.1, omega (arith, can.0, size can.1 (state_of s) p rounds made), rw (is, ← same) made)
+        (can.2, omega (arith, can.0, size can.2 (state_of s) p rounds made), rw (is, ← same) made)
     from-some over cur n at is can = absurd can
 
     -- what comes of a future is what comes of it whichever state the rounds so far were made from
-    pub gives-output : (text_of : AnsweredOf → List ℕ) (st : FarOf S) (cur : StateOf S) (n : ℕ) (out : SessionOf S × Result Answer NoMemory) → begun st ≡ Some cur → n ≡ rounds_of st → CanPoll may loaders p st
+    pub gives-output : (text_of : AnsweredOf → List ℕ) (st : FarOf S E) (cur : StateOf S) (n : ℕ) (out : SessionOf S × Result Answer NoMemory) → begun st ≡ Some cur → n ≡ rounds_of st → CanPoll may fits loaders p st
         → ((old : StateOf S) → loaders ≤ length old.loaders → InRounds may old cur p n → Answers may old (state_of out.0) p text_of out.1) → Gives may p text_of st out
     gives-output text_of (handed s) cur n out at is can h = h (state_of s) can (rw is (in-none may (state_of s) cur p (sym (some-is _ _ at))))
-    gives-output text_of (polled s rounds) cur n out at is can h = λ old made.
+    gives-output text_of (polled s rounds progress) cur n out at is can h = λ old made.
         let so = in-made old (state_of s) p rounds made in
         let same : state_of s ≡ cur = some-is _ _ at in
         h old (omega (arith, can.0, size old (state_of s) p rounds so)) (rw (is, ← same) so)
@@ -69,11 +85,11 @@ module _ {S : Type 0} (may : S → List KeyOf → AnswerOf → Type 0) where
     old-limited : (old cur : StateOf S) (n : ℕ) → InRounds may old cur p n → AreLimited (rules_of cur) → AreLimited (rules_of old)
     old-limited old cur n is limited = rw is.rules at limited
 
-    module _ (within : HasLoaders loaders p) (st : FarOf S) (cur : StateOf S) (n : ℕ) (at : begun st ≡ Some cur) (is : n ≡ rounds_of st) (can : CanPoll may loaders p st) where
+    module _ (st : FarOf S E) (cur : StateOf S) (n : ℕ) (at : begun st ≡ Some cur) (is : n ≡ rounds_of st) (can : CanPoll may fits loaders p st) where
       -- the poll that finds nothing missing
-      pub gives-answer : (text_of : AnsweredOf → List ℕ) (s : SessionOf S) (a : Answer) → AreLimited (rules_of cur) → a.rounds ≡ n → state_of s ≡ cur → front (session_modes cur) p cur.memory ≡ []
+      pub gives-answer : HasLoaders loaders p → (text_of : AnsweredOf → List ℕ) (s : SessionOf S) (a : Answer) → AreLimited (rules_of cur) → a.rounds ≡ n → state_of s ≡ cur → front (session_modes cur) p cur.memory ≡ []
           → IsTextOf text_of p (read (session_modes cur) cur.memory) (string_bytes a.text) → Gives may p text_of st (s, Ok a)
-      gives-answer text_of s a limited counted same none done = gives-output text_of st cur n (s, Ok a) at is can go where
+      gives-answer within text_of s a limited counted same none done = gives-output text_of st cur n (s, Ok a) at is can go where
         go : (old : StateOf S) → loaders ≤ length old.loaders → InRounds may old cur p n → Answers may old (state_of s) p text_of (Ok a)
         go old enough so =
             let answer = in-all may old cur p n loaders text_of (string_bytes a.text) so (old-limited old cur n so limited) within enough none done in
@@ -87,7 +103,7 @@ module _ {S : Type 0} (may : S → List KeyOf → AnswerOf → Type 0) where
             let same : session_modes cur ≡ session_modes old = ap modes_of so.rules in
             (tt, record { log = so.log; mid = cur; made = so.made; end = rw (ap (λ ms. front ms p cur.memory) same) at end })
 
-      module _ (s : SessionOf S) (next : ℕ) (counted : next ≡ n + 1) (lacks : front (session_modes cur) p cur.memory ≢ []) (ran : RoundRan may cur (state_of s) (front (session_modes cur) p cur.memory)) where
+      module _ (s : SessionOf S) (next : ℕ) (progress : E) (counted : next ≡ n + 1) (lacks : front (session_modes cur) p cur.memory ≢ []) (ran : RoundRan may cur (state_of s) (front (session_modes cur) p cur.memory)) where
         more : (old : StateOf S) → InRounds may old cur p n → InRounds may old (state_of s) p next
         more old so = in-more may old cur (state_of s) p n next so counted lacks ran
 
@@ -98,17 +114,17 @@ module _ {S : Type 0} (may : S → List KeyOf → AnswerOf → Type 0) where
           go old enough so = let one = more old so in (tt, record { log = one.log; mid = state_of s; made = one.made; end = inl refl })
 
         -- the poll that is pending
-        pub can-again : CanPoll may loaders p (polled s next)
-        can-again =
+        pub can-again : fits progress (memory_of s) → CanPoll may fits loaders p (polled s next progress)
+        can-again fit =
             let from = from-some st cur n at is can in
             let one = more from.0 from.2 in
-            (omega (arith, from.1, size from.0 (state_of s) p next one), from.0, made from.0 (state_of s) p next one)
+            (omega (arith, from.1, size from.0 (state_of s) p next one), fit, from.0, made from.0 (state_of s) p next one)
 
-        pub gives-same : (text_of : AnsweredOf → List ℕ) (x : SessionOf S × Result Answer NoMemory) → Gives may p text_of (polled s next) x → Gives may p text_of st x
+        pub gives-same : (text_of : AnsweredOf → List ℕ) (x : SessionOf S × Result Answer NoMemory) → Gives may p text_of (polled s next progress) x → Gives may p text_of st x
         gives-same text_of x h = gives-output text_of st cur n x at is can (λ old enough so. h old (made old (state_of s) p next (more old so)))
 
-        pub poll-ran : AreLimited (rules_of cur) → PollRan may p st (polled s next)
-        poll-ran limited =
+        pub poll-ran : HasLoaders loaders p → AreLimited (rules_of cur) → PollRan may p st (polled s next progress)
+        poll-ran within limited =
             let from = from-some st cur n at is can in
             let one = more from.0 from.2 in
             let rules = rules_of from.0 in
@@ -117,6 +133,7 @@ module _ {S : Type 0} (may : S → List KeyOf → AnswerOf → Type 0) where
             record {
               before = cur;
               after = s;
+              progress = progress;
               begins = at;
               ends = rw (counted, is) refl;
               lacks = lacks;

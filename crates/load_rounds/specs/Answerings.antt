@@ -1,7 +1,7 @@
 -- What contracts see of an answering future, and what it does, poll by poll.
 use Rattle.std.specs.Prelude.{◌≡◌, ◌≢◌, ◌≤◌, ℕ, List, [], ◌+◌, length, Option, Some, None, Result, String, string_bytes}
 use Rattle.load_memory.specs.Keys.{KeyOf}
-use Rattle.load_memory.specs.Pairs.{look}
+use Rattle.load_memory.specs.Pairs.{MemoryOf, look}
 use Rattle.load_memory.specs.Replies.{ReplyOf}
 use Rattle.load_memory.specs.declared.no_memory.NoMemory.{NoMemory}
 use Rattle.load_queue.specs.Answers.{AnswerOf}
@@ -13,77 +13,87 @@ use Rattle.execution.specs.Sessions.{Forgot}
 use Rattle.futures.specs.declared.task.Poll.{Poll}
 use Rattle.futures.specs.declared.task.Poll.TheVariants.{Ready, Pending}
 use Rattle.std.specs.declared.alloc.Global.{Global}
-use Rattle.load_rounds.specs.Sessions.{SessionOf, StateOf, state_of, session_modes, after_step}
+use Rattle.load_rounds.specs.Sessions.{SessionOf, StateOf, state_of, session_modes, memory_of, after_step}
 use Rattle.load_rounds.specs.Calls.{RoundRan}
 use Rattle.load_rounds.specs.Headline.{IsTextOf, MakesRounds, Answers}
 use Rattle.load_rounds.specs.declared.answer.Answer.{Answer}
-use Rattle.load_rounds.specs.declared.answering.Progress.{Progress}
-use Rattle.load_rounds.specs.declared.answering.Progress.TheVariants.{Unpolled, Polled, Over}
+use Rattle.load_rounds.specs.declared.answering.Far.{Far}
+use Rattle.load_rounds.specs.declared.answering.Far.TheVariants.{Unpolled, Polled, Over}
 
--- how far a future is: the session that was handed in, or the session after so many rounds, one for each poll, or it has answered
-pub data FarOf (S : Type 0) : Type 0 where
-  handed : SessionOf S → FarOf S
-  polled : SessionOf S → ℕ → FarOf S
-  over : FarOf S
+-- how far a future is: the session that was handed in, or the session after so many rounds, one for each poll, with the
+-- execution so far, or it has answered
+pub data FarOf (S E : Type 0) : Type 0 where
+  handed : SessionOf S → FarOf S E
+  polled : SessionOf S → ℕ → E → FarOf S E
+  over : FarOf S E
 
 -- what is executed, and how far it is
-pub record AnsweringOf (S P : Type 0) : Type 0 where
+pub record AnsweringOf (S P E : Type 0) : Type 0 where
   pub plan : P
-  pub far : FarOf S
+  pub far : FarOf S E
 
--- No public clause names it. What the progress of a future shows.
-abbrev pub far_of : {S : Type 0} → Progress S → FarOf S
+-- No public clause names it. What contracts see of how far a future is.
+abbrev pub far_of : {S E : Type 0} → Far S E → FarOf S E
 far_of (Unpolled s) = handed s
-far_of (Polled s rounds) = polled s rounds
+far_of (Polled s rounds progress) = polled s rounds progress
 far_of Over = over
 
-module _ {S : Type 0} where
+module _ {S : Type 0} (may : S → List KeyOf → AnswerOf → Type 0) where
+  -- one turn: the text where nothing is missing, and then nothing has changed; else exactly one round, which asked the front
+  abbrev pub Turned : (AnsweredOf → List ℕ) → StateOf S → StateOf S → Program → Poll (String Global) → Type 0
+  Turned text_of old new p (Ready text) =
+      (new ≡ old) × (front (session_modes old) p old.memory ≡ []) × IsTextOf text_of p (read (session_modes old) old.memory) (string_bytes text)
+  Turned text_of old new p Pending =
+      (front (session_modes old) p old.memory ≢ []) × RoundRan may old new (front (session_modes old) p old.memory)
+
+  -- this many rounds were made, each with the front's batches, after failed batches were forgotten
+  pub record HasMade (old cur : StateOf S) (p : Program) (rounds : ℕ) : Type 0 where
+    pub log : List (List ReplyOf)
+    pub made : MakesRounds may old cur p log
+    pub counted : length log ≡ rounds
+
+module _ {S E : Type 0} where
   -- the rounds so far, one for each poll
-  abbrev pub rounds_of : FarOf S → ℕ
+  abbrev pub rounds_of : FarOf S E → ℕ
   rounds_of (handed s) = 0
-  rounds_of (polled s rounds) = rounds
+  rounds_of (polled s rounds progress) = rounds
   rounds_of over = 0
 
   -- where the next poll begins: at first failed batches are forgotten
-  abbrev pub begun : FarOf S → Option (StateOf S)
+  abbrev pub begun : FarOf S E → Option (StateOf S)
   begun (handed s) = Some (after_step (state_of s) Forgot)
-  begun (polled s rounds) = Some (state_of s)
+  begun (polled s rounds progress) = Some (state_of s)
   begun over = None
 
+  -- the execution so far fits what the session knows
+  abbrev pub FitsFar : (E → MemoryOf → Type 0) → FarOf S E → Type 0
+  FitsFar fits (handed s) = Unit {0}
+  FitsFar fits (polled s rounds progress) = fits progress (memory_of s)
+  FitsFar fits over = Unit {0}
+
   module _ (may : S → List KeyOf → AnswerOf → Type 0) where
-    -- one turn: the text where nothing is missing, and then nothing has changed; else exactly one round, which asked the front
-    abbrev pub Turned : (AnsweredOf → List ℕ) → StateOf S → StateOf S → Program → Poll (String Global) → Type 0
-    Turned text_of old new p (Ready text) =
-        (new ≡ old) × (front (session_modes old) p old.memory ≡ []) × IsTextOf text_of p (read (session_modes old) old.memory) (string_bytes text)
-    Turned text_of old new p Pending =
-        (front (session_modes old) p old.memory ≢ []) × RoundRan may old new (front (session_modes old) p old.memory)
-
-    -- this many rounds were made, each with the front's batches, after failed batches were forgotten
-    pub record HasMade (old cur : StateOf S) (p : Program) (rounds : ℕ) : Type 0 where
-      pub log : List (List ReplyOf)
-      pub made : MakesRounds may old cur p log
-      pub counted : length log ≡ rounds
-
-    -- it hasn't answered, and its session has the loaders that are asked
-    abbrev pub CanPoll : ℕ → Program → FarOf S → Type 0
-    CanPoll loaders p (handed s) = loaders ≤ length s.loaders
-    CanPoll loaders p (polled s rounds) = (loaders ≤ length s.loaders) × (old : StateOf S) × HasMade old (state_of s) p rounds
-    CanPoll loaders p over = ⊥
+    -- it hasn't answered, its session has the loaders that are asked, and its execution so far is of this session
+    abbrev pub CanPoll : (E → MemoryOf → Type 0) → ℕ → Program → FarOf S E → Type 0
+    CanPoll fits loaders p (handed s) = loaders ≤ length s.loaders
+    CanPoll fits loaders p (polled s rounds progress) =
+        (loaders ≤ length s.loaders) × fits progress (memory_of s) × (old : StateOf S) × HasMade may old (state_of s) p rounds
+    CanPoll fits loaders p over = ⊥
 
     -- What comes of it: the session that is handed back with the answer, which say what an answering call says of the session
     -- that was handed in, from whichever state the rounds so far were made.
-    abbrev pub Gives : Program → (AnsweredOf → List ℕ) → FarOf S → SessionOf S × Result Answer NoMemory → Type 0
+    abbrev pub Gives : Program → (AnsweredOf → List ℕ) → FarOf S E → SessionOf S × Result Answer NoMemory → Type 0
     Gives p text_of (handed s) out = Answers may (state_of s) (state_of out.0) p text_of out.1
-    Gives p text_of (polled s rounds) out = (old : StateOf S) → HasMade old (state_of s) p rounds → Answers may old (state_of out.0) p text_of out.1
+    Gives p text_of (polled s rounds progress) out = (old : StateOf S) → HasMade may old (state_of s) p rounds → Answers may old (state_of out.0) p text_of out.1
     Gives p text_of over out = ⊥
 
     -- A poll that was pending has made exactly one round, which asked the front, and this isn't empty. So many polls are within
     -- the load chain over the memory after it.
-    pub record PollRan (p : Program) (old new : FarOf S) : Type 0 where
+    pub record PollRan (p : Program) (old new : FarOf S E) : Type 0 where
       pub before : StateOf S
       pub after : SessionOf S
+      pub progress : E
       pub begins : begun old ≡ Some before
-      pub ends : new ≡ polled after (rounds_of old + 1)
+      pub ends : new ≡ polled after (rounds_of old + 1) progress
       pub lacks : front (session_modes before) p before.memory ≢ []
       pub ran : RoundRan may before (state_of after) (front (session_modes before) p before.memory)
       pub within : rounds_of new ≤ chain p (read (session_modes (state_of after)) (look after.pairs))

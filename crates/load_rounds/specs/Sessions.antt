@@ -78,6 +78,10 @@ module _ {S : Type 0} where
   after_steps s [] = s
   after_steps s (step ∷ steps) = after_steps (after_step s step) steps
 
+  -- what the session hands to an execution
+  abbrev pub memory_of : SessionOf S → MemoryOf
+  memory_of s = record { modes = session_modes (state_of s); pairs = s.pairs }
+
   -- each step may be, over sources that may answer so
   abbrev pub MayBe : (S → List KeyOf → AnswerOf → Type 0) → StateOf S → List Step → Type 0
   MayBe may s steps = AreSteps (may_at may s.loaders) (rules_of s) s.memory steps

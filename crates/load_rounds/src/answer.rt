@@ -1,11 +1,14 @@
 //! Answers in turn: round after round until nothing is missing.
-ghost use Rattle.std.specs.Prelude.{◌≡◌, ◌≤◌, length, IfOk, OnErr, string_bytes};
+ghost use Rattle.std.specs.Prelude.{◌≡◌, ◌≤◌, ◌⊎◌, length, IfOk, OnOk, OnErr, string_bytes};
+ghost use Rattle.execution.specs.Front.{front};
+ghost use Rattle.execution.specs.Rounds.{HasLoaders};
 
 use crate::execute::Execute;
+use crate::executed::Executed;
 use crate::session::Session;
 use futures::task::Poll;
 use load_memory::NoMemory;
-use load_queue::{Asks, Wants};
+use load_queue::Asks;
 
 /// The text of an answer, and how many rounds it took.
 #[derive(Debug, Drop)]
@@ -17,14 +20,16 @@ pub struct Answer {
 }
 
 impl<S: Asks> Session<S> {
-    ghost use Rattle.load_rounds.specs.Sessions.{state_of};
+    ghost use Rattle.load_rounds.specs.Sessions.{state_of, session_modes, memory_of};
+    ghost use Rattle.load_rounds.specs.Calls.{RoundLost};
+    ghost use Rattle.load_rounds.specs.Answerings.{Turned};
     ghost use Rattle.load_rounds.specs.Headline.{Headline, StopsAnswering};
 
     /// Answers a plan on this thread. It forgets failed batches, and then makes rounds until nothing is
     /// missing. Each round asks for all keys that are needed and missing.
     ///
     /// When out of memory, the finished rounds stay, and a round that was out is lost.
-    pub fn answer<P: Execute>(&mut self, plan: &P) -> Result<Answer, NoMemory>
+    pub fn answer<'p, P: Execute<'p>>(&mut self, plan: &'p P) -> Result<Answer, NoMemory>
         requires { P.loaders plan.now ≤ length self.old.loaders }
         ensures answer { IfOk result (λ a. Headline S.may_tell (state_of self.old) (state_of self.new)
             (P.program plan.now) (P.text_of plan.now) (string_bytes a.text) a.rounds) }
@@ -32,16 +37,37 @@ impl<S: Asks> Session<S> {
             (P.program plan.now)) }
     {
         self.forget();
+        let mut progress = plan.start();
         let mut rounds: u32 = 0;
         loop {
-            let mut wants = self.nothing_wanted()?;
-            match plan.execute(self.alloc(), self.memory(), &mut wants)? {
+            match self.turn(plan, &mut progress)? {
                 Poll::Ready(text) => return Ok(Answer { text, rounds }),
-                Poll::Pending => {
-                    let next = rounds.checked_add(1).ok_or(NoMemory)?;
-                    self.ask(wants)?;
-                    rounds = next;
-                }
+                Poll::Pending => rounds = rounds.checked_add(1).ok_or(NoMemory)?,
+            }
+        }
+    }
+
+    /// Goes on with an execution: returns its text if nothing is missing, and otherwise makes one round that asks for what
+    /// is needed and missing.
+    pub(crate) fn turn<'p, P: Execute<'p>>(
+        &mut self,
+        plan: &'p P,
+        progress: &mut P::Progress,
+    ) -> Result<Poll<String>, NoMemory>
+        requires loaders { P.loaders plan.now ≤ length self.old.loaders }
+        requires fits { P.fits plan.now progress.old (memory_of self.old) }
+        ensures turned { IfOk result (λ polled. Turned S.may_tell (P.text_of plan.now) (state_of self.old)
+            (state_of self.new) (P.program plan.now) polled) }
+        ensures fits { OnOk result (P.fits plan.now progress.new (memory_of self.new)) }
+        ensures within { OnOk result (HasLoaders (P.loaders plan.now) (P.program plan.now)) }
+        ensures stopped { OnErr result ((state_of self.new ≡ state_of self.old) ⊎ RoundLost (state_of self.old)
+            (state_of self.new) (front (session_modes (state_of self.old)) (P.program plan.now) (state_of self.old).memory)) }
+    {
+        match self.execute(plan, progress)? {
+            Executed::Ready(text) => Ok(Poll::Ready(text)),
+            Executed::Missing(wants) => {
+                self.ask(wants)?;
+                Ok(Poll::Pending)
             }
         }
     }

@@ -1,9 +1,10 @@
 //! What can be executed over a memory.
-ghost use Rattle.std.specs.Prelude.{ℕ, List, IfOk};
+ghost use Rattle.std.specs.Prelude.{ℕ, List, IfOk, OnOk};
+ghost use Rattle.load_memory.specs.Pairs.{MemoryOf};
 ghost use Rattle.execution.specs.Program.{Program};
 ghost use Rattle.execution.specs.Completion.{AnsweredOf};
 ghost use Rattle.execution.specs.Rounds.{HasLoaders};
-ghost use Rattle.load_rounds.specs.Executes.{CanExecute, IsExecuted};
+ghost use Rattle.load_rounds.specs.Executes.{CanExecute, IsExecuted, FitsFrom};
 
 use futures::task::Poll;
 use load_memory::{Memory, NoMemory};
@@ -12,7 +13,12 @@ use std::alloc::Global;
 
 /// Something that loads keys and returns a text, as a plan does. It is ready over a memory that has everything
 /// it needs, and otherwise says exactly which loads are missing.
-pub trait Execute {
+///
+/// An execution of it is kept from one memory to the next, if that one has at least the same pairs.
+pub trait Execute<'p> {
+    /// How far an execution is.
+    type Progress: Drop;
+
     // what it asks, one load at a time
     ghost program: { Self → Program };
 
@@ -22,15 +28,24 @@ pub trait Execute {
     // it asks loaders below this number
     ghost loaders: { Self → ℕ };
 
-    /// Executes it over the memory. If loads are missing, adds them to the wants.
+    // the progress is of an execution of it, and holds nothing as done that isn't so over the memory
+    ghost fits: { Self → Self.Progress → MemoryOf → Type 0 };
+
+    /// An execution of which nothing is done.
+    fn start(&'p self) -> Self::Progress
+        ensures { (m : MemoryOf) → fits self.now result m };
+
+    /// Goes on with an execution over the memory. If loads are missing, adds them to the wants.
     fn execute(
-        &self,
+        &'p self,
+        progress: &mut Self::Progress,
         alloc: Global,
         memory: &Memory,
         wants: &mut Wants,
     ) -> Result<Poll<String>, NoMemory>
-        requires { CanExecute (loaders self.now) memory.now wants.old }
-        ensures { IfOk result (IsExecuted (text_of self.now) wants.old wants.new (program self.now) memory.now) };
-
-    ghost within: { (e : Self) → HasLoaders (loaders e) (program e) };
+        requires can { CanExecute (loaders self.now) memory.now wants.old }
+        requires fits { fits self.now progress.old memory.now }
+        ensures executed { IfOk result (IsExecuted (text_of self.now) wants.old wants.new (program self.now) memory.now) }
+        ensures fits { OnOk result (FitsFrom (fits self.now progress.new) memory.now) }
+        ensures within { HasLoaders (loaders self.now) (program self.now) };
 }

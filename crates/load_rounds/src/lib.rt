@@ -14,6 +14,7 @@
 pub mod answer;
 pub mod answering;
 pub mod execute;
+mod executed;
 pub mod fault;
 mod keys;
 pub mod law;

@@ -1,34 +1,41 @@
 //! Plans, as what is executed.
-ghost use Rattle.std.specs.Prelude.{length};
+ghost use Rattle.std.specs.Prelude.{◌≡◌, length};
 ghost use Rattle.gq_check.specs.Plans.{plan_of};
 ghost use Rattle.gq_resolve.specs.Answered.{answer_text};
+ghost use Rattle.gq_resolve.specs.Suspended.{plan_in, FitsMemory};
 ghost use Rattle.plan_program.specs.PlanPrograms.{plan_program};
-ghost use Rattle.load_rounds.specs.PlanLoads.{plan-loads};
 
 use crate::execute::Execute;
 use futures::task::Poll;
 use gq_check::Plan;
-use gq_resolve::execute_text;
+use gq_resolve::RootState;
 use load_memory::{Memory, NoMemory};
 use load_queue::Wants;
 use std::alloc::Global;
 
-impl<'a> Execute for Plan<'a> {
+impl<'p, 'a: 'p> Execute<'p> for Plan<'a> {
+    type Progress = RootState<'p, 'a>;
+
     ghost program = { λ plan. plan_program (plan_of plan) };
 
     ghost text_of = { λ _. answer_text };
 
     ghost loaders = { λ plan. length (plan_of plan).bindings.loaders };
 
-    ghost within = { λ plan. plan-loads (plan_of plan) };
+    ghost fits = { λ plan state m. (plan_in state ≡ plan_of plan) × FitsMemory state m };
+
+    fn start(&'p self) -> RootState<'p, 'a> {
+        RootState::new(self)
+    }
 
     fn execute(
-        &self,
+        &'p self,
+        progress: &mut RootState<'p, 'a>,
         alloc: Global,
         memory: &Memory,
         wants: &mut Wants,
     ) -> Result<Poll<String>, NoMemory> {
-        match execute_text(alloc, self, memory, wants) {
+        match progress.poll_text(alloc, memory, wants) {
             Ok(polled) => Ok(polled),
             Err(_) => Err(NoMemory),
         }

@@ -6,8 +6,8 @@ ghost use Rattle.execution.specs.Sessions.{Forgot};
 
 use crate::answer::Answer;
 use crate::execute::Execute;
+use crate::executed::Executed;
 use crate::session::Session;
-use futures::task::Poll;
 use load_memory::{NoMemory, Receipt, Shelf};
 use load_queue::{Asks, Order};
 use std::marker::Model;
@@ -61,7 +61,7 @@ impl<S: Asks> Session<S> {
     ghost use Rattle.load_rounds.specs.Runs.{run_of, IsRun};
 
     /// Begins an answer to a plan whose rounds the caller runs. Forgets failed batches.
-    pub fn begin<'p, P: Execute>(&mut self, plan: &'p P) -> Result<Run<'p, P>, NoMemory>
+    pub fn begin<'p, P: Execute<'p>>(&mut self, plan: &'p P) -> Result<Run<'p, P>, NoMemory>
         requires { P.loaders plan.now ≤ length self.old.loaders }
         ensures run { IfOk result (λ run. run ≡ run_of plan.now 0 Stage.Ready) }
         ensures begun { IfOk result (λ run. IsRun S.may_tell (P.program plan.now) (state_of self.old) (state_of self.new) 0 Stage.Ready) }
@@ -85,10 +85,11 @@ impl<'p, P> Run<'p, P> {
     }
 }
 
-impl<'p, P: Execute> Run<'p, P> {
+impl<'p, P: Execute<'p>> Run<'p, P> {
     ghost use Rattle.load_memory.specs.Replies.{ReplyOf};
     ghost use Rattle.execution.specs.Rounds.{AreReplies};
-    ghost use Rattle.load_rounds.specs.Sessions.{StateOf, state_of};
+    ghost use Rattle.load_rounds.specs.Sessions.{StateOf, state_of, memory_of};
+    ghost use Rattle.load_rounds.specs.Executes.{FitsFrom};
     ghost use Rattle.load_rounds.specs.Runs.{run_of, orders_in, received, AreReceived, IsNext, IsRun, AnswersRun, IsUnasked};
 
     /// Returns the answer if nothing is missing, and otherwise the orders of the next round, which is then out.
@@ -107,18 +108,37 @@ impl<'p, P: Execute> Run<'p, P> {
         ensures answer { (begun : StateOf S) → IsRun S.may_tell (P.program self.old.plan) begun (state_of session.old) self.old.rounds Stage.Ready
             → IfOk result (AnswersRun S.may_tell (P.program self.old.plan) (P.text_of self.old.plan) begun (state_of session.new)) }
     {
+        let mut progress = self.plan.start();
+        self.resume(session, &mut progress)
+    }
+
+    /// Does what [`next_round`](Run::next_round) does, and goes on with an execution that is kept from round to round.
+    pub fn resume<S: Asks>(
+        &mut self,
+        session: &mut Session<S>,
+        progress: &mut P::Progress,
+    ) -> Result<Next, NoMemory>
+        requires ready { self.old.stage ≡ Stage.Ready }
+        requires loaders { P.loaders self.old.plan ≤ length session.old.loaders }
+        requires fits { P.fits self.old.plan progress.old (memory_of session.old) }
+        ensures fits { OnOk result (FitsFrom (P.fits self.old.plan progress.new) (memory_of session.new)) }
+        ensures next { IfOk result (IsNext (P.program self.old.plan) (P.text_of self.old.plan) self.old self.new (state_of session.old) (state_of session.new)) }
+        ensures bounded { self.new.rounds < 2 ^ 32 }
+        ensures failed { OnErr result (self.new ≡ run_of self.old.plan self.old.rounds Stage.Failed) }
+        ensures lost { OnErr result (IsUnasked (P.program self.old.plan) (state_of session.old) (state_of session.new)) }
+        ensures run { (begun : StateOf S) → IsRun S.may_tell (P.program self.old.plan) begun (state_of session.old) self.old.rounds Stage.Ready
+            → IsRun S.may_tell (P.program self.old.plan) begun (state_of session.new) self.new.rounds self.new.stage }
+        ensures answer { (begun : StateOf S) → IsRun S.may_tell (P.program self.old.plan) begun (state_of session.old) self.old.rounds Stage.Ready
+            → IfOk result (AnswersRun S.may_tell (P.program self.old.plan) (P.text_of self.old.plan) begun (state_of session.new)) }
+    {
         self.stage = Stage::Failed;
-        let mut wants = session.nothing_wanted()?;
-        match self
-            .plan
-            .execute(session.alloc(), session.memory(), &mut wants)?
-        {
-            Poll::Ready(text) => {
+        match session.execute(self.plan, progress)? {
+            Executed::Ready(text) => {
                 self.stage = Stage::Finished;
                 let rounds = self.rounds;
                 Ok(Next::Finished(Answer { text, rounds }))
             }
-            Poll::Pending => {
+            Executed::Missing(mut wants) => {
                 let rounds = self.rounds.checked_add(1).ok_or(NoMemory)?;
                 let orders = session.cut(&mut wants)?;
                 self.rounds = rounds;

@@ -5,7 +5,6 @@ ghost use Rattle.load_memory.specs.Outcomes.{outcome_of, known, item_of};
 ghost use Rattle.load_memory.specs.Pairs.{look, pair_of};
 ghost use Rattle.load_memory.specs.Shelves.{IsOn, shown};
 ghost use Rattle.load_queue.specs.Logs.{asked_of};
-ghost use Rattle.load_queue.specs.Wanted.{WantedOf, nothing_wanted};
 ghost use Rattle.execution.specs.Loads.{Load, read};
 ghost use Rattle.execution.specs.Front.{front_of_keys};
 ghost use Rattle.execution.specs.Rounds.{AreLimited, round_orders, without_failed};
@@ -62,13 +61,6 @@ impl<S> Session<S> {
         ensures { AreLimited (rules_of (state_of self.now)) }
     {
         let _ = &self.memory;
-    }
-
-    /// An empty list of wanted keys for each loader.
-    pub(crate) fn nothing_wanted(&self) -> Result<Wants, NoMemory>
-        ensures { IfOk result (λ wants. wants ≡ map nothing_wanted (session_modes (state_of self.now))) }
-    {
-        Wants::new(self.alloc(), &self.memory)
     }
 
     /// Cuts the wanted keys into the batches of the next round, enters these in the logs, and returns their orders, into

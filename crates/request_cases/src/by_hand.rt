@@ -94,9 +94,9 @@ fn note(orders: &[Order], noted: &mut Noted<'_>) -> Result<(), AllocError> {
 }
 
 /// Answers a plan in rounds by hand, and notes what each asks.
-pub fn answered<P: Execute, S: Asks, R: Wait + AllocGlobal>(
+pub fn answered<'p, P: Execute<'p>, S: Asks, R: Wait + AllocGlobal>(
     rt: &R,
-    plan: &P,
+    plan: &'p P,
     session: &mut Session<S>,
     noted: &mut Noted<'_>,
 ) -> Result<Answer>
@@ -119,7 +119,10 @@ pub fn answered<P: Execute, S: Asks, R: Wait + AllocGlobal>(
 }
 
 /// Begins a run, and drops it while its first round is out: its stages before that round and after it.
-fn dropped<P: Execute, S: Asks>(session: &mut Session<S>, plan: &P) -> Result<(Stage, Stage)>
+fn dropped<'p, P: Execute<'p>, S: Asks>(
+    session: &mut Session<S>,
+    plan: &'p P,
+) -> Result<(Stage, Stage)>
     requires { P.loaders plan.now ≤ length session.old.loaders }
 {
     let mut run = session.begin(plan)?;

@@ -61,10 +61,10 @@ fn all_shown(alloc: Global, shelf: &Shelf, receipts: &[Receipt]) -> Result<Strin
 }
 
 /// Runs the first round of a plan by workers, and tells what the receipts show.
-fn first_round<S: Source, P: Execute, R: Threads + Wait + AllocGlobal + Sync>(
+fn first_round<'p, S: Source, P: Execute<'p>, R: Threads + Wait + AllocGlobal + Sync>(
     rt: &R,
     session: &mut Session<S>,
-    plan: &P,
+    plan: &'p P,
     workers: usize,
 ) -> Result<String, Fail>
     requires loaders { P.loaders plan.now ≤ length session.old.loaders }

@@ -1,14 +1,15 @@
 use Rattle.std.proofs.Common.{◌≡◌, ◌≤◌, ◌-◌, ◌^◌, length}
 use Rattle.load_rounds.specs.declared.run.Stage.TheVariants.{Ready}
-use Rattle.load_rounds.specs.Sessions.{state_of}
+use Rattle.load_rounds.specs.Sessions.{state_of, memory_of}
 use Rattle.load_rounds.specs.Runs.{run_of, IsBetween}
 use Rattle.batch_workers.proofs.answer.answered.Given as goal
 
-abbrev pub invariant-loop-answer : goal.invariant-loop-answer
-invariant-loop-answer g l = record {
+abbrev pub invariant-loop-progress : goal.invariant-loop-progress
+invariant-loop-progress g l = record {
   run : l.run ≡ run_of l.plan l.run.rounds Ready;
   between : IsBetween g.S.Source.may_answer (g.P.Execute.program l.plan) (state_of l.fn.session) (state_of l.session) l.run.rounds;
+  fits : g.P.Execute.fits l.plan l.progress (memory_of l.session);
 }
 
-abbrev pub decreases-loop-answer : goal.decreases-loop-answer
-decreases-loop-answer g l = 2 ^ 32 - l.run.rounds
+abbrev pub decreases-loop-progress : goal.decreases-loop-progress
+decreases-loop-progress g l = 2 ^ 32 - l.run.rounds

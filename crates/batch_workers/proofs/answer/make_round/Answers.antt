@@ -1,10 +1,11 @@
-use Rattle.std.proofs.Common.{map}
+use Rattle.std.proofs.Common.{map, refl}
 use Rattle.load_memory.specs.Shelves.{shown}
 use Rattle.execution.specs.Program.{Program}
 use Rattle.load_rounds.specs.Sessions.{StateOf, state_of}
 use Rattle.load_rounds.specs.Runs.{RunOf, run_of, IsRun}
 use Rattle.load_rounds.specs.declared.run.Stage.TheVariants.{Ready, Out, Failed}
-use Rattle.load_rounds.proofs.Runs.{out-stops}
+use Rattle.load_rounds.proofs.Growing.{received-grows}
+use Rattle.load_rounds.proofs.Runs.{out-stops, on-ok}
 use Rattle.load_rounds.proofs.States.{on-err}
 use Rattle.batch_workers.proofs.Receipts.{received, have-loaders, ok-run, err-run}
 use Rattle.batch_workers.proofs.answer.make_round.Goals as goal
@@ -24,12 +25,13 @@ returns-in_err-receipts-clause-lost g c =
     let p : Program = g.P.Execute.program c.args.run.now.plan in
     on-err c.from_residual-in_err-receipts.result (λ begun out. out-stops g.S.Source.may_answer p begun (state_of c.args.session.now) c.args.run.now.rounds out)
 
-pub take-requires-clause-round : goal.take-requires-clause-round
-take-requires-clause-round g c =
+pub take-requires : goal.take-requires
+take-requires g c =
     let may = g.S.Source.may_answer in
     let s = state_of c.args.session.now in
     let answered = rw c.loaders.ensures at c.in_ok-receipts.ensures.answered in
-    rw (c.as_slice.ensures.value, ← c.requires.orders) (received may s.loaders c.in_ok-shelf.shelf c.args.orders.items c.in_ok-receipts.receipts.items answered)
+    let round = received may s.loaders c.in_ok-shelf.shelf c.args.orders.items c.in_ok-receipts.receipts.items answered in
+    λ κs. ((refl, tt), (c.requires.out, (rw c.as_slice.ensures.value c.in_ok-receipts.ensures.shelved, rw (c.as_slice.ensures.value, ← c.requires.orders) round)))
 
 pub returns-clause-made : goal.returns-clause-made
 returns-clause-made g c =
@@ -48,3 +50,6 @@ returns-clause-lost g c =
     let s = state_of c.args.session.now in
     let t = state_of c.take.new.session in
     err-run (λ (u : RunOf _). (begun : StateOf _) → IsRun may p begun s run.rounds Out → IsRun may p begun t u.rounds u.stage) c.take.result c.take.new.self (run_of run.plan run.rounds Failed) c.take.ensures.run c.take.ensures.failed
+
+pub returns-clause-grown : goal.returns-clause-grown
+returns-clause-grown g c = on-ok c.take.result (received-grows c.args.session.now c.take.new.session (map shown c.as_slice.result.now)) c.take.ensures.taken

@@ -1,4 +1,4 @@
-use Rattle.std.proofs.Common.{◌≡◌, ◌<◌, ◌≤◌, ◌+◌, ◌∙◌, ℕ, map, length, ap, sym, arith}
+use Rattle.std.proofs.Common.{◌≡◌, ◌<◌, ◌≤◌, ◌+◌, ◌∙◌, ℕ, map, length, ap, sym, arith, refl}
 use Rattle.load_memory.specs.Shelves.{shown}
 use Rattle.load_queue.specs.Orders.{OrderOf}
 use Rattle.execution.specs.Program.{Program}
@@ -7,11 +7,11 @@ use Rattle.load_rounds.specs.Runs.{RunOf, IsRound}
 use Rattle.load_rounds.proofs.Runs.{between-loaders, round-below, round-orders}
 use Rattle.request_cases.proofs.by_hand.answered.Goals as goal
 
-pub next_round-requires-clause-loaders : goal.next_round-requires-clause-loaders
-next_round-requires-clause-loaders g c =
+pub next_round-requires : goal.next_round-requires
+next_round-requires g c =
     let p : Program = g.P.Execute.program c.args.plan.now in
     let size = between-loaders g.S.Asks.may_tell p (state_of c.args.session.now) (state_of c.loop-answer.session) c.loop-answer.run.rounds c.loop-answer.invariant.between in
-    rw c.loop-answer.invariant.run (omega (arith, c.requires, size))
+    λ κs. ((refl, tt), (ap (λ (r : RunOf _). r.stage) c.loop-answer.invariant.run, rw c.loop-answer.invariant.run (omega (arith, c.requires, size))))
 
 pub returns-in-Finished : goal.returns-in-Finished
 returns-in-Finished g c =
@@ -26,13 +26,14 @@ received-requires g c =
     let next = rw c.in-Round.is at c.in_ok-answer.ensures.next in
     rw c.loaders.ensures (round-below p (state_of c.loop-answer.session) (state_of c.next_round.new.session) c.in-Round.orders.items next.0)
 
-pub take-requires-clause-round : goal.take-requires-clause-round
-take-requires-clause-round g c =
+pub take-requires : goal.take-requires
+take-requires g c =
     let p : Program = g.P.Execute.program c.loop-answer.run.plan in
     let next = rw c.in-Round.is at c.in_ok-answer.ensures.next in
     let same : c.next_round.new.self.plan ≡ c.loop-answer.run.plan = ap (λ (r : RunOf _). r.plan) next.1 in
+    let out = ap (λ (r : RunOf _). r.stage) next.1 in
     let orders = round-orders p (state_of c.loop-answer.session) (state_of c.next_round.new.session) c.in-Round.orders.items next.0 in
-    rw (same, orders, c.as_slice-in-Round.ensures.value, ← c.loaders.ensures) c.in_ok-receipts-in-Round.ensures.received
+    λ κs. ((refl, tt), (out, (rw c.as_slice-in-Round.ensures.value c.in_ok-receipts-in-Round.ensures.shelf, rw (same, orders, c.as_slice-in-Round.ensures.value, ← c.loaders.ensures) c.in_ok-receipts-in-Round.ensures.received)))
 
 pub loop-answer-smaller : goal.loop-answer-smaller
 loop-answer-smaller g c =

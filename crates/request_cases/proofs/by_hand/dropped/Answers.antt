@@ -1,8 +1,9 @@
-use Rattle.std.proofs.Common.{ap, length, arith}
+use Rattle.std.proofs.Common.{ap, length, arith, refl}
 use Rattle.load_rounds.specs.Sessions.{StateOf}
+use Rattle.load_rounds.specs.Runs.{RunOf}
 use Rattle.request_cases.proofs.by_hand.dropped.Goals as goal
 
-pub next_round-requires-clause-loaders : goal.next_round-requires-clause-loaders
-next_round-requires-clause-loaders g c =
+pub next_round-requires : goal.next_round-requires
+next_round-requires g c =
     let same = ap (λ (s : StateOf _). length s.loaders) c.begin.ensures.forgot in
-    rw c.in_ok-run.ensures.run (omega (arith, c.requires, same))
+    λ κs. ((refl, tt), (ap (λ (r : RunOf _). r.stage) c.in_ok-run.ensures.run, rw c.in_ok-run.ensures.run (omega (arith, c.requires, same))))

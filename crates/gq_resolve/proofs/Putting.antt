@@ -1,0 +1,148 @@
+-- What a program puts over a memory: what it asks over larger ones, and its text.
+use Rattle.std.proofs.Common.{◌≡◌, Bool, true, false, ◌&&◌, if◌then◌else◌, List, [], ◌∷◌, ◌++◌, refl, sym, ap, ◌∙◌, subst, append_assoc, append-nil, decimal, Option, Some, None}
+use Rattle.std.specs.List.{list_all, flat_map}
+use Rattle.std.proofs.lemmas.Bool.{and_parts}
+use Rattle.std.proofs.lemmas.Grind.{flat_map-append}
+use Rattle.std.proofs.lemmas.List.Folds.{list_all-append}
+use Rattle.json.specs.Token.{Token, begin_object, begin_array, key}
+use Rattle.json.specs.Tree.{json_tokens, items_tokens, members_tokens}
+use Rattle.gq_lexer.specs.declared.place.Place.{Place}
+use Rattle.load_memory.specs.Outcomes.{OutcomeOf}
+use Rattle.execution.specs.Loads.{Load, Reader, AnswersMore}
+use Rattle.execution.specs.Program.{Value, Null, Fault, Kind, ListOf, ObjectOf, Part, Key, Item, Program, Is, Read, Under, Programs, End, With, Tree, Trees, Over, tree, trees, needs, all_needs}
+use Rattle.execution.specs.Completion.{ResponseOf, ResponsesOf, Responding, NullResponse, Holding, ErrorOf}
+use Rattle.execution.specs.Executed.{nulls, pulls_down, response, responses, errors as errors_at, all_errors}
+use Rattle.execution.specs.Front.{missing}
+use Rattle.execution.specs.Residual.{unanswered}
+use Rattle.execution.proofs.Fitting.{missing-append}
+use Rattle.gq_resolve.specs.Answered.{json_of, items_json, members_json}
+use Rattle.gq_resolve.specs.Puts.{Put, Ends, puts, all_puts}
+use Rattle.gq_resolve.specs.Written.{is_plain, opening, closing, own_tokens, part_tokens, put_tokens, asks, put_asks}
+
+-- ---- loads
+
+-- what is asked of what is put
+abbrev pub puts_ask : Reader → List Put → List Load
+puts_ask Q ps = flat_map (put_asks Q) ps
+
+abbrev pub all_asked : Programs → Reader → List Load
+all_asked ps Q = missing Q (all_needs ps Q)
+
+read-asks : (strict : Bool) (load : Load) (next : OutcomeOf → Program) (R Q : Reader) → AnswersMore R Q → (r : Option OutcomeOf) → R load ≡ r
+    → ((o : OutcomeOf) → puts_ask Q (puts strict (next o) R) ≡ asks (next o) Q) → puts_ask Q (puts strict (Read load next) R) ≡ asks (Read load next) Q
+read-asks strict load next R Q more None e ih = rw e (append-nil (asks (Read load next) Q))
+read-asks strict load next R Q more (Some o) e ih = let f : Q load ≡ Some o = more load o e in rw (e, f) (ih o)
+
+mutual
+  -- over a reader that answers more, what is put asks what the program asks
+  pub asks-puts : (strict : Bool) (p : Program) (R Q : Reader) → AnswersMore R Q → puts_ask Q (puts strict p R) ≡ asks p Q
+  asks-puts strict (Is own) R Q more = refl
+  asks-puts strict (Read load next) R Q more = read-asks strict load next R Q more (R load) refl (λ o. asks-puts strict (next o) R Q more)
+  asks-puts strict (Under kind below) R Q more =
+      flat_map-append (put_asks Q) (all_puts kind below R) (Ends kind ∷ []) ∙ append-nil (puts_ask Q (all_puts kind below R)) ∙ all-asks-puts kind below R Q more
+
+  pub all-asks-puts : (kind : Kind) (ps : Programs) (R Q : Reader) → AnswersMore R Q → puts_ask Q (all_puts kind ps R) ≡ all_asked ps Q
+  all-asks-puts kind End R Q more = refl
+  all-asks-puts kind (With spot p ps) R Q more =
+      flat_map-append (put_asks Q) (puts spot.non_null p R) (all_puts kind ps R)
+      ∙ ap (λ ls. ls ++ puts_ask Q (all_puts kind ps R)) (asks-puts spot.non_null p R Q more)
+      ∙ ap (λ ls. asks p Q ++ ls) (all-asks-puts kind ps R Q more)
+      ∙ sym (missing-append Q (needs p Q) (all_needs ps Q))
+
+read-waits : (strict : Bool) (load : Load) (next : OutcomeOf → Program) (R : Reader) (r : Option OutcomeOf) → R load ≡ r
+    → ((o : OutcomeOf) → puts_ask unanswered (puts strict (next o) R) ≡ asks (next o) R) → puts_ask unanswered (puts strict (Read load next) R) ≡ asks (Read load next) R
+read-waits strict load next R None e ih = rw e refl
+read-waits strict load next R (Some o) e ih = rw e (ih o)
+
+mutual
+  -- the loads that it waits for are those that it asks
+  pub waits-puts : (strict : Bool) (p : Program) (R : Reader) → puts_ask unanswered (puts strict p R) ≡ asks p R
+  waits-puts strict (Is own) R = refl
+  waits-puts strict (Read load next) R = read-waits strict load next R (R load) refl (λ o. waits-puts strict (next o) R)
+  waits-puts strict (Under kind below) R =
+      flat_map-append (put_asks unanswered) (all_puts kind below R) (Ends kind ∷ []) ∙ append-nil (puts_ask unanswered (all_puts kind below R)) ∙ all-waits-puts kind below R
+
+  pub all-waits-puts : (kind : Kind) (ps : Programs) (R : Reader) → puts_ask unanswered (all_puts kind ps R) ≡ all_asked ps R
+  all-waits-puts kind End R = refl
+  all-waits-puts kind (With spot p ps) R =
+      flat_map-append (put_asks unanswered) (puts spot.non_null p R) (all_puts kind ps R)
+      ∙ ap (λ ls. ls ++ puts_ask unanswered (all_puts kind ps R)) (waits-puts spot.non_null p R)
+      ∙ ap (λ ls. asks p R ++ ls) (all-waits-puts kind ps R)
+      ∙ sym (missing-append R (needs p R) (all_needs ps R))
+
+-- ---- text
+
+abbrev pub puts_plain : List Put → Bool
+puts_plain ps = list_all is_plain ps
+
+abbrev pub puts_tokens : List Put → List Token
+puts_tokens ps = flat_map put_tokens ps
+
+and-false : (b : Bool) → (b && false) ≡ false
+and-false true = refl
+and-false false = refl
+
+-- the tokens of a tree without errors
+pub record IsPlain (strict : Bool) (t : Tree) (ts : List Token) : Type 0 where
+  pub stays : (strict && nulls t) ≡ false
+  pub errors : (place : Place) (path : List Part) → errors_at strict place path t ≡ []
+  pub tokens : json_tokens (json_of (response t)) ≡ ts
+
+abbrev kind_tokens : Kind → ResponsesOf → List Token
+kind_tokens ListOf rs = items_tokens (items_json rs)
+kind_tokens ObjectOf rs = members_tokens (members_json rs)
+
+record ArePlain (kind : Kind) (below : Trees) (ts : List Token) : Type 0 where
+  pub stay : pulls_down below ≡ false
+  pub errors : (path : List Part) → all_errors path below ≡ []
+  pub tokens : kind_tokens kind (responses below) ≡ ts ++ closing kind ∷ []
+
+part-put : (kind : Kind) (part : Part) (r : ResponseOf) (rs : ResponsesOf) (ts us : List Token) → json_tokens (json_of r) ≡ ts → kind_tokens kind rs ≡ us ++ closing kind ∷ []
+    → kind_tokens kind (Responding part r rs) ≡ (part_tokens kind part ++ (ts ++ us)) ++ closing kind ∷ []
+part-put ListOf part r rs ts us e f = rw (e, f) (sym (append_assoc ts us (closing ListOf ∷ [])))
+part-put ObjectOf (Key k) r rs ts us e f = rw (e, f) (ap (λ vs. key k ∷ vs) (sym (append_assoc ts us (closing ObjectOf ∷ []))))
+part-put ObjectOf (Item n) r rs ts us e f = rw (e, f) (ap (λ vs. key (decimal n) ∷ vs) (sym (append_assoc ts us (closing ObjectOf ∷ []))))
+
+under-put : (strict : Bool) (kind : Kind) (below : Trees) (ts : List Token) → ArePlain kind below ts → IsPlain strict (Over kind below) (opening kind ∷ (ts ++ closing kind ∷ []))
+under-put strict kind below ts p = record {
+  stays = ap (λ b. strict && b) p.stay ∙ and-false strict;
+  errors = λ place path. p.errors path;
+  tokens = ap (λ b. json_tokens (json_of (if b then NullResponse else Holding kind (responses below)))) p.stay ∙ go kind (responses below) p.tokens;
+}
+  where
+    go : (k : Kind) (rs : ResponsesOf) → kind_tokens k rs ≡ ts ++ closing k ∷ [] → json_tokens (json_of (Holding k rs)) ≡ opening k ∷ (ts ++ closing k ∷ [])
+    go ListOf rs e = ap (λ vs. begin_array ∷ vs) e
+    go ObjectOf rs e = ap (λ vs. begin_object ∷ vs) e
+
+read-plain : (strict : Bool) (load : Load) (next : OutcomeOf → Program) (R : Reader) (r : Option OutcomeOf) → R load ≡ r
+    → ((o : OutcomeOf) → puts_plain (puts strict (next o) R) ≡ true → IsPlain strict (tree (next o) R) (puts_tokens (puts strict (next o) R)))
+    → puts_plain (puts strict (Read load next) R) ≡ true → IsPlain strict (tree (Read load next) R) (puts_tokens (puts strict (Read load next) R))
+read-plain strict load next R None e ih h = let f : false ≡ true = rw e at h in absurd (cc f)
+read-plain strict load next R (Some o) e ih h = rw e (ih o (rw e at h))
+
+mutual
+  -- where all is plain, the tokens are those of the response, and there are no errors
+  pub plain-puts : (strict : Bool) (p : Program) (R : Reader) → puts_plain (puts strict p R) ≡ true → IsPlain strict (tree p R) (puts_tokens (puts strict p R))
+  plain-puts strict (Is (Value leaf)) R h = record { stays = and-false strict; errors = λ place path. refl; tokens = sym (append-nil (own_tokens (Value leaf))) }
+  plain-puts true (Is Null) R h = absurd (cc h)
+  plain-puts false (Is Null) R h = record { stays = refl; errors = λ place path. refl; tokens = refl }
+  plain-puts strict (Is (Fault text)) R h = absurd (cc h)
+  plain-puts strict (Read load next) R h = read-plain strict load next R (R load) refl (λ o. plain-puts strict (next o) R) h
+  plain-puts strict (Under kind below) R h =
+      let parts = and_parts _ _ (sym (list_all-append is_plain (all_puts kind below R) (Ends kind ∷ [])) ∙ h) in
+      subst (λ (ts : List Token). IsPlain strict (Over kind (trees below R)) (opening kind ∷ ts)) (sym (flat_map-append put_tokens (all_puts kind below R) (Ends kind ∷ [])))
+      (under-put strict kind (trees below R) (puts_tokens (all_puts kind below R)) (all-plain-puts kind below R parts.0))
+
+  all-plain-puts : (kind : Kind) (ps : Programs) (R : Reader) → puts_plain (all_puts kind ps R) ≡ true → ArePlain kind (trees ps R) (puts_tokens (all_puts kind ps R))
+  all-plain-puts ListOf End R h = record { stay = refl; errors = λ path. refl; tokens = refl }
+  all-plain-puts ObjectOf End R h = record { stay = refl; errors = λ path. refl; tokens = refl }
+  all-plain-puts kind (With spot p ps) R h =
+      let each = and_parts _ _ (sym (list_all-append is_plain (puts spot.non_null p R) (all_puts kind ps R)) ∙ h) in
+      let here : IsPlain spot.non_null (tree p R) (puts_tokens (puts spot.non_null p R)) = plain-puts spot.non_null p R each.0 in
+      let there : ArePlain kind (trees ps R) (puts_tokens (all_puts kind ps R)) = all-plain-puts kind ps R each.1 in
+      record {
+        stay = rw (here.stays, there.stay) refl;
+        errors = λ path. ap (λ (es : List ErrorOf). es ++ all_errors path (trees ps R)) (here.errors spot.place (path ++ spot.part ∷ [])) ∙ there.errors path;
+        tokens = part-put kind spot.part (response (tree p R)) (responses (trees ps R)) (puts_tokens (puts spot.non_null p R)) (puts_tokens (all_puts kind ps R)) here.tokens there.tokens
+            ∙ ap (λ ts. (part_tokens kind spot.part ++ ts) ++ closing kind ∷ []) (sym (flat_map-append put_tokens (puts spot.non_null p R) (all_puts kind ps R)));
+      }

@@ -1,0 +1,5 @@
+use Rattle.gq_resolve.proofs.LoadsAdded.{AreAdded}
+use Rattle.gq_resolve.proofs.wanting.want_each.Given as goal
+
+abbrev pub invariant-loop-position : goal.invariant-loop-position
+invariant-loop-position l = AreAdded l.fn.wants l.wants l.waiting.keys l.position-iterator

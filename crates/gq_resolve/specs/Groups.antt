@@ -1,0 +1,148 @@
+-- What is kept of the groups that load, by their numbers.
+use Rattle.std.specs.Prelude.{◌≡◌, ◌<◌, ◌≤◌, ℕ, zero, suc, Bool, true, false, if◌then◌else◌, List, [], ◌∷◌, length, map, take, string_bytes}
+use Rattle.std.specs.List.{All, slice_get}
+use Rattle.std.specs.Option.{option_map_or}
+use Rattle.std.specs.Arc.{arc_value}
+use Rattle.std.specs.declared.sync.Arc.{Arc}
+use Rattle.std.specs.declared.alloc.Global.{Global}
+use Rattle.gq_parser.specs.Tree.{type_of}
+use Rattle.schema_syntax.specs.Tree.{Definition}
+use Rattle.load_memory.specs.Rows.{RowOf, cell_of}
+use Rattle.execution.specs.Program.{Program, Is, Under, Programs, End, With, ListOf}
+use Rattle.gq_check.specs.Plans.{PlanOf}
+use Rattle.plan_program.specs.Groups.{nothing_collected, collect_below}
+use Rattle.plan_program.specs.Asked.{BelowOf, ValueFrom, PreparedOf, all_prepared}
+use Rattle.plan_program.specs.Prepared.{own_seen, key_from_seen, keys_seen, below_seen}
+use Rattle.plan_program.specs.PlanPrograms.{cell_value, places, fields_of, read_from, read_if, first_object, all_objects, joined_objects, asked_program, object_program}
+use Rattle.plan_program.specs.declared.prepared.Below.{Below}
+use Rattle.gq_resolve.specs.Puts.{OnwardOf, View}
+use Rattle.gq_resolve.specs.Spots.{spot_seen}
+use Rattle.gq_resolve.specs.declared.groups.Asks.{Asks}
+use Rattle.gq_resolve.specs.declared.groups.Asks.TheVariants as asks
+use Rattle.gq_resolve.specs.declared.groups.Member.{Member}
+use Rattle.gq_resolve.specs.declared.groups.Shape.{Shape}
+use Rattle.gq_resolve.specs.declared.groups.Group.{Group}
+use Rattle.gq_resolve.specs.declared.groups.Then.{Then}
+use Rattle.gq_resolve.specs.declared.groups.Then.TheVariants.{First, All as Each, Joined}
+
+abbrev pub below_in : Arc Below Global → BelowOf
+below_in below = below_seen (arc_value below)
+
+-- ---- what a group does with the rows of its load
+
+-- the rows have so many levels of objects below them
+abbrev pub then_rows : PlanOf → ℕ → Then → BelowOf → List RowOf → Program
+then_rows plan levels First below rows = first_object plan.definitions (object_program plan levels) below rows
+then_rows plan levels Each below rows = all_objects plan.definitions (object_program plan levels) below rows
+then_rows plan levels (Joined second column) below rows = joined_objects plan.definitions (object_program plan levels) below second column.now rows
+
+-- what the group of a number stands for; past the last of them nothing
+abbrev pub nowhere : BelowOf
+nowhere = record { type_name = []; item_non_null = false; place = record { line = 1; column = 1 }; fields = [] }
+
+abbrev pub below_at : List Group → ℕ → BelowOf
+below_at gs i = option_map_or (λ (g : Group). below_in g.below) (slice_get gs i) nowhere
+
+abbrev pub then_at : List Group → ℕ → Then
+then_at gs i = option_map_or (λ (g : Group). g.then) (slice_get gs i) First
+
+-- of the second load of a `via` the first row is taken
+abbrev pub next_at : List Group → OnwardOf → Then
+next_at gs onward = if onward.second then First else then_at gs onward.group
+
+abbrev pub after_at : PlanOf → List Group → OnwardOf → List RowOf → Program
+after_at plan gs onward = then_rows plan onward.levels (next_at gs onward) (below_at gs onward.group)
+
+-- the view tells of each of these groups what it does
+pub record Covers (plan : PlanOf) (gs : List Group) (v : View) : Type 0 where
+  pub count : length gs ≤ v.count
+  pub tells : (onward : OnwardOf) → onward.group < length gs → v.after onward ≡ after_at plan gs onward
+
+-- ---- what a member asks for over a row
+
+abbrev pub asks_seen : List Definition → View → ℕ → RowOf → Asks → Program
+asks_seen defs v levels row (asks.Known own) = Is (own_seen own)
+asks_seen defs v levels row (asks.Cell column ty) = Is (cell_value defs column.now (type_of ty.now) (cell_of row column.now))
+asks_seen defs v levels row (asks.Load loader key group) = read_from loader (key_from_seen key) row (v.after (record { group = group; second = false; levels = levels }))
+asks_seen defs v levels row (asks.Each loader keys items group) =
+    Under ListOf (places items.non_null items.place 0 (map (read_if loader (v.after (record { group = group; second = false; levels = levels }))) (keys_seen keys.items)))
+
+abbrev pub members_seen : List Definition → View → ℕ → RowOf → List Member → Programs
+members_seen defs v levels row [] = End
+members_seen defs v levels row (m ∷ ms) = With (spot_seen m.spot) (asks_seen defs v levels row m.asks) (members_seen defs v levels row ms)
+
+-- its group is one of so many
+abbrev pub IsAsked : ℕ → Asks → Type 0
+IsAsked count (asks.Known own) = Unit {0}
+IsAsked count (asks.Cell column ty) = Unit {0}
+IsAsked count (asks.Load loader key group) = group < count
+IsAsked count (asks.Each loader keys items group) = group < count
+
+abbrev pub AreKnown : ℕ → List Member → Type 0
+AreKnown count ms = All (λ (m : Member). IsAsked count m.asks) ms
+
+-- ---- shapes
+
+-- what the plan asks of an object of this type below a group
+abbrev pub type_prepared : PlanOf → BelowOf → List ℕ → List PreparedOf
+type_prepared plan below ty = all_prepared plan ty (collect_below plan ty nothing_collected below.fields).groups
+
+-- over each row the members are these groups, however many levels of objects there are below
+abbrev pub AreMembers : PlanOf → View → List Member → List PreparedOf → Type 0
+AreMembers plan v ms ps = (levels : ℕ) (row : RowOf)
+    → members_seen plan.definitions v levels row ms ≡ fields_of (asked_program plan.definitions (object_program plan levels) row) ps
+
+-- the members, over these groups, are what the plan asks
+pub record Makes (plan : PlanOf) (gs : List Group) (ms : List Member) (ps : List PreparedOf) : Type 0 where
+  pub known : AreKnown (length gs) ms
+  pub members : (v : View) → Covers plan gs v → AreMembers plan v ms ps
+
+abbrev pub IsShape : PlanOf → List Group → BelowOf → Shape → Type 0
+IsShape plan gs below s = Makes plan gs s.members.value.items (type_prepared plan below (string_bytes s.ty))
+
+abbrev pub IsRight : PlanOf → List Group → Group → Type 0
+IsRight plan gs g = All (IsShape plan gs (below_in g.below)) g.shapes.items
+
+-- each shape of a group is what the plan asks of its objects
+abbrev pub AreRight : PlanOf → List Group → Type 0
+AreRight plan gs = All (IsRight plan gs) gs
+
+-- there may be more groups and shapes, and each group does what it did
+pub record Grows (plan : PlanOf) (old new : List Group) : Type 0 where
+  pub longer : length old ≤ length new
+  pub stand : (i : ℕ) → i < length old → below_at new i ≡ below_at old i
+  pub covers : (v : View) → Covers plan new v → Covers plan old v
+  pub right : AreRight plan old → AreRight plan new
+
+-- ---- what is made
+
+-- a group more, of this number
+pub record IsNew (old new : List Group) (next : Then) (below : BelowOf) (number : ℕ) : Type 0 where
+  pub grows : (plan : PlanOf) → Grows plan old new
+  pub front : take (length old) new ≡ old
+  pub within : number < length new
+  pub does : then_at new number ≡ next
+  pub stands : below_at new number ≡ below
+
+-- with the groups that it needs it asks for this
+pub record IsAsking (old new : List Group) (asked : ValueFrom) (asks : Asks) : Type 0 where
+  pub grows : (plan : PlanOf) → Grows plan old new
+  pub front : take (length old) new ≡ old
+  pub known : IsAsked (length new) asks
+  pub same : (plan : PlanOf) (v : View) → Covers plan new v → (levels : ℕ) (row : RowOf)
+      → asks_seen plan.definitions v levels row asks ≡ asked_program plan.definitions (object_program plan levels) row asked
+
+pub record AreMade (old new : List Group) (ps : List PreparedOf) (ms : List Member) : Type 0 where
+  pub grows : (plan : PlanOf) → Grows plan old new
+  pub front : take (length old) new ≡ old
+  pub makes : (plan : PlanOf) → Makes plan new ms ps
+
+-- where the groups are right, these are the members of a type below a group
+abbrev pub AreKept : List Group → ℕ → List ℕ → List Member → Type 0
+AreKept gs group ty ms = (plan : PlanOf) → AreRight plan gs → Makes plan gs ms (type_prepared plan (below_at gs group) ty)
+
+-- The members of a type below a group. They are kept from then on, unless there are so many groups.
+pub record IsShaped (plan : PlanOf) (most : ℕ) (old new : List Group) (group : ℕ) (ty : List ℕ) (ms : List Member) : Type 0 where
+  pub grows : Grows plan old new
+  pub front : most ≤ length old → take (length old) new ≡ old
+  pub makes : AreRight plan old → Makes plan new ms (type_prepared plan (below_at old group) ty)

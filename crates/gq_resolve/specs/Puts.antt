@@ -1,0 +1,45 @@
+-- What a walk over a program puts into a sink, one thing after another.
+use Rattle.std.specs.Prelude.{ℕ, Bool, List, [], ◌∷◌, ◌++◌}
+use Rattle.load_memory.specs.Rows.{RowOf}
+use Rattle.load_memory.specs.Keys.{KeyOf}
+use Rattle.execution.specs.Loads.{Reader}
+use Rattle.execution.specs.Program.{Own, Kind, Spot, Program, Is, Read, Under, Programs, End, With, given}
+use Rattle.plan_program.specs.PlanPrograms.{read_key}
+
+pub data Put : Type 0 where
+  -- an object or a list begins, and ends
+  Begins : Kind → Put
+  Ends : Kind → Put
+  -- a position of an object or a list follows
+  Enters : Kind → Spot → Put
+  -- a position with nothing below it, whose type is non-null or not
+  Has : Bool → Own → Put
+  -- a position that waits for a load, and then goes on so
+  Waits : Program → Put
+
+-- what is put of a position, whose type is non-null or not
+abbrev mutual
+  pub puts : Bool → Program → Reader → List Put
+  puts strict (Is own) R = Has strict own ∷ []
+  puts strict (Read load next) R = given (R load) (Waits (Read load next) ∷ []) (λ outcome. puts strict (next outcome) R)
+  puts strict (Under kind below) R = Begins kind ∷ (all_puts kind below R ++ Ends kind ∷ [])
+
+  pub all_puts : Kind → Programs → Reader → List Put
+  all_puts kind End R = []
+  all_puts kind (With spot p rest) R = Enters kind spot ∷ (puts spot.non_null p R ++ all_puts kind rest R)
+
+-- How a position goes on after a load: what its group does with the rows, or, for the second load of a `via`, the first of
+-- them. Below it are so many levels of objects.
+pub record OnwardOf : Type 0 where
+  pub group : ℕ
+  pub second : Bool
+  pub levels : ℕ
+
+-- how many groups there are, and what each does with the rows of its load
+pub record View : Type 0 where
+  pub count : ℕ
+  pub after : OnwardOf → List RowOf → Program
+
+-- the program of a position that waits
+abbrev pub waiting : View → OnwardOf → ℕ → KeyOf → Program
+waiting v onward loader key = read_key loader key (v.after onward)

@@ -1,0 +1,27 @@
+-- What contracts see of a position.
+use Rattle.std.specs.Prelude.{ℕ, true}
+use Rattle.execution.specs.Program as program
+use Rattle.gq_resolve.specs.Puts.{OnwardOf}
+use Rattle.gq_resolve.specs.declared.spot.Kind as rust-kind
+use Rattle.gq_resolve.specs.declared.spot.Kind.TheVariants as kind
+use Rattle.gq_resolve.specs.declared.spot.Spot as rust-spot
+use Rattle.gq_resolve.specs.declared.spot.Items as rust-items
+use Rattle.gq_resolve.specs.declared.spot.Onward as rust-onward
+
+abbrev pub kind_of : rust-kind.Kind → program.Kind
+kind_of kind.List = program.ListOf
+kind_of kind.Object = program.ObjectOf
+
+abbrev pub spot_seen : rust-spot.Spot → program.Spot
+spot_seen s = record { part = program.Key s.key.now; non_null = s.non_null; place = s.place }
+
+abbrev pub onward_of : rust-onward.Onward → OnwardOf
+onward_of o = record { group = o.group; second = o.second; levels = o.levels }
+
+-- that it goes on so after the second load of a `via`
+abbrev pub second_of : OnwardOf → OnwardOf
+second_of o = record { group = o.group; second = true; levels = o.levels }
+
+-- the item of a number, from 0
+abbrev pub item_spot : rust-items.Items → ℕ → program.Spot
+item_spot items n = record { part = program.Item n; non_null = items.non_null; place = items.place }

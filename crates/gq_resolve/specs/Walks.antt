@@ -1,0 +1,38 @@
+-- What a walk puts into its sink, and what it does to the groups on its way.
+use Rattle.std.specs.Prelude.{◌≡◌, ◌≤◌, ◌⊎◌, ℕ, Bool, List, [], ◌∷◌, length, map, take}
+use Rattle.load_memory.specs.Rows.{RowOf, cell_of}
+use Rattle.execution.specs.Program.{Program}
+use Rattle.gq_check.specs.Plans.{PlanOf, plan_of}
+use Rattle.plan_program.specs.PlanPrograms.{list_of, read_cell}
+use Rattle.gq_resolve.specs.Groups.{below_at, Covers, AreRight, Grows}
+use Rattle.gq_resolve.specs.Puts.{Put, OnwardOf, View, puts}
+use Rattle.gq_resolve.specs.Spots.{second_of}
+use Rattle.gq_resolve.specs.States.{told}
+use Rattle.gq_resolve.specs.declared.groups.Group.{Group}
+use Rattle.gq_resolve.specs.declared.tour.Progress.{Progress}
+use Rattle.gq_resolve.specs.declared.tour.Tour.{Tour}
+
+-- Where the groups are right and what it begins with is known, it puts these, over each view that tells what its groups do.
+-- Once there are so many groups, those that there are stay as they are.
+pub record Goes {S : Type 0} (goes : View → List Put → S → S → Type 0) (below : ℕ → S → Type 0) (most : ℕ) (plan : PlanOf) (known : Type 0) (ps : View → List Put) (old new : Progress S) : Type 0 where
+  pub grows : Grows plan old.groups.items new.groups.items
+  pub front : most ≤ length old.groups.items → take (length old.groups.items) new.groups.items ≡ old.groups.items
+  pub puts : known → AreRight plan old.groups.items → below (length old.groups.items) old.out → (v : View) → Covers plan new.groups.items v → goes v (ps v) old.out new.out
+
+-- it puts a program over the memory
+abbrev pub Walks : {S : Type 0} (goes : View → List Put → S → S → Type 0) (below : ℕ → S → Type 0) → Tour → Type 0 → Bool → (View → Program) → Progress S → Progress S → Type 0
+Walks goes below tour known strict program old new = Goes goes below tour.most (plan_of tour.plan.now) known (λ v. puts strict (program v) (told tour.memory.now)) old new
+
+-- Groups past the first so many were let go, where there were as many as are kept and no position more waits.
+pub record LetsGo {S : Type 0} (waits : S → ℕ) (most count held : ℕ) (old new : Progress S) : Type 0 where
+  pub out : new.out ≡ old.out
+  pub either : (new.groups.items ≡ old.groups.items) ⊎ ((most ≤ count) × (held ≡ waits old.out) × (new.groups.items ≡ take count old.groups.items))
+
+-- what is done with rows by a list of their objects
+abbrev pub all_rows : View → List Group → OnwardOf → List RowOf → Program
+all_rows v gs onward rows = list_of (below_at gs onward.group) (map (λ row. v.after (second_of onward) (row ∷ [])) rows)
+
+-- and by a list of the first rows of the second loader's keys in a column
+abbrev pub joined_rows : View → List Group → OnwardOf → ℕ → List ℕ → List RowOf → Program
+joined_rows v gs onward loader column rows =
+    list_of (below_at gs onward.group) (map (λ row. read_cell loader column (cell_of row column) (v.after (second_of onward))) rows)

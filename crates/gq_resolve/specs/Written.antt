@@ -1,0 +1,132 @@
+-- What an output holds: the text of an answer while it is plain, and the positions that wait.
+use Rattle.std.specs.Prelude.{◌≡◌, ◌<◌, ◌==◌, ℕ, Bool, true, false, not, ◌&&◌, is_some, Option, Some, None, if◌then◌else◌, List, [], ◌∷◌, ◌++◌, decimal, length}
+use Rattle.std.specs.List.{All, list_any, list_all, flat_map}
+use Rattle.json.specs.Token.{Token, begin_object, end_object, begin_array, end_array, key, null}
+use Rattle.json.specs.Tree.{json_tokens}
+use Rattle.load_memory.specs.Keys.{key_of, same_key}
+use Rattle.execution.specs.Loads.{Load, Reader}
+use Rattle.execution.specs.Program.{Leaf, Own, Value, Null, Fault, Kind, ListOf, ObjectOf, Part, Key, Item, Program, needs}
+use Rattle.execution.specs.Front.{missing}
+use Rattle.gq_resolve.specs.Answered.{leaf_json}
+use Rattle.gq_resolve.specs.Puts.{Put, Begins, Ends, Enters, Has, Waits, View, waiting}
+use Rattle.gq_resolve.specs.Spots.{onward_of}
+use Rattle.gq_resolve.specs.declared.output.Blocked.{Blocked}
+use Rattle.gq_resolve.specs.declared.output.Output.{Output}
+
+-- ---- text
+
+-- a leaf, or a null of nullable type; the others are errors
+abbrev pub own_plain : Bool → Own → Bool
+own_plain strict (Value leaf) = true
+own_plain strict Null = not strict
+own_plain strict (Fault text) = false
+
+abbrev pub is_plain : Put → Bool
+is_plain (Begins kind) = true
+is_plain (Ends kind) = true
+is_plain (Enters kind spot) = true
+is_plain (Has strict own) = own_plain strict own
+is_plain (Waits program) = false
+
+abbrev pub opening : Kind → Token
+opening ListOf = begin_array
+opening ObjectOf = begin_object
+
+abbrev pub closing : Kind → Token
+closing ListOf = end_array
+closing ObjectOf = end_object
+
+abbrev pub own_tokens : Own → List Token
+own_tokens (Value leaf) = json_tokens (leaf_json leaf)
+own_tokens Null = null ∷ []
+own_tokens (Fault text) = []
+
+-- a field has its key before it, and an item nothing
+abbrev pub part_tokens : Kind → Part → List Token
+part_tokens ListOf part = []
+part_tokens ObjectOf (Key k) = key k ∷ []
+part_tokens ObjectOf (Item n) = key (decimal n) ∷ []
+
+abbrev pub put_tokens : Put → List Token
+put_tokens (Begins kind) = opening kind ∷ []
+put_tokens (Ends kind) = closing kind ∷ []
+put_tokens (Enters kind spot) = part_tokens kind spot.part
+put_tokens (Has strict own) = own_tokens own
+put_tokens (Waits program) = []
+
+-- ---- loads
+
+-- what a program needs and a reader doesn't answer, depth first
+abbrev pub asks : Program → Reader → List Load
+asks p R = missing R (needs p R)
+
+abbrev pub put_asks : Reader → Put → List Load
+put_asks R (Begins kind) = []
+put_asks R (Ends kind) = []
+put_asks R (Enters kind spot) = []
+put_asks R (Has strict own) = []
+put_asks R (Waits program) = asks program R
+
+-- both are of one loader and have exactly equal keys
+abbrev pub is_load : Load → Load → Bool
+is_load a b = (a.loader == b.loader) && same_key a.key b.key
+
+-- the load goes last, if it isn't there yet
+abbrev pub with_load : List Load → Load → List Load
+with_load noted l = if list_any (is_load l) noted then noted else noted ++ l ∷ []
+
+-- the noted loads with these too, one after another
+abbrev pub thinned : List Load → List Load → List Load
+thinned noted [] = noted
+thinned noted (l ∷ ls) = thinned (with_load noted l) ls
+
+-- the program of a position that waits, by what its group does
+abbrev pub left_of : View → Blocked → Program
+left_of v b = waiting v (onward_of b.onward) b.loader (key_of b.key)
+
+abbrev pub all_asks : View → List Blocked → Reader → List Load
+all_asks v bs R = flat_map (λ (b : Blocked). asks (left_of v b) R) bs
+
+-- each group of a position that waits is one of so many
+abbrev pub AreWithin : ℕ → List Blocked → Type 0
+AreWithin count bs = All (λ (b : Blocked). b.onward.group < count) bs
+
+-- an output whose positions that wait are of the first so many groups
+abbrev pub IsWithin : ℕ → Output → Type 0
+IsWithin count o = AreWithin count o.blocked.keys
+
+abbrev pub count_waiting : Output → ℕ
+count_waiting o = length o.blocked.keys
+
+-- ---- what is put
+
+-- an output is written while nothing waits and no error was met
+pub record IsWriting (o : Output) : Type 0 where
+  pub plain : o.is_plain ≡ true
+  pub whole : o.blocked.keys ≡ []
+
+-- Over each memory the positions that wait ask what they asked, and what is put, each load once. Where the output is still
+-- written, all was plain, and its tokens were written.
+pub record Puts (v : View) (ps : List Put) (old new : Output) : Type 0 where
+  pub before : new.writer.before ≡ old.writer.before
+  pub first : (rest : List Blocked) × (new.blocked.keys ≡ old.blocked.keys ++ rest)
+  pub within : AreWithin v.count old.blocked.keys → AreWithin v.count new.blocked.keys
+  pub asked : (R : Reader) → thinned [] (all_asks v new.blocked.keys R) ≡ thinned (thinned [] (all_asks v old.blocked.keys R)) (flat_map (put_asks R) ps)
+  pub written : IsWriting new → IsWriting old × (list_all is_plain ps ≡ true) × (new.writer.tokens ≡ old.writer.tokens ++ flat_map put_tokens ps)
+
+-- These tokens and nothing else are put, which are plain or not.
+pub record Adds (plain : Bool) (ts : List Token) (old new : Output) : Type 0 where
+  pub before : new.writer.before ≡ old.writer.before
+  pub blocked : new.blocked.keys ≡ old.blocked.keys
+  pub written : IsWriting new → IsWriting old × (plain ≡ true) × (new.writer.tokens ≡ old.writer.tokens ++ ts)
+
+abbrev pub AddsOwn : Bool → Own → Output → Output → Type 0
+AddsOwn strict own old new = Adds (own_plain strict own) (own_tokens own) old new
+
+-- the value of a leaf, or that there is none
+abbrev pub leaf_tokens : Option Leaf → List Token
+leaf_tokens None = []
+leaf_tokens (Some leaf) = json_tokens (leaf_json leaf)
+
+abbrev pub AddsLeaf : Option Leaf → Output → Output → Type 0
+AddsLeaf leaf old new = Adds (is_some leaf) (leaf_tokens leaf) old new

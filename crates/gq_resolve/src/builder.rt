@@ -1,0 +1,225 @@
+//! The response that a walk builds, with its errors (sections 6.4.3 and 6.4.4).
+
+ghost use Rattle.std.specs.Prelude.{◌≡◌, IfOk, OnOk, map, string_bytes, refl};
+ghost use Rattle.execution.specs.Loads.{Reader};
+ghost use Rattle.execution.specs.Program.{Null, Program, tree};
+ghost use Rattle.execution.specs.Executed.{completed};
+ghost use Rattle.plan_program.specs.Prepared.{own_seen};
+ghost use Rattle.gq_resolve.specs.Answered.{part_of, response_of, answered_of};
+ghost use Rattle.gq_resolve.specs.Built.{path_in, placed, given_own, at_root, with_error, built, nothing_built, IsWhole, spot_held, built_of, goes-append};
+
+use crate::answered::Answered;
+use crate::cells::cell_value;
+use crate::level::{Level, Parts, Position};
+use crate::no_memory::NoMemory;
+use crate::sink::Sink;
+use crate::spot::{Items, Kind, Leaf, Onward, Spot};
+use answer_json::{FieldError, PathPart, Response};
+use load_memory::KeyRef;
+use plan_program::Own;
+use std::alloc::{AllocError, Global};
+use std::mem;
+
+/// What a walk has built so far of a response, and the errors that it met.
+#[derive(Drop)]
+pub struct Builder {
+    alloc: Global,
+    /// What has begun and not ended, outermost first.
+    levels: Vec<Level>,
+    /// The position of what is put next.
+    position: Position,
+    /// The response of the root, once it is put.
+    top: Response,
+    errors: Vec<FieldError>,
+}
+
+fn copied_own(alloc: Global, own: &Own) -> Result<Own, AllocError>
+    ensures { IfOk result (λ copy. own_seen copy ≡ own_seen own.now) }
+{
+    match own {
+        Own::Text(text) => Ok(Own::Text(String::from_str(alloc, text.as_str())?)),
+        Own::Int(number) => Ok(Own::Int(*number)),
+        Own::Bool(value) => Ok(Own::Bool(*value)),
+        Own::Null => Ok(Own::Null),
+        Own::Fault(text) => Ok(Own::Fault(String::from_str(alloc, text.as_str())?)),
+    }
+}
+
+impl Builder {
+    /// Nothing yet, at the root of the answer.
+    pub fn new(alloc: Global) -> Builder
+        ensures { built_of result ≡ nothing_built }
+    {
+        Builder {
+            alloc,
+            levels: Vec::new(alloc),
+            position: Position::root(),
+            top: Response::Null,
+            errors: Vec::new(alloc),
+        }
+    }
+
+    /// The response that was built, with its errors.
+    pub fn finish(self) -> Answered
+        ensures { (p : Program) (R : Reader) → IsWhole (built_of self) p R → answered_of result ≡ completed (tree p R) }
+    {
+        Answered {
+            response: self.top,
+            errors: self.errors,
+        }
+    }
+
+    // The position of what is put next, which is then the root's until another is entered.
+    fn taken(&mut self) -> Position
+        ensures position { spot_held result ≡ (built_of self.old).spot }
+        ensures left { built_of self.new ≡ at_root (built_of self.old) }
+    {
+        mem::replace(&mut self.position, Position::root())
+    }
+
+    // The path of the position of what is put next.
+    fn path(&self) -> Result<Vec<PathPart>, AllocError>
+        ensures { IfOk result (λ path. map part_of path.items ≡ path_in (built_of self.now).levels (built_of self.now).spot.part) }
+    {
+        let mut path = Vec::new(self.alloc);
+        let [_root, below @ ..] = self.levels.as_slice() else {
+            return Ok(path);
+        };
+        for level in below {
+            path.push(level.position.copied_step(self.alloc)?)?;
+        }
+        path.push(self.position.copied_step(self.alloc)?)?;
+        Ok(path)
+    }
+
+    // Puts an error at the position of what is put next.
+    fn put_error(&mut self, message: String) -> Result<(), NoMemory>
+        ensures { OnOk result (built_of self.new ≡ with_error (string_bytes message) (built_of self.old)) }
+    {
+        let path = self.path()?;
+        self.errors.push(FieldError {
+            message,
+            place: self.position.place,
+            path,
+        })?;
+        Ok(())
+    }
+
+    fn put(&mut self, response: Response) -> Result<(), NoMemory>
+        ensures { OnOk result (built_of self.new ≡ placed (response_of response) (built_of self.old)) }
+    {
+        let position = self.taken();
+        match self.levels.last_mut() {
+            Some(level) => level.put(self.alloc, position, response),
+            None => {
+                self.top = response;
+                Ok(())
+            }
+        }
+    }
+
+    fn put_own(&mut self, own: Own, strict: bool) -> Result<(), NoMemory>
+        ensures { OnOk result (built_of self.new ≡ given_own strict (own_seen own) (built_of self.old)) }
+    {
+        match own {
+            Own::Text(text) => self.put(Response::Text(text)),
+            Own::Int(number) => self.put(Response::Int(number)),
+            Own::Bool(value) => self.put(Response::Bool(value)),
+            Own::Null => self.put_null(strict),
+            Own::Fault(message) => {
+                self.put_error(message)?;
+                self.put(Response::Null)
+            }
+        }
+    }
+
+    // Puts a null, which is an error at a non-null type.
+    fn put_null(&mut self, strict: bool) -> Result<(), NoMemory>
+        ensures { OnOk result (built_of self.new ≡ given_own strict Null (built_of self.old)) }
+    {
+        if strict {
+            let message = String::from_str(self.alloc, "null where the type is non-null")?;
+            self.put_error(message)?;
+        }
+        self.put(Response::Null)
+    }
+}
+
+impl Sink for Builder {
+    ghost goes = { λ v ps old new. built_of new ≡ built ps (built_of old) };
+
+    ghost below = { λ n s. Unit {0} };
+
+    ghost waits = { λ s. 0 };
+
+    ghost none = { λ v s. refl };
+
+    ghost more = { λ v ps qs a b c f g. goes-append ps qs (built_of a) (built_of b) (built_of c) f g };
+
+    ghost rises = { λ n m s le h. h };
+
+    ghost stays = { λ v ps a b h w. w };
+
+    ghost narrow = { λ v w n ps a b le same below held h. h };
+
+    fn begin(&mut self, kind: Kind) -> Result<(), NoMemory> {
+        let parts = match kind {
+            Kind::List => Parts::Items(Vec::new(self.alloc)),
+            Kind::Object => Parts::Fields(Vec::new(self.alloc)),
+        };
+        let position = self.taken();
+        self.levels.push(Level {
+            position,
+            parts,
+            pulled: false,
+        })?;
+        Ok(())
+    }
+
+    fn end(&mut self, _kind: Kind) -> Result<(), NoMemory> {
+        let Some(level) = self.levels.pop() else {
+            return Ok(());
+        };
+        let (position, response) = level.ended();
+        self.position = position;
+        self.put(response)
+    }
+
+    fn field(&mut self, spot: Spot<'_>) -> Result<(), NoMemory> {
+        let key = String::from_str(self.alloc, spot.key)?;
+        self.position = Position {
+            step: PathPart::Key(key),
+            non_null: spot.non_null,
+            place: spot.place,
+        };
+        Ok(())
+    }
+
+    fn item(&mut self, items: Items, number: usize) -> Result<(), NoMemory> {
+        self.position = Position {
+            step: PathPart::Item(number),
+            non_null: items.non_null,
+            place: items.place,
+        };
+        Ok(())
+    }
+
+    fn own(&mut self, own: &Own, strict: bool) -> Result<(), NoMemory> {
+        let own = copied_own(self.alloc, own)?;
+        self.put_own(own, strict)
+    }
+
+    fn cell(&mut self, leaf: Leaf<'_>, strict: bool) -> Result<(), NoMemory> {
+        let own = cell_value(self.alloc, leaf.schema, leaf.column, leaf.ty, leaf.row)?;
+        self.put_own(own, strict)
+    }
+
+    fn waiting(&self) -> usize {
+        0
+    }
+
+    // No answer is built where a position waits.
+    fn wait(&mut self, _onward: Onward, _loader: usize, _key: KeyRef<'_>) -> Result<(), NoMemory> {
+        Ok(())
+    }
+}

@@ -1,0 +1,326 @@
+//! What is the same for all rows: what a plan asks of the objects below each load, prepared once.
+
+ghost use Rattle.std.specs.Prelude.{◌≡◌, ◌<◌, ◌≤◌, IfOk, IfSome, OnOk};
+ghost use Rattle.gq_check.specs.Plans.{PlanOf, plan_of};
+ghost use Rattle.plan_program.specs.Prepared.{asked_seen, all_prepared_seen, below_seen};
+ghost use Rattle.gq_resolve.specs.Groups.{below_in, below_at, then_at, type_prepared, IsShape, Grows, IsNew, IsAsking, AreMade, AreKept, IsShaped};
+
+use crate::no_memory::NoMemory;
+use crate::spot::{Items, Onward, Spot};
+use crate::tour::Tour;
+use gq_lexer::Place;
+use gq_parser::{Field, Selection, TypeRef};
+use load_memory::Key;
+use plan_program::{Asked, Below, KeyFrom, Own, Prepared, collect_below, prepare};
+use std::alloc::Global;
+use std::rc::Rc;
+use std::sync::Arc;
+
+/// What is done with the rows of a load.
+#[derive(Clone, Copy, Drop)]
+pub enum Then<'p> {
+    /// The first of them.
+    First,
+    /// All of them.
+    All,
+    /// For each of them the second loader's first row of the key in a column.
+    Joined { second: usize, column: &'p str },
+}
+
+/// What a position of an object asks for. A load's group says what is done with its rows.
+#[derive(Drop)]
+pub enum Asks<'p> {
+    /// The same for each row.
+    Known(Own),
+    /// A column's field, at a type.
+    Cell {
+        column: &'p str,
+        ty: &'p TypeRef,
+    },
+    /// The rows of a key.
+    Load {
+        loader: usize,
+        key: KeyFrom<'p>,
+        group: usize,
+    },
+    /// For each key its rows; no key is null.
+    Each {
+        loader: usize,
+        keys: Vec<Option<Key>>,
+        items: Items,
+        group: usize,
+    },
+}
+
+/// A position of an object, and what it asks for.
+#[derive(Drop)]
+pub struct Member<'p> {
+    pub spot: Spot<'p>,
+    pub asks: Asks<'p>,
+}
+
+/// The positions of the objects of one type below a group.
+#[derive(Drop)]
+pub struct Shape<'p> {
+    pub ty: String,
+    pub members: Rc<Vec<Member<'p>>>,
+}
+
+/// A group of fields that loads: what is done with the rows, and the shapes of the objects that were met there.
+#[derive(Drop)]
+pub struct Group<'p> {
+    pub then: Then<'p>,
+    pub below: Arc<Below<'p>>,
+    pub shapes: Vec<Shape<'p>>,
+}
+
+/// What is done with the rows of a group's load.
+pub fn then_of<'p>(groups: &[Group<'p>], group: usize) -> Then<'p>
+    ensures { result ≡ then_at groups.now group }
+{
+    match groups.get(group) {
+        Some(group) => group.then,
+        None => Then::First,
+    }
+}
+
+/// The name of the type of the objects below a group.
+pub fn type_name_of<'p>(groups: &[Group<'p>], group: usize) -> &'p str
+    ensures { result.now ≡ (below_at groups.now group).type_name }
+{
+    match groups.get(group) {
+        Some(group) => group.below.type_name,
+        None => "",
+    }
+}
+
+fn items_below(below: &Below<'_>) -> Items
+    ensures non_null { result.non_null ≡ (below_seen below.now).item_non_null }
+    ensures place { result.place ≡ (below_seen below.now).place }
+{
+    Items {
+        non_null: below.item_non_null,
+        place: below.place,
+    }
+}
+
+/// The items of the list of a group.
+pub fn items_of(groups: &[Group<'_>], group: usize) -> Items
+    ensures non_null { result.non_null ≡ (below_at groups.now group).item_non_null }
+    ensures place { result.place ≡ (below_at groups.now group).place }
+{
+    match groups.get(group) {
+        Some(group) => items_below(&group.below),
+        None => Items {
+            non_null: false,
+            place: Place { line: 1, column: 1 },
+        },
+    }
+}
+
+// A group more, which loads so.
+fn new_group<'p>(
+    groups: &mut Vec<Group<'p>>,
+    then: Then<'p>,
+    below: Arc<Below<'p>>,
+) -> Result<usize, NoMemory>
+    ensures { IfOk result (IsNew groups.old.items groups.new.items then.entry (below_in below.entry)) }
+{
+    let number = groups.len();
+    let shapes = Vec::new(*groups.allocator());
+    groups.push(Group {
+        then,
+        below,
+        shapes,
+    })?;
+    Ok(number)
+}
+
+// What is asked for, with a group more where it loads.
+fn asks_of<'p>(groups: &mut Vec<Group<'p>>, asked: Asked<'p>) -> Result<Asks<'p>, NoMemory>
+    ensures { IfOk result (IsAsking groups.old.items groups.new.items (asked_seen asked.entry)) }
+{
+    match asked {
+        Asked::Known(own) => Ok(Asks::Known(own)),
+        Asked::Cell { column, ty } => Ok(Asks::Cell { column, ty }),
+        Asked::First { loader, key, below } => {
+            let group = new_group(groups, Then::First, below)?;
+            Ok(Asks::Load { loader, key, group })
+        }
+        Asked::All { loader, key, below } => {
+            let group = new_group(groups, Then::All, below)?;
+            Ok(Asks::Load { loader, key, group })
+        }
+        Asked::Each {
+            loader,
+            keys,
+            below,
+        } => {
+            let items = items_below(&below);
+            let group = new_group(groups, Then::First, below)?;
+            Ok(Asks::Each {
+                loader,
+                keys,
+                items,
+                group,
+            })
+        }
+        Asked::Joined {
+            loader,
+            key,
+            second,
+            column,
+            below,
+        } => {
+            let group = new_group(groups, Then::Joined { second, column }, below)?;
+            Ok(Asks::Load { loader, key, group })
+        }
+    }
+}
+
+/// The members that these groups make.
+pub fn members_of<'p>(
+    alloc: Global,
+    groups: &mut Vec<Group<'p>>,
+    all: Vec<Prepared<'p>>,
+) -> Result<Vec<Member<'p>>, NoMemory>
+    ensures { IfOk result (λ members. AreMade groups.old.items groups.new.items (all_prepared_seen all.entry.items) members.items) }
+{
+    let mut members = Vec::with_capacity(alloc, all.len())?;
+    for prepared in all {
+        let spot = Spot {
+            key: prepared.key,
+            non_null: prepared.non_null,
+            place: prepared.place,
+        };
+        let asks = asks_of(groups, prepared.asked)?;
+        members.push(Member { spot, asks })?;
+    }
+    Ok(members)
+}
+
+// The members of a type that was met.
+fn kept<'p>(
+    groups: &[Group<'p>],
+    group: usize,
+    ty: &str,
+) -> Result<Option<Rc<Vec<Member<'p>>>>, NoMemory>
+    ensures { IfOk result (λ found. IfSome found (λ members. AreKept groups.now group ty.now members.value.items)) }
+{
+    if group >= groups.len() {
+        return Ok(None);
+    }
+    for shape in &groups[group].shapes {
+        if shape.ty.as_str() == ty {
+            return Ok(Some(shape.members.clone()?));
+        }
+    }
+    Ok(None)
+}
+
+// Prepares what is asked of the objects of a type.
+fn meet<'p>(
+    tour: &Tour<'_, 'p, '_>,
+    groups: &mut Vec<Group<'p>>,
+    below: &Below<'p>,
+    ty: &str,
+) -> Result<Rc<Vec<Member<'p>>>, NoMemory>
+    ensures { IfOk result (λ members. AreMade groups.old.items groups.new.items (type_prepared (plan_of tour.now.plan.now) (below_seen below.now) ty.now) members.value.items) }
+{
+    let collected = collect_below(tour.alloc, tour.plan, ty, &below.fields)?;
+    let all = prepare(tour.alloc, tour.plan, ty, collected)?;
+    let members = members_of(tour.alloc, groups, all)?;
+    Ok(Rc::new(tour.alloc, members)?)
+}
+
+// Keeps the members of a type below a group that is one of the first so many, fewer than the most.
+fn keep<'p>(
+    groups: &mut Vec<Group<'p>>,
+    count: usize,
+    most: usize,
+    group: usize,
+    shape: Shape<'p>,
+) -> Result<(), NoMemory>
+    ensures grows { OnOk result ((plan : PlanOf) → (group < count → IsShape plan groups.old.items (below_at groups.old.items group) shape.entry) → Grows plan groups.old.items groups.new.items) }
+    ensures most { OnOk result (most ≤ count → groups.new.items ≡ groups.old.items) }
+{
+    if group < count && count < most && group < groups.len() {
+        groups[group].shapes.push(shape)?;
+    }
+    Ok(())
+}
+
+// What stands below a group.
+fn below_of<'p>(
+    alloc: Global,
+    groups: &[Group<'p>],
+    group: usize,
+) -> Result<Arc<Below<'p>>, NoMemory>
+    ensures { IfOk result (λ below. below_in below ≡ below_at groups.now group) }
+{
+    if let Some(group) = groups.get(group) {
+        return Ok(Arc::try_clone(&group.below)?);
+    }
+    let nowhere = Below {
+        type_name: "",
+        item_non_null: false,
+        place: Place { line: 1, column: 1 },
+        fields: Vec::new(alloc),
+    };
+    Ok(Arc::new(alloc, nowhere)?)
+}
+
+/// The members of the objects of a type below a group.
+pub fn shape_of<'p>(
+    tour: &Tour<'_, 'p, '_>,
+    groups: &mut Vec<Group<'p>>,
+    group: usize,
+    ty: &str,
+) -> Result<Rc<Vec<Member<'p>>>, NoMemory>
+    ensures { IfOk result (λ members. IsShaped (plan_of tour.now.plan.now) tour.now.most groups.old.items groups.new.items group ty.now members.value.items) }
+{
+    if let Some(members) = kept(groups, group, ty)? {
+        return Ok(members);
+    }
+    let count = groups.len();
+    let below = below_of(tour.alloc, groups, group)?;
+    let members = meet(tour, groups, &below, ty)?;
+    let shape = Shape {
+        ty: String::from_str(tour.alloc, ty)?,
+        members: members.clone()?,
+    };
+    keep(groups, count, tour.most, group, shape)?;
+    Ok(members)
+}
+
+// Whether an object is selected below one that these fields select of.
+fn selects_objects(fields: &[&Field]) -> bool {
+    for field in fields {
+        let Some(set) = &field.selection_set else {
+            continue;
+        };
+        for selection in &set.selections {
+            let selects = match selection {
+                Selection::Field(below) => below.selection_set.is_some(),
+                Selection::Spread(_) => true,
+                Selection::Inline(_) => true,
+            };
+            if selects {
+                return true;
+            }
+        }
+    }
+    false
+}
+
+/// Whether there may be a load below a position that goes on so.
+pub fn may_load(groups: &[Group<'_>], onward: Onward) -> bool {
+    let Some(group) = groups.get(onward.group) else {
+        return false;
+    };
+    match group.then {
+        Then::First => selects_objects(&group.below.fields),
+        Then::All => selects_objects(&group.below.fields),
+        Then::Joined { .. } => !onward.second || selects_objects(&group.below.fields),
+    }
+}

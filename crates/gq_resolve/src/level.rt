@@ -1,0 +1,123 @@
+//! Objects and lists of a response that is built.
+
+ghost use Rattle.std.specs.Prelude.{◌≡◌, IfOk, OnOk, string_bytes};
+ghost use Rattle.execution.specs.Program.{Key, ObjectOf};
+ghost use Rattle.execution.specs.Completion.{Holding};
+ghost use Rattle.gq_resolve.specs.Answered.{part_of, response_of, is_null_response};
+ghost use Rattle.gq_resolve.specs.Built.{root_spot, step_in, level_with, level_response, kind_held, parts_held, spot_held, level_seen};
+
+use crate::no_memory::NoMemory;
+use answer_json::{PathPart, Response};
+use gq_lexer::Place;
+use std::alloc::{AllocError, Global};
+
+/// A position: the last step of its path, its type, and where its errors are.
+#[derive(Drop)]
+pub struct Position {
+    pub step: PathPart,
+    pub non_null: bool,
+    pub place: Place,
+}
+
+/// What an object or a list has so far.
+#[derive(Drop)]
+pub enum Parts {
+    Items(Vec<Response>),
+    Fields(Vec<(String, Response)>),
+}
+
+/// An object or a list that has begun.
+#[derive(Drop)]
+pub struct Level {
+    pub position: Position,
+    pub parts: Parts,
+    /// Whether a null at a non-null type is among the parts, which pulls it down.
+    pub pulled: bool,
+}
+
+fn is_null(response: &Response) -> bool
+    ensures { result ≡ is_null_response (response_of response.now) }
+{
+    match response {
+        Response::Null => true,
+        Response::Text(_) => false,
+        Response::Int(_) => false,
+        Response::Bool(_) => false,
+        Response::List(_) => false,
+        Response::Object(_) => false,
+    }
+}
+
+impl Position {
+    /// The root, which no step leads to. An error there has the place of a text's first character.
+    pub fn root() -> Position
+        ensures { spot_held result ≡ root_spot }
+    {
+        Position {
+            step: PathPart::Item(0),
+            non_null: false,
+            place: Place { line: 1, column: 1 },
+        }
+    }
+
+    /// A copy of the last step of its path.
+    pub fn copied_step(&self, alloc: Global) -> Result<PathPart, AllocError>
+        ensures { IfOk result (λ step. part_of step ≡ (spot_held self.now).part) }
+    {
+        match &self.step {
+            PathPart::Key(key) => Ok(PathPart::Key(String::from_str(alloc, key.as_str())?)),
+            PathPart::Item(number) => Ok(PathPart::Item(*number)),
+        }
+    }
+
+    // The key of a field. No item has one.
+    fn into_key(self, alloc: Global) -> String
+        ensures { Key (string_bytes result) ≡ step_in ObjectOf 0 (spot_held self).part }
+    {
+        match self.step {
+            PathPart::Key(key) => key,
+            PathPart::Item(_) => String::new(alloc),
+        }
+    }
+}
+
+impl Parts {
+    fn into_response(self) -> Response
+        ensures { response_of result ≡ Holding (kind_held self) (parts_held self) }
+    {
+        match self {
+            Parts::Items(items) => Response::List(items),
+            Parts::Fields(fields) => Response::Object(fields),
+        }
+    }
+}
+
+impl Level {
+    /// Puts the response of one of its positions.
+    pub fn put(
+        &mut self,
+        alloc: Global,
+        position: Position,
+        response: Response,
+    ) -> Result<(), NoMemory>
+        ensures { OnOk result (level_seen self.new ≡ level_with (spot_held position) (response_of response) (level_seen self.old)) }
+    {
+        self.pulled = self.pulled || (position.non_null && is_null(&response));
+        match &mut self.parts {
+            Parts::Items(items) => items.push(response)?,
+            Parts::Fields(fields) => fields.push((position.into_key(alloc), response))?,
+        }
+        Ok(())
+    }
+
+    /// Its position and its response, now that it ends.
+    pub fn ended(self) -> (Position, Response)
+        ensures position { spot_held result.0 ≡ (level_seen self).spot }
+        ensures response { response_of result.1 ≡ level_response (level_seen self) }
+    {
+        if self.pulled {
+            return (self.position, Response::Null);
+        }
+        (self.position, self.parts.into_response())
+    }
+}

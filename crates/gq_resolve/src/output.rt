@@ -1,0 +1,281 @@
+//! An answer without errors, as it is written, and the positions of it that wait.
+
+ghost use Rattle.std.specs.Prelude.{◌≡◌, ◌↔◌, ◌∷◌, [], IfOk, OnOk, IsTrue, Bool, false, true, string_bytes};
+ghost use Rattle.std.specs.Fmt.{signed_decimal};
+ghost use Rattle.json.specs.Print.{IsPrintable, print};
+ghost use Rattle.json.specs.Reads.{token_of};
+ghost use Rattle.json.specs.Token.{number};
+ghost use Rattle.gq_parser.specs.Tree.{type_of};
+ghost use Rattle.gq_schema.specs.Types.{tree_of};
+ghost use Rattle.execution.specs.Program.{Null};
+ghost use Rattle.plan_program.specs.PlanPrograms.{boolean_of, int_leaf, named_leaf, leaf_of};
+ghost use Rattle.plan_program.specs.Prepared.{own_seen};
+ghost use Rattle.gq_resolve.specs.Leaves.{leaf_seen};
+
+use crate::cells::{boolean_of, int_of_leaf};
+use crate::no_memory::NoMemory;
+use crate::sink::Sink;
+use crate::spot::{Items, Kind, Leaf, Onward, Spot};
+use gq_parser::TypeRef;
+use gq_schema::Schema;
+use indexmap::IndexSet;
+use json::{Token, Writer};
+use load_memory::{Cell, Key, KeyRef};
+use plan_program::Own;
+use std::alloc::Global;
+
+/// The room that a text has from the start.
+const FIRST_ROOM: usize = 128;
+
+/// A position that waits for a load: how it goes on, and the load.
+#[derive(PartialEq, Eq, Hash, Drop)]
+pub struct Blocked {
+    pub onward: Onward,
+    pub loader: usize,
+    pub key: Key,
+}
+
+/// What a walk over a plan has written, and the positions that wait. It writes only while nothing waits and no error was
+/// met.
+#[derive(Drop)]
+pub struct Output {
+    pub alloc: Global,
+    pub writer: Writer,
+    /// Each of them once, however often it is met.
+    pub blocked: IndexSet<Blocked>,
+    /// Whether no error was met.
+    pub is_plain: bool,
+    pub ghost begins: { writer.before ≡ [] },
+}
+
+impl Output {
+    ghost use Rattle.gq_resolve.specs.Written.{IsWriting, Adds, AddsOwn, AddsLeaf};
+
+    /// Nothing yet.
+    pub fn new(alloc: Global) -> Result<Output, NoMemory>
+        ensures before { IfOk result (λ out. out.writer.before ≡ []) }
+        ensures tokens { IfOk result (λ out. out.writer.tokens ≡ []) }
+        ensures blocked { IfOk result (λ out. out.blocked.keys ≡ []) }
+    {
+        Ok(Output {
+            alloc,
+            writer: Writer::new(Vec::with_capacity(alloc, FIRST_ROOM)?),
+            blocked: IndexSet::new(alloc),
+            is_plain: true,
+        })
+    }
+
+    /// Nothing yet, and nothing is written: only the positions that wait are noted.
+    pub fn unwritten(alloc: Global) -> Output
+        ensures before { result.writer.before ≡ [] }
+        ensures plain { result.is_plain ≡ false }
+        ensures blocked { result.blocked.keys ≡ [] }
+    {
+        Output {
+            alloc,
+            writer: Writer::new(Vec::new(alloc)),
+            blocked: IndexSet::new(alloc),
+            is_plain: false,
+        }
+    }
+
+    /// Whether it is still written.
+    pub fn is_writing(&self) -> bool
+        ensures { IsTrue result ↔ IsWriting self.now }
+    {
+        self.is_plain && self.blocked.is_empty()
+    }
+
+    // Notes an error.
+    fn fault(&mut self)
+        ensures { Adds false [] self.old self.new }
+    {
+        self.is_plain = false;
+    }
+
+    // Writes a token.
+    fn put(&mut self, token: Token<'_>) -> Result<(), NoMemory>
+        requires { IsPrintable (token_of token) }
+        ensures { OnOk result (Adds true (token_of token.entry ∷ []) self.old self.new) }
+    {
+        if self.is_writing() {
+            self.writer.token(token)?;
+        }
+        Ok(())
+    }
+
+    // Writes a number.
+    fn put_number(&mut self, value: i32) -> Result<(), NoMemory>
+        ensures { OnOk result (Adds true (number (signed_decimal value) ∷ []) self.old self.new) }
+    {
+        if self.is_writing() {
+            self.writer.i64(i64::from(value))?;
+        }
+        Ok(())
+    }
+
+    // Writes a null, which is an error at a non-null type.
+    fn put_null(&mut self, strict: bool) -> Result<(), NoMemory>
+        ensures { OnOk result (AddsOwn strict Null self.old self.new) }
+    {
+        if strict {
+            self.fault();
+            return Ok(());
+        }
+        self.put(Token::Null)
+    }
+
+    fn put_int(&mut self, text: &str) -> Result<(), NoMemory>
+        ensures { OnOk result (AddsLeaf (int_leaf text.now) self.old self.new) }
+    {
+        match int_of_leaf(text) {
+            Some(number) => self.put_number(number),
+            None => {
+                self.fault();
+                Ok(())
+            }
+        }
+    }
+
+    fn put_boolean(&mut self, text: &str) -> Result<(), NoMemory>
+        ensures { OnOk result (AddsLeaf (boolean_of text.now) self.old self.new) }
+    {
+        match boolean_of(text) {
+            Some(value) => self.put(Token::Bool(value)),
+            None => {
+                self.fault();
+                Ok(())
+            }
+        }
+    }
+
+    // What a text is at the type of this name.
+    fn put_named(&mut self, schema: &Schema, name: &str, text: &str) -> Result<(), NoMemory>
+        ensures { OnOk result (AddsLeaf (named_leaf (tree_of schema.now) name.now text.now) self.old self.new) }
+    {
+        if name == "Int" {
+            return self.put_int(text);
+        }
+        if name == "Boolean" {
+            return self.put_boolean(text);
+        }
+        if name == "String" || name == "ID" || schema.has_value(name, text) {
+            return self.put(Token::String(text));
+        }
+        self.fault();
+        Ok(())
+    }
+
+    fn put_leaf(&mut self, schema: &Schema, ty: &TypeRef, text: &str) -> Result<(), NoMemory>
+        ensures { OnOk result (AddsLeaf (leaf_of (tree_of schema.now) (type_of ty.now) text.now) self.old self.new) }
+    {
+        match ty {
+            TypeRef::Named { name, .. } => self.put_named(schema, name.as_str(), text),
+            TypeRef::List { .. } => {
+                self.fault();
+                Ok(())
+            }
+        }
+    }
+
+    // Writes a cell straight from its row.
+    fn put_cell(&mut self, leaf: Leaf<'_>, strict: bool) -> Result<(), NoMemory>
+        ensures { OnOk result (AddsOwn strict (leaf_seen leaf.entry) self.old self.new) }
+    {
+        match leaf.row.get(leaf.column) {
+            Cell::NoColumn => {
+                self.fault();
+                Ok(())
+            }
+            Cell::Null => self.put_null(strict),
+            Cell::Text(text) => self.put_leaf(leaf.schema, leaf.ty, text),
+        }
+    }
+}
+
+impl Sink for Output {
+    ghost use Rattle.gq_resolve.specs.Written.{Puts, IsWithin, count_waiting};
+    ghost use Rattle.gq_resolve.specs.Composing.{puts-none, puts-more, within-rises, within-stays, puts-narrow};
+
+    ghost goes = { Puts };
+
+    ghost below = { IsWithin };
+
+    ghost waits = { count_waiting };
+
+    fn begin(&mut self, kind: Kind) -> Result<(), NoMemory> {
+        match kind {
+            Kind::List => self.put(Token::BeginArray),
+            Kind::Object => self.put(Token::BeginObject),
+        }
+    }
+
+    fn end(&mut self, kind: Kind) -> Result<(), NoMemory> {
+        match kind {
+            Kind::List => self.put(Token::EndArray),
+            Kind::Object => self.put(Token::EndObject),
+        }
+    }
+
+    fn field(&mut self, spot: Spot<'_>) -> Result<(), NoMemory> {
+        self.put(Token::Key(spot.key))
+    }
+
+    fn item(&mut self, _items: Items, _number: usize) -> Result<(), NoMemory> {
+        Ok(())
+    }
+
+    fn own(&mut self, own: &Own, strict: bool) -> Result<(), NoMemory> {
+        match own {
+            Own::Text(text) => self.put(Token::String(text.as_str())),
+            Own::Int(number) => self.put_number(*number),
+            Own::Bool(value) => self.put(Token::Bool(*value)),
+            Own::Null => self.put_null(strict),
+            Own::Fault(_) => {
+                self.fault();
+                Ok(())
+            }
+        }
+    }
+
+    fn cell(&mut self, leaf: Leaf<'_>, strict: bool) -> Result<(), NoMemory> {
+        if !self.is_writing() {
+            return Ok(());
+        }
+        self.put_cell(leaf, strict)
+    }
+
+    fn waiting(&self) -> usize {
+        self.blocked.len()
+    }
+
+    fn wait(&mut self, onward: Onward, loader: usize, key: KeyRef<'_>) -> Result<(), NoMemory> {
+        let key = key.to_key(self.alloc)?;
+        self.blocked.insert(Blocked {
+            onward,
+            loader,
+            key,
+        })?;
+        Ok(())
+    }
+
+    ghost none = { puts-none };
+
+    ghost more = { puts-more };
+
+    ghost rises = { within-rises };
+
+    ghost stays = { within-stays };
+
+    ghost narrow = { puts-narrow };
+}
+
+/// What was written, as text.
+pub fn text_of(writer: Writer) -> String
+    requires { writer.before ≡ [] }
+    ensures { string_bytes result ≡ print writer.tokens }
+{
+    let bytes = writer.into_inner();
+    // SAFETY: a writer's text is UTF-8.
+    unsafe { String::from_utf8_unchecked(bytes) }
+}

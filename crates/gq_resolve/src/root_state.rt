@@ -1,0 +1,124 @@
+//! The execution of a plan that is polled, and goes on where it stopped.
+
+ghost use Rattle.std.specs.Prelude.{◌≡◌, IfOk, OnOk, OnErr, length};
+ghost use Rattle.load_memory.specs.Pairs.{MemoryOf};
+ghost use Rattle.execution.specs.Program.{needs};
+ghost use Rattle.execution.specs.Front.{missing};
+ghost use Rattle.gq_check.specs.Plans.{plan_of};
+ghost use Rattle.plan_program.specs.PlanPrograms.{plan_program};
+ghost use Rattle.gq_resolve.specs.Evaluated.{reader, IsWritten, AddsPart, CanEvaluate, GrowsTo};
+ghost use Rattle.gq_resolve.specs.Suspended.{plan_in, FitsMemory};
+
+use crate::advance::{Stopped, advanced};
+use crate::answer::answer_text;
+use crate::answered::Answered;
+use crate::kept::most_kept;
+use crate::no_memory::NoMemory;
+use crate::output::{Output, text_of};
+use crate::resolve::Resolve;
+use crate::responding::responded;
+use crate::tour::Tour;
+use crate::wanting::wanted;
+use futures::task::Poll;
+use gq_check::Plan;
+use load_memory::Memory;
+use load_queue::Wants;
+use std::alloc::Global;
+
+/// The execution of a plan, which goes on where it stopped.
+#[derive(Drop)]
+pub struct RootState<'p, 'a> {
+    plan: &'p Plan<'a>,
+    /// How many groups are kept at most.
+    most: usize,
+    /// Nothing before it is polled, after it has answered, and after it was out of memory: it then begins at its root.
+    stopped: Option<Stopped<'p>>,
+}
+
+impl<'p, 'a> RootState<'p, 'a> {
+    /// The execution of a plan, of which nothing is done. It takes no memory.
+    pub fn new(plan: &'p Plan<'a>) -> RootState<'p, 'a>
+        ensures plan { plan_in result ≡ plan_of plan.now }
+        ensures fits { (m : MemoryOf) → FitsMemory result m }
+    {
+        RootState {
+            plan,
+            most: most_kept(plan),
+            stopped: None,
+        }
+    }
+
+    /// [`poll`](Resolve::poll) to the text of the answer (section 7.1). An answer without errors is written straight from
+    /// the rows.
+    ///
+    /// # Errors
+    ///
+    /// As `poll`.
+    pub fn poll_text(
+        &mut self,
+        alloc: Global,
+        memory: &Memory,
+        wants: &mut Wants,
+    ) -> Result<Poll<String>, NoMemory>
+        requires { CanEvaluate (plan_in self.old) memory.now wants.old }
+        ensures ok { FitsMemory self.old memory.now → IfOk result (λ polled. IsWritten wants.old wants.new (plan_program (plan_in self.old)) memory.now polled) }
+        ensures err { FitsMemory self.old memory.now → OnErr result (AddsPart wants.old wants.new (missing (reader memory.now) (needs (plan_program (plan_in self.old)) (reader memory.now)))) }
+        ensures grown { (m : MemoryOf) → FitsMemory self.old memory.now → GrowsTo memory.now m → FitsMemory self.new m }
+        ensures same_plan { plan_in self.new ≡ plan_in self.old }
+    {
+        let tour = Tour {
+            alloc,
+            plan: self.plan,
+            memory,
+            most: self.most,
+        };
+        let (rooted, out) = advanced(&tour, self.stopped.take())?;
+        let Output {
+            writer,
+            blocked,
+            is_plain,
+            ..
+        } = out;
+        if !blocked.is_empty() {
+            let waiting = wanted(&rooted.groups, blocked, memory.modes().len(), wants)?;
+            self.stopped = Some(Stopped { rooted, waiting });
+            return Ok(Poll::Pending);
+        }
+        if is_plain {
+            return Ok(Poll::Ready(text_of(writer)));
+        }
+        drop(writer);
+        let answered = responded(&tour, rooted)?;
+        Ok(Poll::Ready(answer_text(alloc, &answered)?))
+    }
+}
+
+impl<'p, 'a> Resolve for RootState<'p, 'a> {
+    ghost plan = { plan_in };
+
+    ghost program = { λ s. plan_program (plan_in s) };
+
+    ghost fits = { FitsMemory };
+
+    fn poll(
+        &mut self,
+        alloc: Global,
+        memory: &Memory,
+        wants: &mut Wants,
+    ) -> Result<Poll<Answered>, NoMemory> {
+        let tour = Tour {
+            alloc,
+            plan: self.plan,
+            memory,
+            most: self.most,
+        };
+        let (rooted, out) = advanced(&tour, self.stopped.take())?;
+        let blocked = out.blocked;
+        if !blocked.is_empty() {
+            let waiting = wanted(&rooted.groups, blocked, memory.modes().len(), wants)?;
+            self.stopped = Some(Stopped { rooted, waiting });
+            return Ok(Poll::Pending);
+        }
+        Ok(Poll::Ready(responded(&tour, rooted)?))
+    }
+}

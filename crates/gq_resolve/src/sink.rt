@@ -1,0 +1,70 @@
+//! What a walk puts an answer into.
+
+ghost use Rattle.std.specs.Prelude.{◌≡◌, ◌<◌, ◌≤◌, ◌++◌, ◌∷◌, [], ℕ, List, OnOk};
+ghost use Rattle.load_memory.specs.Keys.{borrowed_of};
+ghost use Rattle.execution.specs.Program.{ObjectOf, ListOf};
+ghost use Rattle.plan_program.specs.Prepared.{own_seen};
+ghost use Rattle.gq_resolve.specs.Leaves.{leaf_seen};
+ghost use Rattle.gq_resolve.specs.Puts.{Put, Begins, Ends, Enters, Has, Waits, OnwardOf, View, waiting};
+ghost use Rattle.gq_resolve.specs.Spots.{kind_of, spot_seen, item_spot, onward_of};
+
+use crate::no_memory::NoMemory;
+use crate::spot::{Items, Kind, Leaf, Onward, Spot};
+use load_memory::KeyRef;
+use plan_program::Own;
+
+/// What a walk puts an answer into, depth first. After an error it is only dropped.
+pub trait Sink {
+    // It goes from the first to the second by these puts, over groups that do so with the rows of their loads.
+    ghost goes: { View → List Put → Self → Self → Type 0 };
+
+    // What waits in it goes on at one of the first so many groups.
+    ghost below: { ℕ → Self → Type 0 };
+
+    // how many positions wait in it
+    ghost waits: { Self → ℕ };
+
+    /// An object or a list begins.
+    fn begin(&mut self, kind: Kind) -> Result<(), NoMemory>
+        ensures { OnOk result ((v : View) → goes v (Begins (kind_of kind) ∷ []) self.old self.new) };
+
+    /// It ends.
+    fn end(&mut self, kind: Kind) -> Result<(), NoMemory>
+        ensures { OnOk result ((v : View) → goes v (Ends (kind_of kind) ∷ []) self.old self.new) };
+
+    /// A field of the object follows.
+    fn field(&mut self, spot: Spot<'_>) -> Result<(), NoMemory>
+        ensures { OnOk result ((v : View) → goes v (Enters ObjectOf (spot_seen spot.entry) ∷ []) self.old self.new) };
+
+    /// The item of a number follows, from 0.
+    fn item(&mut self, items: Items, number: usize) -> Result<(), NoMemory>
+        ensures { OnOk result ((v : View) → goes v (Enters ListOf (item_spot items number) ∷ []) self.old self.new) };
+
+    /// A position with nothing below it, at a type that is non-null or not.
+    fn own(&mut self, own: &Own, strict: bool) -> Result<(), NoMemory>
+        ensures { OnOk result ((v : View) → goes v (Has strict (own_seen own.now) ∷ []) self.old self.new) };
+
+    /// A position that is bound to a column, at a type that is non-null or not.
+    fn cell(&mut self, leaf: Leaf<'_>, strict: bool) -> Result<(), NoMemory>
+        ensures { OnOk result ((v : View) → goes v (Has strict (leaf_seen leaf.entry) ∷ []) self.old self.new) };
+
+    /// A position waits for a load, and then goes on so.
+    fn wait(&mut self, onward: Onward, loader: usize, key: KeyRef<'_>) -> Result<(), NoMemory>
+        ensures { OnOk result ((v : View) → onward.group < v.count → goes v (Waits (waiting v (onward_of onward) loader (borrowed_of key.entry)) ∷ []) self.old self.new) };
+
+    /// How many positions wait in it.
+    fn waiting(&self) -> usize
+        ensures { result ≡ waits self.now };
+
+    ghost none: { (v : View) (s : Self) → goes v [] s s };
+
+    ghost more: { (v : View) (ps qs : List Put) (a b c : Self) → goes v ps a b → goes v qs b c → goes v (ps ++ qs) a c };
+
+    ghost rises: { (n m : ℕ) (s : Self) → n ≤ m → below n s → below m s };
+
+    ghost stays: { (v : View) (ps : List Put) (a b : Self) → goes v ps a b → below v.count a → below v.count b };
+
+    // Where no position more waits, it doesn't matter what groups do past those of the positions that wait.
+    ghost narrow: { (v w : View) (n : ℕ) (ps : List Put) (a b : Self) → n ≤ v.count → ((o : OnwardOf) → o.group < n → v.after o ≡ w.after o)
+        → below n a → waits a ≡ waits b → goes w ps a b → goes v ps a b };
+}

@@ -1,0 +1,376 @@
+//! The walk over what a plan asks and what a memory says, which puts the answer into a sink.
+
+ghost use Rattle.std.specs.Prelude.{◌<◌, ◌∷◌, [], OnOk, false, length, map, option_map};
+ghost use Rattle.load_memory.specs.Keys.{key_of, borrowed_of};
+ghost use Rattle.load_memory.specs.Rows.{cell_of};
+ghost use Rattle.load_memory.specs.Outcomes.{outcome_of};
+ghost use Rattle.execution.specs.Program.{Under, ListOf, ObjectOf};
+ghost use Rattle.gq_check.specs.Plans.{plan_of};
+ghost use Rattle.plan_program.specs.Prepared.{key_from_seen, keys_seen};
+ghost use Rattle.plan_program.specs.PlanPrograms.{places, with_rows, read_from, read_cell, read_key, read_if, object_program};
+ghost use Rattle.gq_resolve.specs.Groups.{below_at, asks_seen, members_seen, IsAsked, AreKnown};
+ghost use Rattle.gq_resolve.specs.Spots.{onward_of, second_of};
+ghost use Rattle.gq_resolve.specs.Walks.{Walks, LetsGo, all_rows, joined_rows};
+
+use crate::cells::{TypeOf, type_of_row};
+use crate::groups::{Asks, Group, Member, Then, items_of, shape_of, then_of, type_name_of};
+use crate::no_memory::NoMemory;
+use crate::reading::told_by;
+use crate::sink::Sink;
+use crate::spot::{Items, Kind, Leaf, Onward};
+use gq_check::Plan;
+use load_memory::{CacheKey, Cell, Key, KeyRef, Memory, Outcome, Row};
+use plan_program::{KeyFrom, Own, no_column_message};
+use std::alloc::Global;
+
+/// What a walk goes over.
+#[derive(Clone, Copy, Drop)]
+pub struct Tour<'w, 'p, 'a> {
+    pub alloc: Global,
+    pub plan: &'p Plan<'a>,
+    pub memory: &'w Memory,
+    /// How many groups are kept at most, beside those on the way to the current object.
+    pub most: usize,
+}
+
+/// How far a walk has come.
+#[derive(Drop)]
+pub struct Progress<'p, S> {
+    /// The groups that were met.
+    pub groups: Vec<Group<'p>>,
+    /// What the memory is asked by, of one load after another.
+    pub probe: CacheKey,
+    pub out: S,
+}
+
+/// A position that loads: how it goes on, and whether its type is non-null.
+#[derive(Clone, Copy, Drop)]
+pub struct Loading {
+    pub onward: Onward,
+    pub strict: bool,
+}
+
+impl<'w, 'p, 'a> Tour<'w, 'p, 'a> {
+    /// An object over a row, with so many levels of objects below it.
+    #[cycle(tour)]
+    pub fn object<S: Sink>(
+        &self,
+        at: &mut Progress<'p, S>,
+        levels: u32,
+        members: &[Member<'p>],
+        row: &Row,
+    ) -> Result<(), NoMemory>
+        ensures { OnOk result (Walks S.goes S.below self.now (AreKnown (length at.old.groups.items) members.now) false (λ v. Under ObjectOf (members_seen (plan_of self.now.plan.now).definitions v levels row.now members.now)) at.old at.new) }
+    {
+        at.out.begin(Kind::Object)?;
+        for member in members {
+            at.out.field(member.spot)?;
+            let strict = member.spot.non_null;
+            self.ask(at, levels, strict, &member.asks, row)?;
+        }
+        at.out.end(Kind::Object)
+    }
+
+    // What a position asks for over a row.
+    #[cycle(tour)]
+    fn ask<S: Sink>(
+        &self,
+        at: &mut Progress<'p, S>,
+        levels: u32,
+        strict: bool,
+        asks: &Asks<'p>,
+        row: &Row,
+    ) -> Result<(), NoMemory>
+        ensures { OnOk result (Walks S.goes S.below self.now (IsAsked (length at.old.groups.items) asks.now) strict (λ v. asks_seen (plan_of self.now.plan.now).definitions v levels row.now asks.now) at.old at.new) }
+    {
+        match asks {
+            Asks::Known(own) => at.out.own(own, strict),
+            Asks::Cell { column, ty } => {
+                let schema = self.plan.schema();
+                at.out.cell(
+                    Leaf {
+                        schema,
+                        column,
+                        ty,
+                        row,
+                    },
+                    strict,
+                )
+            }
+            Asks::Load { loader, key, group } => {
+                let onward = Onward {
+                    group: *group,
+                    second: false,
+                    levels,
+                };
+                self.read_from(at, Loading { onward, strict }, *loader, key, row)
+            }
+            Asks::Each {
+                loader,
+                keys,
+                items,
+                group,
+            } => {
+                let onward = Onward {
+                    group: *group,
+                    second: false,
+                    levels,
+                };
+                self.each(at, onward, *loader, keys, *items)
+            }
+        }
+    }
+
+    // A load by a key that may stand in the row.
+    #[cycle(tour)]
+    fn read_from<S: Sink>(
+        &self,
+        at: &mut Progress<'p, S>,
+        to: Loading,
+        loader: usize,
+        key: &KeyFrom<'p>,
+        row: &Row,
+    ) -> Result<(), NoMemory>
+        ensures { OnOk result (Walks S.goes S.below self.now (to.onward.group < length at.old.groups.items) to.strict (λ v. read_from loader (key_from_seen key.now) row.now (v.after (onward_of to.onward))) at.old at.new) }
+    {
+        match key {
+            KeyFrom::Fixed(key) => self.read(at, to, loader, key.borrowed()),
+            KeyFrom::Column(column) => self.read_cell(at, to, loader, column, row),
+        }
+    }
+
+    // A load by the key in a column.
+    #[cycle(tour)]
+    fn read_cell<S: Sink>(
+        &self,
+        at: &mut Progress<'p, S>,
+        to: Loading,
+        loader: usize,
+        column: &str,
+        row: &Row,
+    ) -> Result<(), NoMemory>
+        ensures { OnOk result (Walks S.goes S.below self.now (to.onward.group < length at.old.groups.items) to.strict (λ v. read_cell loader column.now (cell_of row.now column.now) (v.after (onward_of to.onward))) at.old at.new) }
+    {
+        match row.get(column) {
+            Cell::NoColumn => {
+                let fault = Own::Fault(no_column_message(self.alloc, column)?);
+                at.out.own(&fault, to.strict)
+            }
+            Cell::Null => at.out.own(&Own::Null, to.strict),
+            Cell::Text(text) => self.read(at, to, loader, KeyRef::Text(text)),
+        }
+    }
+
+    /// A load, and what is done with its rows. Where the memory lacks it, the position waits.
+    #[cycle(tour)]
+    pub fn read<S: Sink>(
+        &self,
+        at: &mut Progress<'p, S>,
+        to: Loading,
+        loader: usize,
+        key: KeyRef<'_>,
+    ) -> Result<(), NoMemory>
+        ensures { OnOk result (Walks S.goes S.below self.now (to.onward.group < length at.old.groups.items) to.strict (λ v. read_key loader (borrowed_of key.entry) (v.after (onward_of to.onward))) at.old at.new) }
+    {
+        match told_by(self.alloc, self.memory, &mut at.probe, loader, key)? {
+            Some(outcome) => self.go_on(at, to, outcome),
+            None => at.out.wait(to.onward, loader, key),
+        }
+    }
+
+    // What an outcome gives.
+    #[cycle(tour)]
+    fn go_on<S: Sink>(
+        &self,
+        at: &mut Progress<'p, S>,
+        to: Loading,
+        outcome: &Outcome,
+    ) -> Result<(), NoMemory>
+        ensures { OnOk result (Walks S.goes S.below self.now (to.onward.group < length at.old.groups.items) to.strict (λ v. with_rows (v.after (onward_of to.onward)) (outcome_of outcome.now)) at.old at.new) }
+    {
+        match outcome {
+            Outcome::Rows(rows) => self.rows(at, to, rows),
+            Outcome::KeyFault(text) => at.out.own(&Own::Fault(text.clone()?), to.strict),
+            Outcome::BatchFault(text) => at.out.own(&Own::Fault(text.clone()?), to.strict),
+        }
+    }
+
+    // What is done with the rows of a load.
+    #[cycle(tour)]
+    fn rows<S: Sink>(
+        &self,
+        at: &mut Progress<'p, S>,
+        to: Loading,
+        rows: &[Row],
+    ) -> Result<(), NoMemory>
+        ensures { OnOk result (Walks S.goes S.below self.now (to.onward.group < length at.old.groups.items) to.strict (λ v. v.after (onward_of to.onward) rows.now) at.old at.new) }
+    {
+        if to.onward.second {
+            return self.first(at, to, rows);
+        }
+        match then_of(&at.groups, to.onward.group) {
+            Then::First => self.first(at, to, rows),
+            Then::All => self.all(at, to.onward, rows),
+            Then::Joined { second, column } => { self.joined(at, to.onward, second, column, rows) }
+        }
+    }
+
+    // The first of some rows.
+    #[cycle(tour)]
+    fn first<S: Sink>(
+        &self,
+        at: &mut Progress<'p, S>,
+        to: Loading,
+        rows: &[Row],
+    ) -> Result<(), NoMemory>
+        ensures { OnOk result (Walks S.goes S.below self.now (to.onward.group < length at.old.groups.items) to.strict (λ v. v.after (second_of (onward_of to.onward)) rows.now) at.old at.new) }
+    {
+        match rows {
+            [] => at.out.own(&Own::Null, to.strict),
+            [row, ..] => self.row_object(at, to, row),
+        }
+    }
+
+    // An item for each row.
+    #[cycle(tour)]
+    fn all<S: Sink>(
+        &self,
+        at: &mut Progress<'p, S>,
+        onward: Onward,
+        rows: &[Row],
+    ) -> Result<(), NoMemory>
+        ensures { OnOk result (Walks S.goes S.below self.now (onward.group < length at.old.groups.items) false (λ v. all_rows v at.old.groups.items (onward_of onward) rows.now) at.old at.new) }
+    {
+        let items = items_of(&at.groups, onward.group);
+        let to = Loading {
+            onward,
+            strict: items.non_null,
+        };
+        at.out.begin(Kind::List)?;
+        for (number, row) in rows.iter().enumerate() {
+            at.out.item(items, number)?;
+            self.row_object(at, to, row)?;
+        }
+        at.out.end(Kind::List)
+    }
+
+    // An item for each row, read by its own key.
+    #[cycle(tour)]
+    fn joined<S: Sink>(
+        &self,
+        at: &mut Progress<'p, S>,
+        onward: Onward,
+        loader: usize,
+        column: &'p str,
+        rows: &[Row],
+    ) -> Result<(), NoMemory>
+        ensures { OnOk result (Walks S.goes S.below self.now (onward.group < length at.old.groups.items) false (λ v. joined_rows v at.old.groups.items (onward_of onward) loader column.now rows.now) at.old at.new) }
+    {
+        let items = items_of(&at.groups, onward.group);
+        let onward = Onward {
+            group: onward.group,
+            second: true,
+            levels: onward.levels,
+        };
+        let to = Loading {
+            onward,
+            strict: items.non_null,
+        };
+        at.out.begin(Kind::List)?;
+        for (number, row) in rows.iter().enumerate() {
+            at.out.item(items, number)?;
+            self.read_cell(at, to, loader, column, row)?;
+        }
+        at.out.end(Kind::List)
+    }
+
+    // An item for each key.
+    #[cycle(tour)]
+    fn each<S: Sink>(
+        &self,
+        at: &mut Progress<'p, S>,
+        onward: Onward,
+        loader: usize,
+        keys: &[Option<Key>],
+        items: Items,
+    ) -> Result<(), NoMemory>
+        ensures { OnOk result (Walks S.goes S.below self.now (onward.group < length at.old.groups.items) false (λ v. Under ListOf (places items.non_null items.place 0 (map (read_if loader (v.after (onward_of onward))) (keys_seen keys.now)))) at.old at.new) }
+    {
+        let to = Loading {
+            onward,
+            strict: items.non_null,
+        };
+        at.out.begin(Kind::List)?;
+        for (number, key) in keys.iter().enumerate() {
+            at.out.item(items, number)?;
+            self.read_if(at, to, loader, key)?;
+        }
+        at.out.end(Kind::List)
+    }
+
+    // The rows of a key, if there is one.
+    #[cycle(tour)]
+    fn read_if<S: Sink>(
+        &self,
+        at: &mut Progress<'p, S>,
+        to: Loading,
+        loader: usize,
+        key: &Option<Key>,
+    ) -> Result<(), NoMemory>
+        ensures { OnOk result (Walks S.goes S.below self.now (to.onward.group < length at.old.groups.items) to.strict (λ v. read_if loader (v.after (onward_of to.onward)) (option_map key_of key.now)) at.old at.new) }
+    {
+        match key {
+            Some(key) => self.read(at, to, loader, key.borrowed()),
+            None => at.out.own(&Own::Null, to.strict),
+        }
+    }
+
+    // An object over a row that may tell its type.
+    #[cycle(tour)]
+    fn row_object<S: Sink>(
+        &self,
+        at: &mut Progress<'p, S>,
+        to: Loading,
+        row: &Row,
+    ) -> Result<(), NoMemory>
+        ensures { OnOk result (Walks S.goes S.below self.now (to.onward.group < length at.old.groups.items) to.strict (λ v. v.after (second_of (onward_of to.onward)) (row.now ∷ [])) at.old at.new) }
+    {
+        let name = type_name_of(&at.groups, to.onward.group);
+        match type_of_row(self.alloc, self.plan.schema(), name, row)? {
+            TypeOf::Object(ty) => self.typed_object(at, to, ty, row),
+            TypeOf::Fault(text) => at.out.own(&Own::Fault(text), to.strict),
+        }
+    }
+
+    // An object of a type over a row.
+    #[cycle(tour)]
+    fn typed_object<S: Sink>(
+        &self,
+        at: &mut Progress<'p, S>,
+        to: Loading,
+        ty: &str,
+        row: &Row,
+    ) -> Result<(), NoMemory>
+        ensures { OnOk result (Walks S.goes S.below self.now (to.onward.group < length at.old.groups.items) to.strict (λ v. object_program (plan_of self.now.plan.now) to.onward.levels ty.now (below_at at.old.groups.items to.onward.group).fields row.now) at.old at.new) }
+    {
+        let levels = to.onward.levels;
+        if levels == 0 {
+            return at.out.own(&Own::Null, to.strict);
+        }
+        let count = at.groups.len();
+        let held = at.out.waiting();
+        let members = shape_of(self, &mut at.groups, to.onward.group, ty)?;
+        self.object(at, levels - 1, &members, row)?;
+        let_go(at, self.most, count, held);
+        Ok(())
+    }
+}
+
+// Lets the groups past the first so many go, if there are as many as are kept and no position more waits than were held.
+fn let_go<'p, S: Sink>(at: &mut Progress<'p, S>, most: usize, count: usize, held: usize)
+    ensures { LetsGo S.waits most count held at.old at.new }
+{
+    if most <= count && at.out.waiting() == held {
+        at.groups.truncate(count);
+    }
+}

@@ -1,0 +1,83 @@
+//! What positions that wait add to the wants.
+
+ghost use Rattle.std.specs.Prelude.{◌≡◌, IfOk, IfSome, OnOk, OnErr, length};
+ghost use Rattle.load_memory.specs.Keys.{key_of};
+ghost use Rattle.load_queue.specs.Wanted.{with_wanted};
+ghost use Rattle.execution.specs.Front.{wanting};
+ghost use Rattle.gq_resolve.specs.Evaluated.{AddsPart};
+ghost use Rattle.gq_resolve.specs.Suspended.{loads_of};
+
+use crate::groups::{Group, may_load};
+use crate::no_memory::NoMemory;
+use crate::output::Blocked;
+use indexmap::IndexSet;
+use load_memory::Key;
+use load_queue::Wants;
+
+// Adds a load, if there is such a loader.
+fn want(loader: usize, key: Key, loaders: usize, wants: &mut Wants) -> Result<(), NoMemory>
+    requires { loaders ≡ length wants.old }
+    ensures ok { OnOk result (wants.new ≡ with_wanted wants.old loader (key_of key)) }
+    ensures loaders { length wants.new ≡ length wants.old }
+    ensures kept { OnErr result (wants.new ≡ wants.old) }
+{
+    if loader < loaders {
+        wants.add(loader, key)?;
+    }
+    Ok(())
+}
+
+// Adds their loads, and keeps them.
+fn want_each(waiting: &IndexSet<Blocked>, loaders: usize, wants: &mut Wants) -> Result<(), NoMemory>
+    requires { loaders ≡ length wants.old }
+    ensures ok { OnOk result (wants.new ≡ wanting wants.old (loads_of waiting.now.keys)) }
+    ensures part { OnErr result (AddsPart wants.old wants.new (loads_of waiting.now.keys)) }
+{
+    for position in waiting {
+        want(position.loader, position.key.clone()?, loaders, wants)?;
+    }
+    Ok(())
+}
+
+// Adds their loads.
+fn want_all(waiting: IndexSet<Blocked>, loaders: usize, wants: &mut Wants) -> Result<(), NoMemory>
+    requires { loaders ≡ length wants.old }
+    ensures ok { OnOk result (wants.new ≡ wanting wants.old (loads_of waiting.keys)) }
+    ensures part { OnErr result (AddsPart wants.old wants.new (loads_of waiting.keys)) }
+{
+    for position in waiting {
+        want(position.loader, position.key, loaders, wants)?;
+    }
+    Ok(())
+}
+
+// Whether something below one of them may load.
+fn any_may_load(groups: &[Group<'_>], waiting: &IndexSet<Blocked>) -> bool {
+    for position in waiting {
+        if may_load(groups, position.onward) {
+            return true;
+        }
+    }
+    false
+}
+
+/// Adds the loads of positions that wait. They are kept if it saves a walk over the whole plan to go on at them; if nothing
+/// below them can load, that walk is the last one anyway.
+pub fn wanted(
+    groups: &[Group<'_>],
+    waiting: IndexSet<Blocked>,
+    loaders: usize,
+    wants: &mut Wants,
+) -> Result<Option<IndexSet<Blocked>>, NoMemory>
+    requires { loaders ≡ length wants.old }
+    ensures ok { OnOk result (wants.new ≡ wanting wants.old (loads_of waiting.keys)) }
+    ensures kept { IfOk result (λ kept. IfSome kept (λ positions. positions ≡ waiting)) }
+    ensures part { OnErr result (AddsPart wants.old wants.new (loads_of waiting.keys)) }
+{
+    if any_may_load(groups, &waiting) {
+        want_each(&waiting, loaders, wants)?;
+        return Ok(Some(waiting));
+    }
+    want_all(waiting, loaders, wants)?;
+    Ok(None)
+}

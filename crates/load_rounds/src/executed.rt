@@ -1,0 +1,44 @@
+//! Executions over what a session knows.
+ghost use Rattle.std.specs.Prelude.{◌≤◌, length, IfOk, OnOk};
+ghost use Rattle.execution.specs.Rounds.{AreLimited, HasLoaders};
+
+use crate::execute::Execute;
+use crate::session::Session;
+use futures::task::Poll;
+use load_memory::NoMemory;
+use load_queue::Wants;
+
+/// What an execution finds over a session.
+#[derive(Drop)]
+pub(crate) enum Executed {
+    /// The text, since nothing is missing.
+    Ready(String),
+    /// The keys that are needed and missing.
+    Missing(Wants),
+}
+
+impl<S> Session<S> {
+    ghost use Rattle.load_rounds.specs.Sessions.{state_of, rules_of, memory_of};
+    ghost use Rattle.load_rounds.specs.Executes.{FitsFrom, Finds};
+
+    /// Goes on with an execution over what is known. A contract also sees here that no loader's limit is 0.
+    pub(crate) fn execute<'p, P: Execute<'p>>(
+        &self,
+        plan: &'p P,
+        progress: &mut P::Progress,
+    ) -> Result<Executed, NoMemory>
+        requires loaders { P.loaders plan.now ≤ length self.now.loaders }
+        requires fits { P.fits plan.now progress.old (memory_of self.now) }
+        ensures found { IfOk result (Finds (P.text_of plan.now) (P.program plan.now) (state_of self.now)) }
+        ensures fits { OnOk result (FitsFrom (P.fits plan.now progress.new) (memory_of self.now)) }
+        ensures limited { AreLimited (rules_of (state_of self.now)) }
+        ensures within { OnOk result (HasLoaders (P.loaders plan.now) (P.program plan.now)) }
+    {
+        let memory = self.memory();
+        let mut wants = Wants::new(self.alloc(), memory)?;
+        match plan.execute(progress, self.alloc(), memory, &mut wants)? {
+            Poll::Ready(text) => Ok(Executed::Ready(text)),
+            Poll::Pending => Ok(Executed::Missing(wants)),
+        }
+    }
+}
