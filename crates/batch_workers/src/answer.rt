@@ -1,5 +1,8 @@
 //! Answers with workers: round after round until nothing is missing, each by workers over a shelf of its own.
 ghost use Rattle.std.specs.Prelude.{◌≡◌, ◌<◌, ◌≤◌, ◌↔◌, length, IfOk, OnOk, OnErr, IsErrOf, string_bytes};
+ghost use Rattle.gq_check.specs.Plans.{plan_of};
+ghost use Rattle.plan_program.specs.PlanPrograms.{plan_program};
+ghost use Rattle.gq_resolve.specs.Answered.{answer_text};
 ghost use Rattle.gq_resolve.specs.Evaluated.{GrowsTo};
 ghost use Rattle.load_rounds.specs.Sessions.{state_of, memory_of};
 ghost use Rattle.load_rounds.specs.Headline.{Headline, StopsAnswering};
@@ -7,6 +10,7 @@ ghost use Rattle.load_rounds.specs.Runs.{run_of, orders_in};
 ghost use Rattle.batch_workers.specs.Workers.{IsBadCount, StoresRound, LosesRound};
 
 use crate::fault::WorkFault;
+use gq_check::Plan;
 use load_memory::{NoMemory, Shelf};
 use load_queue::{Order, Source};
 use load_rounds::{Answer, Execute, Next, Run, Session, Stage};
@@ -24,7 +28,29 @@ use std::thread::Threads;
 /// [`BadCount`](WorkFault::BadCount) exactly if the number of workers isn't 1 to 16: nothing was asked then, and the session is
 /// as it was, failed batches too. [`NoMemory`](WorkFault::NoMemory) when out of memory: the finished rounds stay, and a round
 /// that was out is lost.
-pub fn answer_with<'p, S: Source, P: Execute<'p>, R: Threads + Wait + Sync>(
+pub fn answer_with<S: Source, R: Threads + Wait + Sync>(
+    rt: &R,
+    session: &mut Session<S>,
+    plan: &Plan<'_>,
+    workers: usize,
+) -> Result<Answer, WorkFault>
+    requires loaders { length (plan_of plan.now).bindings.loaders ≤ length session.old.loaders }
+    ensures bad_count { IsErrOf result WorkFault.BadCount ↔ IsBadCount workers }
+    ensures refused { IsErrOf result WorkFault.BadCount → session.new ≡ session.old }
+    ensures answer { IfOk result (λ a. Headline S.may_answer (state_of session.old) (state_of session.new)
+        (plan_program (plan_of plan.now)) answer_text (string_bytes a.text) a.rounds) }
+    ensures stopped { IsErrOf result WorkFault.NoMemory
+        → StopsAnswering S.may_answer (state_of session.old) (state_of session.new) (plan_program (plan_of plan.now)) }
+{
+    execute_with(rt, session, plan, workers)
+}
+
+/// Does what [`answer_with`] does, for whatever can be executed.
+///
+/// # Errors
+///
+/// As `answer_with`.
+pub fn execute_with<'p, S: Source, P: Execute<'p>, R: Threads + Wait + Sync>(
     rt: &R,
     session: &mut Session<S>,
     plan: &'p P,

@@ -1,5 +1,7 @@
 -- What is built of a program is the answer of its execution tree.
-use Rattle.std.proofs.Common.{◌≡◌, suc, Bool, true, false, ◌||◌, ◌&&◌, List, [], ◌∷◌, ◌++◌, sym, ◌∙◌, ap, subst, refl, append_assoc, if◌then◌else◌, Some, None}
+use Rattle.std.proofs.Common.{◌≡◌, suc, Bool, true, false, ◌||◌, ◌&&◌, List, [], ◌∷◌, ◌++◌, sym, ◌∙◌, ap, subst, refl, append_assoc, append-nil, if◌then◌else◌, Some, None}
+use Rattle.std.proofs.Math.Bool.{or-false, or_assoc}
+use Rattle.std.proofs.lemmas.Bool.{or_parts}
 use Rattle.execution.specs.Loads.{Reader}
 use Rattle.execution.specs.Program.{Kind, Part, Spot, Value, Null, Fault, Program, Is, Read, Under, Programs, End, With, Tree, Open, At, Over, Trees, And, given, tree, trees}
 use Rattle.execution.specs.Completion.{ResponseOf, NullResponse, Holding, ResponsesOf, NoResponses, Responding, ErrorOf, AnsweredOf, is_open, any_open}
@@ -25,22 +27,6 @@ joined-put (Responding p q rs) part r qs = ap (Responding p q) (joined-put rs pa
 count-put : (rs : ResponsesOf) (part : Part) (r : ResponseOf) → count_of (put_part rs part r) ≡ suc (count_of rs)
 count-put NoResponses part r = refl
 count-put (Responding p q rs) part r = ap suc (count-put rs part r)
-
-or-right : (a : Bool) → (a || false) ≡ a
-or-right true = refl
-or-right false = refl
-
-or-assoc : (a b c : Bool) → ((a || b) || c) ≡ (a || (b || c))
-or-assoc true b c = refl
-or-assoc false b c = refl
-
-or-false : (a b : Bool) → (a || b) ≡ false → (a ≡ false) × (b ≡ false)
-or-false true b h = absurd (cc h)
-or-false false b h = (refl, h)
-
-append-none : {A : Type 0} (xs : List A) → xs ++ [] ≡ xs
-append-none [] = refl
-append-none (x ∷ xs) = ap (λ ys. x ∷ ys) (append-none xs)
 
 null-response : (t : Tree) → is_open t ≡ false → is_null_response (response t) ≡ nulls t
 null-response Open h = absurd (cc h)
@@ -73,7 +59,7 @@ closed-more l ls top es spot t ts numbered h =
     let parts : joined (put_part l.parts (step_in l.kind (count_of l.parts) spot.part) (response t)) (responses ts) ≡ joined l.parts (Responding spot.part (response t) (responses ts)) =
     ap (λ part. joined (put_part l.parts part (response t)) (responses ts)) numbered ∙ joined-put l.parts spot.part (response t) (responses ts) in
     let pulled : ((l.pulled || (spot.non_null && is_null_response (response t))) || pulls_down ts) ≡ (l.pulled || ((spot.non_null && nulls t) || pulls_down ts)) =
-    ap (λ b. (l.pulled || (spot.non_null && b)) || pulls_down ts) (null-response t h) ∙ or-assoc l.pulled (spot.non_null && nulls t) (pulls_down ts) in
+    ap (λ b. (l.pulled || (spot.non_null && b)) || pulls_down ts) (null-response t h) ∙ or_assoc l.pulled (spot.non_null && nulls t) (pulls_down ts) in
     let path : List Part = path_in ls l.spot.part in
     let errs : (es ++ errors spot.non_null spot.place (path_in (l ∷ ls) spot.part) t) ++ all_errors path ts ≡ es ++ (errors spot.non_null spot.place (path_in (l ∷ ls) spot.part) t ++ all_errors path ts) =
     append_assoc es (errors spot.non_null spot.place (path_in (l ∷ ls) spot.part) t) (all_errors path ts) in
@@ -94,14 +80,14 @@ mutual
 
   built-programs : (ps : Programs) (R : Reader) (kind : Kind) (l : LevelOf) (ls : List LevelOf) (spot : Spot) (top : ResponseOf) (es : List ErrorOf) → AreNumbered l.kind (count_of l.parts) ps → any_open (trees ps R) ≡ false
       → built (all_puts kind ps R ++ Ends kind ∷ []) (record { levels = l ∷ ls; spot = spot; top = top; errors = es }) ≡ closed l ls top es (trees ps R)
-  built-programs End R kind l ls spot top es n h = rw (joined-none l.parts, or-right l.pulled, append-none es) refl
+  built-programs End R kind l ls spot top es n h = rw (joined-none l.parts, or-false l.pulled, append-nil es) refl
   built-programs (With spot p rest) R kind l ls old top es n h =
       let t : Tree = tree p R in
       let b : BuiltOf = record { levels = l ∷ ls; spot = spot; top = top; errors = es } in
       let first : List Put = puts spot.non_null p R in
       let others : List Put = all_puts kind rest R in
       let end : List Put = Ends kind ∷ [] in
-      let open_none : (is_open t ≡ false) × (any_open (trees rest R) ≡ false) = or-false (is_open t) (any_open (trees rest R)) h in
+      let open_none : (is_open t ≡ false) × (any_open (trees rest R) ≡ false) = or_parts (is_open t) (any_open (trees rest R)) h in
       let l' : LevelOf = level_with spot (response t) l in
       let next : AreNumbered l'.kind (count_of l'.parts) rest = subst (λ n. AreNumbered l.kind n rest) (sym (count-put l.parts (step_in l.kind (count_of l.parts) spot.part) (response t))) n.2 in
       let es' : List ErrorOf = es ++ errors spot.non_null spot.place (path_in (l ∷ ls) spot.part) t in

@@ -1,5 +1,5 @@
--- The front of a program, and what it adds to the wants.
-use Rattle.std.proofs.Common.{◌≡◌, ◌≢◌, ℕ, zero, suc, ◌≤◌, false, List, [], ◌∷◌, ◌++◌, length, refl, sym, ap, ◌∙◌, arith, Option, Some, None, OnErr, Result, Ok, Err}
+-- The front of a program, and what it and positions that wait add to the wants.
+use Rattle.std.proofs.Common.{◌≡◌, ◌≢◌, ℕ, zero, suc, ◌≤◌, false, List, [], ◌∷◌, ◌++◌, length, refl, sym, ap, ◌∙◌, arith, append_assoc, Option, Some, None, OnErr, Result, Ok, Err}
 use Rattle.load_memory.specs.Keys.{KeyOf}
 use Rattle.load_memory.specs.Pairs.{MemoryOf, look}
 use Rattle.load_queue.specs.Wanted.{WantedOf, with_wanted}
@@ -13,6 +13,8 @@ use Rattle.execution.proofs.Fitting.{missing-append}
 use Rattle.execution.proofs.Monotone.{front-open}
 use Rattle.execution.proofs.Wanting.{wanting-firsts}
 use Rattle.gq_resolve.specs.Evaluated.{reader, front_over, AddsPart}
+use Rattle.gq_resolve.specs.Suspended.{load_of, loads_of}
+use Rattle.gq_resolve.specs.declared.output.Blocked.{Blocked}
 
 -- ---- what is left of a program waits for what is missing
 
@@ -27,7 +29,7 @@ mutual
   needs-rest (Read load next) R = read-rest load next R (R load) refl (λ o. needs-rest (next o) R)
   needs-rest (Under kind below) R = all-needs-rest below R
 
-  pub all-needs-rest : (ps : Programs) (R : Reader) → all_needs (all_rest ps R) unanswered ≡ missing R (all_needs ps R)
+  all-needs-rest : (ps : Programs) (R : Reader) → all_needs (all_rest ps R) unanswered ≡ missing R (all_needs ps R)
   all-needs-rest End R = refl
   all-needs-rest (With spot p ps) R = rw (needs-rest p R, all-needs-rest ps R) (sym (missing-append R (needs p R) (all_needs ps R)))
 
@@ -60,12 +62,12 @@ with-past [] loader key h = refl
 with-past (w ∷ ws) zero key h = absurd (omega arith)
 with-past (w ∷ ws) (suc loader) key h = ap (λ vs. w ∷ vs) (with-past ws loader key (omega arith))
 
-wanting-append : (ws : List WantedOf) (xs ys : List Load) → wanting ws (xs ++ ys) ≡ wanting (wanting ws xs) ys
+pub wanting-append : (ws : List WantedOf) (xs ys : List Load) → wanting ws (xs ++ ys) ≡ wanting (wanting ws xs) ys
 wanting-append ws [] ys = refl
 wanting-append ws (x ∷ xs) ys = wanting-append (with_wanted ws x.loader x.key) xs ys
 
 -- one more
-pub wants-one : (old now new : List WantedOf) (ls : List Load) (l : Load) → now ≡ wanting old ls → new ≡ with_wanted now l.loader l.key → new ≡ wanting old (ls ++ l ∷ [])
+wants-one : (old now new : List WantedOf) (ls : List Load) (l : Load) → now ≡ wanting old ls → new ≡ with_wanted now l.loader l.key → new ≡ wanting old (ls ++ l ∷ [])
 wants-one old now new ls l h k = k ∙ ap (λ w. with_wanted w l.loader l.key) h ∙ sym (wanting-append old ls (l ∷ []))
 
 pub nothing-added : (old : List WantedOf) (loads : List Load) → AddsPart old old loads
@@ -74,3 +76,39 @@ nothing-added old loads = record { part = []; left = loads; split = refl; added 
 pub on_err : {T E P : Type 0} (r : Result T E) → P → OnErr r P
 on_err (Ok x) p = tt
 on_err (Err e) p = p
+
+-- ---- positions that wait
+
+-- the loads of the first positions were added, and those of these are left
+pub record AreAdded (old now : List WantedOf) (all left : List Blocked) : Type 0 where
+  pub added : AddsPart old now (loads_of all)
+  pub rest : added.left ≡ loads_of left
+  pub loaders : length now ≡ length old
+
+pub added-none : (old : List WantedOf) (all left : List Blocked) → left ≡ all → AreAdded old old all left
+added-none old all left same = record {
+  added = record { part = []; left = loads_of all; split = refl; added = refl };
+  rest = ap loads_of (sym same);
+  loaders = refl;
+}
+
+-- one more
+pub added-more : (old now new : List WantedOf) (all left after : List Blocked) (b : Blocked) → left ≡ b ∷ after → new ≡ with_wanted now (load_of b).loader (load_of b).key → length new ≡ length now
+    → AreAdded old now all left → AreAdded old new all after
+added-more old now new all left after b next is same h =
+    let before : AddsPart old now (loads_of all) = h.added in
+    let rest : before.left ≡ load_of b ∷ loads_of after = h.rest ∙ ap loads_of next in
+    record {
+      added = record {
+        part = before.part ++ load_of b ∷ [];
+        left = loads_of after;
+        split = before.split ∙ ap (λ ls. before.part ++ ls) rest ∙ sym (append_assoc before.part (load_of b ∷ []) (loads_of after));
+        added = wants-one old now new before.part (load_of b) before.added is;
+      };
+      rest = refl;
+      loaders = same ∙ h.loaders;
+    }
+
+-- what was added stays, where the next isn't added
+pub added-part : (old now new : List WantedOf) (all left : List Blocked) → new ≡ now → AreAdded old now all left → AddsPart old new (loads_of all)
+added-part old now new all left kept h = record { part = h.added.part; left = h.added.left; split = h.added.split; added = kept ∙ h.added.added }

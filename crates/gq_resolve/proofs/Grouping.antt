@@ -4,7 +4,7 @@ use Rattle.std.specs.List.{All, slice_get}
 use Rattle.std.specs.Option.{option_map_or}
 use Rattle.std.proofs.lemmas.Option.{slice_get-get_or, slice_get_within, get_or_from_slice_get}
 use Rattle.std.proofs.lemmas.List.Elements.{All-push, All-set}
-use Rattle.std.proofs.lemmas.List.{map-append, take_all}
+use Rattle.std.proofs.lemmas.List.{map-append, take_all, take_at, take-take, length-take}
 use Rattle.schema_syntax.specs.Tree.{Definition}
 use Rattle.load_memory.specs.Rows.{RowOf}
 use Rattle.execution.specs.Program.{Program, Programs, End, With}
@@ -16,6 +16,7 @@ use Rattle.plan_program.specs.declared.prepared.Prepared.{Prepared}
 use Rattle.gq_resolve.specs.Puts.{OnwardOf, View}
 use Rattle.gq_resolve.specs.Groups.{below_in, nowhere, below_at, then_at, then_rows, after_at, Covers, type_prepared, IsAsked, asks_seen, members_seen, Makes, IsShape, IsRight, AreRight, Grows, IsNew, IsAsking, AreMade, AreKept, IsShaped}
 use Rattle.gq_resolve.specs.Spots.{spot_seen}
+use Rattle.gq_resolve.specs.Suspended.{view_of}
 use Rattle.gq_resolve.specs.declared.groups.Asks.{Asks}
 use Rattle.gq_resolve.specs.declared.groups.Asks.TheVariants as asks
 use Rattle.gq_resolve.specs.declared.groups.Member.{Member}
@@ -37,6 +38,9 @@ makes-more plan old new ms ps g h = record {
   known = λ k d lt. asked-more (length old) (length new) (get_or ms k d).asks g.longer (h.known k d lt);
   members = λ v c. h.members v (g.covers v c);
 }
+
+pub covers-view : (plan : PlanOf) (gs : List Group) → Covers plan gs (view_of plan gs)
+covers-view plan gs = record { count = omega arith; tells = λ onward lt. refl }
 
 pub grows-self : (plan : PlanOf) (gs : List Group) → Grows plan gs gs
 grows-self plan gs = record { longer = omega arith; stand = λ i lt. refl; covers = λ v c. c; right = λ r. r }
@@ -85,7 +89,7 @@ shape-more plan old new below s le covers made = record {
 right-one : (plan : PlanOf) (old new : List Group) (g : Group) → length old ≤ length new → ((v : View) → Covers plan new v → Covers plan old v) → IsRight plan old g → IsRight plan new g
 right-one plan old new g le covers h = λ j s within. shape-more plan old new (below_in g.below) (get_or g.shapes.items j s) le covers (h j s within)
 
-pub right-more : (plan : PlanOf) (old new more : List Group) → length old ≤ length new → ((v : View) → Covers plan new v → Covers plan old v) → All (IsRight plan old) more → All (IsRight plan new) more
+right-more : (plan : PlanOf) (old new more : List Group) → length old ≤ length new → ((v : View) → Covers plan new v → Covers plan old v) → All (IsRight plan old) more → All (IsRight plan new) more
 right-more plan old new more le covers h = λ k d lt. right-one plan old new (get_or more k d) le covers (h k d lt)
 
 -- ---- a group more
@@ -110,14 +114,10 @@ grows-new plan gs g bare =
       right = λ h. All-push (IsRight plan (gs ++ g ∷ [])) gs g (right-more plan gs (gs ++ g ∷ []) gs le covers h) (bare-right plan (gs ++ g ∷ []) g bare);
     }
 
-take-front : {X : Type 0} (xs ys : List X) → take (length xs) (xs ++ ys) ≡ xs
-take-front [] ys = refl
-take-front (x ∷ xs) ys = ap (λ zs. x ∷ zs) (take-front xs ys)
-
 pub is-new : (gs : List Group) (g : Group) (n : ℕ) → n ≡ length gs → IsBare g → IsNew gs (gs ++ g ∷ []) g.then (below_in g.below) n
 is-new gs g n e bare = rw e (record {
   grows = λ plan. grows-new plan gs g bare;
-  front = take-front gs (g ∷ []);
+  front = take_at gs (g ∷ []) (length gs) refl;
   within = omega (arith, length-more gs g);
   does = ap (λ o. option_map_or (λ (x : Group). x.then) o First) (slice-end gs g);
   stands = ap (λ o. option_map_or (λ (x : Group). below_in x.below) o nowhere) (slice-end gs g);
@@ -125,13 +125,10 @@ is-new gs g n e bare = rw e (record {
 
 -- ---- a group of a number
 
-then-there : (gs : List Group) (i : ℕ) (g : Group) → slice_get gs i ≡ Some g → then_at gs i ≡ g.then
-then-there gs i g e = ap (λ o. option_map_or (λ (x : Group). x.then) o First) e
-
-pub below-there : (gs : List Group) (i : ℕ) (g : Group) → slice_get gs i ≡ Some g → below_at gs i ≡ below_in g.below
+below-there : (gs : List Group) (i : ℕ) (g : Group) → slice_get gs i ≡ Some g → below_at gs i ≡ below_in g.below
 below-there gs i g e = ap (λ o. option_map_or (λ (x : Group). below_in x.below) o nowhere) e
 
-pub right-there : (plan : PlanOf) (gs : List Group) (i : ℕ) (g : Group) → slice_get gs i ≡ Some g → AreRight plan gs → IsRight plan gs g
+right-there : (plan : PlanOf) (gs : List Group) (i : ℕ) (g : Group) → slice_get gs i ≡ Some g → AreRight plan gs → IsRight plan gs g
 right-there plan gs i g e h = subst (IsRight plan gs) (get_or_from_slice_get gs i g g e) (h i g (slice_get_within gs i g e))
 
 pub kept-there : (gs : List Group) (i k : ℕ) (g : Group) (s : Shape) (ty : List ℕ) → i < length gs → g ≡ get_or gs i g → k < length g.shapes.items → s ≡ get_or g.shapes.items k s → string_bytes s.ty ≡ ty → AreKept gs i ty s.members.value.items
@@ -186,29 +183,16 @@ fields-append : (f : ValueFrom → Program) (ps qs : List PreparedOf) → fields
 fields-append f [] qs = refl
 fields-append f (p ∷ ps) qs = ap (With p.spot (f p.asked)) (fields-append f ps qs)
 
-take-less : {X : Type 0} (m n : ℕ) (xs : List X) → m ≤ n → take m (take n xs) ≡ take m xs
-take-less zero n xs le = refl
-take-less (suc m) zero xs le = absurd (omega (arith, le))
-take-less (suc m) (suc n) [] le = refl
-take-less (suc m) (suc n) (x ∷ xs) le = ap (λ ys. x ∷ ys) (take-less m n xs (omega (arith, le)))
-
-length-take-most : {X : Type 0} (n : ℕ) (xs : List X) → length (take n xs) ≤ length xs
-length-take-most zero xs = omega arith
-length-take-most (suc n) [] = omega arith
-length-take-most (suc n) (x ∷ xs) = let h = length-take-most n xs in omega (arith, h)
-
-front-longer : {X : Type 0} (a b : List X) → take (length a) b ≡ a → length a ≤ length b
-front-longer a b h = let less = length-take-most (length a) b in omega (arith, less, ap length h)
-
-front-then : {X : Type 0} (a b c : List X) → length a ≤ length b → take (length a) b ≡ a → take (length b) c ≡ b → take (length a) c ≡ a
-front-then a b c le f g = sym (take-less (length a) (length b) c le) ∙ ap (take (length a)) g ∙ f
+-- the first of the first
+pub front-then : {X : Type 0} (a b c : List X) → length a ≤ length b → take (length a) b ≡ a → take (length b) c ≡ b → take (length a) c ≡ a
+front-then a b c le f g = sym (take-take (length a) (length b) c le) ∙ ap (take (length a)) g ∙ f
 
 -- one member more
 pub made-more : (old mid new : List Group) (ps : List Prepared) (p : Prepared) (ms : List Member) (m : Member) → AreMade old mid (all_prepared_seen ps) ms → IsAsking mid new (asked_seen p.asked) m.asks → spot_seen m.spot ≡ (prepared_seen p).spot
     → AreMade old new (all_prepared_seen (ps ++ p ∷ [])) (ms ++ m ∷ [])
 made-more old mid new ps p ms m h a same = record {
   grows = λ plan. grows-then plan old mid new (h.grows plan) (a.grows plan);
-  front = front-then old mid new (front-longer old mid h.front) h.front a.front;
+  front = front-then old mid new (omega (arith, length-take (length old) mid, ap length h.front)) h.front a.front;
   makes = λ plan. let made : Makes plan new ms (all_prepared_seen ps) = makes-more plan mid new ms (all_prepared_seen ps) (a.grows plan) (h.makes plan) in record {
     known = All-push (λ (x : Member). IsAsked (length new) x.asks) ms m made.known a.known;
     members = λ v c levels row.

@@ -8,11 +8,6 @@ pub mod Touring
 pub mod Putting
 pub mod Blocking
 pub mod Advancing
-pub mod LoadsAdded
-pub mod Searching
 pub mod Polling
-pub mod Adding
 pub mod BuildingLevels
 pub mod BuildingTrees
-pub mod BuildingPlans
-pub mod ResponseBuilt

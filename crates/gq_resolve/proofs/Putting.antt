@@ -1,6 +1,7 @@
 -- What a program puts over a memory: what it asks over larger ones, and its text.
 use Rattle.std.proofs.Common.{◌≡◌, Bool, true, false, ◌&&◌, if◌then◌else◌, List, [], ◌∷◌, ◌++◌, refl, sym, ap, ◌∙◌, subst, append_assoc, append-nil, decimal, Option, Some, None}
 use Rattle.std.specs.List.{list_all, flat_map}
+use Rattle.std.proofs.Math.Bool.{and-false}
 use Rattle.std.proofs.lemmas.Bool.{and_parts}
 use Rattle.std.proofs.lemmas.Grind.{flat_map-append}
 use Rattle.std.proofs.lemmas.List.Folds.{list_all-append}
@@ -13,11 +14,12 @@ use Rattle.execution.specs.Program.{Value, Null, Fault, Kind, ListOf, ObjectOf, 
 use Rattle.execution.specs.Completion.{ResponseOf, ResponsesOf, Responding, NullResponse, Holding, ErrorOf}
 use Rattle.execution.specs.Executed.{nulls, pulls_down, response, responses, errors as errors_at, all_errors}
 use Rattle.execution.specs.Front.{missing}
-use Rattle.execution.specs.Residual.{unanswered}
-use Rattle.execution.proofs.Fitting.{missing-append}
+use Rattle.execution.specs.Residual.{rest, all_rest, unanswered}
+use Rattle.execution.proofs.Fitting.{missing-append, asks-rest}
 use Rattle.gq_resolve.specs.Answered.{json_of, items_json, members_json}
 use Rattle.gq_resolve.specs.Puts.{Put, Ends, puts, all_puts}
 use Rattle.gq_resolve.specs.Written.{is_plain, opening, closing, own_tokens, part_tokens, put_tokens, asks, put_asks}
+use Rattle.gq_resolve.proofs.Evaluating.{needs-rest}
 
 -- ---- loads
 
@@ -25,62 +27,46 @@ use Rattle.gq_resolve.specs.Written.{is_plain, opening, closing, own_tokens, par
 abbrev pub puts_ask : Reader → List Put → List Load
 puts_ask Q ps = flat_map (put_asks Q) ps
 
-abbrev pub all_asked : Programs → Reader → List Load
-all_asked ps Q = missing Q (all_needs ps Q)
-
-read-asks : (strict : Bool) (load : Load) (next : OutcomeOf → Program) (R Q : Reader) → AnswersMore R Q → (r : Option OutcomeOf) → R load ≡ r
-    → ((o : OutcomeOf) → puts_ask Q (puts strict (next o) R) ≡ asks (next o) Q) → puts_ask Q (puts strict (Read load next) R) ≡ asks (Read load next) Q
-read-asks strict load next R Q more None e ih = rw e (append-nil (asks (Read load next) Q))
-read-asks strict load next R Q more (Some o) e ih = let f : Q load ≡ Some o = more load o e in rw (e, f) (ih o)
+read-asked : (strict : Bool) (load : Load) (next : OutcomeOf → Program) (R Q : Reader) (r : Option OutcomeOf) → R load ≡ r → ((o : OutcomeOf) → puts_ask Q (puts strict (next o) R) ≡ asks (rest (next o) R) Q)
+    → puts_ask Q (puts strict (Read load next) R) ≡ asks (rest (Read load next) R) Q
+read-asked strict load next R Q None e ih = rw e (append-nil (asks (Read load next) Q))
+read-asked strict load next R Q (Some o) e ih = rw e (ih o)
 
 mutual
-  -- over a reader that answers more, what is put asks what the program asks
-  pub asks-puts : (strict : Bool) (p : Program) (R Q : Reader) → AnswersMore R Q → puts_ask Q (puts strict p R) ≡ asks p Q
-  asks-puts strict (Is own) R Q more = refl
-  asks-puts strict (Read load next) R Q more = read-asks strict load next R Q more (R load) refl (λ o. asks-puts strict (next o) R Q more)
-  asks-puts strict (Under kind below) R Q more =
-      flat_map-append (put_asks Q) (all_puts kind below R) (Ends kind ∷ []) ∙ append-nil (puts_ask Q (all_puts kind below R)) ∙ all-asks-puts kind below R Q more
+  -- what is put asks what is left of the program
+  asked-rest : (strict : Bool) (p : Program) (R Q : Reader) → puts_ask Q (puts strict p R) ≡ asks (rest p R) Q
+  asked-rest strict (Is own) R Q = refl
+  asked-rest strict (Read load next) R Q = read-asked strict load next R Q (R load) refl (λ o. asked-rest strict (next o) R Q)
+  asked-rest strict (Under kind below) R Q =
+      flat_map-append (put_asks Q) (all_puts kind below R) (Ends kind ∷ []) ∙ append-nil (puts_ask Q (all_puts kind below R)) ∙ all-asked-rest kind below R Q
 
-  pub all-asks-puts : (kind : Kind) (ps : Programs) (R Q : Reader) → AnswersMore R Q → puts_ask Q (all_puts kind ps R) ≡ all_asked ps Q
-  all-asks-puts kind End R Q more = refl
-  all-asks-puts kind (With spot p ps) R Q more =
+  all-asked-rest : (kind : Kind) (ps : Programs) (R Q : Reader) → puts_ask Q (all_puts kind ps R) ≡ missing Q (all_needs (all_rest ps R) Q)
+  all-asked-rest kind End R Q = refl
+  all-asked-rest kind (With spot p ps) R Q =
       flat_map-append (put_asks Q) (puts spot.non_null p R) (all_puts kind ps R)
-      ∙ ap (λ ls. ls ++ puts_ask Q (all_puts kind ps R)) (asks-puts spot.non_null p R Q more)
-      ∙ ap (λ ls. asks p Q ++ ls) (all-asks-puts kind ps R Q more)
-      ∙ sym (missing-append Q (needs p Q) (all_needs ps Q))
+      ∙ ap (λ ls. ls ++ puts_ask Q (all_puts kind ps R)) (asked-rest spot.non_null p R Q)
+      ∙ ap (λ ls. asks (rest p R) Q ++ ls) (all-asked-rest kind ps R Q)
+      ∙ sym (missing-append Q (needs (rest p R) Q) (all_needs (all_rest ps R) Q))
 
-read-waits : (strict : Bool) (load : Load) (next : OutcomeOf → Program) (R : Reader) (r : Option OutcomeOf) → R load ≡ r
-    → ((o : OutcomeOf) → puts_ask unanswered (puts strict (next o) R) ≡ asks (next o) R) → puts_ask unanswered (puts strict (Read load next) R) ≡ asks (Read load next) R
-read-waits strict load next R None e ih = rw e refl
-read-waits strict load next R (Some o) e ih = rw e (ih o)
+-- over a reader that answers more, what is put asks what the program asks
+pub asks-puts : (strict : Bool) (p : Program) (R Q : Reader) → AnswersMore R Q → puts_ask Q (puts strict p R) ≡ asks p Q
+asks-puts strict p R Q more = asked-rest strict p R Q ∙ asks-rest p R Q more
 
-mutual
-  -- the loads that it waits for are those that it asks
-  pub waits-puts : (strict : Bool) (p : Program) (R : Reader) → puts_ask unanswered (puts strict p R) ≡ asks p R
-  waits-puts strict (Is own) R = refl
-  waits-puts strict (Read load next) R = read-waits strict load next R (R load) refl (λ o. waits-puts strict (next o) R)
-  waits-puts strict (Under kind below) R =
-      flat_map-append (put_asks unanswered) (all_puts kind below R) (Ends kind ∷ []) ∙ append-nil (puts_ask unanswered (all_puts kind below R)) ∙ all-waits-puts kind below R
+all-missing : (ls : List Load) → missing unanswered ls ≡ ls
+all-missing [] = refl
+all-missing (l ∷ ls) = ap (λ ks. l ∷ ks) (all-missing ls)
 
-  pub all-waits-puts : (kind : Kind) (ps : Programs) (R : Reader) → puts_ask unanswered (all_puts kind ps R) ≡ all_asked ps R
-  all-waits-puts kind End R = refl
-  all-waits-puts kind (With spot p ps) R =
-      flat_map-append (put_asks unanswered) (puts spot.non_null p R) (all_puts kind ps R)
-      ∙ ap (λ ls. ls ++ puts_ask unanswered (all_puts kind ps R)) (waits-puts spot.non_null p R)
-      ∙ ap (λ ls. asks p R ++ ls) (all-waits-puts kind ps R)
-      ∙ sym (missing-append R (needs p R) (all_needs ps R))
+-- the loads that it waits for are those that it asks
+pub waits-puts : (strict : Bool) (p : Program) (R : Reader) → puts_ask unanswered (puts strict p R) ≡ asks p R
+waits-puts strict p R = asked-rest strict p R unanswered ∙ all-missing (needs (rest p R) unanswered) ∙ needs-rest p R
 
 -- ---- text
 
-abbrev pub puts_plain : List Put → Bool
+abbrev puts_plain : List Put → Bool
 puts_plain ps = list_all is_plain ps
 
 abbrev pub puts_tokens : List Put → List Token
 puts_tokens ps = flat_map put_tokens ps
-
-and-false : (b : Bool) → (b && false) ≡ false
-and-false true = refl
-and-false false = refl
 
 -- the tokens of a tree without errors
 pub record IsPlain (strict : Bool) (t : Tree) (ts : List Token) : Type 0 where

@@ -1,16 +1,20 @@
 -- Loads that are noted each once, and what they add to the wants.
-use Rattle.std.proofs.Common.{◌≡◌, ℕ, zero, suc, ◌||◌, Bool, true, false, List, [], ◌∷◌, ◌++◌, refl, sym, ap, ◌∙◌, if◌then◌else◌, eqb-true, append_assoc}
-use Rattle.std.proofs.lemmas.Bool.{and_parts}
-use Rattle.std.proofs.lemmas.List.Folds.{list_any-append}
+use Rattle.std.proofs.Common.{◌≡◌, ◌==◌, ◌&&◌, Bool, true, false, not, List, [], ◌∷◌, ◌++◌, filter, inl, inr, refl, sym, ap, ◌∙◌, subst, if◌then◌else◌, eqb-true, eq-eqb, append_assoc, append-nil}
 use Rattle.std.specs.List.{list_any}
-use Rattle.load_memory.specs.Keys.{KeyOf, folded, same_key}
+use Rattle.std.proofs.lemmas.Bool.{and_parts, or_cases, or_left, or_right}
+use Rattle.std.proofs.lemmas.List.Folds.{list_any-append}
+use Rattle.load_memory.specs.Keys.{same_key}
+use Rattle.load_memory.specs.declared.key.KeyMode.{KeyMode}
 use Rattle.load_memory.proofs.Looks.{same_key-is, same_key-refl}
-use Rattle.load_queue.specs.Wanted.{WantedOf, is_wanted, with_key, with_wanted}
-use Rattle.execution.specs.Loads.{Load}
-use Rattle.execution.specs.Front.{wanting}
+use Rattle.load_queue.specs.Wanted.{WantedOf, with_wanted}
+use Rattle.execution.specs.Loads.{Load, same}
+use Rattle.execution.specs.Front.{firsts, wanting, modes_wanted}
+use Rattle.execution.proofs.Same.{same-self}
+use Rattle.execution.proofs.Wanting.{wanting-firsts}
 use Rattle.gq_resolve.specs.Evaluated.{AddsPart}
 use Rattle.gq_resolve.specs.Composing.{thinned-append}
 use Rattle.gq_resolve.specs.Written.{is_load, with_load, thinned}
+use Rattle.gq_resolve.proofs.Evaluating.{wanting-append}
 
 -- ---- a list of loads
 
@@ -26,11 +30,7 @@ news noted [] = []
 news noted (l ∷ ls) = if list_any (is_load l) noted then news noted ls else l ∷ news (noted ++ l ∷ []) ls
 
 thinned-news : (noted ls : List Load) → thinned noted ls ≡ noted ++ news noted ls
-thinned-news noted [] = go noted
-  where
-    go : (xs : List Load) → xs ≡ xs ++ []
-    go [] = refl
-    go (x ∷ xs) = ap (λ ys. x ∷ ys) (go xs)
+thinned-news noted [] = sym (append-nil noted)
 thinned-news noted (l ∷ ls) = go (list_any (is_load l) noted) (thinned-news noted ls) (thinned-news (noted ++ l ∷ []) ls)
   where
     go : (b : Bool) → thinned noted ls ≡ noted ++ news noted ls → thinned (noted ++ l ∷ []) ls ≡ (noted ++ l ∷ []) ++ news (noted ++ l ∷ []) ls
@@ -61,81 +61,76 @@ pub thinned-none : (ls : List Load) → thinned [] ls ≡ [] → ls ≡ []
 thinned-none [] h = refl
 thinned-none (l ∷ ls) h = absurd (cc (sym (thinned-news [] (l ∷ ls)) ∙ h))
 
+-- ---- a load that was noted
+
+abbrev HasLoad : List Load → Load → Type 0
+HasLoad noted l = list_any (is_load l) noted ≡ true
+
+-- it stays noted
+has-more : (noted ks : List Load) (l : Load) → HasLoad noted l → HasLoad (thinned noted ks) l
+has-more noted ks l h = ap (list_any (is_load l)) (thinned-news noted ks) ∙ list_any-append (is_load l) noted (news noted ks) ∙ or_left (list_any (is_load l) noted) (list_any (is_load l) (news noted ks)) h
+
+has-noted : (noted : List Load) (l : Load) → HasLoad (with_load noted l) l
+has-noted noted l = go (list_any (is_load l) noted) refl
+  where
+    self : is_load l l ≡ true
+    self = ap (λ b. b && same_key l.key l.key) (eq-eqb l.loader l.loader refl) ∙ same_key-refl l.key
+
+    go : (b : Bool) → list_any (is_load l) noted ≡ b → HasLoad (if b then noted else noted ++ l ∷ []) l
+    go true e = e
+    go false e = list_any-append (is_load l) noted (l ∷ []) ∙ or_right (list_any (is_load l) noted) (list_any (is_load l) (l ∷ [])) (or_left (is_load l l) false self)
+
+-- loads that were noted are noted once
+pub noted-again : (noted ls ks : List Load) → thinned (thinned (thinned noted ls) ks) ls ≡ thinned (thinned noted ls) ks
+noted-again noted [] ks = refl
+noted-again noted (l ∷ ls) ks =
+    let had : HasLoad (thinned (thinned (with_load noted l) ls) ks) l = has-more (thinned (with_load noted l) ls) ks l (has-more (with_load noted l) ls l (has-noted noted l)) in
+    ap (λ b. thinned (if b then thinned (thinned (with_load noted l) ls) ks else thinned (thinned (with_load noted l) ls) ks ++ l ∷ []) ls) had ∙ noted-again (with_load noted l) ls ks
+
 -- ---- wants
 
--- an equal cache key is wanted, or there is no such loader
-abbrev Holds : List WantedOf → ℕ → KeyOf → Type 0
-Holds [] loader key = Unit {0}
-Holds (w ∷ ws) zero key = is_wanted w key ≡ true
-Holds (w ∷ ws) (suc loader) key = Holds ws loader key
+-- a load that they have adds nothing
+abbrev Holds : List WantedOf → Load → Type 0
+Holds ws l = with_wanted ws l.loader l.key ≡ ws
 
-holds-same : (ws : List WantedOf) (loader : ℕ) (key : KeyOf) → Holds ws loader key → with_wanted ws loader key ≡ ws
-holds-same [] loader key h = refl
-holds-same (w ∷ ws) zero key h = rw h refl
-holds-same (w ∷ ws) (suc loader) key h = ap (λ vs. w ∷ vs) (holds-same ws loader key h)
+-- of two loads the second is dropped where it is like the first
+dropped : (modes : List KeyMode) (l : Load) (b : Bool) → filter (λ m. not (same modes m l)) (if b then l ∷ [] else []) ≡ []
+dropped modes l true = ap (λ b. if not b then l ∷ [] else []) (same-self modes l)
+dropped modes l false = refl
 
-or-right : (a : Bool) → (a || true) ≡ true
-or-right true = refl
-or-right false = refl
+holds-added : (ws : List WantedOf) (l : Load) → Holds (with_wanted ws l.loader l.key) l
+holds-added ws l =
+    let modes : List KeyMode = modes_wanted ws in
+    sym (wanting-firsts modes ws (l ∷ l ∷ []) refl) ∙ ap (λ ls. wanting ws (l ∷ ls)) (dropped modes l true) ∙ wanting-firsts modes ws (l ∷ []) refl
 
--- a key that is added is wanted
-key-holds : (w : WantedOf) (key : KeyOf) → is_wanted (with_key w key) key ≡ true
-key-holds w key = go (is_wanted w key) refl
-  where
-    test : KeyOf → Bool
-    test k = same_key (folded w.mode key) (folded w.mode k)
+holds-more : (ws : List WantedOf) (k l : Load) → Holds ws l → Holds (with_wanted ws k.loader k.key) l
+holds-more ws k l h =
+    let modes : List KeyMode = modes_wanted ws in
+    let again : wanting ws (l ∷ k ∷ l ∷ []) ≡ wanting ws (l ∷ k ∷ []) =
+    sym (wanting-firsts modes ws (l ∷ k ∷ l ∷ []) refl)
+    ∙ ap (λ ls. wanting ws (l ∷ (if not (same modes k l) then k ∷ ls else ls))) (dropped modes l (not (same modes l k))) ∙ wanting-firsts modes ws (l ∷ k ∷ []) refl in
+    subst (λ (vs : List WantedOf). wanting vs (k ∷ l ∷ []) ≡ wanting vs (k ∷ [])) h again
 
-    go : (b : Bool) → is_wanted w key ≡ b → is_wanted (if b then w else record { mode = w.mode; keys = w.keys ++ key ∷ [] }) key ≡ true
-    go true e = e
-    go false e = list_any-append test w.keys (key ∷ []) ∙ ap (λ b. is_wanted w key || (b || false)) (same_key-refl (folded w.mode key)) ∙ or-right (is_wanted w key)
+all-hold : (ws : List WantedOf) (ls : List Load) (l : Load) → Holds ws l → Holds (wanting ws ls) l
+all-hold ws [] l h = h
+all-hold ws (k ∷ ls) l h = all-hold (with_wanted ws k.loader k.key) ls l (holds-more ws k l h)
 
-key-stays : (w : WantedOf) (other key : KeyOf) → is_wanted w key ≡ true → is_wanted (with_key w other) key ≡ true
-key-stays w other key h = go (is_wanted w other)
-  where
-    test : KeyOf → Bool
-    test k = same_key (folded w.mode key) (folded w.mode k)
-
-    go : (b : Bool) → is_wanted (if b then w else record { mode = w.mode; keys = w.keys ++ other ∷ [] }) key ≡ true
-    go true = h
-    go false = list_any-append test w.keys (other ∷ []) ∙ ap (λ b. b || list_any test (other ∷ [])) h
-
-with-holds : (ws : List WantedOf) (loader : ℕ) (key : KeyOf) → Holds (with_wanted ws loader key) loader key
-with-holds [] loader key = tt
-with-holds (w ∷ ws) zero key = key-holds w key
-with-holds (w ∷ ws) (suc loader) key = with-holds ws loader key
-
-with-stays : (ws : List WantedOf) (other loader : ℕ) (j key : KeyOf) → Holds ws loader key → Holds (with_wanted ws other j) loader key
-with-stays [] other loader j key h = h
-with-stays (w ∷ ws) zero zero j key h = key-stays w j key h
-with-stays (w ∷ ws) zero (suc loader) j key h = h
-with-stays (w ∷ ws) (suc other) zero j key h = h
-with-stays (w ∷ ws) (suc other) (suc loader) j key h = with-stays ws other loader j key h
-
-wanting-stays : (ws : List WantedOf) (ls : List Load) (l : Load) → Holds ws l.loader l.key → Holds (wanting ws ls) l.loader l.key
-wanting-stays ws [] l h = h
-wanting-stays ws (k ∷ ls) l h = wanting-stays (with_wanted ws k.loader k.key) ls l (with-stays ws k.loader l.loader k.key l.key h)
-
-noted-holds : (ws : List WantedOf) (noted : List Load) (l : Load) → list_any (is_load l) noted ≡ true → Holds (wanting ws noted) l.loader l.key
+noted-holds : (ws : List WantedOf) (noted : List Load) (l : Load) → HasLoad noted l → Holds (wanting ws noted) l
 noted-holds ws [] l h = absurd (cc h)
-noted-holds ws (n ∷ noted) l h = go (is_load l n) refl h (noted-holds (with_wanted ws n.loader n.key) noted l)
-  where
-    vs : List WantedOf
-    vs = with_wanted ws n.loader n.key
-
-    go : (b : Bool) → is_load l n ≡ b → (b || list_any (is_load l) noted) ≡ true → (list_any (is_load l) noted ≡ true → Holds (wanting vs noted) l.loader l.key) → Holds (wanting vs noted) l.loader l.key
-    go true e f later = wanting-stays vs noted l (rw (load-is l n e) (with-holds ws n.loader n.key))
-    go false e f later = later f
-
-wanting-append : (ws : List WantedOf) (xs ys : List Load) → wanting ws (xs ++ ys) ≡ wanting (wanting ws xs) ys
-wanting-append ws [] ys = refl
-wanting-append ws (x ∷ xs) ys = wanting-append (with_wanted ws x.loader x.key) xs ys
+noted-holds ws (n ∷ noted) l h =
+    let vs : List WantedOf = with_wanted ws n.loader n.key in
+    let held : Holds (wanting vs noted) l = elim (or_cases (is_load l n) (list_any (is_load l) noted) h) [
+      | inl e ↦ all-hold vs noted l (rw (load-is l n e) (holds-added ws n))
+      | inr e ↦ noted-holds vs noted l e
+    ] in
+    held
 
 -- a load that was noted adds nothing
 wanting-with : (ws : List WantedOf) (noted : List Load) (l : Load) → wanting ws (with_load noted l) ≡ with_wanted (wanting ws noted) l.loader l.key
 wanting-with ws noted l = go (list_any (is_load l) noted) refl
   where
     go : (b : Bool) → list_any (is_load l) noted ≡ b → wanting ws (if b then noted else noted ++ l ∷ []) ≡ with_wanted (wanting ws noted) l.loader l.key
-    go true e = sym (holds-same (wanting ws noted) l.loader l.key (noted-holds ws noted l e))
+    go true e = sym (noted-holds ws noted l e)
     go false e = wanting-append ws noted (l ∷ [])
 
 wanting-more : (ws : List WantedOf) (noted ls : List Load) → wanting ws (thinned noted ls) ≡ wanting (wanting ws noted) ls

@@ -3,7 +3,8 @@ use Rattle.std.proofs.Common.{◌≡◌, ◌<◌, ◌≤◌, ℕ, Bool, true, �
 use Rattle.std.specs.List.{list_all, flat_map}
 use Rattle.std.proofs.lemmas.Grind.{flat_map-append}
 use Rattle.std.proofs.lemmas.List.Folds.{list_all-append}
-use Rattle.std.proofs.lemmas.List.{take_all}
+use Rattle.std.proofs.lemmas.Bool.{and_from}
+use Rattle.std.proofs.lemmas.List.{take_all, take_at}
 use Rattle.std.proofs.lemmas.List.Elements.{All-head, All-tail}
 use Rattle.std.proofs.Math.Nat.{le_refl, lt_of_lt_of_le}
 use Rattle.load_memory.specs.Keys.{key_of}
@@ -21,12 +22,8 @@ pub thinned-append : (noted xs ys : List Load) → thinned noted (xs ++ ys) ≡ 
 thinned-append noted [] ys = refl
 thinned-append noted (x ∷ xs) ys = thinned-append (with_load noted x) xs ys
 
-both : (a b : Bool) → a ≡ true → b ≡ true → (a && b) ≡ true
-both a b g h = ap (λ x. x && b) g ∙ h
-
 pub puts-none : (v : View) (o : Output) → Puts v [] o o
 puts-none v o = record {
-  before = refl;
   first = ([], sym (append-nil o.blocked.keys));
   within = λ h. h;
   asked = λ R. refl;
@@ -35,7 +32,6 @@ puts-none v o = record {
 
 pub puts-more : (v : View) (ps qs : List Put) (a b c : Output) → Puts v ps a b → Puts v qs b c → Puts v (ps ++ qs) a c
 puts-more v ps qs a b c p q = record {
-  before = q.before ∙ p.before;
   first = (p.first.0 ++ q.first.0, q.first.1 ∙ ap (λ bs. bs ++ q.first.0) p.first.1 ∙ append_assoc a.blocked.keys p.first.0 q.first.0);
   within = λ h. q.within (p.within h);
   asked = λ R. q.asked R ∙ ap (λ ls. thinned ls (flat_map (put_asks R) qs)) (p.asked R)
@@ -45,7 +41,7 @@ puts-more v ps qs a b c p q = record {
       let u = q.written w in
       let t = p.written u.0 in (
         t.0,
-        list_all-append is_plain ps qs ∙ both (list_all is_plain ps) (list_all is_plain qs) t.1 u.1,
+        list_all-append is_plain ps qs ∙ and_from (list_all is_plain ps) (list_all is_plain qs) t.1 u.1,
         u.2 ∙ ap (λ ts. ts ++ flat_map put_tokens qs) t.2 ∙ append_assoc a.writer.tokens (flat_map put_tokens ps) (flat_map put_tokens qs) ∙ ap (λ ts. a.writer.tokens ++ ts) (sym (flat_map-append put_tokens ps qs)),
       );
 }
@@ -58,16 +54,13 @@ within-rises n m o le h = λ k d lt. lt_of_lt_of_le (h k d lt) le
 pub within-stays : (v : View) (ps : List Put) (a b : Output) → Puts v ps a b → IsWithin v.count a → IsWithin v.count b
 within-stays v ps a b p = p.within
 
-take-front : {X : Type 0} (xs ys : List X) → take (length xs) (xs ++ ys) ≡ xs
-take-front [] ys = refl
-take-front (x ∷ xs) ys = ap (λ zs. x ∷ zs) (take-front xs ys)
-
 -- as many as before are the same
 same-keys : (a b rest : List Blocked) → b ≡ a ++ rest → length a ≡ length b → b ≡ a
 same-keys a b rest e same =
-    sym (take_all (length b) b (le_refl (length b))) ∙ ap (λ n. take n b) (sym same) ∙ ap (take (length a)) e ∙ take-front a rest
+    sym (take_all (length b) b (le_refl (length b))) ∙ ap (λ n. take n b) (sym same) ∙ ap (take (length a)) e ∙ take_at a rest (length a) refl
 
-asks-narrow : (v w : View) (n : ℕ) (bs : List Blocked) (R : Reader) → ((o : OnwardOf) → o.group < n → v.after o ≡ w.after o) → AreWithin n bs → all_asks v bs R ≡ all_asks w bs R
+-- over two views that tell the same of them, they ask the same
+pub asks-narrow : (v w : View) (n : ℕ) (bs : List Blocked) (R : Reader) → ((o : OnwardOf) → o.group < n → v.after o ≡ w.after o) → AreWithin n bs → all_asks v bs R ≡ all_asks w bs R
 asks-narrow v w n [] R same h = refl
 asks-narrow v w n (b ∷ bs) R same h =
     ap (λ (f : List RowOf → Program). asks (read_key b.loader (key_of b.key) f) R ++ all_asks v bs R) (same (onward_of b.onward) (All-head (λ (x : Blocked). x.onward.group < n) b bs h))
@@ -77,7 +70,6 @@ pub puts-narrow : (v w : View) (n : ℕ) (ps : List Put) (a b : Output) → n �
 puts-narrow v w n ps a b le same within count p =
     let keys : b.blocked.keys ≡ a.blocked.keys = same-keys a.blocked.keys b.blocked.keys p.first.0 p.first.1 count in
     record {
-      before = p.before;
       first = p.first;
       within = λ h. subst (AreWithin v.count) (sym keys) h;
       asked = λ R.

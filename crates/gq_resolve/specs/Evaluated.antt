@@ -1,5 +1,5 @@
 -- What an evaluation answers, and what it adds to the wants.
-use Rattle.std.specs.Prelude.{◌≡◌, ◌≢◌, ◌≤◌, List, [], ◌++◌, length, Some, String, string_bytes}
+use Rattle.std.specs.Prelude.{◌≡◌, ◌≢◌, ◌≤◌, List, [], ◌++◌, length, nat_lt, Some, None, String, string_bytes, if◌then◌else◌}
 use Rattle.std.specs.declared.alloc.Global.{Global}
 use Rattle.load_memory.specs.Pairs.{MemoryOf, look}
 use Rattle.load_queue.specs.Wanted.{WantedOf}
@@ -17,6 +17,10 @@ use Rattle.gq_resolve.specs.Answered.{answered_of, answer_text}
 -- what a memory says of a load
 abbrev pub reader : MemoryOf → Reader
 reader m = read m.modes (look m.pairs)
+
+-- what the memory says of the loads of its loaders; nothing of others, which no plan has
+abbrev pub told : MemoryOf → Reader
+told m load = if nat_lt load.loader (length m.modes) then reader m load else None
 
 -- the loads that are needed and that the memory lacks
 abbrev pub front_over : MemoryOf → Program → List Load

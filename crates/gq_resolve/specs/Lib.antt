@@ -1,11 +1,9 @@
 pub mod Answered
 pub mod Evaluated
-pub mod States
 pub mod Cells
 pub mod Completing
 pub mod Puts
 pub mod Spots
-pub mod Leaves
 pub mod Groups
 pub mod Walks
 pub mod Written

@@ -1,20 +1,22 @@
 -- *Suspended resolvers*: an execution that has stopped, and when it may go on.
-use Rattle.std.specs.Prelude.{◌≡◌, true, false, List, [], map, length, codes, Option, Some, None}
+use Rattle.std.specs.Prelude.{◌≡◌, ◌≢◌, false, List, [], map, length, Option, Some, None}
 use Rattle.indexmap.specs.IndexSet.{IndexSet}
 use Rattle.json.specs.Tree.{json_tokens}
 use Rattle.load_memory.specs.Keys.{key_of}
 use Rattle.load_memory.specs.Pairs.{MemoryOf}
+use Rattle.load_queue.specs.Wanted.{WantedOf}
 use Rattle.execution.specs.Loads.{Load, Reader, AnswersMore}
-use Rattle.execution.specs.Program.{ObjectOf, Key, Spot, Program, Under, End, With, tree}
+use Rattle.execution.specs.Program.{tree, needs}
 use Rattle.execution.specs.Completion.{is_open}
 use Rattle.execution.specs.Executed.{completed}
+use Rattle.execution.specs.Front.{missing, wanting}
 use Rattle.gq_check.specs.Plans.{PlanOf, plan_of}
 use Rattle.plan_program.specs.PlanPrograms.{root_prepared, plan_program}
 use Rattle.gq_resolve.specs.Answered.{answered_of, answered_json}
-use Rattle.gq_resolve.specs.Groups.{after_at, Makes, AreRight, Grows}
-use Rattle.gq_resolve.specs.Puts.{View}
-use Rattle.gq_resolve.specs.States.{told}
-use Rattle.gq_resolve.specs.Written.{asks, thinned, all_asks, AreWithin}
+use Rattle.gq_resolve.specs.Evaluated.{reader, front_over, told}
+use Rattle.gq_resolve.specs.Groups.{after_at, Makes, AreRight}
+use Rattle.gq_resolve.specs.Puts.{Put, View, puts}
+use Rattle.gq_resolve.specs.Written.{asks, thinned, all_asks, AreWithin, IsWriting}
 use Rattle.gq_resolve.specs.declared.groups.Group.{Group}
 use Rattle.gq_resolve.specs.declared.output.Blocked.{Blocked}
 use Rattle.gq_resolve.specs.declared.output.Output.{Output}
@@ -22,7 +24,7 @@ use Rattle.gq_resolve.specs.declared.advance.Rooted.{Rooted}
 use Rattle.gq_resolve.specs.declared.advance.Stopped.{Stopped}
 use Rattle.gq_resolve.specs.declared.answered.Answered.{Answered}
 use Rattle.gq_resolve.specs.declared.root_state.RootState.{RootState}
-use Rattle.gq_resolve.specs.declared.tour.Progress.{Progress}
+use Rattle.gq_resolve.specs.declared.tour.Tour.{Tour}
 
 -- what the groups do
 abbrev pub view_of : PlanOf → List Group → View
@@ -34,18 +36,19 @@ pub record IsRooted (plan : PlanOf) (r : Rooted) : Type 0 where
   pub right : AreRight plan r.groups.items
 
 -- Over each larger memory these positions ask what the plan asks, each load once.
-pub record Remain (plan : PlanOf) (m : MemoryOf) (gs : List Group) (bs : List Blocked) : Type 0 where
-  pub within : AreWithin (length gs) bs
-  pub ask : (R : Reader) → AnswersMore (told m) R → thinned [] (all_asks (view_of plan gs) bs R) ≡ thinned [] (asks (plan_program plan) R)
+pub record MayGoOn (plan : PlanOf) (m : MemoryOf) (r : Rooted) (bs : List Blocked) : Type 0 where
+  pub rooted : IsRooted plan r
+  pub within : AreWithin (length r.groups.items) bs
+  pub ask : (R : Reader) → AnswersMore (told m) R → thinned [] (all_asks (view_of plan r.groups.items) bs R) ≡ thinned [] (asks (plan_program plan) R)
 
 -- an execution that begins at its root again fits every memory
-abbrev pub FitsWaiting : {S : Type 0} → PlanOf → MemoryOf → List Group → Option (IndexSet Blocked S) → Type 0
-FitsWaiting plan m gs None = Unit {0}
-FitsWaiting plan m gs (Some bs) = Remain plan m gs bs.keys
+abbrev pub FitsWaiting : {S : Type 0} → PlanOf → MemoryOf → Rooted → Option (IndexSet Blocked S) → Type 0
+FitsWaiting plan m r None = IsRooted plan r
+FitsWaiting plan m r (Some bs) = MayGoOn plan m r bs.keys
 
 abbrev pub FitsStopped : PlanOf → MemoryOf → Option Stopped → Type 0
 FitsStopped plan m None = Unit {0}
-FitsStopped plan m (Some s) = IsRooted plan s.rooted × FitsWaiting plan m s.rooted.groups.items s.waiting
+FitsStopped plan m (Some s) = FitsWaiting plan m s.rooted s.waiting
 
 -- what plan it executes
 abbrev pub plan_in : RootState → PlanOf
@@ -56,43 +59,40 @@ FitsMemory s m = FitsStopped (plan_in s) m s.stopped
 
 -- ---- how far a poll comes
 
+-- the plan that a walk goes over
+abbrev pub plan_on : Tour → PlanOf
+plan_on tour = plan_of tour.plan.now
+
+abbrev pub FitsTour : Tour → Option Stopped → Type 0
+FitsTour tour stopped = FitsStopped (plan_on tour) tour.memory.now stopped
+
 abbrev pub load_of : Blocked → Load
 load_of b = record { loader = b.loader; key = key_of b.key }
 
 abbrev pub loads_of : List Blocked → List Load
 loads_of bs = map load_of bs
 
--- the answer is an object with the member `data`
-abbrev pub data_spot : Spot
-data_spot = record { part = Key (codes "data"); non_null = false; place = record { line = 1; column = 1 } }
-
-abbrev pub answer_program : PlanOf → Program
-answer_program plan = Under ObjectOf (With data_spot (plan_program plan) End)
+-- the whole plan was put, by what the groups do
+pub record GoesOver {S : Type 0} (goes : View → List Put → S → S → Type 0) (plan : PlanOf) (m : MemoryOf) (old : S) (r : Rooted × S) : Type 0 where
+  pub rooted : IsRooted plan r.0
+  pub put : goes (view_of plan r.0.groups.items) (puts false (plan_program plan) (told m)) old r.1
 
 -- What waits is what the plan still asks: now the loads that it lacks, and later what it then lacks. Where nothing waits and
 -- no error was met, the answer was written.
-pub record Advanced (plan : PlanOf) (m : MemoryOf) (r : Rooted) (o : Output) : Type 0 where
-  pub rooted : IsRooted plan r
-  pub remain : Remain plan m r.groups.items o.blocked.keys
-  pub lacks : thinned [] (loads_of o.blocked.keys) ≡ thinned [] (asks (plan_program plan) (told m))
-  pub before : o.writer.before ≡ []
-  pub written : o.is_plain ≡ true → o.blocked.keys ≡ [] → o.writer.tokens ≡ json_tokens (answered_json (completed (tree (plan_program plan) (told m))))
+pub record Advanced (plan : PlanOf) (m : MemoryOf) (r : Rooted × Output) : Type 0 where
+  pub goes_on : MayGoOn plan m r.0 r.1.blocked.keys
+  pub lacks : thinned [] (loads_of r.1.blocked.keys) ≡ thinned [] (asks (plan_program plan) (told m))
+  pub written : IsWriting r.1 → r.1.writer.tokens ≡ json_tokens (answered_json (completed (tree (plan_program plan) (told m))))
+
+-- It came to the end, and the wants are as they were. Else something is missing, and the wants got it.
+abbrev pub IsAdvanced : List WantedOf → List WantedOf → PlanOf → MemoryOf → Option (Rooted × Output) → Type 0
+IsAdvanced old new plan m (Some r) = Advanced plan m r × (r.1.blocked.keys ≡ []) × (new ≡ old)
+IsAdvanced old new plan m None = (front_over m (plan_program plan) ≢ []) × (new ≡ wanting old (front_over m (plan_program plan)))
+
+-- the loads that the plan needs and the memory lacks
+abbrev pub lacking : PlanOf → MemoryOf → List Load
+lacking plan m = missing (reader m) (needs (plan_program plan) (reader m))
 
 -- the answer of a plan of which nothing is missing
 abbrev pub IsResponse : PlanOf → MemoryOf → Answered → Type 0
 IsResponse plan m a = is_open (tree (plan_program plan) (told m)) ≡ false → answered_of a ≡ completed (tree (plan_program plan) (told m))
-
--- it went on at these positions
-pub record IsSearched (plan : PlanOf) (m : MemoryOf) (gs : List Group) (bs : List Blocked) (p : Progress Output) : Type 0 where
-  pub grows : Grows plan gs p.groups.items
-  pub before : p.out.writer.before ≡ []
-  pub remain : Remain plan m p.groups.items p.out.blocked.keys
-  pub lacks : thinned [] (loads_of p.out.blocked.keys) ≡ thinned [] (asks (plan_program plan) (told m))
-
--- it went over the whole plan
-pub record IsWalked (plan : PlanOf) (m : MemoryOf) (gs : List Group) (p : Progress Output) : Type 0 where
-  pub grows : Grows plan gs p.groups.items
-  pub before : p.out.writer.before ≡ []
-  pub remain : Remain plan m p.groups.items p.out.blocked.keys
-  pub lacks : thinned [] (loads_of p.out.blocked.keys) ≡ thinned [] (asks (plan_program plan) (told m))
-  pub tokens : p.out.is_plain ≡ true → p.out.blocked.keys ≡ [] → p.out.writer.tokens ≡ json_tokens (answered_json (completed (tree (plan_program plan) (told m))))

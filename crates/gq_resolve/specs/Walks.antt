@@ -7,7 +7,7 @@ use Rattle.plan_program.specs.PlanPrograms.{list_of, read_cell}
 use Rattle.gq_resolve.specs.Groups.{below_at, Covers, AreRight, Grows}
 use Rattle.gq_resolve.specs.Puts.{Put, OnwardOf, View, puts}
 use Rattle.gq_resolve.specs.Spots.{second_of}
-use Rattle.gq_resolve.specs.States.{told}
+use Rattle.gq_resolve.specs.Evaluated.{told}
 use Rattle.gq_resolve.specs.declared.groups.Group.{Group}
 use Rattle.gq_resolve.specs.declared.tour.Progress.{Progress}
 use Rattle.gq_resolve.specs.declared.tour.Tour.{Tour}

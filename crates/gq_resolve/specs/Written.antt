@@ -108,7 +108,6 @@ pub record IsWriting (o : Output) : Type 0 where
 -- Over each memory the positions that wait ask what they asked, and what is put, each load once. Where the output is still
 -- written, all was plain, and its tokens were written.
 pub record Puts (v : View) (ps : List Put) (old new : Output) : Type 0 where
-  pub before : new.writer.before ≡ old.writer.before
   pub first : (rest : List Blocked) × (new.blocked.keys ≡ old.blocked.keys ++ rest)
   pub within : AreWithin v.count old.blocked.keys → AreWithin v.count new.blocked.keys
   pub asked : (R : Reader) → thinned [] (all_asks v new.blocked.keys R) ≡ thinned (thinned [] (all_asks v old.blocked.keys R)) (flat_map (put_asks R) ps)
@@ -116,7 +115,6 @@ pub record Puts (v : View) (ps : List Put) (old new : Output) : Type 0 where
 
 -- These tokens and nothing else are put, which are plain or not.
 pub record Adds (plain : Bool) (ts : List Token) (old new : Output) : Type 0 where
-  pub before : new.writer.before ≡ old.writer.before
   pub blocked : new.blocked.keys ≡ old.blocked.keys
   pub written : IsWriting new → IsWriting old × (plain ≡ true) × (new.writer.tokens ≡ old.writer.tokens ++ ts)
 

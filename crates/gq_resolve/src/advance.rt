@@ -1,24 +1,28 @@
 //! Executions that begin, stop where a load is missing, and go on.
 
-ghost use Rattle.std.specs.Prelude.{IfOk, Some};
+ghost use Rattle.std.specs.Prelude.{IfOk, OnErr, length};
+ghost use Rattle.load_memory.specs.Pairs.{MemoryOf};
 ghost use Rattle.gq_check.specs.Plans.{plan_of};
-ghost use Rattle.plan_program.specs.PlanPrograms.{root_prepared};
-ghost use Rattle.gq_resolve.specs.Groups.{Makes, AreRight};
-ghost use Rattle.gq_resolve.specs.Suspended.{IsRooted, FitsStopped, Remain, IsSearched, IsWalked, Advanced};
+ghost use Rattle.gq_resolve.specs.Evaluated.{AddsPart, CanEvaluate, GrowsTo};
+ghost use Rattle.gq_resolve.specs.Suspended.{plan_on, IsRooted, GoesOver, IsResponse, MayGoOn, Advanced, FitsStopped, FitsTour, IsAdvanced, lacking};
 
+use crate::answered::Answered;
+use crate::builder::Builder;
 use crate::groups::{Group, Member, members_of};
 use crate::no_memory::NoMemory;
 use crate::output::{Blocked, Output};
 use crate::sink::Sink;
 use crate::spot::{Kind, Spot};
 use crate::tour::{Loading, Progress, Tour};
+use crate::wanting::wanted;
 use gq_lexer::Place;
 use indexmap::IndexSet;
 use load_memory::{CacheKey, Row};
+use load_queue::Wants;
 use plan_program::{collect, prepare};
 
 /// How many levels of objects a plan has at most below its root.
-pub const MOST_LEVELS: u32 = 128;
+const MOST_LEVELS: u32 = 128;
 
 /// The positions of the root object, and the groups that were met.
 #[derive(Drop)]
@@ -48,15 +52,63 @@ fn begun<'p>(tour: &Tour<'_, 'p, '_>) -> Result<Rooted<'p>, NoMemory>
     Ok(Rooted { members, groups })
 }
 
+// Goes over the whole plan, into a sink in which nothing waits at a later group.
+fn gone_over<'p, S: Sink + Drop>(
+    tour: &Tour<'_, 'p, '_>,
+    rooted: Rooted<'p>,
+    out: S,
+) -> Result<(Rooted<'p>, S), NoMemory>
+    ensures { IsRooted (plan_on tour.now) rooted.entry → S.below (length rooted.entry.groups.items) out
+        → IfOk result (GoesOver S.goes (plan_on tour.now) tour.now.memory.now out) }
+{
+    let Rooted { members, groups } = rooted;
+    let mut at = Progress {
+        groups,
+        probe: CacheKey::new(tour.alloc),
+        out,
+    };
+    let row = Row::new(tour.alloc, &[])?;
+    tour.object(&mut at, MOST_LEVELS, &members, &row)?;
+    let groups = at.groups;
+    Ok((Rooted { members, groups }, at.out))
+}
+
+// Goes over the whole plan, and writes as long as nothing is missing.
+fn written<'p>(
+    tour: &Tour<'_, 'p, '_>,
+    rooted: Rooted<'p>,
+) -> Result<(Rooted<'p>, Output), NoMemory>
+    ensures { IsRooted (plan_on tour.now) rooted.entry → IfOk result (Advanced (plan_on tour.now) tour.now.memory.now) }
+{
+    let mut out = Output::new(tour.alloc)?;
+    out.begin(Kind::Object)?;
+    out.field(Spot {
+        key: "data",
+        non_null: false,
+        place: Place { line: 1, column: 1 },
+    })?;
+    let (rooted, mut out) = gone_over(tour, rooted, out)?;
+    out.end(Kind::Object)?;
+    Ok((rooted, out))
+}
+
+/// The response of a plan over a memory that has all that it needs.
+pub fn responded<'p>(tour: &Tour<'_, 'p, '_>, rooted: Rooted<'p>) -> Result<Answered, NoMemory>
+    ensures { IsRooted (plan_on tour.now) rooted.entry → IfOk result (IsResponse (plan_on tour.now) tour.now.memory.now) }
+{
+    let (_, out) = gone_over(tour, rooted, Builder::new(tour.alloc))?;
+    Ok(out.finish())
+}
+
 // Goes on at the positions that wait, and looks for loads alone.
 fn searched<'p>(
     tour: &Tour<'_, 'p, '_>,
-    groups: Vec<Group<'p>>,
+    rooted: Rooted<'p>,
     waiting: IndexSet<Blocked>,
-) -> Result<Progress<'p, Output>, NoMemory>
-    ensures { AreRight (plan_of tour.now.plan.now) groups.entry.items → Remain (plan_of tour.now.plan.now) tour.now.memory.now groups.entry.items waiting.keys
-        → IfOk result (IsSearched (plan_of tour.now.plan.now) tour.now.memory.now groups.entry.items waiting.keys) }
+) -> Result<(Rooted<'p>, Output), NoMemory>
+    ensures { MayGoOn (plan_on tour.now) tour.now.memory.now rooted.entry waiting.keys → IfOk result (Advanced (plan_on tour.now) tour.now.memory.now) }
 {
+    let Rooted { members, groups } = rooted;
     let mut at = Progress {
         groups,
         probe: CacheKey::new(tour.alloc),
@@ -69,84 +121,52 @@ fn searched<'p>(
         };
         tour.read(&mut at, to, position.loader, position.key.borrowed())?;
     }
-    Ok(at)
-}
-
-// Goes over the whole plan, and writes as long as nothing is missing.
-fn written<'p>(
-    tour: &Tour<'_, 'p, '_>,
-    members: &[Member<'p>],
-    groups: Vec<Group<'p>>,
-) -> Result<Progress<'p, Output>, NoMemory>
-    ensures { AreRight (plan_of tour.now.plan.now) groups.entry.items → Makes (plan_of tour.now.plan.now) groups.entry.items members.now (root_prepared (plan_of tour.now.plan.now))
-        → IfOk result (IsWalked (plan_of tour.now.plan.now) tour.now.memory.now groups.entry.items) }
-{
-    let mut at = Progress {
-        groups,
-        probe: CacheKey::new(tour.alloc),
-        out: Output::new(tour.alloc)?,
-    };
-    let row = Row::new(tour.alloc, &[])?;
-    at.out.begin(Kind::Object)?;
-    at.out.field(Spot {
-        key: "data",
-        non_null: false,
-        place: Place { line: 1, column: 1 },
-    })?;
-    tour.object(&mut at, MOST_LEVELS, members, &row)?;
-    at.out.end(Kind::Object)?;
-    Ok(at)
-}
-
-// What was prepared, and the positions that wait, if it stopped; else its root.
-fn left_off<'p>(
-    tour: &Tour<'_, 'p, '_>,
-    stopped: Option<Stopped<'p>>,
-) -> Result<Stopped<'p>, NoMemory>
-    ensures { FitsStopped (plan_of tour.now.plan.now) tour.now.memory.now stopped.entry → IfOk result (λ s. FitsStopped (plan_of tour.now.plan.now) tour.now.memory.now (Some s)) }
-{
-    match stopped {
-        Some(stopped) => Ok(stopped),
-        None => {
-            let rooted = begun(tour)?;
-            Ok(Stopped {
-                rooted,
-                waiting: None,
-            })
-        }
-    }
-}
-
-// Goes over the whole plan from its root.
-fn gone_over<'p>(
-    tour: &Tour<'_, 'p, '_>,
-    rooted: Rooted<'p>,
-) -> Result<(Rooted<'p>, Output), NoMemory>
-    ensures { IsRooted (plan_of tour.now.plan.now) rooted.entry → IfOk result (λ r. Advanced (plan_of tour.now.plan.now) tour.now.memory.now r.0 r.1) }
-{
-    let Rooted { members, groups } = rooted;
-    let at = written(tour, &members, groups)?;
     let groups = at.groups;
     Ok((Rooted { members, groups }, at.out))
 }
 
-/// Goes on from where an execution stopped, or begins it.
-pub fn advanced<'p>(
+// Goes on from where an execution stopped, or begins it.
+fn advanced<'p>(
     tour: &Tour<'_, 'p, '_>,
     stopped: Option<Stopped<'p>>,
 ) -> Result<(Rooted<'p>, Output), NoMemory>
-    ensures { FitsStopped (plan_of tour.now.plan.now) tour.now.memory.now stopped.entry → IfOk result (λ r. Advanced (plan_of tour.now.plan.now) tour.now.memory.now r.0 r.1) }
+    ensures { FitsTour tour.now stopped.entry → IfOk result (Advanced (plan_on tour.now) tour.now.memory.now) }
 {
-    let Stopped { rooted, waiting } = left_off(tour, stopped)?;
-    let Some(waiting) = waiting else {
-        return gone_over(tour, rooted);
+    let Some(Stopped { rooted, waiting }) = stopped else {
+        return written(tour, begun(tour)?);
     };
-    let Rooted { members, groups } = rooted;
-    let at = searched(tour, groups, waiting)?;
-    let groups = at.groups;
-    let rooted = Rooted { members, groups };
-    if at.out.blocked.is_empty() {
-        return gone_over(tour, rooted);
+    let Some(waiting) = waiting else {
+        return written(tour, rooted);
+    };
+    let (rooted, out) = searched(tour, rooted, waiting)?;
+    if out.blocked.is_empty() {
+        return written(tour, rooted);
     }
-    Ok((rooted, at.out))
+    Ok((rooted, out))
+}
+
+/// Goes on with each load that the memory has. Where nothing is missing, it comes to the end. Else it adds what is missing to
+/// the wants, and keeps where it stopped.
+pub fn advance<'p>(
+    tour: &Tour<'_, 'p, '_>,
+    stopped: &mut Option<Stopped<'p>>,
+    wants: &mut Wants,
+) -> Result<Option<(Rooted<'p>, Output)>, NoMemory>
+    requires { CanEvaluate (plan_on tour.now) tour.now.memory.now wants.old }
+    ensures ok { FitsTour tour.now stopped.old → IfOk result (IsAdvanced wants.old wants.new (plan_on tour.now) tour.now.memory.now) }
+    ensures err { FitsTour tour.now stopped.old → OnErr result (AddsPart wants.old wants.new (lacking (plan_on tour.now) tour.now.memory.now)) }
+    ensures grown { (m : MemoryOf) → FitsTour tour.now stopped.old → GrowsTo tour.now.memory.now m → FitsStopped (plan_on tour.now) m stopped.new }
+{
+    let (rooted, out) = advanced(tour, stopped.take())?;
+    if out.blocked.is_empty() {
+        return Ok(Some((rooted, out)));
+    }
+    let waiting = wanted(
+        &rooted.groups,
+        out.blocked,
+        tour.memory.modes().len(),
+        wants,
+    )?;
+    *stopped = Some(Stopped { rooted, waiting });
+    Ok(None)
 }

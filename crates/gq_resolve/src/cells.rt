@@ -7,17 +7,25 @@ ghost use Rattle.gq_schema.specs.Types.{tree_of};
 ghost use Rattle.gq_schema.specs.BindingsTypes.{is_object_type};
 ghost use Rattle.gq_schema.specs.Coercion.{int_of};
 ghost use Rattle.load_memory.specs.Rows.{cell_of};
-ghost use Rattle.execution.specs.Program.{Int, Boolean, Value};
 ghost use Rattle.plan_program.specs.Texts.{is_int_text, is_unsigned_text};
-ghost use Rattle.plan_program.specs.PlanPrograms.{boolean_of, int_leaf, named_leaf, leaf_of, or_bad, cell_value, typename, told_type, type_of_row};
+ghost use Rattle.plan_program.specs.PlanPrograms.{boolean_of, int_leaf, named_leaf, leaf_of, cell_value, type_of_row};
 ghost use Rattle.plan_program.specs.Prepared.{own_seen};
-ghost use Rattle.gq_resolve.specs.Cells.{type_seen};
+ghost use Rattle.gq_resolve.specs.Cells.{value_seen, type_seen};
 
 use gq_parser::TypeRef;
 use gq_schema::{Schema, TypeKind};
 use load_memory::{Cell, Row};
 use plan_program::{Own, bad_value_message, no_column_message, no_type_message, not_type_message};
 use std::alloc::{AllocError, Global};
+
+/// What a text is at a leaf's type, with no copy of it.
+#[derive(Clone, Copy, Drop)]
+pub enum LeafValue<'t> {
+    /// A text, an ID, or the name of an enum's value.
+    Text(&'t str),
+    Int(i32),
+    Bool(bool),
+}
 
 fn all_digits(text: &[u8]) -> bool
     ensures { result ≡ all_ascii_digits text.now }
@@ -47,14 +55,8 @@ fn is_int_text(text: &[u8]) -> bool
     ensures { result ≡ is_int_text text.now }
 {
     match text {
-        [] => false,
-        [first, rest @ ..] => {
-            if *first == b'-' {
-                is_unsigned_text(rest)
-            } else {
-                is_unsigned_text(text)
-            }
-        }
+        [b'-', rest @ ..] => is_unsigned_text(rest),
+        _ => is_unsigned_text(text),
     }
 }
 
@@ -65,95 +67,50 @@ fn int_of(text: &str) -> Option<i32>
     text.parse::<i32>().ok()
 }
 
-/// The number of an Int's text.
-pub fn int_of_leaf(text: &str) -> Option<i32>
-    ensures { option_map (λ number. Int number) result ≡ int_leaf text.now }
+fn int_leaf<'t>(text: &str) -> Option<LeafValue<'t>>
+    ensures { option_map value_seen result ≡ int_leaf text.now }
 {
     if !is_int_text(text.as_bytes()) {
         return None;
     }
-    int_of(text)
+    Some(LeafValue::Int(int_of(text)?))
 }
 
-fn int_leaf(text: &str) -> Option<Own>
-    ensures { option_map own_seen result ≡ option_map (λ leaf. Value leaf) (int_leaf text.now) }
-{
-    match int_of_leaf(text) {
-        Some(number) => Some(Own::Int(number)),
-        None => None,
-    }
-}
-
-/// The value of a Boolean's text.
-pub fn boolean_of(text: &str) -> Option<bool>
-    ensures { option_map (λ value. Boolean value) result ≡ boolean_of text.now }
+fn boolean_leaf<'t>(text: &str) -> Option<LeafValue<'t>>
+    ensures { option_map value_seen result ≡ boolean_of text.now }
 {
     if text == "true" {
-        return Some(true);
+        return Some(LeafValue::Bool(true));
     }
     if text == "false" {
-        return Some(false);
+        return Some(LeafValue::Bool(false));
     }
     None
 }
 
-fn boolean_leaf(text: &str) -> Option<Own>
-    ensures { option_map own_seen result ≡ option_map (λ leaf. Value leaf) (boolean_of text.now) }
-{
-    match boolean_of(text) {
-        Some(value) => Some(Own::Bool(value)),
-        None => None,
-    }
-}
-
 // What a text is at the type of this name.
-fn named_leaf(
-    alloc: Global,
-    schema: &Schema,
-    name: &str,
-    text: &str,
-) -> Result<Option<Own>, AllocError>
-    ensures { IfOk result (λ own. option_map own_seen own ≡ option_map (λ leaf. Value leaf) (named_leaf (tree_of schema.now) name.now text.now)) }
+fn named_leaf<'t>(schema: &Schema, name: &str, text: &'t str) -> Option<LeafValue<'t>>
+    ensures { option_map value_seen result ≡ named_leaf (tree_of schema.now) name.now text.now }
 {
     if name == "Int" {
-        return Ok(int_leaf(text));
+        return int_leaf(text);
     }
     if name == "Boolean" {
-        return Ok(boolean_leaf(text));
+        return boolean_leaf(text);
     }
     if name == "String" || name == "ID" || schema.has_value(name, text) {
-        return Ok(Some(Own::Text(String::from_str(alloc, text)?)));
+        return Some(LeafValue::Text(text));
     }
-    Ok(None)
+    None
 }
 
-fn leaf_of(
-    alloc: Global,
-    schema: &Schema,
-    ty: &TypeRef,
-    text: &str,
-) -> Result<Option<Own>, AllocError>
-    ensures { IfOk result (λ own. option_map own_seen own ≡ option_map (λ leaf. Value leaf) (leaf_of (tree_of schema.now) (type_of ty.now) text.now)) }
+/// What a text is at a type, if it is right there (section 3.5, Result Coercion).
+pub fn leaf_of<'t>(schema: &Schema, ty: &TypeRef, text: &'t str) -> Option<LeafValue<'t>>
+    ensures { option_map value_seen result ≡ leaf_of (tree_of schema.now) (type_of ty.now) text.now }
 {
     match ty {
-        TypeRef::Named { name, .. } => named_leaf(alloc, schema, name.as_str(), text),
-        TypeRef::List { .. } => Ok(None),
-    }
-}
-
-// The own value of a text in a column.
-fn text_value(
-    alloc: Global,
-    schema: &Schema,
-    column: &str,
-    ty: &TypeRef,
-    text: &str,
-) -> Result<Own, AllocError>
-    ensures { IfOk result (λ own. own_seen own ≡ or_bad column.now (leaf_of (tree_of schema.now) (type_of ty.now) text.now)) }
-{
-    match leaf_of(alloc, schema, ty, text)? {
-        Some(own) => Ok(own),
-        None => Ok(Own::Fault(bad_value_message(alloc, column)?)),
+        TypeRef::Named { name, .. } => named_leaf(schema, name.as_str(), text),
+        TypeRef::List { .. } => None,
     }
 }
 
@@ -170,7 +127,12 @@ pub fn cell_value(
     match row.get(column) {
         Cell::NoColumn => Ok(Own::Fault(no_column_message(alloc, column)?)),
         Cell::Null => Ok(Own::Null),
-        Cell::Text(text) => text_value(alloc, schema, column, ty, text),
+        Cell::Text(text) => match leaf_of(schema, ty, text) {
+            Some(LeafValue::Text(text)) => Ok(Own::Text(String::from_str(alloc, text)?)),
+            Some(LeafValue::Int(number)) => Ok(Own::Int(number)),
+            Some(LeafValue::Bool(value)) => Ok(Own::Bool(value)),
+            None => Ok(Own::Fault(bad_value_message(alloc, column)?)),
+        },
     }
 }
 
@@ -184,36 +146,7 @@ pub enum TypeOf<'a> {
 pub fn is_object_type(schema: &Schema, name: &str) -> bool
     ensures { result ≡ is_object_type (tree_of schema.now) name.now }
 {
-    match schema.kind_of(name) {
-        Some(TypeKind::Object) => true,
-        Some(TypeKind::Scalar) => false,
-        Some(TypeKind::Interface) => false,
-        Some(TypeKind::Union) => false,
-        Some(TypeKind::Enum) => false,
-        None => false,
-    }
-}
-
-// The type that a row tells.
-fn told_type<'a>(
-    alloc: Global,
-    schema: &Schema,
-    name: &str,
-    row: &'a Row,
-) -> Result<TypeOf<'a>, AllocError>
-    ensures { IfOk result (λ ty. type_seen ty ≡ told_type (tree_of schema.now) name.now (cell_of row.now typename)) }
-{
-    match row.get("__typename") {
-        Cell::NoColumn => Ok(TypeOf::Fault(no_column_message(alloc, "__typename")?)),
-        Cell::Null => Ok(TypeOf::Fault(no_type_message(alloc)?)),
-        Cell::Text(text) => {
-            if schema.can_be(name, text) {
-                Ok(TypeOf::Object(text))
-            } else {
-                Ok(TypeOf::Fault(not_type_message(alloc, text)?))
-            }
-        }
-    }
+    matches!(schema.kind_of(name), Some(TypeKind::Object))
 }
 
 /// The object type of a row that stands for the type of this name (section 6.4.3, ResolveAbstractType).
@@ -228,5 +161,15 @@ pub fn type_of_row<'a>(
     if is_object_type(schema, name) {
         return Ok(TypeOf::Object(name));
     }
-    told_type(alloc, schema, name, row)
+    match row.get("__typename") {
+        Cell::NoColumn => Ok(TypeOf::Fault(no_column_message(alloc, "__typename")?)),
+        Cell::Null => Ok(TypeOf::Fault(no_type_message(alloc)?)),
+        Cell::Text(text) => {
+            if schema.can_be(name, text) {
+                Ok(TypeOf::Object(text))
+            } else {
+                Ok(TypeOf::Fault(not_type_message(alloc, text)?))
+            }
+        }
+    }
 }

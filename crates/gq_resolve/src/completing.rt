@@ -23,18 +23,11 @@ pub enum Completed {
     },
 }
 
-// Whether it is null.
-fn is_null(response: &Response) -> bool
+/// Whether it is null.
+pub fn is_null(response: &Response) -> bool
     ensures { result ≡ is_null_response (response_of response.now) }
 {
-    match response {
-        Response::Null => true,
-        Response::Text(_) => false,
-        Response::Int(_) => false,
-        Response::Bool(_) => false,
-        Response::List(_) => false,
-        Response::Object(_) => false,
-    }
+    matches!(response, Response::Null)
 }
 
 /// Completes a response at a type. A null of non-null type adds an error, unless the position has one: it is `faulted`.

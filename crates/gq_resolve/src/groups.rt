@@ -295,22 +295,13 @@ pub fn shape_of<'p>(
 
 // Whether an object is selected below one that these fields select of.
 fn selects_objects(fields: &[&Field]) -> bool {
-    for field in fields {
-        let Some(set) = &field.selection_set else {
-            continue;
-        };
-        for selection in &set.selections {
-            let selects = match selection {
-                Selection::Field(below) => below.selection_set.is_some(),
-                Selection::Spread(_) => true,
-                Selection::Inline(_) => true,
-            };
-            if selects {
-                return true;
-            }
-        }
-    }
-    false
+    fields.iter().any(|field| match &field.selection_set {
+        Some(set) => set.selections.iter().any(|selection| match selection {
+            Selection::Field(below) => below.selection_set.is_some(),
+            Selection::Spread(_) | Selection::Inline(_) => true,
+        }),
+        None => false,
+    })
 }
 
 /// Whether there may be a load below a position that goes on so.
@@ -318,9 +309,6 @@ pub fn may_load(groups: &[Group<'_>], onward: Onward) -> bool {
     let Some(group) = groups.get(onward.group) else {
         return false;
     };
-    match group.then {
-        Then::First => selects_objects(&group.below.fields),
-        Then::All => selects_objects(&group.below.fields),
-        Then::Joined { .. } => !onward.second || selects_objects(&group.below.fields),
-    }
+    let loads_again = matches!(group.then, Then::Joined { .. }) && !onward.second;
+    loads_again || selects_objects(&group.below.fields)
 }

@@ -2,10 +2,10 @@
 
 ghost use Rattle.std.specs.Prelude.{◌≡◌, IfOk, OnOk, string_bytes};
 ghost use Rattle.execution.specs.Program.{Key, ObjectOf};
-ghost use Rattle.execution.specs.Completion.{Holding};
-ghost use Rattle.gq_resolve.specs.Answered.{part_of, response_of, is_null_response};
-ghost use Rattle.gq_resolve.specs.Built.{root_spot, step_in, level_with, level_response, kind_held, parts_held, spot_held, level_seen};
+ghost use Rattle.gq_resolve.specs.Answered.{part_of, response_of};
+ghost use Rattle.gq_resolve.specs.Built.{root_spot, step_in, level_with, level_response, spot_held, level_seen};
 
+use crate::completing::is_null;
 use crate::no_memory::NoMemory;
 use answer_json::{PathPart, Response};
 use gq_lexer::Place;
@@ -33,19 +33,6 @@ pub struct Level {
     pub parts: Parts,
     /// Whether a null at a non-null type is among the parts, which pulls it down.
     pub pulled: bool,
-}
-
-fn is_null(response: &Response) -> bool
-    ensures { result ≡ is_null_response (response_of response.now) }
-{
-    match response {
-        Response::Null => true,
-        Response::Text(_) => false,
-        Response::Int(_) => false,
-        Response::Bool(_) => false,
-        Response::List(_) => false,
-        Response::Object(_) => false,
-    }
 }
 
 impl Position {
@@ -81,17 +68,6 @@ impl Position {
     }
 }
 
-impl Parts {
-    fn into_response(self) -> Response
-        ensures { response_of result ≡ Holding (kind_held self) (parts_held self) }
-    {
-        match self {
-            Parts::Items(items) => Response::List(items),
-            Parts::Fields(fields) => Response::Object(fields),
-        }
-    }
-}
-
 impl Level {
     /// Puts the response of one of its positions.
     pub fn put(
@@ -115,9 +91,13 @@ impl Level {
         ensures position { spot_held result.0 ≡ (level_seen self).spot }
         ensures response { response_of result.1 ≡ level_response (level_seen self) }
     {
+        let position = self.position;
         if self.pulled {
-            return (self.position, Response::Null);
+            return (position, Response::Null);
         }
-        (self.position, self.parts.into_response())
+        match self.parts {
+            Parts::Items(items) => (position, Response::List(items)),
+            Parts::Fields(fields) => (position, Response::Object(fields)),
+        }
     }
 }

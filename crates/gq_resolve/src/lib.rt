@@ -2,18 +2,16 @@
 //! plan is ready with its answer, or waits for exactly the loads that it needs and the memory lacks.
 //!
 //! The layer above may rely on this: [`evaluate`] is ready with the execution of the plan's program
-//! (`plan_program::specs::PlanPrograms`) where nothing is missing, and else adds the front to the wants. [`execute_text`] does
-//! the same with the text of the answer, and builds nothing where there are no errors.
+//! (`plan_program::specs::PlanPrograms`) where nothing is missing, and else adds the front to the wants. A [`RootState`] does
+//! the same over a memory that grows from poll to poll, to a response or to its text, and keeps what is done.
 #![tactic(auto)]
 
 mod advance;
-mod answer;
 mod answered;
 mod builder;
 mod cells;
 mod completing;
 mod evaluation;
-mod executing;
 mod groups;
 mod kept;
 mod level;
@@ -21,18 +19,15 @@ mod no_memory;
 mod output;
 mod reading;
 mod resolve;
-mod responding;
 mod root_state;
 mod sink;
 mod spot;
 mod tour;
 mod wanting;
 
-pub use answer::answer_text;
-pub use answered::Answered;
+pub use answered::{Answered, answer_text};
 pub use completing::{Completed, complete};
 pub use evaluation::evaluate;
-pub use executing::execute_text;
 pub use no_memory::NoMemory;
 pub use plan_program::{ArgFault, Args, Group, arguments_of, collect};
 pub use resolve::Resolve;

@@ -1,23 +1,18 @@
 //! An answer without errors, as it is written, and the positions of it that wait.
 
-ghost use Rattle.std.specs.Prelude.{◌≡◌, ◌↔◌, ◌∷◌, [], IfOk, OnOk, IsTrue, Bool, false, true, string_bytes};
+ghost use Rattle.std.specs.Prelude.{◌≡◌, ◌↔◌, ◌∷◌, [], IfOk, OnOk, IsTrue, Bool, false, true, option_map, string_bytes};
 ghost use Rattle.std.specs.Fmt.{signed_decimal};
 ghost use Rattle.json.specs.Print.{IsPrintable, print};
 ghost use Rattle.json.specs.Reads.{token_of};
 ghost use Rattle.json.specs.Token.{number};
-ghost use Rattle.gq_parser.specs.Tree.{type_of};
-ghost use Rattle.gq_schema.specs.Types.{tree_of};
 ghost use Rattle.execution.specs.Program.{Null};
-ghost use Rattle.plan_program.specs.PlanPrograms.{boolean_of, int_leaf, named_leaf, leaf_of};
 ghost use Rattle.plan_program.specs.Prepared.{own_seen};
-ghost use Rattle.gq_resolve.specs.Leaves.{leaf_seen};
+ghost use Rattle.gq_resolve.specs.Cells.{value_seen};
 
-use crate::cells::{boolean_of, int_of_leaf};
+use crate::cells::{LeafValue, leaf_of};
 use crate::no_memory::NoMemory;
 use crate::sink::Sink;
 use crate::spot::{Items, Kind, Leaf, Onward, Spot};
-use gq_parser::TypeRef;
-use gq_schema::Schema;
 use indexmap::IndexSet;
 use json::{Token, Writer};
 use load_memory::{Cell, Key, KeyRef};
@@ -53,7 +48,6 @@ impl Output {
 
     /// Nothing yet.
     pub fn new(alloc: Global) -> Result<Output, NoMemory>
-        ensures before { IfOk result (λ out. out.writer.before ≡ []) }
         ensures tokens { IfOk result (λ out. out.writer.tokens ≡ []) }
         ensures blocked { IfOk result (λ out. out.blocked.keys ≡ []) }
     {
@@ -67,7 +61,6 @@ impl Output {
 
     /// Nothing yet, and nothing is written: only the positions that wait are noted.
     pub fn unwritten(alloc: Global) -> Output
-        ensures before { result.writer.before ≡ [] }
         ensures plain { result.is_plain ≡ false }
         ensures blocked { result.blocked.keys ≡ [] }
     {
@@ -77,6 +70,15 @@ impl Output {
             blocked: IndexSet::new(alloc),
             is_plain: false,
         }
+    }
+
+    /// What was written, as text.
+    pub fn into_text(self) -> String
+        ensures { string_bytes result ≡ print self.writer.tokens }
+    {
+        let bytes = self.writer.into_inner();
+        // SAFETY: a writer's text is UTF-8.
+        unsafe { String::from_utf8_unchecked(bytes) }
     }
 
     /// Whether it is still written.
@@ -125,70 +127,18 @@ impl Output {
         self.put(Token::Null)
     }
 
-    fn put_int(&mut self, text: &str) -> Result<(), NoMemory>
-        ensures { OnOk result (AddsLeaf (int_leaf text.now) self.old self.new) }
+    // Writes the value of a leaf. None is an error.
+    fn put_leaf(&mut self, leaf: Option<LeafValue<'_>>) -> Result<(), NoMemory>
+        ensures { OnOk result (AddsLeaf (option_map value_seen leaf.entry) self.old self.new) }
     {
-        match int_of_leaf(text) {
-            Some(number) => self.put_number(number),
+        match leaf {
+            Some(LeafValue::Text(text)) => self.put(Token::String(text)),
+            Some(LeafValue::Int(number)) => self.put_number(number),
+            Some(LeafValue::Bool(value)) => self.put(Token::Bool(value)),
             None => {
                 self.fault();
                 Ok(())
             }
-        }
-    }
-
-    fn put_boolean(&mut self, text: &str) -> Result<(), NoMemory>
-        ensures { OnOk result (AddsLeaf (boolean_of text.now) self.old self.new) }
-    {
-        match boolean_of(text) {
-            Some(value) => self.put(Token::Bool(value)),
-            None => {
-                self.fault();
-                Ok(())
-            }
-        }
-    }
-
-    // What a text is at the type of this name.
-    fn put_named(&mut self, schema: &Schema, name: &str, text: &str) -> Result<(), NoMemory>
-        ensures { OnOk result (AddsLeaf (named_leaf (tree_of schema.now) name.now text.now) self.old self.new) }
-    {
-        if name == "Int" {
-            return self.put_int(text);
-        }
-        if name == "Boolean" {
-            return self.put_boolean(text);
-        }
-        if name == "String" || name == "ID" || schema.has_value(name, text) {
-            return self.put(Token::String(text));
-        }
-        self.fault();
-        Ok(())
-    }
-
-    fn put_leaf(&mut self, schema: &Schema, ty: &TypeRef, text: &str) -> Result<(), NoMemory>
-        ensures { OnOk result (AddsLeaf (leaf_of (tree_of schema.now) (type_of ty.now) text.now) self.old self.new) }
-    {
-        match ty {
-            TypeRef::Named { name, .. } => self.put_named(schema, name.as_str(), text),
-            TypeRef::List { .. } => {
-                self.fault();
-                Ok(())
-            }
-        }
-    }
-
-    // Writes a cell straight from its row.
-    fn put_cell(&mut self, leaf: Leaf<'_>, strict: bool) -> Result<(), NoMemory>
-        ensures { OnOk result (AddsOwn strict (leaf_seen leaf.entry) self.old self.new) }
-    {
-        match leaf.row.get(leaf.column) {
-            Cell::NoColumn => {
-                self.fault();
-                Ok(())
-            }
-            Cell::Null => self.put_null(strict),
-            Cell::Text(text) => self.put_leaf(leaf.schema, leaf.ty, text),
         }
     }
 }
@@ -238,11 +188,19 @@ impl Sink for Output {
         }
     }
 
+    // It is written straight from its row.
     fn cell(&mut self, leaf: Leaf<'_>, strict: bool) -> Result<(), NoMemory> {
         if !self.is_writing() {
             return Ok(());
         }
-        self.put_cell(leaf, strict)
+        match leaf.row.get(leaf.column) {
+            Cell::NoColumn => {
+                self.fault();
+                Ok(())
+            }
+            Cell::Null => self.put_null(strict),
+            Cell::Text(text) => self.put_leaf(leaf_of(leaf.schema, leaf.ty, text)),
+        }
     }
 
     fn waiting(&self) -> usize {
@@ -268,14 +226,4 @@ impl Sink for Output {
     ghost stays = { within-stays };
 
     ghost narrow = { puts-narrow };
-}
-
-/// What was written, as text.
-pub fn text_of(writer: Writer) -> String
-    requires { writer.before ≡ [] }
-    ensures { string_bytes result ≡ print writer.tokens }
-{
-    let bytes = writer.into_inner();
-    // SAFETY: a writer's text is UTF-8.
-    unsafe { String::from_utf8_unchecked(bytes) }
 }

@@ -2,12 +2,12 @@
 
 ghost use Rattle.std.specs.Prelude.{◌≡◌, IfOk, option_map};
 ghost use Rattle.std.specs.Option.{option_copied};
-ghost use Rattle.load_memory.specs.Keys.{key_of, borrowed_of};
+ghost use Rattle.load_memory.specs.Keys.{borrowed_of};
 ghost use Rattle.load_memory.specs.Outcomes.{outcome_of};
-ghost use Rattle.gq_resolve.specs.States.{told};
+ghost use Rattle.gq_resolve.specs.Evaluated.{told};
 
 use crate::no_memory::NoMemory;
-use load_memory::{CacheKey, Key, KeyRef, Memory, Outcome};
+use load_memory::{CacheKey, KeyRef, Memory, Outcome};
 use std::alloc::Global;
 
 /// What the memory says of a key of a loader; nothing where there is no such loader. It is looked up by a cache key that is
@@ -26,17 +26,4 @@ pub fn told_by<'m>(
     }
     probe.set(alloc, key, memory.mode(loader))?;
     Ok(memory.get(loader, probe))
-}
-
-/// What the memory says of a key of a loader; nothing where there is no such loader.
-pub fn told<'m>(
-    alloc: Global,
-    memory: &'m Memory,
-    loader: usize,
-    key: &Key,
-) -> Result<Option<&'m Outcome>, NoMemory>
-    ensures { IfOk result (λ outcome. option_map outcome_of (option_copied outcome) ≡ told memory.now (record { loader = loader; key = key_of key.now })) }
-{
-    let mut probe = CacheKey::new(alloc);
-    told_by(alloc, memory, &mut probe, loader, key.borrowed())
 }

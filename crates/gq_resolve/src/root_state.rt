@@ -1,6 +1,6 @@
 //! The execution of a plan that is polled, and goes on where it stopped.
 
-ghost use Rattle.std.specs.Prelude.{◌≡◌, IfOk, OnOk, OnErr, length};
+ghost use Rattle.std.specs.Prelude.{◌≡◌, IfOk, OnErr};
 ghost use Rattle.load_memory.specs.Pairs.{MemoryOf};
 ghost use Rattle.execution.specs.Program.{needs};
 ghost use Rattle.execution.specs.Front.{missing};
@@ -9,16 +9,12 @@ ghost use Rattle.plan_program.specs.PlanPrograms.{plan_program};
 ghost use Rattle.gq_resolve.specs.Evaluated.{reader, IsWritten, AddsPart, CanEvaluate, GrowsTo};
 ghost use Rattle.gq_resolve.specs.Suspended.{plan_in, FitsMemory};
 
-use crate::advance::{Stopped, advanced};
-use crate::answer::answer_text;
-use crate::answered::Answered;
+use crate::advance::{Stopped, advance, responded};
+use crate::answered::{Answered, answer_text};
 use crate::kept::most_kept;
 use crate::no_memory::NoMemory;
-use crate::output::{Output, text_of};
 use crate::resolve::Resolve;
-use crate::responding::responded;
 use crate::tour::Tour;
-use crate::wanting::wanted;
 use futures::task::Poll;
 use gq_check::Plan;
 use load_memory::Memory;
@@ -72,22 +68,13 @@ impl<'p, 'a> RootState<'p, 'a> {
             memory,
             most: self.most,
         };
-        let (rooted, out) = advanced(&tour, self.stopped.take())?;
-        let Output {
-            writer,
-            blocked,
-            is_plain,
-            ..
-        } = out;
-        if !blocked.is_empty() {
-            let waiting = wanted(&rooted.groups, blocked, memory.modes().len(), wants)?;
-            self.stopped = Some(Stopped { rooted, waiting });
+        let Some((rooted, out)) = advance(&tour, &mut self.stopped, wants)? else {
             return Ok(Poll::Pending);
+        };
+        if out.is_plain {
+            return Ok(Poll::Ready(out.into_text()));
         }
-        if is_plain {
-            return Ok(Poll::Ready(text_of(writer)));
-        }
-        drop(writer);
+        drop(out);
         let answered = responded(&tour, rooted)?;
         Ok(Poll::Ready(answer_text(alloc, &answered)?))
     }
@@ -112,13 +99,9 @@ impl<'p, 'a> Resolve for RootState<'p, 'a> {
             memory,
             most: self.most,
         };
-        let (rooted, out) = advanced(&tour, self.stopped.take())?;
-        let blocked = out.blocked;
-        if !blocked.is_empty() {
-            let waiting = wanted(&rooted.groups, blocked, memory.modes().len(), wants)?;
-            self.stopped = Some(Stopped { rooted, waiting });
-            return Ok(Poll::Pending);
+        match advance(&tour, &mut self.stopped, wants)? {
+            Some((rooted, _)) => Ok(Poll::Ready(responded(&tour, rooted)?)),
+            None => Ok(Poll::Pending),
         }
-        Ok(Poll::Ready(responded(&tour, rooted)?))
     }
 }

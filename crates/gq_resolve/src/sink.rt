@@ -4,7 +4,7 @@ ghost use Rattle.std.specs.Prelude.{◌≡◌, ◌<◌, ◌≤◌, ◌++◌, ◌
 ghost use Rattle.load_memory.specs.Keys.{borrowed_of};
 ghost use Rattle.execution.specs.Program.{ObjectOf, ListOf};
 ghost use Rattle.plan_program.specs.Prepared.{own_seen};
-ghost use Rattle.gq_resolve.specs.Leaves.{leaf_seen};
+ghost use Rattle.gq_resolve.specs.Cells.{leaf_seen};
 ghost use Rattle.gq_resolve.specs.Puts.{Put, Begins, Ends, Enters, Has, Waits, OnwardOf, View, waiting};
 ghost use Rattle.gq_resolve.specs.Spots.{kind_of, spot_seen, item_spot, onward_of};
 

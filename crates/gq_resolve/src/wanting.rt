@@ -53,12 +53,9 @@ fn want_all(waiting: IndexSet<Blocked>, loaders: usize, wants: &mut Wants) -> Re
 
 // Whether something below one of them may load.
 fn any_may_load(groups: &[Group<'_>], waiting: &IndexSet<Blocked>) -> bool {
-    for position in waiting {
-        if may_load(groups, position.onward) {
-            return true;
-        }
-    }
-    false
+    waiting
+        .iter()
+        .any(|position| may_load(groups, position.onward))
 }
 
 /// Adds the loads of positions that wait. They are kept if it saves a walk over the whole plan to go on at them; if nothing

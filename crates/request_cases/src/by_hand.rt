@@ -64,7 +64,7 @@ fn put_all<R: Wait + AllocGlobal>(
 }
 
 /// The receipts of a round's replies, the last order's first.
-fn received<S: Asks, R: Wait + AllocGlobal>(
+pub fn received<S: Asks, R: Wait + AllocGlobal>(
     rt: &R,
     orders: Vec<Order>,
     loaders: &[Loader<S>],

@@ -7,14 +7,14 @@ use crate::logs::push_keys;
 use anyhow::{Result, bail};
 use futures::task::Poll;
 use gq_check::Plan;
-use gq_resolve::{answer_text, evaluate, execute_text};
+use gq_resolve::{RootState, answer_text, evaluate};
 use load_memory::Memory;
 use load_queue::Wants;
 use std::alloc::Global;
 use world::World;
 
 /// The keys that are wanted of each of so many loaders.
-fn wanted(alloc: Global, world: &World, loaders: usize, wants: &Wants) -> Result<String>
+pub fn wanted(alloc: Global, world: &World, loaders: usize, wants: &Wants) -> Result<String>
     requires { loaders ≤ length wants.now }
 {
     let mut text = String::from_str(alloc, "waits for")?;
@@ -47,7 +47,8 @@ fn written(alloc: Global, world: &World, plan: &Plan<'_>, memory: &Memory) -> Re
     requires { length (plan_of plan.now).bindings.loaders ≤ length memory.now.modes }
 {
     let mut wants = Wants::new(alloc, memory)?;
-    match execute_text(alloc, plan, memory, &mut wants)? {
+    let mut state = RootState::new(plan);
+    match state.poll_text(alloc, memory, &mut wants)? {
         Poll::Ready(text) => Ok(text),
         Poll::Pending => wanted(alloc, world, memory.modes().len(), &wants),
     }

@@ -9,6 +9,7 @@ mod known;
 mod lines;
 mod logs;
 mod manner;
+mod resumed;
 mod sources;
 mod told;
 mod ways;

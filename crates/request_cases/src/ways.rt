@@ -1,14 +1,14 @@
-//! Answers of new sessions in turn, in rounds by hand and by an executor.
+//! Answers of new sessions in turn, in rounds by hand, over executions that go on, and by an executor.
 
 ghost use Rattle.std.specs.Prelude.{◌≤◌, length, IfOk};
 ghost use Rattle.load_rounds.specs.Sessions.{state_of};
 ghost use Rattle.load_rounds.specs.Headline.{Answers};
 
 use crate::by_hand::{Noted, answered};
-use crate::known;
 use crate::logs::{asked, counted};
 use crate::manner::Manner;
 use crate::sources::{CountingSource, counters, session};
+use crate::{known, resumed};
 use anyhow::{Result, bail};
 use futures::executor::block_on;
 use gq_check::Plan;
@@ -93,6 +93,23 @@ fn by_hand<R: Wait + AllocGlobal>(
     told(alloc, Ok(answer), &session, &counters)
 }
 
+/// What is told of an answer in rounds over executions that go on.
+fn resumed<R: Wait + AllocGlobal>(
+    rt: &R,
+    world: &World,
+    plan: &Plan<'_>,
+    manner: &Manner<'_>,
+) -> Result<String> {
+    let alloc = rt.alloc();
+    let counters = counters(alloc, world)?;
+    let mut session = session(alloc, world, &counters, manner)?;
+    if session.loaders().len() < plan.loaders() {
+        bail!("too few loaders");
+    }
+    let answer = resumed::answered(rt, world, plan, &mut session)?;
+    told(alloc, Ok(answer), &session, &counters)
+}
+
 /// An executor gives what the contract of `answer` says.
 fn blocked_on<'p, S: Asks + Drop, P: Execute<'p> + Drop, R: Wait + RandomSource + AllocGlobal>(
     rt: &R,
@@ -139,6 +156,10 @@ pub fn answer_told<R: Wait + RandomSource + AllocGlobal>(
     let other = by_hand(rt, world, plan, manner)?;
     if other != told {
         bail!("by hand {other}");
+    }
+    let other = resumed(rt, world, plan, manner)?;
+    if other != told {
+        bail!("going on {other}");
     }
     Ok(told)
 }

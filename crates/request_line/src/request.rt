@@ -1,23 +1,14 @@
 //! Requests.
 
-ghost use Rattle.std.specs.Prelude.{◌≡◌, ℕ, List, Option, IfOk, MatchOption, IsUtf8, option_map, codes, Some, None};
+ghost use Rattle.std.specs.Prelude.{◌≡◌, option_map, codes};
 ghost use Rattle.serde_json.specs.View.{view};
-ghost use Rattle.serde_json.specs.Read.{read};
 ghost use Rattle.serde_json.specs.Find.{get, as_str};
-ghost use Rattle.request_line.specs.Requests.{RequestOf, asked, name_of};
+ghost use Rattle.request_line.specs.Requests.{asked, name_of};
 ghost use Rattle.request_line.specs.Seen.{request_of};
 
 use serde_json::Value;
-use serde_json::error::Category;
-use std::alloc::Global;
-use thiserror::Error;
 
-/// Out of memory.
-#[derive(Clone, Copy, Debug, PartialEq, Eq, Error)]
-#[error("out of memory")]
-pub struct NoMemory;
-
-/// A request, whose parts lie in the value that it was read from.
+/// A request, whose parts lie in what it was read from.
 #[derive(Clone, Copy)]
 pub struct Request<'v> {
     /// A GraphQL document.
@@ -26,28 +17,6 @@ pub struct Request<'v> {
     pub operation_name: Option<&'v str>,
     /// The variables as they were given, of whatever kind of value.
     pub variables: Option<&'v Value>,
-}
-
-/// The value that a line is. `None` is no JSON text: not UTF-8, or not read by `serde_json`, which refuses more than 127
-/// levels of nesting, numbers beyond a float's range, lone surrogate escapes and a byte order mark.
-///
-/// # Errors
-///
-/// Only when out of memory.
-pub fn read_value(alloc: Global, line: &[u8]) -> Result<Option<Value>, NoMemory>
-    ensures { IfOk result (λ r. MatchOption r (IsUtf8 line.now → read line.now ≡ None)
-        (λ value. IsUtf8 line.now × (read line.now ≡ Some (view value)))) }
-{
-    match Value::from_slice(alloc, line) {
-        Ok(value) => Ok(Some(value)),
-        Err(error) => {
-            if error.classify() == Category::Memory {
-                Err(NoMemory)
-            } else {
-                Ok(None)
-            }
-        }
-    }
 }
 
 // The name of the operation: none where it is not given or null, and no request where it is no string.

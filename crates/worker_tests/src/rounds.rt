@@ -2,6 +2,7 @@
 
 ghost use Rattle.std.specs.Prelude.{◌≤◌, ◌<◌, All, length};
 ghost use Rattle.load_memory.specs.Shelves.{IsOn};
+ghost use Rattle.gq_check.specs.Plans.{plan_of as plan_seen};
 
 use crate::expect;
 use crate::probe::{Board, Manner, Probe};
@@ -81,6 +82,19 @@ fn first_round<'p, S: Source, P: Execute<'p>, R: Threads + Wait + AllocGlobal + 
     Ok(told)
 }
 
+/// What [`first_round`] tells of a plan, over whatever sources.
+fn plan_round<S: Source, R: Threads + Wait + AllocGlobal + Sync>(
+    rt: &R,
+    session: &mut Session<S>,
+    plan: &Plan<'_>,
+    workers: usize,
+) -> Result<String, Fail>
+    requires loaders { length (plan_seen plan.now).bindings.loaders ≤ length session.old.loaders }
+    requires count { (0 < workers) × (workers ≤ 16) }
+{
+    first_round(rt, session, plan, workers)
+}
+
 /// What is told of the first round of a query by two workers, by sixteen, and how many keys are known then, and how many calls were
 /// made of the sources.
 fn round_told<R: Threads + Wait + AllocGlobal + Sync>(
@@ -99,7 +113,7 @@ fn round_told<R: Threads + Wait + AllocGlobal + Sync>(
     if session.loaders().len() < plan.loaders() {
         return Err(Fail::from("too few loaders"));
     }
-    let told = first_round(rt, &mut session, &plan, workers)?;
+    let told = plan_round(rt, &mut session, &plan, workers)?;
     Ok(format!(in rt.alloc();
         "{told} {} known, {} calls",
         session.memory().len(),

@@ -1,17 +1,15 @@
 -- What a request asks, from its parts.
-use Rattle.std.proofs.Common.{◌≡◌, ℕ, false, List, Option, Some, None, refl, sym, ap, subst, ◌∙◌}
+use Rattle.std.proofs.Common.{◌≡◌, ℕ, false, List, Option, Some, None, sym, ap, subst, ◌∙◌}
 use Rattle.std.specs.Borrow.{Bor}
-use Rattle.std.specs.Option.{option_map, option_and_then, unwrap_or}
-use Rattle.std.specs.Prelude.{IsUtf8}
+use Rattle.std.specs.Option.{option_map, unwrap_or}
 use Rattle.serde_json.specs.Data.{Data, null}
-use Rattle.serde_json.specs.Read.{read}
 use Rattle.serde_json.specs.View.{view, view_step}
 use Rattle.serde_json.specs.declared.value.Value.{Value, fold-roll-Value}
 use Rattle.serde_json.specs.declared.value.Value.TheOpen.{Value-F}
 use Rattle.serde_json.specs.declared.value.Value.TheVariants as value
 use Rattle.gq_schema.specs.Types.{tree_of}
 use Rattle.gq_check.specs.Plans.{PlanParts, plan_of}
-use Rattle.request_line.specs.Requests.{RequestOf, IsRequest, asked}
+use Rattle.request_line.specs.Requests.{RequestOf, IsRequest}
 use Rattle.world.specs.declared.request.RequestFault.{RequestFault}
 use Rattle.world.specs.Requests.{IsPlanOf, IsRequestFault, is_want_of_memory, request_message, request_place}
 use Rattle.world.specs.Worlds.{WorldOf}
@@ -36,9 +34,6 @@ pub faulty-text : (w : WorldOf) (r : RequestOf) (fault : RequestFault) (given : 
     → is_want_of_memory fault ≡ false → text ≡ refusal_text (request_message fault) (request_place fault) → AnswersRequest w r text
 faulty-text w r fault given text v is some told =
     faulty (record { told = some; faulty = subst (λ z. IsRequestFault (tree_of w.definitions) r.query r.operation_name z fault) v is }) told
-
-pub request-read : (line : List ℕ) (d : Data) (r : RequestOf) → IsUtf8 line → read line ≡ Some d → Some r ≡ asked d → IsRequest line r
-request-read line d r text reads asks = record { text = text; members = ap (option_and_then asked) reads ∙ sym asks }
 
 -- what a line that is this request asks
 pub line-planned : (w : WorldOf) (bytes : List ℕ) (r : RequestOf) (plan : LinePlan) → IsRequest bytes r → PlansRequest w r plan → PlansLine w bytes plan

@@ -9,7 +9,7 @@ ghost use Rattle.world_answers.specs.Planning.{PlansRequest, PlansLine};
 use answer_json::write_refusal;
 use gq_check::Plan;
 use line_serving::NoMemory;
-use request_line::{Request, read_value};
+use request_line::{LineReader, Request};
 use serde_json::Value;
 use std::alloc::Global;
 use world::{RequestFault, World};
@@ -72,19 +72,17 @@ fn plan_request<'w>(
 /// # Errors
 ///
 /// Only when out of memory.
+#[inline(never)]
 pub fn plan_line<'w>(alloc: Global, world: &'w World, line: &[u8]) -> Result<LinePlan<'w>, NoMemory>
     ensures { IfOk result (PlansLine world.now line.now) }
 {
-    let Ok(value) = read_value(alloc, line) else {
-        return Err(NoMemory);
-    };
-    if let Some(value) = value {
-        if let Some(request) = Request::of_value(&value) {
-            return plan_request(alloc, world, &request);
-        }
-    }
-    match not_a_request(alloc) {
-        Ok(text) => Ok(LinePlan::Refused(text)),
-        Err(want) => Err(want),
+    let mut lines = LineReader::new(alloc);
+    match lines.read(alloc, line) {
+        Ok(Some(request)) => plan_request(alloc, world, &request),
+        Ok(None) => match not_a_request(alloc) {
+            Ok(text) => Ok(LinePlan::Refused(text)),
+            Err(want) => Err(want),
+        },
+        Err(_) => Err(NoMemory),
     }
 }

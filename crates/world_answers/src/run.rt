@@ -11,7 +11,7 @@ ghost use Rattle.world_answers.specs.Run.{empty_world};
 
 use crate::planning::{LinePlan, not_a_request, refusal};
 use line_serving::NoMemory;
-use request_line::{Request, read_value};
+use request_line::{LineReader, Request};
 use serde_json::Value;
 use std::alloc::Global;
 use std::marker::{Brand, Model, PhantomData};
@@ -27,14 +27,14 @@ impl Served for Brand {
     ghost world = { empty_world };
 }
 
-/// Kept documents over the world of a run.
+// Kept documents over the world of a run.
 #[derive(Drop)]
-pub struct RunDocuments<'w, B: Served> {
+struct WorldDocuments<'w, B: Served> {
     kept: KeptDocuments<'w>,
     of: PhantomData<B>,
 }
 
-impl<'w, B: Served> Model for RunDocuments<'w, B> {
+impl<'w, B: Served> Model for WorldDocuments<'w, B> {
     ghost use Rattle.std.specs.Prelude.{◌≡◌};
     ghost use Rattle.std.specs.Coded.{codes};
     ghost use Rattle.gq_parser.specs.contracts.tree.TypeRef as type_ref;
@@ -50,19 +50,18 @@ impl<'w, B: Served> Model for RunDocuments<'w, B> {
     ghost invariant = { λ d. d.kept.world ≡ B.world };
 }
 
-impl<'w, B: Served> RunDocuments<'w, B> {
-    /// No documents yet.
-    pub fn new(alloc: Global, world: &'w World) -> RunDocuments<'w, B>
+impl<'w, B: Served> WorldDocuments<'w, B> {
+    // No documents yet.
+    fn new(alloc: Global, world: &'w World) -> WorldDocuments<'w, B>
         requires { world.now ≡ B.world }
     {
-        RunDocuments {
+        WorldDocuments {
             kept: KeptDocuments::new(alloc, world),
             of: PhantomData,
         }
     }
 
-    /// The world of the run.
-    pub fn world(&self) -> &'w World
+    fn world(&self) -> &'w World
         ensures { result.now ≡ B.world }
     {
         self.kept.world()
@@ -107,6 +106,45 @@ impl<'w, B: Served> RunDocuments<'w, B> {
             },
         }
     }
+}
+
+/// Kept documents over the world of a run, and what reads its lines.
+#[derive(Drop)]
+pub struct RunDocuments<'w, B: Served> {
+    documents: WorldDocuments<'w, B>,
+    lines: LineReader,
+}
+
+impl<'w, B: Served> Model for RunDocuments<'w, B> {
+    ghost use Rattle.std.specs.Coded.{codes};
+    ghost use Rattle.gq_parser.specs.contracts.tree.TypeRef as type_ref;
+    ghost use Rattle.gq_parser.specs.contracts.tree.Literal as literal;
+    ghost use Rattle.world.specs.Keeping.{KeepingOf};
+
+    ghost Value = { KeepingOf };
+
+    ghost coded = { Prim.hlevel (codes, type_ref.the_row.coded, literal.the_row.coded) };
+
+    ghost view = { λ d. d.documents };
+}
+
+impl<'w, B: Served> RunDocuments<'w, B> {
+    /// No documents yet.
+    pub fn new(alloc: Global, world: &'w World) -> RunDocuments<'w, B>
+        requires { world.now ≡ B.world }
+    {
+        RunDocuments {
+            documents: WorldDocuments::new(alloc, world),
+            lines: LineReader::new(alloc),
+        }
+    }
+
+    /// The world of the run.
+    pub fn world(&self) -> &'w World
+        ensures { result.now ≡ B.world }
+    {
+        self.documents.world()
+    }
 
     /// What a line asks over the world of the run, as [`plan_line`](crate::plan_line) returns it. A query that is kept is neither
     /// parsed nor checked again.
@@ -117,17 +155,13 @@ impl<'w, B: Served> RunDocuments<'w, B> {
     pub fn plan_line(&mut self, alloc: Global, line: &[u8]) -> Result<LinePlan<'_>, NoMemory>
         ensures { IfOk result (PlansLine B.world line.now) }
     {
-        let Ok(value) = read_value(alloc, line) else {
-            return Err(NoMemory);
-        };
-        if let Some(value) = value {
-            if let Some(request) = Request::of_value(&value) {
-                return self.plan_request(alloc, &request);
-            }
-        }
-        match not_a_request(alloc) {
-            Ok(text) => Ok(LinePlan::Refused(text)),
-            Err(want) => Err(want),
+        match self.lines.read(alloc, line) {
+            Ok(Some(request)) => self.documents.plan_request(alloc, &request),
+            Ok(None) => match not_a_request(alloc) {
+                Ok(text) => Ok(LinePlan::Refused(text)),
+                Err(want) => Err(want),
+            },
+            Err(_) => Err(NoMemory),
         }
     }
 }

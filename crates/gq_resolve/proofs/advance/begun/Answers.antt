@@ -1,4 +1,4 @@
-use Rattle.std.proofs.Common.{◌≡◌, ℕ, ◌∙◌, ap, sym, List}
+use Rattle.std.proofs.Common.{◌≡◌, ℕ, ◌∙◌, ap, sym, subst, List}
 use Rattle.gq_parser.specs.declared.tree.SelectionSet.{SelectionSet}
 use Rattle.gq_parser.specs.declared.tree.Operation.{Operation}
 use Rattle.gq_parser.specs.Tree.{Selections, set_of, map_selections}
@@ -6,11 +6,12 @@ use Rattle.gq_parser.proofs.Views.{of_set}
 use Rattle.schema_syntax.specs.declared.tree.Definition.{Definition}
 use Rattle.gq_schema.specs.Types.{tree_of, root_in}
 use Rattle.gq_check.specs.Plans.{PlanOf, plan_of}
-use Rattle.plan_program.specs.Asked.{all_prepared}
+use Rattle.plan_program.specs.Asked.{PreparedOf, all_prepared}
 use Rattle.plan_program.specs.Groups.{selections_in, collect}
 use Rattle.plan_program.specs.Prepared.{all_prepared_seen}
 use Rattle.plan_program.specs.PlanPrograms.{root_prepared}
-use Rattle.gq_resolve.proofs.Polling.{begun-rooted}
+use Rattle.gq_resolve.specs.Groups.{AreMade}
+use Rattle.gq_resolve.proofs.Advancing.{begun-rooted}
 use Rattle.gq_resolve.proofs.advance.begun.Goals as goal
 
 pub returns : goal.returns
@@ -24,5 +25,4 @@ returns c =
     let ps : all_prepared_seen c.in_ok-all.all.items ≡ root_prepared plan =
     c.in_ok-all.ensures ∙ ap (all_prepared plan c.root-ty.result.now) (c.in_ok-collected.ensures ∙ ap (collect plan c.root-ty.result.now) ss)
     ∙ ap (λ (ty : List ℕ). all_prepared plan ty (collect plan ty chosen)) root in
-    let made = begun-rooted plan c.new-groups.result.items _ c.in_ok-members.members.items (all_prepared_seen c.in_ok-all.all.items) c.new-groups.ensures.items ps c.in_ok-members.ensures in
-    record { root = made.0; right = made.1 }
+    begun-rooted plan _ c.new-groups.result.items c.new-groups.ensures.items (rw (← ps) c.in_ok-members.ensures)

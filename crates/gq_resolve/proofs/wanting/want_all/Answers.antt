@@ -1,7 +1,6 @@
 use Rattle.gq_resolve.specs.Evaluated.{AddsPart}
 use Rattle.gq_resolve.specs.Suspended.{loads_of}
-use Rattle.gq_resolve.proofs.Evaluating.{on_err}
-use Rattle.gq_resolve.proofs.LoadsAdded.{added-none, added-more, added-part}
+use Rattle.gq_resolve.proofs.Evaluating.{on_err, added-none, added-more, added-part}
 use Rattle.gq_resolve.proofs.wanting.want_all.Goals as goal
 
 pub returns-in_err-want-clause-part : goal.returns-in_err-want-clause-part

@@ -1,4 +1,4 @@
-use Rattle.gq_resolve.proofs.LoadsAdded.{AreAdded}
+use Rattle.gq_resolve.proofs.Evaluating.{AreAdded}
 use Rattle.gq_resolve.proofs.wanting.want_each.Given as goal
 
 abbrev pub invariant-loop-position : goal.invariant-loop-position

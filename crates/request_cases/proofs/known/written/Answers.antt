@@ -1,15 +1,16 @@
-use Rattle.std.proofs.Common.{◌≡◌, ◌∙◌, ap, subst, List, length, arith}
+use Rattle.std.proofs.Common.{◌≡◌, ◌∙◌, ap, sym, subst, List, length, arith}
 use Rattle.load_memory.specs.Pairs.{MemoryOf}
 use Rattle.load_queue.specs.Wanted.{WantedOf}
 use Rattle.execution.specs.Program.{Program}
 use Rattle.execution.specs.Front.{modes_wanted}
 use Rattle.futures.specs.declared.task.Poll.{Poll}
 use Rattle.futures.specs.declared.task.Poll.TheVariants.{Pending}
-use Rattle.gq_check.specs.Plans.{plan_of}
+use Rattle.gq_check.specs.Plans.{PlanOf}
 use Rattle.plan_program.specs.PlanPrograms.{plan_program}
 use Rattle.std.specs.Prelude.{String}
 use Rattle.std.specs.declared.alloc.Global.{Global}
-use Rattle.gq_resolve.specs.Evaluated.{IsWritten, front_over}
+use Rattle.gq_resolve.specs.Evaluated.{IsWritten, CanEvaluate, front_over}
+use Rattle.gq_resolve.specs.Suspended.{plan_in}
 use Rattle.request_cases.proofs.Fresh.{fresh-modes, fresh-length, wanting-length}
 use Rattle.request_cases.proofs.known.written.Goals as goal
 
@@ -18,12 +19,16 @@ pending-length old new p m polled h e =
     let P : Poll (String Global) → Type 0 = λ q. IsWritten old new p m q in
     ap length (subst P e h).1 ∙ wanting-length old (front_over m p)
 
-pub execute_text-requires : goal.execute_text-requires
-execute_text-requires c = record { loaders = c.requires; modes = ap modes_wanted c.in_ok-wants.ensures ∙ fresh-modes c.args.memory.now.modes }
+pub poll_text-requires : goal.poll_text-requires
+poll_text-requires c = subst (λ (plan : PlanOf). CanEvaluate plan c.args.memory.now c.in_ok-wants.wants) (sym c.new-state.ensures.plan) (record {
+  loaders = c.requires;
+  modes = ap modes_wanted c.in_ok-wants.ensures ∙ fresh-modes c.args.memory.now.modes;
+})
 
 pub wanted-requires : goal.wanted-requires
 wanted-requires c =
-    let more = pending-length c.in_ok-wants.wants c.execute_text.new.wants (plan_program (plan_of c.args.plan.now)) c.args.memory.now c.in_ok-text.field-0 c.in_ok-text.ensures.ok c.in-Pending.is in
+    let done = c.in_ok-text.ensures.ok (c.new-state.ensures.fits c.args.memory.now) in
+    let more = pending-length c.in_ok-wants.wants c.poll_text.new.wants (plan_program (plan_in c.new-state.result)) c.args.memory.now c.in_ok-text.field-0 done c.in-Pending.is in
     let own = ap length c.in_ok-wants.ensures ∙ fresh-length c.args.memory.now.modes in
     let seen = ap length c.modes.ensures in
     omega (arith, more, own, seen)

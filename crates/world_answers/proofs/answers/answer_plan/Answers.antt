@@ -1,4 +1,4 @@
-use Rattle.std.proofs.Common.{string_bytes}
+use Rattle.std.proofs.Common.{string_bytes, refl}
 use Rattle.gq_check.specs.Plans.{plan_of}
 use Rattle.load_rounds.specs.Sessions.{state_of}
 use Rattle.world_answers.proofs.Direct.{answer-anew}
@@ -6,7 +6,7 @@ use Rattle.world_answers.proofs.Loading.{enough}
 use Rattle.world_answers.proofs.answers.answer_plan.Goals as goal
 
 pub answer-requires : goal.answer-requires
-answer-requires c = enough c.args.world.now c.in-Ok.session (plan_of c.args.plan.now).bindings c.requires c.in-Ok.ensures.each c.in-Ok.ensures.opened
+answer-requires c = λ κs. ((refl, tt), enough c.args.world.now c.in-Ok.session (plan_of c.args.plan.now).bindings c.requires c.in-Ok.ensures.each c.in-Ok.ensures.opened)
 
 pub returns-in-Ok-answer-clause-anew : goal.returns-in-Ok-answer-clause-anew
 returns-in-Ok-answer-clause-anew c =

@@ -1,78 +1,13 @@
-use Rattle.std.proofs.Common.{List, length, refl, sym, ap, subst}
 use Rattle.load_memory.specs.Pairs.{MemoryOf}
-use Rattle.execution.specs.Loads.{Load}
-use Rattle.execution.specs.Program.{needs}
-use Rattle.execution.specs.Front.{missing}
 use Rattle.gq_check.specs.Plans.{PlanOf, plan_of}
-use Rattle.plan_program.specs.PlanPrograms.{plan_program}
 use Rattle.gq_resolve.specs.Answered.{answered_of}
-use Rattle.gq_resolve.specs.Evaluated.{reader, AddsPart}
-use Rattle.gq_resolve.specs.Suspended.{FitsStopped, Advanced}
-use Rattle.gq_resolve.specs.declared.output.Blocked.{Blocked}
-use Rattle.gq_resolve.proofs.Advancing.{part-wanted}
-use Rattle.gq_resolve.proofs.Evaluating.{no-items, nothing-added, on_err}
-use Rattle.gq_resolve.proofs.Polling.{still-fits, none-fits, answer-done, front-added}
+use Rattle.gq_resolve.proofs.Polling.{answer-done}
 use Rattle.gq_resolve.proofs.root_state.RootStateResolve.poll.Goals as goal
 
-pub returns-in_err-rooted-clause-err : goal.returns-in_err-rooted-clause-err
-returns-in_err-rooted-clause-err c = λ fits.
+pub returns-in-Some-clause-ok : goal.returns-in-Some-clause-ok
+returns-in-Some-clause-ok c = λ fits.
     let plan : PlanOf = plan_of c.args.self.now.plan.now in
     let m : MemoryOf = c.args.memory.now in
-    let loads : List Load = missing (reader m) (needs (plan_program plan) (reader m)) in
-    on_err {P = AddsPart c.args.wants.now c.args.wants.now loads} _ (nothing-added c.args.wants.now loads)
-
-pub returns-in_err-rooted-clause-grown : goal.returns-in_err-rooted-clause-grown
-returns-in_err-rooted-clause-grown c = λ n fits grown.
-    none-fits (plan_of c.args.self.now.plan.now) n c.take.new.self c.take.ensures.after
-
-pub returns-in_err-waiting-clause-err : goal.returns-in_err-waiting-clause-err
-returns-in_err-waiting-clause-err c = λ fits.
-    let plan : PlanOf = plan_of c.args.self.now.plan.now in
-    let m : MemoryOf = c.args.memory.now in
-    let loads : List Load = missing (reader m) (needs (plan_program plan) (reader m)) in
-    let advanced : Advanced plan m c.in_ok-rooted.rooted c.in_ok-rooted.out = c.in_ok-rooted.ensures (subst (FitsStopped plan m) (sym c.take.ensures.value) fits) in
-    on_err {P = AddsPart c.args.wants.now c.wanted.new.wants loads} _
-    (part-wanted plan m c.in_ok-rooted.rooted c.in_ok-rooted.out c.args.wants.now c.wanted.new.wants c.requires.loaders advanced c.in_err-waiting.ensures.part)
-
-pub returns-in_err-waiting-clause-grown : goal.returns-in_err-waiting-clause-grown
-returns-in_err-waiting-clause-grown c = λ n fits grown.
-    none-fits (plan_of c.args.self.now.plan.now) n c.take.new.self c.take.ensures.after
-
-pub returns-then-not-is_empty-clause-ok : goal.returns-then-not-is_empty-clause-ok
-returns-then-not-is_empty-clause-ok c = λ fits.
-    let plan : PlanOf = plan_of c.args.self.now.plan.now in
-    let m : MemoryOf = c.args.memory.now in
-    let advanced : Advanced plan m c.in_ok-rooted.rooted c.in_ok-rooted.out = c.in_ok-rooted.ensures (subst (FitsStopped plan m) (sym c.take.ensures.value) fits) in
-    front-added plan m c.args.wants.now c.wanted.new.wants c.in_ok-rooted.rooted c.in_ok-rooted.out c.requires advanced
-    (λ none. cc (c.if-not-is_empty.ensures.1 (ap (λ (bs : List Blocked). length bs) none))) c.in_ok-waiting.ensures.ok
-
-pub returns-then-not-is_empty-clause-grown : goal.returns-then-not-is_empty-clause-grown
-returns-then-not-is_empty-clause-grown c = λ n fits grown.
-    let plan : PlanOf = plan_of c.args.self.now.plan.now in
-    let m : MemoryOf = c.args.memory.now in
-    let advanced : Advanced plan m c.in_ok-rooted.rooted c.in_ok-rooted.out = c.in_ok-rooted.ensures (subst (FitsStopped plan m) (sym c.take.ensures.value) fits) in
-    still-fits plan m n c.in_ok-rooted.rooted c.in_ok-rooted.out c.in_ok-rooted.out.blocked c.in_ok-waiting.waiting advanced refl c.in_ok-waiting.ensures.kept grown
-
-pub returns-in_err-responded-clause-err : goal.returns-in_err-responded-clause-err
-returns-in_err-responded-clause-err c = λ fits.
-    let plan : PlanOf = plan_of c.args.self.now.plan.now in
-    let m : MemoryOf = c.args.memory.now in
-    let loads : List Load = missing (reader m) (needs (plan_program plan) (reader m)) in
-    on_err {P = AddsPart c.args.wants.now c.args.wants.now loads} _ (nothing-added c.args.wants.now loads)
-
-pub returns-in_err-responded-clause-grown : goal.returns-in_err-responded-clause-grown
-returns-in_err-responded-clause-grown c = λ n fits grown.
-    none-fits (plan_of c.args.self.now.plan.now) n c.take.new.self c.take.ensures.after
-
-pub returns-clause-ok : goal.returns-clause-ok
-returns-clause-ok c = λ fits.
-    let plan : PlanOf = plan_of c.args.self.now.plan.now in
-    let m : MemoryOf = c.args.memory.now in
-    let advanced : Advanced plan m c.in_ok-rooted.rooted c.in_ok-rooted.out = c.in_ok-rooted.ensures (subst (FitsStopped plan m) (sym c.take.ensures.value) fits) in
-    let none = no-items c.in_ok-rooted.out.blocked.keys (c.if-not-is_empty.ensures.0 refl) in
-    let done = answer-done plan m c.args.wants.now c.in_ok-rooted.rooted c.in_ok-rooted.out (answered_of c.in_ok-responded.field-0) c.requires advanced none (c.in_ok-responded.ensures advanced.rooted) in
-    (done.0, done.1, refl)
-
-pub returns-clause-grown : goal.returns-clause-grown
-returns-clause-grown c = λ n fits grown.
-    none-fits (plan_of c.args.self.now.plan.now) n c.take.new.self c.take.ensures.after
+    let far = rw c.in-Some.is at (c.in_ok-rooted.ensures.ok fits) in
+    let done = answer-done plan m c.args.wants.now _ c.requires far.0 (answered_of c.in_ok-responded-in-Some.field-0) far.1 (c.in_ok-responded-in-Some.ensures far.0.goes_on.rooted) in
+    (done.0, done.1, far.2)

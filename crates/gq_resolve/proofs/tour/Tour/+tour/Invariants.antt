@@ -8,7 +8,7 @@ use Rattle.plan_program.specs.PlanPrograms.{read_cell, read_if}
 use Rattle.gq_resolve.specs.Puts.{View}
 use Rattle.gq_resolve.specs.Spots.{onward_of, second_of}
 use Rattle.gq_resolve.specs.Groups.{AreKnown}
-use Rattle.gq_resolve.specs.States.{told}
+use Rattle.gq_resolve.specs.Evaluated.{told}
 use Rattle.gq_resolve.specs.Walks.{Goes}
 use Rattle.gq_resolve.proofs.Touring.{fields_put, items_put}
 use Rattle.gq_resolve.proofs.tour.Tour.+tour.Given as goal

@@ -1,0 +1,102 @@
+//! Executions that go on from round to round, beside evaluations from scratch over what is known in each round.
+
+ghost use Rattle.std.specs.Prelude.{◌≡◌, ◌≤◌, length, OnOk};
+ghost use Rattle.load_memory.specs.Pairs.{MemoryOf};
+ghost use Rattle.gq_check.specs.Plans.{plan_of};
+ghost use Rattle.gq_resolve.specs.Evaluated.{GrowsTo};
+ghost use Rattle.gq_resolve.specs.Suspended.{plan_in, FitsMemory};
+
+use crate::by_hand::received;
+use crate::known;
+use crate::logs::push_keys;
+use anyhow::{Result, bail};
+use futures::task::Poll;
+use gq_check::Plan;
+use gq_resolve::{Resolve, RootState, answer_text};
+use load_memory::{Memory, Shelf};
+use load_queue::{Asks, Order, Wants};
+use load_rounds::{Answer, Execute, Next, Session};
+use std::alloc::{AllocGlobal, Global};
+use std::sync::Wait;
+use world::World;
+
+/// What an execution that goes on gives: the answer of its plan, or what it waits for.
+fn polled(
+    alloc: Global,
+    world: &World,
+    state: &mut RootState<'_, '_>,
+    memory: &Memory,
+) -> Result<String>
+    requires loaders { length (plan_in state.old).bindings.loaders ≤ length memory.now.modes }
+    requires fits { FitsMemory state.old memory.now }
+    ensures fits { OnOk result ((m : MemoryOf) → GrowsTo memory.now m → FitsMemory state.new m) }
+    ensures same_plan { plan_in state.new ≡ plan_in state.old }
+{
+    let mut wants = Wants::new(alloc, memory)?;
+    match state.poll(alloc, memory, &mut wants)? {
+        Poll::Ready(answered) => Ok(answer_text(alloc, &answered)?),
+        Poll::Pending => known::wanted(alloc, world, memory.modes().len(), &wants),
+    }
+}
+
+/// What orders ask for, in the words in which an execution waits for it.
+fn ordered(alloc: Global, world: &World, orders: &[Order]) -> Result<String> {
+    let mut text = String::from_str(alloc, "waits for")?;
+    let mut last = None;
+    for order in orders {
+        if last == Some(order.loader()) {
+            text.push(' ')?;
+        } else {
+            text.push_str(if last.is_some() { "]" } else { "" })?;
+            let name = match world.bindings().loaders().get(order.loader()) {
+                Some(line) => line.name.as_str(),
+                None => "?",
+            };
+            write!(text, " {name} [")?;
+        }
+        push_keys(&mut text, order.keys())?;
+        last = Some(order.loader());
+    }
+    text.push(']')?;
+    Ok(text)
+}
+
+/// Answers a plan in rounds over executions that are kept through them. In each round they have to answer, or to wait for,
+/// what an evaluation from scratch does.
+pub fn answered<S: Asks, R: Wait + AllocGlobal>(
+    rt: &R,
+    world: &World,
+    plan: &Plan<'_>,
+    session: &mut Session<S>,
+) -> Result<Answer>
+    requires { length (plan_of plan.now).bindings.loaders ≤ length session.old.loaders }
+{
+    let alloc = rt.alloc();
+    let mut run = session.begin(plan)?;
+    let mut written = plan.start();
+    let mut built = RootState::new(plan);
+    loop {
+        let anew = known::told(alloc, world, plan, session.memory())?;
+        let kept = polled(alloc, world, &mut built, session.memory())?;
+        if kept != anew {
+            bail!("anew {anew}, going on {kept}");
+        }
+        match run.resume(session, &mut written)? {
+            Next::Finished(answer) => {
+                if answer.text != anew {
+                    bail!("anew {anew}, at last {}", answer.text);
+                }
+                return Ok(answer);
+            }
+            Next::Round(orders) => {
+                let asked = ordered(alloc, world, orders.as_slice())?;
+                if asked != anew {
+                    bail!("anew {anew}, in a round {asked}");
+                }
+                let shelf = Shelf::new(alloc)?;
+                let receipts = received(rt, orders, session.loaders(), &shelf)?;
+                run.take(session, &shelf, receipts.as_slice())?;
+            }
+        }
+    }
+}

@@ -1,0 +1,12 @@
+use Rattle.std.proofs.Common.{◌≡◌, ℕ, ◌≤◌, length}
+use Rattle.json.specs.Json.{members, value}
+use Rattle.serde_json.specs.Data.{Members, no_members}
+use Rattle.request_line.specs.Plain.{other_members, object_with, Says}
+use Rattle.request_line.proofs.plain.read_members.Given as goal
+
+abbrev pub invariant-loop-member : goal.invariant-loop-member
+invariant-loop-member l =
+    (n : ℕ) × (length l.reader ≤ n) × (found : Members) × Says found l.parts × (object_with no_members (other_members l.initial.reader) ≡ object_with found (members (value 126) n l.reader))
+
+abbrev pub decreases-loop-member : goal.decreases-loop-member
+decreases-loop-member l = length l.reader

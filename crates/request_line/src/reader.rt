@@ -1,0 +1,132 @@
+//! Reading request lines, one after another.
+
+ghost use Rattle.std.specs.Prelude.{◌≡◌, None, Some, IfOk, IfSome, MatchOption, IsUtf8};
+ghost use Rattle.serde_json.specs.View.{view};
+ghost use Rattle.serde_json.specs.Read.{read};
+ghost use Rattle.request_line.specs.Seen.{IsReading};
+
+use crate::plain::read_plain;
+use crate::request::Request;
+use json::Scratch;
+use memchr::memmem;
+use serde_json::Value;
+use serde_json::error::Category;
+use std::alloc::Global;
+use std::str;
+use thiserror::Error;
+
+/// Out of memory.
+#[derive(Clone, Copy, Debug, PartialEq, Eq, Error)]
+#[error("out of memory")]
+pub struct NoMemory;
+
+// The value that a line is. `None` is no JSON text: not UTF-8, or not read by `serde_json`, which refuses more than 127 levels
+// of nesting, numbers beyond a float's range, lone surrogate escapes and a byte order mark.
+fn read_value(alloc: Global, line: &[u8]) -> Result<Option<Value>, NoMemory>
+    ensures { IfOk result (λ r. MatchOption r (IsUtf8 line.now → read line.now ≡ None)
+        (λ value. IsUtf8 line.now × (read line.now ≡ Some (view value)))) }
+{
+    match Value::from_slice(alloc, line) {
+        Ok(value) => Ok(Some(value)),
+        Err(error) => {
+            if error.classify() == Category::Memory {
+                Err(NoMemory)
+            } else {
+                Ok(None)
+            }
+        }
+    }
+}
+
+// The request of a line that has no variables, as [`read_plain`] returns it.
+fn read_plain_line<'l>(
+    line: &'l [u8],
+    scratch: &'l mut Scratch,
+) -> Result<Option<Option<Request<'l>>>, NoMemory>
+    ensures { IfOk result (λ read. IfSome read (IsReading line.now)) }
+{
+    // A line with variables is left to `serde_json` before any of it is read.
+    if memmem::find(line, b"\"variables\"").is_some() {
+        return Ok(None);
+    }
+    match str::from_utf8(line) {
+        Ok(text) => match read_plain(text, scratch) {
+            Ok(read) => Ok(read),
+            Err(_) => Err(NoMemory),
+        },
+        Err(_) => Ok(None),
+    }
+}
+
+// The request of a line, whose value is put into `value`. The index of a text stands in its frame, and in no other.
+#[inline(never)]
+fn read_as_value<'l>(
+    alloc: Global,
+    line: &[u8],
+    value: &'l mut Value,
+) -> Result<Option<Request<'l>>, NoMemory>
+    ensures { IfOk result (IsReading line.now) }
+{
+    match read_value(alloc, line) {
+        Ok(Some(read)) => {
+            *value = read;
+            Ok(Request::of_value(value))
+        }
+        Ok(None) => Ok(None),
+        Err(want) => Err(want),
+    }
+}
+
+// The request of a line, which is read without a value if it can be.
+fn read_line<'l>(
+    alloc: Global,
+    line: &'l [u8],
+    scratch: &'l mut Scratch,
+    value: &'l mut Value,
+) -> Result<Option<Request<'l>>, NoMemory>
+    ensures { IfOk result (IsReading line.now) }
+{
+    match read_plain_line(line, scratch) {
+        Ok(Some(found)) => Ok(found),
+        Ok(None) => read_as_value(alloc, line, value),
+        Err(want) => Err(want),
+    }
+}
+
+/// What reads request lines, one after another.
+#[derive(Drop)]
+pub struct LineReader {
+    // Where strings with escapes are written, and the index of a line.
+    scratch: Scratch,
+    // The value of the last line, if it was read as one.
+    value: Value,
+}
+
+impl LineReader {
+    /// A reader, which allocates nothing until it reads.
+    pub fn new(alloc: Global) -> LineReader {
+        LineReader {
+            scratch: Scratch::new(alloc),
+            value: Value::Null,
+        }
+    }
+
+    /// The request that a line is: an object with a string `query` and, if wanted, `operationName`, a string or null, and
+    /// `variables`. Other members are ignored; of a repeated member the last counts. `None` is no request: no such object, not
+    /// UTF-8, or not read by `serde_json`, which refuses more than 127 levels of nesting, numbers beyond a float's range, lone
+    /// surrogate escapes and a byte order mark.
+    ///
+    /// # Errors
+    ///
+    /// Only when out of memory.
+    pub fn read<'l>(
+        &'l mut self,
+        alloc: Global,
+        line: &'l [u8],
+    ) -> Result<Option<Request<'l>>, NoMemory>
+        ensures { IfOk result (IsReading line.now) }
+    {
+        self.value = Value::Null;
+        read_line(alloc, line, &mut self.scratch, &mut self.value)
+    }
+}
