@@ -64,3 +64,8 @@ fragments = " ".join(f"...F{i}" for i in range(100))
 definitions = " ".join(f"fragment F{i} on User{{name}}" for i in range(100))
 requests("fields", ["{user(id:1){" + fields + " " + fragments + "}} " + definitions] * 20)
 requests("two_loaders", ["{users{posts{id} liked{title}}}"])
+
+# the same 16,000 requests of one user and the user's best, a line each and 16 to a line
+few = [{"query": f"{{user(id:{draw.randint(1, users)}){{name best{{name}}}}}}"} for _ in range(16000)]
+write("apart.jsonl", (json.dumps(request) for request in few))
+write("together.jsonl", (json.dumps(few[at : at + 16]) for at in range(0, len(few), 16)))

@@ -4,6 +4,7 @@ use Rattle.std.specs.Prelude.{Option, Some, None, map}
 use Rattle.std.proofs.lemmas.List.{map-append}
 use Rattle.bindings_syntax.specs.declared.statement.NumberedStatement.{NumberedStatement}
 use Rattle.bindings_syntax.specs.declared.statement.Statement.{Statement}
+use Rattle.bindings_syntax.specs.declared.statement.Version.{Version}
 use Rattle.bindings_syntax.specs.Lines.{NumberedLine}
 use Rattle.bindings_syntax.specs.Words.{words_of}
 use Rattle.bindings_syntax.specs.Statements.{statement_of}
@@ -21,31 +22,31 @@ ended : (headed : Bool) (bad : Option ℕ) (read : List NumberedStatement) → w
 ended headed bad read = ap (λ (all : List NumberedOf). record { is_headed = headed; statements = all; bad_line = bad }) (append-nil (map numbered_seen read))
 
 -- one more statement was read
-pub gather_one : (all : BindingsTextOf) (read : List NumberedStatement) (old new : List NumberedLine) (n : ℕ) (text : List ℕ) (s : Statement)
-    → all ≡ with_all (map numbered_seen read) (statements_of old) → old ≡ record { number = n; text = text } ∷ new → Some (statement_seen s) ≡ statement_of (words_of text)
-    → all ≡ with_all (map numbered_seen (read ++ record { line = n; statement = s } ∷ [])) (statements_of new)
-gather_one all read old new n text s so lines is =
+pub gather_one : (v : Version) (all : BindingsTextOf) (read : List NumberedStatement) (old new : List NumberedLine) (n : ℕ) (text : List ℕ) (s : Statement)
+    → all ≡ with_all (map numbered_seen read) (statements_of v old) → old ≡ record { number = n; text = text } ∷ new → Some (statement_seen s) ≡ statement_of v (words_of text)
+    → all ≡ with_all (map numbered_seen (read ++ record { line = n; statement = s } ∷ [])) (statements_of v new)
+gather_one v all read old new n text s so lines is =
     so
-    ∙ ap (λ ls. with_all (map numbered_seen read) (statements_of ls)) lines
-    ∙ ap (λ o. with_all (map numbered_seen read) (from_line n o (statements_of new))) (sym is)
-    ∙ with_one_more (map numbered_seen read) _ (statements_of new)
-    ∙ ap (λ l. with_all l (statements_of new)) (sym (map-append numbered_seen read _))
+    ∙ ap (λ ls. with_all (map numbered_seen read) (statements_of v ls)) lines
+    ∙ ap (λ o. with_all (map numbered_seen read) (from_line n o (statements_of v new))) (sym is)
+    ∙ with_one_more (map numbered_seen read) _ (statements_of v new)
+    ∙ ap (λ l. with_all l (statements_of v new)) (sym (map-append numbered_seen read _))
 
 -- the next line has no form
-pub gather_bad : (all : BindingsTextOf) (read : List NumberedStatement) (old new : List NumberedLine) (n : ℕ) (text : List ℕ)
-    → all ≡ with_all (map numbered_seen read) (statements_of old) → old ≡ record { number = n; text = text } ∷ new → None ≡ statement_of (words_of text)
+pub gather_bad : (v : Version) (all : BindingsTextOf) (read : List NumberedStatement) (old new : List NumberedLine) (n : ℕ) (text : List ℕ)
+    → all ≡ with_all (map numbered_seen read) (statements_of v old) → old ≡ record { number = n; text = text } ∷ new → None ≡ statement_of v (words_of text)
     → record { is_headed = true; statements = map numbered_seen read; bad_line = Some n } ≡ all
-gather_bad all read old new n text so lines is =
+gather_bad v all read old new n text so lines is =
     sym (so
-    ∙ ap (λ ls. with_all (map numbered_seen read) (statements_of ls)) lines
-    ∙ ap (λ o. with_all (map numbered_seen read) (from_line n o (statements_of new))) (sym is)
+    ∙ ap (λ ls. with_all (map numbered_seen read) (statements_of v ls)) lines
+    ∙ ap (λ o. with_all (map numbered_seen read) (from_line n o (statements_of v new))) (sym is)
     ∙ ended true (Some n) read)
 
 -- no line is left
-pub gather_end : (all : BindingsTextOf) (read : List NumberedStatement) (old : List NumberedLine)
-    → all ≡ with_all (map numbered_seen read) (statements_of old) → old ≡ []
+pub gather_end : (v : Version) (all : BindingsTextOf) (read : List NumberedStatement) (old : List NumberedLine)
+    → all ≡ with_all (map numbered_seen read) (statements_of v old) → old ≡ []
     → record { is_headed = true; statements = map numbered_seen read; bad_line = None } ≡ all
-gather_end all read old so lines =
+gather_end v all read old so lines =
     sym (so
-    ∙ ap (λ ls. with_all (map numbered_seen read) (statements_of ls)) lines
+    ∙ ap (λ ls. with_all (map numbered_seen read) (statements_of v ls)) lines
     ∙ ended true None read)

@@ -2,76 +2,151 @@
 
 ghost use Rattle.std.specs.Prelude.{◌≡◌, ◌≢◌, List, [], ◌∷◌, Some, None, option_map, MatchOption};
 ghost use Rattle.bindings_syntax.specs.Words.{words_of};
-ghost use Rattle.bindings_syntax.specs.Statements.{by_of, loader_of, key_of, each_of, loaded_of, form_of, field_of, statement_of, is_version, lone_key, via_of};
-ghost use Rattle.bindings_syntax.specs.Seen.{by_seen, key_seen, form_seen, statement_seen};
+ghost use Rattle.bindings_syntax.specs.Statements.{version_of, version_number, columns_of, by_of, loader_of, part_of, joined_of, joined_with, lone_part, key_of, each_of, loaded_of, form_of, field_of, statement_of, lone_key, more_steps, steps_of, via_of};
+ghost use Rattle.bindings_syntax.specs.declared.statement.Version.TheVariants.{Two};
+ghost use Rattle.bindings_syntax.specs.Seen.{by_seen, part_seen, key_seen, step_seen, steps_seen, form_seen, statement_seen};
 
 use crate::cut::cut;
-use crate::statement::{By, Form, KeySource, Statement};
+use crate::statement::{By, Form, KeyPart, KeySource, Statement, Step, Steps, Version};
 use crate::words::Words;
 
-/// Whether a line is `bindings 1`.
-pub(crate) fn is_version_line(line: &str) -> bool
-    ensures { result ≡ is_version (words_of line.now) }
+/// The version that a line is: `bindings 1` or `bindings 2`.
+pub(crate) fn version(line: &str) -> Option<Version>
+    ensures { result ≡ version_of (words_of line.now) }
 {
     let mut words = Words::of(line);
-    words.next() == Some("bindings") && words.next() == Some("1") && words.next().is_none()
+    let word = words.next()?;
+    let number = words.next()?;
+    end(words)?;
+    if word == "bindings" {
+        numbered(number)
+    } else {
+        None
+    }
 }
 
-/// The statement that a line is.
-pub(crate) fn statement(line: &str) -> Option<Statement<'_>>
-    ensures { option_map statement_seen result ≡ statement_of (words_of line.now) }
+/// The version of a number.
+fn numbered(number: &str) -> Option<Version>
+    ensures { result ≡ version_number number.now }
+{
+    if number == "1" {
+        Some(Version::One)
+    } else if number == "2" {
+        Some(Version::Two)
+    } else {
+        None
+    }
+}
+
+/// The statement that a line is in a text of this version.
+pub(crate) fn statement(version: Version, line: &str) -> Option<Statement<'_>>
+    ensures { option_map statement_seen result ≡ statement_of version (words_of line.now) }
 {
     let mut words = Words::of(line);
     let word = words.next()?;
     if word == "loader" {
-        loader(words)
+        loader(version, words)
     } else if word == "field" {
-        field(words)
+        field(version, words)
     } else {
         None
     }
 }
 
-/// `NAME TABLE`, and by which column.
-fn loader<'text>(mut words: Words<'text>) -> Option<Statement<'text>>
-    ensures { option_map statement_seen result ≡ loader_of words.entry }
+/// `NAME TABLE`, and by which columns.
+fn loader<'text>(version: Version, mut words: Words<'text>) -> Option<Statement<'text>>
+    ensures { option_map statement_seen result ≡ loader_of version words.entry }
 {
     let name = words.next()?;
     let table = words.next()?;
-    let by = by(words)?;
+    let by = by(version, words)?;
     Some(Statement::Loader { name, table, by })
 }
 
-/// Nothing, `by COLUMN` or `by COLUMN fold`.
-fn by<'text>(mut words: Words<'text>) -> Option<Option<By<'text>>>
-    ensures { option_map (option_map by_seen) result ≡ by_of words.entry }
+/// Nothing, or `by` and columns.
+fn by<'text>(version: Version, mut words: Words<'text>) -> Option<Option<By<'text>>>
+    ensures { option_map (option_map by_seen) result ≡ by_of version words.entry }
 {
     let Some(word) = words.next() else {
         return Some(None);
     };
+    if word != "by" {
+        return None;
+    }
+    let by = columns(version, words)?;
+    Some(Some(by))
+}
+
+/// `COLUMN` or `COLUMN fold`; in version 2 also `COLUMN COLUMN2` or `COLUMN COLUMN2 fold`.
+fn columns<'text>(version: Version, mut words: Words<'text>) -> Option<By<'text>>
+    ensures { option_map by_seen result ≡ columns_of version words.entry }
+{
     let column = words.next()?;
-    let fold = match words.next() {
-        None => false,
-        Some(last) => {
-            if last != "fold" || words.next().is_some() {
-                return None;
-            }
-            true
-        }
+    let Some(second) = words.next() else {
+        return Some(By {
+            column,
+            second: None,
+            fold: false,
+        });
     };
-    if word == "by" {
-        Some(Some(By { column, fold }))
-    } else {
-        None
+    match words.next() {
+        None => one_or_two(version, column, second),
+        Some(last) => {
+            end(words)?;
+            two_folded(version, column, second, last)
+        }
+    }
+}
+
+/// `COLUMN fold`, or in version 2 `COLUMN COLUMN2`.
+fn one_or_two<'text>(version: Version, column: &'text str, last: &'text str) -> Option<By<'text>>
+    ensures { option_map by_seen result ≡ columns_of version (column.now ∷ last.now ∷ []) }
+{
+    if last == "fold" {
+        return Some(By {
+            column,
+            second: None,
+            fold: true,
+        });
+    }
+    match version {
+        Version::One => None,
+        Version::Two => Some(By {
+            column,
+            second: Some(last),
+            fold: false,
+        }),
+    }
+}
+
+/// `COLUMN COLUMN2 fold`, which version 2 has.
+fn two_folded<'text>(
+    version: Version,
+    column: &'text str,
+    second: &'text str,
+    last: &str,
+) -> Option<By<'text>>
+    ensures { option_map by_seen result ≡ columns_of version (column.now ∷ second.now ∷ last.now ∷ []) }
+{
+    if last != "fold" {
+        return None;
+    }
+    match version {
+        Version::One => None,
+        Version::Two => Some(By {
+            column,
+            second: Some(second),
+            fold: true,
+        }),
     }
 }
 
 /// `T.F` and a form.
-fn field<'text>(mut words: Words<'text>) -> Option<Statement<'text>>
-    ensures { option_map statement_seen result ≡ field_of words.entry }
+fn field<'text>(version: Version, mut words: Words<'text>) -> Option<Statement<'text>>
+    ensures { option_map statement_seen result ≡ field_of version words.entry }
 {
     let (type_name, field_name) = cut(words.next()?, '.')?;
-    let form = form(words)?;
+    let form = form(version, words)?;
     Some(Statement::Field {
         type_name,
         field_name,
@@ -80,8 +155,8 @@ fn field<'text>(mut words: Words<'text>) -> Option<Statement<'text>>
 }
 
 /// `column COLUMN`, or a form with a loader.
-fn form<'text>(mut words: Words<'text>) -> Option<Form<'text>>
-    ensures { option_map form_seen result ≡ form_of words.entry }
+fn form<'text>(version: Version, mut words: Words<'text>) -> Option<Form<'text>>
+    ensures { option_map form_seen result ≡ form_of version words.entry }
 {
     let kind = words.next()?;
     let first = words.next()?;
@@ -89,24 +164,29 @@ fn form<'text>(mut words: Words<'text>) -> Option<Form<'text>>
         end(words)?;
         Some(Form::Column(first))
     } else {
-        loaded(kind, first, words)
+        loaded(version, kind, first, words)
     }
 }
 
 /// What stands behind a loader.
-fn loaded<'text>(kind: &str, loader: &'text str, words: Words<'text>) -> Option<Form<'text>>
-    ensures { option_map form_seen result ≡ loaded_of kind.now loader.now words.entry }
+fn loaded<'text>(
+    version: Version,
+    kind: &str,
+    loader: &'text str,
+    words: Words<'text>,
+) -> Option<Form<'text>>
+    ensures { option_map form_seen result ≡ loaded_of version kind.now loader.now words.entry }
 {
     if kind == "one" {
-        let key = only_key(words)?;
+        let key = only_key(version, words)?;
         Some(Form::One { loader, key })
     } else if kind == "many" {
-        let key = only_key(words)?;
+        let key = only_key(version, words)?;
         Some(Form::Many { loader, key })
     } else if kind == "each" {
         each(loader, words)
     } else if kind == "via" {
-        via(loader, words)
+        via(version, loader, words)
     } else {
         None
     }
@@ -122,29 +202,62 @@ fn end<'text>(mut words: Words<'text>) -> Option<()>
     }
 }
 
-/// `arg NAME`, `column NAME` or `all`.
-fn key_source<'text>(words: &mut Words<'text>) -> Option<KeySource<'text>>
-    ensures { MatchOption result (key_of words.old ≡ None) (λ key. key_of words.old ≡ Some (key_seen key, words.new)) }
+/// `arg NAME` or `column NAME`.
+fn part<'text>(words: &mut Words<'text>) -> Option<KeyPart<'text>>
+    ensures { MatchOption result (part_of words.old ≡ None) (λ part. part_of words.old ≡ Some (part_seen part, words.new)) }
 {
     let word = words.next()?;
-    if word == "all" {
-        Some(KeySource::All)
-    } else if word == "arg" {
-        let name = words.next()?;
-        Some(KeySource::Argument(name))
+    let name = words.next()?;
+    if word == "arg" {
+        Some(KeyPart::Argument(name))
     } else if word == "column" {
-        let name = words.next()?;
-        Some(KeySource::Column(name))
+        Some(KeyPart::Column(name))
     } else {
         None
     }
 }
 
-/// A key and nothing behind it.
-fn only_key<'text>(mut words: Words<'text>) -> Option<KeySource<'text>>
-    ensures { MatchOption result (lone_key words.entry ≡ None) (λ key. lone_key words.entry ≡ Some (key_seen key)) }
+/// A part as a key of its own.
+fn lone(part: KeyPart<'_>) -> KeySource<'_>
+    ensures { key_seen result ≡ lone_part (part_seen part.entry) }
 {
-    let key = key_source(&mut words)?;
+    match part {
+        KeyPart::Argument(name) => KeySource::Argument(name),
+        KeyPart::Column(name) => KeySource::Column(name),
+    }
+}
+
+/// A part, or two where the word `and` stands behind it.
+fn joined<'text>(one: KeyPart<'text>, words: &mut Words<'text>) -> Option<KeySource<'text>>
+    ensures { let read = joined_of Two (part_seen one.entry) words.old in
+        MatchOption result (read ≡ None) (λ key. read ≡ Some (key_seen key, words.new)) }
+{
+    if !words.take("and") {
+        return Some(lone(one));
+    }
+    let two = part(words)?;
+    Some(KeySource::Pair(one, two))
+}
+
+/// `all`, `arg NAME` or `column NAME`, and in version 2 two of the last joined by `and`.
+fn key_source<'text>(version: Version, words: &mut Words<'text>) -> Option<KeySource<'text>>
+    ensures { MatchOption result (key_of version words.old ≡ None) (λ key. key_of version words.old ≡ Some (key_seen key, words.new)) }
+{
+    if words.take("all") {
+        return Some(KeySource::All);
+    }
+    let one = part(words)?;
+    match version {
+        Version::One => Some(lone(one)),
+        Version::Two => joined(one, words),
+    }
+}
+
+/// A key and nothing behind it.
+fn only_key<'text>(version: Version, mut words: Words<'text>) -> Option<KeySource<'text>>
+    ensures { MatchOption result (lone_key version words.entry ≡ None) (λ key. lone_key version words.entry ≡ Some (key_seen key)) }
+{
+    let key = key_source(version, &mut words)?;
     end(words)?;
     Some(key)
 }
@@ -163,18 +276,44 @@ fn each<'text>(loader: &'text str, mut words: Words<'text>) -> Option<Form<'text
     }
 }
 
-/// A key, the second loader and its column.
-fn via<'text>(loader: &'text str, mut words: Words<'text>) -> Option<Form<'text>>
-    ensures { option_map form_seen result ≡ via_of loader.now words.entry }
+/// Up to two loaders more with their columns.
+fn more_steps<'text>(first: Step<'text>, mut words: Words<'text>) -> Option<Steps<'text>>
+    ensures { option_map steps_seen result ≡ option_map (λ further. step_seen first.entry ∷ further) (more_steps words.entry) }
 {
-    let key = key_source(&mut words)?;
-    let second = words.next()?;
+    let Some(loader) = words.next() else {
+        return Some(Steps::One(first));
+    };
+    let column = words.next()?;
+    let second = Step { loader, column };
+    let Some(loader) = words.next() else {
+        return Some(Steps::Two(first, second));
+    };
     let column = words.next()?;
     end(words)?;
-    Some(Form::Via {
-        loader,
-        key,
-        second,
-        column,
-    })
+    Some(Steps::Three(first, second, Step { loader, column }))
+}
+
+/// A loader and its column, and in version 2 up to two more of these.
+fn steps<'text>(version: Version, mut words: Words<'text>) -> Option<Steps<'text>>
+    ensures { option_map steps_seen result ≡ steps_of version words.entry }
+{
+    let loader = words.next()?;
+    let column = words.next()?;
+    let first = Step { loader, column };
+    match version {
+        Version::One => {
+            end(words)?;
+            Some(Steps::One(first))
+        }
+        Version::Two => more_steps(first, words),
+    }
+}
+
+/// A key, and the loaders after the first with their columns.
+fn via<'text>(version: Version, loader: &'text str, mut words: Words<'text>) -> Option<Form<'text>>
+    ensures { option_map form_seen result ≡ via_of version loader.now words.entry }
+{
+    let key = key_source(version, &mut words)?;
+    let steps = steps(version, words)?;
+    Some(Form::Via { loader, key, steps })
 }

@@ -15,5 +15,7 @@ mod statement;
 mod text;
 mod words;
 
-pub use statement::{BindingsText, By, Form, KeySource, NumberedStatement, Statement};
+pub use statement::{
+    BindingsText, By, Form, KeyPart, KeySource, NumberedStatement, Statement, Step, Steps, Version,
+};
 pub use text::read;

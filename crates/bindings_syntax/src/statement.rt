@@ -1,11 +1,31 @@
 //! The statements of a bindings text. Their parts are words of the text.
 
-/// By which column of its table a loader finds the rows of a key.
+/// The version of a bindings text.
+#[derive(Clone, Copy, Debug, PartialEq, Eq)]
+pub enum Version {
+    /// `bindings 1`.
+    One,
+    /// `bindings 2`: all of version 1, loaders by two columns, keys of two parts, and `via` of up to four loaders.
+    Two,
+}
+
+/// By which column of its table, or by which two, a loader finds the rows of a key.
 #[derive(Clone, Copy, Debug, PartialEq, Eq)]
 pub struct By<'text> {
     pub column: &'text str,
+    /// The column that equals the second part of a key. Without it, keys are no pairs.
+    pub second: Option<&'text str>,
     /// Keys and columns are compared with `A` to `Z` made small.
     pub fold: bool,
+}
+
+/// A part of a key of two parts.
+#[derive(Clone, Copy, Debug, PartialEq, Eq)]
+pub enum KeyPart<'text> {
+    /// `arg NAME`: an argument of the field.
+    Argument(&'text str),
+    /// `column NAME`: a column of the row that the field belongs to.
+    Column(&'text str),
 }
 
 /// Where a field takes its keys from.
@@ -17,6 +37,23 @@ pub enum KeySource<'text> {
     Column(&'text str),
     /// `all`: the one key of all rows.
     All,
+    /// `PART and PART`: a key of two parts.
+    Pair(KeyPart<'text>, KeyPart<'text>),
+}
+
+/// A loader of `via` after its first, with the column of the row before that has its key.
+#[derive(Clone, Copy, Debug, PartialEq, Eq)]
+pub struct Step<'text> {
+    pub loader: &'text str,
+    pub column: &'text str,
+}
+
+/// The loaders of `via` after its first, in order.
+#[derive(Clone, Copy, Debug, PartialEq, Eq)]
+pub enum Steps<'text> {
+    One(Step<'text>),
+    Two(Step<'text>, Step<'text>),
+    Three(Step<'text>, Step<'text>, Step<'text>),
 }
 
 /// How a field is answered.
@@ -39,20 +76,20 @@ pub enum Form<'text> {
         loader: &'text str,
         argument: &'text str,
     },
-    /// `via LOADER KEY LOADER2 COLUMN`: for each row of the key, the second loader's first row of the
-    /// key that stands in the column, or null.
+    /// `via LOADER KEY LOADER2 COLUMN ..`: for each row of the key, the second loader's first row of the
+    /// key that stands in the column, or null; and so on with each further loader.
     Via {
         loader: &'text str,
         key: KeySource<'text>,
-        second: &'text str,
-        column: &'text str,
+        steps: Steps<'text>,
     },
 }
 
 /// What a line says.
 #[derive(Clone, Copy, Debug, PartialEq, Eq)]
 pub enum Statement<'text> {
-    /// `loader NAME TABLE`, `loader NAME TABLE by COLUMN`, `loader NAME TABLE by COLUMN fold`.
+    /// `loader NAME TABLE`, `loader NAME TABLE by COLUMN` or `loader NAME TABLE by COLUMN COLUMN2`; after the last two
+    /// `fold` may follow.
     Loader {
         name: &'text str,
         table: &'text str,
@@ -77,11 +114,11 @@ pub struct NumberedStatement<'text> {
 /// What a bindings text says.
 #[derive(Debug, Drop)]
 pub struct BindingsText<'text> {
-    /// The first line that counts is `bindings 1`.
+    /// The first line that counts is `bindings 1` or `bindings 2`.
     pub is_headed: bool,
     /// The statements of the lines before the first bad one, in order.
     pub statements: Vec<NumberedStatement<'text>>,
-    /// The first line that counts and has no form, from 1. Where another line than `bindings 1` comes
+    /// The first line that counts and has no form, from 1. Where another line than `bindings 1` or `bindings 2` comes
     /// first, it is that line. A text with no line that counts has none, and isn't headed.
     pub bad_line: Option<u64>,
 }

@@ -1,7 +1,8 @@
 //! The words of a line.
 
-ghost use Rattle.std.specs.Prelude.{◌≡◌, List, [], ◌∷◌, MatchOption};
+ghost use Rattle.std.specs.Prelude.{◌≡◌, List, [], ◌∷◌, Some, None, false, MatchOption, if◌then◌else◌};
 ghost use Rattle.bindings_syntax.specs.Cuts.{Text};
+ghost use Rattle.bindings_syntax.specs.Statements.{behind};
 ghost use Rattle.bindings_syntax.specs.Words.{words_of};
 
 use crate::cut::cut;
@@ -51,5 +52,20 @@ impl<'text> Words<'text> {
         let (word, rest) = first_word(self.rest)?;
         self.rest = rest;
         Some(word)
+    }
+
+    /// Takes the next word where it is this one, and tells whether it did.
+    pub(crate) fn take(&mut self, wanted: &str) -> bool
+        ensures taken { behind wanted.now self.old ≡ (if result then Some self.new else None) }
+        ensures left { result ≡ false → self.new ≡ self.old }
+    {
+        let Some((word, rest)) = first_word(self.rest) else {
+            return false;
+        };
+        if word != wanted {
+            return false;
+        }
+        self.rest = rest;
+        true
     }
 }

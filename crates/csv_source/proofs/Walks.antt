@@ -9,8 +9,8 @@ use Rattle.load_memory.specs.Keys.{fold_text}
 use Rattle.load_memory.specs.Rows.{RowOf, cell_of}
 use Rattle.load_memory.specs.declared.key.KeyMode.{KeyMode}
 use Rattle.csv_source.specs.Chains.{IsNext, IsLinked}
-use Rattle.csv_source.specs.Hashes.{bucket_of, in_bucket, cell_in}
-use Rattle.csv_source.specs.Tables.{has_text, cell_is}
+use Rattle.csv_source.specs.Hashes.{bucket_of, in_bucket, cell_in, pair_bucket_of, pair_in_bucket, cells_in}
+use Rattle.csv_source.specs.Tables.{has_text, has_pair, cell_is}
 
 and-first : (a b : Bool) → (a && b) ≡ true → a ≡ true
 and-first true b e = refl
@@ -37,6 +37,24 @@ cell-in mode buckets folded (Some field) e =
 
 pub in_bucket-has_text : (mode : KeyMode) (column folded : List ℕ) (buckets : ℕ) (row : RowOf) → has_text mode column folded row ≡ true → in_bucket mode column buckets (bucket_of mode buckets folded) row ≡ true
 in_bucket-has_text mode column folded buckets row e = cell-in mode buckets folded (cell_of row column) e
+
+-- a row that has a pair is of the pair's bucket
+cells-in : (mode : KeyMode) (buckets : ℕ) (s t : List ℕ) (one two : Option (List ℕ)) → (cell_is mode s one && cell_is mode t two) ≡ true → cells_in mode buckets (pair_bucket_of mode buckets s t) one two ≡ true
+cells-in mode buckets s t None two e = e
+cells-in mode buckets s t (Some one) None e = absurd (cc (sym e ∙ none (cell_is mode s (Some one)))) where
+  none : (b : Bool) → (b && false) ≡ false
+  none true = refl
+  none false = refl
+cells-in mode buckets s t (Some one) (Some two) e =
+    let a = and-first (cell_is mode s (Some one)) (cell_is mode t (Some two)) e in
+    let b = and-second (cell_is mode s (Some one)) (cell_is mode t (Some two)) e in
+    let there = and-both _ _ (and-first (not (length one == 0)) (bytes_eq s (fold_text mode one)) a) (and-first (not (length two == 0)) (bytes_eq t (fold_text mode two)) b) in
+    let first : s ≡ fold_text mode one = (bytes_eq-Decides s (fold_text mode one)).0 (and-second (not (length one == 0)) (bytes_eq s (fold_text mode one)) a) in
+    let second : t ≡ fold_text mode two = (bytes_eq-Decides t (fold_text mode two)).0 (and-second (not (length two == 0)) (bytes_eq t (fold_text mode two)) b) in
+    and-both _ _ there (eq-eqb _ _ (rw (← first, ← second) refl))
+
+pub in_bucket-has_pair : (mode : KeyMode) (column second s t : List ℕ) (buckets : ℕ) (row : RowOf) → has_pair mode column second s t row ≡ true → pair_in_bucket mode column second buckets (pair_bucket_of mode buckets s t) row ≡ true
+in_bucket-has_pair mode column second s t buckets row e = cells-in mode buckets s t (cell_of row column) (cell_of row second) e
 
 module _ (p : RowOf → Bool) (rows : List RowOf) where
   -- rows that don't pass
@@ -71,33 +89,32 @@ module _ (p : RowOf → Bool) (rows : List RowOf) where
   pub filter-past : (place : ℕ) → place < length rows → p (get_or rows place []) ≡ false → filter p (take (place + 1) rows) ≡ filter p (take place rows)
   filter-past place lt past = rw (filter_more p rows place [] lt, past) (append-nil (filter p (take place rows)))
 
--- the rows of a text before a place that is of the text's bucket
-pub record IsWalk (mode : KeyMode) (column : List ℕ) (rows : List RowOf) (buckets : ℕ) (folded : List ℕ) (place : ℕ) (found : List RowOf) : Type 0 where
-  pub rows_before : found ≡ filter (has_text mode column folded) (take place rows)
-  pub reached : place < length rows → in_bucket mode column buckets (bucket_of mode buckets folded) (get_or rows place []) ≡ true
+-- the rows that pass before a place whose row is inside
+pub record IsWalk (p inside : RowOf → Bool) (rows : List RowOf) (place : ℕ) (found : List RowOf) : Type 0 where
+  pub rows_before : found ≡ filter p (take place rows)
+  pub reached : place < length rows → inside (get_or rows place []) ≡ true
 
-module _ (mode : KeyMode) (column : List ℕ) (rows : List RowOf) (first next : List ℕ) (linked : IsLinked mode column rows first next 0) (folded : List ℕ) where
-  pub walk-start : (found : List RowOf) → found ≡ [] → bucket_of mode (length first) folded < length first
-      → IsWalk mode column rows (length first) folded (get_or first (bucket_of mode (length first) folded) 0) found
+-- by the links of a bucket in which all rows are that pass
+module _ (is_in : ℕ → ℕ → RowOf → Bool) (rows : List RowOf) (first next : List ℕ) (linked : IsLinked is_in rows first next 0) (p : RowOf → Bool) (bucket : ℕ)
+    (wider : (x : RowOf) → p x ≡ true → is_in (length first) bucket x ≡ true) where
+  pub walk-start : (found : List RowOf) → found ≡ [] → bucket < length first → IsWalk p (is_in (length first) bucket) rows (get_or first bucket 0) found
   walk-start found none lt =
-      let head = linked.heads (bucket_of mode (length first) folded) lt in
+      let head = linked.heads bucket lt in
       record {
-        rows_before = none ∙ sym (filter-next (has_text mode column folded) rows (in_bucket mode column (length first) (bucket_of mode (length first) folded)) 0 _ (in_bucket-has_text mode column folded (length first)) head);
+        rows_before = none ∙ sym (filter-next p rows (is_in (length first) bucket) 0 _ wider head);
         reached = head.passes;
       }
 
-  pub walk-step : (place : ℕ) (found more : List RowOf) → place < length rows → IsWalk mode column rows (length first) folded place found
-      → more ≡ (if has_text mode column folded (get_or rows place []) then found ++ get_or rows place [] ∷ [] else found)
-      → IsWalk mode column rows (length first) folded (get_or next place 0) more
+  pub walk-step : (place : ℕ) (found more : List RowOf) → place < length rows → IsWalk p (is_in (length first) bucket) rows place found
+      → more ≡ (if p (get_or rows place []) then found ++ get_or rows place [] ∷ [] else found) → IsWalk p (is_in (length first) bucket) rows (get_or next place 0) more
   walk-step place found more lt walk is = record {
-    rows_before = is ∙ here (has_text mode column folded (get_or rows place [])) refl ∙ sym (filter-next (has_text mode column folded) rows (in_bucket mode column (length first) (bucket_of mode (length first) folded)) (place + 1) _ (in_bucket-has_text mode column folded (length first)) following);
+    rows_before = is ∙ here (p (get_or rows place [])) refl ∙ sym (filter-next p rows (is_in (length first) bucket) (place + 1) _ wider following);
     reached = following.passes;
   }
     where
-      following : IsNext (in_bucket mode column (length first) (bucket_of mode (length first) folded)) rows (place + 1) (get_or next place 0)
-      following = linked.follows place (bucket_of mode (length first) folded) (omega arith) lt (walk.reached lt)
+      following : IsNext (is_in (length first) bucket) rows (place + 1) (get_or next place 0)
+      following = linked.follows place bucket (omega arith) lt (walk.reached lt)
 
-      here : (b : Bool) → has_text mode column folded (get_or rows place []) ≡ b
-          → (if has_text mode column folded (get_or rows place []) then found ++ get_or rows place [] ∷ [] else found) ≡ filter (has_text mode column folded) (take (place + 1) rows)
-      here true e = rw (filter-here (has_text mode column folded) rows place lt e, e, walk.rows_before) refl
-      here false e = rw (filter-past (has_text mode column folded) rows place lt e, e, walk.rows_before) refl
+      here : (b : Bool) → p (get_or rows place []) ≡ b → (if p (get_or rows place []) then found ++ get_or rows place [] ∷ [] else found) ≡ filter p (take (place + 1) rows)
+      here true e = rw (filter-here p rows place lt e, e, walk.rows_before) refl
+      here false e = rw (filter-past p rows place lt e, e, walk.rows_before) refl

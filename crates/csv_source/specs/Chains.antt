@@ -1,8 +1,8 @@
--- The index of a column: for each bucket its first row, and for each row the next one of its bucket.
+-- The index of a column, or of two: for each bucket its first row, and for each row the next one of its bucket.
 use Rattle.std.specs.Prelude.{◌≡◌, ◌≤◌, ◌<◌, ◌+◌, ℕ, Bool, true, false, List, [], Some, length, get_or, position, bytes_eq}
 use Rattle.load_memory.specs.Rows.{RowOf, SheetOf, IsRectangular}
 use Rattle.load_memory.specs.declared.key.KeyMode.{KeyMode}
-use Rattle.csv_source.specs.Hashes.{in_bucket}
+use Rattle.csv_source.specs.Hashes.{in_bucket, pair_in_bucket}
 use Rattle.csv_source.specs.Tables.{rows_of}
 
 -- the first place from a place on at which a row passes; past the rows where none does
@@ -11,12 +11,12 @@ pub record IsNext (test : RowOf → Bool) (rows : List RowOf) (from to : ℕ) : 
   pub between : (k : ℕ) → from ≤ k → k < to → k < length rows → test (get_or rows k []) ≡ false
   pub passes : to < length rows → test (get_or rows to []) ≡ true
 
--- the links of the rows from a place on
-pub record IsLinked (mode : KeyMode) (column : List ℕ) (rows : List RowOf) (first next : List ℕ) (from : ℕ) : Type 0 where
+-- the links of the rows from a place on, by a test that tells of so many buckets whether a row is of one
+pub record IsLinked (is_in : ℕ → ℕ → RowOf → Bool) (rows : List RowOf) (first next : List ℕ) (from : ℕ) : Type 0 where
   pub links : length next ≡ length rows
-  pub heads : (bucket : ℕ) → bucket < length first → IsNext (in_bucket mode column (length first) bucket) rows from (get_or first bucket 0)
-  pub follows : (place bucket : ℕ) → from ≤ place → place < length rows → in_bucket mode column (length first) bucket (get_or rows place []) ≡ true
-      → IsNext (in_bucket mode column (length first) bucket) rows (place + 1) (get_or next place 0)
+  pub heads : (bucket : ℕ) → bucket < length first → IsNext (is_in (length first) bucket) rows from (get_or first bucket 0)
+  pub follows : (place bucket : ℕ) → from ≤ place → place < length rows → is_in (length first) bucket (get_or rows place []) ≡ true
+      → IsNext (is_in (length first) bucket) rows (place + 1) (get_or next place 0)
 
 -- a column of a sheet, by its place and its name, of equal names the first
 abbrev pub IsColumn : SheetOf → ℕ → Type 0
@@ -24,7 +24,7 @@ IsColumn s column = Some column ≡ position (λ n. bytes_eq n (get_or s.names c
 
 -- the links of a sheet's rows by a column
 abbrev pub IsLinkedIn : SheetOf → ℕ → KeyMode → List ℕ → List ℕ → ℕ → Type 0
-IsLinkedIn s column mode first next from = IsLinked mode (get_or s.names column []) (rows_of s) first next from
+IsLinkedIn s column mode first next from = IsLinked (in_bucket mode (get_or s.names column [])) (rows_of s) first next from
 
 -- the index of a column of a sheet
 pub record IsIndex (s : SheetOf) (column : ℕ) (mode : KeyMode) (first next : List ℕ) : Type 0 where
@@ -32,3 +32,17 @@ pub record IsIndex (s : SheetOf) (column : ℕ) (mode : KeyMode) (first next : L
   pub named : IsColumn s column
   pub buckets : 0 < length first
   pub linked : IsLinkedIn s column mode first next 0
+
+abbrev pub AreColumns : SheetOf → ℕ → ℕ → Type 0
+AreColumns s column second = IsColumn s column × IsColumn s second
+
+-- the links of a sheet's rows by two columns
+abbrev pub IsPairLinkedIn : SheetOf → ℕ → ℕ → KeyMode → List ℕ → List ℕ → ℕ → Type 0
+IsPairLinkedIn s column second mode first next from = IsLinked (pair_in_bucket mode (get_or s.names column []) (get_or s.names second [])) (rows_of s) first next from
+
+-- the index of two columns of a sheet
+pub record IsPairIndex (s : SheetOf) (column second : ℕ) (mode : KeyMode) (first next : List ℕ) : Type 0 where
+  pub rectangular : IsRectangular s
+  pub named : AreColumns s column second
+  pub buckets : 0 < length first
+  pub linked : IsPairLinkedIn s column second mode first next 0

@@ -17,3 +17,14 @@ ColumnFault names column fault.NotText = ⊥
 ColumnFault names column fault.BadRecord = ⊥
 ColumnFault names column fault.TooManyRows = ⊥
 ColumnFault names column fault.ReadFault = ⊥
+
+-- one of two columns isn't there, or out of memory with both
+abbrev pub PairFault : List (List ℕ) → List ℕ → List ℕ → TableFault → Type 0
+PairFault names column second fault.NoSuchColumn = ¬ (Contains names column × Contains names second)
+PairFault names column second fault.NoMemory = Contains names column × Contains names second
+PairFault names column second fault.NoHeader = ⊥
+PairFault names column second fault.DuplicateColumn = ⊥
+PairFault names column second fault.NotText = ⊥
+PairFault names column second fault.BadRecord = ⊥
+PairFault names column second fault.TooManyRows = ⊥
+PairFault names column second fault.ReadFault = ⊥

@@ -1,7 +1,7 @@
-//! The number by which an index finds the bucket of a text.
+//! The number by which an index finds the bucket of a text, or of two.
 ghost use Rattle.std.specs.Prelude.{◌≡◌, ◌<◌};
 ghost use Rattle.load_memory.specs.Keys.{fold_text};
-ghost use Rattle.csv_source.specs.Hashes.{mix, text_hash, bucket_of};
+ghost use Rattle.csv_source.specs.Hashes.{mix, text_hash, joined_hash, bucket_of, pair_bucket_of};
 
 use load_memory::KeyMode;
 use std::hash::{FoldHasher, Hasher};
@@ -37,6 +37,22 @@ fn hash(mode: KeyMode, text: &str) -> u64
             hash
         }
     }
+}
+
+// One number of two, in which their order counts.
+fn joined(one: u64, two: u64) -> u64
+    ensures { result ≡ joined_hash one two }
+{
+    one.wrapping_mul(FNV_PRIME) ^ two
+}
+
+/// The bucket of two texts, of so many.
+pub(crate) fn pair_bucket(mode: KeyMode, buckets: usize, one: &str, two: &str) -> usize
+    requires { 0 < buckets }
+    ensures value { result ≡ pair_bucket_of mode buckets (fold_text mode one.now) (fold_text mode two.now) }
+    ensures within { result < buckets }
+{
+    (joined(hash(mode, one), hash(mode, two)) % buckets as u64) as usize
 }
 
 /// The bucket of a text, of so many.

@@ -89,8 +89,8 @@ fn links(
     Ok((first, next))
 }
 
-// Whether a field equals a text under the mode.
-fn is_same(mode: KeyMode, field: &str, text: &str) -> bool
+/// Whether a field equals a text under the mode.
+pub(crate) fn is_same(mode: KeyMode, field: &str, text: &str) -> bool
     ensures { result ≡ bytes_eq (fold_text mode text.now) (fold_text mode field.now) }
 {
     match mode {
@@ -100,9 +100,9 @@ fn is_same(mode: KeyMode, field: &str, text: &str) -> bool
     }
 }
 
-// Adds a row to those that were found. Most texts have one row, so the first takes room for itself
-// alone.
-fn add(found: &mut Vec<Row>, row: Row) -> Result<(), NoMemory>
+/// Adds a row to those that were found. Most keys have one row, so the first takes room for itself
+/// alone.
+pub(crate) fn add(found: &mut Vec<Row>, row: Row) -> Result<(), NoMemory>
     ensures { OnOk result (found.new.items ≡ found.old.items ++ row ∷ []) }
 {
     if found.is_empty() {

@@ -8,11 +8,13 @@ pub mod fault;
 mod hash;
 pub mod index;
 pub mod law;
+pub mod pair_index;
 mod read;
 pub mod source;
 pub mod table;
 
 pub use fault::TableFault;
 pub use index::ColumnIndex;
+pub use pair_index::PairIndex;
 pub use source::CsvSource;
 pub use table::Table;

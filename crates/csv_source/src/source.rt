@@ -2,13 +2,14 @@
 ghost use Rattle.std.specs.Prelude.{◌≡◌, IfOk, IfErr, OnOk, map, Contains};
 ghost use Rattle.load_memory.specs.Keys.{key_of};
 ghost use Rattle.load_memory.specs.Outcomes.{item_of};
-ghost use Rattle.csv_source.specs.Faults.{ColumnFault};
+ghost use Rattle.csv_source.specs.Faults.{ColumnFault, PairFault};
 ghost use Rattle.load_queue.specs.Answers.{given};
-ghost use Rattle.csv_source.specs.Tables.{rows_of, rows_of_key, item_of_key, source_of_all, source_by};
+ghost use Rattle.csv_source.specs.Tables.{rows_of, rows_of_key, item_of_key, source_of_all, source_by, source_by_two};
 ghost use Rattle.csv_source.specs.KeyLaws.{item_of_key-folded};
 
 use crate::fault::TableFault;
 use crate::index::ColumnIndex;
+use crate::pair_index::PairIndex;
 use crate::table::Table;
 use load_memory::{Item, Key, KeyMode, NoMemory, Row};
 use load_queue::{FetchFault, PerKey, Source};
@@ -21,12 +22,15 @@ enum Finder<'t> {
     All(&'t Table),
     Owned(ColumnIndex),
     Shared(&'t ColumnIndex),
+    OwnedPair(PairIndex),
+    SharedPair(&'t PairIndex),
 }
 
-/// A source over a table. With a column, a text key has the rows whose column equals the text;
-/// without one, the key `All` has all rows. It fails only when out of memory.
+/// A source over a table. By a column, a text key has the rows whose column equals the text; by two columns, a pair has
+/// the rows whose columns equal both parts; without a column, the key `All` has all rows. For a key of another form it
+/// has none. It fails only when out of memory.
 ///
-/// A contract sees it as its rows, its column, if it has one, and its mode.
+/// A contract sees it as its rows, its columns, if it has any, and its mode.
 #[derive(Drop)]
 pub struct CsvSource<'t> {
     finder: Finder<'t>,
@@ -52,6 +56,41 @@ fn all_rows(alloc: Global, table: &Table) -> Result<Vec<Row>, NoMemory>
         rows.push(Row::of_sheet(sheet, place)?)?;
     }
     Ok(rows)
+}
+
+// The rows that a table has for a key without a column: none but for `All`.
+fn rows_without(alloc: Global, table: &Table, key: &Key) -> Result<Vec<Row>, NoMemory>
+    ensures { IfOk result (λ v. v.items ≡ rows_of_key (source_of_all (rows_of table.now)) (key_of key.now)) }
+{
+    match key {
+        Key::All => all_rows(alloc, table),
+        Key::Text(_) => Ok(Vec::new(alloc)),
+        Key::Pair(..) => Ok(Vec::new(alloc)),
+    }
+}
+
+// The rows that an index has for a key: none but for a text.
+fn rows_by(alloc: Global, index: &ColumnIndex, key: &Key) -> Result<Vec<Row>, NoMemory>
+    ensures { let x = index.now in IfOk result (λ v. v.items
+        ≡ rows_of_key (source_by x.rows x.column x.mode) (key_of key.now)) }
+{
+    match key {
+        Key::Text(text) => index.rows(alloc, text),
+        Key::All => Ok(Vec::new(alloc)),
+        Key::Pair(..) => Ok(Vec::new(alloc)),
+    }
+}
+
+// The rows that an index of two columns has for a key: none but for a pair.
+fn rows_by_two(alloc: Global, index: &PairIndex, key: &Key) -> Result<Vec<Row>, NoMemory>
+    ensures { let x = index.now in IfOk result (λ v. v.items
+        ≡ rows_of_key (source_by_two x.rows x.column x.second x.mode) (key_of key.now)) }
+{
+    match key {
+        Key::Pair(one, two) => index.rows(alloc, one, two),
+        Key::All => Ok(Vec::new(alloc)),
+        Key::Text(_) => Ok(Vec::new(alloc)),
+    }
 }
 
 impl<'t> CsvSource<'t> {
@@ -85,6 +124,28 @@ impl<'t> CsvSource<'t> {
         })
     }
 
+    /// The source by two columns, which may be the same, with an index of its own.
+    ///
+    /// # Errors
+    ///
+    /// `NoSuchColumn` where the table lacks a column of one of the names, and `NoMemory`.
+    pub fn by_two(
+        alloc: Global,
+        table: &Table,
+        column: &str,
+        second: &str,
+        mode: KeyMode,
+    ) -> Result<CsvSource<'t>, TableFault>
+        ensures ok { IfOk result (λ s. s ≡ source_by_two (rows_of table.now) column.now second.now mode) }
+        ensures there { OnOk result (Contains table.now.names column.now × Contains table.now.names second.now) }
+        ensures err { IfErr result (PairFault table.now.names column.now second.now) }
+    {
+        let index = PairIndex::new(alloc, table, column, second, mode)?;
+        Ok(CsvSource {
+            finder: Finder::OwnedPair(index),
+        })
+    }
+
     /// The source by an existing index.
     pub fn of_index(index: &'t ColumnIndex) -> CsvSource<'t>
         ensures { result ≡ source_by index.now.rows index.now.column index.now.mode }
@@ -94,17 +155,25 @@ impl<'t> CsvSource<'t> {
         }
     }
 
+    /// The source by an existing index of two columns.
+    pub fn of_pair_index(index: &'t PairIndex) -> CsvSource<'t>
+        ensures { result ≡ source_by_two index.now.rows index.now.column index.now.second index.now.mode }
+    {
+        CsvSource {
+            finder: Finder::SharedPair(index),
+        }
+    }
+
     /// The rows of a key, in file order.
     pub fn rows(&self, alloc: Global, key: &Key) -> Result<Vec<Row>, NoMemory>
         ensures { IfOk result (λ v. v.items ≡ rows_of_key self.now (key_of key.now)) }
     {
-        match (&self.finder, key) {
-            (Finder::All(table), Key::All) => all_rows(alloc, table),
-            (Finder::Owned(index), Key::Text(text)) => index.rows(alloc, text),
-            (Finder::Shared(index), Key::Text(text)) => index.rows(alloc, text),
-            (Finder::All(_), Key::Text(_)) => Ok(Vec::new(alloc)),
-            (Finder::Owned(_), Key::All) => Ok(Vec::new(alloc)),
-            (Finder::Shared(_), Key::All) => Ok(Vec::new(alloc)),
+        match &self.finder {
+            Finder::All(table) => rows_without(alloc, table, key),
+            Finder::Owned(index) => rows_by(alloc, index, key),
+            Finder::Shared(index) => rows_by(alloc, index, key),
+            Finder::OwnedPair(index) => rows_by_two(alloc, index, key),
+            Finder::SharedPair(index) => rows_by_two(alloc, index, key),
         }
     }
 
@@ -146,6 +215,8 @@ impl<'t> PerKey for CsvSource<'t> {
             Finder::All(_) => KeyMode::Exact,
             Finder::Owned(index) => index.mode(),
             Finder::Shared(index) => index.mode(),
+            Finder::OwnedPair(index) => index.mode(),
+            Finder::SharedPair(index) => index.mode(),
         }
     }
 }

@@ -3,12 +3,21 @@
 use load_memory::{Key, KeyMode};
 use std::alloc::{AllocError, Global};
 
-/// The key of a text, or of `*` that of all.
+/// The key of a text, of `*` that of all, and of `(a,b)` that of a pair.
 pub fn key_of(alloc: Global, text: &str) -> Result<Key, AllocError> {
     if text == "*" {
         return Ok(Key::All);
     }
+    if let Some((one, two)) = parts_of(text) {
+        return Ok(Key::Pair(String::from_str(alloc, one)?, String::from_str(alloc, two)?));
+    }
     Ok(Key::Text(String::from_str(alloc, text)?))
+}
+
+// The parts of a pair.
+fn parts_of(text: &str) -> Option<(&str, &str)> {
+    let inside = text.strip_prefix('(')?.strip_suffix(')')?;
+    inside.split_once(',')
 }
 
 /// The keys that a mark parts.

@@ -45,10 +45,11 @@ fn push_keys(
     let head = format!(in alloc; "{number}{mark}: ")?;
     text.push_str(&head)?;
     for key in keys {
-        text.push_str(match key {
-            Key::All => "all",
-            Key::Text(text) => text.as_str(),
-        })?;
+        match key {
+            Key::All => text.push_str("all")?,
+            Key::Text(key) => text.push_str(key.as_str())?,
+            Key::Pair(one, two) => write!(text, "({one},{two})")?,
+        }
         text.push(' ')?;
     }
     text.push(';')

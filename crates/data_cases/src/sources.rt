@@ -3,8 +3,8 @@
 use crate::keys::{keys_of, mode_of};
 use crate::tables::column_of;
 use anyhow::{Context, Result, bail};
-use csv_source::{ColumnIndex, CsvSource, Table};
-use load_memory::{Item, Key, KeyMode, Sheet};
+use csv_source::{ColumnIndex, CsvSource, PairIndex, Table};
+use load_memory::{Cell, Item, Key, KeyMode, NoMemory, Row, Sheet};
 use load_queue::{PerKey, Source};
 use std::alloc::{AllocError, Global};
 
@@ -29,10 +29,16 @@ fn asked_of(text: &str) -> Result<Asked<'_>> {
     })
 }
 
-/// The texts that a source gives in a column for keys that bars part and then for all, each item after a bar.
-fn fetched(alloc: Global, source: &CsvSource<'_>, keys: &str, column: &str) -> Result<String> {
+/// The keys that bars part, and then that of all.
+fn keys_and_all(alloc: Global, keys: &str) -> Result<Vec<Key>, AllocError> {
     let mut keys = keys_of(alloc, keys, '|')?;
     keys.push(Key::All)?;
+    Ok(keys)
+}
+
+/// The texts that a source gives in a column for keys that bars part and then for all, each item after a bar.
+fn fetched(alloc: Global, source: &CsvSource<'_>, keys: &str, column: &str) -> Result<String> {
+    let keys = keys_and_all(alloc, keys)?;
     let Ok(items) = source.fetch(alloc, keys.as_slice()) else {
         bail!("no answer");
     };
@@ -68,6 +74,72 @@ pub fn by_index_told(alloc: Global, table: &str, text: &str) -> Result<String> {
         asked.keys,
         asked.column,
     )
+}
+
+/// Whether a cell equals a text.
+fn is_text(cell: Cell<'_>, mode: KeyMode, text: &str) -> bool {
+    match (cell, mode) {
+        (Cell::Text(field), KeyMode::Exact) => field == text,
+        (Cell::Text(field), KeyMode::FoldAscii) => field.eq_ignore_ascii_case(text),
+        _ => false,
+    }
+}
+
+/// The rows of a key, if it is a pair, by the plain definition: all rows whose two columns equal both parts.
+fn rows_of_pair(
+    alloc: Global,
+    table: &Table,
+    columns: (&str, &str),
+    mode: KeyMode,
+    key: &Key,
+) -> Result<Vec<Row>, NoMemory> {
+    let mut found = Vec::new(alloc);
+    let Key::Pair(one, two) = key else {
+        return Ok(found);
+    };
+    for row in CsvSource::all(table).rows(alloc, &Key::All)? {
+        if is_text(row.get(columns.0), mode, one) && is_text(row.get(columns.1), mode, two) {
+            found.push(row)?;
+        }
+    }
+    Ok(found)
+}
+
+/// What a plain filter by two columns gives for keys that bars part and then for all.
+fn filtered_by_two(
+    alloc: Global,
+    table: &Table,
+    asked: &Asked<'_>,
+    columns: (&str, &str),
+) -> Result<String> {
+    let mut told = String::new(alloc);
+    for key in &keys_and_all(alloc, asked.keys)? {
+        told.push('|')?;
+        let rows = rows_of_pair(alloc, table, columns, asked.mode, key)?;
+        told.push_str(column_of(alloc, rows.as_slice(), asked.column)?.as_str())?;
+    }
+    Ok(told)
+}
+
+/// What a source gives that goes by two columns, or why there is none: one with an index of its own, one of an index, and a plain
+/// filter have to agree.
+pub fn by_two_told(alloc: Global, table: &str, text: &str) -> Result<String> {
+    let table = Table::read(alloc, table.as_bytes())?;
+    let asked = asked_of(text)?;
+    let (one, two) = asked.by.split_once(',').context("no second column")?;
+    let source = match CsvSource::by_two(alloc, &table, one, two, asked.mode) {
+        Ok(source) => source,
+        Err(fault) => return Ok(format!(in alloc; "{fault}")?),
+    };
+    let told = fetched(alloc, &source, asked.keys, asked.column)?;
+    let index = PairIndex::new(alloc, &table, one, two, asked.mode)?;
+    let indexed = CsvSource::of_pair_index(&index);
+    let shared = fetched(alloc, &indexed, asked.keys, asked.column)?;
+    let plain = filtered_by_two(alloc, &table, &asked, (one, two))?;
+    if told == plain && told == shared && source.mode() == indexed.mode() {
+        return Ok(told);
+    }
+    Ok(format!(in alloc; "{told}, by an index {shared}, and by the filter {plain}")?)
 }
 
 /// What a source of all rows gives, behind its mode.

@@ -40,6 +40,7 @@ fn told_of_table(alloc: Global, asked: &Asked, text: &str) -> Result<String> {
         "column" => tables::column_told(alloc, text),
         "failing reader" => readers::told(alloc, text),
         "by" => sources::by_told(alloc, asked.file(0)?, text),
+        "by two" => sources::by_two_told(alloc, asked.file(0)?, text),
         "by an index" => sources::by_index_told(alloc, asked.file(0)?, text),
         "all" => sources::all_told(alloc, asked.file(0)?, text),
         "by filter too" => sources::filter_told(alloc, asked.file(0)?, text),

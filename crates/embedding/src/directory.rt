@@ -39,7 +39,7 @@ fn person(alloc: Global, id: &str) -> Result<Vec<Row>, NoMemory> {
 // What the directory says of a key.
 fn item(alloc: Global, key: &Key) -> Result<Item, FetchFault> {
     match key {
-        Key::All => Ok(Item::Rows(Vec::new(alloc))),
+        Key::All | Key::Pair(..) => Ok(Item::Rows(Vec::new(alloc))),
         Key::Text(id) if id.as_str() == PRIVATE => Ok(Item::KeyFault(String::from_str(
             alloc,
             "nobody may ask for this person",

@@ -97,6 +97,12 @@ three_loads =
     (With (nullable (key (codes "b")) 4) (Read (load_of 0 (codes "2")) (λ outcome. Read (load_of 1 (codes "3")) found))
     (With (nullable (key (codes "c")) 6) (Read (load_of 0 (codes "1")) found) End)))
 
+-- a list with one item, which is found by three loads one after another
+abbrev pub through_four_loaders : Program
+through_four_loaders =
+    object (With (nullable (key (codes "a")) 2) (Read (load_of 0 (codes "1")) (λ rows. Under ListOf
+    (With (nullable (Item 0) 2) (Read (load_of 1 (codes "2")) (λ second. Read (load_of 2 (codes "3")) (λ third. Read (load_of 3 (codes "4")) found))) End))) End)
+
 -- only loader 0 is answered
 abbrev pub first_answered : Reader
 first_answered load = if load.loader == 0 then Some (known (rows [])) else None

@@ -9,7 +9,7 @@ ghost use Rattle.load_memory.specs.Keys.{all, text};
 ghost use Rattle.load_memory.specs.Outcomes.{batch_fault};
 ghost use Rattle.execution.specs.Front.{firsts};
 ghost use Rattle.execution.specs.Rounds.{modes_of, round_orders, after_round, without_failed};
-ghost use Rattle.execution.specs.Examples.{two_loaders, five_loads, order, one_item_too_few, nothing_known, answered, error, key, load_of, user_without_name, user_is_null, users_and_one_without_name, data_is_null, nullable_users, item_is_null, siblings_under_a_null, each_has_its_error, three_loads, first_answered, fault_answered};
+ghost use Rattle.execution.specs.Examples.{two_loaders, five_loads, order, one_item_too_few, nothing_known, answered, error, key, load_of, user_without_name, user_is_null, users_and_one_without_name, data_is_null, nullable_users, item_is_null, siblings_under_a_null, each_has_its_error, three_loads, through_four_loaders, first_answered, fault_answered};
 
 /// Nulls and errors. A null at a non-null type makes the nearest nullable parent null, up to `data`; errors of siblings
 /// stand beside it, once each, in depth-first order.
@@ -26,6 +26,7 @@ pub fn read_by_hand()
     ensures first { needs three_loads unanswered ≡ load_of 0 (codes "1") ∷ load_of 0 (codes "2") ∷ load_of 0 (codes "1") ∷ [] }
     ensures more { needs three_loads first_answered ≡ load_of 0 (codes "1") ∷ load_of 0 (codes "2") ∷ load_of 1 (codes "3") ∷ load_of 0 (codes "1") ∷ [] }
     ensures chain { chain three_loads first_answered ≡ 2 }
+    ensures longer { chain through_four_loaders fault_answered ≡ 4 }
     ensures faults { exec three_loads fault_answered ≡ Some (answered
         (Holding ObjectOf (Responding (key (codes "a")) NullResponse (Responding (key (codes "b")) NullResponse (Responding (key (codes "c")) NullResponse NoResponses))))
         (error (codes "down") 2 (key (codes "a") ∷ []) ∷ error (codes "down") 4 (key (codes "b") ∷ []) ∷ error (codes "down") 6 (key (codes "c") ∷ []) ∷ [])) }

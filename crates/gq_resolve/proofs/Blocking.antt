@@ -1,7 +1,7 @@
 -- Positions that wait are noted each once, and over each memory they ask what they would ask noted each time.
-use Rattle.std.proofs.Common.{◌≡◌, ◌<◌, ◌==◌, ℕ, Bool, true, false, List, [], ◌∷◌, ◌++◌, length, inl, inr, refl, sym, ap, ◌∙◌, subst, arith, append-nil, length-append, eqb-true}
+use Rattle.std.proofs.Common.{◌≡◌, ◌<◌, ◌==◌, ℕ, Bool, true, false, List, [], ◌∷◌, Option, Some, None, ◌++◌, length, inl, inr, refl, sym, ap, ◌∙◌, subst, arith, append-nil, length-append, eqb-true}
 use Rattle.std.specs.List.{list_any}
-use Rattle.std.proofs.Math.Bool.{beq}
+use Rattle.std.specs.Option.{option_eq}
 use Rattle.std.proofs.lemmas.Bool.{and_parts, or_cases, cond_both}
 use Rattle.std.proofs.lemmas.List.{flat_map_more}
 use Rattle.std.proofs.lemmas.List.Elements.{All-push}
@@ -20,11 +20,11 @@ use Rattle.gq_resolve.specs.contracts.output.BlockedPartialEq.TheImpl as blocked
 use Rattle.gq_resolve.specs.contracts.spot.OnwardPartialEq.TheImpl as onward_eq
 use Rattle.gq_resolve.proofs.Thinning.{noted-again}
 
-bool-same : (p q : Bool) → beq p q ≡ true → p ≡ q
-bool-same true true h = refl
-bool-same false false h = refl
-bool-same true false h = absurd (cc h)
-bool-same false true h = absurd (cc h)
+later-same : (p q : Option ℕ) → option_eq (λ (a b : ℕ). a == b) p q ≡ true → p ≡ q
+later-same None None h = refl
+later-same (Some n) (Some m) h = ap Some (eqb-true n m h)
+later-same (Some n) None h = absurd (cc h)
+later-same None (Some m) h = absurd (cc h)
 
 abbrev equal : Blocked → Blocked → Bool
 equal b x = (blocked_eq.eq-value).it b x
@@ -35,13 +35,13 @@ alike v b x h =
     let outer = and_parts ((onward_eq.eq-value).it b.onward x.onward) _ h in
     let load = and_parts (b.loader == x.loader) _ outer.1 in
     let first = and_parts (b.onward.group == x.onward.group) _ outer.0 in
-    let others = and_parts (beq b.onward.second x.onward.second) _ first.1 in
+    let others = and_parts (option_eq (λ (a c : ℕ). a == c) b.onward.later x.onward.later) _ first.1 in
     let group : b.onward.group ≡ x.onward.group = eqb-true b.onward.group x.onward.group first.0 in
-    let second : b.onward.second ≡ x.onward.second = bool-same b.onward.second x.onward.second others.0 in
+    let later : b.onward.later ≡ x.onward.later = later-same b.onward.later x.onward.later others.0 in
     let levels : b.onward.levels ≡ x.onward.levels = eqb-true b.onward.levels x.onward.levels others.1 in
     let loader : b.loader ≡ x.loader = eqb-true b.loader x.loader load.0 in
     let key : key_of b.key ≡ key_of x.key = same_key-is (key_of b.key) (key_of x.key) (sym (key-eq b.key x.key) ∙ load.1) in
-    rw (group, second, levels, loader, key) refl
+    rw (group, later, levels, loader, key) refl
 
 -- one that is there asks nothing more
 again : (v : View) (R : Reader) (b : Blocked) (bs : List Blocked) (noted : List Load) → list_any (equal b) bs ≡ true → thinned (thinned noted (all_asks v bs R)) (asks (left_of v b) R) ≡ thinned noted (all_asks v bs R)

@@ -1,5 +1,5 @@
 -- Groups that are more and more, and shapes that are kept.
-use Rattle.std.proofs.Common.{◌≡◌, ℕ, zero, suc, ◌<◌, ◌≤◌, ◌+◌, Bool, true, false, List, [], ◌∷◌, ◌++◌, map, take, length, get_or, set, refl, sym, ap, subst, ◌∙◌, arith, length-append, length-set, Option, Some, None, if◌then◌else◌, string_bytes}
+use Rattle.std.proofs.Common.{◌≡◌, ℕ, zero, suc, ◌<◌, ◌≤◌, ◌+◌, Bool, true, false, List, [], ◌∷◌, ◌++◌, map, take, length, get_or, set, refl, sym, ap, subst, ◌∙◌, arith, length-append, length-set, Option, Some, None, string_bytes}
 use Rattle.std.specs.List.{All, slice_get}
 use Rattle.std.specs.Option.{option_map_or}
 use Rattle.std.proofs.lemmas.Option.{slice_get-get_or, slice_get_within, get_or_from_slice_get}
@@ -10,11 +10,12 @@ use Rattle.load_memory.specs.Rows.{RowOf}
 use Rattle.execution.specs.Program.{Program, Programs, End, With}
 use Rattle.gq_check.specs.Plans.{PlanOf}
 use Rattle.plan_program.specs.Asked.{BelowOf, ValueFrom, PreparedOf}
-use Rattle.plan_program.specs.Prepared.{asked_seen, prepared_seen, all_prepared_seen}
-use Rattle.plan_program.specs.PlanPrograms.{fields_of, asked_program, object_program}
+use Rattle.plan_program.specs.Prepared.{key_from_seen, asked_seen, prepared_seen, all_prepared_seen}
+use Rattle.plan_program.specs.PlanPrograms.{fields_of, read_from, asked_program, object_program}
+use Rattle.plan_program.specs.declared.prepared.KeyFrom.{KeyFrom}
 use Rattle.plan_program.specs.declared.prepared.Prepared.{Prepared}
 use Rattle.gq_resolve.specs.Puts.{OnwardOf, View}
-use Rattle.gq_resolve.specs.Groups.{below_in, nowhere, below_at, then_at, then_rows, after_at, Covers, type_prepared, IsAsked, asks_seen, members_seen, Makes, IsShape, IsRight, AreRight, Grows, IsNew, IsAsking, AreMade, AreKept, IsShaped}
+use Rattle.gq_resolve.specs.Groups.{below_in, nowhere, below_at, then_at, then_rows, next_rows, after_at, Covers, type_prepared, IsAsked, asks_seen, members_seen, Makes, IsShape, IsRight, AreRight, Grows, IsNew, IsAsking, AreMade, AreKept, IsShaped}
 use Rattle.gq_resolve.specs.Spots.{spot_seen}
 use Rattle.gq_resolve.specs.Suspended.{view_of}
 use Rattle.gq_resolve.specs.declared.groups.Asks.{Asks}
@@ -61,11 +62,8 @@ covers-like plan old new v le e f c = record {
   tells = λ onward lt. c.tells onward (omega (arith, le, lt)) ∙ same onward (e onward.group lt) (f onward.group lt);
 }
   where
-    with_next : OnwardOf → Then → BelowOf → List RowOf → Program
-    with_next onward next below = then_rows plan onward.levels (if onward.second then First else next) below
-
     same : (onward : OnwardOf) → then_at new onward.group ≡ then_at old onward.group → below_at new onward.group ≡ below_at old onward.group → after_at plan new onward ≡ after_at plan old onward
-    same onward p q = ap (λ n. with_next onward n (below_at new onward.group)) p ∙ ap (λ b. with_next onward (then_at old onward.group) b) q
+    same onward p q = ap (λ n. next_rows plan onward.levels onward.later n (below_at new onward.group)) p ∙ ap (λ b. next_rows plan onward.levels onward.later (then_at old onward.group) b) q
 
 -- the element of a number, in a longer list
 slice-left : {X : Type 0} (xs ys : List X) (i : ℕ) → i < length xs → slice_get (xs ++ ys) i ≡ slice_get xs i
@@ -208,6 +206,20 @@ made-more old mid new ps p ms m h a same = record {
 
 pub made-none : (gs : List Group) → AreMade gs gs [] []
 made-none gs = record { grows = λ plan. grows-self plan gs; front = take_all (length gs) gs (omega arith); makes = λ plan. record { known = λ k d lt. absurd (omega (arith, lt)); members = λ v c levels row. refl } }
+
+-- what a load with a group more asks for
+pub load-asking : (old new : List Group) (next : Then) (below : BelowOf) (loader : ℕ) (key : KeyFrom) (group : ℕ) (asked : ValueFrom) → IsNew old new next below group
+    → ((plan : PlanOf) (levels : ℕ) (row : RowOf) → read_from loader (key_from_seen key) row (then_rows plan levels next below) ≡ asked_program plan.definitions (object_program plan levels) row asked) → IsAsking old new asked (asks.Load loader key group)
+load-asking old new next below loader key group asked h is = record {
+  grows = h.grows;
+  front = h.front;
+  known = h.within;
+  same = λ plan v cov levels row.
+      let onward : OnwardOf = record { group = group; later = None; levels = levels } in
+      ap (λ (f : List RowOf → Program). read_from loader (key_from_seen key) row f)
+      (cov.tells onward h.within ∙ ap (λ n. then_rows plan levels n (below_at new group)) h.does ∙ ap (λ b. then_rows plan levels next b) h.stands)
+      ∙ is plan levels row;
+}
 
 -- ---- the members of a type
 

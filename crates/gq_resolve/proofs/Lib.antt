@@ -4,6 +4,7 @@ pub mod Evaluating
 pub mod Texts
 pub mod Thinning
 pub mod Grouping
+pub mod Stepping
 pub mod Touring
 pub mod Putting
 pub mod Blocking

@@ -2,24 +2,25 @@
 -- are numbered as those of a response.
 use Rattle.std.proofs.Common.{◌≡◌, ℕ, zero, suc, ◌<◌, Bool, true, false, List, [], ◌∷◌, map, length, Option, Some, None, refl, sym, ap, ◌∙◌, subst, arith, if◌then◌else◌}
 use Rattle.std.specs.Prelude.{nat_lt, bytes_eq, codes}
+use Rattle.std.proofs.lemmas.Bool.{and_parts}
 use Rattle.std.proofs.lemmas.Bool.Decides.{nat_tests}
 use Rattle.gq_lexer.specs.declared.place.Place.{Place}
-use Rattle.load_memory.specs.Keys.{KeyOf, text}
+use Rattle.load_memory.specs.Keys.{KeyOf, text, pair}
 use Rattle.load_memory.specs.Rows.{RowOf, cell_of}
 use Rattle.load_memory.specs.Outcomes.{OutcomeOf, known, batch_fault, rows, key_fault}
 use Rattle.schema_syntax.specs.Tree.{Definition, Field}
 use Rattle.gq_parser.specs.Tree.{TypeTree}
 use Rattle.gq_schema.specs.Inputs.{Input, Items, Int, Text, Boolean, Null as NullInput}
 use Rattle.gq_schema.specs.Types.{field_in}
-use Rattle.gq_schema.specs.BindingsTree.{BindingOf, by_column, by_one, by_many, by_each, by_via, binding_in}
+use Rattle.gq_schema.specs.BindingsTree.{StepOf, BindingOf, by_column, by_one, by_many, by_each, by_via, binding_in}
 use Rattle.execution.specs.Loads.{Load, Reader}
 use Rattle.execution.specs.Program.{Value, Null, Text as Leaf-Text, Kind, ListOf, ObjectOf, Part, Key, Program, Is, Read, Under, Programs, End, With}
 use Rattle.execution.specs.Residual.{rest, all_rest}
 use Rattle.gq_check.specs.Plans.{PlanOf}
 use Rattle.plan_program.specs.Groups.{FieldOf, GroupOf, nothing_collected, collect_below}
 use Rattle.plan_program.specs.Arguments.{ArgumentsOf, ValueOf, all_values, null_argument, arguments_of}
-use Rattle.plan_program.specs.Asked.{KeyFrom, fixed, of_column, BelowOf, ValueFrom, known as settled, cell, first_row, all_rows, each_row, joined_rows, PreparedOf, key_from, with_loader, with_key, each_asked, input_named, bound_asked, below_of, with_arguments, defined_asked, field_asked, first_asked, all_prepared, spot_of}
-use Rattle.plan_program.specs.PlanPrograms.{TypeOf, object_type, type_fault, type_of_row, places, fields_of, Objects, typed_object, row_object, with_rows, read_key, read_cell, read_from, read_if, first_object, asked_program, object_program, most_levels, root_prepared, plan_program}
+use Rattle.plan_program.specs.Asked.{KeyFrom, fixed, of_column, of_pair, BelowOf, ValueFrom, known as settled, cell, first_row, all_rows, each_row, joined_rows, PreparedOf, key_from, with_loader, have_loaders, with_steps, with_key, each_asked, input_named, bound_asked, below_of, with_arguments, defined_asked, field_asked, first_asked, all_prepared, spot_of}
+use Rattle.plan_program.specs.PlanPrograms.{TypeOf, object_type, type_fault, type_of_row, places, fields_of, Objects, typed_object, row_object, with_rows, PartOver, told as part_told, lacking, part_over, read_pair, read_key, read_cell, read_from, read_if, first_of, first_object, joined_object, asked_program, object_program, most_levels, root_prepared, plan_program}
 use Rattle.gq_resolve.specs.Built.{step_in, IsNumbered, AreNumbered}
 
 abbrev mutual
@@ -59,13 +60,17 @@ mutual
 
 -- ---- what groups ask for
 
+abbrev StepsBelow : ℕ → List StepOf → Type 0
+StepsBelow n [] = Unit {0}
+StepsBelow n (s ∷ ss) = (s.loader < n) × StepsBelow n ss
+
 abbrev AskedBelow : ℕ → ValueFrom → Type 0
 AskedBelow n (settled own) = Unit {0}
 AskedBelow n (cell column t) = Unit {0}
 AskedBelow n (first_row loader key below) = loader < n
 AskedBelow n (all_rows loader key below) = loader < n
 AskedBelow n (each_row loader keys below) = loader < n
-AskedBelow n (joined_rows loader key second column below) = (loader < n) × (second < n)
+AskedBelow n (joined_rows loader key steps below) = (loader < n) × StepsBelow n steps
 
 -- its position is a field's
 abbrev PreparedFits : ℕ → PreparedOf → Type 0
@@ -78,6 +83,10 @@ AllPreparedFit n (p ∷ ps) = PreparedFits n p × AllPreparedFit n ps
 true-below : (a b : ℕ) → nat_lt a b ≡ true → a < b
 true-below a b h = grind (arith, nat_tests)
 
+steps-true : (n : ℕ) (steps : List StepOf) → have_loaders steps n ≡ true → StepsBelow n steps
+steps-true n [] h = tt
+steps-true n (s ∷ ss) h = let parts = and_parts (nat_lt s.loader n) (have_loaders ss n) h in (true-below s.loader n parts.0, steps-true n ss parts.1)
+
 module _ (plan : PlanOf) where
   abbrev count : ℕ
   count = length plan.bindings.loaders
@@ -87,6 +96,13 @@ module _ (plan : PlanOf) where
     where
       go : (b : Bool) → nat_lt loader (length plan.bindings.loaders) ≡ b → AskedBelow count (if b then asked else settled Null)
       go true e = h (true-below loader (length plan.bindings.loaders) e)
+      go false e = tt
+
+  steps-below : (steps : List StepOf) (asked : ValueFrom) → (StepsBelow count steps → AskedBelow count asked) → AskedBelow count (with_steps plan steps asked)
+  steps-below steps asked h = go (have_loaders steps (length plan.bindings.loaders)) refl
+    where
+      go : (b : Bool) → have_loaders steps (length plan.bindings.loaders) ≡ b → AskedBelow count (if b then asked else settled Null)
+      go true e = h (steps-true (length plan.bindings.loaders) steps e)
       go false e = tt
 
   key-below : (key : Option KeyFrom) (asked : KeyFrom → ValueFrom) → ((k : KeyFrom) → AskedBelow count (asked k)) → AskedBelow count (with_key key asked)
@@ -107,7 +123,7 @@ module _ (plan : PlanOf) where
   bound-below t below values (Some (by_one loader key)) = loader-below loader _ (λ h. key-below (key_from values key) _ (λ k. h))
   bound-below t below values (Some (by_many loader key)) = loader-below loader _ (λ h. key-below (key_from values key) _ (λ k. h))
   bound-below t below values (Some (by_each loader name)) = loader-below loader _ (λ h. each-below loader below (input_named name values) h)
-  bound-below t below values (Some (by_via loader key second column)) = loader-below loader _ (λ h. loader-below second _ (λ i. key-below (key_from values key) _ (λ k. (h, i))))
+  bound-below t below values (Some (by_via loader key steps)) = loader-below loader _ (λ h. steps-below steps _ (λ i. key-below (key_from values key) _ (λ k. (h, i))))
 
   arguments-below : (a : ArgumentsOf) (asked : List ValueOf → ValueFrom) → ((vs : List ValueOf) → AskedBelow count (asked vs)) → AskedBelow count (with_arguments a asked)
   arguments-below (null_argument name) asked h = tt
@@ -148,9 +164,17 @@ module _ (n : ℕ) where
   cell-fits loader column (Some []) next h each = tt
   cell-fits loader column (Some (c ∷ cs)) next h each = read-fits loader (text (c ∷ cs)) next h each
 
+  pair-fits : (loader : ℕ) (one two : PartOver) (next : List RowOf → Program) → loader < n → NextFits next → Fits n (read_pair loader one two next)
+  pair-fits loader (lacking column) two next h each = tt
+  pair-fits loader (part_told one) (lacking column) next h each = tt
+  pair-fits loader (part_told None) (part_told two) next h each = tt
+  pair-fits loader (part_told (Some s)) (part_told None) next h each = tt
+  pair-fits loader (part_told (Some s)) (part_told (Some t)) next h each = read-fits loader (pair s t) next h each
+
   from-fits : (loader : ℕ) (key : KeyFrom) (row : RowOf) (next : List RowOf → Program) → loader < n → NextFits next → Fits n (read_from loader key row next)
   from-fits loader (fixed key) row next h each = read-fits loader key next h each
   from-fits loader (of_column column) row next h each = cell-fits loader column (cell_of row column) next h each
+  from-fits loader (of_pair one two) row next h each = pair-fits loader (part_over one row) (part_over two row) next h each
 
   if-fits : (loader : ℕ) (key : Option KeyOf) (next : List RowOf → Program) → loader < n → NextFits next → Fits n (read_if loader next key)
   if-fits loader None next h each = tt
@@ -172,13 +196,21 @@ module _ (n : ℕ) where
     object-fits below [] = tt
     object-fits below (r ∷ rs) = row-fits below r
 
+    first-fits-of : (object : RowOf → Program) (rs : List RowOf) → ((r : RowOf) → Fits n (object r)) → Fits n (first_of object rs)
+    first-fits-of object [] one = tt
+    first-fits-of object (r ∷ rs) one = one r
+
+    joined-fits : (below : BelowOf) (steps : List StepOf) (row : RowOf) → StepsBelow n steps → Fits n (joined_object defs objects below steps row)
+    joined-fits below [] row i = row-fits below row
+    joined-fits below (s ∷ ss) row i = cell-fits s.loader s.column (cell_of row s.column) _ i.0 (λ rs. first-fits-of (joined_object defs objects below ss) rs (λ r. joined-fits below ss r i.1))
+
     asked-fits : (row : RowOf) (a : ValueFrom) → AskedBelow n a → Fits n (asked_program defs objects row a)
     asked-fits row (settled own) i = tt
     asked-fits row (cell column t) i = tt
     asked-fits row (first_row loader key below) i = from-fits loader key row _ i (object-fits below)
     asked-fits row (all_rows loader key below) i = from-fits loader key row _ i (λ rs. places-fit below.item_non_null below.place 0 _ rs (row-fits below))
     asked-fits row (each_row loader keys below) i = places-fit below.item_non_null below.place 0 _ keys (λ k. if-fits loader k _ i (object-fits below))
-    asked-fits row (joined_rows loader key second column below) i = from-fits loader key row _ i.0 (λ rs. places-fit below.item_non_null below.place 0 _ rs (λ r. cell-fits second column (cell_of r column) _ i.1 (object-fits below)))
+    asked-fits row (joined_rows loader key steps below) i = from-fits loader key row _ i.0 (λ rs. places-fit below.item_non_null below.place 0 _ rs (λ r. joined-fits below steps r i.1))
 
     fields-fit : (row : RowOf) (i : ℕ) (ps : List PreparedOf) → AllPreparedFit n ps → AllFit n ObjectOf i (fields_of (asked_program defs objects row) ps)
     fields-fit row i [] h = tt

@@ -1,22 +1,25 @@
 -- What a walk puts, one thing after another.
-use Rattle.std.proofs.Common.{◌≡◌, ◌⊎◌, inl, inr, ℕ, suc, ◌<◌, ◌≤◌, ◌+◌, ◌==◌, Bool, false, if◌then◌else◌, List, [], ◌∷◌, ◌++◌, map, take, length, get_or, refl, sym, ap, ◌∙◌, subst, arith, append_assoc, append-nil, Option, Some}
-use Rattle.std.proofs.lemmas.List.{take_more, take_all, map_push, length-map, length-take-le}
+use Rattle.std.proofs.Common.{◌≡◌, ◌⊎◌, inl, inr, ℕ, suc, ◌<◌, ◌≤◌, ◌+◌, ◌-◌, Bool, false, List, [], ◌∷◌, ◌++◌, map, take, drop, length, get_or, refl, sym, ap, ◌∙◌, subst, arith, append_assoc, append-nil, None}
+use Rattle.std.proofs.lemmas.List.{take_more, take_all, drop_all, map_push, length-map, length-take-le}
 use Rattle.std.proofs.Math.Path.{fun_ext}
 use Rattle.schema_syntax.specs.Tree.{Definition}
 use Rattle.gq_lexer.specs.declared.place.Place.{Place}
-use Rattle.load_memory.specs.Keys.{text}
-use Rattle.load_memory.specs.Rows.{RowOf, cell_of}
+use Rattle.gq_schema.specs.BindingsTree.{StepOf}
+use Rattle.load_memory.specs.Rows.{RowOf}
 use Rattle.load_memory.specs.declared.key.CacheKey.{CacheKey}
 use Rattle.execution.specs.Loads.{Reader}
 use Rattle.execution.specs.Program.{Kind, ListOf, ObjectOf, Item, Spot, Program, Under, Programs, End, With}
 use Rattle.gq_check.specs.Plans.{PlanOf}
 use Rattle.plan_program.specs.Asked.{BelowOf}
-use Rattle.plan_program.specs.PlanPrograms.{places, list_of, read_key, read_cell, row_object, first_object, joined_objects, object_program}
+use Rattle.plan_program.specs.PlanPrograms.{places, list_of, first_of, row_object, joined_object, joined_objects, object_program}
 use Rattle.gq_resolve.specs.Puts.{Put, Begins, Ends, Enters, OnwardOf, View, puts, all_puts}
-use Rattle.gq_resolve.specs.Spots.{spot_seen, second_of}
-use Rattle.gq_resolve.specs.Groups.{below_at, then_at, next_at, then_rows, Covers, IsAsked, AreKnown, asks_seen, members_seen, AreRight, Grows, IsShaped}
+use Rattle.gq_resolve.specs.Spots.{spot_seen, later_of}
+use Rattle.gq_resolve.specs.Groups.{below_at, then_at, then_rows, next_rows, steps_in, Covers, IsAsked, AreKnown, asks_seen, members_seen, AreRight, Grows, IsShaped}
 use Rattle.gq_resolve.specs.Suspended.{view_of}
-use Rattle.gq_resolve.specs.Walks.{Goes, LetsGo, all_rows, joined_rows}
+use Rattle.gq_resolve.specs.Steps.{last_steps}
+use Rattle.gq_resolve.specs.Following.{FollowsTo, followed_puts}
+use Rattle.gq_resolve.specs.declared.following.Followed.{Followed}
+use Rattle.gq_resolve.specs.Walks.{Goes, LetsGo, items_after}
 use Rattle.gq_resolve.specs.declared.groups.Group.{Group}
 use Rattle.gq_resolve.specs.declared.groups.Member.{Member}
 use Rattle.gq_resolve.specs.declared.groups.Then.{Then}
@@ -190,40 +193,64 @@ items-whole strict to_be place there R f xs i v e g le =
 
 -- ---- rows
 
--- what a group does with rows that aren't those of a second load
-pub next-is : (gs lent : List Group) (onward : OnwardOf) (next : Then) → onward.second ≡ false → lent ≡ gs → then_at lent onward.group ≡ next → next_at gs onward ≡ next
-next-is gs lent onward next first same is = ap (λ b. if b then First else then_at gs onward.group) first ∙ ap (λ (xs : List Group). then_at xs onward.group) (sym same) ∙ is
-
 module _ (plan : PlanOf) (gs : List Group) (v : View) (onward : OnwardOf) (cov : Covers plan gs v) (lt : onward.group < length gs) where
-  -- what is done with rows of which the first is taken
-  pub after-first : next_at gs onward ≡ First → v.after onward ≡ v.after (second_of onward)
-  after-first first = cov.tells onward lt ∙ ap (λ n. then_rows plan onward.levels n (below_at gs onward.group)) first ∙ sym (cov.tells (second_of onward) lt)
+  -- what later loaders come to, one after another
+  abbrev pub joined_by : List StepOf → RowOf → Program
+  joined_by = joined_object plan.definitions (object_program plan onward.levels) (below_at gs onward.group)
 
-  pub after-all : (rows : List RowOf) → next_at gs onward ≡ Each → v.after onward rows ≡ all_rows v gs onward rows
-  after-all rows each =
-      ap (λ (f : List RowOf → Program). f rows) (cov.tells onward lt ∙ ap (λ n. then_rows plan onward.levels n (below_at gs onward.group)) each)
-      ∙ ap (λ (f : RowOf → Program). list_of (below_at gs onward.group) (map f rows)) (fun_ext (λ (row : RowOf). sym (ap (λ (f : List RowOf → Program). f (row ∷ [])) (cov.tells (second_of onward) lt))))
+  -- what a view says of a later load, after which so many of these loaders come
+  pub after-missing : (left : ℕ) (steps : List StepOf) → steps ≡ steps_in (then_at gs onward.group) → v.after (later_of left onward) ≡ first_of (joined_by (last_steps left steps))
+  after-missing left steps same = cov.tells (later_of left onward) lt ∙ ap (λ (ss : List StepOf). first_of (joined_by (last_steps left ss))) (sym same)
 
-  pub after-joined : (rows : List RowOf) (loader : ℕ) (column : List ℕ) (next : Then) → next_at gs onward ≡ next
-      → ((below : BelowOf) → then_rows plan onward.levels next below rows ≡ joined_objects plan.definitions (object_program plan onward.levels) below loader column rows) → v.after onward rows ≡ joined_rows v gs onward loader column rows
-  after-joined rows loader column next joined is =
-      ap (λ (f : List RowOf → Program). f rows) (cov.tells onward lt ∙ ap (λ n. then_rows plan onward.levels n (below_at gs onward.group)) joined) ∙ is (below_at gs onward.group)
-      ∙ ap (λ (f : List RowOf → Program). list_of (below_at gs onward.group) (map (λ row. read_cell loader column (cell_of row column) f) rows)) (sym (cov.tells (second_of onward) lt))
+  -- where none is left
+  after-none : v.after (later_of 0 onward) ≡ first_of (joined_by [])
+  after-none = after-missing 0 _ refl ∙ ap (λ (ss : List StepOf). first_of (joined_by ss)) (drop_all (length (steps_in (then_at gs onward.group)) - 0) (steps_in (then_at gs onward.group)) (omega arith))
 
   -- an object over a row
-  pub after-row : (row : RowOf) → v.after (second_of onward) (row ∷ []) ≡ row_object plan.definitions (object_program plan onward.levels) (below_at gs onward.group) row
-  after-row row = ap (λ (f : List RowOf → Program). f (row ∷ [])) (cov.tells (second_of onward) lt)
+  pub after-row : (row : RowOf) → v.after (later_of 0 onward) (row ∷ []) ≡ row_object plan.definitions (object_program plan onward.levels) (below_at gs onward.group) row
+  after-row row = ap (λ (f : List RowOf → Program). f (row ∷ [])) after-none
+
+  -- what a group does with the rows of its own load
+  after-own : (lent : List Group) (next : Then) → onward.later ≡ None → lent ≡ gs → then_at lent onward.group ≡ next → v.after onward ≡ then_rows plan onward.levels next (below_at gs onward.group)
+  after-own lent next own same is =
+      cov.tells onward lt ∙ ap (λ later. next_rows plan onward.levels later (then_at gs onward.group) (below_at gs onward.group)) own
+      ∙ ap (λ n. then_rows plan onward.levels n (below_at gs onward.group)) (ap (λ (xs : List Group). then_at xs onward.group) (sym same) ∙ is)
+
+  pub after-first : (lent : List Group) → onward.later ≡ None → lent ≡ gs → then_at lent onward.group ≡ First → v.after onward ≡ v.after (later_of 0 onward)
+  after-first lent own same is = after-own lent First own same is ∙ fun_ext first ∙ sym after-none
+    where
+      first : (rows : List RowOf) → then_rows plan onward.levels First (below_at gs onward.group) rows ≡ first_of (joined_by []) rows
+      first [] = refl
+      first (row ∷ rows) = refl
+
+  pub after-all : (lent : List Group) (rows : List RowOf) → onward.later ≡ None → lent ≡ gs → then_at lent onward.group ≡ Each → v.after onward rows ≡ items_after v gs onward 0 rows
+  after-all lent rows own same is =
+      ap (λ (f : List RowOf → Program). f rows) (after-own lent Each own same is)
+      ∙ ap (λ (f : RowOf → Program). list_of (below_at gs onward.group) (map f rows)) (fun_ext (λ (row : RowOf). sym (after-row row)))
+
+  -- all of the later loaders are left
+  pub after-joined : (lent : List Group) (rows : List RowOf) (left : ℕ) (next : Then) → onward.later ≡ None → lent ≡ gs → then_at lent onward.group ≡ next → left ≡ length (steps_in next)
+      → ((below : BelowOf) → then_rows plan onward.levels next below rows ≡ joined_objects plan.definitions (object_program plan onward.levels) below (steps_in next) rows) → v.after onward rows ≡ items_after v gs onward left rows
+  after-joined lent rows left next own same is all joins =
+      let does : then_at gs onward.group ≡ next = ap (λ (xs : List Group). then_at xs onward.group) (sym same) ∙ is in
+      let none : length (steps_in next) - left ≡ 0 = omega (arith, all) in
+      let steps : last_steps left (steps_in (then_at gs onward.group)) ≡ steps_in next = ap (λ n. last_steps left (steps_in n)) does ∙ ap (λ k. drop k (steps_in next)) none in
+      ap (λ (f : List RowOf → Program). f rows) (after-own lent next own same is) ∙ joins (below_at gs onward.group)
+      ∙ ap (λ (f : RowOf → Program). list_of (below_at gs onward.group) (map f rows))
+      (fun_ext (λ (row : RowOf). sym (ap (λ (f : List RowOf → Program). f (row ∷ [])) (after-missing left _ refl) ∙ ap (λ (ss : List StepOf). joined_by ss row) steps)))
+
+  -- where so many later loaders came to from a row
+  pub after-followed : (left : ℕ) (strict : Bool) (R : Reader) (steps : List StepOf) (row : RowOf) (f : Followed) → steps ≡ steps_in (then_at gs onward.group) → FollowsTo R steps left row f
+      → puts strict (v.after (later_of left onward) (row ∷ [])) R ≡ followed_puts strict R joined_by steps f
+  after-followed left strict R steps row f same is =
+      ap (λ (f : List RowOf → Program). puts strict (f (row ∷ [])) R) (after-missing left steps same) ∙ is strict plan.definitions (object_program plan onward.levels) (below_at gs onward.group)
 
   -- the first of some rows
-  pub after-head : (rows : List RowOf) (row : RowOf) → 0 < length rows → row ≡ get_or rows 0 row → v.after (second_of onward) (row ∷ []) ≡ v.after (second_of onward) rows
-  after-head [] row some is = absurd (omega (arith, some))
-  after-head (x ∷ xs) row some is =
-      after-row row ∙ ap (row_object plan.definitions (object_program plan onward.levels) (below_at gs onward.group)) is ∙ sym (ap (λ (f : List RowOf → Program). f (x ∷ xs)) (cov.tells (second_of onward) lt))
-
--- a cell with a text is the key of a load
-pub cell-text : (loader : ℕ) (column : List ℕ) (cell : Option (List ℕ)) (t : List ℕ) (f : List RowOf → Program) → cell ≡ Some t → (length t == 0) ≡ false → read_cell loader column cell f ≡ read_key loader (text t) f
-cell-text loader column cell [] f is some = absurd (cc some)
-cell-text loader column cell (x ∷ xs) f is some = ap (λ o. read_cell loader column o f) is
+  pub after-head : (left : ℕ) (rows : List RowOf) (row : RowOf) → 0 < length rows → row ≡ get_or rows 0 row → v.after (later_of left onward) (row ∷ []) ≡ v.after (later_of left onward) rows
+  after-head left [] row some is = absurd (omega (arith, some))
+  after-head left (x ∷ xs) row some is =
+      let after : v.after (later_of left onward) ≡ first_of (joined_by (last_steps left (steps_in (then_at gs onward.group)))) = after-missing left _ refl in
+      ap (λ (f : List RowOf → Program). f (row ∷ [])) after ∙ ap (joined_by (last_steps left (steps_in (then_at gs onward.group)))) is ∙ sym (ap (λ (f : List RowOf → Program). f (x ∷ xs)) after)
 
 pub map-map : {A B C : Type 0} (f : B → C) (g : A → B) (xs : List A) → map f (map g xs) ≡ map (λ (x : A). f (g x)) xs
 map-map f g [] = refl

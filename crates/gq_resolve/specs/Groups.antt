@@ -1,5 +1,5 @@
 -- What is kept of the groups that load, by their numbers.
-use Rattle.std.specs.Prelude.{◌≡◌, ◌<◌, ◌≤◌, ℕ, zero, suc, Bool, true, false, if◌then◌else◌, List, [], ◌∷◌, length, map, take, string_bytes}
+use Rattle.std.specs.Prelude.{◌≡◌, ◌<◌, ◌≤◌, ℕ, false, List, [], ◌∷◌, length, map, take, string_bytes, Option, Some, None}
 use Rattle.std.specs.List.{All, slice_get}
 use Rattle.std.specs.Option.{option_map_or}
 use Rattle.std.specs.Arc.{arc_value}
@@ -7,14 +7,17 @@ use Rattle.std.specs.declared.sync.Arc.{Arc}
 use Rattle.std.specs.declared.alloc.Global.{Global}
 use Rattle.gq_parser.specs.Tree.{type_of}
 use Rattle.schema_syntax.specs.Tree.{Definition}
+use Rattle.gq_schema.specs.BindingsTree.{StepOf}
+use Rattle.gq_schema.specs.BindingsSeen.{step_of}
 use Rattle.load_memory.specs.Rows.{RowOf, cell_of}
 use Rattle.execution.specs.Program.{Program, Is, Under, Programs, End, With, ListOf}
 use Rattle.gq_check.specs.Plans.{PlanOf}
 use Rattle.plan_program.specs.Groups.{nothing_collected, collect_below}
 use Rattle.plan_program.specs.Asked.{BelowOf, ValueFrom, PreparedOf, all_prepared}
 use Rattle.plan_program.specs.Prepared.{own_seen, key_from_seen, keys_seen, below_seen}
-use Rattle.plan_program.specs.PlanPrograms.{cell_value, places, fields_of, read_from, read_if, first_object, all_objects, joined_objects, asked_program, object_program}
+use Rattle.plan_program.specs.PlanPrograms.{cell_value, places, fields_of, read_from, read_if, first_object, all_objects, first_of, joined_object, joined_objects, asked_program, object_program}
 use Rattle.plan_program.specs.declared.prepared.Below.{Below}
+use Rattle.gq_resolve.specs.Steps.{last_steps}
 use Rattle.gq_resolve.specs.Puts.{OnwardOf, View}
 use Rattle.gq_resolve.specs.Spots.{spot_seen}
 use Rattle.gq_resolve.specs.declared.groups.Asks.{Asks}
@@ -34,7 +37,18 @@ below_in below = below_seen (arc_value below)
 abbrev pub then_rows : PlanOf → ℕ → Then → BelowOf → List RowOf → Program
 then_rows plan levels First below rows = first_object plan.definitions (object_program plan levels) below rows
 then_rows plan levels Each below rows = all_objects plan.definitions (object_program plan levels) below rows
-then_rows plan levels (Joined second column) below rows = joined_objects plan.definitions (object_program plan levels) below second column.now rows
+then_rows plan levels (Joined steps) below rows = joined_objects plan.definitions (object_program plan levels) below (map step_of steps.now) rows
+
+-- the later loaders of its `via`
+abbrev pub steps_in : Then → List StepOf
+steps_in First = []
+steps_in Each = []
+steps_in (Joined steps) = map step_of steps.now
+
+-- after a later load the first row is taken, and so many of these loaders are left
+abbrev pub next_rows : PlanOf → ℕ → Option ℕ → Then → BelowOf → List RowOf → Program
+next_rows plan levels None next below rows = then_rows plan levels next below rows
+next_rows plan levels (Some left) next below rows = first_of (joined_object plan.definitions (object_program plan levels) below (last_steps left (steps_in next))) rows
 
 -- what the group of a number stands for; past the last of them nothing
 abbrev pub nowhere : BelowOf
@@ -46,12 +60,8 @@ below_at gs i = option_map_or (λ (g : Group). below_in g.below) (slice_get gs i
 abbrev pub then_at : List Group → ℕ → Then
 then_at gs i = option_map_or (λ (g : Group). g.then) (slice_get gs i) First
 
--- of the second load of a `via` the first row is taken
-abbrev pub next_at : List Group → OnwardOf → Then
-next_at gs onward = if onward.second then First else then_at gs onward.group
-
 abbrev pub after_at : PlanOf → List Group → OnwardOf → List RowOf → Program
-after_at plan gs onward = then_rows plan onward.levels (next_at gs onward) (below_at gs onward.group)
+after_at plan gs onward = next_rows plan onward.levels onward.later (then_at gs onward.group) (below_at gs onward.group)
 
 -- the view tells of each of these groups what it does
 pub record Covers (plan : PlanOf) (gs : List Group) (v : View) : Type 0 where
@@ -63,9 +73,9 @@ pub record Covers (plan : PlanOf) (gs : List Group) (v : View) : Type 0 where
 abbrev pub asks_seen : List Definition → View → ℕ → RowOf → Asks → Program
 asks_seen defs v levels row (asks.Known own) = Is (own_seen own)
 asks_seen defs v levels row (asks.Cell column ty) = Is (cell_value defs column.now (type_of ty.now) (cell_of row column.now))
-asks_seen defs v levels row (asks.Load loader key group) = read_from loader (key_from_seen key) row (v.after (record { group = group; second = false; levels = levels }))
+asks_seen defs v levels row (asks.Load loader key group) = read_from loader (key_from_seen key) row (v.after (record { group = group; later = None; levels = levels }))
 asks_seen defs v levels row (asks.Each loader keys items group) =
-    Under ListOf (places items.non_null items.place 0 (map (read_if loader (v.after (record { group = group; second = false; levels = levels }))) (keys_seen keys.items)))
+    Under ListOf (places items.non_null items.place 0 (map (read_if loader (v.after (record { group = group; later = None; levels = levels }))) (keys_seen keys.items)))
 
 abbrev pub members_seen : List Definition → View → ℕ → RowOf → List Member → Programs
 members_seen defs v levels row [] = End

@@ -2,8 +2,11 @@ pub mod Answered
 pub mod Evaluated
 pub mod Cells
 pub mod Completing
+pub mod Keys
+pub mod Steps
 pub mod Puts
 pub mod Spots
+pub mod Following
 pub mod Groups
 pub mod Walks
 pub mod Written

@@ -1,5 +1,5 @@
 -- What a walk over a program puts into a sink, one thing after another.
-use Rattle.std.specs.Prelude.{ℕ, Bool, List, [], ◌∷◌, ◌++◌}
+use Rattle.std.specs.Prelude.{ℕ, Bool, List, [], ◌∷◌, ◌++◌, Option}
 use Rattle.load_memory.specs.Rows.{RowOf}
 use Rattle.load_memory.specs.Keys.{KeyOf}
 use Rattle.execution.specs.Loads.{Reader}
@@ -28,11 +28,11 @@ abbrev mutual
   all_puts kind End R = []
   all_puts kind (With spot p rest) R = Enters kind spot ∷ (puts spot.non_null p R ++ all_puts kind rest R)
 
--- How a position goes on after a load: what its group does with the rows, or, for the second load of a `via`, the first of
--- them. Below it are so many levels of objects.
+-- How a position goes on after a load: by what its group does with the rows, or, after a later load of a `via`, by the first of
+-- them and so many more loaders. Below it are so many levels of objects.
 pub record OnwardOf : Type 0 where
   pub group : ℕ
-  pub second : Bool
+  pub later : Option ℕ
   pub levels : ℕ
 
 -- how many groups there are, and what each does with the rows of its load

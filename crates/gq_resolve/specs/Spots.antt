@@ -1,5 +1,5 @@
 -- What contracts see of a position.
-use Rattle.std.specs.Prelude.{ℕ, true}
+use Rattle.std.specs.Prelude.{ℕ, Some}
 use Rattle.execution.specs.Program as program
 use Rattle.gq_resolve.specs.Puts.{OnwardOf}
 use Rattle.gq_resolve.specs.declared.spot.Kind as rust-kind
@@ -16,11 +16,11 @@ abbrev pub spot_seen : rust-spot.Spot → program.Spot
 spot_seen s = record { part = program.Key s.key.now; non_null = s.non_null; place = s.place }
 
 abbrev pub onward_of : rust-onward.Onward → OnwardOf
-onward_of o = record { group = o.group; second = o.second; levels = o.levels }
+onward_of o = record { group = o.group; later = o.later; levels = o.levels }
 
--- that it goes on so after the second load of a `via`
-abbrev pub second_of : OnwardOf → OnwardOf
-second_of o = record { group = o.group; second = true; levels = o.levels }
+-- that it goes on so after a later load of a `via`, after which so many loaders come
+abbrev pub later_of : ℕ → OnwardOf → OnwardOf
+later_of left o = record { group = o.group; later = Some left; levels = o.levels }
 
 -- the item of a number, from 0
 abbrev pub item_spot : rust-items.Items → ℕ → program.Spot

@@ -1,12 +1,12 @@
 -- What a walk puts into its sink, and what it does to the groups on its way.
 use Rattle.std.specs.Prelude.{◌≡◌, ◌≤◌, ◌⊎◌, ℕ, Bool, List, [], ◌∷◌, length, map, take}
-use Rattle.load_memory.specs.Rows.{RowOf, cell_of}
+use Rattle.load_memory.specs.Rows.{RowOf}
 use Rattle.execution.specs.Program.{Program}
 use Rattle.gq_check.specs.Plans.{PlanOf, plan_of}
-use Rattle.plan_program.specs.PlanPrograms.{list_of, read_cell}
+use Rattle.plan_program.specs.PlanPrograms.{list_of}
 use Rattle.gq_resolve.specs.Groups.{below_at, Covers, AreRight, Grows}
 use Rattle.gq_resolve.specs.Puts.{Put, OnwardOf, View, puts}
-use Rattle.gq_resolve.specs.Spots.{second_of}
+use Rattle.gq_resolve.specs.Spots.{later_of}
 use Rattle.gq_resolve.specs.Evaluated.{told}
 use Rattle.gq_resolve.specs.declared.groups.Group.{Group}
 use Rattle.gq_resolve.specs.declared.tour.Progress.{Progress}
@@ -28,11 +28,6 @@ pub record LetsGo {S : Type 0} (waits : S → ℕ) (most count held : ℕ) (old 
   pub out : new.out ≡ old.out
   pub either : (new.groups.items ≡ old.groups.items) ⊎ ((most ≤ count) × (held ≡ waits old.out) × (new.groups.items ≡ take count old.groups.items))
 
--- what is done with rows by a list of their objects
-abbrev pub all_rows : View → List Group → OnwardOf → List RowOf → Program
-all_rows v gs onward rows = list_of (below_at gs onward.group) (map (λ row. v.after (second_of onward) (row ∷ [])) rows)
-
--- and by a list of the first rows of the second loader's keys in a column
-abbrev pub joined_rows : View → List Group → OnwardOf → ℕ → List ℕ → List RowOf → Program
-joined_rows v gs onward loader column rows =
-    list_of (below_at gs onward.group) (map (λ row. read_cell loader column (cell_of row column) (v.after (second_of onward))) rows)
+-- a list with an item for each of the rows, from which so many later loaders go on
+abbrev pub items_after : View → List Group → OnwardOf → ℕ → List RowOf → Program
+items_after v gs onward left rows = list_of (below_at gs onward.group) (map (λ row. v.after (later_of left onward) (row ∷ [])) rows)

@@ -1,15 +1,17 @@
 //! What is the same for all rows: what a plan asks of the objects below each load, prepared once.
 
-ghost use Rattle.std.specs.Prelude.{◌≡◌, ◌<◌, ◌≤◌, IfOk, IfSome, OnOk};
+ghost use Rattle.std.specs.Prelude.{◌≡◌, ◌<◌, ◌≤◌, IfOk, IfSome, OnOk, map};
+ghost use Rattle.gq_schema.specs.BindingsSeen.{step_of};
 ghost use Rattle.gq_check.specs.Plans.{PlanOf, plan_of};
 ghost use Rattle.plan_program.specs.Prepared.{asked_seen, all_prepared_seen, below_seen};
-ghost use Rattle.gq_resolve.specs.Groups.{below_in, below_at, then_at, type_prepared, IsShape, Grows, IsNew, IsAsking, AreMade, AreKept, IsShaped};
+ghost use Rattle.gq_resolve.specs.Groups.{below_in, below_at, then_at, steps_in, type_prepared, IsShape, Grows, IsNew, IsAsking, AreMade, AreKept, IsShaped};
 
 use crate::no_memory::NoMemory;
 use crate::spot::{Items, Onward, Spot};
 use crate::tour::Tour;
 use gq_lexer::Place;
 use gq_parser::{Field, Selection, TypeRef};
+use gq_schema::Step;
 use load_memory::Key;
 use plan_program::{Asked, Below, KeyFrom, Own, Prepared, collect_below, prepare};
 use std::alloc::Global;
@@ -23,8 +25,8 @@ pub enum Then<'p> {
     First,
     /// All of them.
     All,
-    /// For each of them the second loader's first row of the key in a column.
-    Joined { second: usize, column: &'p str },
+    /// For each of them the first row of each later loader in turn, by a column of the row before.
+    Joined { steps: &'p [Step] },
 }
 
 /// What a position of an object asks for. A load's group says what is done with its rows.
@@ -81,6 +83,17 @@ pub fn then_of<'p>(groups: &[Group<'p>], group: usize) -> Then<'p>
     match groups.get(group) {
         Some(group) => group.then,
         None => Then::First,
+    }
+}
+
+/// The later loaders of a group.
+pub fn steps_of<'p>(groups: &[Group<'p>], group: usize) -> &'p [Step]
+    ensures { map step_of result.now ≡ steps_in (then_at groups.now group) }
+{
+    match then_of(groups, group) {
+        Then::First => &[],
+        Then::All => &[],
+        Then::Joined { steps } => steps,
     }
 }
 
@@ -168,11 +181,10 @@ fn asks_of<'p>(groups: &mut Vec<Group<'p>>, asked: Asked<'p>) -> Result<Asks<'p>
         Asked::Joined {
             loader,
             key,
-            second,
-            column,
+            steps,
             below,
         } => {
-            let group = new_group(groups, Then::Joined { second, column }, below)?;
+            let group = new_group(groups, Then::Joined { steps }, below)?;
             Ok(Asks::Load { loader, key, group })
         }
     }
@@ -309,6 +321,6 @@ pub fn may_load(groups: &[Group<'_>], onward: Onward) -> bool {
     let Some(group) = groups.get(onward.group) else {
         return false;
     };
-    let loads_again = matches!(group.then, Then::Joined { .. }) && !onward.second;
+    let loads_again = matches!(group.then, Then::Joined { .. }) && onward.later != Some(0);
     loads_again || selects_objects(&group.below.fields)
 }

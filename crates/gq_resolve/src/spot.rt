@@ -41,8 +41,8 @@ pub struct Leaf<'r> {
 pub struct Onward {
     /// The number of its group.
     pub group: usize,
-    /// Whether this is the second load of a `via`, of whose rows the first is taken.
-    pub second: bool,
+    /// Of a later load of a `via`, of whose rows the first is taken, how many loaders come after it.
+    pub later: Option<usize>,
     /// How many levels of objects there may be below it.
     pub levels: u32,
 }

@@ -2,24 +2,27 @@
 
 ghost use Rattle.std.specs.Prelude.{◌<◌, ◌∷◌, [], OnOk, false, length, map, option_map};
 ghost use Rattle.load_memory.specs.Keys.{key_of, borrowed_of};
-ghost use Rattle.load_memory.specs.Rows.{cell_of};
 ghost use Rattle.load_memory.specs.Outcomes.{outcome_of};
 ghost use Rattle.execution.specs.Program.{Under, ListOf, ObjectOf};
 ghost use Rattle.gq_check.specs.Plans.{plan_of};
 ghost use Rattle.plan_program.specs.Prepared.{key_from_seen, keys_seen};
-ghost use Rattle.plan_program.specs.PlanPrograms.{places, with_rows, read_from, read_cell, read_key, read_if, object_program};
+ghost use Rattle.plan_program.specs.PlanPrograms.{places, with_rows, read_from, read_key, read_if, object_program};
 ghost use Rattle.gq_resolve.specs.Groups.{below_at, asks_seen, members_seen, IsAsked, AreKnown};
-ghost use Rattle.gq_resolve.specs.Spots.{onward_of, second_of};
-ghost use Rattle.gq_resolve.specs.Walks.{Walks, LetsGo, all_rows, joined_rows};
+ghost use Rattle.gq_resolve.specs.Spots.{onward_of, later_of};
+ghost use Rattle.gq_resolve.specs.Walks.{Walks, LetsGo, items_after};
 
 use crate::cells::{TypeOf, type_of_row};
-use crate::groups::{Asks, Group, Member, Then, items_of, shape_of, then_of, type_name_of};
+use crate::following::{Followed, follow_steps};
+use crate::groups::{
+    Asks, Group, Member, Then, items_of, shape_of, steps_of, then_of, type_name_of,
+};
+use crate::keys::{KeyOver, key_over};
 use crate::no_memory::NoMemory;
 use crate::reading::told_by;
 use crate::sink::Sink;
 use crate::spot::{Items, Kind, Leaf, Onward};
 use gq_check::Plan;
-use load_memory::{CacheKey, Cell, Key, KeyRef, Memory, Outcome, Row};
+use load_memory::{CacheKey, Key, KeyRef, Memory, Outcome, Row};
 use plan_program::{KeyFrom, Own, no_column_message};
 use std::alloc::Global;
 
@@ -100,7 +103,7 @@ impl<'w, 'p, 'a> Tour<'w, 'p, 'a> {
             Asks::Load { loader, key, group } => {
                 let onward = Onward {
                     group: *group,
-                    second: false,
+                    later: None,
                     levels,
                 };
                 self.read_from(at, Loading { onward, strict }, *loader, key, row)
@@ -113,7 +116,7 @@ impl<'w, 'p, 'a> Tour<'w, 'p, 'a> {
             } => {
                 let onward = Onward {
                     group: *group,
-                    second: false,
+                    later: None,
                     levels,
                 };
                 self.each(at, onward, *loader, keys, *items)
@@ -133,31 +136,13 @@ impl<'w, 'p, 'a> Tour<'w, 'p, 'a> {
     ) -> Result<(), NoMemory>
         ensures { OnOk result (Walks S.goes S.below self.now (to.onward.group < length at.old.groups.items) to.strict (λ v. read_from loader (key_from_seen key.now) row.now (v.after (onward_of to.onward))) at.old at.new) }
     {
-        match key {
-            KeyFrom::Fixed(key) => self.read(at, to, loader, key.borrowed()),
-            KeyFrom::Column(column) => self.read_cell(at, to, loader, column, row),
-        }
-    }
-
-    // A load by the key in a column.
-    #[cycle(tour)]
-    fn read_cell<S: Sink>(
-        &self,
-        at: &mut Progress<'p, S>,
-        to: Loading,
-        loader: usize,
-        column: &str,
-        row: &Row,
-    ) -> Result<(), NoMemory>
-        ensures { OnOk result (Walks S.goes S.below self.now (to.onward.group < length at.old.groups.items) to.strict (λ v. read_cell loader column.now (cell_of row.now column.now) (v.after (onward_of to.onward))) at.old at.new) }
-    {
-        match row.get(column) {
-            Cell::NoColumn => {
+        match key_over(key, row) {
+            KeyOver::Known(key) => self.read(at, to, loader, key),
+            KeyOver::Null => at.out.own(&Own::Null, to.strict),
+            KeyOver::Lacking(column) => {
                 let fault = Own::Fault(no_column_message(self.alloc, column)?);
                 at.out.own(&fault, to.strict)
             }
-            Cell::Null => at.out.own(&Own::Null, to.strict),
-            Cell::Text(text) => self.read(at, to, loader, KeyRef::Text(text)),
         }
     }
 
@@ -205,41 +190,43 @@ impl<'w, 'p, 'a> Tour<'w, 'p, 'a> {
     ) -> Result<(), NoMemory>
         ensures { OnOk result (Walks S.goes S.below self.now (to.onward.group < length at.old.groups.items) to.strict (λ v. v.after (onward_of to.onward) rows.now) at.old at.new) }
     {
-        if to.onward.second {
-            return self.first(at, to, rows);
+        if let Some(left) = to.onward.later {
+            return self.first(at, to, left, rows);
         }
         match then_of(&at.groups, to.onward.group) {
-            Then::First => self.first(at, to, rows),
-            Then::All => self.all(at, to.onward, rows),
-            Then::Joined { second, column } => { self.joined(at, to.onward, second, column, rows) }
+            Then::First => self.first(at, to, 0, rows),
+            Then::All => self.all(at, to.onward, 0, rows),
+            Then::Joined { steps } => self.all(at, to.onward, steps.len(), rows),
         }
     }
 
-    // The first of some rows.
+    // What so many later loaders come to from the first of some rows.
     #[cycle(tour)]
     fn first<S: Sink>(
         &self,
         at: &mut Progress<'p, S>,
         to: Loading,
+        left: usize,
         rows: &[Row],
     ) -> Result<(), NoMemory>
-        ensures { OnOk result (Walks S.goes S.below self.now (to.onward.group < length at.old.groups.items) to.strict (λ v. v.after (second_of (onward_of to.onward)) rows.now) at.old at.new) }
+        ensures { OnOk result (Walks S.goes S.below self.now (to.onward.group < length at.old.groups.items) to.strict (λ v. v.after (later_of left (onward_of to.onward)) rows.now) at.old at.new) }
     {
         match rows {
             [] => at.out.own(&Own::Null, to.strict),
-            [row, ..] => self.row_object(at, to, row),
+            [row, ..] => self.follow(at, to, left, row),
         }
     }
 
-    // An item for each row.
+    // An item for each row, by what so many later loaders come to from it.
     #[cycle(tour)]
     fn all<S: Sink>(
         &self,
         at: &mut Progress<'p, S>,
         onward: Onward,
+        left: usize,
         rows: &[Row],
     ) -> Result<(), NoMemory>
-        ensures { OnOk result (Walks S.goes S.below self.now (onward.group < length at.old.groups.items) false (λ v. all_rows v at.old.groups.items (onward_of onward) rows.now) at.old at.new) }
+        ensures { OnOk result (Walks S.goes S.below self.now (onward.group < length at.old.groups.items) false (λ v. items_after v at.old.groups.items (onward_of onward) left rows.now) at.old at.new) }
     {
         let items = items_of(&at.groups, onward.group);
         let to = Loading {
@@ -249,39 +236,38 @@ impl<'w, 'p, 'a> Tour<'w, 'p, 'a> {
         at.out.begin(Kind::List)?;
         for (number, row) in rows.iter().enumerate() {
             at.out.item(items, number)?;
-            self.row_object(at, to, row)?;
+            self.follow(at, to, left, row)?;
         }
         at.out.end(Kind::List)
     }
 
-    // An item for each row, read by its own key.
+    // What so many later loaders come to from a row. Where the memory lacks a load on the way, the position waits there.
     #[cycle(tour)]
-    fn joined<S: Sink>(
+    fn follow<S: Sink>(
         &self,
         at: &mut Progress<'p, S>,
-        onward: Onward,
-        loader: usize,
-        column: &'p str,
-        rows: &[Row],
+        to: Loading,
+        left: usize,
+        row: &Row,
     ) -> Result<(), NoMemory>
-        ensures { OnOk result (Walks S.goes S.below self.now (onward.group < length at.old.groups.items) false (λ v. joined_rows v at.old.groups.items (onward_of onward) loader column.now rows.now) at.old at.new) }
+        ensures { OnOk result (Walks S.goes S.below self.now (to.onward.group < length at.old.groups.items) to.strict (λ v. v.after (later_of left (onward_of to.onward)) (row.now ∷ [])) at.old at.new) }
     {
-        let items = items_of(&at.groups, onward.group);
-        let onward = Onward {
-            group: onward.group,
-            second: true,
-            levels: onward.levels,
-        };
-        let to = Loading {
-            onward,
-            strict: items.non_null,
-        };
-        at.out.begin(Kind::List)?;
-        for (number, row) in rows.iter().enumerate() {
-            at.out.item(items, number)?;
-            self.read_cell(at, to, loader, column, row)?;
+        if left == 0 {
+            return self.row_object(at, to, row);
         }
-        at.out.end(Kind::List)
+        let steps = steps_of(&at.groups, to.onward.group);
+        match follow_steps(self.alloc, self.memory, &mut at.probe, steps, left, row)? {
+            Followed::Row(row) => self.row_object(at, to, row),
+            Followed::Own(own) => at.out.own(&own, to.strict),
+            Followed::Missing { left, loader, key } => {
+                let onward = Onward {
+                    group: to.onward.group,
+                    later: Some(left),
+                    levels: to.onward.levels,
+                };
+                at.out.wait(onward, loader, key)
+            }
+        }
     }
 
     // An item for each key.
@@ -333,7 +319,7 @@ impl<'w, 'p, 'a> Tour<'w, 'p, 'a> {
         to: Loading,
         row: &Row,
     ) -> Result<(), NoMemory>
-        ensures { OnOk result (Walks S.goes S.below self.now (to.onward.group < length at.old.groups.items) to.strict (λ v. v.after (second_of (onward_of to.onward)) (row.now ∷ [])) at.old at.new) }
+        ensures { OnOk result (Walks S.goes S.below self.now (to.onward.group < length at.old.groups.items) to.strict (λ v. v.after (later_of 0 (onward_of to.onward)) (row.now ∷ [])) at.old at.new) }
     {
         let name = type_name_of(&at.groups, to.onward.group);
         match type_of_row(self.alloc, self.plan.schema(), name, row)? {

@@ -8,3 +8,4 @@ pub mod IntTexts
 pub mod Faults
 pub mod InputLaws
 pub mod ReadingLaws
+pub mod Steps

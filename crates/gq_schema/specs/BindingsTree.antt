@@ -2,11 +2,16 @@
 use Rattle.std.specs.Prelude.{ℕ, ◌+◌, Bool, ◌&&◌, List, [], ◌∷◌, Option, Some, None, option_map, find, bytes_eq, if◌then◌else◌}
 use Rattle.bindings_syntax.specs.Statements.{ByOf, KeyOf}
 
--- a loader: its name, its table, and by which column it finds the rows of a key, if not all rows
+-- a loader: its name, its table, and by which columns it finds the rows of a key, if not all rows
 pub record LoaderOf : Type 0 where
   pub name : List ℕ
   pub table : List ℕ
   pub by : Option ByOf
+
+-- a loader of `via` after its first, by its number, and the column of the row before that has its key
+pub record StepOf : Type 0 where
+  pub loader : ℕ
+  pub column : List ℕ
 
 -- how a field is answered; loaders by their numbers, from 0
 pub data BindingOf : Type 0 where
@@ -14,7 +19,7 @@ pub data BindingOf : Type 0 where
   by_one : (loader : ℕ) (key : KeyOf) → BindingOf
   by_many : (loader : ℕ) (key : KeyOf) → BindingOf
   by_each : (loader : ℕ) (argument : List ℕ) → BindingOf
-  by_via : (loader : ℕ) (key : KeyOf) (second : ℕ) (column : List ℕ) → BindingOf
+  by_via : (loader : ℕ) (key : KeyOf) (steps : List StepOf) → BindingOf
 
 -- the field of a type, with its binding
 pub record BoundFieldOf : Type 0 where

@@ -7,5 +7,5 @@ mod loaders;
 mod read;
 mod types;
 
-pub use binding::{Binding, By, KeySource, LoaderLine};
+pub use binding::{Binding, By, KeyPart, KeySource, LoaderLine, Step};
 pub use read::Bindings;

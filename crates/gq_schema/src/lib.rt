@@ -23,7 +23,7 @@ mod schema;
 mod type_names;
 mod types;
 
-pub use bindings::{Binding, Bindings, By, KeySource, LoaderLine};
+pub use bindings::{Binding, Bindings, By, KeyPart, KeySource, LoaderLine, Step};
 pub use coercion::{accepts, coerce};
 pub use fault::SchemaFault;
 pub use input::Input;

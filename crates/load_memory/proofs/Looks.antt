@@ -1,21 +1,29 @@
 -- When two keys are one, and what a list of pairs says of a key.
 use Rattle.std.proofs.Common.{◌≡◌, ℕ, Bool, true, false, List, [], ◌∷◌, ◌++◌, Option, Some, None, refl, ap, ◌∙◌, sym}
-use Rattle.std.specs.Prelude.{◌==◌, is_some, if◌then◌else◌}
+use Rattle.std.specs.Prelude.{◌==◌, bytes_eq, is_some, if◌then◌else◌}
 use Rattle.std.proofs.lemmas.Slice.Eq.{bytes_eq-Decides}
 use Rattle.std.proofs.lemmas.Bool.{eqb-true, and_parts}
-use Rattle.load_memory.specs.Keys.{KeyOf, all, text, same_key}
+use Rattle.load_memory.specs.Keys.{KeyOf, all, text, pair, same_key}
 use Rattle.load_memory.specs.Outcomes.{OutcomeOf}
 use Rattle.load_memory.specs.Pairs.{PairOf, is_at, look, primed}
 
 pub same_key-is : (a b : KeyOf) → same_key a b ≡ true → a ≡ b
 same_key-is all all e = refl
 same_key-is all (text t) e = absurd (cc e)
+same_key-is all (pair s t) e = absurd (cc e)
 same_key-is (text s) all e = absurd (cc e)
 same_key-is (text s) (text t) e = ap text ((bytes_eq-Decides s t).0 e)
+same_key-is (text s) (pair t u) e = absurd (cc e)
+same_key-is (pair s t) all e = absurd (cc e)
+same_key-is (pair s t) (text u) e = absurd (cc e)
+same_key-is (pair s t) (pair u v) e =
+    let parts = and_parts (bytes_eq s u) (bytes_eq t v) e in
+    rw ((bytes_eq-Decides s u).0 parts.0, (bytes_eq-Decides t v).0 parts.1) refl
 
 pub same_key-refl : (a : KeyOf) → same_key a a ≡ true
 same_key-refl all = refl
 same_key-refl (text t) = (bytes_eq-Decides t t).1 refl
+same_key-refl (pair s t) = rw ((bytes_eq-Decides s s).1 refl) ((bytes_eq-Decides t t).1 refl)
 
 pub same_key-sym : (a b : KeyOf) → same_key a b ≡ same_key b a
 same_key-sym a b = go (same_key a b) refl (same_key b a) refl where

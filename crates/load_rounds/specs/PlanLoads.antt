@@ -1,15 +1,15 @@
 -- The loads of a plan's program are of loaders that its bindings define.
 use Rattle.std.proofs.Common.{◌≡◌, ◌<◌, ℕ, zero, suc, Bool, true, false, List, [], ◌∷◌, ◌++◌, map, length, Option, Some, None, refl, inl, inr, ◌⊎◌}
-use Rattle.std.proofs.lemmas.Bool.{ltb-true}
+use Rattle.std.proofs.lemmas.Bool.{ltb-true, and_parts}
 use Rattle.std.specs.Prelude.{nat_lt, if◌then◌else◌, bytes_eq, codes}
 use Rattle.gq_lexer.specs.declared.place.Place.{Place}
 use Rattle.gq_parser.specs.Tree.{TypeTree}
 use Rattle.schema_syntax.specs.Tree.{Definition, Field}
-use Rattle.gq_schema.specs.BindingsTree.{BindingOf, by_column, by_one, by_many, by_each, by_via, binding_in}
+use Rattle.gq_schema.specs.BindingsTree.{StepOf, BindingOf, by_column, by_one, by_many, by_each, by_via, binding_in}
 use Rattle.gq_schema.specs.Inputs.{Input}
 use Rattle.gq_schema.specs.Inputs as input
 use Rattle.gq_schema.specs.Types.{field_in, root_in}
-use Rattle.load_memory.specs.Keys.{KeyOf, text}
+use Rattle.load_memory.specs.Keys.{KeyOf, text, pair}
 use Rattle.load_memory.specs.Rows.{RowOf, cell_of}
 use Rattle.load_memory.specs.Outcomes.{OutcomeOf, known, batch_fault, rows, key_fault}
 use Rattle.execution.specs.Loads.{Load, Reader, IsOneOf}
@@ -18,8 +18,8 @@ use Rattle.execution.specs.Rounds.{HasLoaders}
 use Rattle.gq_check.specs.Plans.{PlanOf}
 use Rattle.plan_program.specs.Groups.{FieldOf, GroupOf, selections_in, nothing_collected, collect, collect_below}
 use Rattle.plan_program.specs.Arguments.{ArgumentsOf, ValueOf, all_values, null_argument, arguments_of}
-use Rattle.plan_program.specs.Asked.{KeyFrom, fixed, of_column, BelowOf, ValueFrom, known as settled, cell, first_row, all_rows, each_row, joined_rows, PreparedOf, with_loader, with_key, key_from, each_asked, input_named, bound_asked, below_of, with_arguments, defined_asked, field_asked, first_asked, spot_of, all_prepared}
-use Rattle.plan_program.specs.PlanPrograms.{TypeOf, object_type, type_fault, type_of_row, places, list_of, fields_of, Objects, typed_object, row_object, with_rows, read_key, read_cell, read_from, read_if, first_object, all_objects, joined_objects, asked_program, object_program, most_levels, root_prepared, plan_program}
+use Rattle.plan_program.specs.Asked.{KeyFrom, fixed, of_column, of_pair, BelowOf, ValueFrom, known as settled, cell, first_row, all_rows, each_row, joined_rows, PreparedOf, with_loader, have_loaders, with_steps, with_key, key_from, each_asked, input_named, bound_asked, below_of, with_arguments, defined_asked, field_asked, first_asked, spot_of, all_prepared}
+use Rattle.plan_program.specs.PlanPrograms.{TypeOf, object_type, type_fault, type_of_row, places, list_of, fields_of, Objects, typed_object, row_object, with_rows, read_key, read_cell, PartOver, told, lacking, part_over, read_pair, read_from, read_if, first_of, first_object, all_objects, joined_object, joined_objects, asked_program, object_program, most_levels, root_prepared, plan_program}
 
 split : (l : Load) (xs ys : List Load) → IsOneOf l (xs ++ ys) → IsOneOf l xs ⊎ IsOneOf l ys
 split l [] ys h = inr h
@@ -69,9 +69,17 @@ module _ (n : ℕ) where
   within-cell loader column (Some []) next lt h = λ R l h. absurd h
   within-cell loader column (Some (c ∷ cs)) next lt h = within-key loader (text (c ∷ cs)) next lt h
 
+  within-pair : (loader : ℕ) (one two : PartOver) (next : List RowOf → Program) → loader < n → ((rs : List RowOf) → HasLoaders n (next rs)) → HasLoaders n (read_pair loader one two next)
+  within-pair loader (lacking column) two next lt h = λ R l h. absurd h
+  within-pair loader (told one) (lacking column) next lt h = λ R l h. absurd h
+  within-pair loader (told None) (told two) next lt h = λ R l h. absurd h
+  within-pair loader (told (Some s)) (told None) next lt h = λ R l h. absurd h
+  within-pair loader (told (Some s)) (told (Some t)) next lt h = within-key loader (pair s t) next lt h
+
   within-from : (loader : ℕ) (from : KeyFrom) (row : RowOf) (next : List RowOf → Program) → loader < n → ((rs : List RowOf) → HasLoaders n (next rs)) → HasLoaders n (read_from loader from row next)
   within-from loader (fixed key) row next lt h = within-key loader key next lt h
   within-from loader (of_column column) row next lt h = within-cell loader column (cell_of row column) next lt h
+  within-from loader (of_pair one two) row next lt h = within-pair loader (part_over one row) (part_over two row) next lt h
 
   within-if : (loader : ℕ) (next : List RowOf → Program) → loader < n → ((rs : List RowOf) → HasLoaders n (next rs)) → (key : Option KeyOf) → HasLoaders n (read_if loader next key)
   within-if loader next lt h None = λ R l h. absurd h
@@ -85,6 +93,14 @@ module _ (n : ℕ) where
   within-list : {A : Type 0} (below : BelowOf) (f : A → Program) (xs : List A) → ((x : A) → HasLoaders n (f x)) → HasLoaders n (list_of below (map f xs))
   within-list below f xs h = within-places below.item_non_null below.place 0 f xs h
 
+  abbrev StepsWithin : List StepOf → Type 0
+  StepsWithin [] = Unit {0}
+  StepsWithin (s ∷ ss) = (s.loader < n) × StepsWithin ss
+
+  first-within : (object : RowOf → Program) → ((row : RowOf) → HasLoaders n (object row)) → (rs : List RowOf) → HasLoaders n (first_of object rs)
+  first-within object h [] = λ R l h. absurd h
+  first-within object h (r ∷ rs) = h r
+
   -- what is asked, of loaders that are there
   abbrev IsAskedWithin : ValueFrom → Type 0
   IsAskedWithin (settled own) = Unit {0}
@@ -92,7 +108,7 @@ module _ (n : ℕ) where
   IsAskedWithin (first_row loader key below) = loader < n
   IsAskedWithin (all_rows loader key below) = loader < n
   IsAskedWithin (each_row loader keys below) = loader < n
-  IsAskedWithin (joined_rows loader key second column below) = (loader < n) × (second < n)
+  IsAskedWithin (joined_rows loader key steps below) = (loader < n) × StepsWithin steps
 
   abbrev AreAskedWithin : List PreparedOf → Type 0
   AreAskedWithin [] = Unit {0}
@@ -110,14 +126,18 @@ module _ (n : ℕ) where
     within-first below [] = λ R l h. absurd h
     within-first below (r ∷ rs) = within-row below r
 
+    within-joined : (below : BelowOf) (steps : List StepOf) → StepsWithin steps → (row : RowOf) → HasLoaders n (joined_object defs objects below steps row)
+    within-joined below [] k row = within-row below row
+    within-joined below (s ∷ ss) k row = within-from s.loader (of_column s.column) row (first_of (joined_object defs objects below ss)) k.0 (first-within (joined_object defs objects below ss) (within-joined below ss k.1))
+
     within-asked : (row : RowOf) (a : ValueFrom) → IsAskedWithin a → HasLoaders n (asked_program defs objects row a)
     within-asked row (settled own) lt = within-is own
     within-asked row (cell column t) lt = λ R l h. absurd h
     within-asked row (first_row loader key below) lt = within-from loader key row (first_object defs objects below) lt (within-first below)
     within-asked row (all_rows loader key below) lt = within-from loader key row (all_objects defs objects below) lt (λ rs. within-list below (row_object defs objects below) rs (within-row below))
     within-asked row (each_row loader keys below) lt = within-list below (read_if loader (first_object defs objects below)) keys (within-if loader (first_object defs objects below) lt (within-first below))
-    within-asked row (joined_rows loader key second column below) lt =
-        within-from loader key row (joined_objects defs objects below second column) lt.0 (λ rs. within-list below (λ r. read_from second (of_column column) r (first_object defs objects below)) rs (λ r. within-from second (of_column column) r (first_object defs objects below) lt.1 (within-first below)))
+    within-asked row (joined_rows loader key steps below) lt =
+        within-from loader key row (joined_objects defs objects below steps) lt.0 (λ rs. within-list below (joined_object defs objects below steps) rs (within-joined below steps lt.1))
 
     within-fields : (row : RowOf) (ps : List PreparedOf) → AreAskedWithin ps → AreWithin (fields_of (asked_program defs objects row) ps)
     within-fields row [] k = within-end
@@ -132,6 +152,18 @@ module _ (plan : PlanOf) where
   asked-loader loader a h = go (nat_lt loader (length plan.bindings.loaders)) refl where
     go : (b : Bool) → nat_lt loader (length plan.bindings.loaders) ≡ b → IsAskedWithin (length plan.bindings.loaders) (if b then a else settled Null)
     go true e = h (ltb-true loader (length plan.bindings.loaders) e)
+    go false e = tt
+
+  steps-within : (m : ℕ) (steps : List StepOf) → have_loaders steps m ≡ true → StepsWithin m steps
+  steps-within m [] e = tt
+  steps-within m (s ∷ ss) e =
+      let parts = and_parts (nat_lt s.loader m) (have_loaders ss m) e in
+      (ltb-true s.loader m parts.0, steps-within m ss parts.1)
+
+  asked-steps : (steps : List StepOf) (a : ValueFrom) → (StepsWithin (length plan.bindings.loaders) steps → IsAskedWithin (length plan.bindings.loaders) a) → IsAskedWithin (length plan.bindings.loaders) (with_steps plan steps a)
+  asked-steps steps a h = go (have_loaders steps (length plan.bindings.loaders)) refl where
+    go : (b : Bool) → have_loaders steps (length plan.bindings.loaders) ≡ b → IsAskedWithin (length plan.bindings.loaders) (if b then a else settled Null)
+    go true e = h (steps-within (length plan.bindings.loaders) steps e)
     go false e = tt
 
   asked-key : (key : Option KeyFrom) (f : KeyFrom → ValueFrom) → ((k : KeyFrom) → IsAskedWithin (length plan.bindings.loaders) (f k)) → IsAskedWithin (length plan.bindings.loaders) (with_key key f)
@@ -154,9 +186,9 @@ module _ (plan : PlanOf) where
   asked-bound t below values (Some (by_many loader key)) =
       asked-loader loader (with_key (key_from values key) (λ k. all_rows loader k below)) (λ lt. asked-key (key_from values key) (λ k. all_rows loader k below) (λ k. lt))
   asked-bound t below values (Some (by_each loader name)) = asked-loader loader (each_asked loader below (input_named name values)) (λ lt. asked-each loader below (input_named name values) lt)
-  asked-bound t below values (Some (by_via loader key second column)) =
-      asked-loader loader (with_loader plan second (with_key (key_from values key) (λ k. joined_rows loader k second column below)))
-      (λ one. asked-loader second (with_key (key_from values key) (λ k. joined_rows loader k second column below)) (λ two. asked-key (key_from values key) (λ k. joined_rows loader k second column below) (λ k. (one, two))))
+  asked-bound t below values (Some (by_via loader key steps)) =
+      asked-loader loader (with_steps plan steps (with_key (key_from values key) (λ k. joined_rows loader k steps below)))
+      (λ one. asked-steps steps (with_key (key_from values key) (λ k. joined_rows loader k steps below)) (λ others. asked-key (key_from values key) (λ k. joined_rows loader k steps below) (λ k. (one, others))))
 
   asked-with : (args : ArgumentsOf) (f : List ValueOf → ValueFrom) → ((values : List ValueOf) → IsAskedWithin (length plan.bindings.loaders) (f values)) → IsAskedWithin (length plan.bindings.loaders) (with_arguments args f)
   asked-with (null_argument name) f h = tt

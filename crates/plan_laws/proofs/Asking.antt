@@ -1,17 +1,21 @@
 -- What a group asks whose field has a definition, a binding and the binding's loaders.
-use Rattle.std.proofs.Common.{◌≡◌, ◌∙◌, ap, refl, ℕ, true, false, List, length, Option, Some}
+use Rattle.std.proofs.Common.{◌≡◌, ◌∙◌, ap, refl, ℕ, true, false, List, [], ◌∷◌, length, Option, Some}
 use Rattle.std.specs.Prelude.{nat_lt, bytes_eq, codes}
 use Rattle.std.proofs.lemmas.Bool.{lt-ltb}
 use Rattle.std.proofs.Math.Path.{fun_ext}
 use Rattle.gq_parser.specs.Tree.{TypeTree}
 use Rattle.schema_syntax.specs.Tree.{Field}
 use Rattle.gq_schema.specs.Types.{field_in}
-use Rattle.gq_schema.specs.BindingsTree.{BindingOf, by_column, by_one, by_many, by_each, by_via, binding_in}
+use Rattle.gq_schema.specs.BindingsTree.{StepOf, BindingOf, by_column, by_one, by_many, by_each, by_via, binding_in}
 use Rattle.gq_check.specs.Plans.{PlanOf}
 use Rattle.plan_program.specs.Groups.{FieldOf, GroupOf}
 use Rattle.plan_program.specs.Arguments.{ValueOf, arguments_of}
-use Rattle.plan_program.specs.Asked.{BelowOf, ValueFrom, PreparedOf, bound_asked, below_of, with_arguments, defined_asked, field_asked, first_asked, prepared}
-use Rattle.plan_laws.specs.Met.{IsAskedBy, AreThere, IsBound, asked_by_binding}
+use Rattle.plan_program.specs.Asked.{BelowOf, ValueFrom, PreparedOf, have_loaders, bound_asked, below_of, with_arguments, defined_asked, field_asked, first_asked, prepared}
+use Rattle.plan_laws.specs.Met.{IsAskedBy, StepsThere, AreThere, IsBound, asked_by_binding}
+
+steps-have : (n : ℕ) (steps : List StepOf) → StepsThere n steps → have_loaders steps n ≡ true
+steps-have n [] h = refl
+steps-have n (s ∷ ss) h = let there : nat_lt s.loader n ≡ true = lt-ltb s.loader n h.0 in rw (there, steps-have n ss h.1) refl
 
 module _ (plan : PlanOf) where
   bound-asks : (t : TypeTree) (b : BelowOf) (values : List ValueOf) (binding : BindingOf) → AreThere (length plan.bindings.loaders) binding → bound_asked plan t b values (Some binding) ≡ asked_by_binding t b values binding
@@ -19,10 +23,10 @@ module _ (plan : PlanOf) where
   bound-asks t b values (by_one loader key) h = let there : nat_lt loader (length plan.bindings.loaders) ≡ true = lt-ltb loader (length plan.bindings.loaders) h in rw there refl
   bound-asks t b values (by_many loader key) h = let there : nat_lt loader (length plan.bindings.loaders) ≡ true = lt-ltb loader (length plan.bindings.loaders) h in rw there refl
   bound-asks t b values (by_each loader name) h = let there : nat_lt loader (length plan.bindings.loaders) ≡ true = lt-ltb loader (length plan.bindings.loaders) h in rw there refl
-  bound-asks t b values (by_via loader key second column) h =
+  bound-asks t b values (by_via loader key steps) h =
       let there : nat_lt loader (length plan.bindings.loaders) ≡ true = lt-ltb loader (length plan.bindings.loaders) h.0 in
-      let other : nat_lt second (length plan.bindings.loaders) ≡ true = lt-ltb second (length plan.bindings.loaders) h.1 in
-      rw (there, other) refl
+      let others : have_loaders steps (length plan.bindings.loaders) ≡ true = steps-have (length plan.bindings.loaders) steps h.1 in
+      rw (there, others) refl
 
   abbrev asked : PreparedOf → ValueFrom
   asked p = p.asked

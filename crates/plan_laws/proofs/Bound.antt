@@ -4,7 +4,8 @@ use Rattle.std.specs.Prelude.{option_map, option_and_then, find, is_some, bytes_
 use Rattle.std.specs.Option.{option_map_or}
 use Rattle.std.proofs.lemmas.Bool.{and_from}
 use Rattle.std.proofs.lemmas.Slice.Eq.{bytes_eq-Decides}
-use Rattle.bindings_syntax.specs.Statements.{KeyOf, from_argument, from_column, from_all, FormOf, to_column, to_one, to_many, to_each, to_via, StatementOf, loader_line, field_line}
+use Rattle.bindings_syntax.specs.Statements as source
+use Rattle.bindings_syntax.specs.Statements.{ByOf, KeyOf, from_argument, from_column, from_all, from_pair, FormOf, to_column, to_one, to_many, to_each, to_via, StatementOf, loader_line, field_line}
 use Rattle.bindings_syntax.specs.Reading.{NumberedOf, BindingsTextOf, bindings_text}
 use Rattle.schema_syntax.specs.Tree.{Name, Field, Definition, Schema, Object, Interface, Union, Enum}
 use Rattle.gq_schema.specs.declared.kind.TypeKind.{TypeKind}
@@ -12,11 +13,11 @@ use Rattle.gq_schema.specs.declared.kind.TypeKind.TheVariants as kind
 use Rattle.gq_schema.specs.Kinds.{is_object}
 use Rattle.gq_schema.specs.Types.{is_built_in, defines, type_in, kind_of, is_field, field_in}
 use Rattle.gq_schema.specs.BindingsTypes.{is_object_type, is_root_type, is_leaf_type, is_composite_type, is_composite_list, is_key_type, is_key_list, takes}
-use Rattle.gq_schema.specs.BindingsTree.{LoaderOf, BindingOf, by_column, by_one, by_many, by_each, by_via, BoundFieldOf, BindingsOf, is_loader, binds, binding_in, loader_from, loader_in}
-use Rattle.gq_schema.specs.BindingsForms.{keyed_loader, whole_loader, asked_loader, via_loaders, form_binding, field_binding}
+use Rattle.gq_schema.specs.BindingsTree.{LoaderOf, StepOf, BindingOf, by_column, by_one, by_many, by_each, by_via, BoundFieldOf, BindingsOf, is_loader, binds, binding_in, loader_from, loader_in}
+use Rattle.gq_schema.specs.BindingsForms.{is_by_one, is_by_two, keyed_loader, paired_loader, whole_loader, part_fits, asked_loader, later_step, later_steps, via_loaders, form_binding, field_binding}
 use Rattle.gq_schema.specs.BindingsReading.{Reading, accepted, refused, with_loader, with_field, after_statement, or_refused, and_then, after_statements, settled_field, settled_fields, settled, at_end, nothing, reading_of, bindings_of}
 use Rattle.execution.specs.Loads.{IsOneOf}
-use Rattle.plan_laws.specs.Met.{AreThere, IsBound}
+use Rattle.plan_laws.specs.Met.{StepsThere, AreThere, IsBound}
 use Rattle.plan_laws.proofs.Options.{if-given, if-not-given, map-given, then-given, some-of, found-one}
 
 -- ---- numbers of loaders
@@ -33,13 +34,19 @@ from-there n (x ∷ ls) q k l h = go (is_loader q x) h (λ e. from-there (n + 1)
     go false e rest = let r = rest e in omega (arith, r)
 
 module _ (ls : List LoaderOf) where
-  keyed-there : (name : List ℕ) (k : ℕ) → keyed_loader ls name ≡ Some k → k < length ls
-  keyed-there name k h =
-      let t = then-given (λ (l : ℕ × LoaderOf). if is_some l.1.by then Some l.0 else None) (loader_in ls name) k h in
-      let g = if-given (is_some t.0.1.by) (Some t.0.0) k t.2 in
+  by-there : (fits : Option ByOf → Bool) (name : List ℕ) (k : ℕ) → option_and_then (λ (l : ℕ × LoaderOf). if fits l.1.by then Some l.0 else None) (loader_in ls name) ≡ Some k → k < length ls
+  by-there fits name k h =
+      let t = then-given (λ (l : ℕ × LoaderOf). if fits l.1.by then Some l.0 else None) (loader_in ls name) k h in
+      let g = if-given (fits t.0.1.by) (Some t.0.0) k t.2 in
       let same : t.0.0 ≡ k = cc in
       let under = from-there 0 ls name t.0.0 t.0.1 t.1 in
       omega (arith, under, same)
+
+  keyed-there : (name : List ℕ) (k : ℕ) → keyed_loader ls name ≡ Some k → k < length ls
+  keyed-there name k h = by-there is_by_one name k h
+
+  paired-there : (name : List ℕ) (k : ℕ) → paired_loader ls name ≡ Some k → k < length ls
+  paired-there name k h = by-there is_by_two name k h
 
   whole-there : (name : List ℕ) (k : ℕ) → whole_loader ls name ≡ Some k → k < length ls
   whole-there name k h =
@@ -53,12 +60,22 @@ module _ (ls : List LoaderOf) where
   asked-there of_root field name (from_argument a) k h = keyed-there name k (if-given (takes is_key_type field a) (keyed_loader ls name) k h).1
   asked-there of_root field name (from_column c) k h = keyed-there name k (if-not-given of_root (keyed_loader ls name) k h).1
   asked-there of_root field name from_all k h = whole-there name k h
+  asked-there of_root field name (from_pair one two) k h = paired-there name k (if-given (part_fits of_root field one && part_fits of_root field two) (paired_loader ls name) k h).1
 
-  via-there : (of_root : Bool) (field : Field) (name : List ℕ) (key : KeyOf) (second : List ℕ) (p : ℕ × ℕ) → via_loaders ls of_root field name key second ≡ Some p → (p.0 < length ls) × (p.1 < length ls)
-  via-there of_root field name key second p h =
-      let t = then-given (λ (n : ℕ). option_map (λ (m : ℕ). (n, m)) (keyed_loader ls second)) (asked_loader ls of_root field name key) p h in
-      let u = map-given (λ (m : ℕ). (t.0, m)) (keyed_loader ls second) p t.2 in
-      subst (λ (q : ℕ × ℕ). (q.0 < length ls) × (q.1 < length ls)) u.2 (asked-there of_root field name key t.0 t.1, keyed-there second u.0 u.1)
+  abbrev step-at : source.StepOf → ℕ → StepOf
+  step-at s n = record { loader = n; column = s.1 }
+
+  step-there : (s : source.StepOf) (t : StepOf) → later_step ls s ≡ Some t → t.loader < length ls
+  step-there s t h =
+      let m = map-given (step-at s) (keyed_loader ls s.0) t h in
+      subst (λ (q : StepOf). q.loader < length ls) m.2 (keyed-there s.0 m.0 m.1)
+
+  steps-there : (steps : List source.StepOf) (ss : List StepOf) → later_steps ls steps ≡ Some ss → StepsThere (length ls) ss
+  steps-there [] ss h = let same : [] ≡ ss = cc in subst (StepsThere (length ls)) same tt
+  steps-there (s ∷ rest) ss h =
+      let t = then-given (λ (t : StepOf). option_map (λ (ts : List StepOf). t ∷ ts) (later_steps ls rest)) (later_step ls s) ss h in
+      let u = map-given (λ (ts : List StepOf). t.0 ∷ ts) (later_steps ls rest) ss t.2 in
+      subst (StepsThere (length ls)) u.2 (step-there s t.0 t.1, steps-there rest u.0 u.1)
 
   form-there : (defs : List Definition) (of_root : Bool) (field : Field) (form : FormOf) (b : BindingOf) → form_binding defs ls of_root field form ≡ Some b → AreThere (length ls) b
   form-there defs of_root field (to_column c) b h =
@@ -77,11 +94,11 @@ module _ (ls : List LoaderOf) where
       let g = if-given (is_composite_list defs field.of_type && takes is_key_list field a) (option_map (λ (n : ℕ). by_each n a) (keyed_loader ls l)) b h in
       let m = map-given (λ (n : ℕ). by_each n a) (keyed_loader ls l) b g.1 in
       subst (AreThere (length ls)) m.2 (keyed-there l m.0 m.1)
-  form-there defs of_root field (to_via l key second c) b h =
-      let numbers : Option (ℕ × ℕ) = via_loaders ls of_root field l key second in
-      let g = if-given (is_composite_list defs field.of_type) (option_map (λ (n : ℕ × ℕ). by_via n.0 key n.1 c) (via_loaders ls of_root field l key second)) b h in
-      let m = map-given (λ (n : ℕ × ℕ). by_via n.0 key n.1 c) (via_loaders ls of_root field l key second) b g.1 in
-      subst (AreThere (length ls)) m.2 (via-there of_root field l key second m.0 m.1)
+  form-there defs of_root field (to_via l key steps) b h =
+      let g = if-given (is_composite_list defs field.of_type) (via_loaders ls (asked_loader ls of_root field l key) key steps) b h in
+      let t = then-given (λ (n : ℕ). option_map (λ (ss : List StepOf). by_via n key ss) (later_steps ls steps)) (asked_loader ls of_root field l key) b g.1 in
+      let u = map-given (λ (ss : List StepOf). by_via t.0 key ss) (later_steps ls steps) b t.2 in
+      subst (AreThere (length ls)) u.2 (asked-there of_root field l key t.0 t.1, steps-there steps u.0 u.1)
 
 -- ---- what is bound after each line
 
@@ -89,12 +106,16 @@ abbrev AllThere : ℕ → List BoundFieldOf → Type 0
 AllThere n [] = Unit {0}
 AllThere n (f ∷ fs) = AreThere n f.binding × AllThere n fs
 
+steps-more : (n m : ℕ) (ss : List StepOf) → n ≤ m → StepsThere n ss → StepsThere m ss
+steps-more n m [] le h = tt
+steps-more n m (s ∷ ss) le h = let a = h.0 in (omega (arith, le, a), steps-more n m ss le h.1)
+
 there-more : (n m : ℕ) (b : BindingOf) → n ≤ m → AreThere n b → AreThere m b
 there-more n m (by_column column) le h = tt
 there-more n m (by_one loader key) le h = omega (arith, le, h)
 there-more n m (by_many loader key) le h = omega (arith, le, h)
 there-more n m (by_each loader argument) le h = omega (arith, le, h)
-there-more n m (by_via loader key second column) le h = let a = h.0 in let b = h.1 in (omega (arith, le, a), omega (arith, le, b))
+there-more n m (by_via loader key steps) le h = let a = h.0 in (omega (arith, le, a), steps-more n m steps le h.1)
 
 all-more : (n m : ℕ) (fs : List BoundFieldOf) → n ≤ m → AllThere n fs → AllThere m fs
 all-more n m [] le h = tt

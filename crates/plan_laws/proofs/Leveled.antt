@@ -6,7 +6,7 @@ use Rattle.gq_parser.specs.Tree.{TypeTree, Selection, Field, Spread, Inline, Bel
 use Rattle.schema_syntax.specs.Tree.{Definition, Field as DefinedField}
 use Rattle.gq_schema.specs.Inputs.{Input, Items, Int, Text, Boolean, Null as NullInput}
 use Rattle.gq_schema.specs.Types.{field_in, root_in}
-use Rattle.gq_schema.specs.BindingsTree.{BindingOf, by_column, by_one, by_many, by_each, by_via, binding_in}
+use Rattle.gq_schema.specs.BindingsTree.{StepOf, BindingOf, by_column, by_one, by_many, by_each, by_via, binding_in}
 use Rattle.load_memory.specs.Rows.{RowOf}
 use Rattle.execution.specs.Program.{Value, Null, Text as LeafText, Program, Programs, Under, With, ObjectOf}
 use Rattle.gq_check.specs.Plans.{PlanOf, fragment_in}
@@ -14,8 +14,8 @@ use Rattle.spread_graph.specs.Levels.{levels_in, levels_among, levels_from, leve
 use Rattle.plan_program.specs.Chosen.{is_left_out, applies}
 use Rattle.plan_program.specs.Groups.{FieldOf, GroupOf, Collected, Entering, nothing_collected, with_field, chosen_field, has_entered, collect_one, collect_set, collect_all, enter_fragment, entering, collect_from, collect, collect_below, selections_in, selections_below}
 use Rattle.plan_program.specs.Arguments.{ArgumentsOf, ValueOf, all_values, null_argument, arguments_of}
-use Rattle.plan_program.specs.Asked.{KeyFrom, of_column, BelowOf, ValueFrom, known as settled, cell, first_row, all_rows, each_row, joined_rows, PreparedOf, key_from, with_loader, with_key, each_asked, input_named, bound_asked, below_of, with_arguments, defined_asked, field_asked, first_asked, prepared, all_prepared, spot_of}
-use Rattle.plan_program.specs.PlanPrograms.{TypeOf, object_type, type_fault, type_of_row, list_of, fields_of, Objects, typed_object, row_object, read_from, read_if, first_object, all_objects, joined_objects, asked_program, prepared_program, object_program, most_levels, plan_program}
+use Rattle.plan_program.specs.Asked.{KeyFrom, of_column, BelowOf, ValueFrom, known as settled, cell, first_row, all_rows, each_row, joined_rows, PreparedOf, key_from, with_loader, have_loaders, with_steps, with_key, each_asked, input_named, bound_asked, below_of, with_arguments, defined_asked, field_asked, first_asked, prepared, all_prepared, spot_of}
+use Rattle.plan_program.specs.PlanPrograms.{TypeOf, object_type, type_fault, type_of_row, list_of, fields_of, Objects, typed_object, row_object, read_from, read_if, first_of, first_object, all_objects, joined_object, joined_objects, asked_program, prepared_program, object_program, most_levels, plan_program}
 use Rattle.plan_laws.specs.Levels.{program_with}
 
 -- The number of a fragment's name is at least that of the fields on any path down from the fragment, where the fragments
@@ -35,13 +35,20 @@ OverFields P (cell column t) = Unit {0}
 OverFields P (first_row loader key b) = P b.fields
 OverFields P (all_rows loader key b) = P b.fields
 OverFields P (each_row loader keys b) = P b.fields
-OverFields P (joined_rows loader key second column b) = P b.fields
+OverFields P (joined_rows loader key steps b) = P b.fields
 
 -- ---- what a group asks has the group's fields below it
 
 module _ (plan : PlanOf) (P : List FieldOf → Type 0) where
   loader-over : (loader : ℕ) (asked : ValueFrom) → OverFields P asked → OverFields P (with_loader plan loader asked)
   loader-over loader asked h = go (nat_lt loader (length plan.bindings.loaders))
+    where
+      go : (b : Bool) → OverFields P (if b then asked else settled Null)
+      go true = h
+      go false = tt
+
+  steps-over : (steps : List StepOf) (asked : ValueFrom) → OverFields P asked → OverFields P (with_steps plan steps asked)
+  steps-over steps asked h = go (have_loaders steps (length plan.bindings.loaders))
     where
       go : (b : Bool) → OverFields P (if b then asked else settled Null)
       go true = h
@@ -65,7 +72,7 @@ module _ (plan : PlanOf) (P : List FieldOf → Type 0) where
   bound-over t b values (Some (by_one loader key)) h = loader-over loader _ (key-over (key_from values key) _ (λ k. h))
   bound-over t b values (Some (by_many loader key)) h = loader-over loader _ (key-over (key_from values key) _ (λ k. h))
   bound-over t b values (Some (by_each loader name)) h = loader-over loader _ (each-over loader b (input_named name values) h)
-  bound-over t b values (Some (by_via loader key second column)) h = loader-over loader _ (loader-over second _ (key-over (key_from values key) _ (λ k. h)))
+  bound-over t b values (Some (by_via loader key steps)) h = loader-over loader _ (steps-over steps _ (key-over (key_from values key) _ (λ k. h)))
 
   arguments-over : (a : ArgumentsOf) (asked : List ValueOf → ValueFrom) → ((vs : List ValueOf) → OverFields P (asked vs)) → OverFields P (with_arguments a asked)
   arguments-over (null_argument name) asked h = tt
@@ -109,8 +116,12 @@ module _ (defs : List Definition) (objects other : Objects) where
   alls-alike : (b : BelowOf) → AlikeOver objects other b.fields → all_objects defs objects b ≡ all_objects defs other b
   alls-alike b h = fun_ext (λ rs. ap (λ (f : RowOf → Program). list_of b (map f rs)) (rows-alike b h))
 
-  joined-alike : (b : BelowOf) (second : ℕ) (column : List ℕ) → AlikeOver objects other b.fields → joined_objects defs objects b second column ≡ joined_objects defs other b second column
-  joined-alike b second column h = fun_ext (λ rs. ap (λ (next : List RowOf → Program). list_of b (map (λ (r : RowOf). read_from second (of_column column) r next) rs)) (firsts-alike b h))
+  object-alike : (b : BelowOf) (steps : List StepOf) → AlikeOver objects other b.fields → joined_object defs objects b steps ≡ joined_object defs other b steps
+  object-alike b [] h = rows-alike b h
+  object-alike b (s ∷ ss) h = fun_ext (λ row. ap (λ (next : RowOf → Program). read_from s.loader (of_column s.column) row (first_of next)) (object-alike b ss h))
+
+  joined-alike : (b : BelowOf) (steps : List StepOf) → AlikeOver objects other b.fields → joined_objects defs objects b steps ≡ joined_objects defs other b steps
+  joined-alike b steps h = fun_ext (λ rs. ap (λ (f : RowOf → Program). list_of b (map f rs)) (object-alike b steps h))
 
   asked-alike : (row : RowOf) (a : ValueFrom) → OverFields (AlikeOver objects other) a → asked_program defs objects row a ≡ asked_program defs other row a
   asked-alike row (settled own) h = refl
@@ -118,7 +129,7 @@ module _ (defs : List Definition) (objects other : Objects) where
   asked-alike row (first_row loader key b) h = ap (λ (next : List RowOf → Program). read_from loader key row next) (firsts-alike b h)
   asked-alike row (all_rows loader key b) h = ap (λ (next : List RowOf → Program). read_from loader key row next) (alls-alike b h)
   asked-alike row (each_row loader keys b) h = ap (λ (next : List RowOf → Program). list_of b (map (read_if loader next) keys)) (firsts-alike b h)
-  asked-alike row (joined_rows loader key second column b) h = ap (λ (next : List RowOf → Program). read_from loader key row next) (joined-alike b second column h)
+  asked-alike row (joined_rows loader key steps b) h = ap (λ (next : List RowOf → Program). read_from loader key row next) (joined-alike b steps h)
 
 -- groups, each with fields over which they are alike
 abbrev GroupsAlike : Objects → Objects → List GroupOf → Type 0

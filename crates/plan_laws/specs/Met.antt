@@ -1,11 +1,11 @@
 -- The fields that the execution of a plan can meet, and what answers each.
-use Rattle.std.specs.Prelude.{◌≡◌, ◌<◌, ℕ, Bool, false, List, ◌∷◌, length, Some, None, codes, bytes_eq}
+use Rattle.std.specs.Prelude.{◌≡◌, ◌<◌, ℕ, Bool, false, List, [], ◌∷◌, length, Some, None, codes, bytes_eq}
 use Rattle.gq_parser.specs.Tree.{TypeTree, Value}
 use Rattle.schema_syntax.specs.Tree.{Argument, Definition, Field}
 use Rattle.gq_schema.specs.Types.{root_in, field_in, core_of}
 use Rattle.gq_schema.specs.Fault.{fault_of}
 use Rattle.gq_schema.specs.Implements.{argument_in}
-use Rattle.gq_schema.specs.BindingsTree.{BindingsOf, BindingOf, by_column, by_one, by_many, by_each, by_via, binding_in}
+use Rattle.gq_schema.specs.BindingsTree.{BindingsOf, StepOf, BindingOf, by_column, by_one, by_many, by_each, by_via, binding_in}
 use Rattle.gq_schema.specs.BindingsReading.{bindings_of, accepted}
 use Rattle.load_memory.specs.Rows.{RowOf}
 use Rattle.execution.specs.Loads.{IsOneOf}
@@ -60,13 +60,17 @@ pub record IsGiven (plan : PlanOf) (ty : List ℕ) (f : FieldOf) (a : Argument) 
 
 -- ---- what answers them
 
+abbrev pub StepsThere : ℕ → List StepOf → Type 0
+StepsThere n [] = Unit {0}
+StepsThere n (s ∷ ss) = (s.loader < n) × StepsThere n ss
+
 -- the loaders that a binding names are among the first n
 abbrev pub AreThere : ℕ → BindingOf → Type 0
 AreThere n (by_column column) = Unit {0}
 AreThere n (by_one loader key) = loader < n
 AreThere n (by_many loader key) = loader < n
 AreThere n (by_each loader argument) = loader < n
-AreThere n (by_via loader key second column) = (loader < n) × (second < n)
+AreThere n (by_via loader key steps) = (loader < n) × StepsThere n steps
 
 -- a field of this type has a binding, and the loaders that it names are there
 pub record IsBound (b : BindingsOf) (ty name : List ℕ) : Type 0 where
@@ -80,7 +84,7 @@ asked_by_binding t below values (by_column column) = cell column t
 asked_by_binding t below values (by_one loader key) = with_key (key_from values key) (λ k. first_row loader k below)
 asked_by_binding t below values (by_many loader key) = with_key (key_from values key) (λ k. all_rows loader k below)
 asked_by_binding t below values (by_each loader name) = each_asked loader below (input_named name values)
-asked_by_binding t below values (by_via loader key second column) = with_key (key_from values key) (λ k. joined_rows loader k second column below)
+asked_by_binding t below values (by_via loader key steps) = with_key (key_from values key) (λ k. joined_rows loader k steps below)
 
 -- The object type has a definition of the field, this is bound, and what the group asks is what the binding asks with the
 -- arguments' values.

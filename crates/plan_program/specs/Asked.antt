@@ -1,7 +1,8 @@
 -- *Arguments and loads*: what a group asks for, whatever the row is: its position, and by its field's binding a cell, or
 -- loads with where their keys come from.
-use Rattle.std.specs.Prelude.{ℕ, Bool, true, false, nat_lt, ◌&&◌, List, [], ◌∷◌, length, Option, Some, None, option_map, map, codes, bytes_eq, if◌then◌else◌}
+use Rattle.std.specs.Prelude.{◌≡◌, ℕ, Bool, true, false, nat_lt, ◌&&◌, List, [], ◌∷◌, length, Option, Some, None, option_map, option_and_then, map, codes, bytes_eq, if◌then◌else◌}
 use Rattle.std.specs.Fmt.{signed_decimal}
+use Rattle.std.specs.List.{list_all}
 use Rattle.std.specs.Option.{option_map_or}
 use Rattle.gq_lexer.specs.declared.place.Place.{Place}
 use Rattle.gq_parser.specs.Tree.{TypeTree, Named, ListOf}
@@ -10,7 +11,7 @@ use Rattle.bindings_syntax.specs.Statements as source
 use Rattle.gq_schema.specs.Inputs.{Input, Inputs, no_input, and_input, Items}
 use Rattle.gq_schema.specs.Inputs as input
 use Rattle.gq_schema.specs.Types.{field_in, is_non_null, core_of}
-use Rattle.gq_schema.specs.BindingsTree.{BindingOf, by_column, by_one, by_many, by_each, by_via, binding_in}
+use Rattle.gq_schema.specs.BindingsTree.{StepOf, BindingOf, by_column, by_one, by_many, by_each, by_via, binding_in}
 use Rattle.load_memory.specs.Keys.{KeyOf, all, text}
 use Rattle.execution.specs.Program.{Own, Value, Null, Fault, Text, Spot, Key}
 use Rattle.gq_check.specs.Plans.{PlanOf}
@@ -18,10 +19,16 @@ use Rattle.plan_program.specs.Groups.{FieldOf, GroupOf}
 use Rattle.plan_program.specs.Arguments.{ArgumentsOf, ValueOf, all_values, null_argument, arguments_of}
 use Rattle.plan_program.specs.Texts.{null_argument_message}
 
+-- where a part of a key of two comes from: an argument, of which nothing is null, or a column
+pub data PartFrom : Type 0 where
+  fixed_part : Option (List ℕ) → PartFrom
+  column_part : List ℕ → PartFrom
+
 -- where the key of a load comes from
 pub data KeyFrom : Type 0 where
   fixed : KeyOf → KeyFrom
   of_column : List ℕ → KeyFrom
+  of_pair : PartFrom → PartFrom → KeyFrom
 
 -- what an object below a field is made from: its type's name, which may be an interface or a union, and the fields that
 -- select of it; and the positions of a list's items
@@ -41,8 +48,8 @@ pub data ValueFrom : Type 0 where
   all_rows : ℕ → KeyFrom → BelowOf → ValueFrom
   -- for each key its first row; no key is null
   each_row : ℕ → List (Option KeyOf) → BelowOf → ValueFrom
-  -- the key's rows, and for each the second loader's first row of the key in a column
-  joined_rows : ℕ → KeyFrom → ℕ → List ℕ → BelowOf → ValueFrom
+  -- the key's rows, and for each the first row of each later loader in turn, by a column of the row before
+  joined_rows : ℕ → KeyFrom → List StepOf → BelowOf → ValueFrom
 
 -- the position of a group, and what it asks for
 pub record PreparedOf : Type 0 where
@@ -51,11 +58,14 @@ pub record PreparedOf : Type 0 where
 
 -- ---- keys
 
--- a text is a key, and an Int in decimal; null and no value is no key
+-- a text is itself, and an Int in decimal; null and no value is no text
+abbrev pub text_of_input : Input → Option (List ℕ)
+text_of_input (input.Text t) = Some t
+text_of_input (input.Int z) = Some (signed_decimal z)
+text_of_input _ = None
+
 abbrev pub key_of_input : Input → Option KeyOf
-key_of_input (input.Text t) = Some (text t)
-key_of_input (input.Int z) = Some (text (signed_decimal z))
-key_of_input _ = None
+key_of_input i = option_map (λ t. text t) (text_of_input i)
 
 abbrev pub input_named : List ℕ → List ValueOf → Option Input
 input_named name [] = None
@@ -65,10 +75,15 @@ abbrev pub key_if : Option Input → Option KeyFrom
 key_if None = None
 key_if (Some i) = option_map (λ key. fixed key) (key_of_input i)
 
+abbrev pub part_from : List ValueOf → source.PartOf → PartFrom
+part_from values (source.argument_part name) = fixed_part (option_and_then text_of_input (input_named name values))
+part_from values (source.column_part column) = column_part column
+
 abbrev pub key_from : List ValueOf → source.KeyOf → Option KeyFrom
 key_from values (source.from_argument name) = key_if (input_named name values)
 key_from values (source.from_column column) = Some (of_column column)
 key_from values source.from_all = Some (fixed all)
+key_from values (source.from_pair one two) = Some (of_pair (part_from values one) (part_from values two))
 
 abbrev pub keys_of : Inputs → List (Option KeyOf)
 keys_of no_input = []
@@ -80,10 +95,21 @@ keys_of (and_input i is) = key_of_input i ∷ keys_of is
 abbrev pub with_loader : PlanOf → ℕ → ValueFrom → ValueFrom
 with_loader plan loader asked = if nat_lt loader (length plan.bindings.loaders) then asked else known Null
 
+-- the later loaders of `via` are among so many
+abbrev pub have_loaders : List StepOf → ℕ → Bool
+have_loaders steps n = list_all (λ (s : StepOf). nat_lt s.loader n) steps
+
+abbrev pub with_steps : PlanOf → List StepOf → ValueFrom → ValueFrom
+with_steps plan steps asked = if have_loaders steps (length plan.bindings.loaders) then asked else known Null
+
 -- no key gives null and makes no load
 abbrev pub with_key : Option KeyFrom → (KeyFrom → ValueFrom) → ValueFrom
 with_key None asked = known Null
 with_key (Some key) asked = asked key
+
+-- this key is that one where the bindings define the loader, and else none
+abbrev pub IsLoadedBy : PlanOf → ℕ → Option KeyFrom → Option KeyFrom → Type 0
+IsLoadedBy plan loader key found = (asked : KeyFrom → ValueFrom) → with_loader plan loader (with_key key asked) ≡ with_key found asked
 
 abbrev pub each_asked : ℕ → BelowOf → Option Input → ValueFrom
 each_asked loader below (Some (Items is)) = each_row loader (keys_of is) below
@@ -95,8 +121,8 @@ bound_asked plan t below values (Some (by_column column)) = cell column t
 bound_asked plan t below values (Some (by_one loader key)) = with_loader plan loader (with_key (key_from values key) (λ k. first_row loader k below))
 bound_asked plan t below values (Some (by_many loader key)) = with_loader plan loader (with_key (key_from values key) (λ k. all_rows loader k below))
 bound_asked plan t below values (Some (by_each loader name)) = with_loader plan loader (each_asked loader below (input_named name values))
-bound_asked plan t below values (Some (by_via loader key second column)) =
-    with_loader plan loader (with_loader plan second (with_key (key_from values key) (λ k. joined_rows loader k second column below)))
+bound_asked plan t below values (Some (by_via loader key steps)) =
+    with_loader plan loader (with_steps plan steps (with_key (key_from values key) (λ k. joined_rows loader k steps below)))
 
 -- ---- positions
 

@@ -8,13 +8,14 @@ use Rattle.schema_syntax.specs.Tree.{Definition}
 use Rattle.gq_schema.specs.Types.{root_in, has_value, can_be}
 use Rattle.gq_schema.specs.BindingsTypes.{is_object_type}
 use Rattle.gq_schema.specs.Coercion.{int_of}
-use Rattle.load_memory.specs.Keys.{KeyOf, text}
+use Rattle.load_memory.specs.Keys.{KeyOf, text, pair}
 use Rattle.load_memory.specs.Rows.{RowOf, cell_of}
 use Rattle.load_memory.specs.Outcomes.{OutcomeOf, known, batch_fault, rows, key_fault}
 use Rattle.execution.specs.Program.{Leaf, Text, Int, Boolean, Own, Value, Null, Fault, ListOf as Listed, ObjectOf, Item, Spot, Program, Is, Read, Under, Programs, End, With}
 use Rattle.gq_check.specs.Plans.{PlanOf}
 use Rattle.plan_program.specs.Groups.{FieldOf, selections_in, nothing_collected, collect, collect_below}
-use Rattle.plan_program.specs.Asked.{KeyFrom, fixed, of_column, BelowOf, ValueFrom, known as settled, cell, first_row, all_rows, each_row, joined_rows, PreparedOf, all_prepared}
+use Rattle.gq_schema.specs.BindingsTree.{StepOf}
+use Rattle.plan_program.specs.Asked.{PartFrom, fixed_part, column_part, KeyFrom, fixed, of_column, of_pair, BelowOf, ValueFrom, known as settled, cell, first_row, all_rows, each_row, joined_rows, PreparedOf, all_prepared}
 use Rattle.plan_program.specs.Texts.{bad_value_message, no_column_message, no_type_message, not_type_message, is_int_text}
 
 -- ---- cells
@@ -112,25 +113,58 @@ read_cell loader column None next = Is (Fault (no_column_message column))
 read_cell loader column (Some []) next = Is Null
 read_cell loader column (Some (c ∷ cs)) next = read_key loader (text (c ∷ cs)) next
 
+-- what a part of a key of two is over a row: its text, of which nothing is null, or the column that the row doesn't have
+pub data PartOver : Type 0 where
+  told : Option (List ℕ) → PartOver
+  lacking : List ℕ → PartOver
+
+-- an empty cell is null
+abbrev pub part_of_cell : List ℕ → Option (List ℕ) → PartOver
+part_of_cell column None = lacking column
+part_of_cell column (Some []) = told None
+part_of_cell column (Some (c ∷ cs)) = told (Some (c ∷ cs))
+
+abbrev pub part_over : PartFrom → RowOf → PartOver
+part_over (fixed_part t) row = told t
+part_over (column_part column) row = part_of_cell column (cell_of row column)
+
+-- the key of two parts; a null part is no key, and the first column that isn't there is a fault, whatever the other part is
+abbrev pub read_pair : ℕ → PartOver → PartOver → (List RowOf → Program) → Program
+read_pair loader (lacking column) two next = Is (Fault (no_column_message column))
+read_pair loader (told one) (lacking column) next = Is (Fault (no_column_message column))
+read_pair loader (told None) (told two) next = Is Null
+read_pair loader (told (Some s)) (told None) next = Is Null
+read_pair loader (told (Some s)) (told (Some t)) next = read_key loader (pair s t) next
+
 abbrev pub read_from : ℕ → KeyFrom → RowOf → (List RowOf → Program) → Program
 read_from loader (fixed key) row next = read_key loader key next
 read_from loader (of_column column) row next = read_cell loader column (cell_of row column) next
+read_from loader (of_pair one two) row next = read_pair loader (part_over one row) (part_over two row) next
 
 abbrev pub read_if : ℕ → (List RowOf → Program) → Option KeyOf → Program
 read_if loader next None = Is Null
 read_if loader next (Some key) = read_key loader key next
 
+-- the first of the rows, or null
+abbrev pub first_of : (RowOf → Program) → List RowOf → Program
+first_of object [] = Is Null
+first_of object (r ∷ rs) = object r
+
 module _ (defs : List Definition) (objects : Objects) where
   abbrev pub first_object : BelowOf → List RowOf → Program
-  first_object below [] = Is Null
-  first_object below (r ∷ rs) = row_object defs objects below r
+  first_object below rs = first_of (row_object defs objects below) rs
 
   abbrev pub all_objects : BelowOf → List RowOf → Program
   all_objects below rs = list_of below (map (row_object defs objects below) rs)
 
-  -- for each row the second loader's first row of the key in a column
-  abbrev pub joined_objects : BelowOf → ℕ → List ℕ → List RowOf → Program
-  joined_objects below second column rs = list_of below (map (λ r. read_from second (of_column column) r (first_object below)) rs)
+  -- The object that later loaders come to from a row, each by a column of the row before. A null key or no row is null, and
+  -- asks no further loader.
+  abbrev pub joined_object : BelowOf → List StepOf → RowOf → Program
+  joined_object below [] row = row_object defs objects below row
+  joined_object below (s ∷ ss) row = read_from s.loader (of_column s.column) row (first_of (joined_object below ss))
+
+  abbrev pub joined_objects : BelowOf → List StepOf → List RowOf → Program
+  joined_objects below steps rs = list_of below (map (joined_object below steps) rs)
 
   -- what comes of what a group asks for, over a row
   abbrev pub asked_program : RowOf → ValueFrom → Program
@@ -139,7 +173,7 @@ module _ (defs : List Definition) (objects : Objects) where
   asked_program row (first_row loader key below) = read_from loader key row (first_object below)
   asked_program row (all_rows loader key below) = read_from loader key row (all_objects below)
   asked_program row (each_row loader keys below) = list_of below (map (read_if loader (first_object below)) keys)
-  asked_program row (joined_rows loader key second column below) = read_from loader key row (joined_objects below second column)
+  asked_program row (joined_rows loader key steps below) = read_from loader key row (joined_objects below steps)
 
   -- an object over a row
   abbrev pub prepared_program : List PreparedOf → RowOf → Program

@@ -22,5 +22,5 @@ pub use collection::{collect, collect_below};
 pub use group::Group;
 pub use no_memory::NoMemory;
 pub use preparation::prepare;
-pub use prepared::{Asked, Below, KeyFrom, Own, Prepared};
+pub use prepared::{Asked, Below, KeyFrom, Own, PartFrom, Prepared};
 pub use texts::{bad_value_message, no_column_message, no_type_message, not_type_message};

@@ -1,45 +1,55 @@
 //! Preparation of groups: all that is the same for each row.
 
-ghost use Rattle.std.specs.Prelude.{◌≡◌, IfOk, Some, false, map};
+ghost use Rattle.std.specs.Prelude.{◌≡◌, IfOk, Some, false, map, string_bytes};
 ghost use Rattle.std.specs.Option.{option_map, option_copied};
 ghost use Rattle.std.specs.Arc.{arc_value};
 ghost use Rattle.gq_parser.specs.Tree.{type_of};
 ghost use Rattle.schema_syntax.specs.Tree.{field_of};
 ghost use Rattle.gq_schema.specs.Inputs.{input_of, inputs_of};
-ghost use Rattle.gq_schema.specs.BindingsSeen.{key_of as source_of, binding_of};
+ghost use Rattle.gq_schema.specs.BindingsSeen.{part_of, key_of as source_of, step_of, binding_of};
 ghost use Rattle.gq_schema.specs.BindingsTree.{binding_in};
 ghost use Rattle.load_memory.specs.Keys.{key_of};
 ghost use Rattle.gq_check.specs.Plans.{plan_of};
 ghost use Rattle.plan_program.specs.Arguments.{arguments_of};
-ghost use Rattle.plan_program.specs.Asked.{key_of_input, input_named, key_if, key_from, keys_of, each_asked, bound_asked, below_of, with_arguments, spot_of, known, prepared, all_prepared};
+ghost use Rattle.plan_program.specs.Asked.{text_of_input, key_of_input, input_named, key_if, part_from, key_from, keys_of, have_loaders, IsLoadedBy, each_asked, bound_asked, below_of, with_arguments, spot_of, known, prepared, all_prepared};
 ghost use Rattle.execution.specs.Program.{Null};
 ghost use Rattle.plan_program.specs.Seen.{field_seen, fields_seen, group_of, groups_of, values_of};
-ghost use Rattle.plan_program.specs.Prepared.{key_from_seen, keys_seen, below_seen, asked_seen, prepared_seen, all_prepared_seen};
+ghost use Rattle.plan_program.specs.Prepared.{part_from_seen, key_from_seen, keys_seen, below_seen, asked_seen, prepared_seen, all_prepared_seen};
 
 use crate::arguments::{ArgFault, Args, arguments_of};
 use crate::group::Group;
 use crate::no_memory::NoMemory;
-use crate::prepared::{Asked, Below, KeyFrom, Own, Prepared};
+use crate::prepared::{Asked, Below, KeyFrom, Own, PartFrom, Prepared};
 use crate::texts::null_argument_message;
 use crate::type_refs::{core_name, is_item_non_null, is_non_null};
 use gq_check::Plan;
 use gq_lexer::Place;
 use gq_parser::{Field, TypeRef};
-use gq_schema::{Binding, FieldDef, Input, KeySource};
+use gq_schema::{Binding, FieldDef, Input, KeyPart, KeySource, Step};
 use load_memory::Key;
 use std::alloc::{AllocError, Global};
 use std::sync::Arc;
+
+// The text that an argument's value is in a key.
+fn text_of_input(alloc: Global, input: &Input) -> Result<Option<String>, AllocError>
+    ensures { IfOk result (λ text. option_map (λ t. string_bytes t) text ≡ text_of_input (input_of input.now)) }
+{
+    match input {
+        Input::Text(text) => Ok(Some(text.clone()?)),
+        Input::Int(number) => Ok(Some(number.to_string(alloc)?)),
+        Input::Null => Ok(None),
+        Input::Bool(_) => Ok(None),
+        Input::List(_) => Ok(None),
+    }
+}
 
 // The key that an argument's value is.
 fn key_of_input(alloc: Global, input: &Input) -> Result<Option<Key>, AllocError>
     ensures { IfOk result (λ key. option_map key_of key ≡ key_of_input (input_of input.now)) }
 {
-    match input {
-        Input::Text(text) => Ok(Some(Key::Text(text.clone()?))),
-        Input::Int(number) => Ok(Some(Key::Text(number.to_string(alloc)?))),
-        Input::Null => Ok(None),
-        Input::Bool(_) => Ok(None),
-        Input::List(_) => Ok(None),
+    match text_of_input(alloc, input)? {
+        Some(text) => Ok(Some(Key::Text(text))),
+        None => Ok(None),
     }
 }
 
@@ -71,6 +81,23 @@ fn key_of_argument<'p>(
     }
 }
 
+// Where a part of a key of two parts comes from.
+fn part_from<'p>(
+    alloc: Global,
+    args: &Args,
+    source: &'p KeyPart,
+) -> Result<PartFrom<'p>, AllocError>
+    ensures { IfOk result (λ part. part_from_seen part ≡ part_from (values_of args.now) (part_of source.now)) }
+{
+    match source {
+        KeyPart::Argument(name) => match input_named(args, name.as_str()) {
+            Some(input) => Ok(PartFrom::Fixed(text_of_input(alloc, input)?)),
+            None => Ok(PartFrom::Fixed(None)),
+        },
+        KeyPart::Column(column) => Ok(PartFrom::Column(column.as_str())),
+    }
+}
+
 // Where a key comes from; nothing where it is null.
 fn key_from<'p>(
     alloc: Global,
@@ -83,6 +110,11 @@ fn key_from<'p>(
         KeySource::Argument(name) => key_of_argument(alloc, args, name.as_str()),
         KeySource::Column(column) => Ok(Some(KeyFrom::Column(column.as_str()))),
         KeySource::All => Ok(Some(KeyFrom::Fixed(Key::All))),
+        KeySource::Pair(one, two) => {
+            let one = part_from(alloc, args, one)?;
+            let two = part_from(alloc, args, two)?;
+            Ok(Some(KeyFrom::Pair(one, two)))
+        }
     }
 }
 
@@ -122,6 +154,30 @@ fn each_asked<'p>(
     }
 }
 
+// Whether the later loaders of `via` are among so many.
+fn have_loaders(steps: &[Step], loaders: usize) -> bool
+    ensures { result ≡ have_loaders (map step_of steps.now) loaders }
+{
+    steps.iter().all(|step| step.loader < loaders)
+}
+
+// The key of a load by one of the bindings' loaders; nothing where it is null or there is no such loader.
+fn key_of_load<'p>(
+    alloc: Global,
+    plan: &Plan<'_>,
+    args: &Args,
+    loader: usize,
+    source: &'p KeySource,
+) -> Result<Option<KeyFrom<'p>>, AllocError>
+    ensures { IfOk result (λ key. IsLoadedBy (plan_of plan.now) loader (key_from (values_of args.now) (source_of source.now)) (option_map key_from_seen key)) }
+{
+    if loader < plan.loaders() {
+        key_from(alloc, args, source)
+    } else {
+        Ok(None)
+    }
+}
+
 // What a binding asks for.
 fn bound_asked<'p>(
     alloc: Global,
@@ -133,64 +189,49 @@ fn bound_asked<'p>(
 ) -> Result<Asked<'p>, AllocError>
     ensures { IfOk result (λ asked. asked_seen asked ≡ bound_asked (plan_of plan.now) (type_of ty.now) (below_seen (arc_value below.entry)) (values_of args.now) (Some (binding_of binding.now))) }
 {
-    match binding {
-        Binding::Column(column) => Ok(Asked::Cell {
+    let null = Asked::Known(Own::Null);
+    Ok(match binding {
+        Binding::Column(column) => Asked::Cell {
             column: column.as_str(),
             ty,
-        }),
-        Binding::One { loader, key } => {
-            if *loader >= plan.loaders() {
-                return Ok(Asked::Known(Own::Null));
-            }
-            match key_from(alloc, args, key)? {
-                Some(key) => Ok(Asked::First {
-                    loader: *loader,
-                    key,
-                    below,
-                }),
-                None => Ok(Asked::Known(Own::Null)),
-            }
-        }
-        Binding::Many { loader, key } => {
-            if *loader >= plan.loaders() {
-                return Ok(Asked::Known(Own::Null));
-            }
-            match key_from(alloc, args, key)? {
-                Some(key) => Ok(Asked::All {
-                    loader: *loader,
-                    key,
-                    below,
-                }),
-                None => Ok(Asked::Known(Own::Null)),
-            }
-        }
+        },
+        Binding::One { loader, key } => match key_of_load(alloc, plan, args, *loader, key)? {
+            Some(key) => Asked::First {
+                loader: *loader,
+                key,
+                below,
+            },
+            None => null,
+        },
+        Binding::Many { loader, key } => match key_of_load(alloc, plan, args, *loader, key)? {
+            Some(key) => Asked::All {
+                loader: *loader,
+                key,
+                below,
+            },
+            None => null,
+        },
         Binding::Each { loader, argument } => {
             if *loader >= plan.loaders() {
-                return Ok(Asked::Known(Own::Null));
+                return Ok(null);
             }
-            each_asked(alloc, *loader, below, input_named(args, argument.as_str()))
+            each_asked(alloc, *loader, below, input_named(args, argument.as_str()))?
         }
-        Binding::Via {
-            loader,
-            key,
-            second,
-            column,
-        } => {
-            if *loader >= plan.loaders() || *second >= plan.loaders() {
-                return Ok(Asked::Known(Own::Null));
+        Binding::Via { loader, key, steps } => {
+            if !have_loaders(steps, plan.loaders()) {
+                return Ok(null);
             }
-            match key_from(alloc, args, key)? {
-                Some(key) => Ok(Asked::Joined {
+            match key_of_load(alloc, plan, args, *loader, key)? {
+                Some(key) => Asked::Joined {
                     loader: *loader,
                     key,
-                    second: *second,
-                    column: column.as_str(),
+                    steps: steps.as_slice(),
                     below,
-                }),
-                None => Ok(Asked::Known(Own::Null)),
+                },
+                None => null,
             }
         }
-    }
+    })
 }
 
 fn below_of<'p>(ty: &'p TypeRef, place: Place, fields: Vec<&'p Field>) -> Below<'p>

@@ -2,6 +2,7 @@
 
 use gq_lexer::Place;
 use gq_parser::{Field, TypeRef};
+use gq_schema::Step;
 use load_memory::Key;
 use std::sync::Arc;
 
@@ -17,12 +18,23 @@ pub enum Own {
     Fault(String),
 }
 
+/// Where a part of a key of two parts comes from.
+#[derive(Drop)]
+pub enum PartFrom<'p> {
+    /// The text of an argument; none where it is null.
+    Fixed(Option<String>),
+    /// A column of the row.
+    Column(&'p str),
+}
+
 /// Where the key of a load comes from.
 #[derive(Drop)]
 pub enum KeyFrom<'p> {
     Fixed(Key),
     /// A column of the row.
     Column(&'p str),
+    /// Two parts. Where a part is null, there is no key; but a column that the row doesn't have is a fault all the same.
+    Pair(PartFrom<'p>, PartFrom<'p>),
 }
 
 /// What the objects below a field are made from.
@@ -66,12 +78,11 @@ pub enum Asked<'p> {
         keys: Vec<Option<Key>>,
         below: Arc<Below<'p>>,
     },
-    /// The key's rows, and for each the second loader's first row of the key in a column.
+    /// The key's rows, and for each the first row of each later loader in turn, by a column of the row before.
     Joined {
         loader: usize,
         key: KeyFrom<'p>,
-        second: usize,
-        column: &'p str,
+        steps: &'p [Step],
         below: Arc<Below<'p>>,
     },
 }

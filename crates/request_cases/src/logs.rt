@@ -14,10 +14,11 @@ pub fn push_keys(text: &mut String, keys: &[Key]) -> Result<(), AllocError> {
     let mut mark = "";
     for key in keys {
         text.push_str(mark)?;
-        text.push_str(match key {
-            Key::All => "all",
-            Key::Text(key) => key.as_str(),
-        })?;
+        match key {
+            Key::All => text.push_str("all")?,
+            Key::Text(key) => text.push_str(key.as_str())?,
+            Key::Pair(one, two) => write!(text, "({one},{two})")?,
+        }
         mark = " ";
     }
     Ok(())

@@ -109,14 +109,28 @@ fn loader_of(world: &World, name: &str) -> Result<usize> {
     bail!("no loader {name}")
 }
 
-/// What a loader has in a column of a key's rows, as `name of 1 by userById`; `all` is the key of all rows.
+/// The key of a text, of `all` that of all rows, and of `(a,b)` that of a pair.
+fn key_of(alloc: Global, text: &str) -> Result<Key, AllocError> {
+    if text == "all" {
+        return Ok(Key::All);
+    }
+    if let Some((one, two)) = parts_of(text) {
+        return Ok(Key::Pair(String::from_str(alloc, one)?, String::from_str(alloc, two)?));
+    }
+    Ok(Key::Text(String::from_str(alloc, text)?))
+}
+
+/// The parts of a pair.
+fn parts_of(text: &str) -> Option<(&str, &str)> {
+    let inside = text.strip_prefix('(')?.strip_suffix(')')?;
+    inside.split_once(',')
+}
+
+/// What a loader has in a column of a key's rows, as `name of 1 by userById`.
 fn load(alloc: Global, world: &World, text: &str) -> Result<String> {
     let (asked, name) = text.split_once(" by ").context("no loader")?;
     let (column, key) = asked.split_once(" of ").context("no key")?;
-    let key = match key {
-        "all" => Key::All,
-        text => Key::Text(String::from_str(alloc, text)?),
-    };
+    let key = key_of(alloc, key)?;
     let number = loader_of(world, name)?;
     if number >= world.loaders() {
         bail!("no source");

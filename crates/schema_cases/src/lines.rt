@@ -23,10 +23,10 @@ pub fn told(alloc: Global, text: &str) -> Result<String> {
     displayed(alloc, &read(alloc, text)?)
 }
 
-/// Whether a line is no statement: as the third of four lines it is the first bad one, and the first two say what they say alone.
-/// Else what the four say.
-pub fn told_as_third(alloc: Global, line: &str) -> Result<String> {
-    let text = format!(in alloc; "bindings 1\nloader a b\n{line}\nloader c d\n")?;
+/// Whether a line is no statement in a text of a version: as the third of four lines it is the first bad one, and the first
+/// two say what they say alone. Else what the four say.
+pub fn told_as_third(alloc: Global, version: u32, line: &str) -> Result<String> {
+    let text = format!(in alloc; "bindings {version}\nloader a b\n{line}\nloader c d\n")?;
     let mut found = read(alloc, &text)?;
     let front = told(alloc, "bindings 1\nloader a b\n")?;
     if found.bad_line == Some(3) {

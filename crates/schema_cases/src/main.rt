@@ -25,7 +25,8 @@ impl Teller for Schemas {
             "binding" => bindings::binding(alloc, asked, text),
             "bindings with another line" => bindings::with_another_line(alloc, asked, text),
             "lines" => lines::told(alloc, text),
-            "third line" => lines::told_as_third(alloc, text),
+            "third line" => lines::told_as_third(alloc, 1, text),
+            "third line of version 2" => lines::told_as_third(alloc, 2, text),
             "lines by both readers" => lines::told_by_both(alloc, text),
             words => told_of_values(alloc, words, asked.file(0)?, text),
         }

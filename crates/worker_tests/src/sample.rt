@@ -43,6 +43,7 @@ fn takes(key: &Key, text: &str) -> bool {
     match key {
         Key::All => true,
         Key::Text(key) => key.as_str() == text,
+        Key::Pair(..) => false,
     }
 }
 
@@ -114,8 +115,9 @@ pub fn plan_of<'w>(
 
 /// Adds a key to a text.
 pub fn push_key(text: &mut String, key: &Key) -> Result<(), AllocError> {
-    text.push_str(match key {
-        Key::All => "all",
-        Key::Text(key) => key.as_str(),
-    })
+    match key {
+        Key::All => text.push_str("all"),
+        Key::Text(key) => text.push_str(key.as_str()),
+        Key::Pair(one, two) => write!(text, "({one},{two})"),
+    }
 }

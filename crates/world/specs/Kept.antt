@@ -2,7 +2,7 @@
 use Rattle.std.specs.Prelude.{◌≡◌}
 use Rattle.std.specs.Arc.{arc_value}
 use Rattle.load_memory.specs.Rows.{SheetOf}
-use Rattle.csv_source.specs.Tables.{SourceOf, IndexOf, rows_of, index_of, source_of_all, source_by}
+use Rattle.csv_source.specs.Tables.{SourceOf, IndexOf, PairIndexOf, rows_of, index_of, source_of_all, source_by, source_by_two}
 use Rattle.world.specs.declared.tables.KeptIndex.{KeptIndex}
 use Rattle.world.specs.declared.sources.SourceParts.{SourceParts}
 use Rattle.world.specs.declared.sources.SourceParts.TheVariants as parts
@@ -15,6 +15,11 @@ IsKept sheet kept = arc_value kept.index ≡ index_of sheet kept.column (arc_val
 abbrev pub source_by_index : IndexOf → SourceOf
 source_by_index index = source_by index.rows index.column index.mode
 
+-- the source by an index of pairs
+abbrev pub source_by_pair_index : PairIndexOf → SourceOf
+source_by_pair_index index = source_by_two index.rows index.column index.second index.mode
+
 abbrev pub source_of : SourceParts → SourceOf
 source_of (parts.All table) = source_of_all (rows_of (arc_value table))
 source_of (parts.By index) = source_by_index (arc_value index)
+source_of (parts.ByTwo index) = source_by_pair_index index

@@ -1,5 +1,5 @@
 -- The sources of loaders over tables.
-use Rattle.std.specs.Prelude.{◌≡◌, ℕ, Bool, true, false, List, [], ◌∷◌, Option, Some, None, Result, Ok, Err, String, string_bytes, bytes_eq, map, find, option_map, if◌then◌else◌}
+use Rattle.std.specs.Prelude.{◌≡◌, ℕ, Bool, true, false, ◌&&◌, List, [], ◌∷◌, Option, Some, None, Result, Ok, Err, String, string_bytes, bytes_eq, map, find, option_map, if◌then◌else◌}
 use Rattle.std.specs.List.{list_any}
 use Rattle.std.specs.Global.{Global}
 use Rattle.bindings_syntax.specs.Statements.{ByOf}
@@ -8,7 +8,7 @@ use Rattle.load_memory.specs.Rows.{SheetOf}
 use Rattle.load_memory.specs.declared.key.KeyMode.{KeyMode}
 use Rattle.load_memory.specs.declared.key.KeyMode.TheVariants.{Exact, FoldAscii}
 use Rattle.csv_source.specs.Reading.{Repeats}
-use Rattle.csv_source.specs.Tables.{SourceOf, rows_of, source_of_all, source_by}
+use Rattle.csv_source.specs.Tables.{SourceOf, rows_of, source_of_all, source_by, source_by_two}
 use Rattle.world.specs.declared.fault.WorldFault.{WorldFault}
 use Rattle.world.specs.declared.fault.WorldFault.TheVariants.{BadLimit, Schema, DuplicateTable, NoSuchTable, NoSuchColumn, NoMemory}
 
@@ -47,10 +47,16 @@ mode_of false = Exact
 abbrev pub has_column : SheetOf → List ℕ → Bool
 has_column sheet column = list_any (bytes_eq column) sheet.names
 
--- the source of a loader over its table: of all rows, or by a column that has to be there
+-- the source by one column or by two, which have to be there
+abbrev pub source_by_columns : SheetOf → List ℕ → Option (List ℕ) → KeyMode → Result SourceOf WorldFault
+source_by_columns sheet column None mode = if has_column sheet column then Ok (source_by (rows_of sheet) column mode) else Err NoSuchColumn
+source_by_columns sheet column (Some second) mode =
+    if has_column sheet column && has_column sheet second then Ok (source_by_two (rows_of sheet) column second mode) else Err NoSuchColumn
+
+-- the source of a loader over its table: of all rows, or by its columns
 abbrev pub source_over : SheetOf → Option ByOf → Result SourceOf WorldFault
 source_over sheet None = Ok (source_of_all (rows_of sheet))
-source_over sheet (Some by) = if has_column sheet by.column then Ok (source_by (rows_of sheet) by.column (mode_of by.fold)) else Err NoSuchColumn
+source_over sheet (Some by) = source_by_columns sheet by.column by.second (mode_of by.fold)
 
 abbrev pub source_over_found : Option SheetOf → Option ByOf → Result SourceOf WorldFault
 source_over_found None by = Err NoSuchTable

@@ -8,17 +8,18 @@ ghost use Rattle.world.specs.Kept.{source_of};
 
 use crate::fault::WorldFault;
 use crate::tables::IndexedTable;
-use csv_source::{ColumnIndex, CsvSource, Table};
+use csv_source::{ColumnIndex, CsvSource, PairIndex, Table};
 use gq_schema::LoaderLine;
 use std::alloc::Global;
 use std::collections::HashMap;
 use std::sync::Arc;
 
-/// What a source is made from: a table, for one of all rows, or the index of a column.
+/// What a source is made from: a table, for one of all rows, or the index of a column or of two.
 #[derive(Drop)]
 pub enum SourceParts {
     All(Arc<Table>),
     By(Arc<ColumnIndex>),
+    ByTwo(PairIndex),
 }
 
 impl SourceParts {
@@ -29,6 +30,7 @@ impl SourceParts {
         match self {
             SourceParts::All(table) => CsvSource::all(table),
             SourceParts::By(index) => CsvSource::of_index(index),
+            SourceParts::ByTwo(index) => CsvSource::of_pair_index(index),
         }
     }
 }
@@ -54,7 +56,7 @@ fn source_parts(
 /// # Errors
 ///
 /// For the first loader without a source: `NoSuchTable` where its table isn't there, or else
-/// `NoSuchColumn` where the table doesn't have its column. `NoMemory` when it comes.
+/// `NoSuchColumn` where the table doesn't have its columns. `NoMemory` when it comes.
 pub fn all_source_parts(
     alloc: Global,
     mut tables: HashMap<String, IndexedTable>,

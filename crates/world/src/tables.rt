@@ -1,18 +1,18 @@
 //! The tables by their names, and the indices of their columns.
 
-ghost use Rattle.std.specs.Prelude.{◌≡◌, ℕ, List, Ok, Some, IfOk, IfErr, IfSome, OnOk, Contains, map, position, bytes_eq};
+ghost use Rattle.std.specs.Prelude.{◌≡◌, ℕ, List, Ok, Some, None, IfOk, IfErr, IfSome, OnOk, Contains, map, position, bytes_eq};
 ghost use Rattle.std.specs.Arc.{arc_value};
 ghost use Rattle.std.specs.HashMap.{get_by_text};
 ghost use Rattle.std.specs.Option.{option_map};
 ghost use Rattle.gq_schema.specs.BindingsSeen.{by_of};
 ghost use Rattle.csv_source.specs.Reading.{Repeats};
 ghost use Rattle.csv_source.specs.Tables.{rows_of, index_of};
-ghost use Rattle.world.specs.Sources.{table_of, names_of, sheet_named, mode_of, source_over, IsRefused, IsRefusedTables};
-ghost use Rattle.world.specs.Kept.{source_of, source_by_index};
+ghost use Rattle.world.specs.Sources.{table_of, names_of, sheet_named, mode_of, source_by_columns, source_over, IsRefused, IsRefusedTables};
+ghost use Rattle.world.specs.Kept.{source_of, source_by_index, source_by_pair_index};
 
 use crate::fault::WorldFault;
 use crate::sources::SourceParts;
-use csv_source::{ColumnIndex, Table};
+use csv_source::{ColumnIndex, PairIndex, Table, TableFault};
 use gq_schema::By;
 use load_memory::KeyMode;
 use std::alloc::{AllocError, Global};
@@ -107,18 +107,59 @@ impl IndexedTable {
     }
 
     // The index of a column, of which one is made for each mode at most.
-    fn index(&mut self, alloc: Global, by: &By) -> Result<Arc<ColumnIndex>, WorldFault>
+    fn index(
+        &mut self,
+        alloc: Global,
+        column: &str,
+        mode: KeyMode,
+    ) -> Result<Arc<ColumnIndex>, WorldFault>
         ensures same { self.new ≡ self.old }
-        ensures ok { IfOk result (λ x. source_over self.old (Some (by_of by.now)) ≡ Ok (source_by_index (arc_value x))) }
-        ensures err { IfErr result (IsRefused (source_over self.old (Some (by_of by.now)))) }
+        ensures ok { IfOk result (λ x. source_by_columns self.old column.now None mode ≡ Ok (source_by_index (arc_value x))) }
+        ensures err { IfErr result (IsRefused (source_by_columns self.old column.now None mode)) }
     {
-        let mode = mode_of(by);
-        let Some(place) = self.table.sheet().column(&by.column) else {
+        let Some(place) = self.table.sheet().column(column) else {
             return Err(WorldFault::NoSuchColumn);
         };
         match self.find(place, mode) {
             Some(index) => Ok(Arc::try_clone(index)?),
-            None => self.add(alloc, place, &by.column, mode),
+            None => self.add(alloc, place, column, mode),
+        }
+    }
+
+    // An index of two columns.
+    fn pair_index(
+        &self,
+        alloc: Global,
+        column: &str,
+        second: &str,
+        mode: KeyMode,
+    ) -> Result<PairIndex, WorldFault>
+        ensures ok { IfOk result (λ x. source_by_columns self.now column.now (Some second.now) mode ≡ Ok (source_by_pair_index x)) }
+        ensures err { IfErr result (IsRefused (source_by_columns self.now column.now (Some second.now) mode)) }
+    {
+        match PairIndex::new(alloc, &self.table, column, second, mode) {
+            Ok(index) => Ok(index),
+            Err(TableFault::NoSuchColumn) => Err(WorldFault::NoSuchColumn),
+            Err(_) => Err(WorldFault::NoMemory),
+        }
+    }
+
+    // What the source by the columns of a loader is made from.
+    fn source_by(&mut self, alloc: Global, by: &By) -> Result<SourceParts, WorldFault>
+        ensures same { self.new ≡ self.old }
+        ensures ok { IfOk result (λ s. source_over self.old (Some (by_of by.now)) ≡ Ok (source_of s)) }
+        ensures err { IfErr result (IsRefused (source_over self.old (Some (by_of by.now)))) }
+    {
+        let mode = mode_of(by);
+        match &by.second {
+            None => {
+                let index = self.index(alloc, &by.column, mode)?;
+                Ok(SourceParts::By(index))
+            }
+            Some(second) => {
+                let index = self.pair_index(alloc, &by.column, second, mode)?;
+                Ok(SourceParts::ByTwo(index))
+            }
         }
     }
 
@@ -126,7 +167,7 @@ impl IndexedTable {
     ///
     /// # Errors
     ///
-    /// `NoSuchColumn` where the loader goes by a column that the table doesn't have, and `NoMemory`.
+    /// `NoSuchColumn` where the loader goes by columns that the table doesn't have, and `NoMemory`.
     pub fn source(&mut self, alloc: Global, by: &Option<By>) -> Result<SourceParts, WorldFault>
         ensures same { self.new ≡ self.old }
         ensures ok { IfOk result (λ s. source_over self.old (option_map by_of by.now) ≡ Ok (source_of s)) }
@@ -134,10 +175,7 @@ impl IndexedTable {
     {
         match by {
             None => Ok(SourceParts::All(Arc::try_clone(&self.table)?)),
-            Some(by) => {
-                let index = self.index(alloc, by)?;
-                Ok(SourceParts::By(index))
-            }
+            Some(by) => self.source_by(alloc, by),
         }
     }
 }

@@ -66,7 +66,7 @@ fn limited(max: Option<u32>) -> Result<Option<u32>, WorldFault>
 impl World {
     /// Makes the world of a schema text, a bindings text and tables with their names. A batch has at
     /// most `max` keys; `None` is no limit. Tables that no loader uses are dropped. Loaders of the
-    /// same column that compare keys alike share one index.
+    /// same column that compare keys alike share one index; each loader of two columns has its own.
     ///
     /// # Errors
     ///

@@ -1,34 +1,46 @@
 //! Which binding the line of a field gives.
 
-ghost use Rattle.std.specs.Prelude.{◌≡◌, IfOk};
+ghost use Rattle.std.specs.Prelude.{◌≡◌, [], ◌∷◌, IfOk, map};
 ghost use Rattle.std.specs.Option.{option_map};
-ghost use Rattle.bindings_syntax.specs.Seen.{key_seen, form_seen};
+ghost use Rattle.bindings_syntax.specs.Seen.{part_seen, key_seen, step_seen, steps_seen, form_seen};
 ghost use Rattle.bindings_syntax.specs.Statements.{to_one, to_many};
 ghost use Rattle.schema_syntax.specs.Tree.{field_of};
 ghost use Rattle.gq_schema.specs.Types.{tree_of};
-ghost use Rattle.gq_schema.specs.BindingsSeen.{key_of, binding_of};
-ghost use Rattle.gq_schema.specs.BindingsForms.{keyed_loader, whole_loader, asked_loader, via_loaders, via_binding, column_binding, each_binding, form_binding, field_binding};
+ghost use Rattle.gq_schema.specs.BindingsSeen.{part_of, key_of, step_of, binding_of};
+ghost use Rattle.gq_schema.specs.BindingsForms.{keyed_loader, paired_loader, whole_loader, part_fits, asked_loader, later_step, later_steps, via_loaders, column_binding, each_binding, form_binding, field_binding};
 
-use super::binding::{Binding, KeySource};
+use super::binding::{Binding, KeyPart, KeySource, Step};
 use super::loaders::Loaders;
 use super::types::{
     is_composite_list, is_composite_type, is_leaf_type, is_object_type, is_root_type, takes_key,
     takes_keys,
 };
 use crate::schema::Schema;
-use bindings_syntax::{Form, KeySource as KeyWords};
+use bindings_syntax::{
+    Form, KeyPart as PartWords, KeySource as KeyWords, Step as StepWords, Steps as StepsWords,
+};
 use schema_syntax::FieldDefinition;
 use std::alloc::{AllocError, Global};
 
-/// The number of a loader that finds its rows by a column.
+/// The number of a loader that finds its rows by exactly one column.
 fn keyed_loader(loaders: &Loaders, name: &str) -> Option<usize>
     ensures { result ≡ keyed_loader loaders.now name.now }
 {
     let (number, line) = loaders.find(name)?;
-    if line.by.is_some() {
-        Some(number)
-    } else {
-        None
+    match &line.by {
+        Some(by) if by.second.is_none() => Some(number),
+        _ => None,
+    }
+}
+
+/// The number of a loader that finds its rows by two columns.
+fn paired_loader(loaders: &Loaders, name: &str) -> Option<usize>
+    ensures { result ≡ paired_loader loaders.now name.now }
+{
+    let (number, line) = loaders.find(name)?;
+    match &line.by {
+        Some(by) if by.second.is_some() => Some(number),
+        _ => None,
     }
 }
 
@@ -41,6 +53,16 @@ fn whole_loader(loaders: &Loaders, name: &str) -> Option<usize>
         None
     } else {
         Some(number)
+    }
+}
+
+/// Whether a field can take this part of a key.
+fn part_fits(of_root: bool, field: &FieldDefinition, part: PartWords<'_>) -> bool
+    ensures { result ≡ part_fits of_root (field_of field.now) (part_seen part.entry) }
+{
+    match part {
+        PartWords::Argument(argument) => takes_key(field, argument),
+        PartWords::Column(_) => !of_root,
     }
 }
 
@@ -70,6 +92,22 @@ fn asked_loader(
             }
         }
         KeyWords::All => whole_loader(loaders, name),
+        KeyWords::Pair(one, two) => {
+            if part_fits(of_root, field, one) && part_fits(of_root, field, two) {
+                paired_loader(loaders, name)
+            } else {
+                None
+            }
+        }
+    }
+}
+
+fn owned_part(alloc: Global, part: PartWords<'_>) -> Result<KeyPart, AllocError>
+    ensures { IfOk result (λ owned. part_of owned ≡ part_seen part.entry) }
+{
+    match part {
+        PartWords::Argument(name) => Ok(KeyPart::Argument(String::from_str(alloc, name)?)),
+        PartWords::Column(name) => Ok(KeyPart::Column(String::from_str(alloc, name)?)),
     }
 }
 
@@ -80,6 +118,11 @@ fn owned_key(alloc: Global, key: KeyWords<'_>) -> Result<KeySource, AllocError>
         KeyWords::Argument(name) => Ok(KeySource::Argument(String::from_str(alloc, name)?)),
         KeyWords::Column(name) => Ok(KeySource::Column(String::from_str(alloc, name)?)),
         KeyWords::All => Ok(KeySource::All),
+        KeyWords::Pair(one, two) => {
+            let one = owned_part(alloc, one)?;
+            let two = owned_part(alloc, two)?;
+            Ok(KeySource::Pair(one, two))
+        }
     }
 }
 
@@ -168,47 +211,74 @@ fn each(
     Ok(Some(Binding::Each { loader, argument }))
 }
 
-/// The numbers of the two loaders of `via`.
-fn via_loaders(
+/// A loader of `via` after its first; none where no loader by one column has that name.
+fn later_step(
+    alloc: Global,
     loaders: &Loaders,
-    of_root: bool,
-    field: &FieldDefinition,
-    loader: &str,
-    key: KeyWords<'_>,
-    second: &str,
-) -> Option<(usize, usize)>
-    ensures { result ≡ via_loaders loaders.now of_root (field_of field.now) loader.now (key_seen key.entry) second.now }
+    step: StepWords<'_>,
+) -> Result<Option<Step>, AllocError>
+    ensures { IfOk result (λ found. option_map step_of found ≡ later_step loaders.now (step_seen step.entry)) }
 {
-    let first = asked_loader(loaders, of_root, field, loader, key)?;
-    let second = keyed_loader(loaders, second)?;
-    Some((first, second))
+    let Some(loader) = keyed_loader(loaders, step.loader) else {
+        return Ok(None);
+    };
+    let column = String::from_str(alloc, step.column)?;
+    Ok(Some(Step { loader, column }))
 }
 
-/// `via LOADER KEY LOADER2 COLUMN`.
+/// The loaders of `via` after its first.
+fn later_steps(
+    alloc: Global,
+    loaders: &Loaders,
+    steps: &[StepWords<'_>],
+) -> Result<Option<Vec<Step>>, AllocError>
+    ensures { IfOk result (λ found. option_map (λ v. map step_of v.items) found ≡ later_steps loaders.now (map step_seen steps.now)) }
+{
+    let mut found = Vec::with_capacity(alloc, steps.len())?;
+    for words in steps {
+        let Some(step) = later_step(alloc, loaders, *words)? else {
+            return Ok(None);
+        };
+        found.push(step)?;
+    }
+    Ok(Some(found))
+}
+
+/// The same of one to three.
+fn owned_steps(
+    alloc: Global,
+    loaders: &Loaders,
+    steps: StepsWords<'_>,
+) -> Result<Option<Vec<Step>>, AllocError>
+    ensures { IfOk result (λ found. option_map (λ v. map step_of v.items) found ≡ later_steps loaders.now (steps_seen steps.entry)) }
+{
+    match steps {
+        StepsWords::One(first) => later_steps(alloc, loaders, &[first]),
+        StepsWords::Two(first, second) => later_steps(alloc, loaders, &[first, second]),
+        StepsWords::Three(first, second, third) => {
+            later_steps(alloc, loaders, &[first, second, third])
+        }
+    }
+}
+
+/// `via LOADER KEY LOADER2 COLUMN ..`, for a list of composites.
 fn via(
     alloc: Global,
-    schema: &Schema,
-    field: &FieldDefinition,
-    numbers: Option<(usize, usize)>,
+    loaders: &Loaders,
+    loader: Option<usize>,
     key: KeyWords<'_>,
-    column: &str,
+    steps: StepsWords<'_>,
 ) -> Result<Option<Binding>, AllocError>
-    ensures { IfOk result (λ found. option_map binding_of found ≡ via_binding (tree_of schema.now) (field_of field.now) numbers (key_seen key.entry) column.now) }
+    ensures { IfOk result (λ found. option_map binding_of found ≡ via_loaders loaders.now loader (key_seen key.entry) (steps_seen steps.entry)) }
 {
-    if !is_composite_list(schema, &field.of_type) {
+    let Some(loader) = loader else {
         return Ok(None);
-    }
-    let Some((loader, second)) = numbers else {
+    };
+    let Some(steps) = owned_steps(alloc, loaders, steps)? else {
         return Ok(None);
     };
     let key = owned_key(alloc, key)?;
-    let column = String::from_str(alloc, column)?;
-    Ok(Some(Binding::Via {
-        loader,
-        key,
-        second,
-        column,
-    }))
+    Ok(Some(Binding::Via { loader, key, steps }))
 }
 
 /// What a form gives for a field.
@@ -228,14 +298,12 @@ fn form_binding(
         Form::One { loader, key } => one(alloc, schema, loaders, of_root, field, loader, key),
         Form::Many { loader, key } => many(alloc, schema, loaders, of_root, field, loader, key),
         Form::Each { loader, argument } => each(alloc, schema, loaders, field, loader, argument),
-        Form::Via {
-            loader,
-            key,
-            second,
-            column,
-        } => {
-            let numbers = via_loaders(loaders, of_root, field, loader, key, second);
-            via(alloc, schema, field, numbers, key, column)
+        Form::Via { loader, key, steps } => {
+            if !is_composite_list(schema, &field.of_type) {
+                return Ok(None);
+            }
+            let loader = asked_loader(loaders, of_root, field, loader, key);
+            via(alloc, loaders, loader, key, steps)
         }
     }
 }

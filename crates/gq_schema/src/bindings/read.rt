@@ -1,6 +1,6 @@
 //! Bindings, and how a text is read to them.
 
-ghost use Rattle.std.specs.Prelude.{◌≡◌, None, Some, IfOk, IfErr, OnOk, map, if◌then◌else◌};
+ghost use Rattle.std.specs.Prelude.{◌≡◌, None, Some, IfOk, IfErr, OnOk, map, string_bytes, if◌then◌else◌};
 ghost use Rattle.std.specs.Option.{option_map, option_copied};
 ghost use Rattle.bindings_syntax.specs.Seen.{statement_seen, numbered_seen, form_seen, by_seen};
 ghost use Rattle.bindings_syntax.specs.Statements.{field_line};
@@ -38,12 +38,22 @@ impl Model for Bindings {
     ghost view = { λ b. record { loaders = b.loaders; fields = b.fields } };
 }
 
+fn owned_text(alloc: Global, text: Option<&str>) -> Result<Option<String>, AllocError>
+    ensures { IfOk result (λ owned. option_map (λ t. string_bytes t) owned ≡ option_map (λ t. t.now) text.entry) }
+{
+    match text {
+        Some(text) => Ok(Some(String::from_str(alloc, text)?)),
+        None => Ok(None),
+    }
+}
+
 fn owned_by(alloc: Global, by: Option<ByWords<'_>>) -> Result<Option<By>, AllocError>
     ensures { IfOk result (λ owned. option_map by_of owned ≡ option_map by_seen by.entry) }
 {
     match by {
         Some(by) => Ok(Some(By {
             column: String::from_str(alloc, by.column)?,
+            second: owned_text(alloc, by.second)?,
             fold: by.fold,
         })),
         None => Ok(None),
@@ -92,14 +102,15 @@ impl Bindings {
     /// object type. `column` is for a leaf, `one` for a composite, and `many`, `each` and `via` are for a
     /// list of composites. A key `arg NAME` names an argument that is an `Int`, an `ID` or a `String`; the
     /// argument of `each` is a list of one of these. The fields of the root have no row, so they take
-    /// neither a column nor a key from one. `all` stands exactly with a loader without `by`; the loader of
-    /// `each` and the second one of `via` have a `by`. A field of leaf type without a line is bound to the
-    /// column of its own name.
+    /// neither a column nor a key from one. `all` stands exactly with a loader without `by`, and a key of
+    /// two parts exactly with one by two columns; the loader of `each` and the later ones of `via` find
+    /// their rows by one column. A field of leaf type without a line is bound to the column of its own
+    /// name.
     ///
     /// # Errors
     ///
     /// `BadBinding` with the number of the first line that has no form or breaks one of these rules; and
-    /// then with 0 where the text has no line `bindings 1`, or a field of an object type needs a line and
+    /// then with 0 where the text has no line `bindings 1` or `bindings 2`, or a field of an object type needs a line and
     /// has none: a field of the root, or one whose type is composite or a list. `NoMemory` for want of
     /// memory.
     pub fn read(alloc: Global, schema: &Schema, text: &str) -> Result<Bindings, SchemaFault>

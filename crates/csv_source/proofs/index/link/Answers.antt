@@ -1,6 +1,7 @@
 use Rattle.std.proofs.Common.{◌≡◌, ◌<◌, ◌∙◌, length, get_or, [], ap, sym, arith}
 use Rattle.std.proofs.lemmas.List.{get_or_read}
 use Rattle.std.specs.Prelude.{◌==◌, false, true}
+use Rattle.csv_source.specs.Hashes.{in_bucket}
 use Rattle.csv_source.specs.Tables.{rows_of}
 use Rattle.csv_source.proofs.Links.{links-past, links-more, in_bucket-text, in_bucket-null, length-rows_of}
 use Rattle.csv_source.proofs.index.link.Goals as goal
@@ -14,12 +15,12 @@ returns-then-not-is_empty-clause-linked c =
     let there : (length c.field-text.result.now == 0) ≡ false = sym c.is_empty.ensures ∙ c.if-not-is_empty.true in
     let value = rw (c.field-text.ensures, size) at c.bucket-bucket.ensures.value in
     let head = get_or_read _ _ _ lt c.index.ensures 0 in
-    rw head (links-more c.args.mode (get_or s.names c.args.column []) (rows_of s) c.args.first.now.items c.args.next.now.items c.args.row c.requires.linked c.bucket-bucket.result lt within
+    rw head (links-more (in_bucket c.args.mode (get_or s.names c.args.column [])) (rows_of s) c.args.first.now.items c.args.next.now.items c.args.row c.requires.linked c.bucket-bucket.result lt within
     (λ other. in_bucket-text s c.args.column c.args.row c.args.mode (length c.args.first.now.items) other c.requires.rectangular c.requires.column c.requires.row (rw c.field-text.ensures at there) ∙ ap (λ n. n == other) (sym value)))
 
 pub returns-else-not-is_empty-clause-linked : goal.returns-else-not-is_empty-clause-linked
 returns-else-not-is_empty-clause-linked c =
     let s = c.args.sheet.now in
     let null : (length c.field-text.result.now == 0) ≡ true = sym c.is_empty.ensures ∙ c.if-not-is_empty.false in
-    links-past c.args.mode (get_or s.names c.args.column []) (rows_of s) c.args.first.now.items c.args.next.now.items c.args.row c.requires.linked
+    links-past (in_bucket c.args.mode (get_or s.names c.args.column [])) (rows_of s) c.args.first.now.items c.args.next.now.items c.args.row c.requires.linked
     (λ other. in_bucket-null s c.args.column c.args.row c.args.mode (length c.args.first.now.items) other c.requires.rectangular c.requires.column c.requires.row (rw c.field-text.ensures at null))

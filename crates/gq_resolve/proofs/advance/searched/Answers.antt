@@ -14,6 +14,9 @@ loop-position-preserved c = resumed-one c.in-Some.position (borrowed_of c.borrow
 pub loop-position-preserved-in_ok-read : goal.loop-position-preserved-in_ok-read
 loop-position-preserved-in_ok-read c = resumed-one c.in-Some.position (borrowed_of c.borrowed.result) c.in-Some.ensures.steps c.borrowed.ensures c.in_ok-read.ensures c.loop-position.invariant
 
+pub loop-position-preserved-in_ok-read-2 : goal.loop-position-preserved-in_ok-read-2
+loop-position-preserved-in_ok-read-2 c = resumed-one c.in-Some.position (borrowed_of c.borrowed.result) c.in-Some.ensures.steps c.borrowed.ensures c.in_ok-read.ensures c.loop-position.invariant
+
 pub returns : goal.returns
 returns c = λ may.
     all-resumed c.args.rooted refl c.unwritten.ensures.blocked c.unwritten.ensures.plain c.in-None.ensures.steps.0 c.loop-position.invariant may

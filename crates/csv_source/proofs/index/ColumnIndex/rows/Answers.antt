@@ -3,10 +3,10 @@ use Rattle.std.proofs.lemmas.List.{get_or-map, get_or_read}
 use Rattle.std.specs.Arc.{arc_value}
 use Rattle.load_memory.specs.Keys.{fold_text}
 use Rattle.load_memory.specs.Rows.{paired}
-use Rattle.csv_source.specs.Hashes.{bucket_of}
+use Rattle.csv_source.specs.Hashes.{bucket_of, in_bucket}
 use Rattle.csv_source.specs.Tables.{rows_of, has_text}
 use Rattle.csv_source.proofs.Links.{length-rows_of, has_text-in_bucket}
-use Rattle.csv_source.proofs.Walks.{walk-start, walk-step}
+use Rattle.csv_source.proofs.Walks.{walk-start, walk-step, in_bucket-has_text}
 use Rattle.csv_source.proofs.index.ColumnIndex.rows.Goals.{then-is_same+in_ok-of_sheet+in_ok-add, else-is_same}
 use Rattle.csv_source.proofs.index.ColumnIndex.rows.Goals as goal
 
@@ -16,7 +16,12 @@ loop-place-init c =
     let value = rw size at c.bucket.ensures.value in
     let lt : c.bucket.result < length c.self.inside.first.items = omega (arith, c.bucket.ensures.within, size) in
     let place = get_or_read _ _ _ lt c.index-place.ensures 0 in
-    rw (← c.self.view_is, place, value) (walk-start c.self.inside.mode _ _ c.self.inside.first.items c.self.inside.next.items c.self.invariant.linked (fold_text c.self.inside.mode c.args.text.now) _ c.new-found.ensures.items (rw value at lt))
+    let mode = c.self.inside.mode in
+    let name = get_or (arc_value c.self.inside.sheet).names c.self.inside.column [] in
+    let first = c.self.inside.first.items in
+    let folded = fold_text mode c.args.text.now in
+    rw (← c.self.view_is, place, value) (walk-start (in_bucket mode name) _ first c.self.inside.next.items c.self.invariant.linked (has_text mode name folded) (bucket_of mode (length first) folded)
+    (in_bucket-has_text mode name folded (length first)) _ c.new-found.ensures.items (rw value at lt))
 
 pub loop-place-preserved : goal.loop-place-preserved
 loop-place-preserved c =
@@ -34,7 +39,8 @@ loop-place-preserved c =
     let tested : c.is_same.result ≡ has_text mode name folded (get_or (rows_of s) place []) = rw (c.field.ensures, c.deref.ensures) at c.is_same.ensures ∙ sym has in
     let next = get_or_read _ _ _ linked c.index-place-in-loop-place.ensures 0 in
     let row : get_or (rows_of s) place [] ≡ paired s.names (get_or s.rows place []) = get_or-map (paired s.names) s.rows place [] [] within in
-    rw (← c.self.view_is, next) (walk-step mode name (rows_of s) first c.self.inside.next.items c.self.invariant.linked folded place c.loop-place.found.items c.if-is_same.found.items lt walk
+    rw (← c.self.view_is, next) (walk-step (in_bucket mode name) (rows_of s) first c.self.inside.next.items c.self.invariant.linked (has_text mode name folded) (bucket_of mode (length first) folded)
+    (in_bucket-has_text mode name folded (length first)) place c.loop-place.found.items c.if-is_same.found.items lt walk
     (elim c.if-is_same.branch [
       | then-is_same+in_ok-of_sheet+in_ok-add w ↦
           rw (sym tested ∙ w.if-is_same.true, w.found-is, w.in_ok-add.ensures, w.in_ok-of_sheet.ensures, row) refl

@@ -1,24 +1,28 @@
-use Rattle.std.proofs.Common.{◌≡◌, ◌-◌, ◌∙◌, ◌<◌, ◌++◌, rules, ℕ, Bool, false, List, [], ◌∷◌, length, arith, sym, ap, subst, refl, Option, Some, Vec, Global, string_bytes}
+use Rattle.std.proofs.Common.{◌≡◌, ◌-◌, ◌∙◌, ◌<◌, ◌++◌, rules, ℕ, List, [], ◌∷◌, map, length, arith, sym, ap, subst, refl, Option, Some, Vec, Global, string_bytes, false}
 use Rattle.std.specs.Option.{option_map, option_copied}
-use Rattle.std.proofs.lemmas.List.{take_all}
+use Rattle.std.proofs.lemmas.List.{take_all, length-map}
 use Rattle.std.proofs.lemmas.Result.{on_ok_weaker}
 use Rattle.schema_syntax.specs.Tree.{Definition}
 use Rattle.gq_schema.specs.Types.{tree_of}
+use Rattle.gq_schema.specs.BindingsTree.{StepOf}
+use Rattle.gq_schema.specs.BindingsSeen.{step_of}
 use Rattle.load_memory.specs.Keys.{KeyOf, key_of, borrowed_of}
-use Rattle.load_memory.specs.Rows.{RowOf, cell_of}
+use Rattle.load_memory.specs.Rows.{RowOf}
 use Rattle.load_memory.specs.Outcomes.{outcome_of}
 use Rattle.load_memory.specs.declared.key.Key.{Key}
+use Rattle.execution.specs.Loads.{Reader}
 use Rattle.execution.specs.Program.{Fault, Program, Is, Under, ListOf, ObjectOf}
 use Rattle.gq_check.specs.Plans.{PlanOf, plan_of}
-use Rattle.plan_program.specs.PlanPrograms.{TypeOf, object_type, type_fault, type_of_row, places, read_cell, read_if, typed_object, object_program}
-use Rattle.gq_resolve.specs.Groups.{below_at, Covers, IsShaped}
-use Rattle.gq_resolve.specs.Puts.{Ends, View, OnwardOf, puts}
-use Rattle.gq_resolve.specs.Spots.{onward_of, second_of}
+use Rattle.plan_program.specs.PlanPrograms.{TypeOf, object_type, type_fault, type_of_row, places, read_key, read_if, typed_object, object_program}
+use Rattle.gq_resolve.specs.Groups.{below_at, then_at, steps_in, Covers, IsShaped}
+use Rattle.gq_resolve.specs.Puts.{Ends, Waits, View, OnwardOf, puts}
+use Rattle.gq_resolve.specs.Spots.{onward_of, later_of}
 use Rattle.gq_resolve.specs.Evaluated.{told}
+use Rattle.gq_resolve.specs.Following.{followed_puts}
 use Rattle.gq_resolve.specs.declared.groups.Group.{Group}
 use Rattle.gq_resolve.specs.declared.groups.Member.{Member}
 use Rattle.gq_resolve.specs.declared.groups.Then.TheVariants.{Joined}
-use Rattle.gq_resolve.proofs.Touring.{Laws, goes-put, goes-as, walks-as, goes-probed, goes-entered, goes-ended, goes-made, goes-let_go, fields_put, fields-more, known-at, items-more, items-whole, next-is, after-first, after-all, after-joined, after-row, after-head, cell-text, map-map}
+use Rattle.gq_resolve.proofs.Touring.{Laws, goes-put, goes-as, walks-as, goes-probed, goes-entered, goes-ended, goes-made, goes-let_go, fields_put, fields-more, known-at, items-more, items-whole, joined_by, after-first, after-all, after-joined, after-followed, after-missing, after-row, after-head, map-map}
 use Rattle.gq_resolve.proofs.tour.Tour.+tour.Given.{Over}
 use Rattle.gq_resolve.proofs.tour.Tour.+tour.Goals as goal
 
@@ -42,33 +46,63 @@ object-returns g t c =
 
 pub all-loop-number-preserved : goal.all-loop-number-preserved
 all-loop-number-preserved g t c =
-    goes-as (goes-entered (laws g) (λ lt. omega (arith, lt, c.loop-number.invariant.grows.longer)) c.loop-number.invariant refl c.in_ok-item.ensures c.in_ok-row_object.ensures)
-    (λ k v cov. items-more _ _ _ (λ (v : View) (row : RowOf). v.after (second_of (onward_of c.args.onward)) (row ∷ [])) c.args.rows.now c.loop-number.number c.index-rows-number.result v c.loop-number-test.true c.index-rows-number.is)
+    goes-as (goes-entered (laws g) (λ lt. omega (arith, lt, c.loop-number.invariant.grows.longer)) c.loop-number.invariant refl c.in_ok-item.ensures c.in_ok-follow.ensures)
+    (λ k v cov. items-more _ _ _ (λ (v : View) (row : RowOf). v.after (later_of c.args.left (onward_of c.args.onward)) (row ∷ [])) c.args.rows.now c.loop-number.number c.index-rows-number.result v c.loop-number-test.true c.index-rows-number.is)
 
 pub all-returns : goal.all-returns
 all-returns g t c =
     on_ok_weaker c.end.result
     (λ q. goes-as (goes-ended (laws g) c.loop-number.invariant refl q)
-    (λ k v cov. items-whole _ _ _ _ _ (λ (v : View) (row : RowOf). v.after (second_of (onward_of c.args.onward)) (row ∷ [])) c.args.rows.now c.loop-number.number v
+    (λ k v cov. items-whole _ _ _ _ _ (λ (v : View) (row : RowOf). v.after (later_of c.args.left (onward_of c.args.onward)) (row ∷ [])) c.args.rows.now c.loop-number.number v
     (c.items_of-items.ensures.non_null ∙ ap (λ (gs : List Group). (below_at gs c.args.onward.group).item_non_null) c.deref.ensures.value)
     (c.items_of-items.ensures.place ∙ ap (λ (gs : List Group). (below_at gs c.args.onward.group).place) c.deref.ensures.value) c.loop-number-test.false))
     c.end.ensures
 
-pub joined-loop-number-preserved : goal.joined-loop-number-preserved
-joined-loop-number-preserved g t c =
-    let item = λ (v : View) (row : RowOf). read_cell c.args.loader c.args.column.now (cell_of row c.args.column.now) (v.after (second_of (onward_of c.args.onward))) in
-    goes-as (goes-entered (laws g) (λ lt. omega (arith, lt, c.loop-number.invariant.grows.longer)) c.loop-number.invariant refl c.in_ok-item.ensures c.in_ok-read_cell.ensures)
-    (λ k v cov. items-more _ _ _ item c.args.rows.now c.loop-number.number c.index-rows-number.result v c.loop-number-test.true c.index-rows-number.is)
+pub follow-returns-then-left-eq0 : goal.follow-returns-then-left-eq0
+follow-returns-then-left-eq0 g t c =
+    let none : 0 ≡ c.args.left = omega (arith, c.if-left-eq0.true) in
+    on_ok_weaker c.row_object.result
+    (λ p. walks-as c.args.to.strict _ _ _ p (λ k v cov. ap (λ (n : ℕ). v.after (later_of n (onward_of c.args.to.onward)) (c.args.row.now ∷ [])) none))
+    c.row_object.ensures
 
-pub joined-returns : goal.joined-returns
-joined-returns g t c =
-    let item = λ (v : View) (row : RowOf). read_cell c.args.loader c.args.column.now (cell_of row c.args.column.now) (v.after (second_of (onward_of c.args.onward))) in
-    on_ok_weaker c.end.result
-    (λ q. goes-as (goes-ended (laws g) c.loop-number.invariant refl q)
-    (λ k v cov. items-whole _ _ _ _ _ item c.args.rows.now c.loop-number.number v
-    (c.items_of-items.ensures.non_null ∙ ap (λ (gs : List Group). (below_at gs c.args.onward.group).item_non_null) c.deref.ensures.value)
-    (c.items_of-items.ensures.place ∙ ap (λ (gs : List Group). (below_at gs c.args.onward.group).place) c.deref.ensures.value) c.loop-number-test.false))
-    c.end.ensures
+-- the later loaders of a group are those of the groups that were lent
+steps-lent : (gs lent : List Group) (group : ℕ) (steps : List StepOf) → steps ≡ steps_in (then_at lent group) → lent ≡ gs → steps ≡ steps_in (then_at gs group)
+steps-lent gs lent group steps is same = is ∙ ap (λ (xs : List Group). steps_in (then_at xs group)) same
+
+pub follow-returns-in-Row : goal.follow-returns-in-Row
+follow-returns-in-Row g t c =
+    let R : Reader = told c.args.self.now.memory.now in
+    let onward : OnwardOf = onward_of c.args.to.onward in
+    let steps : List StepOf = map step_of c.steps_of-steps.result.now in
+    let same = steps-lent c.args.at.now.groups.items _ onward.group steps c.steps_of-steps.ensures c.deref.ensures.value in
+    on_ok_weaker c.row_object-in-Row.result
+    (λ p. goes-probed _ (goes-as p (λ lt v cov.
+    ap (λ (q : Program). puts c.args.to.strict q R) (after-row _ _ v onward cov lt c.in-Row.row.now)
+    ∙ sym (after-followed _ _ v onward cov lt c.args.left c.args.to.strict R steps c.args.row.now c.in_ok-row.field-0 same c.in_ok-row.ensures ∙ ap (followed_puts c.args.to.strict R (joined_by _ _ v onward cov lt) steps) c.in-Row.is))))
+    c.row_object-in-Row.ensures
+
+pub follow-returns-in-Own : goal.follow-returns-in-Own
+follow-returns-in-Own g t c =
+    let R : Reader = told c.args.self.now.memory.now in
+    let onward : OnwardOf = onward_of c.args.to.onward in
+    let steps : List StepOf = map step_of c.steps_of-steps.result.now in
+    let same = steps-lent c.args.at.now.groups.items _ onward.group steps c.steps_of-steps.ensures c.deref.ensures.value in
+    on_ok_weaker c.own.result
+    (λ q. goes-as (goes-put refl (λ k v _. q v)) (λ lt v cov.
+    sym (after-followed _ _ v onward cov lt c.args.left c.args.to.strict R steps c.args.row.now c.in_ok-row.field-0 same c.in_ok-row.ensures ∙ ap (followed_puts c.args.to.strict R (joined_by _ _ v onward cov lt) steps) c.in-Own.is)))
+    c.own.ensures
+
+pub follow-returns-in-Missing : goal.follow-returns-in-Missing
+follow-returns-in-Missing g t c =
+    let R : Reader = told c.args.self.now.memory.now in
+    let onward : OnwardOf = onward_of c.args.to.onward in
+    let steps : List StepOf = map step_of c.steps_of-steps.result.now in
+    let same = steps-lent c.args.at.now.groups.items _ onward.group steps c.steps_of-steps.ensures c.deref.ensures.value in
+    on_ok_weaker c.wait.result
+    (λ q. goes-as (goes-put refl (λ k v le. q v (omega (arith, k, le)))) (λ lt v cov.
+    ap (λ (f : List RowOf → Program). Waits (read_key c.in-Missing.loader (borrowed_of c.in-Missing.key) f) ∷ []) (after-missing _ _ v onward cov lt c.in-Missing.left steps same)
+    ∙ sym (after-followed _ _ v onward cov lt c.args.left c.args.to.strict R steps c.args.row.now c.in_ok-row.field-0 same c.in_ok-row.ensures ∙ ap (followed_puts c.args.to.strict R (joined_by _ _ v onward cov lt) steps) c.in-Missing.is)))
+    c.wait.ensures
 
 pub each-loop-number-preserved : goal.each-loop-number-preserved
 each-loop-number-preserved g t c =
@@ -91,23 +125,21 @@ each-returns g t c =
 pub ask-returns-in-Each : goal.ask-returns-in-Each
 ask-returns-in-Each g t c = rw (c.in-Each.is, ← c.deref.ensures.value) c.each.ensures
 
-pub read_from-returns-in-Fixed : goal.read_from-returns-in-Fixed
-read_from-returns-in-Fixed g t c = rw (c.in-Fixed.is, ← c.borrowed.ensures) c.read.ensures
-
-pub read_from-returns-in-Column : goal.read_from-returns-in-Column
-read_from-returns-in-Column g t c = rw c.in-Column.is c.read_cell.ensures
+pub read_from-returns-in-Known : goal.read_from-returns-in-Known
+read_from-returns-in-Known g t c =
+    on_ok_weaker c.read.result
+    (λ p. walks-as c.args.to.strict _ _ _ p (λ k v cov. sym (c.in-Known.ensures c.args.loader (v.after (onward_of c.args.to.onward)))))
+    c.read.ensures
 
 pub read_if-returns-in-Some : goal.read_if-returns-in-Some
 read_if-returns-in-Some g t c = rw (c.in-Some.is, ← c.borrowed.ensures) c.read.ensures
 
-pub read_cell-returns-in-Text : goal.read_cell-returns-in-Text
-read_cell-returns-in-Text g t c =
-    on_ok_weaker c.read.result
-    (λ p. walks-as c.args.to.strict _ _ _ p (λ k v cov. sym (cell-text c.args.loader c.args.column.now (cell_of c.args.row.now c.args.column.now) c.in-Text.text.now (v.after (onward_of c.args.to.onward)) c.in-Text.ensures.0 c.in-Text.ensures.1)))
-    c.read.ensures
-
-pub read_cell-returns-in_ok-no_column_message-in-NoColumn : goal.read_cell-returns-in_ok-no_column_message-in-NoColumn
-read_cell-returns-in_ok-no_column_message-in-NoColumn g t c = rw (c.in-NoColumn.ensures, ← c.in_ok-no_column_message-in-NoColumn.ensures) (on_ok_weaker c.own.result (λ q. goes-put refl (λ k v _. q v)) c.own.ensures)
+pub read_from-returns-in_ok-no_column_message-in-Lacking : goal.read_from-returns-in_ok-no_column_message-in-Lacking
+read_from-returns-in_ok-no_column_message-in-Lacking g t c =
+    on_ok_weaker c.own-in-Lacking.result
+    (λ q. walks-as c.args.to.strict _ (λ v. Is (Fault (string_bytes c.in_ok-no_column_message-in-Lacking.field-0))) _ (goes-put refl (λ k v _. q v))
+    (λ k v cov. ap (λ m. Is (Fault m)) c.in_ok-no_column_message-in-Lacking.ensures ∙ sym (c.in-Lacking.ensures c.args.loader (v.after (onward_of c.args.to.onward)))))
+    c.own-in-Lacking.ensures
 
 -- ---- loads
 
@@ -120,41 +152,45 @@ read-returns-in-Some g t c =
 pub go_on-returns-in-Rows : goal.go_on-returns-in-Rows
 go_on-returns-in-Rows g t c = rw (c.in-Rows.is, ← c.deref.ensures.value) c.rows.ensures
 
-pub rows-returns-then-to : goal.rows-returns-then-to
-rows-returns-then-to g t c =
+pub rows-returns-in-Some : goal.rows-returns-in-Some
+rows-returns-in-Some g t c =
     let onward : OnwardOf = onward_of c.args.to.onward in
-    let same : second_of onward ≡ onward = ap (λ (b : Bool). let o : OnwardOf = record { group = onward.group; second = b; levels = onward.levels } in o) (sym c.if-to.true) in
+    let same : later_of c.in-Some.left onward ≡ onward = ap (λ (l : Option ℕ). let o : OnwardOf = record { group = onward.group; later = l; levels = onward.levels } in o) (sym c.in-Some.is) in
     on_ok_weaker c.first.result (λ p. walks-as c.args.to.strict _ _ _ p (λ k v cov. ap (λ (o : OnwardOf). v.after o c.args.rows.now) same)) c.first.ensures
 
 pub rows-returns-in-First : goal.rows-returns-in-First
 rows-returns-in-First g t c =
-    let next = next-is c.args.at.now.groups.items _ (onward_of c.args.to.onward) _ c.if-to.false c.deref.ensures.value (sym c.then_of.ensures ∙ c.in-First.is) in
+    let does = sym c.then_of.ensures ∙ c.in-First.is in
     on_ok_weaker c.first-in-First.result
-    (λ p. walks-as c.args.to.strict _ _ _ p (λ lt v cov. ap (λ (f : List RowOf → Program). f c.args.rows.now) (sym (after-first _ _ v (onward_of c.args.to.onward) cov lt next)))) c.first-in-First.ensures
+    (λ p. walks-as c.args.to.strict _ _ _ p (λ lt v cov. ap (λ (f : List RowOf → Program). f c.args.rows.now) (sym (after-first _ _ v (onward_of c.args.to.onward) cov lt _ c.in_default.is c.deref.ensures.value does))))
+    c.first-in-First.ensures
 
 pub rows-returns-in-All : goal.rows-returns-in-All
 rows-returns-in-All g t c =
-    let next = next-is c.args.at.now.groups.items _ (onward_of c.args.to.onward) _ c.if-to.false c.deref.ensures.value (sym c.then_of.ensures ∙ c.in-All.is) in
-    on_ok_weaker c.all.result (λ p. walks-as c.args.to.strict _ _ _ p (λ lt v cov. sym (after-all _ _ v (onward_of c.args.to.onward) cov lt c.args.rows.now next))) c.all.ensures
+    let does = sym c.then_of.ensures ∙ c.in-All.is in
+    on_ok_weaker c.all.result
+    (λ p. walks-as c.args.to.strict _ _ _ p (λ lt v cov. sym (after-all _ _ v (onward_of c.args.to.onward) cov lt _ c.args.rows.now c.in_default.is c.deref.ensures.value does))) c.all.ensures
 
 pub rows-returns-in-Joined : goal.rows-returns-in-Joined
 rows-returns-in-Joined g t c =
-    let next = next-is c.args.at.now.groups.items _ (onward_of c.args.to.onward) _ c.if-to.false c.deref.ensures.value (sym c.then_of.ensures ∙ c.in-Joined.is) in
-    on_ok_weaker c.joined.result
-    (λ p. walks-as c.args.to.strict _ _ _ p (λ lt v cov. sym (after-joined _ _ v (onward_of c.args.to.onward) cov lt c.args.rows.now c.in-Joined.second c.in-Joined.column.now (Joined c.in-Joined.second c.in-Joined.column) next (λ below. refl))))
-    c.joined.ensures
+    let does = sym c.then_of.ensures ∙ c.in-Joined.is in
+    let all : length c.in-Joined.steps.now ≡ length (map step_of c.in-Joined.steps.now) = sym (length-map c.in-Joined.steps.now step_of) in
+    on_ok_weaker c.all-in-Joined.result
+    (λ p. walks-as c.args.to.strict _ _ _ p (λ lt v cov.
+    sym (after-joined _ _ v (onward_of c.args.to.onward) cov lt _ c.args.rows.now (length c.in-Joined.steps.now) (Joined c.in-Joined.steps) c.in_default.is c.deref.ensures.value does all (λ below. refl))))
+    c.all-in-Joined.ensures
 
 pub first-returns-in-len1-up : goal.first-returns-in-len1-up
 first-returns-in-len1-up g t c =
-    on_ok_weaker c.row_object.result
-    (λ p. walks-as c.args.to.strict _ _ _ p (λ lt v cov. after-head _ _ v (onward_of c.args.to.onward) cov lt c.args.rows.now c.row-item.result (omega (arith, c.in-len1-up.len_at_least)) c.row-item.is))
-    c.row_object.ensures
+    on_ok_weaker c.follow.result
+    (λ p. walks-as c.args.to.strict _ _ _ p (λ lt v cov. after-head _ _ v (onward_of c.args.to.onward) cov lt c.args.left c.args.rows.now c.row-item.result (omega (arith, c.in-len1-up.len_at_least)) c.row-item.is))
+    c.follow.ensures
 
 -- ---- objects of rows
 
 -- the program of a row whose type is known
 row-as : (plan : PlanOf) (gs lent : List Group) (v : View) (onward : OnwardOf) (cov : Covers plan gs v) (lt : onward.group < length gs) (row : RowOf) (defs : List Definition) (name : List ℕ) (ty : TypeOf)
-    → lent ≡ gs → defs ≡ plan.definitions → name ≡ (below_at lent onward.group).type_name → ty ≡ type_of_row defs name row → typed_object (object_program plan onward.levels) (below_at gs onward.group) row ty ≡ v.after (second_of onward) (row ∷ [])
+    → lent ≡ gs → defs ≡ plan.definitions → name ≡ (below_at lent onward.group).type_name → ty ≡ type_of_row defs name row → typed_object (object_program plan onward.levels) (below_at gs onward.group) row ty ≡ v.after (later_of 0 onward) (row ∷ [])
 row-as plan gs lent v onward cov lt row defs name ty same said named is =
     ap (typed_object (object_program plan onward.levels) (below_at gs onward.group) row)
     (is ∙ ap (λ ds. type_of_row ds name row) said ∙ ap (λ n. type_of_row plan.definitions n row) (named ∙ ap (λ (xs : List Group). (below_at xs onward.group).type_name) same))

@@ -1,0 +1,16 @@
+use Rattle.std.proofs.Common.{◌-◌, length}
+use Rattle.load_memory.specs.Keys.{fold_text}
+use Rattle.csv_source.specs.Hashes.{pair_bucket_of, pair_in_bucket}
+use Rattle.csv_source.specs.Tables.{has_pair}
+use Rattle.csv_source.proofs.Walks.{IsWalk}
+use Rattle.csv_source.proofs.pair_index.PairIndex.rows.Given as goal
+
+abbrev pub invariant-loop-place : goal.invariant-loop-place
+invariant-loop-place l =
+    let buckets = length l.self-inside.first.items in
+    let one = fold_text l.self.mode l.one in
+    let two = fold_text l.self.mode l.two in
+    IsWalk (has_pair l.self.mode l.self.column l.self.second one two) (pair_in_bucket l.self.mode l.self.column l.self.second buckets (pair_bucket_of l.self.mode buckets one two)) l.self.rows l.place l.found.items
+
+abbrev pub decreases-loop-place : goal.decreases-loop-place
+decreases-loop-place l = length l.self.rows - l.place

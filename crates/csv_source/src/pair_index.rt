@@ -1,0 +1,164 @@
+//! The index of two columns, by which the rows of a pair of texts are found.
+ghost use Rattle.std.specs.Prelude.{◌≡◌, ◌<◌, ◌+◌, ◌&&◌, [], IfOk, IfErr, OnOk, bytes_eq, get_or, length, Contains, filter};
+ghost use Rattle.std.specs.Arc.{arc_value};
+ghost use Rattle.load_memory.specs.Keys.{fold_text};
+ghost use Rattle.load_memory.specs.Rows.{IsRectangular};
+ghost use Rattle.csv_source.specs.Chains.{AreColumns, IsPairLinkedIn};
+ghost use Rattle.csv_source.specs.Faults.{PairFault};
+ghost use Rattle.csv_source.specs.Tables.{rows_of, has_pair};
+
+use crate::fault::TableFault;
+use crate::hash::pair_bucket;
+use crate::index::{add, is_same};
+use crate::table::Table;
+use load_memory::{KeyMode, NoMemory, Row, Sheet};
+use std::alloc::Global;
+use std::marker::Model;
+use std::sync::Arc;
+
+// Two columns, and how the texts in them are compared.
+#[derive(Clone, Copy)]
+pub(crate) struct Pairing {
+    column: usize,
+    second: usize,
+    mode: KeyMode,
+}
+
+/// The rows of a table by the two texts that they have in two columns, which may be one column.
+///
+/// It is built like a [`ColumnIndex`](crate::ColumnIndex), by one hash of both texts, and takes eight bytes a row too.
+///
+/// A contract sees it as the rows, the columns' names, and the mode by which texts are compared.
+#[derive(Drop)]
+pub struct PairIndex {
+    sheet: Arc<Sheet>,
+    by: Pairing,
+    first: Vec<u32>,
+    next: Vec<u32>,
+}
+
+impl Model for PairIndex {
+    ghost use Rattle.std.specs.Arc.{arc_value};
+    ghost use Rattle.csv_source.specs.Tables.{PairIndexOf, pair_index_of};
+    ghost use Rattle.csv_source.specs.Chains.{IsPairIndex};
+
+    ghost Value = { PairIndexOf };
+
+    ghost view = { λ x. pair_index_of (arc_value x.sheet) x.by.column x.by.second x.by.mode };
+
+    ghost invariant = { λ x. IsPairIndex (arc_value x.sheet) x.by.column x.by.second x.by.mode x.first.items x.next.items };
+}
+
+// Puts a row before the rows that come after it.
+fn link(sheet: &Sheet, by: Pairing, row: u32, first: &mut Vec<u32>, next: &mut Vec<u32>)
+    requires row { row < length sheet.now.rows }
+    requires rectangular { IsRectangular sheet.now }
+    requires columns { AreColumns sheet.now by.column by.second }
+    requires buckets { 0 < length first.old.items }
+    requires linked { IsPairLinkedIn sheet.now by.column by.second by.mode first.old.items next.old.items (row + 1) }
+    ensures linked { IsPairLinkedIn sheet.now by.column by.second by.mode first.new.items next.new.items row }
+    ensures buckets { length first.new.items ≡ length first.old.items }
+{
+    let one = sheet.field(row, by.column);
+    if one.is_empty() {
+        return;
+    }
+    let two = sheet.field(row, by.second);
+    if two.is_empty() {
+        return;
+    }
+    let bucket = pair_bucket(by.mode, first.len(), one, two);
+    next[row as usize] = first[bucket];
+    first[bucket] = row;
+}
+
+// For each bucket its first row, and for each row the next one of its bucket.
+fn links(alloc: Global, sheet: &Sheet, by: Pairing) -> Result<(Vec<u32>, Vec<u32>), NoMemory>
+    requires { AreColumns sheet.now by.column by.second }
+    ensures rectangular { IsRectangular sheet.now }
+    ensures buckets { IfOk result (λ p. 0 < length p.0.items) }
+    ensures linked { IfOk result (λ p. IsPairLinkedIn sheet.now by.column by.second by.mode p.0.items p.1.items 0) }
+{
+    let rows = sheet.len();
+    let mut first = vec![in alloc; rows; (rows as usize).max(1)]?;
+    let mut next = vec![in alloc; rows; rows as usize]?;
+    for done in 0..rows {
+        link(sheet, by, rows - 1 - done, &mut first, &mut next);
+    }
+    Ok((first, next))
+}
+
+impl PairIndex {
+    /// The index of the first columns of these two names.
+    ///
+    /// # Errors
+    ///
+    /// `NoSuchColumn` where the table lacks a column of one of the names, and `NoMemory`.
+    pub fn new(
+        alloc: Global,
+        table: &Table,
+        column: &str,
+        second: &str,
+        mode: KeyMode,
+    ) -> Result<PairIndex, TableFault>
+        ensures ok { IfOk result (λ x. x ≡ record { rows = rows_of table.now; column = column.now; second = second.now; mode = mode }) }
+        ensures there { OnOk result (Contains table.now.names column.now × Contains table.now.names second.now) }
+        ensures err { IfErr result (PairFault table.now.names column.now second.now) }
+    {
+        let Some(column) = table.sheet.column(column) else {
+            return Err(TableFault::NoSuchColumn);
+        };
+        let Some(second) = table.sheet.column(second) else {
+            return Err(TableFault::NoSuchColumn);
+        };
+        let sheet = Arc::try_clone(&table.sheet)?;
+        let by = Pairing {
+            column,
+            second,
+            mode,
+        };
+        let (first, next) = links(alloc, &sheet, by)?;
+        Ok(PairIndex {
+            sheet,
+            by,
+            first,
+            next,
+        })
+    }
+
+    /// The mode by which texts are compared.
+    pub fn mode(&self) -> KeyMode
+        ensures { result ≡ self.now.mode }
+    {
+        self.by.mode
+    }
+
+    /// The rows whose first column equals the first text and whose second column equals the second, in file order. An
+    /// empty field equals no text.
+    pub fn rows(&self, alloc: Global, one: &str, two: &str) -> Result<Vec<Row>, NoMemory>
+        ensures { let mode = self.now.mode in IfOk result (λ v. v.items ≡ filter
+            (has_pair mode self.now.column self.now.second (fold_text mode one.now) (fold_text mode two.now)) self.now.rows) }
+    {
+        let mut found = Vec::new(alloc);
+        let mut place = self.first[pair_bucket(self.by.mode, self.first.len(), one, two)];
+        while (place as usize) < self.next.len() {
+            if is_same_pair(&self.sheet, self.by, place, one, two) {
+                add(&mut found, Row::of_sheet(&self.sheet, place)?)?;
+            }
+            place = self.next[place as usize];
+        }
+        Ok(found)
+    }
+}
+
+// Whether a row's two fields equal two texts.
+fn is_same_pair(sheet: &Sheet, by: Pairing, row: u32, one: &str, two: &str) -> bool
+    requires row { row < length sheet.now.rows }
+    requires column { by.column < length sheet.now.names }
+    requires second { by.second < length sheet.now.names }
+    ensures { result ≡ (bytes_eq (fold_text by.mode one.now) (fold_text by.mode (get_or (get_or sheet.now.rows row []) by.column []))
+        && bytes_eq (fold_text by.mode two.now) (fold_text by.mode (get_or (get_or sheet.now.rows row []) by.second []))) }
+{
+    is_same(by.mode, sheet.field(row, by.column), one)
+        && is_same(by.mode, sheet.field(row, by.second), two)
+}

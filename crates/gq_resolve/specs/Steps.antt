@@ -1,0 +1,7 @@
+-- The later loaders of a `via`.
+use Rattle.std.specs.Prelude.{ℕ, ◌-◌, List, length, drop}
+use Rattle.gq_schema.specs.BindingsTree.{StepOf}
+
+-- the last so many
+abbrev pub last_steps : ℕ → List StepOf → List StepOf
+last_steps left steps = drop (length steps - left) steps

@@ -1,0 +1,108 @@
+//! The loads of the later loaders of a `via`.
+
+ghost use Rattle.std.specs.Prelude.{ℕ, IfOk, map};
+ghost use Rattle.gq_schema.specs.BindingsSeen.{step_of};
+ghost use Rattle.load_memory.specs.Outcomes.{outcome_of};
+ghost use Rattle.execution.specs.Loads.{Reader};
+ghost use Rattle.gq_resolve.specs.Evaluated.{told};
+ghost use Rattle.gq_resolve.specs.Following.{StepsTo, ComesTo, FollowsTo};
+
+use crate::keys::{KeyOver, column_over};
+use crate::no_memory::NoMemory;
+use crate::reading::told_by;
+use gq_schema::Step;
+use load_memory::{CacheKey, KeyRef, Memory, Outcome, Row};
+use plan_program::{Own, no_column_message};
+use std::alloc::Global;
+
+/// Where one later loader comes to from a row.
+#[derive(Drop)]
+pub enum Stepped<'r> {
+    Row(&'r Row),
+    /// Null, or a fault.
+    Own(Own),
+    /// The memory lacks the load of this key.
+    Missing(KeyRef<'r>),
+}
+
+/// Where the later loaders of a `via` come to from a row.
+#[derive(Drop)]
+pub enum Followed<'r> {
+    Row(&'r Row),
+    /// Null, or a fault.
+    Own(Own),
+    /// The memory lacks a load, after which so many loaders come.
+    Missing {
+        left: usize,
+        loader: usize,
+        key: KeyRef<'r>,
+    },
+}
+
+// The first row of a later loader's load, by a column of the row before.
+fn step_from<'r>(
+    alloc: Global,
+    memory: &'r Memory,
+    probe: &mut CacheKey,
+    step: &'r Step,
+    row: &'r Row,
+) -> Result<Stepped<'r>, NoMemory>
+    ensures { IfOk result (StepsTo (told memory.now) (step_of step.now) row.now) }
+{
+    let key = match column_over(step.column.as_str(), row) {
+        KeyOver::Known(key) => key,
+        KeyOver::Null => return Ok(Stepped::Own(Own::Null)),
+        KeyOver::Lacking(column) => {
+            let fault = no_column_message(alloc, column)?;
+            return Ok(Stepped::Own(Own::Fault(fault)));
+        }
+    };
+    match told_by(alloc, memory, probe, step.loader, key)? {
+        Some(outcome) => first_told(outcome),
+        None => Ok(Stepped::Missing(key)),
+    }
+}
+
+// The first row of an outcome.
+fn first_told<'r>(outcome: &'r Outcome) -> Result<Stepped<'r>, NoMemory>
+    ensures { IfOk result (λ there. (R : Reader) (loader : ℕ) → ComesTo R loader (outcome_of outcome.now) there) }
+{
+    match outcome {
+        Outcome::Rows(rows) => match rows.first() {
+            Some(row) => Ok(Stepped::Row(row)),
+            None => Ok(Stepped::Own(Own::Null)),
+        },
+        Outcome::KeyFault(text) => Ok(Stepped::Own(Own::Fault(text.clone()?))),
+        Outcome::BatchFault(text) => Ok(Stepped::Own(Own::Fault(text.clone()?))),
+    }
+}
+
+/// Goes on from a row by the last so many of the later loaders of a `via`, each by a column of the row before. It ends where one
+/// comes to null, to a fault, or to a load that the memory lacks.
+pub fn follow_steps<'r>(
+    alloc: Global,
+    memory: &'r Memory,
+    probe: &mut CacheKey,
+    steps: &'r [Step],
+    left: usize,
+    from: &'r Row,
+) -> Result<Followed<'r>, NoMemory>
+    ensures { IfOk result (FollowsTo (told memory.now) (map step_of steps.now) left from.now) }
+{
+    let mut row = from;
+    for number in steps.len().saturating_sub(left)..steps.len() {
+        let step = &steps[number];
+        match step_from(alloc, memory, probe, step, row)? {
+            Stepped::Row(next) => row = next,
+            Stepped::Own(own) => return Ok(Followed::Own(own)),
+            Stepped::Missing(key) => {
+                return Ok(Followed::Missing {
+                    left: steps.len() - number - 1,
+                    loader: step.loader,
+                    key,
+                });
+            }
+        }
+    }
+    Ok(Followed::Row(row))
+}
