@@ -1,5 +1,5 @@
 -- Each plan is answered in a session of its world that is new: rounds can be made until nothing is missing.
-use Rattle.std.proofs.Common.{◌≡◌, ◌≢◌, ◌⊎◌, ◌≤◌, ◌<◌, ◌+◌, ℕ, zero, suc, List, [], ◌∷◌, All, map, length, inl, inr, sym, ◌∙◌, ap, refl, Option, Some, None, arith}
+use Rattle.std.proofs.Common.{◌≡◌, ◌≢◌, ◌⊎◌, ◌≤◌, ◌<◌, ◌+◌, ℕ, zero, suc, List, [], ◌∷◌, All, map, length, inl, inr, sym, ◌∙◌, ap, subst, refl, Option, Some, None, arith}
 use Rattle.std.specs.Prelude.{slice_get}
 use Rattle.std.proofs.lemmas.List.{length-map}
 use Rattle.std.proofs.lemmas.List.Elements.{All-nil, All-cons, All-head, All-tail}
@@ -34,9 +34,10 @@ use Rattle.load_rounds.proofs.Numbering.{orders-below, orders-loads}
 use Rattle.world.specs.Worlds.{WorldOf, IsLimit, HasSources}
 use Rattle.world_answers.specs.Answers.{may_tell, IsAnsweredAnew}
 use Rattle.world_answers.specs.Sessions.{loader_over, loaders_over, session_over}
-use Rattle.world_answers.proofs.Direct.{answer-direct}
+use Rattle.world_answers.proofs.Direct.{compare-alike, nothing-told, answer-direct}
 use Rattle.world_answers.proofs.Loading.{length-over}
-use Rattle.answer_laws.proofs.Logs.{chain-more, rounds-told}
+use Rattle.world_answers.proofs.Together.{respects-over, rounds-told, rounds-by-key}
+use Rattle.answer_laws.proofs.Logs.{chain-more}
 
 there : {A : Type 0} (xs : List A) (a : ℕ) → a < length xs → (x : A) × (slice_get xs a ≡ Some x)
 there [] a h = absurd (omega (arith, h))
@@ -65,51 +66,7 @@ module _ (limit : Option ℕ) where
   limited-over fits (line ∷ lines) [] = tt
   limited-over fits (line ∷ lines) (source ∷ sources) = (fits, limited-over fits lines sources)
 
-  compare-alike : (lines : List bindings.LoaderOf) (sources : List SourceOf) → CompareAlike (λ (s : SourceOf). s.mode) (loaders_over limit lines sources)
-  compare-alike [] sources = All-nil (λ (l : LoaderOf SourceOf). l.mode ≡ l.source.mode)
-  compare-alike (line ∷ lines) [] = All-nil (λ (l : LoaderOf SourceOf). l.mode ≡ l.source.mode)
-  compare-alike (line ∷ lines) (source ∷ sources) =
-      All-cons (λ (l : LoaderOf SourceOf). l.mode ≡ l.source.mode) (loader_over limit line.name source) (loaders_over limit lines sources) refl (compare-alike lines sources)
-
-mode-alike : (loaders : List (LoaderOf SourceOf)) (loader : ℕ) (l : LoaderOf SourceOf) → CompareAlike (λ (s : SourceOf). s.mode) loaders → slice_get loaders loader ≡ Some l → mode_at (modes_of (map rule_of loaders)) loader ≡ l.source.mode
-mode-alike [] loader l alike at = absurd (none-some l at)
-mode-alike (x ∷ xs) zero l alike at = All-head (λ (y : LoaderOf SourceOf). y.mode ≡ y.source.mode) x xs alike ∙ ap (λ (y : LoaderOf SourceOf). y.source.mode) (some-same x l at)
-mode-alike (x ∷ xs) (suc loader) l alike at = mode-alike xs loader l (All-tail (λ (y : LoaderOf SourceOf). y.mode ≡ y.source.mode) x xs alike) at
-
--- keys that are one for a loader have one item
-respects-over : (loaders : List (LoaderOf SourceOf)) → CompareAlike (λ (s : SourceOf). s.mode) loaders → RespectsCacheKeys (modes_of (map rule_of loaders)) (item_over item_of_key loaders)
-respects-over loaders alike = λ loader j k same. go loader j k same (slice_get loaders loader) refl
-  where
-    go : (loader : ℕ) (j k : KeyOf) → folded (mode_at (modes_of (map rule_of loaders)) loader) j ≡ folded (mode_at (modes_of (map rule_of loaders)) loader) k → (o : Option (LoaderOf SourceOf)) → slice_get loaders loader ≡ o
-        → item_over item_of_key loaders loader j ≡ item_over item_of_key loaders loader k
-    go loader j k same None at = rw at refl
-    go loader j k same (Some l) at =
-        let mode : mode_at (modes_of (map rule_of loaders)) loader ≡ l.source.mode = mode-alike loaders loader l alike at in
-        rw at (item_of_key-folded l.source j k (rw mode at same))
-
 -- ---- what its sources answer
-
-reply-told : (loaders : List (LoaderOf SourceOf)) (o : OrderOf) (r : ReplyOf) → IsReply (may_at may_tell loaders) o r → IsReply (key_by_key (item_over item_of_key loaders)) o r
-reply-told loaders o r h =
-    let at = h.may_be in
-    record {
-      loader = h.loader;
-      keys = h.keys;
-      answer = h.answer;
-      may_be = at.2 ∙ ap (λ (l : Option (LoaderOf SourceOf)). given (map (item_of_loader item_of_key l) o.keys)) (sym at.1);
-      outcomes = h.outcomes;
-    }
-
-replies-told : (loaders : List (LoaderOf SourceOf)) (os : List OrderOf) (rs : List ReplyOf) → AreReplies (may_at may_tell loaders) os rs → AreReplies (key_by_key (item_over item_of_key loaders)) os rs
-replies-told loaders [] [] h = tt
-replies-told loaders [] (r ∷ rs) h = absurd h
-replies-told loaders (o ∷ os) [] h = absurd h
-replies-told loaders (o ∷ os) (r ∷ rs) h = (reply-told loaders o r h.0, replies-told loaders os rs h.1)
-
-rounds-by-key : (loaders : List (LoaderOf SourceOf)) (rules : List RuleOf) (p : Program) (M : Memory) (rounds : List (List ReplyOf)) (end : Memory) → AreRounds (may_at may_tell loaders) rules p M rounds end → AreRounds (key_by_key (item_over item_of_key loaders)) rules p M rounds end
-rounds-by-key loaders rules p M [] end h = h
-rounds-by-key loaders rules p M (round ∷ rounds) end h =
-    (h.0, replies-told loaders (round_orders rules (front (modes_of rules) p M)) round h.1, rounds-by-key loaders rules p (after_round rules M round) rounds end h.2)
 
 reply-there : (loaders : List (LoaderOf SourceOf)) (o : OrderOf) → o.loader < length loaders → (r : ReplyOf) × IsReply (may_at may_tell loaders) o r
 reply-there loaders o lt =
@@ -137,9 +94,9 @@ round-there cur loads =
     let r = replies-there cur.loaders (round_orders (rules_of cur) loads) (orders-within cur loads) in
     (after_step cur (Asked loads r.0), record { replies = r.0; answered = r.1; after = refl })
 
--- ---- a plan is answered
+-- ---- rounds come to an end
 
-module _ (w : WorldOf) (plan : PlanOf) (has : HasSources w) (bound : plan.bindings ≡ w.bindings) where
+module _ (w : WorldOf) (has : HasSources w) where
   abbrev ls : List (LoaderOf SourceOf)
   ls = loaders_over w.limit w.bindings.loaders w.sources
 
@@ -149,72 +106,84 @@ module _ (w : WorldOf) (plan : PlanOf) (has : HasSources w) (bound : plan.bindin
   abbrev item : ℕ → KeyOf → ItemOf
   item = item_over item_of_key ls
 
-  abbrev p : Program
-  p = plan_program plan
-
-  limited : AreLimited (rules_of old)
+  pub limited : AreLimited (rules_of old)
   limited = limited-over w.limit (fits-limit w.limit has.fits) w.bindings.loaders w.sources
-
-  enough : length plan.bindings.loaders ≤ length ls
-  enough =
-      let a : length ls ≡ length w.bindings.loaders = length-over w.limit w.bindings.loaders w.sources has.each in
-      let b : length plan.bindings.loaders ≡ length w.bindings.loaders = ap (λ (x : bindings.BindingsOf). length x.loaders) bound in
-      omega (arith, a, b)
-
-  own : HasLoaders (length (rules_of old)) p
-  own = λ R l one.
-      let below = plan-loads plan R l one in
-      let size = length-map ls rule_of in
-      let within = enough in
-      omega (arith, below, size, within)
 
   respects : RespectsCacheKeys (session_modes old) item
   respects = respects-over ls (compare-alike w.limit w.bindings.loaders w.sources)
 
-  nothing-told : HoldsItems (session_modes old) item (without_failed old.memory)
-  nothing-told = λ loader key outcome h. absurd (none-some outcome h)
+  -- what needs the loaders of the bindings has them
+  pub over-loaders : (p : Program) → HasLoaders (length w.bindings.loaders) p → HasLoaders (length (rules_of old)) p
+  over-loaders p within = λ R l one.
+      let below = within R l one in
+      let size = length-map ls rule_of in
+      let own : length ls ≡ length w.bindings.loaders = length-over w.limit w.bindings.loaders w.sources has.each in
+      omega (arith, below, size, own)
 
-  few : (cur : StateOf SourceOf) (n : ℕ) → InRounds may_tell old cur p n → n ≤ chain p (direct item)
-  few cur n is =
-      let at : HoldsItems (session_modes old) item cur.memory = rounds-told item (rules_of old) p respects (without_failed old.memory) is.log cur.memory nothing-told (rounds-by-key ls (rules_of old) p (without_failed old.memory) is.log cur.memory is.made.rounds) in
-      let more : AnswersMore (read (session_modes old) cur.memory) (direct item) = λ load o f. ap (λ (x : OutcomeOf). Some x) (sym (at load.loader load.key o f)) in
-      let a : length is.log ≤ chain p (read (session_modes old) cur.memory) = rounds-chain (may_at may_tell ls) (rules_of old) p (without_failed old.memory) is.log cur.memory limited own is.made.rounds in
-      let b : chain p (read (session_modes old) cur.memory) ≤ chain p (direct item) = chain-more p (read (session_modes old) cur.memory) (direct item) more in
-      let c = is.counted in
-      omega (arith, a, b, c)
+  module _ (p : Program) (own : HasLoaders (length (rules_of old)) p) where
+    few : (cur : StateOf SourceOf) (n : ℕ) → InRounds may_tell old cur p n → n ≤ chain p (direct item)
+    few cur n is =
+        let at : HoldsItems (session_modes old) item cur.memory =
+        rounds-told item (rules_of old) p respects (without_failed old.memory) is.log cur.memory (nothing-told w.limit (session_modes old) item) (rounds-by-key ls (rules_of old) p (without_failed old.memory) is.log cur.memory is.made.rounds) in
+        let more : AnswersMore (read (session_modes old) cur.memory) (direct item) = λ load o f. ap (λ (x : OutcomeOf). Some x) (sym (at load.loader load.key o f)) in
+        let a : length is.log ≤ chain p (read (session_modes old) cur.memory) = rounds-chain (may_at may_tell ls) (rules_of old) p (without_failed old.memory) is.log cur.memory limited own is.made.rounds in
+        let b : chain p (read (session_modes old) cur.memory) ≤ chain p (direct item) = chain-more p (read (session_modes old) cur.memory) (direct item) more in
+        let c = is.counted in
+        omega (arith, a, b, c)
 
-  record Done : Type 0 where
-    last : StateOf SourceOf
-    rounds : ℕ
-    is : InRounds may_tell old last p rounds
-    none : front (session_modes last) p last.memory ≡ []
+    -- nothing is missing any more
+    pub record Done : Type 0 where
+      pub last : StateOf SourceOf
+      pub rounds : ℕ
+      pub is : InRounds may_tell old last p rounds
+      pub none : front (session_modes last) p last.memory ≡ []
 
-  done : (left : ℕ) (cur : StateOf SourceOf) (n : ℕ) → InRounds may_tell old cur p n → chain p (direct item) < n + left → Done
-  done zero cur n is lt = let most = few cur n is in absurd (omega (arith, lt, most))
-  done (suc left) cur n is lt = go (none-or (front (session_modes cur) p cur.memory)) (λ new i. done left new (n + 1) i (omega (arith, lt)))
-    where
-      go : (front (session_modes cur) p cur.memory ≡ []) ⊎ (front (session_modes cur) p cur.memory ≢ []) → ((new : StateOf SourceOf) → InRounds may_tell old new p (n + 1) → Done) → Done
-      go (inl e) rest = record { last = cur; rounds = n; is = is; none = e }
-      go (inr some) rest =
-          let r = round-there cur (front (session_modes cur) p cur.memory) in
-          rest r.0 (in-more may_tell old cur r.0 p n (n + 1) is refl some r.1)
+    done : (left : ℕ) (cur : StateOf SourceOf) (n : ℕ) → InRounds may_tell old cur p n → chain p (direct item) < n + left → Done
+    done zero cur n is lt = let most = few cur n is in absurd (omega (arith, lt, most))
+    done (suc left) cur n is lt = go (none-or (front (session_modes cur) p cur.memory)) (λ new i. done left new (n + 1) i (omega (arith, lt)))
+      where
+        go : (front (session_modes cur) p cur.memory ≡ []) ⊎ (front (session_modes cur) p cur.memory ≢ []) → ((new : StateOf SourceOf) → InRounds may_tell old new p (n + 1) → Done) → Done
+        go (inl e) rest = record { last = cur; rounds = n; is = is; none = e }
+        go (inr some) rest =
+            let r = round-there cur (front (session_modes cur) p cur.memory) in
+            rest r.0 (in-more may_tell old cur r.0 p n (n + 1) is refl some r.1)
 
-  abbrev text_over : StateOf SourceOf → List ℕ
-  text_over last = answer_text (completed (tree p (read (session_modes last) last.memory)))
+    pub rounds-end : Done
+    rounds-end = done (suc (chain p (direct item))) (after_step old Forgot) 0 (in-none may_tell old (after_step old Forgot) p refl) (omega arith)
+
+-- ---- a plan is answered
+
+-- the text of an execution over what is known
+abbrev pub text_over : Program → StateOf SourceOf → List ℕ
+text_over p last = answer_text (completed (tree p (read (session_modes last) last.memory)))
+
+pub text-told : (p : Program) (last : StateOf SourceOf) → front (session_modes last) p last.memory ≡ [] → IsTextOf answer_text p (read (session_modes last) last.memory) (text_over p last)
+text-told p last none = record {
+  answered = completed (tree p (read (session_modes last) last.memory));
+  executed = exec-whole p (read (session_modes last) last.memory) ((front-open (session_modes last) p last.memory).0 none);
+  told = refl;
+}
+
+-- a plan over the bindings of a world needs no other loaders
+pub plan-within : (w : WorldOf) (plan : PlanOf) → plan.bindings ≡ w.bindings → HasLoaders (length w.bindings.loaders) (plan_program plan)
+plan-within w plan bound = subst (λ (b : bindings.BindingsOf). HasLoaders (length b.loaders) (plan_program plan)) bound (plan-loads plan)
+
+module _ (w : WorldOf) (plan : PlanOf) (has : HasSources w) (bound : plan.bindings ≡ w.bindings) where
+  abbrev p : Program
+  p = plan_program plan
+
+  enough : length plan.bindings.loaders ≤ length (loaders_over w.limit w.bindings.loaders w.sources)
+  enough =
+      let a = length-over w.limit w.bindings.loaders w.sources has.each in
+      let b : length plan.bindings.loaders ≡ length w.bindings.loaders = ap (λ (x : bindings.BindingsOf). length x.loaders) bound in
+      omega (arith, a, b)
 
   pub plan-answered : IsPlan plan → (text : List ℕ) × IsAnsweredAnew w plan text
-  plan-answered valid = go (done (suc (chain p (direct item))) (after_step old Forgot) 0 (in-none may_tell old (after_step old Forgot) p refl) (omega arith))
-    where
-      go : Done → (text : List ℕ) × IsAnsweredAnew w plan text
-      go d =
-          let told : IsTextOf answer_text p (read (session_modes d.last) d.last.memory) (text_over d.last) = record {
-            answered = completed (tree p (read (session_modes d.last) d.last.memory));
-            executed = exec-whole p (read (session_modes d.last) d.last.memory) ((front-open (session_modes d.last) p d.last.memory).0 d.none);
-            told = refl;
-          } in (
-            text_over d.last,
-            answer-direct w d.last plan (text_over d.last) d.rounds has.each (record {
-              valid = valid;
-              headline = in-all may_tell old d.last p d.rounds (length plan.bindings.loaders) answer_text (text_over d.last) d.is limited (plan-loads plan) enough d.none told;
-            }),
-          )
+  plan-answered valid =
+      let d = rounds-end w has p (over-loaders w has p (plan-within w plan bound)) in (
+        text_over p d.last,
+        answer-direct w d.last plan (text_over p d.last) d.rounds has.each (record {
+          valid = valid;
+          headline = in-all may_tell (state_of (session_over w)) d.last p d.rounds (length plan.bindings.loaders) answer_text (text_over p d.last) d.is (limited w has) (plan-loads plan) enough d.none (text-told p d.last d.none);
+        }),
+      )

@@ -15,10 +15,10 @@ use Rattle.json.specs.Lex.{Lexeme, token, comma, colon, Class, quote, backslash,
 use Rattle.json.specs.Json as json
 use Rattle.json.specs.Json.{Parse, parse_map, after_end_array, read_key, items_step, members_step, items, members, value_with, value, if_last}
 use Rattle.serde_json.specs.Data as parsed
-use Rattle.serde_json.specs.Data.{Num, Data, Items, Members, no_members, member, put}
+use Rattle.serde_json.specs.Data.{Num, Data, Items, no_items, item, Members, no_members, member, put}
 use Rattle.serde_json.specs.Read.{number_of, of_json, of_items, of_members, max_depth, read}
-use Rattle.serde_json.specs.Find.{get_member, get, as_str}
-use Rattle.request_line.specs.Requests.{RequestOf, name_of, with_query, asked, IsRequest}
+use Rattle.serde_json.specs.Find.{get_member, get, as_str, as_array}
+use Rattle.request_line.specs.Requests.{RequestOf, name_of, with_query, asked, asked_each, IsRequest, AreRequests}
 use Rattle.answer_laws.proofs.Each.{Each, Maybe, maybe-map, maybe-and_then}
 use Rattle.answer_laws.proofs.Content.{after-byte, Reads, content-reads}
 
@@ -156,7 +156,7 @@ module _ (n : ℕ) where
   tokens-fit : (text : List ℕ) → length text ≤ n → IsUtf8 text → TokensFit (tokens text)
   tokens-fit text le utf8 = punctuate-fits fresh (lex between text) (lex-fits between [] text le utf8)
 
-  -- ---- values: of a string itself, and of the strings among an object's members
+  -- ---- values: of a string itself, of the strings among an object's members, and of each value in an array
 
   abbrev StringFits : json.Json → Type 0
   StringFits (json.string s) = Fits s
@@ -166,10 +166,18 @@ module _ (n : ℕ) where
   MembersFit json.no_members = Unit {0}
   MembersFit (json.member k j ms) = StringFits j × MembersFit ms
 
-  abbrev ValueFits : json.Json → Type 0
-  ValueFits (json.string s) = Fits s
-  ValueFits (json.object ms) = MembersFit ms
-  ValueFits _ = Unit {0}
+  abbrev mutual
+    ValueFits : json.Json → Type 0
+    ValueFits json.null = Unit {0}
+    ValueFits (json.boolean b) = Unit {0}
+    ValueFits (json.number s) = Unit {0}
+    ValueFits (json.string s) = Fits s
+    ValueFits (json.array js) = ItemsFit js
+    ValueFits (json.object ms) = MembersFit ms
+
+    ItemsFit : json.Items → Type 0
+    ItemsFit json.no_items = Unit {0}
+    ItemsFit (json.item j js) = ValueFits j × ItemsFit js
 
   string-of : (j : json.Json) → ValueFits j → StringFits j
   string-of json.null h = tt
@@ -217,13 +225,13 @@ module _ (n : ℕ) where
   key-fits (bad ∷ ts) h = tt
 
   module _ (parse : Parse json.Json) (fits : (ts : List Token) → TokensFit ts → Maybe (Parsed ValueFits) (parse ts)) where
-    item-fits : (more : Parse json.Items) → ((ts : List Token) → TokensFit ts → Maybe (Parsed Anything) (more ts)) → (ts : List Token) (o : Option (List Token)) → TokensFit ts → Maybe TokensFit o → Maybe (Parsed Anything) (items_step parse more ts o)
+    item-fits : (more : Parse json.Items) → ((ts : List Token) → TokensFit ts → Maybe (Parsed ItemsFit) (more ts)) → (ts : List Token) (o : Option (List Token)) → TokensFit ts → Maybe TokensFit o → Maybe (Parsed ItemsFit) (items_step parse more ts o)
     item-fits more others ts (Some rest) h p = (tt, p)
     item-fits more others ts None h p =
-        maybe-and_then (Parsed ValueFits) (Parsed Anything) (λ (q : json.Json × List Token). parse_map (json.item q.0) (more q.1)) (parse ts)
-        (λ q r. mapped Anything Anything (json.item q.0) (more q.1) (λ a b. tt) (others q.1 r.1)) (fits ts h)
+        maybe-and_then (Parsed ValueFits) (Parsed ItemsFit) (λ (q : json.Json × List Token). parse_map (json.item q.0) (more q.1)) (parse ts)
+        (λ q r. mapped ItemsFit ItemsFit (json.item q.0) (more q.1) (λ js b. (r.0, b)) (others q.1 r.1)) (fits ts h)
 
-    items-fit : (m : ℕ) (ts : List Token) → TokensFit ts → Maybe (Parsed Anything) (items parse m ts)
+    items-fit : (m : ℕ) (ts : List Token) → TokensFit ts → Maybe (Parsed ItemsFit) (items parse m ts)
     unfolding items
     items-fit zero ts h = tt
     items-fit (suc m) ts h = item-fits (items parse m) (items-fit m) ts (after_end_array ts) h (end-fits ts h)
@@ -240,12 +248,12 @@ module _ (n : ℕ) where
     members-fit (suc m) ts h =
         maybe-and_then (Parsed Anything) (Parsed MembersFit) (λ (q : Option (List ℕ) × List Token). members_step parse (members parse m) q.0 q.1) (read_key ts) (λ q r. member-fits (members parse m) (members-fit m) q.0 q.1 r.1) (key-fits ts h)
 
-  with-fits : (a : Parse json.Items) (o : Parse json.Members) → ((ts : List Token) → TokensFit ts → Maybe (Parsed Anything) (a ts)) → ((ts : List Token) → TokensFit ts → Maybe (Parsed MembersFit) (o ts))
+  with-fits : (a : Parse json.Items) (o : Parse json.Members) → ((ts : List Token) → TokensFit ts → Maybe (Parsed ItemsFit) (a ts)) → ((ts : List Token) → TokensFit ts → Maybe (Parsed MembersFit) (o ts))
       → (ts : List Token) → TokensFit ts → Maybe (Parsed ValueFits) (value_with a o ts)
   with-fits a o p q [] h = tt
   with-fits a o p q (begin_object ∷ ts) h = mapped MembersFit ValueFits json.object (o ts) (λ ms b. b) (q ts h.1)
   with-fits a o p q (end_object ∷ ts) h = tt
-  with-fits a o p q (begin_array ∷ ts) h = mapped Anything ValueFits json.array (a ts) (λ js b. tt) (p ts h.1)
+  with-fits a o p q (begin_array ∷ ts) h = mapped ItemsFit ValueFits json.array (a ts) (λ js b. b) (p ts h.1)
   with-fits a o p q (end_array ∷ ts) h = tt
   with-fits a o p q (key s ∷ ts) h = tt
   with-fits a o p q (string s ∷ ts) h = (h.0, h.1)
@@ -271,9 +279,18 @@ module _ (n : ℕ) where
   AllFit no_members = Unit {0}
   AllFit (member k d ms) = DataFits d × AllFit ms
 
-  abbrev ObjectFits : Data → Type 0
-  ObjectFits (parsed.object ms) = AllFit ms
-  ObjectFits _ = Unit {0}
+  abbrev mutual
+    ObjectFits : Data → Type 0
+    ObjectFits parsed.null = Unit {0}
+    ObjectFits (parsed.boolean b) = Unit {0}
+    ObjectFits (parsed.number x) = Unit {0}
+    ObjectFits (parsed.string s) = Unit {0}
+    ObjectFits (parsed.array ds) = EachFits ds
+    ObjectFits (parsed.object ms) = AllFit ms
+
+    EachFits : Items → Type 0
+    EachFits no_items = Unit {0}
+    EachFits (item d ds) = ObjectFits d × EachFits ds
 
   ordered : (o : Ordering) (a b c : Members) → AllFit a → AllFit b → AllFit c → AllFit (match_ordering o a b c)
   ordered Less a b c p q r = p
@@ -313,17 +330,18 @@ module _ (n : ℕ) where
   number-object None = tt
   number-object (Some x) = tt
 
-  array-object : (o : Option Items) → Maybe ObjectFits (option_map parsed.array o)
-  array-object None = tt
-  array-object (Some x) = tt
+  mutual
+    object-fits : (j : json.Json) → ValueFits j → Maybe ObjectFits (of_json j)
+    object-fits json.null h = tt
+    object-fits (json.boolean b) h = tt
+    object-fits (json.number s) h = number-object (number_of s)
+    object-fits (json.string s) h = tt
+    object-fits (json.array js) h = maybe-map EachFits ObjectFits parsed.array (of_items js) (λ x p. p) (objects-fit js h)
+    object-fits (json.object ms) h = maybe-map AllFit ObjectFits parsed.object (of_members ms no_members) (λ x p. p) (all-fit ms no_members h tt)
 
-  object-fits : (j : json.Json) → ValueFits j → Maybe ObjectFits (of_json j)
-  object-fits json.null h = tt
-  object-fits (json.boolean b) h = tt
-  object-fits (json.number s) h = number-object (number_of s)
-  object-fits (json.string s) h = tt
-  object-fits (json.array js) h = array-object (of_items js)
-  object-fits (json.object ms) h = maybe-map AllFit ObjectFits parsed.object (of_members ms no_members) (λ x p. p) (all-fit ms no_members h tt)
+    objects-fit : (js : json.Items) → ItemsFit js → Maybe EachFits (of_items js)
+    objects-fit json.no_items h = tt
+    objects-fit (json.item j js) h = maybe-and_then ObjectFits EachFits (λ d. option_map (item d) (of_items js)) (of_json j) (λ d p. maybe-map EachFits EachFits (item d) (of_items js) (λ ds q. (p, q)) (objects-fit js h.1)) (object-fits j h.0)
 
   last-fits : (p : json.Json × List Token) → Parsed ValueFits p → Maybe ValueFits (if_last p.0 p.1)
   last-fits (j, []) h = h.0
@@ -362,7 +380,7 @@ module _ (n : ℕ) where
   name-fits (Some (parsed.array ds)) h = tt
   name-fits (Some (parsed.object ms)) h = tt
 
-  abbrev RequestFits : RequestOf → Type 0
+  abbrev pub RequestFits : RequestOf → Type 0
   RequestFits r = Maybe Fits r.operation_name
 
   asked-fits : (d : Data) → ObjectFits d → Maybe RequestFits (asked d)
@@ -380,3 +398,22 @@ module _ (n : ℕ) where
   pub request-fits : (line : List ℕ) (r : RequestOf) → length line ≤ n → IsRequest line r → Maybe Fits r.operation_name
   request-fits line r le is =
       subst (Maybe RequestFits) is.members (maybe-and_then ObjectFits RequestFits asked (read line) asked-fits (read-fits line le is.text))
+
+  -- ---- the values of an array
+
+  values-fit : (ds : Items) → EachFits ds → Each (Maybe RequestFits) (asked_each ds)
+  values-fit no_items h = tt
+  values-fit (item d ds) h = (asked-fits d h.0, values-fit ds h.1)
+
+  array-fits : (d : Data) → ObjectFits d → Maybe EachFits (as_array d)
+  array-fits parsed.null h = tt
+  array-fits (parsed.boolean b) h = tt
+  array-fits (parsed.number x) h = tt
+  array-fits (parsed.string s) h = tt
+  array-fits (parsed.array ds) h = h
+  array-fits (parsed.object ms) h = tt
+
+  pub requests-fit : (line : List ℕ) (values : List (Option RequestOf)) → length line ≤ n → AreRequests line values → Each (Maybe RequestFits) values
+  requests-fit line values le are =
+      subst (Maybe (Each (Maybe RequestFits))) are.values
+      (maybe-map EachFits (Each (Maybe RequestFits)) asked_each (option_and_then as_array (read line)) values-fit (maybe-and_then ObjectFits EachFits as_array (read line) array-fits (read-fits line le are.text)))

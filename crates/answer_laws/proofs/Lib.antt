@@ -3,6 +3,7 @@ pub mod Deciding
 pub mod Verdicts
 pub mod Logs
 pub mod Answered
+pub mod Shared
 pub mod Telling
 pub mod Each
 pub mod Names

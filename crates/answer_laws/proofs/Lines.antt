@@ -1,11 +1,12 @@
 -- Each line has an answer.
-use Rattle.std.proofs.Common.{◌≡◌, ◌≢◌, ◌<◌, ◌≤◌, ◌^◌, length, arith, cond, refl, sym, ap, subst, ◌∙◌, ℕ, Bool, true, false, List, [], ◌∷◌, Option, Some, None, Result, Ok, Err, inl, inr, IsUtf8, string_bytes}
-use Rattle.std.specs.Option.{option_and_then}
-use Rattle.std.specs.Prelude.{find, codes}
+use Rattle.std.proofs.Common.{◌≡◌, ◌≢◌, ◌<◌, ◌≤◌, ◌^◌, length, arith, cond, refl, sym, ap, subst, ◌∙◌, ℕ, Bool, true, false, List, [], ◌∷◌, map, ◌⊎◌, Option, Some, None, Result, Ok, Err, inl, inr, IsUtf8, string_bytes}
+use Rattle.std.specs.Option.{option_map, option_and_then}
+use Rattle.std.specs.Prelude.{find, nat_lt, nat_le}
 use Rattle.std.specs.Str.{is_utf8}
 use Rattle.std.proofs.lemmas.Bool.{cases_Bool, true≢false}
 use Rattle.std.proofs.lemmas.Str.{IsUtf8-from_is_utf8, is_utf8-from_IsUtf8}
 use Rattle.serde_json.specs.Data.{Data}
+use Rattle.serde_json.specs.Find.{as_array}
 use Rattle.serde_json.specs.Read.{read}
 use Rattle.gq_parser.specs.declared.fault.ParseFault.{ParseFault}
 use Rattle.gq_parser.specs.declared.fault.ParseFault.TheVariants as parse
@@ -22,20 +23,26 @@ use Rattle.gq_check.specs.declared.fault.PrepareFault.TheVariants as prepare
 use Rattle.gq_check.specs.Plans.{PlanOf}
 use Rattle.gq_check.specs.Prepared.{PreparedOf, FaultOf as Unprepared, no_such_operation, operation_needed, variables_not_object, bad_variable, is_operation, found_operation, only_operation, chosen_operation, with_variables, prepared_operation, prepared}
 use Rattle.gq_check.specs.Verdict.{FaultOf, Breaks, TooComplex, TooDeep, NotServed, IsVerdict, IsValid}
-use Rattle.request_line.specs.Requests.{RequestOf, asked, IsRequest, IsNoRequest}
+use Rattle.load_rounds.specs.SharedRounds.{ToldOf}
+use Rattle.request_line.specs.Requests.{RequestOf, asked, asked_each, most_requests, IsRequest, AreRequests, IsNoRequest}
 use Rattle.world.specs.declared.request.RequestFault.{RequestFault}
 use Rattle.world.specs.declared.request.RequestFault.TheVariants as fault
 use Rattle.world.specs.Requests.{IsPlanOf, IsInvalid, IsUnprepared, IsRequestFault, is_want_of_memory, request_message, request_place}
 use Rattle.world.specs.Worlds.{WorldOf, HasSources}
-use Rattle.world_answers.specs.Answers.{values_of, IsPlanned, IsFaulty, IsAnsweredAnew, refusal_text, AnswersRequest, faulty, planned, IsAnswer, no_request, request}
+use Rattle.world_answers.specs.Answers.{values_of, IsPlanned, IsFaulty, IsAnsweredAnew, refusal_text, not_a_request, AnswersRequest, faulty, planned}
+use Rattle.world_answers.specs.Arrays.{array_text, AnswersArray}
+use Rattle.world_answers.specs.Lines.{IsAnswer, no_request, request, several}
+use Rattle.world_answers.specs.Planning.{PlanValues, in_places}
+use Rattle.world_answers.proofs.Values.{plans-bound, array-answered}
 use Rattle.answer_laws.specs.Told.{IsPlanFor, IsRefusedOrAnswered, invalid, unprepared, answered}
 use Rattle.answer_laws.proofs.Telling.{told-there}
 use Rattle.answer_laws.proofs.Documents.{IsTold, text-told}
 use Rattle.answer_laws.proofs.Each.{Each, Maybe, each-find}
+use Rattle.answer_laws.proofs.Shared.{plans-answered}
 use Rattle.answer_laws.proofs.Names.{DocumentNames}
 use Rattle.answer_laws.proofs.Written.{IsWritten, document-written}
 use Rattle.answer_laws.proofs.Strings.{IsSaid, said, said-name}
-use Rattle.answer_laws.proofs.Json.{Fits, request-fits}
+use Rattle.answer_laws.proofs.Json.{Fits, RequestFits, request-fits, requests-fit}
 use Rattle.answer_laws.proofs.Parts.{VariableNames, OperationNames, schema-said, parts-named}
 use Rattle.answer_laws.proofs.Rules.{FaultSaid, verdict-said}
 
@@ -161,30 +168,99 @@ module _ (w : WorldOf) (has : HasSources w) (r : RequestOf) (called : Maybe IsSa
 
 -- ---- a line
 
-none-some : (r : RequestOf) → None ≡ Some r → ⊥
-none-some r e = cc e
+none-some : {X : Type 0} (x : X) → None ≡ Some x → ⊥
+none-some x e = cc e
+
+some-one : {X : Type 0} (x y : X) → Some x ≡ Some y → x ≡ y
+some-one x y e = cc e
+
+in_range : (low high n : ℕ) → ((low < n) × (n ≤ high)) ⊎ ((low < n) × (n ≤ high) → ⊥)
+in_range low high n = go (nat_lt low n) (nat_le n high) refl refl
+  where
+    go : (a b : Bool) → nat_lt low n ≡ a → nat_le n high ≡ b → ((low < n) × (n ≤ high)) ⊎ ((low < n) × (n ≤ high) → ⊥)
+    go true true e d = inl (grind arith, grind arith)
+    go false b e d = inr (λ h. grind arith)
+    go true false e d = inr (λ h. grind arith)
+
+-- the values of an array, each refused or planned
+record Values (w : WorldOf) (values : List (Option RequestOf)) : Type 0 where
+  refusals : List (Option (List ℕ))
+  plans : List PlanOf
+  are : PlanValues w values refusals plans
+
+module _ (w : WorldOf) (has : HasSources w) where
+  abbrev ValueSaid : RequestOf → Type 0
+  ValueSaid r = Maybe IsSaid r.operation_name
+
+  next-value : (r : RequestOf) (text : List ℕ) (values : List (Option RequestOf)) → AnswersRequest w r text → Values w values → Values w (Some r ∷ values)
+  next-value r text values (faulty {fault = f} h e) rest = record { refusals = Some text ∷ rest.refusals; plans = rest.plans; are = (record { fault = f; faulty = h; told = e }, rest.are) }
+  next-value r text values (planned {plan = p} h anew) rest = record { refusals = None ∷ rest.refusals; plans = p ∷ rest.plans; are = (h, rest.are) }
+
+  values-there : (values : List (Option RequestOf)) → Each (Maybe ValueSaid) values → Values w values
+  values-there [] said = record { refusals = []; plans = []; are = tt }
+  values-there (None ∷ values) said = let rest = values-there values said.1 in record { refusals = Some not_a_request ∷ rest.refusals; plans = rest.plans; are = (refl, rest.are) }
+  values-there (Some r ∷ values) said = let a = request-answered w has r said.0 in next-value r a.0 values a.1 (values-there values said.1)
+
+  array-there : (values : List (Option RequestOf)) → Each (Maybe ValueSaid) values → (text : List ℕ) × AnswersArray w values text
+  array-there values said =
+      let v = values-there values said in
+      let a = plans-answered w has v.plans (plans-bound w values v.refusals v.plans v.are) in
+      let text = array_text (in_places v.refusals (map (λ (t : ToldOf). t.text) a.1)) in
+      (text, array-answered w values v.refusals v.plans a.1 a.0 text has.each v.are a.2 refl)
 
 module _ (w : WorldOf) (has : HasSources w) (line : List ℕ) where
-  refused : IsNoRequest line → (text : List ℕ) × IsAnswer w line text
-  refused none = (refusal_text (codes "not a request") None, no_request none refl)
+  abbrev Answered : Type 0
+  Answered = (text : List ℕ) × IsAnswer w line text
 
-  of-reading : ((r : RequestOf) → IsRequest line r → Maybe IsSaid r.operation_name) → IsUtf8 line → (o : Option RequestOf) → option_and_then asked (read line) ≡ o → (text : List ℕ) × IsAnswer w line text
-  of-reading called utf8 None e = refused (λ r is. none-some r (sym e ∙ is.members))
-  of-reading called utf8 (Some r) e =
-      let is : IsRequest line r = record { text = utf8; members = e } in
-      let a = request-answered w has r (called r is) in
-      (a.0, request {r = r} is a.1)
+  refused : IsNoRequest line → Answered
+  refused none = (not_a_request, no_request none refl)
 
-  line-answered : ((r : RequestOf) → IsRequest line r → Maybe IsSaid r.operation_name) → (text : List ℕ) × IsAnswer w line text
-  line-answered called = elim (cases_Bool (is_utf8 line)) [
-    | inl text ↦ of-reading called (IsUtf8-from_is_utf8 line text) (option_and_then asked (read line)) refl
-    | inr other ↦ refused (λ r is. true≢false (sym (is_utf8-from_IsUtf8 line is.text) ∙ other))
-  ]
+  abbrev array_in : Option (List (Option RequestOf))
+  array_in = option_map asked_each (option_and_then as_array (read line))
+
+  module _ (one : (r : RequestOf) → IsRequest line r → Maybe IsSaid r.operation_name) (each : (values : List (Option RequestOf)) → AreRequests line values → Each (Maybe (ValueSaid w has)) values) where
+    of-values : IsUtf8 line → ((r : RequestOf) → IsRequest line r → ⊥) → (values : List (Option RequestOf)) → array_in ≡ Some values → Answered
+    of-values utf8 none values e = elim (in_range 0 most_requests (length values)) [
+      | inl within ↦
+          let are : AreRequests line values = record { text = utf8; values = e; some = within.0; few = within.1 } in
+          let a = array-there w has values (each values are) in
+          (a.0, several {values = values} are a.1)
+      | inr outside ↦ refused (record {
+        not_one = none;
+        not_several = λ others are. let same : others ≡ values = some-one others values (sym are.values ∙ e) in outside (rw same at are.some, rw same at are.few);
+      })
+    ]
+
+    of-array : IsUtf8 line → ((r : RequestOf) → IsRequest line r → ⊥) → (o : Option (List (Option RequestOf))) → array_in ≡ o → Answered
+    of-array utf8 none None e = refused (record { not_one = none; not_several = λ values are. none-some values (sym e ∙ are.values) })
+    of-array utf8 none (Some values) e = of-values utf8 none values e
+
+    of-reading : IsUtf8 line → (o : Option RequestOf) → option_and_then asked (read line) ≡ o → Answered
+    of-reading utf8 None e = of-array utf8 (λ r is. none-some r (sym e ∙ is.members)) array_in refl
+    of-reading utf8 (Some r) e =
+        let is : IsRequest line r = record { text = utf8; members = e } in
+        let a = request-answered w has r (one r is) in
+        (a.0, request {r = r} is a.1)
+
+    line-answered : Answered
+    line-answered = elim (cases_Bool (is_utf8 line)) [
+      | inl text ↦ of-reading (IsUtf8-from_is_utf8 line text) (option_and_then asked (read line)) refl
+      | inr other ↦ refused (record {
+        not_one = λ r is. true≢false (sym (is_utf8-from_IsUtf8 line is.text) ∙ other);
+        not_several = λ values are. true≢false (sym (is_utf8-from_IsUtf8 line are.text) ∙ other);
+      })
+    ]
 
   -- the name that it asks for, as a string
   name-said : (name : Option (List ℕ)) → length line < 2 ^ 63 → Maybe (Fits (length line)) name → Maybe IsSaid name
   name-said None short h = tt
   name-said (Some n) short h = let le = h.short in said n (omega (arith, short, le)) h.utf8
 
+  names-said : (values : List (Option RequestOf)) → length line < 2 ^ 63 → Each (Maybe (RequestFits (length line))) values → Each (Maybe (ValueSaid w has)) values
+  names-said [] short h = tt
+  names-said (None ∷ values) short h = (tt, names-said values short h.1)
+  names-said (Some r ∷ values) short h = (name-said r.operation_name short h.0, names-said values short h.1)
+
   pub line-there : length line < 2 ^ 63 → (text : List ℕ) × IsAnswer w line text
   line-there short = line-answered (λ r is. name-said r.operation_name short (request-fits (length line) line r (omega arith) is))
+      (λ values are. names-said values short (requests-fit (length line) line values (omega arith) are))

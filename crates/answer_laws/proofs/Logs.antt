@@ -16,9 +16,9 @@ use Rattle.execution.specs.Completion.{AnsweredOf, is_open, any_open}
 use Rattle.execution.specs.Front.{front}
 use Rattle.execution.specs.Executed.{exec, completed}
 use Rattle.execution.specs.Rounds.{RuleOf, modes_of, key_by_key, round_orders, IsReply, AreReplies, reply_pairs, pairs_of, after_round, AreRounds, IsLawful, direct, RespectsCacheKeys, HoldsItems, AreLimited, HasLoaders}
-use Rattle.execution.proofs.OneLog.{at-pair}
 use Rattle.execution.proofs.Monotone.{exec-whole}
 use Rattle.execution.proofs.RoundLaws.{rounds-chain}
+use Rattle.world_answers.proofs.Together.{rounds-told}
 
 -- ---- a larger reader reads a chain as long
 
@@ -54,17 +54,6 @@ module _ (item : ℕ → KeyOf → ItemOf) where
 
   -- ---- a round can be made
 
-  -- the outcomes of keys
-  abbrev told : ℕ → List KeyOf → List OutcomeOf
-  told loader keys = map known (map (item loader) keys)
-
-  outcomes-told : (loader : ℕ) (keys : List KeyOf) (a : AnswerOf) → a ≡ given (map (item loader) keys) → outcomes_of (length keys) a ≡ told loader keys
-  outcomes-told loader keys a e =
-      ap (outcomes_of (length keys)) e ∙ (rw (eq-eqb (length (map (item loader) keys)) (length keys) (length-map keys (item loader))) refl)
-
-  reply-told : (o : OrderOf) (r : ReplyOf) → IsReply (key_by_key item) o r → r.outcomes ≡ told o.loader o.keys
-  reply-told o r h = h.outcomes ∙ outcomes-told o.loader o.keys h.answer h.may_be
-
   replies-to : List OrderOf → List ReplyOf
   replies-to os = map (λ (o : OrderOf). record { loader = o.loader; keys = o.keys; outcomes = outcomes_of (length o.keys) (given (map (item o.loader) o.keys)) }) os
 
@@ -73,58 +62,7 @@ module _ (item : ℕ → KeyOf → ItemOf) where
   replies-there [] = tt
   replies-there (o ∷ os) = (record { loader = refl; keys = refl; answer = given (map (item o.loader) o.keys); may_be = refl; outcomes = refl }, replies-there os)
 
-  -- a reply's pairs say what asking key by key gives
-  pairs-told : (mode : KeyMode) (n : ℕ) (keys : List KeyOf) (loader : ℕ) (key : KeyOf) (o : OutcomeOf) → look (reply_pairs mode n keys (told n keys)) loader key ≡ Some o
-      → (n ≡ loader) × (k : KeyOf) × (folded mode k ≡ key) × (o ≡ known (item n k))
-  pairs-told mode n [] loader key o h = absurd (cc h)
-  pairs-told mode n (k ∷ ks) loader key o h = go (is_at loader key (record { loader = n; key = folded mode k; outcome = known (item n k) })) refl h (pairs-told mode n ks loader key o)
-    where
-      go : (b : Bool) → is_at loader key (record { loader = n; key = folded mode k; outcome = known (item n k) }) ≡ b → (if b then Some (known (item n k)) else look (reply_pairs mode n ks (told n ks)) loader key) ≡ Some o
-          → (look (reply_pairs mode n ks (told n ks)) loader key ≡ Some o → (n ≡ loader) × (k : KeyOf) × (folded mode k ≡ key) × (o ≡ known (item n k)))
-          → (n ≡ loader) × (k : KeyOf) × (folded mode k ≡ key) × (o ≡ known (item n k))
-      go true e h ih =
-          let at = at-pair loader key (record { loader = n; key = folded mode k; outcome = known (item n k) }) e in
-          (sym at.0, k, sym at.1, cc h)
-      go false e h ih = ih h
-
-  either-look : (loader : ℕ) (key : KeyOf) (o : OutcomeOf) (ps qs : List PairOf) → look (ps ++ qs) loader key ≡ Some o → (look ps loader key ≡ Some o) ⊎ (look qs loader key ≡ Some o)
-  either-look loader key o [] qs h = inr h
-  either-look loader key o (p ∷ ps) qs h = go (is_at loader key p) h (either-look loader key o ps qs)
-    where
-      go : (b : Bool) → (if b then Some p.outcome else look (ps ++ qs) loader key) ≡ Some o → (look (ps ++ qs) loader key ≡ Some o → (look ps loader key ≡ Some o) ⊎ (look qs loader key ≡ Some o))
-          → ((if b then Some p.outcome else look ps loader key) ≡ Some o) ⊎ (look qs loader key ≡ Some o)
-      go true h ih = inl h
-      go false h ih = ih h
-
-  replies-told : (modes : List KeyMode) (os : List OrderOf) (rs : List ReplyOf) (loader : ℕ) (key : KeyOf) (o : OutcomeOf) → AreReplies (key_by_key item) os rs → look (pairs_of modes rs) loader key ≡ Some o
-      → (k : KeyOf) × (folded (mode_at modes loader) k ≡ key) × (o ≡ known (item loader k))
-  replies-told modes [] [] loader key o h e = absurd (cc e)
-  replies-told modes [] (r ∷ rs) loader key o h e = absurd h
-  replies-told modes (w ∷ ws) [] loader key o h e = absurd h
-  replies-told modes (w ∷ ws) (r ∷ rs) loader key o h e = elim (either-look loader key o (reply_pairs (mode_at modes r.loader) r.loader r.keys r.outcomes) (pairs_of modes rs) e) [
-    | inl a ↦
-        let is : r.outcomes ≡ told r.loader r.keys = rw (h.0.loader, h.0.keys) (reply-told w r h.0) in
-        let f : look (reply_pairs (mode_at modes r.loader) r.loader r.keys (told r.loader r.keys)) loader key ≡ Some o = ap (λ os. look (reply_pairs (mode_at modes r.loader) r.loader r.keys os) loader key) (sym is) ∙ a in
-        let t = pairs-told (mode_at modes r.loader) r.loader r.keys loader key o f in
-        (t.1, ap (λ n. folded (mode_at modes n) t.1) (sym t.0) ∙ t.2, t.3 ∙ ap (λ n. known (item n t.1)) t.0)
-    | inr b ↦ replies-told modes ws rs loader key o h.1 b
-  ]
-
   module _ (rules : List RuleOf) (p : Program) (alike : RespectsCacheKeys (modes_of rules) item) where
-    round-told : (M : Memory) (os : List OrderOf) (round : List ReplyOf) → HoldsItems (modes_of rules) item M → AreReplies (key_by_key item) os round → HoldsItems (modes_of rules) item (after_round rules M round)
-    round-told M os round told h = λ loader key o e. go loader key o (M loader (folded (mode_at (modes_of rules) loader) key)) refl e
-      where
-        go : (loader : ℕ) (key : KeyOf) (o : OutcomeOf) (r : Option OutcomeOf) → M loader (folded (mode_at (modes_of rules) loader) key) ≡ r
-            → option_or r (look (pairs_of (modes_of rules) round) loader (folded (mode_at (modes_of rules) loader) key)) ≡ Some o → o ≡ known (item loader key)
-        go loader key o None f e =
-            let t = replies-told (modes_of rules) os round loader (folded (mode_at (modes_of rules) loader) key) o h e in
-            t.2 ∙ ap known (alike loader t.0 key t.1)
-        go loader key o (Some x) f e = told loader key o (f ∙ e)
-
-    pub rounds-told : (M : Memory) (rs : List (List ReplyOf)) (end : Memory) → HoldsItems (modes_of rules) item M → AreRounds (key_by_key item) rules p M rs end → HoldsItems (modes_of rules) item end
-    rounds-told M [] end told h = λ loader key o e. told loader key o (sym (h loader (folded (mode_at (modes_of rules) loader) key)) ∙ e)
-    rounds-told M (r ∷ rs) end told h = rounds-told (after_round rules M r) rs end (round-told M (round_orders rules (front (modes_of rules) p M)) r told h.1) h.2
-
     -- so many rounds, unless fewer are enough
     record Made (M : Memory) (many : ℕ) : Type 0 where
       rounds : List (List ReplyOf)
@@ -158,7 +96,7 @@ module _ (item : ℕ → KeyOf → ItemOf) where
             enough : (front (modes_of rules) p m.end ≡ []) ⊎ (length m.rounds ≡ suc (chain p (direct item))) → front (modes_of rules) p m.end ≡ []
             enough (inl e) = e
             enough (inr e) =
-                let at : HoldsItems (modes_of rules) item m.end = rounds-told M m.rounds m.end told m.are in
+                let at : HoldsItems (modes_of rules) item m.end = rounds-told item rules p alike M m.rounds m.end told m.are in
                 let more : AnswersMore (read (modes_of rules) m.end) (direct item) = λ load o f. ap (λ x. Some x) (sym (at load.loader load.key o f)) in
                 let few : length m.rounds ≤ chain p (read (modes_of rules) m.end) = rounds-chain (key_by_key item) rules p M m.rounds m.end limited loaders m.are in
                 let long = chain-more p (read (modes_of rules) m.end) (direct item) more in

@@ -18,7 +18,8 @@ ghost use Rattle.gq_check.specs.Plans.{PlanOf};
 ghost use Rattle.gq_check.specs.Planned.{IsPlan};
 ghost use Rattle.gq_check.specs.Verdict.{FaultOf, IsVerdict};
 ghost use Rattle.world.specs.Worlds.{WorldOf, HasSources};
-ghost use Rattle.world_answers.specs.Answers.{IsAnsweredAnew, IsAnswer};
+ghost use Rattle.world_answers.specs.Answers.{IsAnsweredAnew};
+ghost use Rattle.world_answers.specs.Lines.{IsAnswer};
 ghost use Rattle.answer_laws.specs.Told.{IsRefusedOrAnswered};
 
 /// Each text is a document, or has a first fault. `NoMemory`, which says nothing of a text, isn't counted as one.
@@ -56,8 +57,9 @@ pub fn requests_are_told()
 {}
 
 /// Each line has an answer over a world, and so exactly one (`one_answer` of `world_answers`): it is no request, or its query is no
-/// document, or one to which `requests_are_told` applies, and a string can hold every name that a refusal tells. Of a line that
-/// no memory holds, one of 2^63 bytes or more, this isn't said.
+/// document, or one to which `requests_are_told` applies, and a string can hold every name that a refusal tells. An array has the
+/// refusals of its values, and all of its plans can be answered in one session. Of a line that no memory holds, one of 2^63 bytes or
+/// more, this isn't said.
 pub fn lines_are_answered()
     ensures { (w : WorldOf) (line : List ℕ) → HasSources w → length line < 2 ^ 63 → (text : List ℕ) × IsAnswer w line text }
 {}

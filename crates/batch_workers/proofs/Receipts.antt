@@ -1,5 +1,5 @@
 -- What the receipts of workers are to the run whose round is out.
-use Rattle.std.proofs.Common.{◌≡◌, ◌≤◌, List, [], ◌∷◌, map, length, Result, Ok, Err, refl, subst, sym, arith, All}
+use Rattle.std.proofs.Common.{◌≡◌, List, [], ◌∷◌, map, length, Result, Ok, Err, subst, arith}
 use Rattle.std.specs.Prelude.{OnOk, OnErr}
 use Rattle.std.proofs.lemmas.List.{length-map}
 use Rattle.std.proofs.lemmas.List.Sorted.{IsPermutation-map, IsPermutation-sym}
@@ -17,7 +17,7 @@ use Rattle.execution.proofs.StoreLaws.{reply-ran}
 use Rattle.round_workers.specs.Round.{EachShown, AllAnswered, HaveLoaders}
 use Rattle.round_workers.proofs.Orders.{in_order}
 use Rattle.load_rounds.specs.Sessions.{StateOf, rules_of}
-use Rattle.load_rounds.specs.Runs.{RunOf, AreReceived, front_in, orders_in}
+use Rattle.load_rounds.specs.Runs.{AreReceived, front_in, orders_in}
 use Rattle.load_rounds.proofs.Numbering.{orders-below, orders-loads}
 
 module _ {S : Type 0} (may : S → List KeyOf → AnswerOf → Type 0) (loaders : List (LoaderOf S)) (shelf : Shelf) where
@@ -45,10 +45,18 @@ have-loaders s p =
     rw (← orders-loads 0 rules (front_in s p)) below
 
 -- what holds of the run that a call leaves
-pub ok-run : {P T E : Type 0} (F : RunOf P → Type 0) (r : Result T E) (new run : RunOf P) → F new → OnOk r (new ≡ run) → OnOk r (F run)
+pub ok-run : {X T E : Type 0} (F : X → Type 0) (r : Result T E) (new run : X) → F new → OnOk r (new ≡ run) → OnOk r (F run)
 ok-run F (Ok x) new run h is = subst F is h
 ok-run F (Err e) new run h is = tt
 
-pub err-run : {P T E : Type 0} (F : RunOf P → Type 0) (r : Result T E) (new run : RunOf P) → F new → OnErr r (new ≡ run) → OnErr r (F run)
+pub err-run : {X T E : Type 0} (F : X → Type 0) (r : Result T E) (new run : X) → F new → OnErr r (new ≡ run) → OnErr r (F run)
 err-run F (Ok x) new run h is = tt
 err-run F (Err e) new run h is = subst F is h
+
+pub on-ok-too : {T E P : Type 0} (r : Result T E) → P → OnOk r P
+on-ok-too (Ok x) h = h
+on-ok-too (Err e) h = tt
+
+pub ok-with : {T E P : Type 0} (Q : Type 0) (r : Result T E) → P → OnOk r (P → Q) → OnOk r Q
+ok-with Q (Ok x) given h = h given
+ok-with Q (Err e) given h = tt

@@ -7,6 +7,8 @@ use Rattle.execution.specs.Completion.{AnsweredOf}
 use Rattle.load_rounds.specs.Sessions.{StateOf}
 use Rattle.load_rounds.specs.Headline.{Headline, StopsAnswering}
 use Rattle.load_rounds.specs.Runs.{IsRun}
+use Rattle.load_rounds.specs.SharedRounds.{joint}
+use Rattle.load_rounds.specs.SharedRuns.{RunAllOf, IsRunAll}
 use Rattle.load_rounds.specs.declared.answer.Answer.{Answer}
 use Rattle.load_rounds.specs.declared.run.Stage.TheVariants.{Ready, Out}
 
@@ -27,3 +29,7 @@ StoresRound {S} may p old new rounds = (begun : StateOf S) → IsRun may p begun
 
 abbrev pub LosesRound : {S : Type 0} → (S → List KeyOf → AnswerOf → Type 0) → Program → StateOf S → StateOf S → ℕ → Type 0
 LosesRound {S} may p old new rounds = (begun : StateOf S) → IsRun may p begun old rounds Out → StopsAnswering may begun new p
+
+-- the same of a run of several plans, whose round is lost
+abbrev pub LosesShared : {S P E : Type 0} → (P → Program) → (P → AnsweredOf → List ℕ) → (S → List KeyOf → AnswerOf → Type 0) → StateOf S → StateOf S → RunAllOf P E → Type 0
+LosesShared {S} program text_of may old new run = (begun : StateOf S) → IsRunAll program text_of may begun old run → StopsAnswering may begun new (joint program text_of run.plans)

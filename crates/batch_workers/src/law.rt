@@ -1,10 +1,13 @@
 //! What holds of answers with workers. The function does nothing: its contract is the law.
+ghost use Rattle.load_rounds.specs.SharedKeyByKey.{AreAnsweredAlike};
 ghost use Rattle.batch_workers.specs.Workers.{ChangeNothing};
 
 use load_queue::PerKey;
 
 /// Over sources that answer key by key, an answer with workers is the answer in turn from the same session: the same text and
-/// rounds, and the same memory and logs after it, however many workers there were and in whatever order they took the batches.
+/// rounds, and the same memory and logs after it, however many workers there were and in whatever order they took the batches. So it is
+/// with the answers to several plans in shared rounds.
 pub fn workers_change_nothing<S: PerKey>()
-    ensures { ChangeNothing S.may_answer }
+    ensures one { ChangeNothing S.may_answer }
+    ensures several { AreAnsweredAlike S.may_answer }
 {}

@@ -2,27 +2,45 @@
 
 use crate::keys::bytes_of;
 use anyhow::Result;
-use request_line::LineReader;
+use request_line::{Line, LineReader, Request};
 use std::alloc::Global;
 
-/// The parts of a request line: its query, the operation's name or `-`, and whether variables are given; `none` is no request.
-fn told_of_bytes(alloc: Global, lines: &mut LineReader, line: &[u8]) -> Result<String> {
-    let Some(request) = lines.read(alloc, line)? else {
-        return Ok(String::from_str(alloc, "none")?);
-    };
+// The parts of a request: its query, the operation's name or `-`, and whether variables are given.
+fn told_of_request(alloc: Global, request: &Request<'_>) -> Result<String> {
     let name = request.operation_name.unwrap_or("-");
     let given = request.variables.is_some();
     Ok(format!(in alloc; "{} {name} {given}", request.query)?)
 }
 
-/// The parts of a request line.
+// The parts of each value of an array, in brackets; `none` is no request.
+fn told_of_values(alloc: Global, values: &[Option<Request<'_>>]) -> Result<String> {
+    let mut told = Vec::new(alloc);
+    for value in values {
+        told.push(match value {
+            Some(request) => told_of_request(alloc, request)?,
+            None => String::from_str(alloc, "none")?,
+        })?;
+    }
+    Ok(format!(in alloc; "[{}]", told.join(alloc, ", ")?)?)
+}
+
+// What a line asks; `none` is no request.
+fn told_of_bytes(alloc: Global, lines: &mut LineReader, line: &[u8]) -> Result<String> {
+    match lines.read(alloc, line)? {
+        Line::One(request) => told_of_request(alloc, &request),
+        Line::Several(values) => told_of_values(alloc, &values),
+        Line::NoRequest => Ok(String::from_str(alloc, "none")?),
+    }
+}
+
+/// What a request line asks.
 pub fn told(alloc: Global, text: &str) -> Result<String> {
     let line = bytes_of(alloc, text)?;
     let mut lines = LineReader::new(alloc);
     told_of_bytes(alloc, &mut lines, line.as_slice())
 }
 
-/// The parts of a request line behind the first of its fronts that is a request too, or `none` where none of them is. One
+/// What a request line asks behind the first of its fronts that asks something too, or `none` where none of them does. One
 /// reader reads them all.
 pub fn fronts_told(alloc: Global, text: &str) -> Result<String> {
     let line = bytes_of(alloc, text)?;

@@ -1,5 +1,5 @@
 -- Rounds that follow one another, until nothing is missing.
-use Rattle.std.proofs.Common.{true, ◌≡◌, ◌≢◌, ◌<◌, ◌≤◌, ◌+◌, ℕ, List, [], ◌∷◌, ◌++◌, map, length, Some, refl, ap, ◌∙◌, sym, arith, ◌⊎◌, length-append}
+use Rattle.std.proofs.Common.{true, ◌≡◌, ◌≢◌, ◌<◌, ◌≤◌, ◌+◌, ℕ, List, [], ◌∷◌, ◌++◌, map, length, refl, ap, ◌∙◌, sym, arith, ◌⊎◌, length-append}
 use Rattle.std.proofs.Math.Path.{fun_ext}
 use Rattle.std.specs.Prelude.{slice_get}
 use Rattle.std.proofs.lemmas.List.{length-map}
@@ -102,6 +102,11 @@ module _ {S : Type 0} (may : S → List KeyOf → AnswerOf → Type 0) where
             let first = is.sources i there.0 there.1 in
             (first.0, first.1, there.2 ∙ first.2);
       }
+
+  pub in-more-log : (old cur new : StateOf S) (p : Program) (rounds next : ℕ) (is : InRounds old cur p rounds) (e : next ≡ rounds + 1) (some : front (session_modes cur) p cur.memory ≢ []) (ran : RoundRan may cur new (front (session_modes cur) p cur.memory))
+      → InRounds.log (in-more old cur new p rounds next is e some ran) ≡ is.log ++ ran.replies ∷ []
+  unfolding in-more
+  in-more-log old cur new p rounds next is e some ran = refl
 
   pub in-loaders : (old cur : StateOf S) (p : Program) (rounds : ℕ) → InRounds old cur p rounds → length cur.loaders ≡ length old.loaders
   in-loaders old cur p rounds is = sym (length-map cur.loaders rule_of) ∙ ap length is.rules ∙ length-map old.loaders rule_of

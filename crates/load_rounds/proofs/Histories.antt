@@ -15,9 +15,9 @@ use Rattle.execution.specs.Sessions.{Step, Forgot, Asked, Lost, Primed, Cleared,
 use Rattle.execution.proofs.Same.{same-is}
 use Rattle.load_rounds.specs.Sessions.{StateOf, rules_of, session_modes, after_step, after_steps, of_first}
 use Rattle.load_rounds.specs.Calls.{load_of, asked_for, AsksOnce, RoundLost, IsStopped}
-use Rattle.load_rounds.specs.declared.run.Stage.{Stage}
 use Rattle.load_rounds.specs.Headline.{asked_steps, MakesRounds, StopsAnswering}
-use Rattle.load_rounds.specs.Histories.{Call, Loading, StoppedLoading, Priming, Clearing, ClearingAll, Forgetting, Executing, StoppedExecuting, Running, AreAsking, IsMadeOf, AreMadeOf, Leads, IsCall, AreCalls}
+use Rattle.load_rounds.specs.SharedRounds.{together}
+use Rattle.load_rounds.specs.Histories.{Call, Loading, StoppedLoading, Priming, Clearing, ClearingAll, Forgetting, Executing, StoppedExecuting, ExecutingTogether, Running, AreAsking, IsMadeOf, AreMadeOf, Leads, IsCall, AreCalls}
 use Rattle.load_rounds.proofs.Following.{replies-over}
 use Rattle.load_rounds.proofs.Runs.{run-stops}
 use Rattle.load_rounds.proofs.Stepping.{SameSources, steps-rules, steps-sources}
@@ -205,6 +205,7 @@ module _ {S : Type 0} where
     call-leads Forgetting old new h = ([], record { after = h; may_be = (tt, tt) }, refl)
     call-leads (Executing p text_of text rounds) old new h = made-leads old new p h.log h.made
     call-leads (StoppedExecuting p) old new h = stops-leads old new p h
+    call-leads (ExecutingTogether rs told) old new h = made-leads old new (together rs) h.log h.made
     call-leads (Running p rounds stage) old new h = stops-leads old new p (run-stops may p old new rounds stage h)
 
     pub calls-lead : (calls : List Call) (old new : StateOf S) → AreCalls may calls old new → (steps : List Step) × Leads may old steps new × AreMadeOf calls steps

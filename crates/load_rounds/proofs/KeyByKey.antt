@@ -1,7 +1,7 @@
 -- Answers over sources that answer key by key.
 use Rattle.std.proofs.Common.{◌≡◌, ℕ, zero, suc, List, [], ◌∷◌, map, length, Option, Some, None, refl, sym, ap, ◌∙◌}
 use Rattle.std.proofs.lemmas.List.Elements.{All-head, All-tail}
-use Rattle.std.specs.Prelude.{All, slice_get}
+use Rattle.std.specs.Prelude.{slice_get}
 use Rattle.load_memory.specs.Keys.{KeyOf, folded}
 use Rattle.load_memory.specs.Outcomes.{ItemOf}
 use Rattle.load_memory.specs.Replies.{ReplyOf}
@@ -31,12 +31,12 @@ module _ (may other : MayAnswer) (weaker : (loader : ℕ) (keys : List KeyOf) (a
   replies-weaker (o ∷ os) (r ∷ rs) h =
       (record { loader = h.0.loader; keys = h.0.keys; answer = h.0.answer; may_be = weaker o.loader o.keys h.0.answer h.0.may_be; outcomes = h.0.outcomes }, replies-weaker os rs h.1)
 
-  rounds-weaker : (rules : List RuleOf) (p : Program) (M : Memory) (rounds : List (List ReplyOf)) (end : Memory) → AreRounds may rules p M rounds end → AreRounds other rules p M rounds end
+  pub rounds-weaker : (rules : List RuleOf) (p : Program) (M : Memory) (rounds : List (List ReplyOf)) (end : Memory) → AreRounds may rules p M rounds end → AreRounds other rules p M rounds end
   rounds-weaker rules p M [] end h = h
   rounds-weaker rules p M (round ∷ rounds) end h =
       (h.0, replies-weaker (round_orders rules (front (modes_of rules) p M)) round h.1, rounds-weaker rules p (after_round rules M round) rounds end h.2)
 
-some-same : {X : Type 0} (a b : X) → Some a ≡ Some b → a ≡ b
+pub some-same : {X : Type 0} (a b : X) → Some a ≡ Some b → a ≡ b
 some-same a b e = cc e
 
 none-some : {X : Type 0} (a : X) → None ≡ Some a → ⊥
@@ -44,7 +44,7 @@ none-some a e = cc e
 
 module _ {S : Type 0} (may : S → List KeyOf → AnswerOf → Type 0) (item : S → KeyOf → ItemOf) (told : (s : S) (keys : List KeyOf) (answer : AnswerOf) → may s keys answer → answer ≡ given (map (item s) keys)) where
   -- what the source of a number may answer is what its items are, key by key
-  may-told : (loaders : List (LoaderOf S)) (loader : ℕ) (keys : List KeyOf) (answer : AnswerOf) → may_at may loaders loader keys answer → key_by_key (item_over item loaders) loader keys answer
+  pub may-told : (loaders : List (LoaderOf S)) (loader : ℕ) (keys : List KeyOf) (answer : AnswerOf) → may_at may loaders loader keys answer → key_by_key (item_over item loaders) loader keys answer
   may-told loaders loader keys answer h =
       told h.0.source keys answer h.2 ∙ ap (λ (o : Option (LoaderOf S)). given (map (item_of_loader item o) keys)) (sym h.1)
 
@@ -80,7 +80,7 @@ module _ {S : Type 0} (may : S → List KeyOf → AnswerOf → Type 0) (item : S
     mode-alike (x ∷ xs) zero l alike at = All-head (λ (y : LoaderOf S). y.mode ≡ mode_of y.source) x xs alike ∙ ap (λ (y : LoaderOf S). mode_of y.source) (some-same x l at)
     mode-alike (x ∷ xs) (suc loader) l alike at = mode-alike xs loader l (All-tail (λ (y : LoaderOf S). y.mode ≡ mode_of y.source) x xs alike) at
 
-    respects-alike : (loaders : List (LoaderOf S)) → CompareAlike mode_of loaders → RespectsCacheKeys (modes_of (map rule_of loaders)) (item_over item loaders)
+    pub respects-alike : (loaders : List (LoaderOf S)) → CompareAlike mode_of loaders → RespectsCacheKeys (modes_of (map rule_of loaders)) (item_over item loaders)
     respects-alike loaders alike = λ loader j k same. go loader j k same (slice_get loaders loader) refl
       where
         go : (loader : ℕ) (j k : KeyOf) → folded (mode_at (modes_of (map rule_of loaders)) loader) j ≡ folded (mode_at (modes_of (map rule_of loaders)) loader) k → (o : Option (LoaderOf S)) → slice_get loaders loader ≡ o

@@ -1,6 +1,7 @@
 pub mod Cutting
 pub mod Following
 pub mod Gaining
+pub mod GoingOn
 pub mod Growing
 pub mod Histories
 pub mod KeyByKey
@@ -9,10 +10,14 @@ pub mod Lacking
 pub mod Numbering
 pub mod Onces
 pub mod PairSources
-pub mod Polls
 pub mod Planning
+pub mod Polls
+pub mod Requests
 pub mod Running
 pub mod Runs
+pub mod SharedKeyByKey
+pub mod SharedRunning
+pub mod Sharing
 pub mod States
 pub mod Stepping
 pub mod Twice

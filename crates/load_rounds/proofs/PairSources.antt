@@ -9,7 +9,7 @@ use Rattle.execution.specs.Rounds.{RuleOf, modes_of, unless_failed, pairs_of}
 use Rattle.execution.specs.Sessions.{Step, Forgot, Asked, Lost, Primed, Cleared, ClearedAll, is_cell, after, IsAnsweredIn}
 use Rattle.execution.proofs.Same.{one-either}
 use Rattle.execution.proofs.ReplyLaws.{make, look-member, pairs-from}
-use Rattle.load_rounds.specs.Histories.{Call, Loading, StoppedLoading, Priming, Clearing, ClearingAll, Forgetting, Executing, StoppedExecuting, Running, AreAsking, IsMadeOf, AreMadeOf, replies_of}
+use Rattle.load_rounds.specs.Histories.{Call, Loading, StoppedLoading, Priming, Clearing, ClearingAll, Forgetting, Executing, StoppedExecuting, ExecutingTogether, Running, AreAsking, IsMadeOf, AreMadeOf, replies_of}
 use Rattle.load_rounds.proofs.Histories.{memory_after}
 
 module _ (rules : List RuleOf) (loader : ℕ) (key : KeyOf) (o : OutcomeOf) where
@@ -114,6 +114,7 @@ call-primes pair (ClearingAll n) own h i = go (rw h at i) where
 call-primes pair Forgetting own h i = let none = rw h at i in absurd none
 call-primes pair (Executing p text_of text rounds) own h i = absurd (asking-primes pair own h i)
 call-primes pair (StoppedExecuting p) own h i = absurd (asking-primes pair own h i)
+call-primes pair (ExecutingTogether rs told) own h i = absurd (asking-primes pair own h i)
 call-primes pair (Running p rounds stage) own h i = absurd (asking-primes pair own h i)
 
 pub calls-prime : (pair : PairOf) (calls : List Call) (steps : List Step) → AreMadeOf calls steps → IsOneOf (Primed pair) steps → IsOneOf (Priming pair) calls

@@ -259,20 +259,23 @@ module _ {S : Type 0} where
       out-loaders = sym (length-map s.loaders rule_of) ∙ ap length out-rules ∙ length-map is.before.loaders rule_of ∙ between-loaders begun is.before is.made is.between
 
       -- the replies to the round that is out, in whatever order
-      pub out-taken : (shown : List ReplyOf) → AreLimited (rules_of s) → AreReceived (may_at may s.loaders) (orders_in s p) shown → IsBetween may p begun (received s shown) rounds
-      out-taken shown limited h =
+      pub out-ran : (shown : List ReplyOf) → AreLimited (rules_of s) → AreReceived (may_at may s.loaders) (orders_in s p) shown → RoundRan may is.before (received s shown) (front_in is.before p)
+      out-ran shown limited h =
           let b : StateOf S = is.before in
           let loads : List Load = front_in b p in
           let moved = received-moved (may_at may s.loaders) s p h.replies shown limited h.fit h.moved in
           let memory = ap (λ (t : StateOf S). t.memory) moved ∙ ap (λ rs. after_round rs s.memory h.replies) out-rules ∙ ap (λ (M : Memory). after_round (rules_of b) M h.replies) out-memory in
           let fit : AreReplies (may_at may s.loaders) (round_orders (rules_of b) loads) h.replies = rw out-orders at h.fit in
           let told : AreReplies (may_at may (after_step b (Lost loads)).loaders) (round_orders (rules_of b) loads) h.replies = rw is.entered at fit in
-          let ran : RoundRan may b (received s shown) loads = record {
+          record {
             replies = h.replies;
             answered = replies-before false (b.rounds + 1) (λ n. keys_for n loads) may b.loaders (round_orders (rules_of b) loads) h.replies told;
             after = received-is b s loads shown h.replies is.entered is.counted is.numbered memory;
-          } in
-          in-between begun (received s shown) rounds (in-more may begun b (received s shown) p is.made rounds (between-in begun b is.made is.between) is.one_more is.lacks ran)
+          }
+
+      pub out-taken : (shown : List ReplyOf) → AreLimited (rules_of s) → AreReceived (may_at may s.loaders) (orders_in s p) shown → IsBetween may p begun (received s shown) rounds
+      out-taken shown limited h =
+          in-between begun (received s shown) rounds (in-more may begun is.before (received s shown) p is.made rounds (between-in begun is.before is.made is.between) is.one_more is.lacks (out-ran shown limited h))
 
       -- a round that is out is lost
       pub out-stops : StopsAnswering may begun s p

@@ -12,7 +12,7 @@ use Rattle.execution.proofs.Same.{one-either}
 use Rattle.execution.proofs.ReplyLaws.{append-apart}
 use Rattle.execution.proofs.TwiceLaws.{absent, asked-outcome}
 use Rattle.load_rounds.specs.Sessions.{StateOf, rules_of, session_modes, after_step}
-use Rattle.load_rounds.specs.Histories.{Call, Loading, StoppedLoading, Priming, Clearing, ClearingAll, Forgetting, Executing, StoppedExecuting, Running, clears_at, AreAsking, IsMadeOf, AreMadeOf, entered_cells, stored_gained, IsEntered, IsFailedAt, Leads, IsCall, AreCalls}
+use Rattle.load_rounds.specs.Histories.{Call, Loading, StoppedLoading, Priming, Clearing, ClearingAll, Forgetting, Executing, StoppedExecuting, ExecutingTogether, Running, clears_at, AreAsking, IsMadeOf, AreMadeOf, entered_cells, stored_gained, IsEntered, IsFailedAt, Leads, IsCall, AreCalls}
 use Rattle.load_rounds.proofs.Stepping.{steps-rules}
 use Rattle.load_rounds.proofs.Histories.{memory_after, memory-append, are-after, leads-rules, leads-memory, call-leads, calls-lead}
 use Rattle.load_rounds.proofs.Gaining.{step_cells, all_cells, gained-cells, asked-apart, asked-orders, lost-cells, AskedIn, asked-in}
@@ -44,6 +44,7 @@ call-clears c (ClearingAll loader) own h k = rw (h, k) refl
 call-clears c Forgetting own h k = rw h refl
 call-clears c (Executing p text_of text rounds) own h k = asking-clears c own h
 call-clears c (StoppedExecuting p) own h k = asking-clears c own h
+call-clears c (ExecutingTogether rs told) own h k = asking-clears c own h
 call-clears c (Running p rounds stage) own h k = asking-clears c own h
 
 calls-clear : (c : Cell) (calls : List Call) (steps : List Step) → AreMadeOf calls steps → list_any (clears_at c) calls ≡ false → list_any (clears c) steps ≡ false
@@ -107,6 +108,7 @@ asks-alone (ClearingAll loader) own before rest loads replies h e = absurd (not-
 asks-alone Forgetting own before rest loads replies h e = absurd (not-none before rest loads replies (sym h ∙ e))
 asks-alone (Executing p text_of text rounds) own before rest loads replies h e = h
 asks-alone (StoppedExecuting p) own before rest loads replies h e = h
+asks-alone (ExecutingTogether rs told) own before rest loads replies h e = h
 asks-alone (Running p rounds stage) own before rest loads replies h e = h
 
 -- the round of a call that asks a cell: what came before it in the call, and after it
@@ -254,6 +256,7 @@ module _ {S : Type 0} (may : S → List KeyOf → AnswerOf → Type 0) where
       go (StoppedLoading loader keys) own made h = fresh own made h
       go (Executing p text_of text rounds) own made h = fresh own made h
       go (StoppedExecuting p) own made h = fresh own made h
+      go (ExecutingTogether rs told) own made h = fresh own made h
       go (Running p rounds stage) own made h = fresh own made h
       go (Priming pair) own made h = rw made tt
       go (Clearing cell) own made h = rw made tt

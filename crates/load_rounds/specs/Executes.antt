@@ -21,9 +21,9 @@ pub record CanExecute (loaders : ℕ) (m : MemoryOf) (wants : List WantedOf) : T
   pub enough : loaders ≤ length m.modes
   pub lined_up : modes_wanted wants ≡ m.modes
 
--- Ready with the text of the execution exactly where the front is empty. Else the front was added to the wants.
+-- Ready with the text of the execution exactly where the front is empty, and the wants are as they were. Else the front was added.
 abbrev pub IsExecuted : (AnsweredOf → List ℕ) → List WantedOf → List WantedOf → Program → MemoryOf → Poll (String Global) → Type 0
-IsExecuted text_of old new p m (Ready text) = (front m.modes p (look m.pairs) ≡ []) × IsTextOf text_of p (read m.modes (look m.pairs)) (string_bytes text)
+IsExecuted text_of old new p m (Ready text) = (front m.modes p (look m.pairs) ≡ []) × IsTextOf text_of p (read m.modes (look m.pairs)) (string_bytes text) × (new ≡ old)
 IsExecuted text_of old new p m Pending = (front m.modes p (look m.pairs) ≢ []) × (new ≡ wanting old (front m.modes p (look m.pairs)))
 
 -- it fits each memory that has at least these pairs

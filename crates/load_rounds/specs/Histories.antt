@@ -15,6 +15,7 @@ use Rattle.execution.specs.Sessions.{Step, Forgot, Asked, Lost, Primed, Cleared,
 use Rattle.load_rounds.specs.Sessions.{StateOf, session_modes, after_steps, MayBe}
 use Rattle.load_rounds.specs.Calls.{asked_for, IsLoaded, IsStopped}
 use Rattle.load_rounds.specs.Headline.{Headline, StopsAnswering}
+use Rattle.load_rounds.specs.SharedRounds.{RequestOf, ToldOf, SharedHeadline}
 use Rattle.load_rounds.specs.Runs.{IsRun}
 use Rattle.load_rounds.specs.declared.run.Stage.{Stage}
 
@@ -34,6 +35,8 @@ pub data Call : Type 0 where
   Executing : Program → (AnsweredOf → List ℕ) → List ℕ → ℕ → Call
   -- the same, at which memory was wanted
   StoppedExecuting : Program → Call
+  -- `answer_all` of several requests, with what it told each; where memory was wanted, and in a run by hand, they are one program
+  ExecutingTogether : List RequestOf → List ToldOf → Call
   -- a run of a program by hand from `begin` on, which after so many rounds was finished, failed or was dropped at this stage
   Running : Program → ℕ → Stage → Call
 
@@ -47,6 +50,7 @@ clears_at cell (ClearingAll loader) = loader == cell.0
 clears_at cell Forgetting = false
 clears_at cell (Executing p text_of text rounds) = false
 clears_at cell (StoppedExecuting p) = false
+clears_at cell (ExecutingTogether rs told) = false
 clears_at cell (Running p rounds stage) = false
 
 -- rounds alone, stored or lost
@@ -69,6 +73,7 @@ IsMadeOf (ClearingAll loader) steps = steps ≡ ClearedAll loader ∷ []
 IsMadeOf Forgetting steps = steps ≡ []
 IsMadeOf (Executing p text_of text rounds) steps = AreAsking steps
 IsMadeOf (StoppedExecuting p) steps = AreAsking steps
+IsMadeOf (ExecutingTogether rs told) steps = AreAsking steps
 IsMadeOf (Running p rounds stage) steps = AreAsking steps
 
 -- the steps of calls, one after another
@@ -134,6 +139,7 @@ module _ {S : Type 0} where
     IsCall Forgetting old new = new ≡ after_steps old (Forgot ∷ [])
     IsCall (Executing p text_of text rounds) old new = Headline may old new p text_of text rounds
     IsCall (StoppedExecuting p) old new = StopsAnswering may old new p
+    IsCall (ExecutingTogether rs told) old new = SharedHeadline may old new rs told
     IsCall (Running p rounds stage) old new = IsRun may p old new rounds stage
 
     -- calls one after another

@@ -5,6 +5,11 @@ pub mod Headline
 pub mod Histories
 pub mod KeyByKey
 pub mod PlanLoads
+pub mod PlanRequests
 pub mod Rounds
 pub mod Runs
 pub mod Sessions
+pub mod SharedKeyByKey
+pub mod SharedRounds
+pub mod SharedRuns
+pub mod Together

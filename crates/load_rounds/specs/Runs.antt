@@ -9,7 +9,7 @@ use Rattle.execution.specs.Loads.{Load, read}
 use Rattle.execution.specs.Program.{Program}
 use Rattle.execution.specs.Completion.{AnsweredOf}
 use Rattle.execution.specs.Front.{front}
-use Rattle.execution.specs.Rounds.{round_orders, AreReplies, after_round}
+use Rattle.execution.specs.Rounds.{round_orders, may_at, AreReplies, after_round}
 use Rattle.execution.specs.Sessions.{Lost}
 use Rattle.load_rounds.specs.declared.run.Next.{Next}
 use Rattle.load_rounds.specs.declared.run.Next.TheVariants as next
@@ -50,6 +50,16 @@ module _ {S : Type 0} where
     memory = after_round (rules_of s) s.memory replies;
     rounds = s.rounds;
   }
+
+  module _ (may : S → List KeyOf → AnswerOf → Type 0) (p : Program) where
+    -- one reply to each order of the round, as its source may answer it, in whatever order
+    abbrev pub AreReceivedIn : StateOf S → List ReplyOf → Type 0
+    AreReceivedIn s shown = AreReceived (may_at may s.loaders) (orders_in s p) shown
+
+    -- the order of the replies makes no difference: the state after them is that after the same ones in order of the orders
+    abbrev pub TakesInAnyOrder : StateOf S → StateOf S → List ReplyOf → Type 0
+    TakesInAnyOrder old new shown = (replies : List ReplyOf) → AreReplies (may_at may old.loaders) (orders_in old p) replies
+        → IsPermutation replies shown → new ≡ received old replies
 
   -- Nothing is missing: the text is that of the execution over the memory, and nothing changes.
   pub record IsLast (p : Program) (text_of : AnsweredOf → List ℕ) (old new : StateOf S) (text : List ℕ) : Type 0 where

@@ -1,8 +1,9 @@
 //! What holds of the calls of a session, one after another. Each function does nothing: its contract is the law.
-ghost use Rattle.std.specs.Prelude.{◌≡◌, ◌⊎◌, ◌∷◌, ℕ, List, Some, true};
+ghost use Rattle.std.specs.Prelude.{◌≡◌, ◌≤◌, ◌⊎◌, ◌∷◌, [], ℕ, List, Some, true, length, map};
 ghost use Rattle.std.specs.List.{list_any};
 ghost use Rattle.load_memory.specs.Pairs.{PairOf};
-ghost use Rattle.execution.specs.Loads.{IsOneOf};
+ghost use Rattle.execution.specs.Front.{front};
+ghost use Rattle.execution.specs.Loads.{IsOneOf, Memory};
 ghost use Rattle.execution.specs.Rounds.{AreLimited};
 ghost use Rattle.execution.specs.Sessions.{Cell, Step, Forgot, Primed, AreApart, IsAnsweredIn};
 ghost use Rattle.execution.specs.Completion.{AnsweredOf};
@@ -13,10 +14,12 @@ ghost use Rattle.gq_resolve.specs.Answered.{answer_text};
 ghost use Rattle.plan_program.specs.PlanPrograms.{plan_program};
 ghost use Rattle.load_rounds.specs.Sessions.{StateOf, rules_of, session_modes};
 ghost use Rattle.load_rounds.specs.Headline.{Headline, AnswersPlan, IsTextOf};
+ghost use Rattle.load_rounds.specs.SharedRounds.{RequestOf, ToldOf, front_of_all, together, SharedHeadline, IsToldAlone, longest_chain};
 ghost use Rattle.load_memory.specs.Keys.{KeyOf};
 ghost use Rattle.load_memory.specs.Outcomes.{ItemOf};
 ghost use Rattle.load_memory.specs.declared.key.KeyMode.{KeyMode};
 ghost use Rattle.load_rounds.specs.KeyByKey.{AnswerKeyByKey, RespectModes, CompareAlike, item_over};
+ghost use Rattle.load_rounds.specs.SharedKeyByKey.{AreAnsweredAlike, AreToldDirectly};
 ghost use Rattle.load_rounds.specs.Histories.{Call, Priming, IsMadeOf, AreMadeOf, Leads, IsCall, AreCalls, clears_at, replies_of, entered_cells, stored_gained, IsEntered, IsFailedAt};
 
 use gq_check::Plan;
@@ -50,6 +53,20 @@ pub fn no_key_twice<S: Asks>()
         → (list_any (clears_at cell) between ≡ true) ⊎ IsFailedAt cell mid }
 {}
 
+/// *Shared rounds*. Several requests are one program, whose front is the front of all of them: what any of them needs and the memory
+/// lacks, in order, of equal cache keys only the first. The rounds of all together are at most the longest of their load chains. For
+/// one request alone this is the headline.
+pub fn requests_share_rounds<S: Asks>()
+    ensures front { (modes : List KeyMode) (rs : List RequestOf) (M : Memory)
+        → front modes (together rs) M ≡ front_of_all modes (map (λ r. r.program) rs) M }
+    ensures chain { (old new : StateOf S) (rs : List RequestOf) (told : List ToldOf) → (h : SharedHeadline S.may_tell old new rs told)
+        → length h.log ≤ longest_chain (session_modes old) rs new }
+    ensures one { (old new : StateOf S) (r : RequestOf) (told : ToldOf) → SharedHeadline S.may_tell old new (r ∷ []) (told ∷ [])
+        → IsToldAlone S.may_tell old new r told }
+    ensures alone { (old new : StateOf S) (r : RequestOf) (told : ToldOf) → IsToldAlone S.may_tell old new r told
+        → SharedHeadline S.may_tell old new (r ∷ []) (told ∷ []) }
+{}
+
 /// *One lawful log*, of answers. Over sources that answer key by key, as each `PerKey` source does by its laws, every reply in
 /// an answer's log is fixed. So two answers from one state are one: the same text, rounds, memory and logs, whoever ran the
 /// orders. If the loaders compare keys as their sources do, and the memory has at first what the sources would answer, as in a
@@ -65,6 +82,15 @@ pub fn answers_key_by_key<S: Asks>()
         → AnswerKeyByKey S.may_tell item → RespectModes mode_of item → CompareAlike mode_of old.loaders
         → HoldsItems (session_modes old) (item_over item old.loaders) (without_failed old.memory)
         → Headline S.may_tell old new p text_of text rounds → IsTextOf text_of p (direct (item_over item old.loaders)) text }
+{}
+
+/// *One lawful log*, of answers to several requests. Over sources that answer key by key two times the answers to the same requests
+/// from one state are the same, and leave the same memory and logs, whoever ran the orders. Each text is that of direct execution, as
+/// that of an answer alone is.
+pub fn requests_key_by_key<S: Asks>()
+    ensures one { (item : S → KeyOf → ItemOf) → AnswerKeyByKey S.may_tell item → AreAnsweredAlike S.may_tell }
+    ensures direct { (item : S → KeyOf → ItemOf) (mode_of : S → KeyMode) → AnswerKeyByKey S.may_tell item → RespectModes mode_of item
+        → AreToldDirectly S.may_tell item mode_of }
 {}
 
 /// The headline for a plan. Each plan is of a document that keeps every rule, so the whole sentence holds of its answer.

@@ -9,6 +9,9 @@
 //! future ([`Answering`]), or in rounds that the caller runs ([`Session::begin`]): a run gives the orders of each round and
 //! takes their replies in any order. Each call's contract says what has been done since the run was begun (`specs::Runs`,
 //! `IsRun`), and in the end that is the headline.
+//!
+//! Several plans are answered in rounds that they share, in turn ([`Session::answer_all`]) or by hand ([`Session::begin_all`]):
+//! there is one log, and each answer has a headline of its own (`specs::SharedRounds`, `SharedHeadline`).
 #![tactic(auto)]
 
 pub mod answer;
@@ -21,11 +24,15 @@ pub mod law;
 mod plan;
 mod round;
 pub mod run;
+pub mod run_all;
 pub mod session;
+pub mod shared;
+mod together;
 
 pub use answer::Answer;
 pub use answering::Answering;
 pub use execute::Execute;
 pub use fault::SessionFault;
 pub use run::{Next, Run, Stage};
+pub use run_all::{NextAll, RunAll};
 pub use session::Session;

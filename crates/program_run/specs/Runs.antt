@@ -14,7 +14,7 @@ use Rattle.command_line.specs.Origins.{Explains}
 use Rattle.world.specs.Sources.{TableOf}
 use Rattle.world.specs.Worlds.{WorldOf, IsWorld}
 use Rattle.world_files.specs.Opening.{IsUnmade, IsPlaced}
-use Rattle.world_answers.specs.Answers.{IsAnswer}
+use Rattle.world_answers.specs.Lines.{IsAnswer}
 use Rattle.batch_workers.specs.Workers.{IsBadCount}
 
 -- The lines of a reader were served over a world. All of the input was read, and what was written is the output of its lines; or

@@ -11,6 +11,7 @@ mod logs;
 mod manner;
 mod resumed;
 mod sources;
+mod together;
 mod told;
 mod ways;
 mod worlds;

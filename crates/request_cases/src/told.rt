@@ -3,7 +3,7 @@
 use crate::manner::Manner;
 use crate::sources::{counters, session};
 use crate::worlds::{plan_of, refusal, world_of};
-use crate::{calls, collected, known, lines, ways};
+use crate::{calls, collected, known, lines, together, ways};
 use anyhow::{Context, Result, bail};
 use case_files::{Asked, Teller};
 use std::alloc::{AllocGlobal, Global};
@@ -37,6 +37,7 @@ impl<R: Wait + RandomSource + AllocGlobal> Teller for Requests<'_, R> {
         match question {
             "session" => calls::told(alloc, &world, &manner, text),
             "lines" => lines::told(alloc, &world, text),
+            "together" => together::told(self.rt, &world, &manner, text),
             _ => told_of_request(self.rt, &world, question, &manner, text),
         }
     }

@@ -1,8 +1,10 @@
--- What is seen of a request.
-use Rattle.std.specs.Prelude.{ℕ, List, Option, Some, None, option_map}
+-- What is seen of a request, and of what is read of a line.
+use Rattle.std.specs.Prelude.{ℕ, List, map, Option, option_map}
 use Rattle.serde_json.specs.View.{view}
 use Rattle.request_line.specs.declared.request.Request.{Request}
-use Rattle.request_line.specs.Requests.{RequestOf, IsRequest, IsNoRequest}
+use Rattle.request_line.specs.declared.line.Line.{Line}
+use Rattle.request_line.specs.declared.line.Line.TheVariants as line
+use Rattle.request_line.specs.Requests.{RequestOf, IsRequest, AreRequests, IsNoRequest}
 
 abbrev pub request_of : Request → RequestOf
 request_of r = record {
@@ -11,7 +13,11 @@ request_of r = record {
   variables = option_map (λ v. view v.now) r.variables;
 }
 
--- the one request that the line is, or none where it is no request
-abbrev pub IsReading : List ℕ → Option Request → Type 0
-IsReading line None = IsNoRequest line
-IsReading line (Some r) = IsRequest line (request_of r)
+abbrev pub requests_of : List (Option Request) → List (Option RequestOf)
+requests_of rs = map (option_map request_of) rs
+
+-- the line is just what was read of it: one request, several, or none
+abbrev pub IsReading : List ℕ → Line → Type 0
+IsReading text (line.One r) = IsRequest text (request_of r)
+IsReading text (line.Several rs) = AreRequests text (requests_of rs.items)
+IsReading text line.NoRequest = IsNoRequest text

@@ -9,6 +9,7 @@ ghost use Rattle.request_line.specs.Requests.{asked, name_of};
 ghost use Rattle.request_line.specs.Seen.{request_of, IsReading};
 ghost use Rattle.request_line.specs.Plain.{token_seen, data_seen, other_members, object_with, Says};
 
+use crate::line::Line;
 use crate::request::Request;
 use json::{Reader, Scratch, Token};
 use std::alloc::AllocError;
@@ -137,8 +138,7 @@ fn read_members<'l>(reader: &mut Reader<'l>) -> Option<Parts<'l>>
     Some(parts)
 }
 
-/// The request of a text that is an object of strings, booleans and nulls, none named `variables`; `Some(None)` is such an
-/// object that is no request. `None` says nothing of the text.
+/// What a text asks that is an object of strings, booleans and nulls, none named `variables`. `None` says nothing of the text.
 ///
 /// # Errors
 ///
@@ -146,7 +146,7 @@ fn read_members<'l>(reader: &mut Reader<'l>) -> Option<Parts<'l>>
 pub(crate) fn read_plain<'l>(
     text: &'l str,
     scratch: &'l mut Scratch,
-) -> Result<Option<Option<Request<'l>>>, AllocError>
+) -> Result<Option<Line<'l>>, AllocError>
     ensures { IfOk result (λ read. IfSome read (IsReading text.now)) }
 {
     let mut reader = Reader::new(text, scratch)?;
@@ -157,7 +157,7 @@ pub(crate) fn read_plain<'l>(
         return Ok(None);
     };
     match reader.next() {
-        None => Ok(Some(parts.request())),
+        None => Ok(Some(Line::of_request(parts.request()))),
         Some(_) => Ok(None),
     }
 }

@@ -5,8 +5,8 @@ ghost use Rattle.serde_json.specs.View.{view};
 ghost use Rattle.serde_json.specs.Read.{read};
 ghost use Rattle.request_line.specs.Seen.{IsReading};
 
+use crate::line::Line;
 use crate::plain::read_plain;
-use crate::request::Request;
 use json::Scratch;
 use memchr::memmem;
 use serde_json::Value;
@@ -38,11 +38,11 @@ fn read_value(alloc: Global, line: &[u8]) -> Result<Option<Value>, NoMemory>
     }
 }
 
-// The request of a line that has no variables, as [`read_plain`] returns it.
+// What a line asks that has no variables, as [`read_plain`] returns it.
 fn read_plain_line<'l>(
     line: &'l [u8],
     scratch: &'l mut Scratch,
-) -> Result<Option<Option<Request<'l>>>, NoMemory>
+) -> Result<Option<Line<'l>>, NoMemory>
     ensures { IfOk result (λ read. IfSome read (IsReading line.now)) }
 {
     // A line with variables is left to `serde_json` before any of it is read.
@@ -58,32 +58,31 @@ fn read_plain_line<'l>(
     }
 }
 
-// The request of a line, whose value is put into `value`. The index of a text stands in its frame, and in no other.
+// What a line asks, whose value is put into `value`. The index of a text stands in its frame, and in no other.
 #[inline(never)]
-fn read_as_value<'l>(
-    alloc: Global,
-    line: &[u8],
-    value: &'l mut Value,
-) -> Result<Option<Request<'l>>, NoMemory>
+fn read_as_value<'l>(alloc: Global, line: &[u8], value: &'l mut Value) -> Result<Line<'l>, NoMemory>
     ensures { IfOk result (IsReading line.now) }
 {
     match read_value(alloc, line) {
         Ok(Some(read)) => {
             *value = read;
-            Ok(Request::of_value(value))
+            match Line::of_value(alloc, value) {
+                Ok(line) => Ok(line),
+                Err(_) => Err(NoMemory),
+            }
         }
-        Ok(None) => Ok(None),
+        Ok(None) => Ok(Line::NoRequest),
         Err(want) => Err(want),
     }
 }
 
-// The request of a line, which is read without a value if it can be.
+// What a line asks, which is read without a value if it can be.
 fn read_line<'l>(
     alloc: Global,
     line: &'l [u8],
     scratch: &'l mut Scratch,
     value: &'l mut Value,
-) -> Result<Option<Request<'l>>, NoMemory>
+) -> Result<Line<'l>, NoMemory>
     ensures { IfOk result (IsReading line.now) }
 {
     match read_plain_line(line, scratch) {
@@ -111,19 +110,16 @@ impl LineReader {
         }
     }
 
-    /// The request that a line is: an object with a string `query` and, if wanted, `operationName`, a string or null, and
-    /// `variables`. Other members are ignored; of a repeated member the last counts. `None` is no request: no such object, not
-    /// UTF-8, or not read by `serde_json`, which refuses more than 127 levels of nesting, numbers beyond a float's range, lone
-    /// surrogate escapes and a byte order mark.
+    /// What a line asks. A request is an object with a string `query` and, if wanted, `operationName`, a string or null, and
+    /// `variables`. Other members are ignored; of a repeated member the last counts. Several are the values of an array of 1 to 16,
+    /// of which each is a request or none. Everything else is no request: another value, a longer array or an empty one, what isn't
+    /// UTF-8, and what `serde_json` doesn't read, which refuses more than 127 levels of nesting, numbers beyond a float's range,
+    /// lone surrogate escapes and a byte order mark.
     ///
     /// # Errors
     ///
     /// Only when out of memory.
-    pub fn read<'l>(
-        &'l mut self,
-        alloc: Global,
-        line: &'l [u8],
-    ) -> Result<Option<Request<'l>>, NoMemory>
+    pub fn read<'l>(&'l mut self, alloc: Global, line: &'l [u8]) -> Result<Line<'l>, NoMemory>
         ensures { IfOk result (IsReading line.now) }
     {
         self.value = Value::Null;

@@ -1,9 +1,9 @@
-//! Answers with workers beside answers in turn, over the sample world.
+//! Answers with workers beside answers in turn, over the sample world and one with votes.
 
 ghost use Rattle.std.specs.Prelude.{◌≡◌};
 
 use crate::expect;
-use crate::sample::world;
+use crate::sample::{votes_world, world};
 use batch_workers::answer_with;
 use csv_source::CsvSource;
 use gq_check::Plan;
@@ -16,7 +16,7 @@ use std::sync::Wait;
 use std::test::Fail;
 use std::thread::Threads;
 use world::World;
-use world_answers::{LinePlan, plan_line};
+use world_answers::{LinePlan, RequestPlan, plan_line};
 
 /// Request lines that have plans.
 const LINES: &[&str] = &[
@@ -39,8 +39,17 @@ const LINES: &[&str] = &[
     "{\"query\":\"query A{users{id}} query B{users{id}}\",\"operationName\":\"B\"}",
 ];
 
-/// The columns of the sample world's tables.
-const COLUMNS: [&str; 9] = [
+/// The same over the world with votes: keys of two columns, and loaders one after another.
+const VOTES_LINES: &[&str] = &[
+    "{\"query\":\"{vote(user:2,post:12){stars}}\"}",
+    "{\"query\":\"{vote(user:1,post:10){stars}}\"}",
+    "{\"query\":\"{user(id:1){likedAuthors{name}}}\"}",
+    "{\"query\":\"{user(id:3){likedAuthors{name}}}\"}",
+    "{\"query\":\"{users{voteOn(post:12){stars} likedAuthors{name voteOn(post:10){stars}}}}\"}",
+];
+
+/// The columns of the worlds' tables.
+const COLUMNS: [&str; 10] = [
     "id",
     "name",
     "best",
@@ -48,6 +57,7 @@ const COLUMNS: [&str; 9] = [
     "title",
     "user",
     "post",
+    "stars",
     "model",
     "__typename",
 ];
@@ -118,7 +128,7 @@ fn told(alloc: Global, answer: &Answer, session: &Session<CsvSource<'_>>) -> Res
     Ok(text)
 }
 
-/// A new session over the sample world, with at most so many keys in a batch.
+/// A new session over a world, with at most so many keys in a batch.
 fn session<'w>(
     alloc: Global,
     world: &'w World,
@@ -158,7 +168,8 @@ fn expect_alike<R: Threads + Wait + AllocGlobal + Abort + Sync>(
     world: &World,
     line: &str,
 ) -> Result<(), Fail> {
-    let LinePlan::Planned(plan) = plan_line(rt.alloc(), world, line.as_bytes())? else {
+    let LinePlan::One(RequestPlan::Planned(plan)) = plan_line(rt.alloc(), world, line.as_bytes())?
+    else {
         return Err(Fail::from("no plan"));
     };
     for limit in [None, Some(1), Some(2)] {
@@ -175,6 +186,15 @@ fn expect_alike<R: Threads + Wait + AllocGlobal + Abort + Sync>(
 fn workers_change_nothing(rt: HostRuntime) -> Result<(), Fail> {
     let world = world(rt.alloc())?;
     for line in LINES {
+        expect_alike(&rt, &world, line)?;
+    }
+    Ok(())
+}
+
+#[test]
+fn workers_change_nothing_by_two_columns(rt: HostRuntime) -> Result<(), Fail> {
+    let world = votes_world(rt.alloc())?;
+    for line in VOTES_LINES {
         expect_alike(&rt, &world, line)?;
     }
     Ok(())

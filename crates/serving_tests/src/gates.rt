@@ -81,9 +81,16 @@ const LINES: &str =
 const ANSWERS: &str =
     "{\"data\":{\"user\":{\"name\":\"Ada\"}}}\n{\"errors\":[{\"message\":\"not a request\"}]}\n{\"errors\":[{\"message\":\"not a request\"}]}\n{\"data\":{\"user\":{\"name\":\"Ada\"}}}\n4 lines";
 
+const ARRAYS: &str =
+    "[{\"query\":\"{a:user(id:1){best{name}}}\"},{\"query\":\"{user(id:2){name}}\"}]\n[{\"query\":\"{users{posts{author{name}}}}\"},{\"query\":\"{user(id:9){name}}\"},1,{\"query\":\"{user{name}}\"}]\n[[]]";
+
+const ARRAYS_ANSWERED: &str =
+    "[{\"data\":{\"a\":{\"best\":{\"name\":\"Bob\"}}}},{\"data\":{\"user\":{\"name\":\"Bob\"}}}]\n[{\"data\":{\"users\":[{\"posts\":[{\"author\":{\"name\":\"Ada\"}},{\"author\":{\"name\":\"Ada\"}}]},{\"posts\":[{\"author\":{\"name\":\"Bob\"}}]},{\"posts\":[]},{\"posts\":[]}]}},{\"data\":{\"user\":null}},{\"errors\":[{\"message\":\"not a request\"}]},{\"errors\":[{\"message\":\"5.4.2.1 Required Arguments: id\",\"locations\":[{\"line\":1,\"column\":2}]}]}]\n[{\"errors\":[{\"message\":\"not a request\"}]}]\n3 lines";
+
 /// Numbers of workers, lines, and what is told of them.
 const RUNS: &[(usize, &str, &str)] = &[
     (2, LINES, ANSWERS),
+    (2, ARRAYS, ARRAYS_ANSWERED),
     (2, "", "0 lines"),
     (0, LINES, "X5 BadCount"),
     (17, LINES, "X5 BadCount"),

@@ -242,7 +242,11 @@ fn answer_told(
 
 /// What the loaders were asked, in order of their numbers: of each batch the name of the loader, the round and the keys, and a
 /// mark where it isn't stored. Then how often sources were asked, and how many keys are known.
-fn asked(alloc: Global, session: &Session<Probe<'_>>, board: &Board) -> Result<String, AllocError> {
+pub fn asked(
+    alloc: Global,
+    session: &Session<Probe<'_>>,
+    board: &Board,
+) -> Result<String, AllocError> {
     let mut text = String::new(alloc);
     for loader in session.loaders() {
         for batch in loader.log() {

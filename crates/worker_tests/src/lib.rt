@@ -11,6 +11,8 @@ mod probe;
 mod rounds;
 #[cfg(test)]
 mod sample;
+#[cfg(test)]
+mod together;
 
 /// A text is the wanted one. One function for every test, since each assertion is dear to prove.
 #[cfg(test)]

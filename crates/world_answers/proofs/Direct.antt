@@ -30,21 +30,21 @@ none-some a e = cc e
 
 module _ (limit : Option ℕ) where
   -- each loader compares keys as its source
-  compare-alike : (lines : List bindings.LoaderOf) (sources : List SourceOf) → CompareAlike (λ (s : SourceOf). s.mode) (loaders_over limit lines sources)
+  pub compare-alike : (lines : List bindings.LoaderOf) (sources : List SourceOf) → CompareAlike (λ (s : SourceOf). s.mode) (loaders_over limit lines sources)
   compare-alike [] sources = All-nil (λ (l : LoaderOf SourceOf). l.mode ≡ l.source.mode)
   compare-alike (line ∷ lines) [] = All-nil (λ (l : LoaderOf SourceOf). l.mode ≡ l.source.mode)
   compare-alike (line ∷ lines) (source ∷ sources) =
       All-cons (λ (l : LoaderOf SourceOf). l.mode ≡ l.source.mode) (loader_over limit line.name source) (loaders_over limit lines sources) refl (compare-alike lines sources)
 
   -- the items of the loaders are those of the sources
-  items-over : (lines : List bindings.LoaderOf) (sources : List SourceOf) (loader : ℕ) (key : KeyOf) → length sources ≡ length lines → item_over item_of_key (loaders_over limit lines sources) loader key ≡ item_at sources loader key
+  pub items-over : (lines : List bindings.LoaderOf) (sources : List SourceOf) (loader : ℕ) (key : KeyOf) → length sources ≡ length lines → item_over item_of_key (loaders_over limit lines sources) loader key ≡ item_at sources loader key
   items-over [] [] loader key e = refl
   items-over [] (s ∷ sources) loader key e = absurd (cc e)
   items-over (line ∷ lines) [] loader key e = absurd (cc e)
   items-over (line ∷ lines) (source ∷ sources) zero key e = refl
   items-over (line ∷ lines) (source ∷ sources) (suc loader) key e = items-over lines sources loader key (cc e)
 
-  nothing-told : (modes : List KeyMode) (item : ℕ → KeyOf → ItemOf) → HoldsItems modes item (without_failed (look []))
+  pub nothing-told : (modes : List KeyMode) (item : ℕ → KeyOf → ItemOf) → HoldsItems modes item (without_failed (look []))
   nothing-told modes item = λ loader key outcome h. absurd (none-some outcome h)
 
 -- an answer in the session of a world is the text of direct execution

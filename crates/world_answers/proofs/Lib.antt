@@ -1,5 +1,7 @@
+pub mod Values
 pub mod Direct
 pub mod Loading
 pub mod OneFault
 pub mod OneAnswer
 pub mod Requests
+pub mod Together

@@ -1,9 +1,10 @@
 -- The loaders of a world, one more at a time.
 use Rattle.std.proofs.Common.{◌≡◌, ◌<◌, ◌≤◌, ◌+◌, ℕ, zero, suc, List, [], ◌∷◌, ◌++◌, All, map, length, take, get_or, Option, refl, sym, ap, ◌∙◌, add-one, arith}
 use Rattle.std.proofs.lemmas.List.{length-map, get_or-map, take_all}
-use Rattle.std.proofs.lemmas.List.Elements.{All-nil, All-cons}
+use Rattle.std.proofs.lemmas.List.Elements.{All-nil, All-cons, All-weaker}
 use Rattle.csv_source.specs.Tables.{SourceOf}
 use Rattle.gq_schema.specs.BindingsTree as bindings
+use Rattle.gq_check.specs.Plans.{PlanParts, plan_of}
 use Rattle.load_queue.specs.Loaders.{LoaderOf}
 use Rattle.load_rounds.specs.Sessions.{SessionOf}
 use Rattle.world.specs.Worlds.{WorldOf}
@@ -53,3 +54,8 @@ enough w session b same each is =
     let most : length session.loaders ≡ length w.bindings.loaders = ap (λ (s : SessionOf SourceOf). length s.loaders) is ∙ length-over w.limit w.bindings.loaders w.sources each in
     let own : length b.loaders ≡ length w.bindings.loaders = ap (λ (x : bindings.BindingsOf). length x.loaders) same in
     omega (arith, most, own)
+
+pub enough-each : (w : WorldOf) (session : SessionOf SourceOf) (plans : List PlanParts) → All (λ (p : PlanParts). (plan_of p).bindings ≡ w.bindings) plans → length w.sources ≡ length w.bindings.loaders → session ≡ session_over w
+    → All (λ (p : PlanParts). length (plan_of p).bindings.loaders ≤ length session.loaders) plans
+enough-each w session plans same each is =
+    All-weaker (λ (p : PlanParts). (plan_of p).bindings ≡ w.bindings) (λ (p : PlanParts). length (plan_of p).bindings.loaders ≤ length session.loaders) (λ p e. enough w session (plan_of p).bindings e each is) plans same

@@ -1,6 +1,11 @@
 -- A line has at most one answer.
-use Rattle.std.proofs.Common.{◌≡◌, ◌≢◌, ℕ, Bool, true, false, List, ◌++◌, Option, Some, None, codes, refl, sym, ap, subst, ◌∙◌, string_bytes}
+use Rattle.std.proofs.Common.{◌≡◌, ◌≢◌, ℕ, Bool, true, false, List, [], ◌∷◌, ◌++◌, map, Option, Some, None, codes, refl, sym, ap, subst, ◌∙◌, string_bytes}
+use Rattle.std.specs.List.{AllZip}
+use Rattle.std.specs.Option.{option_map, option_and_then}
 use Rattle.std.specs.Prelude.{Result, Ok, Err}
+use Rattle.serde_json.specs.Data.{Data, null, boolean, number, string, array, object}
+use Rattle.serde_json.specs.Find.{as_array}
+use Rattle.serde_json.specs.Read.{read}
 use Rattle.gq_lexer.specs.declared.place.Place.{Place}
 use Rattle.gq_parser.specs.declared.fault.ParseFault.{ParseFault}
 use Rattle.gq_parser.specs.declared.fault.ParseFault.TheVariants as parse
@@ -19,13 +24,15 @@ use Rattle.gq_check.specs.Prepared as prepared
 use Rattle.gq_check.specs.Texts.{section_of, title_of, check_message, check_place, prepare_message}
 use Rattle.gq_check.specs.Verdict.{FaultOf, Breaks, TooComplex, TooDeep, NotServed, IsVerdict, IsCheckFault, fault_of}
 use Rattle.execution.specs.Completion.{AnsweredOf}
-use Rattle.request_line.specs.Requests.{RequestOf, IsRequest}
+use Rattle.request_line.specs.Requests.{RequestOf, IsRequest, AreRequests, asked, asked_each}
 use Rattle.gq_resolve.specs.Answered.{answer_text}
 use Rattle.world.specs.declared.request.RequestFault.{RequestFault}
 use Rattle.world.specs.declared.request.RequestFault.TheVariants as fault
 use Rattle.world.specs.Requests.{parse_message, request_message, request_place, is_want_of_memory}
 use Rattle.world.specs.Worlds.{WorldOf}
-use Rattle.world_answers.specs.Answers.{values_of, IsPlanned, IsFaulty, IsDirectText, refusal_text, AnswersRequest, faulty, planned, IsAnswer, no_request, request}
+use Rattle.world_answers.specs.Answers.{values_of, IsPlanned, IsFaulty, IsRefusal, IsDirectText, refusal_text, AnswersRequest, faulty, planned}
+use Rattle.world_answers.specs.Arrays.{IsRefused, HasPlan, PlaceOf, refused, answered, IsInPlace, text_in, array_text, AnswersArray}
+use Rattle.world_answers.specs.Lines.{IsAnswer, no_request, request, several}
 use Rattle.world_answers.proofs.OneFault.{one_fault, document_or_fault, one_document}
 
 same_value : {X : Type 0} (x y : X) → Some x ≡ Some y → x ≡ y
@@ -181,19 +188,83 @@ module _ (verdict : OneVerdict) (w : WorldOf) (r : RequestOf) where
   executed-one : (p : PlanOf) (text other : List ℕ) → IsDirectText w p text → IsDirectText w p other → text ≡ other
   executed-one p text other h k = h.told ∙ ap answer_text (same_value h.answered k.answered (sym h.executed ∙ k.executed)) ∙ sym k.told
 
+  refusals-one : (text other : List ℕ) → IsRefusal w r text → IsRefusal w r other → text ≡ other
+  refusals-one text other h k =
+      let same = faults-alike h.fault k.fault h.faulty k.faulty in
+      h.told ∙ ap (λ m. refusal_text m (request_place h.fault)) same.message ∙ ap (refusal_text (request_message k.fault)) same.place ∙ sym k.told
+
+  planned-one : (p q : PlanOf) (text other : List ℕ) → IsPlanned w r p → IsPlanned w r q → IsDirectText w p text → IsDirectText w q other → text ≡ other
+  planned-one p q text other h k e d = executed-one p text other e (subst (λ z. IsDirectText w z other) (one-plan q p k h) d)
+
   answers-one : (text other : List ℕ) → AnswersRequest w r text → AnswersRequest w r other → text ≡ other
-  answers-one text other (faulty {fault = f} h e) (faulty {fault = g} k d) =
-      let same = faults-alike f g h k in
-      e ∙ ap (λ m. refusal_text m (request_place f)) same.message ∙ ap (refusal_text (request_message g)) same.place ∙ sym d
+  answers-one text other (faulty {fault = f} h e) (faulty {fault = g} k d) = refusals-one text other (record { fault = f; faulty = h; told = e }) (record { fault = g; faulty = k; told = d })
   answers-one text other (faulty {fault = f} h e) (planned {plan = q} k d) = absurd (faulty-or-planned f q h k)
   answers-one text other (planned {plan = p} h e) (faulty {fault = g} k d) = absurd (faulty-or-planned g p k h)
-  answers-one text other (planned {plan = p} h e) (planned {plan = q} k d) = executed-one p text other e.direct (subst (λ z. IsDirectText w z other) (one-plan q p k h) d.direct)
+  answers-one text other (planned {plan = p} h e) (planned {plan = q} k d) = planned-one p q text other h k e.direct d.direct
+
+-- ---- the values of an array
+
+module _ (verdict : OneVerdict) (w : WorldOf) where
+  refused-one : (value : Option RequestOf) (text other : List ℕ) → IsRefused w value text → IsRefused w value other → text ≡ other
+  refused-one None text other h k = h ∙ sym k
+  refused-one (Some r) text other h k = refusals-one verdict w r text other h k
+
+  refused-or-planned : (value : Option RequestOf) (text : List ℕ) (p : PlanOf) → IsRefused w value text → HasPlan w value p → ⊥
+  refused-or-planned None text p h k = absurd k
+  refused-or-planned (Some r) text p h k = faulty-or-planned verdict w r h.fault p h.faulty k
+
+  plans-one : (value : Option RequestOf) (p q : PlanOf) (text other : List ℕ) → HasPlan w value p → HasPlan w value q → IsDirectText w p text → IsDirectText w q other → text ≡ other
+  plans-one None p q text other h k e d = absurd h
+  plans-one (Some r) p q text other h k e d = planned-one verdict w r p q text other h k e d
+
+  place-one : (value : Option RequestOf) (a b : PlaceOf) → IsInPlace w value a → IsInPlace w value b → text_in a ≡ text_in b
+  place-one value (refused text) (refused other) h k = refused-one value text other h k
+  place-one value (refused text) (answered q u) h k = absurd (refused-or-planned value text q h k.0)
+  place-one value (answered p t) (refused other) h k = absurd (refused-or-planned value other p k h.0)
+  place-one value (answered p t) (answered q u) h k = plans-one value p q t.text u.text h.0 k.0 h.1 k.1
+
+  places-one : (values : List (Option RequestOf)) (as' bs : List PlaceOf) → AllZip (IsInPlace w) values as' → AllZip (IsInPlace w) values bs → map text_in as' ≡ map text_in bs
+  places-one [] [] [] h k = refl
+  places-one [] [] (b ∷ bs) h k = absurd k
+  places-one [] (a ∷ as') bs h k = absurd h
+  places-one (v ∷ vs) [] bs h k = absurd h
+  places-one (v ∷ vs) (a ∷ as') [] h k = absurd k
+  places-one (v ∷ vs) (a ∷ as') (b ∷ bs) h k = ap (λ text. text ∷ map text_in as') (place-one v a b h.0 k.0) ∙ ap (λ texts. text_in b ∷ texts) (places-one vs as' bs h.1 k.1)
+
+  arrays-one : (values : List (Option RequestOf)) (text other : List ℕ) → AnswersArray w values text → AnswersArray w values other → text ≡ other
+  arrays-one values text other h k = h.told ∙ ap array_text (places-one values h.places k.places h.each k.each) ∙ sym k.told
+
+-- ---- a line
 
 one-request : (line : List ℕ) (p q : RequestOf) → IsRequest line p → IsRequest line q → p ≡ q
 one-request line p q h k = same_value p q (sym h.members ∙ k.members)
 
+one-array : (line : List ℕ) (vs us : List (Option RequestOf)) → AreRequests line vs → AreRequests line us → vs ≡ us
+one-array line vs us h k = same_value vs us (sym h.values ∙ k.values)
+
+none_some : {X : Type 0} (x : X) → None ≡ Some x → ⊥
+none_some x e = cc e
+
+-- an array is no request
+request-or-array : (o : Option Data) (r : RequestOf) (vs : List (Option RequestOf)) → option_and_then asked o ≡ Some r → option_map asked_each (option_and_then as_array o) ≡ Some vs → ⊥
+request-or-array None r vs e d = none_some r e
+request-or-array (Some null) r vs e d = none_some vs d
+request-or-array (Some (boolean b)) r vs e d = none_some vs d
+request-or-array (Some (number n)) r vs e d = none_some vs d
+request-or-array (Some (string s)) r vs e d = none_some vs d
+request-or-array (Some (array ds)) r vs e d = none_some r e
+request-or-array (Some (object ms)) r vs e d = none_some vs d
+
+not-both : (line : List ℕ) (r : RequestOf) (vs : List (Option RequestOf)) → IsRequest line r → AreRequests line vs → ⊥
+not-both line r vs h k = request-or-array (read line) r vs h.members k.values
+
 pub one_answer : OneVerdict → (w : WorldOf) (line text other : List ℕ) → IsAnswer w line text → IsAnswer w line other → text ≡ other
 one_answer verdict w line text other (no_request h e) (no_request k d) = e ∙ sym d
-one_answer verdict w line text other (no_request h e) (request {r = q} k d) = absurd (h q k)
-one_answer verdict w line text other (request {r = q} h e) (no_request k d) = absurd (k q h)
+one_answer verdict w line text other (no_request h e) (request {r = q} k d) = absurd (h.not_one q k)
+one_answer verdict w line text other (no_request h e) (several {values = us} k d) = absurd (h.not_several us k)
+one_answer verdict w line text other (request {r = p} h e) (no_request k d) = absurd (k.not_one p h)
 one_answer verdict w line text other (request {r = p} h e) (request {r = q} k d) = answers-one verdict w p text other e (subst (λ z. AnswersRequest w z other) (one-request line q p k h) d)
+one_answer verdict w line text other (request {r = p} h e) (several {values = us} k d) = absurd (not-both line p us h k)
+one_answer verdict w line text other (several {values = vs} h e) (no_request k d) = absurd (k.not_several vs h)
+one_answer verdict w line text other (several {values = vs} h e) (request {r = q} k d) = absurd (not-both line q vs k h)
+one_answer verdict w line text other (several {values = vs} h e) (several {values = us} k d) = arrays-one verdict w vs text other e (subst (λ z. AnswersArray w z other) (one-array line us vs k h) d)

@@ -13,10 +13,11 @@ use Rattle.request_line.specs.Requests.{RequestOf, IsRequest}
 use Rattle.world.specs.declared.request.RequestFault.{RequestFault}
 use Rattle.world.specs.Requests.{IsPlanOf, IsRequestFault, is_want_of_memory, request_message, request_place}
 use Rattle.world.specs.Worlds.{WorldOf}
-use Rattle.world_answers.specs.declared.planning.LinePlan.{LinePlan}
-use Rattle.world_answers.specs.declared.planning.LinePlan.TheVariants as line
-use Rattle.world_answers.specs.Answers.{values_of, IsPlanned, refusal_text, AnswersRequest, faulty, request}
-use Rattle.world_answers.specs.Planning.{PlansRequest, PlansLine}
+use Rattle.world_answers.specs.declared.planning.RequestPlan.{RequestPlan}
+use Rattle.world_answers.specs.declared.planning.RequestPlan.TheVariants as plan
+use Rattle.world_answers.specs.Answers.{values_of, IsPlanned, IsRefusal, refusal_text, faulty}
+use Rattle.world_answers.specs.Lines.{request}
+use Rattle.world_answers.specs.Planning.{PlansRequest, PlansOne}
 
 pub null-view : view value.Null ≡ null
 null-view = ap view (sym value.rolls-Null) ∙ fold-roll-Value Data view_step Value-F.Null
@@ -30,12 +31,15 @@ pub is-planned : (w : WorldOf) (r : RequestOf) (plan : PlanParts) (given : Data)
 is-planned w r plan given v d b is =
     record { definitions = ap tree_of d; bindings = b; planned = subst (λ z. IsPlanOf (tree_of w.definitions) r.query r.operation_name z (plan_of plan)) v is }
 
-pub faulty-text : (w : WorldOf) (r : RequestOf) (fault : RequestFault) (given : Data) (text : List ℕ) → given ≡ values_of r.variables → IsRequestFault (tree_of w.definitions) r.query r.operation_name given fault
-    → is_want_of_memory fault ≡ false → text ≡ refusal_text (request_message fault) (request_place fault) → AnswersRequest w r text
-faulty-text w r fault given text v is some told =
-    faulty (record { told = some; faulty = subst (λ z. IsRequestFault (tree_of w.definitions) r.query r.operation_name z fault) v is }) told
+pub is-refusal : (w : WorldOf) (r : RequestOf) (fault : RequestFault) (given : Data) (text : List ℕ) → given ≡ values_of r.variables → IsRequestFault (tree_of w.definitions) r.query r.operation_name given fault
+    → is_want_of_memory fault ≡ false → text ≡ refusal_text (request_message fault) (request_place fault) → IsRefusal w r text
+is-refusal w r fault given text v is some told = record {
+  fault = fault;
+  faulty = record { told = some; faulty = subst (λ z. IsRequestFault (tree_of w.definitions) r.query r.operation_name z fault) v is };
+  told = told;
+}
 
 -- what a line that is this request asks
-pub line-planned : (w : WorldOf) (bytes : List ℕ) (r : RequestOf) (plan : LinePlan) → IsRequest bytes r → PlansRequest w r plan → PlansLine w bytes plan
-line-planned w bytes r (line.Refused text) is h = request is h
-line-planned w bytes r (line.Planned plan) is h = (r, is, h)
+pub line-planned : (w : WorldOf) (bytes : List ℕ) (r : RequestOf) (p : RequestPlan) → IsRequest bytes r → PlansRequest w r p → PlansOne w bytes p
+line-planned w bytes r (plan.Refused text) is h = request is (faulty h.faulty h.told)
+line-planned w bytes r (plan.Planned p) is h = (r, is, h)

@@ -1,4 +1,4 @@
--- What answers a request line over a world.
+-- What answers a request over a world.
 use Rattle.std.specs.Prelude.{◌≡◌, ℕ, Bool, false, List, [], map, Option, Some, None, codes, slice_get}
 use Rattle.gq_lexer.specs.declared.place.Place.{Place}
 use Rattle.serde_json.specs.Data.{Data, null}
@@ -14,7 +14,7 @@ use Rattle.answer_json.specs.Answer.{json_text, refusal_json}
 use Rattle.gq_resolve.specs.Answered.{answer_text}
 use Rattle.load_rounds.specs.Headline.{IsTextOf, AnswersPlan}
 use Rattle.load_rounds.specs.Sessions.{StateOf, state_of}
-use Rattle.request_line.specs.Requests.{RequestOf, IsRequest, IsNoRequest}
+use Rattle.request_line.specs.Requests.{RequestOf}
 use Rattle.world.specs.declared.request.RequestFault.{RequestFault}
 use Rattle.world.specs.Requests.{IsPlanOf, IsRequestFault, is_want_of_memory, request_message, request_place}
 use Rattle.world.specs.Worlds.{WorldOf}
@@ -36,7 +36,7 @@ item_at sources loader key = item_from (slice_get sources loader) key
 abbrev pub IsDirectText : WorldOf → PlanOf → List ℕ → Type 0
 IsDirectText w plan text = IsTextOf answer_text (plan_program plan) (direct (item_at w.sources)) text
 
--- ---- the session of a line
+-- ---- the session of a request
 
 -- what a source of a world may answer: the rows of each key
 abbrev pub may_tell : SourceOf → List KeyOf → AnswerOf → Type 0
@@ -47,7 +47,7 @@ may_tell source keys answer = answer ≡ given (map (item_of_key source) keys)
 abbrev pub AnswersAnew : WorldOf → PlanOf → StateOf SourceOf → List ℕ → ℕ → Type 0
 AnswersAnew w plan after text rounds = AnswersPlan may_tell (state_of (session_over w)) after plan text rounds
 
--- ---- *Program output*, of one line
+-- ---- *Program output*, of one request
 
 -- variables that aren't given are null, as where none have values
 abbrev pub values_of : Option Data → Data
@@ -68,6 +68,16 @@ pub record IsFaulty (w : WorldOf) (request : RequestOf) (fault : RequestFault) :
 abbrev pub refusal_text : List ℕ → Option Place → List ℕ
 refusal_text message place = json_text (refusal_json message place)
 
+-- what is answered where there is no request
+abbrev pub not_a_request : List ℕ
+not_a_request = refusal_text (codes "not a request") None
+
+-- the text refuses a request over a world: it is that of the first fault, with its message and its place
+pub record IsRefusal (w : WorldOf) (request : RequestOf) (text : List ℕ) : Type 0 where
+  pub fault : RequestFault
+  pub faulty : IsFaulty w request fault
+  pub told : text ≡ refusal_text (request_message fault) (request_place fault)
+
 -- The text answers a plan: it is that of direct execution, and was answered in a session that was new, with the headline.
 pub record IsAnsweredAnew (w : WorldOf) (plan : PlanOf) (text : List ℕ) : Type 0 where
   pub direct : IsDirectText w plan text
@@ -80,8 +90,3 @@ pub record IsAnsweredAnew (w : WorldOf) (plan : PlanOf) (text : List ℕ) : Type
 pub data AnswersRequest (w : WorldOf) (request : RequestOf) (text : List ℕ) : Type 0 where
   faulty : {fault : RequestFault} → IsFaulty w request fault → text ≡ refusal_text (request_message fault) (request_place fault) → AnswersRequest w request text
   planned : {plan : PlanOf} → IsPlanned w request plan → IsAnsweredAnew w plan text → AnswersRequest w request text
-
--- the text answers a line over a world
-pub data IsAnswer (w : WorldOf) (line text : List ℕ) : Type 0 where
-  no_request : IsNoRequest line → text ≡ refusal_text (codes "not a request") None → IsAnswer w line text
-  request : {r : RequestOf} → IsRequest line r → AnswersRequest w r text → IsAnswer w line text

@@ -1,4 +1,6 @@
 pub mod Sessions
 pub mod Answers
+pub mod Arrays
+pub mod Lines
 pub mod Planning
 pub mod Run

@@ -1,18 +1,60 @@
 -- What a line asks over a world.
-use Rattle.std.specs.Prelude.{ℕ, List, string_bytes}
-use Rattle.gq_check.specs.Plans.{plan_of}
-use Rattle.request_line.specs.Requests.{RequestOf, IsRequest}
+use Rattle.std.specs.Prelude.{◌≡◌, ℕ, List, [], ◌∷◌, map, Option, Some, None, option_map, string_bytes}
+use Rattle.gq_check.specs.Plans.{PlanOf, plan_of}
+use Rattle.request_line.specs.Requests.{RequestOf, IsRequest, AreRequests}
 use Rattle.world.specs.Worlds.{WorldOf}
-use Rattle.world_answers.specs.Answers.{AnswersRequest, IsAnswer, IsPlanned}
+use Rattle.world_answers.specs.Answers.{IsPlanned, IsRefusal}
+use Rattle.world_answers.specs.Arrays.{IsRefused, HasPlan}
+use Rattle.world_answers.specs.Lines.{IsAnswer}
+use Rattle.world_answers.specs.declared.arrays.ArrayPlan.{ArrayPlan}
+use Rattle.world_answers.specs.declared.planning.RequestPlan.{RequestPlan}
+use Rattle.world_answers.specs.declared.planning.RequestPlan.TheVariants as request
 use Rattle.world_answers.specs.declared.planning.LinePlan.{LinePlan}
 use Rattle.world_answers.specs.declared.planning.LinePlan.TheVariants as line
 
 -- a request is refused by this text, or has this plan
-abbrev pub PlansRequest : WorldOf → RequestOf → LinePlan → Type 0
-PlansRequest w request (line.Refused text) = AnswersRequest w request (string_bytes text)
-PlansRequest w request (line.Planned plan) = IsPlanned w request (plan_of plan)
+abbrev pub PlansRequest : WorldOf → RequestOf → RequestPlan → Type 0
+PlansRequest w asked (request.Refused text) = IsRefusal w asked (string_bytes text)
+PlansRequest w asked (request.Planned plan) = IsPlanned w asked (plan_of plan)
+
+-- a value of an array is refused by this text, or has this plan
+abbrev pub PlansValue : WorldOf → Option RequestOf → RequestPlan → Type 0
+PlansValue w value (request.Refused text) = IsRefused w value (string_bytes text)
+PlansValue w value (request.Planned plan) = HasPlan w value (plan_of plan)
+
+-- the refusals of values, each in its place
+abbrev pub refusals_of : ArrayPlan → List (Option (List ℕ))
+refusals_of array = map (option_map string_bytes) array.refusals.items
+
+abbrev pub plans_of : ArrayPlan → List PlanOf
+plans_of array = map plan_of array.plans.items
+
+-- each value has its refusal, or none and the next plan
+abbrev pub PlanValues : WorldOf → List (Option RequestOf) → List (Option (List ℕ)) → List PlanOf → Type 0
+PlanValues w [] [] [] = Unit {0}
+PlanValues w [] [] (plan ∷ plans) = ⊥
+PlanValues w [] (refusal ∷ refusals) plans = ⊥
+PlanValues w (value ∷ values) [] plans = ⊥
+PlanValues w (value ∷ values) (Some text ∷ refusals) plans = IsRefused w value text × PlanValues w values refusals plans
+PlanValues w (value ∷ values) (None ∷ refusals) [] = ⊥
+PlanValues w (value ∷ values) (None ∷ refusals) (plan ∷ plans) = HasPlan w value plan × PlanValues w values refusals plans
+
+abbrev pub PlansArray : WorldOf → List (Option RequestOf) → ArrayPlan → Type 0
+PlansArray w values array = PlanValues w values (refusals_of array) (plans_of array)
+
+-- the refusals, and in the other places these texts, in order
+abbrev pub in_places : List (Option (List ℕ)) → List (List ℕ) → List (List ℕ)
+in_places [] texts = []
+in_places (Some refusal ∷ refusals) texts = refusal ∷ in_places refusals texts
+in_places (None ∷ refusals) [] = in_places refusals []
+in_places (None ∷ refusals) (text ∷ texts) = text ∷ in_places refusals texts
 
 -- a line is refused by this text, or is a request that has this plan
+abbrev pub PlansOne : WorldOf → List ℕ → RequestPlan → Type 0
+PlansOne w asked (request.Refused text) = IsAnswer w asked (string_bytes text)
+PlansOne w asked (request.Planned plan) = (r : RequestOf) × IsRequest asked r × IsPlanned w r (plan_of plan)
+
+-- or it is an array, of which each value is refused or has its plan
 abbrev pub PlansLine : WorldOf → List ℕ → LinePlan → Type 0
-PlansLine w asked (line.Refused text) = IsAnswer w asked (string_bytes text)
-PlansLine w asked (line.Planned plan) = (request : RequestOf) × IsRequest asked request × IsPlanned w request (plan_of plan)
+PlansLine w asked (line.One plan) = PlansOne w asked plan
+PlansLine w asked (line.Several array) = (values : List (Option RequestOf)) × AreRequests asked values × PlansArray w values array

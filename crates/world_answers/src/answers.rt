@@ -1,11 +1,14 @@
 //! What answers request lines over a world, each by itself: no line sees what another asked.
 
-ghost use Rattle.std.specs.Prelude.{◌≡◌, IfOk, OnOk, length, string_bytes};
+ghost use Rattle.std.specs.Prelude.{◌≡◌, ℕ, List, IfOk, OnOk, length, string_bytes};
 ghost use Rattle.gq_check.specs.Plans.{plan_of};
 ghost use Rattle.load_rounds.specs.Sessions.{state_of};
-ghost use Rattle.world_answers.specs.Answers.{IsAnswer, IsAnsweredAnew, AnswersAnew};
+ghost use Rattle.world_answers.specs.Answers.{IsAnsweredAnew, AnswersAnew};
+ghost use Rattle.world_answers.specs.Lines.{IsAnswer};
+ghost use Rattle.world_answers.specs.Planning.{PlansLine};
 
-use crate::planning::{LinePlan, plan_line};
+use crate::arrays::array_answer;
+use crate::planning::{LinePlan, RequestPlan, plan_line};
 use crate::run::{RunDocuments, Served};
 use crate::sessions::Sessions;
 use csv_source::CsvSource;
@@ -50,6 +53,18 @@ fn plan_text(alloc: Global, world: &World, plan: &Plan<'_>) -> Result<String, No
     }
 }
 
+// The answer of what a line asks over a world.
+fn line_answer(alloc: Global, world: &World, plan: LinePlan<'_>) -> Result<String, NoMemory>
+    requires { (line : List ℕ) × PlansLine world.now line plan }
+    ensures { (line : List ℕ) → PlansLine world.now line plan.entry → IfOk result (λ text. IsAnswer world.now line (string_bytes text)) }
+{
+    match plan {
+        LinePlan::One(RequestPlan::Refused(text)) => Ok(text),
+        LinePlan::One(RequestPlan::Planned(plan)) => plan_text(alloc, world, &plan),
+        LinePlan::Several(array) => array_answer(alloc, world, &array),
+    }
+}
+
 /// The answer of a line over a world, both without a line feed.
 ///
 /// # Errors
@@ -59,8 +74,7 @@ pub fn answer_line(alloc: Global, world: &World, line: &[u8]) -> Result<String, 
     ensures { IfOk result (λ text. IsAnswer world.now line.now (string_bytes text)) }
 {
     match plan_line(alloc, world, line) {
-        Ok(LinePlan::Refused(text)) => Ok(text),
-        Ok(LinePlan::Planned(plan)) => plan_text(alloc, world, &plan),
+        Ok(plan) => line_answer(alloc, world, plan),
         Err(want) => Err(want),
     }
 }
@@ -75,8 +89,7 @@ fn answer_kept<B: Served>(
 {
     let world = documents.world();
     match documents.plan_line(alloc, line) {
-        Ok(LinePlan::Refused(text)) => Ok(text),
-        Ok(LinePlan::Planned(plan)) => plan_text(alloc, world, &plan),
+        Ok(plan) => line_answer(alloc, world, plan),
         Err(want) => Err(want),
     }
 }

@@ -2,7 +2,7 @@
 
 ghost use Rattle.std.specs.Prelude.{◌≡◌, ℕ, List};
 ghost use Rattle.world.specs.Worlds.{WorldOf};
-ghost use Rattle.world_answers.specs.Answers.{IsAnswer};
+ghost use Rattle.world_answers.specs.Lines.{IsAnswer};
 
 use gq_check::one_verdict;
 

@@ -1,14 +1,17 @@
 //! The answers of request lines over a world.
 //!
 //! The layer above may rely on this: [`serve`] writes to each line of its input the one text that answers it over a
-//! [`World`](world::World). The text is a refusal, or that of direct execution, where each load is answered at once by the
-//! rows of its key (`specs/Answers.antt`): no memory, round, batch or limit changes it. And it was answered with the headline
-//! (`load_rounds`, `specs/Headline.antt`) in the session of the world, which [`Sessions`] gives and of which each line has its
-//! own: a new one, over the world's sources, with its limit. A crate that answers plans in another way takes what a line asks
-//! from [`plan_line`], or from [`RunDocuments::plan_line`], which keeps documents by their texts and plans the same.
+//! [`World`](world::World) (`specs/Lines.antt`). The text is a refusal, or that of direct execution, where each load is answered
+//! at once by the rows of its key (`specs/Answers.antt`): no memory, round, batch or limit changes it. And it was answered with
+//! the headline (`load_rounds`, `specs/Headline.antt`) in the session of the world, which [`Sessions`] gives and of which each line
+//! has its own: a new one, over the world's sources, with its limit. A line that is an array has such a text for each of its
+//! values; its plans were answered with the headline of several requests, in one session (`specs/Arrays.antt`). A crate that
+//! answers plans in another way takes what a line asks from [`plan_line`], or from [`RunDocuments::plan_line`], which keeps
+//! documents by their texts and plans the same.
 #![tactic(auto)]
 
 mod answers;
+mod arrays;
 mod law;
 mod planning;
 mod run;
@@ -16,8 +19,9 @@ mod serving;
 mod sessions;
 
 pub use answers::answer_line;
+pub use arrays::ArrayPlan;
 pub use law::one_answer;
-pub use planning::{LinePlan, plan_line};
+pub use planning::{LinePlan, RequestPlan, plan_line};
 pub use run::{RunDocuments, Served};
 pub use serving::serve;
 pub use sessions::Sessions;

@@ -1,26 +1,36 @@
 //! What request lines ask over a world.
 
-ghost use Rattle.std.specs.Prelude.{◌≡◌, IfOk, codes, None, false, string_bytes};
-ghost use Rattle.request_line.specs.Seen.{request_of};
+ghost use Rattle.std.specs.Prelude.{◌≡◌, IfOk, false, option_map, string_bytes};
+ghost use Rattle.request_line.specs.Seen.{request_of, requests_of};
 ghost use Rattle.world.specs.Requests.{is_want_of_memory, request_message, request_place};
-ghost use Rattle.world_answers.specs.Answers.{refusal_text};
-ghost use Rattle.world_answers.specs.Planning.{PlansRequest, PlansLine};
+ghost use Rattle.world_answers.specs.Answers.{refusal_text, not_a_request};
+ghost use Rattle.world_answers.specs.Planning.{PlansRequest, PlansValue, PlansArray, PlansLine};
 
+use crate::arrays::ArrayPlan;
 use answer_json::write_refusal;
 use gq_check::Plan;
 use line_serving::NoMemory;
-use request_line::{LineReader, Request};
+use request_line::{Line, LineReader, Request};
 use serde_json::Value;
 use std::alloc::Global;
 use world::{RequestFault, World};
 
-/// What a line asks over a world.
+/// What a request asks over a world.
 #[derive(Drop)]
-pub enum LinePlan<'w> {
-    /// Nothing: this refusal answers the line.
+pub enum RequestPlan<'w> {
+    /// Nothing: this refusal answers it.
     Refused(String),
     /// What this plan asks.
     Planned(Plan<'w>),
+}
+
+/// What a line asks over a world.
+#[derive(Drop)]
+pub enum LinePlan<'w> {
+    /// What one request asks; a line that is no request is refused.
+    One(RequestPlan<'w>),
+    /// What the values of an array ask.
+    Several(ArrayPlan<'w>),
 }
 
 // The refusal of a request that has no plan.
@@ -38,9 +48,9 @@ pub(crate) fn refusal(alloc: Global, fault: &RequestFault) -> Result<String, NoM
     }
 }
 
-// The refusal of a line that is no request.
+// The refusal of what is no request.
 pub(crate) fn not_a_request(alloc: Global) -> Result<String, NoMemory>
-    ensures { IfOk result (λ text. string_bytes text ≡ refusal_text (codes "not a request") None) }
+    ensures { IfOk result (λ text. string_bytes text ≡ not_a_request) }
 {
     match write_refusal(alloc, "not a request", None) {
         Ok(text) => Ok(text),
@@ -53,21 +63,53 @@ fn plan_request<'w>(
     alloc: Global,
     world: &'w World,
     request: &Request<'_>,
-) -> Result<LinePlan<'w>, NoMemory>
+) -> Result<RequestPlan<'w>, NoMemory>
     ensures { IfOk result (PlansRequest world.now (request_of request.now)) }
 {
     let none = Value::Null;
     let values = request.variables.unwrap_or(&none);
     match world.plan(alloc, request.query, request.operation_name, values) {
-        Ok(plan) => Ok(LinePlan::Planned(plan)),
+        Ok(plan) => Ok(RequestPlan::Planned(plan)),
         Err(fault) => match refusal(alloc, &fault) {
-            Ok(text) => Ok(LinePlan::Refused(text)),
+            Ok(text) => Ok(RequestPlan::Refused(text)),
             Err(want) => Err(want),
         },
     }
 }
 
-/// What a line asks over a world: the plan of its request, or the refusal that answers it.
+// What a value of an array asks over a world.
+fn plan_value<'w>(
+    alloc: Global,
+    world: &'w World,
+    value: &Option<Request<'_>>,
+) -> Result<RequestPlan<'w>, NoMemory>
+    ensures { IfOk result (PlansValue world.now (option_map request_of value.now)) }
+{
+    match value {
+        Some(request) => plan_request(alloc, world, request),
+        None => match not_a_request(alloc) {
+            Ok(text) => Ok(RequestPlan::Refused(text)),
+            Err(want) => Err(want),
+        },
+    }
+}
+
+// What the values of an array ask over a world.
+fn plan_array<'w>(
+    alloc: Global,
+    world: &'w World,
+    values: &[Option<Request<'_>>],
+) -> Result<ArrayPlan<'w>, NoMemory>
+    ensures { IfOk result (PlansArray world.now (requests_of values.now)) }
+{
+    let mut array = ArrayPlan::new(alloc);
+    for value in values {
+        array.push(plan_value(alloc, world, value)?)?;
+    }
+    Ok(array)
+}
+
+/// What a line asks over a world: the plan of its request, or the refusal that answers it; of an array, those of each value.
 ///
 /// # Errors
 ///
@@ -78,9 +120,16 @@ pub fn plan_line<'w>(alloc: Global, world: &'w World, line: &[u8]) -> Result<Lin
 {
     let mut lines = LineReader::new(alloc);
     match lines.read(alloc, line) {
-        Ok(Some(request)) => plan_request(alloc, world, &request),
-        Ok(None) => match not_a_request(alloc) {
-            Ok(text) => Ok(LinePlan::Refused(text)),
+        Ok(Line::One(request)) => match plan_request(alloc, world, &request) {
+            Ok(plan) => Ok(LinePlan::One(plan)),
+            Err(want) => Err(want),
+        },
+        Ok(Line::Several(values)) => match plan_array(alloc, world, &values) {
+            Ok(array) => Ok(LinePlan::Several(array)),
+            Err(want) => Err(want),
+        },
+        Ok(Line::NoRequest) => match not_a_request(alloc) {
+            Ok(text) => Ok(LinePlan::One(RequestPlan::Refused(text))),
             Err(want) => Err(want),
         },
         Err(_) => Err(NoMemory),

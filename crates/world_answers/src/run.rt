@@ -1,17 +1,18 @@
 //! The documents that are kept while the lines of one run are answered.
 
-ghost use Rattle.std.specs.Prelude.{◌≡◌, ℕ, List, Option, IfOk, IfErr};
+ghost use Rattle.std.specs.Prelude.{◌≡◌, ℕ, List, Option, IfOk, IfErr, option_map};
 ghost use Rattle.serde_json.specs.Data.{Data};
 ghost use Rattle.gq_schema.specs.Types.{tree_of};
-ghost use Rattle.request_line.specs.Seen.{request_of};
+ghost use Rattle.request_line.specs.Seen.{request_of, requests_of};
 ghost use Rattle.world.specs.Requests.{IsRequestFault};
 ghost use Rattle.world.specs.Worlds.{WorldOf};
-ghost use Rattle.world_answers.specs.Planning.{PlansRequest, PlansLine};
+ghost use Rattle.world_answers.specs.Planning.{PlansRequest, PlansValue, PlansArray, PlansLine};
 ghost use Rattle.world_answers.specs.Run.{empty_world};
 
-use crate::planning::{LinePlan, not_a_request, refusal};
+use crate::arrays::ArrayPlan;
+use crate::planning::{LinePlan, RequestPlan, not_a_request, refusal};
 use line_serving::NoMemory;
-use request_line::{LineReader, Request};
+use request_line::{Line, LineReader, Request};
 use serde_json::Value;
 use std::alloc::Global;
 use std::marker::{Brand, Model, PhantomData};
@@ -75,16 +76,16 @@ impl<'w, B: Served> WorldDocuments<'w, B> {
     }
 
     // What a request asks, by the kept document of its query if there is one.
-    fn plan(&self, alloc: Global, request: &Request<'_>) -> Result<LinePlan<'_>, NoMemory>
+    fn plan(&self, alloc: Global, request: &Request<'_>) -> Result<RequestPlan<'_>, NoMemory>
         ensures { IfOk result (PlansRequest B.world (request_of request.now)) }
     {
         let none = Value::Null;
         let values = request.variables.unwrap_or(&none);
         let kept = &self.kept;
         match kept.plan(alloc, request.query, request.operation_name, values) {
-            Ok(plan) => Ok(LinePlan::Planned(plan)),
+            Ok(plan) => Ok(RequestPlan::Planned(plan)),
             Err(fault) => match refusal(alloc, &fault) {
-                Ok(text) => Ok(LinePlan::Refused(text)),
+                Ok(text) => Ok(RequestPlan::Refused(text)),
                 Err(want) => Err(want),
             },
         }
@@ -95,16 +96,69 @@ impl<'w, B: Served> WorldDocuments<'w, B> {
         &mut self,
         alloc: Global,
         request: &Request<'_>,
-    ) -> Result<LinePlan<'_>, NoMemory>
+    ) -> Result<RequestPlan<'_>, NoMemory>
         ensures { IfOk result (PlansRequest B.world (request_of request.now)) }
     {
         match self.keep(alloc, request.query) {
             Ok(()) => self.plan(alloc, request),
             Err(fault) => match refusal(alloc, &fault) {
-                Ok(text) => Ok(LinePlan::Refused(text)),
+                Ok(text) => Ok(RequestPlan::Refused(text)),
                 Err(want) => Err(want),
             },
         }
+    }
+
+    // Keeps the documents of an array, as far as there is room. What is wrong with one is found again when it is planned.
+    fn keep_each(&mut self, alloc: Global, values: &[Option<Request<'_>>]) {
+        for value in values {
+            if let Some(request) = value {
+                let _ = self.keep(alloc, request.query);
+            }
+        }
+    }
+
+    // What a value of an array asks, by the kept document of its query if there is one.
+    fn plan_value(
+        &self,
+        alloc: Global,
+        value: &Option<Request<'_>>,
+    ) -> Result<RequestPlan<'_>, NoMemory>
+        ensures { IfOk result (PlansValue B.world (option_map request_of value.now)) }
+    {
+        match value {
+            Some(request) => self.plan(alloc, request),
+            None => match not_a_request(alloc) {
+                Ok(text) => Ok(RequestPlan::Refused(text)),
+                Err(want) => Err(want),
+            },
+        }
+    }
+
+    // What the values of an array ask, by the kept documents.
+    fn plan_each(
+        &self,
+        alloc: Global,
+        values: &[Option<Request<'_>>],
+    ) -> Result<ArrayPlan<'_>, NoMemory>
+        ensures { IfOk result (PlansArray B.world (requests_of values.now)) }
+    {
+        let mut array = ArrayPlan::new(alloc);
+        for value in values {
+            array.push(self.plan_value(alloc, value)?)?;
+        }
+        Ok(array)
+    }
+
+    // What the values of an array ask, whose documents are kept.
+    fn plan_array(
+        &mut self,
+        alloc: Global,
+        values: &[Option<Request<'_>>],
+    ) -> Result<ArrayPlan<'_>, NoMemory>
+        ensures { IfOk result (PlansArray B.world (requests_of values.now)) }
+    {
+        self.keep_each(alloc, values);
+        self.plan_each(alloc, values)
     }
 }
 
@@ -156,9 +210,16 @@ impl<'w, B: Served> RunDocuments<'w, B> {
         ensures { IfOk result (PlansLine B.world line.now) }
     {
         match self.lines.read(alloc, line) {
-            Ok(Some(request)) => self.documents.plan_request(alloc, &request),
-            Ok(None) => match not_a_request(alloc) {
-                Ok(text) => Ok(LinePlan::Refused(text)),
+            Ok(Line::One(request)) => match self.documents.plan_request(alloc, &request) {
+                Ok(plan) => Ok(LinePlan::One(plan)),
+                Err(want) => Err(want),
+            },
+            Ok(Line::Several(values)) => match self.documents.plan_array(alloc, &values) {
+                Ok(array) => Ok(LinePlan::Several(array)),
+                Err(want) => Err(want),
+            },
+            Ok(Line::NoRequest) => match not_a_request(alloc) {
+                Ok(text) => Ok(LinePlan::One(RequestPlan::Refused(text))),
                 Err(want) => Err(want),
             },
             Err(_) => Err(NoMemory),

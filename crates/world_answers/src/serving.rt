@@ -5,7 +5,7 @@ ghost use Rattle.std.specs.Io.KnownBytes.{Appends, Consumes, IsAtEnd};
 ghost use Rattle.line_serving.specs.Devices.{bound, counted, device_of, faults_of, calls_of, given_of};
 ghost use Rattle.line_serving.specs.Output.{IsCut};
 ghost use Rattle.line_serving.specs.Serving.{AtFault, IsAnswered, Fails, faults_at};
-ghost use Rattle.world_answers.specs.Answers.{IsAnswer};
+ghost use Rattle.world_answers.specs.Lines.{IsAnswer};
 
 use crate::answers::answer_in_run;
 use crate::run::{RunDocuments, Served};

@@ -5,6 +5,7 @@
 //! to count or to hold back the calls of a source, and which changes no answer.
 #![tactic(auto)]
 
+mod arrays;
 mod gate;
 mod gated;
 mod serving;

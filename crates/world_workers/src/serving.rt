@@ -8,8 +8,11 @@ ghost use Rattle.batch_workers.specs.Workers.{IsBadCount};
 ghost use Rattle.line_serving.specs.Devices.{bound, counted, device_of, faults_of, calls_of, given_of};
 ghost use Rattle.line_serving.specs.Output.{IsCut};
 ghost use Rattle.line_serving.specs.Serving.{AtFault, IsAnswered, Fails, faults_at};
-ghost use Rattle.world_answers.specs.Answers.{IsAnswer, IsAnsweredAnew, AnswersAnew};
+ghost use Rattle.world_answers.specs.Answers.{IsAnsweredAnew, AnswersAnew};
+ghost use Rattle.world_answers.specs.Lines.{IsAnswer};
+ghost use Rattle.world_answers.specs.Planning.{PlansLine};
 
+use crate::arrays::array_answer;
 use crate::gate::Gate;
 use crate::gated::Gated;
 use crate::sessions::gated_session;
@@ -25,7 +28,7 @@ use std::marker::Brand;
 use std::sync::Wait;
 use std::thread::Threads;
 use world::World;
-use world_answers::{LinePlan, RunDocuments, Served, plan_line};
+use world_answers::{LinePlan, RequestPlan, RunDocuments, Served, plan_line};
 
 // The answer of a plan over a world, and the session of its own in which it was given, by so many workers.
 fn answer_plan<'w, 'g, R: Threads + Wait + AllocGlobal + Sync, G: Gate>(
@@ -71,6 +74,25 @@ fn plan_text<R: Threads + Wait + AllocGlobal + Sync, G: Gate>(
     }
 }
 
+// The answer of what a line asks over a world, by so many workers.
+fn line_answer<R: Threads + Wait + AllocGlobal + Sync, G: Gate>(
+    rt: &R,
+    world: &World,
+    gate: &G,
+    plan: LinePlan<'_>,
+    workers: usize,
+) -> Result<String, NoMemory>
+    requires plan { (line : List ℕ) × PlansLine world.now line plan }
+    requires count { ¬ (IsBadCount workers) }
+    ensures { (line : List ℕ) → PlansLine world.now line plan.entry → IfOk result (λ text. IsAnswer world.now line (string_bytes text)) }
+{
+    match plan {
+        LinePlan::One(RequestPlan::Refused(text)) => Ok(text),
+        LinePlan::One(RequestPlan::Planned(plan)) => plan_text(rt, world, gate, &plan, workers),
+        LinePlan::Several(array) => array_answer(rt, world, gate, &array, workers),
+    }
+}
+
 // The answer of a line over a world, both without a line feed, by so many workers.
 fn answer_line<R: Threads + Wait + AllocGlobal + Sync, G: Gate>(
     rt: &R,
@@ -83,8 +105,7 @@ fn answer_line<R: Threads + Wait + AllocGlobal + Sync, G: Gate>(
     ensures { IfOk result (λ text. IsAnswer world.now line.now (string_bytes text)) }
 {
     match plan_line(rt.alloc(), world, line) {
-        Ok(LinePlan::Refused(text)) => Ok(text),
-        Ok(LinePlan::Planned(plan)) => plan_text(rt, world, gate, &plan, workers),
+        Ok(plan) => line_answer(rt, world, gate, plan, workers),
         Err(want) => Err(want),
     }
 }
@@ -102,8 +123,7 @@ fn answer_kept<R: Threads + Wait + AllocGlobal + Sync, G: Gate, B: Served>(
 {
     let world = documents.world();
     match documents.plan_line(rt.alloc(), line) {
-        Ok(LinePlan::Refused(text)) => Ok(text),
-        Ok(LinePlan::Planned(plan)) => plan_text(rt, world, gate, &plan, workers),
+        Ok(plan) => line_answer(rt, world, gate, plan, workers),
         Err(want) => Err(want),
     }
 }

@@ -1,5 +1,4 @@
-use Rattle.std.proofs.Common.{◌≡◌, ◌<◌, ◌≤◌, ◌+◌, ◌∙◌, ℕ, map, length, ap, sym, arith, refl}
-use Rattle.load_queue.specs.Orders.{OrderOf}
+use Rattle.std.proofs.Common.{◌≡◌, ◌+◌, ◌∙◌, ap, sym, arith, refl}
 use Rattle.execution.specs.Program.{Program}
 use Rattle.load_rounds.specs.Sessions.{state_of, memory_of}
 use Rattle.load_rounds.specs.Runs.{RunOf, IsRun}

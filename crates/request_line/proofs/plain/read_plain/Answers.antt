@@ -1,8 +1,8 @@
-use Rattle.std.proofs.Common.{◌≡◌, [], ◌∷◌, arith}
+use Rattle.std.proofs.Common.{◌≡◌, [], ◌∷◌, refl, arith}
 use Rattle.json.specs.Token.{begin_object}
 use Rattle.json.specs.Lex.{tokens}
 use Rattle.serde_json.specs.Data.{object}
-use Rattle.request_line.proofs.Lines.{line_reading}
+use Rattle.request_line.specs.Requests.{IsValue}
 use Rattle.request_line.proofs.PlainMembers.{object_read}
 use Rattle.request_line.proofs.plain.read_plain.Goals as goal
 
@@ -12,4 +12,5 @@ returns-in-None c =
     let opened : tokens text ≡ begin_object ∷ c.next.new.self = grind arith in
     let over : c.read_members.new.reader ≡ [] = grind arith in
     let said = c.in-Some.ensures in
-    line_reading text (object said.0) c.request.result c.utf8.text (object_read text c.next.new.self c.read_members.new.reader said.0 opened said.2 over) (c.request.ensures said.0 said.1)
+    let is : IsValue text (object said.0) = record { text = c.utf8.text; value = object_read text c.next.new.self c.read_members.new.reader said.0 opened said.2 over } in
+    c.of_request.ensures text (object said.0) is refl (c.request.ensures said.0 said.1)

@@ -2,7 +2,7 @@ use Rattle.std.proofs.Common.{◌≡◌, string_bytes}
 use Rattle.serde_json.specs.View.{view}
 use Rattle.request_line.specs.Seen.{request_of}
 use Rattle.world_answers.specs.Answers.{values_of}
-use Rattle.world_answers.proofs.Requests.{null-view, values-are, is-planned, faulty-text}
+use Rattle.world_answers.proofs.Requests.{null-view, values-are, is-planned, is-refusal}
 use Rattle.world_answers.proofs.planning.plan_request.Goals as goal
 
 pub returns-in-Ok : goal.returns-in-Ok
@@ -15,4 +15,4 @@ pub returns-in-Ok-refusal : goal.returns-in-Ok-refusal
 returns-in-Ok-refusal c =
     let r = request_of c.args.request.now in
     let values : view c.unwrap_or-values.result.now ≡ values_of r.variables = values-are c.args.request.now.variables _ c.unwrap_or-values.result c.unwrap_or-values.ensures null-view in
-    faulty-text c.args.world.now r c.in-Err.fault (view c.unwrap_or-values.result.now) (string_bytes c.in-Ok-refusal.text) values c.in-Err.ensures.err c.in-Ok-refusal.ensures.0 c.in-Ok-refusal.ensures.1
+    is-refusal c.args.world.now r c.in-Err.fault (view c.unwrap_or-values.result.now) (string_bytes c.in-Ok-refusal.text) values c.in-Err.ensures.err c.in-Ok-refusal.ensures.0 c.in-Ok-refusal.ensures.1

@@ -1,6 +1,6 @@
 use Rattle.std.proofs.Common.{subst, sym, ℕ, List}
 use Rattle.line_serving.proofs.Widening.{answered_widened, fails_widened}
-use Rattle.world_answers.specs.Answers.{IsAnswer}
+use Rattle.world_answers.specs.Lines.{IsAnswer}
 use Rattle.world_answers.proofs.serving.serve_run.Goals as goal
 
 pub returns-in-Ok-clause-ok : goal.returns-in-Ok-clause-ok

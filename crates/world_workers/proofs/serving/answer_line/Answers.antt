@@ -1,8 +1,7 @@
-use Rattle.std.proofs.lemmas.Result.{IfOk-weaker}
-use Rattle.world_answers.specs.Answers.{request, planned}
 use Rattle.world_workers.proofs.serving.answer_line.Goals as goal
 
-pub returns-in-Ok-Planned : goal.returns-in-Ok-Planned
-returns-in-Ok-Planned g c =
-    let asks = rw c.in-Ok-Planned.field-0-is at c.in-Ok-Planned.ensures in
-    IfOk-weaker c.plan_text.result _ _ (λ text answered. request asks.1 (planned asks.2 answered)) c.plan_text.ensures
+pub line_answer-requires-clause-plan : goal.line_answer-requires-clause-plan
+line_answer-requires-clause-plan g c = λ κs l. (c.args.line.now, c.in-Ok.ensures)
+
+pub returns-in-Ok : goal.returns-in-Ok
+returns-in-Ok g c = c.line_answer.ensures c.args.line.now c.in-Ok.ensures

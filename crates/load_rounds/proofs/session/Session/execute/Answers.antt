@@ -25,7 +25,9 @@ execute-requires g c =
     )
 
 pub returns-in-Ready-clause-found : goal.returns-in-Ready-clause-found
-returns-in-Ready-clause-found g c = rw (c.in-Ready.is, c.memory-memory.ensures.modes, c.memory-memory.ensures.pairs) at c.in_ok-text.ensures.executed
+returns-in-Ready-clause-found g c =
+    let done = rw (c.in-Ready.is, c.memory-memory.ensures.modes, c.memory-memory.ensures.pairs) at c.in_ok-text.ensures.executed in
+    (done.0, done.1)
 
 pub returns-in-Pending-clause-found : goal.returns-in-Pending-clause-found
 returns-in-Pending-clause-found g c =

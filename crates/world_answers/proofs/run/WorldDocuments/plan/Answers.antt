@@ -2,8 +2,8 @@ use Rattle.std.proofs.Common.{◌≡◌, subst, string_bytes}
 use Rattle.serde_json.specs.View.{view}
 use Rattle.gq_check.specs.Plans.{plan_of}
 use Rattle.request_line.specs.Seen.{request_of}
-use Rattle.world_answers.specs.Answers.{AnswersRequest, IsPlanned, values_of}
-use Rattle.world_answers.proofs.Requests.{null-view, values-are, is-planned, faulty-text}
+use Rattle.world_answers.specs.Answers.{IsPlanned, IsRefusal, values_of}
+use Rattle.world_answers.proofs.Requests.{null-view, values-are, is-planned, is-refusal}
 use Rattle.world_answers.proofs.run.WorldDocuments.plan.Goals as goal
 
 pub returns-in-Ok : goal.returns-in-Ok
@@ -18,5 +18,5 @@ returns-in-Ok-refusal g c =
     let r = request_of c.args.request.now in
     let values : view c.unwrap_or-values.result.now ≡ values_of r.variables = values-are c.args.request.now.variables _ c.unwrap_or-values.result c.unwrap_or-values.ensures null-view in
     let text = string_bytes c.in-Ok-refusal.text in
-    subst (λ w. AnswersRequest w r text) c.self.invariant
-    (faulty-text c.self.inside.kept.world r c.in-Err.fault (view c.unwrap_or-values.result.now) text values c.in-Err.ensures.err c.in-Ok-refusal.ensures.0 c.in-Ok-refusal.ensures.1)
+    subst (λ w. IsRefusal w r text) c.self.invariant
+    (is-refusal c.self.inside.kept.world r c.in-Err.fault (view c.unwrap_or-values.result.now) text values c.in-Err.ensures.err c.in-Ok-refusal.ensures.0 c.in-Ok-refusal.ensures.1)

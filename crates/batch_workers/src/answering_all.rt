@@ -1,0 +1,116 @@
+//! Answers to several plans with workers: round after round that the plans share, each by workers over a shelf of its own.
+ghost use Rattle.std.specs.Prelude.{◌≡◌, ◌<◌, ◌≤◌, ◌↔◌, All, length, IfOk, OnOk, OnErr, IsErrOf};
+ghost use Rattle.gq_check.specs.Plans.{plan_of};
+ghost use Rattle.load_rounds.specs.Sessions.{state_of, memory_of};
+ghost use Rattle.load_rounds.specs.Headline.{StopsAnswering};
+ghost use Rattle.load_rounds.specs.Runs.{orders_in};
+ghost use Rattle.load_rounds.specs.SharedRounds.{requests, joint, together, AreAnswers};
+ghost use Rattle.load_rounds.specs.PlanRequests.{plan_requests};
+ghost use Rattle.load_rounds.specs.SharedRuns.{FitsRun, FitsLater, GoesOnFrom};
+ghost use Rattle.batch_workers.specs.Workers.{IsBadCount, LosesShared};
+
+use crate::fault::WorkFault;
+use gq_check::Plan;
+use load_memory::{NoMemory, Shelf};
+use load_queue::{Order, Source};
+use load_rounds::{Answer, Execute, NextAll, RunAll, Session, Stage};
+use round_workers::round::MOST_WORKERS;
+use round_workers::run_round;
+use std::sync::Wait;
+use std::thread::Threads;
+
+/// Answers several plans as [`Session::answer_all`] does, where the session has the plans' loaders; the batches of each round are run
+/// by this many workers at the same time, 1 to 16. The calling thread is one of them, and a round of one batch starts no thread. All
+/// workers have ended when it returns.
+///
+/// # Errors
+///
+/// [`BadCount`](WorkFault::BadCount) exactly if the number of workers isn't 1 to 16: nothing was asked then, and the session is
+/// as it was, failed batches too. [`NoMemory`](WorkFault::NoMemory) when out of memory: the finished rounds stay, and a round
+/// that was out is lost.
+pub fn answer_all_with<S: Source, R: Threads + Wait + Sync>(
+    rt: &R,
+    session: &mut Session<S>,
+    plans: &[Plan<'_>],
+    workers: usize,
+) -> Result<Vec<Answer>, WorkFault>
+    requires loaders { All (λ plan. length (plan_of plan).bindings.loaders ≤ length session.old.loaders) plans.now }
+    ensures bad_count { IsErrOf result WorkFault.BadCount ↔ IsBadCount workers }
+    ensures refused { IsErrOf result WorkFault.BadCount → session.new ≡ session.old }
+    ensures answers { IfOk result (AreAnswers S.may_answer (state_of session.old) (state_of session.new) (plan_requests plans.now)) }
+    ensures stopped { IsErrOf result WorkFault.NoMemory
+        → StopsAnswering S.may_answer (state_of session.old) (state_of session.new) (together (plan_requests plans.now)) }
+{
+    execute_all_with(rt, session, plans, workers)
+}
+
+/// Does what [`answer_all_with`] does, for whatever can be executed.
+///
+/// # Errors
+///
+/// As `answer_all_with`.
+pub fn execute_all_with<'p, S: Source, P: Execute<'p>, R: Threads + Wait + Sync>(
+    rt: &R,
+    session: &mut Session<S>,
+    plans: &'p [P],
+    workers: usize,
+) -> Result<Vec<Answer>, WorkFault>
+    requires loaders { All (λ plan. P.loaders plan ≤ length session.old.loaders) plans.now }
+    ensures bad_count { IsErrOf result WorkFault.BadCount ↔ IsBadCount workers }
+    ensures refused { IsErrOf result WorkFault.BadCount → session.new ≡ session.old }
+    ensures answers { IfOk result (AreAnswers S.may_answer (state_of session.old) (state_of session.new) (requests P.program P.text_of plans.now)) }
+    ensures stopped { IsErrOf result WorkFault.NoMemory
+        → StopsAnswering S.may_answer (state_of session.old) (state_of session.new) (joint P.program P.text_of plans.now) }
+{
+    if workers == 0 || workers > MOST_WORKERS {
+        return Err(WorkFault::BadCount);
+    }
+    match answered(rt, session, plans, workers) {
+        Ok(answers) => Ok(answers),
+        Err(_) => Err(WorkFault::NoMemory),
+    }
+}
+
+// Makes round after round until nothing is missing for any plan.
+fn answered<'p, S: Source, P: Execute<'p>, R: Threads + Wait + Sync>(
+    rt: &R,
+    session: &mut Session<S>,
+    plans: &'p [P],
+    workers: usize,
+) -> Result<Vec<Answer>, NoMemory>
+    requires count { (0 < workers) × (workers ≤ 16) }
+    requires loaders { All (λ plan. P.loaders plan ≤ length session.old.loaders) plans.now }
+    ensures answers { IfOk result (AreAnswers S.may_answer (state_of session.old) (state_of session.new) (requests P.program P.text_of plans.now)) }
+    ensures stopped { OnErr result (StopsAnswering S.may_answer (state_of session.old) (state_of session.new) (joint P.program P.text_of plans.now)) }
+{
+    let mut run = session.begin_all(plans)?;
+    loop {
+        match run.next_round(session)? {
+            NextAll::Finished(answers) => return Ok(answers),
+            NextAll::Round(orders) => make_round(rt, session, &mut run, orders, workers)?,
+        }
+    }
+}
+
+// Runs the orders of the round that is out, and stores their replies.
+fn make_round<'p, S: Source, E: Drop, P: Execute<'p, Progress = E>, R: Threads + Wait + Sync>(
+    rt: &R,
+    session: &mut Session<S>,
+    run: &mut RunAll<'p, P, E>,
+    orders: Vec<Order>,
+    workers: usize,
+) -> Result<(), NoMemory>
+    requires count { (0 < workers) × (workers ≤ 16) }
+    requires out { run.old.stage ≡ Stage.Out }
+    requires orders { orders.items ≡ orders_in (state_of session.old) (joint P.program P.text_of run.old.plans) }
+    requires fits { FitsLater P.program P.text_of P.loaders P.fits run.old (memory_of session.old) }
+    ensures ready { OnOk result (run.new ≡ record run.old { stage = Stage.Ready }) }
+    ensures made { OnOk result (GoesOnFrom P.program P.text_of S.may_answer (state_of session.old) (state_of session.new) run.old run.new) }
+    ensures fits { OnOk result (FitsRun P.program P.text_of P.loaders P.fits run.new (memory_of session.new)) }
+    ensures lost { OnErr result (LosesShared P.program P.text_of S.may_answer (state_of session.old) (state_of session.new) run.old) }
+{
+    let alloc = *orders.allocator();
+    let shelf = Shelf::new(alloc)?;
+    let receipts = run_round(rt, alloc, session.loaders(), &shelf, orders, workers)?;
+    run.take(session, &shelf, receipts.as_slice())
+}

@@ -1,0 +1,305 @@
+-- Executions that go on one after another over one memory.
+use Rattle.std.proofs.Common.{◌≡◌, ◌≢◌, ◌||◌, ℕ, zero, suc, ◌<◌, ◌≤◌, Bool, true, false, List, [], ◌∷◌, ◌++◌, map, take, length, get_or, Option, Some, None, is_none, is_some, refl, ap, subst, ◌∙◌, sym, arith, inl, inr, append_assoc}
+use Rattle.std.proofs.lemmas.List.Elements.{All-head, All-tail}
+use Rattle.std.specs.List.{list_any}
+use Rattle.std.proofs.lemmas.List.{length-map}
+use Rattle.std.specs.Prelude.{All, slice_set, option_map}
+use Rattle.load_memory.specs.Pairs.{MemoryOf, look}
+use Rattle.load_memory.specs.declared.key.KeyMode.{KeyMode}
+use Rattle.load_queue.specs.Wanted.{WantedOf, nothing_wanted, with_wanted}
+use Rattle.execution.specs.Loads.{Load, Reader, Memory, read}
+use Rattle.execution.specs.Program.{ListOf, Program, Under, tree, trees, needs, all_needs}
+use Rattle.execution.specs.Completion.{is_open, any_open, AnsweredOf}
+use Rattle.execution.specs.Front.{front, missing, firsts, wanting, modes_wanted}
+use Rattle.execution.specs.Rounds.{HasLoaders, IsBelow}
+use Rattle.execution.proofs.Monotone.{front-open, front-stays, exec-stays}
+use Rattle.execution.proofs.Same.{one-either, reads-more}
+use Rattle.execution.proofs.SharedLaws.{below-front}
+use Rattle.execution.proofs.Wanting.{wanting-firsts, with-modes}
+use Rattle.gq_resolve.specs.Evaluated.{GrowsTo}
+use Rattle.load_rounds.specs.Sessions.{StateOf, session_modes}
+use Rattle.load_rounds.specs.Headline.{IsTextOf}
+use Rattle.load_rounds.specs.SharedRounds.{RequestOf, ToldOf, request_of, told_of, requests, needs_of_all, front_of_all, items_from, together}
+use Rattle.load_rounds.specs.Together.{PartOf, IsDone, TellsAt, FindsAll, fronts, plans_in, told_in, given_to, some_untold, FitsPart, FitParts, GoesOn, GoOn}
+use Rattle.load_rounds.specs.declared.answer.Answer.{Answer}
+use Rattle.load_rounds.proofs.Following.{nothing-modes, rules-size, wants-are}
+use Rattle.load_rounds.proofs.Lacking.{missing-append, wanting-append, length-wanting}
+
+-- several programs as one
+all-needs-of : (n : ℕ) (rs : List RequestOf) (R : Reader) → all_needs (items_from n rs) R ≡ needs_of_all (map (λ r. r.program) rs) R
+all-needs-of n [] R = refl
+all-needs-of n (r ∷ rs) R = ap (λ ls. needs r.program R ++ ls) (all-needs-of (suc n) rs R)
+
+pub together-front : (modes : List KeyMode) (rs : List RequestOf) (M : Memory) → front modes (together rs) M ≡ front_of_all modes (map (λ r. r.program) rs) M
+together-front modes rs M = ap (λ ls. firsts modes (missing (read modes M) ls)) (all-needs-of 0 rs (read modes M))
+
+pub wanting-modes : (ws : List WantedOf) (ls : List Load) → modes_wanted (wanting ws ls) ≡ modes_wanted ws
+wanting-modes ws [] = refl
+wanting-modes ws (l ∷ ls) = wanting-modes (with_wanted ws l.loader l.key) ls ∙ with-modes ws l.loader l.key
+
+-- to add the fronts one after another is to add the front of all
+wanting-fronts : {P : Type 0} (program : P → Program) (text_of : P → AnsweredOf → List ℕ) (n : ℕ) (m : MemoryOf) (ws : List WantedOf) (plans : List P) → modes_wanted ws ≡ m.modes
+    → wanting ws (fronts program m plans) ≡ wanting ws (missing (read m.modes (look m.pairs)) (all_needs (items_from n (requests program text_of plans)) (read m.modes (look m.pairs))))
+wanting-fronts program text_of n m ws [] same = refl
+wanting-fronts program text_of n m ws (p ∷ ps) same =
+    let R : Reader = read m.modes (look m.pairs) in
+    let own : List Load = missing R (needs (program p) R) in
+    let rest : List Load = all_needs (items_from (suc n) (requests program text_of ps)) R in
+    wanting-append ws (firsts m.modes own) (fronts program m ps)
+    ∙ ap (λ vs. wanting vs (fronts program m ps)) (wanting-firsts m.modes ws own same)
+    ∙ wanting-fronts program text_of (suc n) m (wanting ws own) ps (wanting-modes ws own ∙ same)
+    ∙ sym (wanting-append ws own (missing R rest))
+    ∙ ap (wanting ws) (sym (missing-append R (needs (program p) R) rest))
+
+pub wanting-all : {P : Type 0} (program : P → Program) (text_of : P → AnsweredOf → List ℕ) (m : MemoryOf) (ws : List WantedOf) (plans : List P) → modes_wanted ws ≡ m.modes
+    → wanting ws (fronts program m plans) ≡ wanting ws (front m.modes (together (requests program text_of plans)) (look m.pairs))
+wanting-all program text_of m ws plans same =
+    wanting-fronts program text_of 0 m ws plans same
+    ∙ sym (wanting-firsts m.modes ws (missing (read m.modes (look m.pairs)) (all_needs (items_from 0 (requests program text_of plans)) (read m.modes (look m.pairs)))) same)
+
+pub or-left : (a b : Bool) → (a || b) ≡ false → (a ≡ false) × (b ≡ false)
+or-left true b h = absurd (cc h)
+or-left false b h = (refl, h)
+
+module _ {P E : Type 0} (program : P → Program) (text_of : P → AnsweredOf → List ℕ) (loaders : P → ℕ) (fits : P → E → MemoryOf → Type 0) where
+  -- the first so many have gone on
+  abbrev pub FirstGoOn : ℕ → ℕ → MemoryOf → List (PartOf P E) → List (PartOf P E) → Type 0
+  FirstGoOn n rounds m [] [] = Unit {0}
+  FirstGoOn n rounds m [] (y ∷ ys) = ⊥
+  FirstGoOn n rounds m (x ∷ xs) [] = ⊥
+  FirstGoOn zero rounds m (x ∷ xs) (y ∷ ys) = (x ≡ y) × FirstGoOn zero rounds m xs ys
+  FirstGoOn (suc n) rounds m (x ∷ xs) (y ∷ ys) = GoesOn program text_of loaders fits rounds m x y × FirstGoOn n rounds m xs ys
+
+  pub none-go-on : (rounds : ℕ) (m : MemoryOf) (xs : List (PartOf P E)) → FirstGoOn 0 rounds m xs xs
+  none-go-on rounds m [] = tt
+  none-go-on rounds m (x ∷ xs) = (refl, none-go-on rounds m xs)
+
+  pub all-go-on : (n rounds : ℕ) (m : MemoryOf) (xs ys : List (PartOf P E)) → length ys ≤ n → FirstGoOn n rounds m xs ys → GoOn program text_of loaders fits rounds m xs ys
+  all-go-on n rounds m [] [] le h = tt
+  all-go-on n rounds m [] (y ∷ ys) le h = absurd h
+  all-go-on n rounds m (x ∷ xs) [] le h = absurd h
+  all-go-on zero rounds m (x ∷ xs) (y ∷ ys) le h = absurd (omega (arith, le))
+  all-go-on (suc n) rounds m (x ∷ xs) (y ∷ ys) le h = (h.0, all-go-on n rounds m xs ys (omega (arith, le)) h.1)
+
+  pub go-on-length : (n rounds : ℕ) (m : MemoryOf) (xs ys : List (PartOf P E)) → FirstGoOn n rounds m xs ys → length ys ≡ length xs
+  go-on-length n rounds m [] [] h = refl
+  go-on-length n rounds m [] (y ∷ ys) h = absurd h
+  go-on-length n rounds m (x ∷ xs) [] h = absurd h
+  go-on-length zero rounds m (x ∷ xs) (y ∷ ys) h = ap suc (go-on-length zero rounds m xs ys h.1)
+  go-on-length (suc n) rounds m (x ∷ xs) (y ∷ ys) h = ap suc (go-on-length n rounds m xs ys h.1)
+
+  -- the next of them is as it was
+  pub next-fits : (n rounds : ℕ) (m : MemoryOf) (xs ys : List (PartOf P E)) (d : PartOf P E) → n < length ys → d ≡ get_or ys n d → FirstGoOn n rounds m xs ys → FitParts program text_of loaders fits xs m → FitsPart program text_of loaders fits d.plan d.progress d.told m
+  next-fits n rounds m [] [] d lt at h fit = absurd (omega (arith, lt))
+  next-fits n rounds m [] (y ∷ ys) d lt at h fit = absurd h
+  next-fits n rounds m (x ∷ xs) [] d lt at h fit = absurd h
+  next-fits zero rounds m (x ∷ xs) (y ∷ ys) d lt at h fit = subst (λ (z : PartOf P E). FitsPart program text_of loaders fits z.plan z.progress z.told m) (h.0 ∙ sym at) fit.0
+  next-fits (suc n) rounds m (x ∷ xs) (y ∷ ys) d lt at h fit = next-fits n rounds m xs ys d (omega (arith, lt)) at h.1 fit.1
+
+  pub next-enough : (n rounds count : ℕ) (m : MemoryOf) (xs ys : List (PartOf P E)) (d : PartOf P E) → n < length ys → d ≡ get_or ys n d → FirstGoOn n rounds m xs ys → All (λ plan. loaders plan ≤ count) (plans_in xs) → loaders d.plan ≤ count
+  next-enough n rounds count m [] [] d lt at h all = absurd (omega (arith, lt))
+  next-enough n rounds count m [] (y ∷ ys) d lt at h all = absurd h
+  next-enough n rounds count m (x ∷ xs) [] d lt at h all = absurd h
+  next-enough zero rounds count m (x ∷ xs) (y ∷ ys) d lt at h all = subst (λ (z : PartOf P E). loaders z.plan ≤ count) (h.0 ∙ sym at) (All-head (λ plan. loaders plan ≤ count) x.plan (plans_in xs) all)
+  next-enough (suc n) rounds count m (x ∷ xs) (y ∷ ys) d lt at h all = next-enough n rounds count m xs ys d (omega (arith, lt)) at h.1 (All-tail (λ plan. loaders plan ≤ count) x.plan (plans_in xs) all)
+
+  -- one more
+  pub one-goes-on : (n next rounds : ℕ) (m : MemoryOf) (xs ys : List (PartOf P E)) (d y : PartOf P E) → next ≡ suc n → n < length ys → d ≡ get_or ys n d → FirstGoOn n rounds m xs ys → GoesOn program text_of loaders fits rounds m d y → FirstGoOn next rounds m xs (slice_set ys n y)
+  one-goes-on n next rounds m [] [] d y is lt at h goes = absurd (omega (arith, lt))
+  one-goes-on n next rounds m [] (z ∷ ys) d y is lt at h goes = absurd h
+  one-goes-on n next rounds m (x ∷ xs) [] d y is lt at h goes = absurd h
+  one-goes-on zero next rounds m (x ∷ xs) (z ∷ ys) d y is lt at h goes = rw is (subst (λ (w : PartOf P E). GoesOn program text_of loaders fits rounds m w y) (at ∙ sym h.0) goes, h.1)
+  one-goes-on (suc n) next rounds m (x ∷ xs) (z ∷ ys) d y is lt at h goes = rw is (h.0, one-goes-on n (suc n) rounds m xs ys d y refl (omega (arith, lt)) at h.1 goes)
+
+  -- what is missing for one more
+  pub one-front : (n next rounds : ℕ) (m : MemoryOf) (xs ys : List (PartOf P E)) (d : PartOf P E) → next ≡ suc n → n < length ys → d ≡ get_or ys n d → FirstGoOn n rounds m xs ys
+      → fronts program m (take next (plans_in xs)) ≡ fronts program m (take n (plans_in xs)) ++ front m.modes (program d.plan) (look m.pairs)
+  one-front n next rounds m [] [] d is lt at h = absurd (omega (arith, lt))
+  one-front n next rounds m [] (z ∷ ys) d is lt at h = absurd h
+  one-front n next rounds m (x ∷ xs) [] d is lt at h = absurd h
+  one-front zero next rounds m (x ∷ xs) (z ∷ ys) d is lt at h =
+      let same : x ≡ d = h.0 ∙ sym at in
+      rw is (append-none (front m.modes (program x.plan) (look m.pairs)) ∙ ap (λ (w : PartOf P E). front m.modes (program w.plan) (look m.pairs)) same)
+    where
+      append-none : (ls : List Load) → ls ++ [] ≡ ls
+      append-none [] = refl
+      append-none (l ∷ ls) = ap (λ ms. l ∷ ms) (append-none ls)
+  one-front (suc n) next rounds m (x ∷ xs) (z ∷ ys) d is lt at h =
+      let own : List Load = front m.modes (program x.plan) (look m.pairs) in
+      rw is (ap (λ ls. own ++ ls) (one-front n (suc n) rounds m xs ys d refl (omega (arith, lt)) at h.1) ∙ sym (append_assoc own (fronts program m (take n (plans_in xs))) (front m.modes (program d.plan) (look m.pairs))))
+
+  pub take-whole : (n rounds : ℕ) (m : MemoryOf) (xs ys : List (PartOf P E)) → length ys ≤ n → FirstGoOn n rounds m xs ys → take n (plans_in xs) ≡ plans_in xs
+  take-whole zero rounds m [] [] le h = refl
+  take-whole (suc n) rounds m [] [] le h = refl
+  take-whole n rounds m [] (y ∷ ys) le h = absurd h
+  take-whole n rounds m (x ∷ xs) [] le h = absurd h
+  take-whole zero rounds m (x ∷ xs) (y ∷ ys) le h = absurd (omega (arith, le))
+  take-whole (suc n) rounds m (x ∷ xs) (y ∷ ys) le h = ap (λ ps. x.plan ∷ ps) (take-whole n rounds m xs ys (omega (arith, le)) h.1)
+
+  -- then they fit what is known later
+  pub gone-fit : (rounds : ℕ) (m later : MemoryOf) (xs ys : List (PartOf P E)) → GoOn program text_of loaders fits rounds m xs ys → GrowsTo m later → FitParts program text_of loaders fits ys later
+  gone-fit rounds m later [] [] h grown = tt
+  gone-fit rounds m later [] (y ∷ ys) h grown = absurd h
+  gone-fit rounds m later (x ∷ xs) [] h grown = absurd h
+  gone-fit rounds m later (x ∷ xs) (y ∷ ys) h grown = (h.0.fitting later grown, gone-fit rounds m later xs ys h.1 grown)
+
+  pub gone-plans : (rounds : ℕ) (m : MemoryOf) (xs ys : List (PartOf P E)) → GoOn program text_of loaders fits rounds m xs ys → plans_in ys ≡ plans_in xs
+  gone-plans rounds m [] [] h = refl
+  gone-plans rounds m [] (y ∷ ys) h = absurd h
+  gone-plans rounds m (x ∷ xs) [] h = absurd h
+  gone-plans rounds m (x ∷ xs) (y ∷ ys) h = rw (h.0.same, gone-plans rounds m xs ys h.1) refl
+
+  -- each needs loaders below a number
+  pub gone-within : (n rounds count : ℕ) (m : MemoryOf) (xs ys : List (PartOf P E)) → GoOn program text_of loaders fits rounds m xs ys → All (λ plan. loaders plan ≤ count) (plans_in xs) → HasLoaders count (Under ListOf (items_from n (requests program text_of (plans_in xs))))
+  gone-within n rounds count m [] [] h all R load one = absurd one
+  gone-within n rounds count m [] (y ∷ ys) h all R load one = absurd h
+  gone-within n rounds count m (x ∷ xs) [] h all R load one = absurd h
+  gone-within n rounds count m (x ∷ xs) (y ∷ ys) h all R load one =
+      elim (one-either load (needs (program x.plan) R) (all_needs (items_from (suc n) (requests program text_of (plans_in xs))) R) one) [
+        | inl own ↦
+            let enough = All-head (λ plan. loaders plan ≤ count) x.plan (plans_in xs) all in
+            let within : HasLoaders (loaders x.plan) (program x.plan) = subst (λ plan. HasLoaders (loaders plan) (program plan)) h.0.same h.0.within in
+            let below = within R load own in
+            omega (arith, below, enough)
+        | inr other ↦ gone-within (suc n) rounds count m xs ys h.1 (All-tail (λ plan. loaders plan ≤ count) x.plan (plans_in xs) all) R load other
+      ]
+
+  -- where each has its answer, nothing is missing
+  told-none : (rounds : ℕ) (loads : List Load) (old new : Option ToldOf) → TellsAt rounds loads old new → is_none new ≡ false → loads ≡ []
+  told-none rounds loads old None h e = absurd (cc e)
+  told-none rounds loads old (Some t) h e = h.0
+
+  told-some : (rounds : ℕ) (loads : List Load) (old new : Option ToldOf) → TellsAt rounds loads old new → is_none new ≡ true → loads ≢ []
+  told-some rounds loads old None h e = h.0
+  told-some rounds loads old (Some t) h e = absurd (cc e)
+
+  gone-closed : (n rounds : ℕ) (m : MemoryOf) (xs ys : List (PartOf P E)) → GoOn program text_of loaders fits rounds m xs ys → some_untold ys ≡ false → any_open (trees (items_from n (requests program text_of (plans_in xs))) (read m.modes (look m.pairs))) ≡ false
+  gone-closed n rounds m [] [] h e = refl
+  gone-closed n rounds m [] (y ∷ ys) h e = absurd h
+  gone-closed n rounds m (x ∷ xs) [] h e = absurd h
+  gone-closed n rounds m (x ∷ xs) (y ∷ ys) h e =
+      let parts = or-left (is_none y.told) (some_untold ys) e in
+      let own : is_open (tree (program x.plan) (read m.modes (look m.pairs))) ≡ false = (front-open m.modes (program x.plan) (look m.pairs)).0 (told-none rounds (front m.modes (program x.plan) (look m.pairs)) x.told y.told h.0.told parts.0) in
+      rw (own, gone-closed (suc n) rounds m xs ys h.1 parts.1) refl
+
+  pub gone-lacks-none : (rounds : ℕ) (m : MemoryOf) (xs ys : List (PartOf P E)) → GoOn program text_of loaders fits rounds m xs ys → some_untold ys ≡ false → front m.modes (together (requests program text_of (plans_in xs))) (look m.pairs) ≡ []
+  gone-lacks-none rounds m xs ys h e = (front-open m.modes (together (requests program text_of (plans_in xs))) (look m.pairs)).1 (gone-closed 0 rounds m xs ys h e)
+
+  -- where one has no answer, something is missing for it
+  pub front-below : (n rounds : ℕ) (m : MemoryOf) (xs ys : List (PartOf P E)) → GoOn program text_of loaders fits rounds m xs ys → some_untold ys ≡ true
+      → (p : Program) × IsBelow p (items_from n (requests program text_of (plans_in xs))) × (front m.modes p (look m.pairs) ≢ [])
+  front-below n rounds m [] [] h e = absurd (cc e)
+  front-below n rounds m [] (y ∷ ys) h e = absurd h
+  front-below n rounds m (x ∷ xs) [] h e = absurd h
+  front-below n rounds m (x ∷ xs) (y ∷ ys) h e = go (is_none y.told) refl e (front-below (suc n) rounds m xs ys h.1)
+    where
+      go : (b : Bool) → is_none y.told ≡ b → (b || some_untold ys) ≡ true → (some_untold ys ≡ true → (p : Program) × IsBelow p (items_from (suc n) (requests program text_of (plans_in xs))) × (front m.modes p (look m.pairs) ≢ []))
+          → (p : Program) × IsBelow p (items_from n (requests program text_of (plans_in (x ∷ xs)))) × (front m.modes p (look m.pairs) ≢ [])
+      go true is e later = (program x.plan, inl refl, told-some rounds (front m.modes (program x.plan) (look m.pairs)) x.told y.told h.0.told is)
+      go false is e later = let rest = later e in (rest.0, inr rest.1, rest.2)
+
+  pub gone-lacks : (rounds : ℕ) (m : MemoryOf) (xs ys : List (PartOf P E)) → GoOn program text_of loaders fits rounds m xs ys → some_untold ys ≡ true → front m.modes (together (requests program text_of (plans_in xs))) (look m.pairs) ≢ []
+  gone-lacks rounds m xs ys h e =
+      let one = front-below 0 rounds m xs ys h e in
+      λ none. one.2 (below-front m.modes ListOf (items_from 0 (requests program text_of (plans_in xs))) one.0 (look m.pairs) one.1 none)
+
+-- what was known stays known
+done-later : (loaders : ℕ) (r : RequestOf) (m later : MemoryOf) (told : ToldOf) → IsDone loaders r m told → GrowsTo m later → IsDone loaders r later told
+done-later loaders r m later told done grown =
+    let more = reads-more m.modes (look m.pairs) (look later.pairs) grown.pairs in
+    let closed = (front-open m.modes r.program (look m.pairs)).0 done.complete in
+    record {
+      complete = rw grown.modes (front-stays m.modes r.program (look m.pairs) (look later.pairs) grown.pairs done.complete);
+      answered = record {
+        answered = done.answered.answered;
+        executed = rw grown.modes (exec-stays r.program (read m.modes (look m.pairs)) (read m.modes (look later.pairs)) more closed ∙ done.answered.executed);
+        told = done.answered.told;
+      };
+      within = done.within;
+    }
+
+pub told-is : (o : Option Answer) (b : Bool) → b ≡ is_some o → b ≡ true → is_some (option_map told_of o) ≡ true
+told-is None b e t = sym e ∙ t
+told-is (Some a) b e t = refl
+
+pub untold-is : (o : Option Answer) (b : Bool) → b ≡ is_some o → b ≡ false → option_map told_of o ≡ None
+untold-is None b e f = refl
+untold-is (Some a) b e f = absurd (cc (sym e ∙ f))
+
+module _ {P E : Type 0} (program : P → Program) (text_of : P → AnsweredOf → List ℕ) (loaders : P → ℕ) (fits : P → E → MemoryOf → Type 0) (rounds : ℕ) (m : MemoryOf) (plan : P) where
+  -- an answer stays
+  pub part-kept : (progress : E) (told : Option ToldOf) → is_some told ≡ true → FitsPart program text_of loaders fits plan progress told m
+      → GoesOn program text_of loaders fits rounds m (record { plan = plan; progress = progress; told = told }) (record { plan = plan; progress = progress; told = told })
+  part-kept progress None there fit = absurd (cc there)
+  part-kept progress (Some told) there fit = record {
+    same = refl;
+    told = (fit.complete, inl refl);
+    fitting = λ later grown. done-later (loaders plan) (request_of (program plan) (text_of plan)) m later told fit grown;
+    within = fit.within;
+  }
+
+  pub part-front : (progress : E) (told : Option ToldOf) → is_some told ≡ true → FitsPart program text_of loaders fits plan progress told m → front m.modes (program plan) (look m.pairs) ≡ []
+  part-front progress None there fit = absurd (cc there)
+  part-front progress (Some told) there fit = fit.complete
+
+  -- nothing is missing for it any more
+  pub part-ready : (before progress : E) (old : Option ToldOf) (told : ToldOf) → old ≡ None → told.rounds ≡ rounds → front m.modes (program plan) (look m.pairs) ≡ [] → IsTextOf (text_of plan) (program plan) (read m.modes (look m.pairs)) told.text → HasLoaders (loaders plan) (program plan)
+      → GoesOn program text_of loaders fits rounds m (record { plan = plan; progress = before; told = old }) (record { plan = plan; progress = progress; told = Some told })
+  part-ready before progress old told none counted complete answered within = record {
+    same = refl;
+    told = (complete, inr (none, counted));
+    fitting = λ later grown. done-later (loaders plan) (request_of (program plan) (text_of plan)) m later told (record { complete = complete; answered = answered; within = within }) grown;
+    within = within;
+  }
+
+  -- something is missing for it
+  pub part-waits : (before progress : E) (old : Option ToldOf) → old ≡ None → front m.modes (program plan) (look m.pairs) ≢ [] → ((later : MemoryOf) → GrowsTo m later → fits plan progress later) → HasLoaders (loaders plan) (program plan)
+      → GoesOn program text_of loaders fits rounds m (record { plan = plan; progress = before; told = old }) (record { plan = plan; progress = progress; told = old })
+  part-waits before progress old none lacks fitting within = rw none (record { same = refl; told = (lacks, refl); fitting = fitting; within = within })
+
+  pub part-fits : (progress : E) (told : Option ToldOf) → told ≡ None → FitsPart program text_of loaders fits plan progress told m → fits plan progress m
+  part-fits progress None none fit = fit
+  part-fits progress (Some told) none fit = absurd (cc none)
+
+-- the wants of all are those of the front
+pub found-wants : {S P : Type 0} (program : P → Program) (text_of : P → AnsweredOf → List ℕ) (m : MemoryOf) (s : StateOf S) (plans : List P) (none wants : List WantedOf) → m.modes ≡ session_modes s → look m.pairs ≡ s.memory → none ≡ map nothing_wanted m.modes
+    → wants ≡ wanting none (fronts program m plans) → front m.modes (together (requests program text_of plans)) (look m.pairs) ≢ [] → FindsAll (together (requests program text_of plans)) s (Some wants)
+found-wants program text_of m s plans none wants modes pairs nothing are lacks =
+    let p : Program = together (requests program text_of plans) in
+    let same : front m.modes p (look m.pairs) ≡ front (session_modes s) p s.memory = ap (λ ms. front ms p (look m.pairs)) modes ∙ ap (λ (M : Memory). front (session_modes s) p M) pairs in
+    let loads : List Load = front (session_modes s) p s.memory in
+    let start : none ≡ map nothing_wanted (session_modes s) = nothing ∙ ap (λ ms. map nothing_wanted ms) modes in
+    let all : wants ≡ wanting (map nothing_wanted (session_modes s)) loads =
+    are ∙ wanting-all program text_of m none plans (ap modes_wanted nothing ∙ nothing-modes m.modes) ∙ ap (wanting none) same ∙ ap (λ ws. wanting ws loads) start in (
+      λ e. lacks (same ∙ e),
+      ap length all ∙ length-wanting (map nothing_wanted (session_modes s)) loads ∙ length-map (session_modes s) nothing_wanted ∙ rules-size s,
+      wants-are (session_modes s) p s.memory wants all,
+    )
+
+pub found-none : {S : Type 0} (p : Program) (s : StateOf S) (wants : Option (List WantedOf)) → ((w : List WantedOf) → wants ≡ Some w → ⊥) → FindsAll p s wants → front (session_modes s) p s.memory ≡ []
+found-none p s None other found = found
+found-none p s (Some w) other found = absurd (other w refl)
+
+-- one more has begun, of which nothing is done
+pub fit-more : {P E : Type 0} (program : P → Program) (text_of : P → AnsweredOf → List ℕ) (loaders : P → ℕ) (fits : P → E → MemoryOf → Type 0) (m : MemoryOf) (xs : List (PartOf P E)) (plan : P) (progress : E) → FitParts program text_of loaders fits xs m → fits plan progress m
+    → FitParts program text_of loaders fits (xs ++ record { plan = plan; progress = progress; told = None } ∷ []) m
+fit-more program text_of loaders fits m [] plan progress fit own = (own, tt)
+fit-more program text_of loaders fits m (x ∷ xs) plan progress fit own = (fit.0, fit-more program text_of loaders fits m xs plan progress fit.1 own)
+
+pub untold-begun : {P E : Type 0} (xs : List (PartOf P E)) (plan : P) (progress : E) → told_in (xs ++ record { plan = plan; progress = progress; told = None } ∷ []) ≡ told_in xs
+untold-begun [] plan progress = refl
+untold-begun (x ∷ xs) plan progress = ap (λ ts. given_to x.told ++ ts) (untold-begun xs plan progress)
+
+-- whether one of the first so many has no answer
+pub untold-more : {X : Type 0} (f : X → Bool) (n next : ℕ) (xs : List X) (y : X) (b : Bool) → next ≡ suc n → n < length xs → b ≡ list_any f (take n xs) → (b || f y) ≡ list_any f (take next (slice_set xs n y))
+untold-more f n next [] y b is lt e = absurd (omega (arith, lt))
+untold-more f zero next (x ∷ xs) y b is lt e = rw (is, e) (or-none (f y))
+  where
+    or-none : (c : Bool) → c ≡ (c || false)
+    or-none true = refl
+    or-none false = refl
+untold-more f (suc n) next (x ∷ xs) y b is lt e = rw (is, e) (or-assoc (f x) (list_any f (take n xs)) (f y) ∙ ap (λ c. f x || c) (untold-more f n (suc n) xs y (list_any f (take n xs)) refl (omega (arith, lt)) refl))
+  where
+    or-assoc : (a c d : Bool) → ((a || c) || d) ≡ (a || (c || d))
+    or-assoc true c d = refl
+    or-assoc false c d = refl

@@ -1,0 +1,214 @@
+-- What shared rounds are to each of the requests: its own rounds, and its answer over the last memory.
+use Rattle.std.proofs.Common.{◌≡◌, ◌≢◌, ℕ, zero, suc, ◌+◌, ◌≤◌, Bool, true, false, ◌⊎◌, List, [], ◌∷◌, ◌++◌, length, Option, Some, None, is_none, refl, ap, subst, ◌∙◌, sym, arith, inl, inr, length-append}
+use Rattle.std.proofs.Math.Path.{fun_ext}
+use Rattle.std.proofs.lemmas.List.{length-map}
+use Rattle.load_memory.specs.Keys.{KeyOf}
+use Rattle.load_memory.specs.Pairs.{MemoryOf, look}
+use Rattle.load_memory.specs.Replies.{ReplyOf}
+use Rattle.load_queue.specs.Answers.{AnswerOf}
+use Rattle.execution.specs.Loads.{Load, Memory}
+use Rattle.execution.specs.Program.{ListOf, Program}
+use Rattle.execution.specs.Completion.{AnsweredOf}
+use Rattle.execution.specs.Front.{front}
+use Rattle.execution.specs.Rounds.{RuleOf, rule_of, modes_of, may_at, AreRounds, AreLimited, HasLoaders, IsBelow, after_round, one_unless_empty, own_rounds, without_failed}
+use Rattle.execution.specs.Sessions.{Forgot}
+use Rattle.execution.proofs.FewestLaws.{all-rounds}
+use Rattle.execution.proofs.OnceLaws.{asked-once, answered-in}
+use Rattle.execution.proofs.SharedLaws.{own-chain, own-sparing}
+use Rattle.load_rounds.specs.Sessions.{SessionOf, StateOf, state_of, rules_of, session_modes, memory_of, after_step}
+use Rattle.load_rounds.specs.Calls.{RoundRan}
+use Rattle.load_rounds.specs.SharedRounds.{ToldOf, requests, items_from, together, greatest, AreShared, SharedHeadline}
+use Rattle.load_rounds.specs.Together.{PartOf, TellsAt, CountsRounds, CountRounds, plans_in, told_in, given_to, some_untold, FitsPart, FitParts, GoOn}
+use Rattle.load_rounds.proofs.Following.{InRounds, in-none, in-more, in-more-log}
+use Rattle.load_rounds.proofs.GoingOn.{or-left, gone-lacks}
+
+-- a round more is one of a program's own if something was missing for it
+own-one : (others : ℕ → List KeyOf → AnswerOf → Type 0) (rules : List RuleOf) (q p : Program) (M mid : Memory) (log : List (List ReplyOf)) (r : List ReplyOf) → AreRounds others rules q M log mid
+    → own_rounds rules p M (log ++ r ∷ []) ≡ own_rounds rules p M log + one_unless_empty (front (modes_of rules) p mid)
+own-one others rules q p M mid [] r k =
+    let same : M ≡ mid = fun_ext (λ l. fun_ext (λ key. sym (k l key))) in
+    omega (arith, ap (λ (N : Memory). one_unless_empty (front (modes_of rules) p N)) same)
+own-one others rules q p M mid (first ∷ log) r k = omega (arith, own-one others rules q p (after_round rules M first) mid log r k.2)
+
+one-some : (loads : List Load) → loads ≢ [] → one_unless_empty loads ≡ 1
+one-some [] h = absurd (h refl)
+one-some (l ∷ ls) h = refl
+
+one-most : (loads : List Load) → one_unless_empty loads ≤ 1
+one-most [] = omega arith
+one-most (l ∷ ls) = omega arith
+
+own-most : (rules : List RuleOf) (p : Program) (M : Memory) (log : List (List ReplyOf)) → own_rounds rules p M log ≤ length log
+own-most rules p M [] = omega arith
+own-most rules p M (r ∷ log) = omega (arith, one-most (front (modes_of rules) p M), own-most rules p (after_round rules M r) log)
+
+-- one that went on has counted the rounds so far
+tells-counted : (rules : List RuleOf) (M : Memory) (log : List (List ReplyOf)) (p : Program) (rounds : ℕ) (loads : List Load) (old new : Option ToldOf) → rounds ≡ length log → TellsAt rounds loads old new → CountsRounds rules M log p old → CountsRounds rules M log p new
+tells-counted rules M log p rounds loads old None is tells counts = subst (λ o. CountsRounds rules M log p o) tells.1 counts
+tells-counted rules M log p rounds loads old (Some told) is tells counts = go tells.1
+  where
+    go : (old ≡ Some told) ⊎ ((old ≡ None) × (told.rounds ≡ rounds)) → CountsRounds rules M log p (Some told)
+    go (inl e) = subst (λ o. CountsRounds rules M log p o) e counts
+    go (inr e) = let own : CountsRounds rules M log p None = subst (λ o. CountsRounds rules M log p o) e.0 counts in own ∙ sym (e.1 ∙ is)
+
+-- and then the next round
+round-counted : (others : ℕ → List KeyOf → AnswerOf → Type 0) (rules : List RuleOf) (q p : Program) (M mid : Memory) (log : List (List ReplyOf)) (r : List ReplyOf) (rounds : ℕ) (old told : Option ToldOf) → AreRounds others rules q M log mid
+    → TellsAt rounds (front (modes_of rules) p mid) old told → CountsRounds rules M log p told → CountsRounds rules M (log ++ r ∷ []) p told
+round-counted others rules q p M mid log r rounds old None k tells counts =
+    omega (arith, own-one others rules q p M mid log r k, one-some (front (modes_of rules) p mid) tells.0, counts, length-append log (r ∷ []))
+round-counted others rules q p M mid log r rounds old (Some t) k tells counts =
+    omega (arith, own-one others rules q p M mid log r k, ap one_unless_empty tells.0, counts)
+
+given-none : (t : Option ToldOf) (rest : List ToldOf) → given_to t ++ rest ≡ [] → (t ≡ None) × (rest ≡ [])
+given-none None rest e = (refl, e)
+given-none (Some t) rest e = absurd (cc e)
+
+module _ {P E : Type 0} (program : P → Program) where
+  pub begun-counted : (rules : List RuleOf) (M : Memory) (parts : List (PartOf P E)) → told_in parts ≡ [] → CountRounds program rules M [] parts
+  begun-counted rules M [] none = tt
+  begun-counted rules M (x ∷ xs) none =
+      let own = given-none x.told (told_in xs) none in
+      (subst (λ o. CountsRounds rules M [] (program x.plan) o) (sym own.0) refl, begun-counted rules M xs own.1)
+
+  module _ (text_of : P → AnsweredOf → List ℕ) (loaders : P → ℕ) (fits : P → E → MemoryOf → Type 0) where
+    pub all-counted : (rules : List RuleOf) (M : Memory) (log : List (List ReplyOf)) (rounds : ℕ) (m : MemoryOf) (xs ys : List (PartOf P E)) → rounds ≡ length log → GoOn program text_of loaders fits rounds m xs ys → CountRounds program rules M log xs → CountRounds program rules M log ys
+    all-counted rules M log rounds m [] [] is h counts = tt
+    all-counted rules M log rounds m [] (y ∷ ys) is h counts = absurd h
+    all-counted rules M log rounds m (x ∷ xs) [] is h counts = absurd h
+    all-counted rules M log rounds m (x ∷ xs) (y ∷ ys) is h counts =
+        let own = tells-counted rules M log (program x.plan) rounds (front m.modes (program x.plan) (look m.pairs)) x.told y.told is h.0.told counts.0 in
+        (subst (λ plan. CountsRounds rules M log (program plan) y.told) (sym h.0.same) own, all-counted rules M log rounds m xs ys is h.1 counts.1)
+
+    pub all-round-counted : (others : ℕ → List KeyOf → AnswerOf → Type 0) (rules : List RuleOf) (q : Program) (M mid : Memory) (log : List (List ReplyOf)) (r : List ReplyOf) (rounds : ℕ) (m : MemoryOf) (xs ys : List (PartOf P E))
+        → AreRounds others rules q M log mid → m.modes ≡ modes_of rules → look m.pairs ≡ mid → GoOn program text_of loaders fits rounds m xs ys → CountRounds program rules M log ys → CountRounds program rules M (log ++ r ∷ []) ys
+    all-round-counted others rules q M mid log r rounds m [] [] k modes same h counts = tt
+    all-round-counted others rules q M mid log r rounds m [] (y ∷ ys) k modes same h counts = absurd h
+    all-round-counted others rules q M mid log r rounds m (x ∷ xs) [] k modes same h counts = absurd h
+    all-round-counted others rules q M mid log r rounds m (x ∷ xs) (y ∷ ys) k modes same h counts =
+        let loads : front m.modes (program x.plan) (look m.pairs) ≡ front (modes_of rules) (program y.plan) mid =
+        ap (λ ms. front ms (program x.plan) (look m.pairs)) modes ∙ ap (λ (N : Memory). front (modes_of rules) (program x.plan) N) same ∙ ap (λ plan. front (modes_of rules) (program plan) mid) (sym h.0.same) in
+        let tells : TellsAt rounds (front (modes_of rules) (program y.plan) mid) x.told y.told = subst (λ ls. TellsAt rounds ls x.told y.told) loads h.0.told in
+        (round-counted others rules q (program y.plan) M mid log r rounds x.told y.told k tells counts.0, all-round-counted others rules q M mid log r rounds m xs ys k modes same h.1 counts.1)
+
+    -- the answer with the most rounds
+    greatest-most : (rules : List RuleOf) (M : Memory) (log : List (List ReplyOf)) (ys : List (PartOf P E)) → CountRounds program rules M log ys → greatest (told_in ys) ≤ length log
+    greatest-most rules M log [] counts = omega arith
+    greatest-most rules M log (y ∷ ys) counts = go y.told counts.0 (greatest-most rules M log ys counts.1)
+      where
+        go : (t : Option ToldOf) → CountsRounds rules M log (program y.plan) t → greatest (told_in ys) ≤ length log → greatest (given_to t ++ told_in ys) ≤ length log
+        go None own rest = rest
+        go (Some t) own rest = omega (arith, own, own-most rules (program y.plan) M log, rest)
+
+    greatest-has : (rules : List RuleOf) (M : Memory) (log : List (List ReplyOf)) (n : ℕ) (p : Program) (ys : List (PartOf P E)) → some_untold ys ≡ false → CountRounds program rules M log ys → IsBelow p (items_from n (requests program text_of (plans_in ys)))
+        → own_rounds rules p M log ≤ greatest (told_in ys)
+    greatest-has rules M log n p [] all counts below = absurd below
+    greatest-has rules M log n p (y ∷ ys) all counts below =
+        go y.told (or-left (is_none y.told) (some_untold ys) all).0 counts.0 below (greatest-has rules M log (suc n) p ys (or-left (is_none y.told) (some_untold ys) all).1 counts.1)
+      where
+        go : (t : Option ToldOf) → is_none t ≡ false → CountsRounds rules M log (program y.plan) t → (p ≡ program y.plan) ⊎ IsBelow p (items_from (suc n) (requests program text_of (plans_in ys)))
+            → (IsBelow p (items_from (suc n) (requests program text_of (plans_in ys))) → own_rounds rules p M log ≤ greatest (told_in ys)) → own_rounds rules p M log ≤ greatest (given_to t ++ told_in ys)
+        go None known own b later = absurd (cc known)
+        go (Some t) known own (inl e) later = omega (arith, ap (λ q. own_rounds rules q M log) e, own)
+        go (Some t) known own (inr rest) later = omega (arith, later rest)
+
+    -- where nothing is missing for all of them, each has its answer
+    pub all-told : (rounds : ℕ) (m : MemoryOf) (xs ys : List (PartOf P E)) → GoOn program text_of loaders fits rounds m xs ys → front m.modes (together (requests program text_of (plans_in xs))) (look m.pairs) ≡ [] → some_untold ys ≡ false
+    all-told rounds m xs ys h none = go (some_untold ys) refl
+      where
+        go : (b : Bool) → some_untold ys ≡ b → some_untold ys ≡ false
+        go true e = absurd (gone-lacks program text_of loaders fits rounds m xs ys h e none)
+        go false e = e
+
+    module _ {S : Type 0} (may : S → List KeyOf → AnswerOf → Type 0) where
+      -- after so many rounds, of which each of them has counted its own
+      pub record InShared (plans : List P) (old cur : StateOf S) (parts : List (PartOf P E)) (rounds : ℕ) : Type 0 where
+        pub is : InRounds may old cur (together (requests program text_of plans)) rounds
+        pub counts : CountRounds program (rules_of old) (without_failed old.memory) is.log parts
+
+      pub shared-none : (plans : List P) (old cur : StateOf S) (parts : List (PartOf P E)) → cur ≡ after_step old Forgot → told_in parts ≡ [] → InShared plans old cur parts 0
+      shared-none plans old cur parts is none =
+          let begun = in-none may old cur (together (requests program text_of plans)) is in
+          record {
+            is = record { log = []; made = record { rounds = λ l k. ap (λ (s : StateOf S). s.memory l k) is; after = is }; counted = refl; rules = begun.rules; sources = begun.sources };
+            counts = begun-counted (rules_of old) (without_failed old.memory) parts none;
+          }
+
+      pub shared-gone : (plans : List P) (old cur : StateOf S) (xs ys : List (PartOf P E)) (rounds : ℕ) (m : MemoryOf) → InShared plans old cur xs rounds → GoOn program text_of loaders fits rounds m xs ys → InShared plans old cur ys rounds
+      shared-gone plans old cur xs ys rounds m h gone = record {
+        is = h.is;
+        counts = all-counted (rules_of old) (without_failed old.memory) h.is.log rounds m xs ys (sym h.is.counted) gone h.counts;
+      }
+
+      -- one round more
+      pub shared-more : (plans : List P) (old new : StateOf S) (s : SessionOf S) (xs ys : List (PartOf P E)) (rounds next : ℕ) → InShared plans old (state_of s) ys rounds → next ≡ rounds + 1 → GoOn program text_of loaders fits rounds (memory_of s) xs ys
+          → front (session_modes (state_of s)) (together (requests program text_of plans)) (look s.pairs) ≢ [] → RoundRan may (state_of s) new (front (session_modes (state_of s)) (together (requests program text_of plans)) (look s.pairs)) → InShared plans old new ys next
+      shared-more plans old new s xs ys rounds next h one gone lacks ran =
+          let p : Program = together (requests program text_of plans) in
+          let counts = all-round-counted (may_at may old.loaders) (rules_of old) p (without_failed old.memory) (look s.pairs) h.is.log ran.replies rounds (memory_of s) xs ys h.is.made.rounds (ap modes_of h.is.rules) refl gone h.counts in
+          record {
+            is = in-more may old (state_of s) new p rounds next h.is one lacks ran;
+            counts = subst (λ log. CountRounds program (rules_of old) (without_failed old.memory) log ys) (sym (in-more-log may old (state_of s) new p rounds next h.is one lacks ran)) counts;
+          }
+
+      module _ (plans : List P) (old : StateOf S) (s : SessionOf S) (ys : List (PartOf P E)) (rounds : ℕ) (h : InShared plans old (state_of s) ys rounds) (limited : AreLimited (rules_of old)) (within : HasLoaders (length old.loaders) (together (requests program text_of plans))) where
+        abbrev log : List (List ReplyOf)
+        log = h.is.log
+
+        within-rules : HasLoaders (length (rules_of old)) (together (requests program text_of plans))
+        within-rules R l one = let below = within R l one in omega (arith, below, length-map old.loaders rule_of)
+
+        shared-one : (r : P) (progress : E) (told : ToldOf) → IsBelow (program r) (items_from 0 (requests program text_of plans)) → CountsRounds (rules_of old) (without_failed old.memory) log (program r) (Some told) → FitsPart program text_of loaders fits r progress (Some told) (memory_of s)
+            → AreShared old (state_of s) log (requests program text_of (r ∷ [])) (told ∷ [])
+        shared-one r progress told among counts done =
+            let rules : List RuleOf = rules_of old in
+            let M0 : Memory = without_failed old.memory in
+            let same : session_modes (state_of s) ≡ session_modes old = ap modes_of h.is.rules in
+            let own = own-chain (may_at may old.loaders) rules ListOf (items_from 0 (requests program text_of plans)) (program r) limited within-rules among M0 log (look s.pairs) h.is.made.rounds in (
+              record {
+                answered = rw same at done.answered;
+                counted = counts;
+                chained = omega (arith, own, counts);
+                fewest = λ Ns run. omega (arith, counts, own-sparing (may_at may old.loaders) rules ListOf (items_from 0 (requests program text_of plans)) (program r) limited within-rules among M0 log (look s.pairs) Ns h.is.made.rounds run);
+              },
+              tt,
+            )
+
+        shared-answers : (n : ℕ) (rest : List (PartOf P E)) → ((p : Program) → IsBelow p (items_from n (requests program text_of (plans_in rest))) → IsBelow p (items_from 0 (requests program text_of plans))) → some_untold rest ≡ false
+            → CountRounds program (rules_of old) (without_failed old.memory) log rest → FitParts program text_of loaders fits rest (memory_of s) → AreShared old (state_of s) log (requests program text_of (plans_in rest)) (told_in rest)
+        shared-answers n [] among all counts done = tt
+        shared-answers n (y ∷ ys) among all counts done = go y.told (or-left (is_none y.told) (some_untold ys) all).0 counts.0 done.0 (shared-answers (suc n) ys (λ p b. among p (inr b)) (or-left (is_none y.told) (some_untold ys) all).1 counts.1 done.1)
+          where
+            go : (t : Option ToldOf) → is_none t ≡ false → CountsRounds (rules_of old) (without_failed old.memory) log (program y.plan) t → FitsPart program text_of loaders fits y.plan y.progress t (memory_of s) → AreShared old (state_of s) log (requests program text_of (plans_in ys)) (told_in ys)
+                → AreShared old (state_of s) log (requests program text_of (plans_in (y ∷ ys))) (given_to t ++ told_in ys)
+            go None known own fit later = absurd (cc known)
+            go (Some t) known own fit later = ((shared-one y.plan y.progress t (among (program y.plan) (inl refl)) own fit).0, later)
+
+        -- nothing is missing any more
+        pub shared-all : plans_in ys ≡ plans → some_untold ys ≡ false → FitParts program text_of loaders fits ys (memory_of s) → front (session_modes (state_of s)) (together (requests program text_of plans)) (look s.pairs) ≡ []
+            → SharedHeadline may old (state_of s) (requests program text_of plans) (told_in ys)
+        shared-all are all done none =
+            let p : Program = together (requests program text_of plans) in
+            let rules : List RuleOf = rules_of old in
+            let M0 : Memory = without_failed old.memory in
+            let same : session_modes (state_of s) ≡ session_modes old = ap modes_of h.is.rules in
+            let own : (q : Program) → IsBelow q (items_from 0 (requests program text_of (plans_in ys))) → IsBelow q (items_from 0 (requests program text_of plans)) = λ q b. subst (λ ps. IsBelow q (items_from 0 (requests program text_of ps))) are b in
+            let answers = shared-answers 0 ys own all h.counts done in
+            record {
+              log = log;
+              made = h.is.made;
+              complete = rw same at none;
+              answers = subst (λ ps. AreShared old (state_of s) log (requests program text_of ps) (told_in ys)) are answers;
+              pairs = λ pair there. answered-in (may_at may old.loaders) rules p M0 log (look s.pairs) pair.loader pair.key pair.outcome h.is.made.rounds there;
+              once = asked-once (may_at may old.loaders) rules p limited M0 log (look s.pairs) h.is.made.rounds;
+              longest = longest (length log) refl;
+            }
+          where
+            most : greatest (told_in ys) ≤ length log
+            most = greatest-most (rules_of old) (without_failed old.memory) log ys h.counts
+
+            longest : (n : ℕ) → length log ≡ n → length log ≡ greatest (told_in ys)
+            longest zero e = omega (arith, e, most)
+            longest (suc n) e =
+                let one = all-rounds (may_at may old.loaders) (rules_of old) ListOf (items_from 0 (requests program text_of plans)) (without_failed old.memory) log (look s.pairs) h.is.made.rounds (omega (arith, e)) in
+                let below : IsBelow one.0 (items_from 0 (requests program text_of (plans_in ys))) = subst (λ ps. IsBelow one.0 (items_from 0 (requests program text_of ps))) (sym are) one.1 in
+                omega (arith, most, one.2, greatest-has (rules_of old) (without_failed old.memory) log 0 one.0 ys all h.counts below)

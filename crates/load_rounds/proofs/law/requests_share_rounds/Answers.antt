@@ -1,0 +1,15 @@
+use Rattle.load_rounds.proofs.GoingOn.{together-front}
+use Rattle.load_rounds.proofs.Requests.{headline-one, headline-alone, shared-chain}
+use Rattle.load_rounds.proofs.law.requests_share_rounds.Goals as goal
+
+pub returns-clause-front : goal.returns-clause-front
+returns-clause-front g c = λ modes rs M. together-front modes rs M
+
+pub returns-clause-chain : goal.returns-clause-chain
+returns-clause-chain g c = λ old new rs told h. shared-chain g.S.Asks.may_tell old new rs told h
+
+pub returns-clause-one : goal.returns-clause-one
+returns-clause-one g c = λ old new r told h. headline-one g.S.Asks.may_tell old new r told h
+
+pub returns-clause-alone : goal.returns-clause-alone
+returns-clause-alone g c = λ old new r told h. headline-alone g.S.Asks.may_tell old new r told h

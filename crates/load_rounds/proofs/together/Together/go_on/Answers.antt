@@ -1,0 +1,63 @@
+use Rattle.std.proofs.Common.{◌≡◌, ◌≤◌, [], length, ap, subst, ◌∙◌, sym, refl}
+use Rattle.std.specs.Prelude.{All}
+use Rattle.load_memory.specs.Pairs.{MemoryOf, look}
+use Rattle.execution.specs.Front.{front}
+use Rattle.load_rounds.specs.Sessions.{state_of, memory_of}
+use Rattle.load_rounds.specs.SharedRounds.{requests, together}
+use Rattle.load_rounds.specs.Together.{plans_in, FitParts, GoOn}
+use Rattle.load_rounds.proofs.Following.{nothing-modes, rules-size}
+use Rattle.load_rounds.proofs.GoingOn.{gone-lacks, gone-lacks-none, found-wants}
+use Rattle.load_rounds.proofs.Growing.{memory-is}
+use Rattle.load_rounds.proofs.together.Together.go_on.Goals as goal
+
+pub go_on_all-requires : goal.go_on_all-requires
+go_on_all-requires g c =
+    let m : MemoryOf = c.memory-memory.result.now in
+    let s = state_of c.args.session.now in
+    let xs = c.self.inside.parts.items in
+    let is : m ≡ memory_of c.args.session.now = memory-is c.args.session.now m c.memory-memory.ensures.pairs c.memory-memory.ensures.modes in
+    let size : length s.loaders ≡ length m.modes = sym (rules-size s) ∙ sym (ap length c.memory-memory.ensures.modes) in
+    let enough = rw (← c.self.view_is) at c.requires.loaders in
+    let fit = rw (← c.self.view_is) at c.requires.fits in
+    λ κs. (
+      (refl, tt),
+      (
+        subst (λ n. All (λ plan. g.P.Execute.loaders plan ≤ n) (plans_in xs)) size enough,
+        (
+          rw c.in_ok-wants.ensures (nothing-modes m.modes),
+          subst (λ (n : MemoryOf). FitParts g.P.Execute.program g.P.Execute.text_of g.P.Execute.loaders g.P.Execute.fits xs n) (sym is) fit,
+        ),
+      ),
+    )
+
+pub returns-else-is_missing-clause-found : goal.returns-else-is_missing-clause-found
+returns-else-is_missing-clause-found g c =
+    let m : MemoryOf = c.memory-memory.result.now in
+    let xs = c.self.inside.parts.items in
+    let ys = c.go_on_all.new.parts.items in
+    let is : m ≡ memory_of c.args.session.now = memory-is c.args.session.now m c.memory-memory.ensures.pairs c.memory-memory.ensures.modes in
+    let all = sym c.in_ok-is_missing.ensures.missing ∙ c.if-is_missing.false in
+    let none = gone-lacks-none g.P.Execute.program g.P.Execute.text_of g.P.Execute.loaders g.P.Execute.fits c.self.inside.rounds m xs ys c.in_ok-is_missing.ensures.went all in
+    rw (← c.self.view_is) (subst (λ (n : MemoryOf). front n.modes (together (requests g.P.Execute.program g.P.Execute.text_of (plans_in xs))) (look n.pairs) ≡ []) is none)
+
+pub returns-else-is_missing-clause-went : goal.returns-else-is_missing-clause-went
+returns-else-is_missing-clause-went g c =
+    let m : MemoryOf = c.memory-memory.result.now in
+    let is : m ≡ memory_of c.args.session.now = memory-is c.args.session.now m c.memory-memory.ensures.pairs c.memory-memory.ensures.modes in
+    rw (← c.self.view_is) (subst (λ (n : MemoryOf). GoOn g.P.Execute.program g.P.Execute.text_of g.P.Execute.loaders g.P.Execute.fits c.self.inside.rounds n c.self.inside.parts.items c.go_on_all.new.parts.items) is c.in_ok-is_missing.ensures.went)
+
+pub returns-in_ok-self-inside-clause-found : goal.returns-in_ok-self-inside-clause-found
+returns-in_ok-self-inside-clause-found g c =
+    let m : MemoryOf = c.memory-memory.result.now in
+    let s = state_of c.args.session.now in
+    let xs = c.self.inside.parts.items in
+    let ys = c.go_on_all.new.parts.items in
+    let some = sym c.in_ok-is_missing.ensures.missing ∙ c.if-is_missing.true in
+    let lacks = gone-lacks g.P.Execute.program g.P.Execute.text_of g.P.Execute.loaders g.P.Execute.fits c.self.inside.rounds m xs ys c.in_ok-is_missing.ensures.went some in
+    rw (← c.self.view_is) (found-wants g.P.Execute.program g.P.Execute.text_of m s (plans_in xs) c.in_ok-wants.wants c.go_on_all.new.wants c.memory-memory.ensures.modes (ap look c.memory-memory.ensures.pairs) c.in_ok-wants.ensures c.in_ok-is_missing.ensures.wanted lacks)
+
+pub returns-in_ok-self-inside-clause-went : goal.returns-in_ok-self-inside-clause-went
+returns-in_ok-self-inside-clause-went g c =
+    let m : MemoryOf = c.memory-memory.result.now in
+    let is : m ≡ memory_of c.args.session.now = memory-is c.args.session.now m c.memory-memory.ensures.pairs c.memory-memory.ensures.modes in
+    rw (← c.self.view_is) (subst (λ (n : MemoryOf). GoOn g.P.Execute.program g.P.Execute.text_of g.P.Execute.loaders g.P.Execute.fits c.self.inside.rounds n c.self.inside.parts.items c.go_on_all.new.parts.items) is c.in_ok-is_missing.ensures.went)

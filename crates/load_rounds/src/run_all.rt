@@ -1,0 +1,143 @@
+//! Shared rounds by hand: answers to several plans on their way, whose rounds the caller runs.
+ghost use Rattle.std.specs.Prelude.{◌≡◌, ◌≤◌, ◌<◌, ◌^◌, All, map, length, IfOk, OnOk, OnErr};
+ghost use Rattle.load_memory.specs.Shelves.{IsOn, shown};
+ghost use Rattle.execution.specs.Sessions.{Forgot};
+
+use crate::answer::Answer;
+use crate::execute::Execute;
+use crate::run::Stage;
+use crate::session::Session;
+use crate::together::Together;
+use load_memory::{NoMemory, Receipt, Shelf};
+use load_queue::{Asks, Order};
+use std::marker::Model;
+
+/// What [`RunAll::next_round`] returns.
+#[derive(Drop)]
+pub enum NextAll {
+    /// Nothing is missing any more. There is an answer for each plan, in order.
+    Finished(Vec<Answer>),
+    /// The orders of the next round, by number of loader and then by piece.
+    Round(Vec<Order>),
+}
+
+/// Answers to several plans on their way over a session, whose rounds the caller runs: [`Run`](crate::Run) for several plans. It
+/// keeps their executions, an `E` for each plan. A contract sees these, what is executed, how many rounds were asked, with one
+/// that is out, and the stage.
+///
+/// Its calls go on from what the executions found, so they are made on the session that it was begun on, as its last call left it.
+#[derive(Drop)]
+pub struct RunAll<'p, P, E> {
+    plans: &'p [P],
+    executions: Together<'p, P, E>,
+    stage: Stage,
+}
+
+impl<'p, P, E> Model for RunAll<'p, P, E> {
+    ghost use Rattle.load_rounds.specs.SharedRuns.{RunAllOf};
+
+    ghost Value = { RunAllOf P E };
+
+    ghost view = { λ r. record { plans = r.plans.now; executions = r.executions; stage = r.stage } };
+}
+
+impl<S: Asks> Session<S> {
+    ghost use Rattle.load_rounds.specs.Sessions.{state_of, after_step, memory_of};
+    ghost use Rattle.load_rounds.specs.SharedRuns.{IsRunAll, FitsRun};
+
+    /// Begins answers to several plans whose rounds the caller runs. Forgets failed batches.
+    pub fn begin_all<'p, P: Execute<'p>>(
+        &mut self,
+        plans: &'p [P],
+    ) -> Result<RunAll<'p, P, P::Progress>, NoMemory>
+        requires { All (λ plan. P.loaders plan ≤ length self.old.loaders) plans.now }
+        ensures run { IfOk result (λ run. (run.plans ≡ plans.now) × (run.executions.rounds ≡ 0) × (run.stage ≡ Stage.Ready)) }
+        ensures begun { IfOk result (λ run. IsRunAll P.program P.text_of S.may_tell (state_of self.old) (state_of self.new) run) }
+        ensures fits { IfOk result (λ run. FitsRun P.program P.text_of P.loaders P.fits run (memory_of self.new)) }
+        ensures forgot { state_of self.new ≡ after_step (state_of self.old) Forgot }
+    {
+        self.forget();
+        let executions = Together::begin(self.alloc(), plans)?;
+        Ok(RunAll {
+            plans,
+            executions,
+            stage: Stage::Ready,
+        })
+    }
+}
+
+impl<'p, P, E> RunAll<'p, P, E> {
+    /// What may be done next.
+    pub fn stage(&self) -> Stage
+        ensures { result ≡ self.now.stage }
+    {
+        self.stage
+    }
+}
+
+impl<'p, E: Drop, P: Execute<'p, Progress = E>> RunAll<'p, P, E> {
+    ghost use Rattle.load_rounds.specs.Sessions.{state_of, memory_of};
+    ghost use Rattle.load_rounds.specs.Runs.{received, AreReceivedIn, TakesInAnyOrder, IsUnasked};
+    ghost use Rattle.load_rounds.specs.SharedRounds.{joint};
+    ghost use Rattle.load_rounds.specs.SharedRuns.{FitsRun, FitsLater, KeepsFitting, IsNextAll, GoesOnFrom, AnswersFrom};
+
+    /// Goes on with each plan that isn't finished, in order. Returns the answers if nothing is missing, and otherwise the orders of
+    /// the next round, which is then out.
+    ///
+    /// When out of memory, the session is as it was, or the round is lost and the logs have the batches of its first loaders.
+    pub fn next_round<S: Asks>(&mut self, session: &mut Session<S>) -> Result<NextAll, NoMemory>
+        requires ready { self.old.stage ≡ Stage.Ready }
+        requires loaders { All (λ plan. P.loaders plan ≤ length session.old.loaders) self.old.plans }
+        requires fits { FitsRun P.program P.text_of P.loaders P.fits self.old (memory_of session.old) }
+        ensures next { IfOk result (IsNextAll P.program P.text_of self.old self.new (state_of session.old) (state_of session.new)) }
+        ensures fits { self.new.stage ≡ Stage.Out → FitsLater P.program P.text_of P.loaders P.fits self.new (memory_of session.new) }
+        ensures plans { self.new.plans ≡ self.old.plans }
+        ensures bounded { self.new.executions.rounds < 2 ^ 32 }
+        ensures failed { OnErr result (self.new.stage ≡ Stage.Failed) }
+        ensures lost { OnErr result (IsUnasked (joint P.program P.text_of self.old.plans) (state_of session.old) (state_of session.new)) }
+        ensures run { GoesOnFrom P.program P.text_of S.may_tell (state_of session.old) (state_of session.new) self.old self.new }
+        ensures answers { IfOk result (AnswersFrom P.program P.text_of S.may_tell (state_of session.old) (state_of session.new) self.old) }
+    {
+        self.stage = Stage::Failed;
+        match self.executions.go_on(session)? {
+            None => {
+                let answers = self.executions.take_answers(session.alloc())?;
+                self.stage = Stage::Finished;
+                Ok(NextAll::Finished(answers))
+            }
+            Some(mut wants) => {
+                let orders = session.cut(&mut wants)?;
+                self.stage = Stage::Out;
+                Ok(NextAll::Round(orders))
+            }
+        }
+    }
+
+    /// Stores the replies to the round that is out, given by their receipts in any order.
+    ///
+    /// When out of memory, the session is as it was, and the round is lost.
+    pub fn take<S: Asks>(
+        &mut self,
+        session: &mut Session<S>,
+        shelf: &Shelf,
+        receipts: &[Receipt],
+    ) -> Result<(), NoMemory>
+        requires out { self.old.stage ≡ Stage.Out }
+        requires shelf { All (IsOn shelf.now) receipts.now }
+        requires round { AreReceivedIn S.may_tell (joint P.program P.text_of self.old.plans) (state_of session.old) (map shown receipts.now) }
+        ensures taken { OnOk result (state_of session.new ≡ received (state_of session.old) (map shown receipts.now)) }
+        ensures ordered { OnOk result (TakesInAnyOrder S.may_tell (joint P.program P.text_of self.old.plans)
+            (state_of session.old) (state_of session.new) (map shown receipts.now)) }
+        ensures ready { OnOk result (self.new ≡ record self.old { stage = Stage.Ready }) }
+        ensures fits { OnOk result (KeepsFitting P.program P.text_of P.loaders P.fits self.old self.new
+            (memory_of session.old) (memory_of session.new)) }
+        ensures lost { OnErr result (state_of session.new ≡ state_of session.old) }
+        ensures failed { OnErr result (self.new ≡ record self.old { stage = Stage.Failed }) }
+        ensures run { GoesOnFrom P.program P.text_of S.may_tell (state_of session.old) (state_of session.new) self.old self.new }
+    {
+        self.stage = Stage::Failed;
+        session.receive(shelf, receipts)?;
+        self.stage = Stage::Ready;
+        Ok(())
+    }
+}

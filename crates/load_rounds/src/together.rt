@@ -1,0 +1,167 @@
+//! Executions of several plans that share rounds.
+ghost use Rattle.std.specs.Prelude.{◌≡◌, ◌≤◌, ◌<◌, ◌+◌, ◌^◌, All, length, map, is_none, IfOk, OnOk};
+ghost use Rattle.execution.specs.Front.{front, wanting, modes_wanted};
+ghost use Rattle.execution.specs.Rounds.{AreLimited};
+ghost use Rattle.load_memory.specs.Pairs.{look};
+ghost use Rattle.load_rounds.specs.Executes.{CanExecute};
+ghost use Rattle.load_rounds.specs.SharedRounds.{told_of};
+ghost use Rattle.load_rounds.specs.Together.{FitParts, GoOn, plans_in, fronts, some_untold};
+
+use crate::answer::Answer;
+use crate::execute::Execute;
+use crate::session::Session;
+use futures::task::Poll;
+use load_memory::{Memory, NoMemory};
+use load_queue::Wants;
+use std::alloc::Global;
+use std::marker::Model;
+use std::mem;
+
+/// The execution of one of several plans, and its answer once nothing that it needs is missing.
+#[derive(Drop)]
+struct Part<'p, P, E> {
+    plan: &'p P,
+    progress: E,
+    answer: Option<Answer>,
+}
+
+impl<'p, P, E> Model for Part<'p, P, E> {
+    ghost use Rattle.std.specs.Prelude.{option_map};
+    ghost use Rattle.load_rounds.specs.SharedRounds.{told_of};
+    ghost use Rattle.load_rounds.specs.Together.{PartOf};
+
+    ghost Value = { PartOf P E };
+
+    ghost view = { λ p. record { plan = p.plan.now; progress = p.progress; told = option_map told_of p.answer } };
+}
+
+/// The executions of several plans, in order, and how many rounds were asked for them.
+#[derive(Drop)]
+pub(crate) struct Together<'p, P, E> {
+    parts: Vec<Part<'p, P, E>>,
+    rounds: u32,
+}
+
+impl<'p, P, E> Model for Together<'p, P, E> {
+    ghost use Rattle.std.specs.Prelude.{◌<◌, ◌^◌};
+    ghost use Rattle.load_rounds.specs.Together.{TogetherOf};
+
+    ghost Value = { TogetherOf P E };
+
+    ghost view = { λ t. record { parts = t.parts.items; rounds = t.rounds } };
+
+    ghost invariant = { λ t. t.rounds < 2 ^ 32 };
+}
+
+impl<'p, E: Drop, P: Execute<'p, Progress = E>> Part<'p, P, E> {
+    ghost use Rattle.load_rounds.specs.Together.{FitsPart, GoesOn};
+
+    /// Goes on with the execution over the memory, unless there is an answer already. If loads are missing, adds them to the wants
+    /// and returns true.
+    fn go_on(
+        &mut self,
+        alloc: Global,
+        memory: &Memory,
+        rounds: u32,
+        wants: &mut Wants,
+    ) -> Result<bool, NoMemory>
+        requires can { CanExecute (P.loaders self.old.plan) memory.now wants.old }
+        requires fits { FitsPart P.program P.text_of P.loaders P.fits self.old.plan self.old.progress self.old.told memory.now }
+        ensures went { OnOk result (GoesOn P.program P.text_of P.loaders P.fits rounds memory.now self.old self.new) }
+        ensures wanted { OnOk result (wants.new ≡ wanting wants.old (front memory.now.modes (P.program self.old.plan) (look memory.now.pairs))) }
+        ensures missing { IfOk result (λ missing. missing ≡ is_none self.new.told) }
+    {
+        if self.answer.is_some() {
+            return Ok(false);
+        }
+        match self.plan.execute(&mut self.progress, alloc, memory, wants)? {
+            Poll::Ready(text) => {
+                self.answer = Some(Answer { text, rounds });
+                Ok(false)
+            }
+            Poll::Pending => Ok(true),
+        }
+    }
+}
+
+// Goes on with each of them, in order. Returns true if loads are missing.
+fn go_on_all<'p, E: Drop, P: Execute<'p, Progress = E>>(
+    parts: &mut Vec<Part<'p, P, E>>,
+    alloc: Global,
+    memory: &Memory,
+    rounds: u32,
+    wants: &mut Wants,
+) -> Result<bool, NoMemory>
+    requires enough { All (λ plan. P.loaders plan ≤ length memory.now.modes) (plans_in parts.old.items) }
+    requires lined_up { modes_wanted wants.old ≡ memory.now.modes }
+    requires fits { FitParts P.program P.text_of P.loaders P.fits parts.old.items memory.now }
+    ensures went { OnOk result (GoOn P.program P.text_of P.loaders P.fits rounds memory.now parts.old.items parts.new.items) }
+    ensures wanted { OnOk result (wants.new ≡ wanting wants.old (fronts P.program memory.now (plans_in parts.old.items))) }
+    ensures missing { IfOk result (λ missing. missing ≡ some_untold parts.new.items) }
+{
+    let mut is_missing = false;
+    for at in 0..parts.len() {
+        let is_next_missing = parts[at].go_on(alloc, memory, rounds, wants)?;
+        is_missing = is_missing | is_next_missing;
+    }
+    Ok(is_missing)
+}
+
+impl<'p, E: Drop, P: Execute<'p, Progress = E>> Together<'p, P, E> {
+    ghost use Rattle.load_rounds.specs.Sessions.{state_of, rules_of, memory_of};
+    ghost use Rattle.load_rounds.specs.SharedRounds.{joint};
+    ghost use Rattle.load_rounds.specs.Together.{AreBegun, FindsAll, asked_in, told_in};
+
+    /// Executions of the plans of which nothing is done.
+    pub(crate) fn begin(alloc: Global, plans: &'p [P]) -> Result<Together<'p, P, E>, NoMemory>
+        ensures { IfOk result (λ t. AreBegun P.program P.text_of P.loaders P.fits plans.now t) }
+    {
+        let mut parts = Vec::with_capacity(alloc, plans.len())?;
+        for plan in plans {
+            parts.push(Part {
+                plan,
+                progress: plan.start(),
+                answer: None,
+            })?;
+        }
+        Ok(Together { parts, rounds: 0 })
+    }
+
+    /// Goes on with each plan that has no answer yet, in order, over what is known. Returns what is missing for all of them, of
+    /// which the caller makes a round, and nothing once each has its answer. A contract also sees here that no loader's limit is 0.
+    pub(crate) fn go_on<S>(&mut self, session: &Session<S>) -> Result<Option<Wants>, NoMemory>
+        requires loaders { All (λ plan. P.loaders plan ≤ length session.now.loaders) (plans_in self.old.parts) }
+        requires fits { FitParts P.program P.text_of P.loaders P.fits self.old.parts (memory_of session.now) }
+        ensures found { IfOk result (λ wants. FindsAll (joint P.program P.text_of (plans_in self.old.parts)) (state_of session.now) wants) }
+        ensures went { OnOk result (GoOn P.program P.text_of P.loaders P.fits self.old.rounds (memory_of session.now) self.old.parts self.new.parts) }
+        ensures counted { IfOk result (λ wants. self.new.rounds ≡ self.old.rounds + asked_in wants) }
+        ensures bounded { self.new.rounds < 2 ^ 32 }
+        ensures limited { AreLimited (rules_of (state_of session.now)) }
+    {
+        let rounds = self.rounds;
+        let memory = session.memory();
+        let mut wants = Wants::new(session.alloc(), memory)?;
+        let is_missing = go_on_all(&mut self.parts, session.alloc(), memory, rounds, &mut wants)?;
+        if is_missing {
+            self.rounds = rounds.checked_add(1).ok_or(NoMemory)?;
+            Ok(Some(wants))
+        } else {
+            Ok(None)
+        }
+    }
+
+    /// Takes the answers out, in order. No plan is left.
+    pub(crate) fn take_answers(&mut self, alloc: Global) -> Result<Vec<Answer>, NoMemory>
+        ensures answers { IfOk result (λ answers. map told_of answers.items ≡ told_in self.old.parts) }
+        ensures counted { self.new.rounds ≡ self.old.rounds }
+    {
+        let mut answers = Vec::with_capacity(alloc, self.parts.len())?;
+        for part in mem::replace(&mut self.parts, Vec::new(alloc)) {
+            let Part { answer, .. } = part;
+            if let Some(answer) = answer {
+                answers.push(answer)?;
+            }
+        }
+        Ok(answers)
+    }
+}

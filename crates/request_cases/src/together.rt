@@ -1,0 +1,123 @@
+//! Answers to several queries in rounds that they share, in turn and in rounds by hand.
+
+ghost use Rattle.std.specs.Prelude.{◌≡◌, ◌≤◌, true, All, length, IfOk};
+ghost use Rattle.gq_check.specs.Plans.{plan_of as plan_seen};
+ghost use Rattle.load_rounds.specs.Sessions.{state_of};
+ghost use Rattle.load_rounds.specs.SharedRounds.{requests, AreAnswers};
+
+use crate::by_hand::received;
+use crate::logs::{asked, counted};
+use crate::manner::Manner;
+use crate::sources::{CountingSource, counters, session};
+use crate::worlds::plan_of;
+use anyhow::{Context, Result, bail};
+use gq_check::Plan;
+use load_memory::Shelf;
+use load_queue::Asks;
+use load_rounds::{Answer, Execute, NextAll, Session};
+use std::alloc::{AllocGlobal, Global};
+use std::sync::atomic::AtomicU64;
+use std::sync::{Arc, Wait};
+use world::World;
+
+/// The plans of queries, each on a line.
+fn plans_of<'w>(alloc: Global, world: &'w World, text: &str) -> Result<Vec<Plan<'w>>> {
+    let mut plans = Vec::new(alloc);
+    for line in text.lines() {
+        plans.push(plan_of(alloc, world, line)?.ok().context("no plan")?)?;
+    }
+    Ok(plans)
+}
+
+/// Whether a session has the loaders of each plan.
+fn has_loaders<S>(session: &Session<S>, plans: &[Plan<'_>]) -> bool
+    ensures { result ≡ true → All (λ plan. length (plan_seen plan).bindings.loaders ≤ length session.now.loaders) plans.now }
+{
+    for plan in plans {
+        if session.loaders().len() < plan.loaders() {
+            return false;
+        }
+    }
+    true
+}
+
+/// Answers in turn.
+fn answer_in_turn<S: Asks>(session: &mut Session<S>, plans: &[Plan<'_>]) -> Result<Vec<Answer>> {
+    if !has_loaders(session, plans) {
+        bail!("too few loaders");
+    }
+    Ok(session.answer_all(plans)?)
+}
+
+/// Answers in rounds by hand.
+fn answered<'p, P: Execute<'p>, S: Asks, R: Wait + AllocGlobal>(
+    rt: &R,
+    plans: &'p [P],
+    session: &mut Session<S>,
+) -> Result<Vec<Answer>>
+    requires { All (λ plan. P.loaders plan ≤ length session.old.loaders) plans.now }
+    ensures { IfOk result (AreAnswers S.may_tell (state_of session.old) (state_of session.new) (requests P.program P.text_of plans.now)) }
+{
+    let mut run = session.begin_all(plans)?;
+    loop {
+        match run.next_round(session)? {
+            NextAll::Finished(answers) => return Ok(answers),
+            NextAll::Round(orders) => {
+                let shelf = Shelf::new(rt.alloc())?;
+                let receipts = received(rt, orders, session.loaders(), &shelf)?;
+                run.take(session, &shelf, receipts.as_slice())?;
+            }
+        }
+    }
+}
+
+/// The same, of plans.
+fn answer_by_hand<S: Asks, R: Wait + AllocGlobal>(
+    rt: &R,
+    session: &mut Session<S>,
+    plans: &[Plan<'_>],
+) -> Result<Vec<Answer>> {
+    if !has_loaders(session, plans) {
+        bail!("too few loaders");
+    }
+    answered(rt, plans, session)
+}
+
+/// The rounds and the text of each answer, on a line of its own, and then what was asked.
+fn answers_told(
+    alloc: Global,
+    answers: &[Answer],
+    session: &Session<CountingSource<'_>>,
+    counters: &[Arc<AtomicU64>],
+) -> Result<String> {
+    counted(alloc, session, counters, true)?;
+    let mut text = String::new(alloc);
+    for answer in answers {
+        write!(text, "{} {}\n", answer.rounds, answer.text)?;
+    }
+    text.push_str(&asked(alloc, session)?)?;
+    Ok(text)
+}
+
+/// What is told of the answers to queries, each on a line, which has to be the same in turn and by hand.
+pub fn told<R: Wait + AllocGlobal>(
+    rt: &R,
+    world: &World,
+    manner: &Manner<'_>,
+    text: &str,
+) -> Result<String> {
+    let alloc = rt.alloc();
+    let plans = plans_of(alloc, world, text)?;
+    let sources = counters(alloc, world)?;
+    let mut first = session(alloc, world, &sources, manner)?;
+    let answers = answer_in_turn(&mut first, &plans)?;
+    let in_turn = answers_told(alloc, &answers, &first, &sources)?;
+    let sources = counters(alloc, world)?;
+    let mut second = session(alloc, world, &sources, manner)?;
+    let answers = answer_by_hand(rt, &mut second, &plans)?;
+    let by_hand = answers_told(alloc, &answers, &second, &sources)?;
+    if by_hand != in_turn {
+        bail!("by hand {by_hand}");
+    }
+    Ok(in_turn)
+}

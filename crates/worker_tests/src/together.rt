@@ -1,0 +1,98 @@
+//! Answers with workers to several queries in rounds that they share.
+
+ghost use Rattle.std.specs.Prelude.{◌≡◌, ◌≤◌, true, All, length};
+ghost use Rattle.gq_check.specs.Plans.{plan_of as plan_seen};
+
+use crate::answers::asked;
+use crate::expect;
+use crate::probe::{Board, Manner, Probe};
+use crate::sample::{plan_of, read, session};
+use batch_workers::{WorkFault, answer_all_with};
+use gq_check::Plan;
+use load_rounds::{Answer, Session};
+use std::alloc::{AllocError, AllocGlobal, Global};
+use std::sync::Wait;
+use std::test::Fail;
+use std::thread::Threads;
+
+const QUERIES: [&str; 2] = ["{users{posts{author{name}}}}", "{user(id:9){name}}"];
+
+/// The text and the rounds of each answer.
+const ANSWERS: &str =
+    "{\"data\":{\"users\":[{\"posts\":[{\"author\":{\"name\":\"Ada\"}},{\"author\":{\"name\":\"Ada\"}}]},{\"posts\":[{\"author\":{\"name\":\"Bob\"}}]},{\"posts\":[]},{\"posts\":[]}]}} 3 rounds; {\"data\":{\"user\":null}} 1 rounds; ";
+
+const ASKED: &str =
+    "userById 1: 9; userById 3: 1 2; allUsers 1: all; postsByAuthor 2: 1 2 3 4; 4 calls, 8 known";
+
+/// Whether a session has the loaders of each plan.
+fn has_loaders<S>(session: &Session<S>, plans: &[Plan<'_>]) -> bool
+    ensures { result ≡ true → All (λ plan. length (plan_seen plan).bindings.loaders ≤ length session.now.loaders) plans.now }
+{
+    for plan in plans {
+        if session.loaders().len() < plan.loaders() {
+            return false;
+        }
+    }
+    true
+}
+
+/// Answers with workers.
+fn answers<R: Threads + Wait + Sync>(
+    rt: &R,
+    session: &mut Session<Probe<'_>>,
+    plans: &[Plan<'_>],
+    workers: usize,
+) -> Result<Result<Vec<Answer>, WorkFault>, Fail> {
+    if !has_loaders(session, plans) {
+        return Err(Fail::from("too few loaders"));
+    }
+    Ok(answer_all_with(rt, session, plans, workers))
+}
+
+/// What is told of the answers, or of the fault.
+fn told(alloc: Global, answered: Result<Vec<Answer>, WorkFault>) -> Result<String, AllocError> {
+    let mut text = String::new(alloc);
+    match answered {
+        Ok(answers) => {
+            for answer in &answers {
+                write!(text, "{} {} rounds; ", answer.text, answer.rounds)?;
+            }
+        }
+        Err(fault) => write!(text, "{fault}")?,
+    }
+    Ok(text)
+}
+
+/// What is told of the answers of a new session with so many workers, and what was asked.
+fn answers_told<R: Threads + Wait + AllocGlobal + Sync>(
+    rt: &R,
+    workers: usize,
+) -> Result<(String, String), Fail> {
+    let (schema, bindings) = read(rt.alloc())?;
+    let mut plans = Vec::new(rt.alloc());
+    for query in QUERIES {
+        plans.push(plan_of(rt.alloc(), &schema, &bindings, query)?)?;
+    }
+    let board = Board::new();
+    let mut session = session(rt.alloc(), &board, Manner::Prompt, None)?;
+    let answered = answers(rt, &mut session, &plans, workers)?;
+    let found = told(rt.alloc(), answered)?;
+    let batches = asked(rt.alloc(), &session, &board)?;
+    Ok((found, batches))
+}
+
+#[test]
+fn queries_share_the_rounds_of_two_workers(rt: HostRuntime) -> Result<(), Fail> {
+    let (found, batches) = answers_told(&rt, 2)?;
+    expect(&rt, &found, ANSWERS, "two queries");
+    expect(&rt, &batches, ASKED, "two queries");
+    Ok(())
+}
+
+#[test]
+fn no_worker_answers_no_query(rt: HostRuntime) -> Result<(), Fail> {
+    let (found, batches) = answers_told(&rt, 0)?;
+    expect(&rt, &found, "bad number of workers", "no worker");
+    expect(&rt, &batches, "0 calls, 0 known", "no worker");
+    Ok(())
+}
