@@ -43,10 +43,16 @@ FIELDS = {
     "Bot": [("id", "", None), ("model", "", None)],
 }
 BINDINGS_WORDS = [
-    "bindings", "1", "2", "loader", "field", "one", "each", "many", "via", "by", "fold", "arg", "column", "all", "#", "",
+    "bindings", "1", "2", "loader", "field", "one", "each", "many", "via", "by", "fold", "arg", "column", "all", "and", "both", "#", "",
     "userById", "allUsers", "postsByAuthor", "namedById", "likesByUser", "postById", "users", "posts", "named", "likes",
     "Query.user", "Query.usersByIds", "Query.users", "Query.named", "User.best", "User.posts", "User.liked", "Post.author",
     "User.name", "id", "ids", "author", "user", "post", "best", "nope", ".", "User.", "\t",
+]
+# lines of version 2
+BOTH = ("loader both likes by user post", "loader both likes by user post fold", "loader both likes by user user", "loader both likes by user nope")
+SECOND = [
+    "field User.best one both column id and column best", "field Query.user one both arg id and arg id", "field User.posts many both column id and column id",
+    "field User.liked via likesByUser column id postById post userById author", "field User.liked via both column id and column id postById post",
 ]
 CELLS = ["", "1", "2", "3", "Ada", "User", "Bot", "Cat", '"a,b"', '"a""b"', '"a\nb"', '"open', "é", "\x00", "1.0", "-1", "id", "name"]
 
@@ -119,12 +125,18 @@ def request(draw):
     return json.dumps(members, ensure_ascii=draw.random() < 0.5)
 
 
+def array(draw):
+    """An array of requests, and of values that are none."""
+    values = [request(draw) if draw.random() < 0.8 else draw.choice(("1", "null", "[]", "{}", '"a"')) for _ in range(draw.choice((0, 1, 2, 3, 16, 17)))]
+    return "[" + ",".join(values) + "]"
+
+
 def line(draw):
     """A request line without its line feed: bytes, JSON, or JSON with characters changed."""
     kind = draw.random()
     if kind < 0.1:
         return draw.randbytes(draw.randrange(60)).replace(b"\n", b"")
-    text = request(draw)
+    text = array(draw) if draw.random() < 0.2 else request(draw)
     if kind < 0.25:
         text = changed(draw, text)
     return text.replace("\n", " ").encode("utf-8", "surrogatepass")
@@ -142,6 +154,8 @@ def schema(draw):
 
 def bindings(draw):
     lines = EXAMPLE["bindings"].split("\n")
+    if draw.random() < 0.5:
+        lines = ["bindings 2", draw.choice(BOTH), *lines[1:], *draw.sample(SECOND, draw.randrange(3))]
     kind = draw.random()
     if kind < 0.5:
         for _ in range(draw.randrange(1, 3)):
@@ -164,11 +178,17 @@ def table(draw):
 
 
 def is_answer(text):
-    """Whether a line is an answer or a refusal, as docs/USING.md has it."""
+    """Whether a line is an answer or a refusal, or an array of them, as docs/USING.md has it."""
     try:
         value = json.loads(text)
     except ValueError:
         return False
+    if isinstance(value, list):
+        return 1 <= len(value) <= 16 and all(is_one_answer(it) for it in value)
+    return is_one_answer(value)
+
+
+def is_one_answer(value):
     if not isinstance(value, dict) or list(value) not in (["data"], ["errors"], ["errors", "data"]):
         return False
     errors = value.get("errors", [{"message": ""}])
