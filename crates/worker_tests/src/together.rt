@@ -24,6 +24,17 @@ const ANSWERS: &str =
 const ASKED: &str =
     "userById 1: 9; userById 3: 1 2; allUsers 1: all; postsByAuthor 2: 1 2 3 4; 4 calls, 8 known";
 
+/// Its round has two batches.
+const BOTH: [&str; 1] = ["{user(id:1){name} users{id}}"];
+
+const BOTH_MET: &str =
+    "{\"data\":{\"user\":{\"name\":\"Ada\"},\"users\":[{\"id\":\"1\"},{\"id\":\"2\"},{\"id\":\"3\"},{\"id\":\"4\"}]}} 1 rounds; ";
+
+const NONE_MET: &str =
+    "{\"errors\":[{\"message\":\"not met\",\"locations\":[{\"line\":1,\"column\":2}],\"path\":[\"user\"]},{\"message\":\"not met\",\"locations\":[{\"line\":1,\"column\":19}],\"path\":[\"users\"]}],\"data\":null} 1 rounds; ";
+
+const BOTH_ASKED: &str = "userById 1: 1; allUsers 1: all; 2 calls, 2 known";
+
 /// Whether a session has the loaders of each plan.
 fn has_loaders<S>(session: &Session<S>, plans: &[Plan<'_>]) -> bool
     ensures { result ≡ true → All (λ plan. length (plan_seen plan).bindings.loaders ≤ length session.now.loaders) plans.now }
@@ -63,18 +74,20 @@ fn told(alloc: Global, answered: Result<Vec<Answer>, WorkFault>) -> Result<Strin
     Ok(text)
 }
 
-/// What is told of the answers of a new session with so many workers, and what was asked.
+/// What is told of the answers of a new session over sources of this manner, with so many workers, and what was asked.
 fn answers_told<R: Threads + Wait + AllocGlobal + Sync>(
     rt: &R,
+    queries: &[&str],
+    manner: Manner,
     workers: usize,
 ) -> Result<(String, String), Fail> {
     let (schema, bindings) = read(rt.alloc())?;
     let mut plans = Vec::new(rt.alloc());
-    for query in QUERIES {
+    for query in queries {
         plans.push(plan_of(rt.alloc(), &schema, &bindings, query)?)?;
     }
     let board = Board::new();
-    let mut session = session(rt.alloc(), &board, Manner::Prompt, None)?;
+    let mut session = session(rt.alloc(), &board, manner, None)?;
     let answered = answers(rt, &mut session, &plans, workers)?;
     let found = told(rt.alloc(), answered)?;
     let batches = asked(rt.alloc(), &session, &board)?;
@@ -83,7 +96,7 @@ fn answers_told<R: Threads + Wait + AllocGlobal + Sync>(
 
 #[test]
 fn queries_share_the_rounds_of_two_workers(rt: HostRuntime) -> Result<(), Fail> {
-    let (found, batches) = answers_told(&rt, 2)?;
+    let (found, batches) = answers_told(&rt, &QUERIES, Manner::Prompt, 2)?;
     expect(&rt, &found, ANSWERS, "two queries");
     expect(&rt, &batches, ASKED, "two queries");
     Ok(())
@@ -91,8 +104,20 @@ fn queries_share_the_rounds_of_two_workers(rt: HostRuntime) -> Result<(), Fail> 
 
 #[test]
 fn no_worker_answers_no_query(rt: HostRuntime) -> Result<(), Fail> {
-    let (found, batches) = answers_told(&rt, 0)?;
+    let (found, batches) = answers_told(&rt, &QUERIES, Manner::Prompt, 0)?;
     expect(&rt, &found, "bad number of workers", "no worker");
     expect(&rt, &batches, "0 calls, 0 known", "no worker");
+    Ok(())
+}
+
+/// The two batches of the one round are run at the same time by two workers, and one after the other by one.
+#[test]
+fn batches_of_shared_rounds_are_run_at_the_same_time(rt: HostRuntime) -> Result<(), Fail> {
+    let (found, batches) = answers_told(&rt, &BOTH, Manner::Meeting, 2)?;
+    expect(&rt, &found, BOTH_MET, "two workers");
+    expect(&rt, &batches, BOTH_ASKED, "two workers");
+    let (found, batches) = answers_told(&rt, &BOTH, Manner::Meeting, 1)?;
+    expect(&rt, &found, NONE_MET, "one worker");
+    expect(&rt, &batches, BOTH_ASKED, "one worker");
     Ok(())
 }
