@@ -167,7 +167,8 @@ fn add_uses<'d>(
     literal: &'d Literal,
     uses: &mut Vec<VariableUse<'d>>,
 ) -> Result<(), AllocError>
-    ensures { OnOk result (map use_of uses.new.items ≡ map use_of uses.old.items ++ uses_in owner (option_map location_of location.entry) (literal_of literal.now)) }
+    ensures { OnOk result (map use_of uses.new.items
+        ≡ map use_of uses.old.items ++ uses_in owner (option_map location_of location.entry) (literal_of literal.now)) }
 {
     match &literal.value {
         Value::Variable(name) => {
@@ -198,7 +199,8 @@ fn add_item_uses<'d>(
     items: &'d [Literal],
     uses: &mut Vec<VariableUse<'d>>,
 ) -> Result<(), AllocError>
-    ensures { OnOk result (map use_of uses.new.items ≡ map use_of uses.old.items ++ uses_among owner (option_map location_of location.entry) (values_of (map literal_of items.now))) }
+    ensures { OnOk result (map use_of uses.new.items
+        ≡ map use_of uses.old.items ++ uses_among owner (option_map location_of location.entry) (values_of (map literal_of items.now))) }
 {
     for item in items {
         add_uses(owner, location, item, uses)?;

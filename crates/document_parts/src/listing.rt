@@ -81,7 +81,8 @@ pub fn spreads<'d>(
     selections: &[SelectionPart<'d>],
 ) -> Result<Vec<SpreadPart<'d>>, AllocError>
     requires { AreNumbers (map fragment_of fragments.now) numbers.now }
-    ensures { IfOk result (λ spreads. map spread_part_of spreads.items ≡ filter_map (spread_part (map fragment_of fragments.now)) (map selection_part_of selections.now)) }
+    ensures { IfOk result (λ spreads. map spread_part_of spreads.items
+        ≡ filter_map (spread_part (map fragment_of fragments.now)) (map selection_part_of selections.now)) }
 {
     let mut spreads = Vec::new(alloc);
     for part in selections {
@@ -187,7 +188,8 @@ fn add_variables<'d>(
     definitions: &'d [VariableDefinition],
     variables: &mut Vec<VariablePart<'d>>,
 ) -> Result<(), AllocError>
-    ensures { OnOk result (map variable_part_of variables.new.items ≡ map variable_part_of variables.old.items ++ variables_from operation (variables_of definitions.now)) }
+    ensures { OnOk result (map variable_part_of variables.new.items
+        ≡ map variable_part_of variables.old.items ++ variables_from operation (variables_of definitions.now)) }
 {
     for definition in definitions {
         variables.push(VariablePart {
@@ -219,7 +221,8 @@ fn add_directives<'d>(
     directives: &'d [Directive],
     lists: &mut Vec<DirectiveList<'d>>,
 ) -> Result<(), AllocError>
-    ensures { OnOk result (map directive_list_of lists.new.items ≡ map directive_list_of lists.old.items ++ directives_at owner location (directives_of directives.now)) }
+    ensures { OnOk result (map directive_list_of lists.new.items
+        ≡ map directive_list_of lists.old.items ++ directives_at owner location (directives_of directives.now)) }
 {
     if !directives.is_empty() {
         lists.push(DirectiveList {

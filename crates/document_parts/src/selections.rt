@@ -24,7 +24,8 @@ fn add_set<'d>(
     set: &'d SelectionSet,
     parts: &mut Vec<SelectionPart<'d>>,
 ) -> Result<(), AllocError>
-    ensures { OnOk result (map selection_part_of parts.new.items ≡ map selection_part_of parts.old.items ++ selections_in (tree_of schema.now) owner (option_copied parent.entry) (set_of set.now)) }
+    ensures { OnOk result (map selection_part_of parts.new.items
+        ≡ map selection_part_of parts.old.items ++ selections_in (tree_of schema.now) owner (option_copied parent.entry) (set_of set.now)) }
 {
     for selection in &set.selections {
         add_selection(schema, owner, parent, selection, parts)?;
@@ -41,7 +42,8 @@ fn add_selection<'d>(
     selection: &'d Selection,
     parts: &mut Vec<SelectionPart<'d>>,
 ) -> Result<(), AllocError>
-    ensures { OnOk result (map selection_part_of parts.new.items ≡ map selection_part_of parts.old.items ++ selections_from (tree_of schema.now) owner (option_copied parent.entry) (selection_of selection.now)) }
+    ensures { OnOk result (map selection_part_of parts.new.items
+        ≡ map selection_part_of parts.old.items ++ selections_from (tree_of schema.now) owner (option_copied parent.entry) (selection_of selection.now)) }
 {
     match selection {
         Selection::Field(field) => {

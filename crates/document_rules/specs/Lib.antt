@@ -1,4 +1,4 @@
--- Definitions, a file for each rule. Named and Repeated are shared; no public clause cites Scans, Rows and UseTable.
+-- Definitions, a file for each rule. Named and Repeated are shared; no public clause cites Scans, Rows, UseTable, UseRows and BatchSteps.
 pub mod Named
 pub mod Repeated
 pub mod Scans
@@ -20,3 +20,4 @@ pub mod VariablesUsed
 pub mod Rows
 pub mod UseTable
 pub mod UseRows
+pub mod BatchSteps

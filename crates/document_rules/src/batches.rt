@@ -1,18 +1,15 @@
 //! Which operations of a batch define a variable of each name, and which use one, as a set of operations for each
 //! name.
 
-ghost use Rattle.std.specs.Prelude.{◌≡◌, ◌≤◌, ◌<◌, ◌+◌, ◌==◌, ◌||◌, ◌&&◌, ◌^◌, ℕ, List, IfOk, OnOk, bytes_eq, length, map, drop, slice_index, slice_index_or, false, nat_lt};
-ghost use Rattle.std.specs.List.{list_any};
-ghost use Rattle.std.specs.HashMap.{get_by};
+ghost use Rattle.std.specs.Prelude.{◌≡◌, ◌≤◌, ◌<◌, ◌==◌, ◌&&◌, ◌^◌, ℕ, IfOk, OnOk, length};
 ghost use Rattle.gq_parser.specs.Tree.{operation_of};
-ghost use Rattle.document_parts.specs.Parts.{VariableUse as Use};
-ghost use Rattle.spread_graph.specs.Graphs.{GraphOf};
-ghost use Rattle.spread_graph.specs.Batches.{has, set_at, any_below, AreReachers};
-ghost use Rattle.document_rules.specs.Rows.{rows_of, row_at};
-ghost use Rattle.document_rules.specs.UsesDefined.{one_lacks};
-ghost use Rattle.document_rules.specs.UseTable.{is_numbered, has_if};
-ghost use Rattle.document_rules.specs.UseRows.{use_at, IsUseTable, is_number_among, defines_at, is_used_at, is_used_in, has_number};
+ghost use Rattle.spread_graph.specs.Batches.{has, set_at, any_below};
+ghost use Rattle.document_rules.specs.Rows.{rows_of};
+ghost use Rattle.document_rules.specs.UseTable.{has_if};
+ghost use Rattle.document_rules.specs.UseRows.{is_number_among, is_used_at, is_used_in, has_number};
+ghost use Rattle.document_rules.specs.BatchSteps.{number_by, has_numbered, Adds, AreDefiners, NotesLacking};
 
+use crate::batch::Batch;
 use crate::use_table::{Numbers, UseTable, number_at};
 use gq_parser::Operation;
 use spread_graph::{
@@ -31,7 +28,7 @@ fn add_defined(
     sets: &mut Sets,
 ) -> Result<(), AllocError>
     requires { number < 64 }
-    ensures { (n m : ℕ) → OnOk result (has (set_at sets.new.items n) m ≡ ((m == number && list_any (is_numbered (λ q. get_by (λ k. bytes_eq q k.now) names.now) n) (operation_of operation.now).variables) || has (set_at sets.old.items n) m)) }
+    ensures { OnOk result (Adds (λ n m. m == number && has_numbered (number_by names.now) n (operation_of operation.now)) sets.old.items sets.new.items) }
 {
     for variable in &operation.variables {
         if let Some(name) = names.get(variable.name.as_str()) {
@@ -42,22 +39,14 @@ fn add_defined(
     Ok(())
 }
 
-// For each name, the operations of a batch that define a variable of that name. The batch is `count` operations from
-// `first` on.
-fn defined(
-    alloc: Global,
-    names: &Numbers,
-    operations: &[Operation],
-    first: usize,
-    count: usize,
-) -> Result<Sets, AllocError>
-    requires count { count ≤ 64 }
-    requires within { first + count ≤ length operations.now }
-    ensures { IfOk result (λ sets. (n m : ℕ) → has (set_at sets.items n) m ≡ (nat_lt m count && defines_at (λ q. get_by (λ k. bytes_eq q k.now) names.now) n (map operation_of operations.now) (first + m))) }
+// For each name, the operations of a batch that define a variable of that name.
+fn defined(alloc: Global, names: &Numbers, batch: &Batch) -> Result<Sets, AllocError>
+    ensures { IfOk result (λ sets. AreDefiners batch.now (number_by names.now) sets.items) }
 {
     let mut sets: Sets = Vec::new(alloc);
-    for number in 0..count {
-        add_defined(names, &operations[first + number], number, &mut sets)?;
+    for number in 0..batch.count {
+        let operation = &batch.operations[batch.first + number];
+        add_defined(names, operation, number, &mut sets)?;
     }
     Ok(sets)
 }
@@ -66,31 +55,23 @@ fn defined(
 /// operation or fragment the one use that stands for the others.
 pub fn note_lacking(
     alloc: Global,
-    operations: &[Operation],
     table: &UseTable,
-    first: usize,
-    count: usize,
-    reached: &[BatchSet],
+    batch: &Batch,
     lacking: &mut Vec<bool>,
 ) -> Result<(), AllocError>
-    requires first { first < 2 ^ 63 }
-    requires count { count ≤ 64 }
-    requires within { first + count ≤ length operations.now }
-    ensures { (g : GraphOf) (uses : List Use) (k : ℕ) → IsUseTable uses table.now → AreReachers g first count reached.now → k < length uses →
-        OnOk result ((slice_index_or lacking.new.items (slice_index table.now.stand_ins.items k) false || one_lacks g (first + count) (drop (first + count) (map operation_of operations.now)) (use_at uses k))
-        ≡ (slice_index_or lacking.old.items (slice_index table.now.stand_ins.items k) false || one_lacks g first (drop first (map operation_of operations.now)) (use_at uses k))) }
+    ensures { OnOk result (NotesLacking batch.now table.now lacking.old.items lacking.new.items) }
 {
-    let sets = defined(alloc, &table.names, operations, first, count)?;
-    let numbers = &table.numbers;
+    let sets = defined(alloc, &table.names, batch)?;
+    let (rows, numbers) = (&table.rows, &table.numbers);
     note_missing_in_operations(
-        &table.rows.operations,
-        first,
-        count,
+        &rows.operations,
+        batch.first,
+        batch.count,
         numbers,
         &sets,
         lacking,
     )?;
-    note_missing_in_fragments(&table.rows.fragments, reached, numbers, &sets, lacking)?;
+    note_missing_in_fragments(&rows.fragments, &batch.reached, numbers, &sets, lacking)?;
     Ok(())
 }
 
@@ -101,7 +82,7 @@ fn add_uses(
     numbers: &[usize],
     sets: &mut Sets,
 ) -> Result<(), AllocError>
-    ensures { (n m : ℕ) → OnOk result (has (set_at sets.new.items n) m ≡ ((is_number_among numbers.now n row.now && has reached_by m) || has (set_at sets.old.items n) m)) }
+    ensures { OnOk result (Adds (λ n m. is_number_among numbers.now n row.now && has reached_by m) sets.old.items sets.new.items) }
 {
     for place in row {
         let number = number_at(numbers, *place);
@@ -118,7 +99,7 @@ fn add_uses_in_fragments(
     numbers: &[usize],
     sets: &mut Sets,
 ) -> Result<(), AllocError>
-    ensures { (n m : ℕ) → OnOk result (has (set_at sets.new.items n) m ≡ (any_below (is_used_in numbers.now n (rows_of rows.now) reached.now m) (length reached.now) || has (set_at sets.old.items n) m)) }
+    ensures { OnOk result (Adds (λ n m. any_below (is_used_in numbers.now n (rows_of rows.now) reached.now m) (length reached.now)) sets.old.items sets.new.items) }
 {
     for fragment in 0..reached.len() {
         add_uses(row_of(rows, fragment), reached[fragment], numbers, sets)?;
@@ -136,7 +117,7 @@ fn add_uses_in_operations(
 ) -> Result<(), AllocError>
     requires first { first < 2 ^ 63 }
     requires count { count ≤ 64 }
-    ensures { (n m : ℕ) → OnOk result (has (set_at sets.new.items n) m ≡ (any_below (is_used_at numbers.now n (rows_of rows.now) first m) count || has (set_at sets.old.items n) m)) }
+    ensures { OnOk result (Adds (λ n m. any_below (is_used_at numbers.now n (rows_of rows.now) first m) count) sets.old.items sets.new.items) }
 {
     for number in 0..count {
         let own = row_of(rows, first + number);
@@ -146,21 +127,20 @@ fn add_uses_in_operations(
 }
 
 /// For each name, the operations of a batch that reach a use of it.
-pub fn used(
-    alloc: Global,
-    table: &UseTable,
-    first: usize,
-    count: usize,
-    reached: &[BatchSet],
-) -> Result<Sets, AllocError>
-    requires first { first < 2 ^ 63 }
-    requires count { count ≤ 64 }
-    ensures { IfOk result (λ sets. (n m : ℕ) → has (set_at sets.items n) m ≡ has_number table.now first count reached.now m n) }
+pub fn used(alloc: Global, table: &UseTable, batch: &Batch) -> Result<Sets, AllocError>
+    ensures { IfOk result (λ sets. (n m : ℕ) → has (set_at sets.items n) m
+        ≡ has_number table.now batch.now.first batch.now.count batch.now.reached.items m n) }
 {
     let mut sets: Sets = Vec::new(alloc);
-    let rows = &table.rows;
-    add_uses_in_operations(&rows.operations, first, count, &table.numbers, &mut sets)?;
-    add_uses_in_fragments(&rows.fragments, reached, &table.numbers, &mut sets)?;
+    let (rows, numbers) = (&table.rows, &table.numbers);
+    add_uses_in_operations(
+        &rows.operations,
+        batch.first,
+        batch.count,
+        numbers,
+        &mut sets,
+    )?;
+    add_uses_in_fragments(&rows.fragments, &batch.reached, numbers, &mut sets)?;
     Ok(sets)
 }
 

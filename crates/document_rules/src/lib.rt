@@ -6,6 +6,7 @@
 #![tactic(auto)]
 
 mod arguments;
+mod batch;
 mod batches;
 mod directives;
 mod fragments;

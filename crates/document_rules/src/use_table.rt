@@ -18,7 +18,8 @@ pub type Numbers<'d> = HashMap<&'d str, usize>;
 
 // Notes the place of a use, unless its name was noted before.
 fn note_use<'d>(names: &mut Numbers<'d>, name: &'d str, place: usize) -> Result<(), AllocError>
-    ensures { (q : List ℕ) → OnOk result (get_by (λ k. bytes_eq q k.now) names.new ≡ or_else (get_by (λ k. bytes_eq q k.now) names.old) (if bytes_eq q name.now then Some place else None)) }
+    ensures { (q : List ℕ) → OnOk result (get_by (λ k. bytes_eq q k.now) names.new
+        ≡ or_else (get_by (λ k. bytes_eq q k.now) names.old) (if bytes_eq q name.now then Some place else None)) }
 {
     names.entry(name)?.or_insert(place);
     Ok(())
@@ -77,7 +78,8 @@ pub struct UseRows {
 
 impl UseRows {
     fn add(&mut self, alloc: Global, owner: Owner, place: usize) -> Result<(), AllocError>
-        ensures { (o : _) → OnOk result (row (rows_in self.new) o ≡ (if is_same_owner o owner then row (rows_in self.old) o ++ place ∷ [] else row (rows_in self.old) o)) }
+        ensures { (o : _) → OnOk result (row (rows_in self.new) o
+            ≡ (if is_same_owner o owner then row (rows_in self.old) o ++ place ∷ [] else row (rows_in self.old) o)) }
     {
         match owner {
             Owner::Operation(i) => add_to_row(alloc, &mut self.operations, i, place)?,
@@ -104,7 +106,8 @@ fn stand_in(
     number: usize,
     place: usize,
 ) -> Result<usize, AllocError>
-    ensures { (uses : List Use) (numbers : List ℕ) → Stands uses numbers owner number place → IsUpTo uses numbers (rows_in rows.old) lasts.old.items place → IfOk result (λ s. IsNext uses numbers (rows_in rows.old) (rows_in rows.new) lasts.new.items owner number place s) }
+    ensures { (uses : List Use) (numbers : List ℕ) → Stands uses numbers owner number place → IsUpTo uses numbers (rows_in rows.old) lasts.old.items place
+        → IfOk result (λ s. IsNext uses numbers (rows_in rows.old) (rows_in rows.new) lasts.new.items owner number place s) }
 {
     if let Some(Some(last)) = lasts.get(number) {
         if is_same_owner(last.owner, owner) {

@@ -1,27 +1,24 @@
 //! The rules on variables that need no types (section 5.8).
 
-ghost use Rattle.std.specs.Prelude.{◌≡◌, ◌<◌, ◌≤◌, ◌+◌, ◌^◌, ℕ, List, [], false, not, IsTrue, IfOk, OnOk, length, map, filter, drop, bytes_eq, slice_index, slice_index_or};
-ghost use Rattle.std.specs.HashMap.{get_by};
+ghost use Rattle.std.specs.Prelude.{◌≡◌, ◌<◌, ℕ, List, [], false, IsTrue, IfOk, OnOk, map, slice_index_or};
 ghost use Rattle.std.specs.Option.{option_map};
 ghost use Rattle.gq_parser.specs.Tree.{operation_of};
 ghost use Rattle.document_parts.specs.Broken.{broken_of, earliest};
 ghost use Rattle.document_parts.specs.Parts.{VariableUse as Use, parts_in};
 ghost use Rattle.spread_graph.specs.Graphs.{GraphOf, graph_of};
-ghost use Rattle.spread_graph.specs.Batches.{AreReachers};
 ghost use Rattle.document_rules.specs.VariableNames.{variable_uniqueness};
-ghost use Rattle.document_rules.specs.UsesDefined.{one_lacks, all_variable_uses_defined};
-ghost use Rattle.document_rules.specs.Named.{named_variable};
-ghost use Rattle.document_rules.specs.Scans.{Tells, with_all};
+ghost use Rattle.document_rules.specs.UsesDefined.{all_variable_uses_defined};
+ghost use Rattle.document_rules.specs.Scans.{Tells};
 ghost use Rattle.document_rules.specs.VariablesUsed.{unused_variables, all_variables_used};
-ghost use Rattle.document_rules.specs.UseTable.{has_if};
-ghost use Rattle.document_rules.specs.UseRows.{use_at, IsUseTable};
+ghost use Rattle.document_rules.specs.BatchSteps.{number_by, AreLacking, unused_by, TellsUnused};
 
+use crate::batch::Batch;
 use crate::batches::{has_if, note_lacking, used};
 use crate::names::add_repeated;
 use crate::use_table::{Numbers, UseTable, number_at};
 use document_parts::{Broken, Earliest, Parts};
 use gq_parser::Operation;
-use spread_graph::{BatchSet, Graph, batch_from, edges_of, reachers};
+use spread_graph::{BatchSet, Graph, edges_of};
 use std::alloc::{AllocError, Global};
 
 /// Variable Uniqueness (section 5.8.1): a variable whose name an earlier one of its operation has.
@@ -47,24 +44,15 @@ fn lacking_uses(
     graph: &Graph,
     table: &UseTable,
 ) -> Result<Vec<bool>, AllocError>
-    ensures { (uses : List Use) → IsUseTable uses table.now → IfOk result (λ lacking. (k : ℕ) → k < length uses → slice_index_or lacking.items (slice_index table.now.stand_ins.items k) false ≡ one_lacks graph.now 0 (map operation_of operations.now) (use_at uses k)) }
+    ensures { IfOk result (λ lacking. AreLacking graph.now (map operation_of operations.now) table.now lacking.items) }
 {
     let edges = edges_of(alloc, graph)?;
     let mut lacking = Vec::new(alloc);
     let mut first = 0;
     while first < operations.len() {
-        let count = batch_from(first, operations.len());
-        let reached = reachers(alloc, graph, &edges, first, count)?;
-        note_lacking(
-            alloc,
-            operations,
-            table,
-            first,
-            count,
-            &reached,
-            &mut lacking,
-        )?;
-        first += count;
+        let batch = Batch::new(alloc, operations, graph, &edges, first)?;
+        note_lacking(alloc, table, &batch, &mut lacking)?;
+        first += batch.count;
     }
     Ok(lacking)
 }
@@ -109,7 +97,7 @@ fn add_unused<'d>(
     earliest: &mut Earliest<'d>,
 )
     requires { number < 64 }
-    ensures { Tells earliest.old earliest.new (map named_variable (filter (λ v. not (has_if used.now number (get_by (λ k. bytes_eq v.name k.now) names.now))) (operation_of operation.now).variables)) }
+    ensures { Tells earliest.old earliest.new (unused_by used.now number (number_by names.now) (operation_of operation.now)) }
 {
     for variable in &operation.variables {
         let name = names.get(variable.name.as_str()).copied();
@@ -122,22 +110,15 @@ fn add_unused<'d>(
 // Reports the variables that the operations of a batch never use.
 fn add_unused_of_batch<'d>(
     alloc: Global,
-    operations: &'d [Operation],
     table: &UseTable,
-    first: usize,
-    count: usize,
-    reached: &[BatchSet],
+    batch: &Batch<'d>,
     earliest: &mut Earliest<'d>,
 ) -> Result<(), AllocError>
-    requires first { first < 2 ^ 63 }
-    requires count { count ≤ 64 }
-    requires within { first + count ≤ length operations.now }
-    ensures { (g : GraphOf) (uses : List Use) → IsUseTable uses table.now → AreReachers g first count reached.now →
-        OnOk result (with_all earliest.new (unused_variables g uses (first + count) (drop (first + count) (map operation_of operations.now))) ≡ with_all earliest.old (unused_variables g uses first (drop first (map operation_of operations.now)))) }
+    ensures { OnOk result (TellsUnused batch.now table.now earliest.old earliest.new) }
 {
-    let used = used(alloc, table, first, count, reached)?;
-    for number in 0..count {
-        let operation = &operations[first + number];
+    let used = used(alloc, table, batch)?;
+    for number in 0..batch.count {
+        let operation = &batch.operations[batch.first + number];
         add_unused(operation, &table.names, &used, number, earliest);
     }
     Ok(())
@@ -173,18 +154,9 @@ pub fn all_variables_used<'d>(
     let mut earliest = Earliest::new();
     let mut first = 0;
     while first < operations.len() {
-        let count = batch_from(first, operations.len());
-        let reached = reachers(alloc, graph, &edges, first, count)?;
-        add_unused_of_batch(
-            alloc,
-            operations,
-            &table,
-            first,
-            count,
-            &reached,
-            &mut earliest,
-        )?;
-        first += count;
+        let batch = Batch::new(alloc, operations, graph, &edges, first)?;
+        add_unused_of_batch(alloc, &table, &batch, &mut earliest)?;
+        first += batch.count;
     }
     Ok(earliest.found)
 }

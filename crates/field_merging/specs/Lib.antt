@@ -1,6 +1,7 @@
 pub mod Agreeing
 pub mod Attributes
 pub mod Compare
+pub mod Knowledge
 pub mod Members
 pub mod Numbered
 pub mod Orders

@@ -6,6 +6,7 @@ use Rattle.merge_table.specs.Sets.{has}
 use Rattle.gq_parser.specs.Tree.{Field, Selection}
 use Rattle.selection_members.specs.Members.{count_below, members_below}
 use Rattle.selection_members.specs.Walks.{to, renumbered}
+use Rattle.selection_members.specs.Written.{written_fields, belows, AreOwn}
 use Rattle.document_parts.specs.Parts.{FieldPart, PartsOf}
 use Rattle.field_merging.specs.declared.attributes.Attribute.TheVariants.{Key, Selected, Parent, Shape}
 use Rattle.field_merging.specs.Attributes.{number_of}
@@ -39,3 +40,16 @@ AreInside fields = (a : ℕ) (f : FieldPart) → slice_get fields a ≡ Some f �
 -- the order has each field of the document at its number
 abbrev pub IsInverse : List ℕ → List ℕ → ℕ → Type 0
 IsInverse order numbers n = (a : ℕ) → a < n → slice_get order (to numbers a) ≡ Some a
+
+-- each row has the members of the own set of its field
+abbrev pub AreOwnRows : PartsOf → List ℕ → (List ℕ → List ℕ) → List (List ℕ) → Type 0
+AreOwnRows p numbers spread rows = AreOwn numbers spread 0 (belows (written_fields p.document)) rows
+
+-- this holds of the field of the number a, where the rows have the members of the own sets of all fields
+abbrev pub ForFieldAt : PartsOf → List (List ℕ) → ℕ → (List ℕ → (List ℕ → List ℕ) → FieldPart → Type 0) → Type 0
+ForFieldAt p rows a P = (numbers : List ℕ) (spread : List ℕ → List ℕ) (f : FieldPart) → AreOwnRows p numbers spread rows
+    → slice_get p.fields a ≡ Some f → P numbers spread f
+
+-- the fields of a table are those of these numbers, where the rows have the members of the own sets of all fields
+abbrev pub AreNumberedBy : PartsOf → List (List ℕ) → List ℕ → List table.Field → Type 0
+AreNumberedBy p rows order fields = (numbers : List ℕ) (spread : List ℕ → List ℕ) → AreOwnRows p numbers spread rows → AreNumbered p numbers spread order fields

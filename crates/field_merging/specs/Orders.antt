@@ -3,7 +3,7 @@ use Rattle.std.specs.Prelude.{◌≡◌, ◌<◌, ℕ, Bool, true, false, List, 
 use Rattle.std.specs.List.{list_all}
 use Rattle.document_parts.specs.declared.part.Owner.TheVariants as owner
 use Rattle.merge_table.specs.Numbered.{is_in}
-use Rattle.spread_graph.specs.Graphs.{GraphOf}
+use Rattle.spread_graph.specs.Graphs.{GraphOf, row}
 use Rattle.spread_graph.specs.Reach.{spreads, is_cyclic, are_known}
 use Rattle.spread_graph.specs.Walks.{IsMarked}
 
@@ -35,3 +35,7 @@ pub record IsPart (g : GraphOf) (order : List ℕ) (marks : List Bool) : Type 0 
   pub below : (k x : ℕ) → slice_get order k ≡ Some x → x < length g.fragments
   pub after : (k x j : ℕ) → slice_get order k ≡ Some x → spreads g (owner.Fragment x) j ≡ true → Stands order k j
   pub marked : (x : ℕ) → IsMarked marks x → Stands order (length order) x
+
+-- a fragment is marked if all that it spreads were marked before
+abbrev pub TakesReady : GraphOf → List Bool → List Bool → ℕ → Type 0
+TakesReady g old new x = x < length g.fragments → are_marked old (row g (owner.Fragment x)) ≡ true → IsMarked new x

@@ -1,9 +1,10 @@
 -- The fields that selection sets have, as they are written and without any number, in the order of `selection_members`.
-use Rattle.std.specs.Prelude.{ℕ, zero, suc, List, [], ◌∷◌, ◌++◌, map, length, Option, Some, slice_get, if◌then◌else◌}
+use Rattle.std.specs.Prelude.{ℕ, zero, suc, ◌+◌, List, [], ◌∷◌, ◌++◌, map, length, Option, Some, slice_get, if◌then◌else◌}
 use Rattle.gq_lexer.specs.declared.place.Place.{Place}
 use Rattle.gq_parser.specs.Tree.{Field, Spread, Inline, Below, nothing_below, below, SelectionSet, set_at, Selection, Selections, no_selection, and_selection, Operation, Fragment, Document}
 use Rattle.selection_members.specs.Fragments.{is_named}
-use Rattle.selection_members.specs.Members.{SetOf}
+use Rattle.selection_members.specs.Members.{SetOf, members_below, members_of_fragment}
+use Rattle.selection_members.specs.Written.{own_below}
 
 -- `spread` gives those of the fragment of a name
 abbrev mutual
@@ -76,3 +77,13 @@ selecting_sets d = selecting_operations (selected_by_fragment d) d.operations ++
 -- a set whose members are looked up by their numbers among all fields
 abbrev pub looked_up : List Selection → SetOf → SelectedBy
 looked_up all s = record { place = s.place; fields = map (slice_get all) s.members }
+
+-- ---- the own set of a field
+
+-- its members, where the field has the number a
+abbrev pub own_members : Document → ℕ → Selection → List ℕ
+own_members d a f = members_below (members_of_fragment d) (a + 1) (own_below f)
+
+-- the fields that it has
+abbrev pub own_selected : Document → Selection → List Selection
+own_selected d f = selected_below (selected_by_fragment d) (own_below f)

@@ -1,14 +1,10 @@
 //! The fields of a document under their numbers in the table of pairs.
 
-ghost use Rattle.std.specs.Prelude.{◌≡◌, ◌<◌, ◌+◌, ℕ, List, Some, length, slice_get, IfOk};
-ghost use Rattle.merge_table.specs.Numbered.{is_in};
-ghost use Rattle.merge_table.specs.Sets.{has};
+ghost use Rattle.std.specs.Prelude.{◌≡◌, ◌<◌, ◌+◌, ℕ, Some, length, slice_get, IfOk};
 ghost use Rattle.selection_members.specs.Members.{members_below};
-ghost use Rattle.selection_members.specs.Walks.{renumbered};
-ghost use Rattle.selection_members.specs.Written.{written_fields, belows, AreOwn};
-ghost use Rattle.document_parts.specs.Parts as listed;
+ghost use Rattle.selection_members.specs.Written.{HasAll};
 ghost use Rattle.document_parts.specs.Parts.{parts_in};
-ghost use Rattle.field_merging.specs.Numbered.{IsNumbered, AreNumbered};
+ghost use Rattle.field_merging.specs.Numbered.{IsNumbered, ForFieldAt, AreNumberedBy};
 
 use crate::attributes::{Attribute, is_object_parent, number_of};
 use document_parts::Parts;
@@ -18,7 +14,7 @@ use std::alloc::{AllocError, Global};
 // The members of the own set of the field of a number, where `members` are those of all fields.
 fn members_of(parts: &Parts, members: &[Row], number: usize) -> Row
     requires there { number < length members.now }
-    ensures { (numbers : List ℕ) (spread : List ℕ → List ℕ) (f : listed.FieldPart) → AreOwn numbers spread 0 (belows (written_fields (parts_in parts.now).document)) members.now → slice_get (parts_in parts.now).fields number ≡ Some f → (i : ℕ) → has result i ≡ is_in (renumbered numbers (members_below spread (number + 1) f.below)) i }
+    ensures { ForFieldAt (parts_in parts.now) members.now number (λ numbers spread f. HasAll numbers result (members_below spread (number + 1) f.below)) }
 {
     let mut row = Row::new();
     row.add_all(&members[number]);
@@ -29,7 +25,7 @@ fn members_of(parts: &Parts, members: &[Row], number: usize) -> Row
 fn numbered(parts: &Parts, members: &[Row], number: usize) -> Field
     requires there { number < length (parts_in parts.now).fields }
     requires len { length members.now ≡ length (parts_in parts.now).fields }
-    ensures { (numbers : List ℕ) (spread : List ℕ → List ℕ) (f : listed.FieldPart) → AreOwn numbers spread 0 (belows (written_fields (parts_in parts.now).document)) members.now → slice_get (parts_in parts.now).fields number ≡ Some f → IsNumbered (parts_in parts.now) numbers spread number f result }
+    ensures { ForFieldAt (parts_in parts.now) members.now number (λ numbers spread f. IsNumbered (parts_in parts.now) numbers spread number f result) }
 {
     let field = &parts.fields[number];
     Field {
@@ -53,7 +49,7 @@ pub fn numbered_fields(
 ) -> Result<Vec<Field>, AllocError>
     requires there { (k a : ℕ) → slice_get order.now k ≡ Some a → a < length (parts_in parts.now).fields }
     requires len { length members.now ≡ length (parts_in parts.now).fields }
-    ensures { (numbers : List ℕ) (spread : List ℕ → List ℕ) → AreOwn numbers spread 0 (belows (written_fields (parts_in parts.now).document)) members.now → IfOk result (λ fields. AreNumbered (parts_in parts.now) numbers spread order.now fields.items) }
+    ensures { IfOk result (λ fields. AreNumberedBy (parts_in parts.now) members.now order.now fields.items) }
 {
     let mut fields = Vec::with_capacity(alloc, order.len())?;
     for number in order {

@@ -1,42 +1,22 @@
 //! What is known of a document before its fields are compared.
 
-ghost use Rattle.std.specs.Prelude.{◌≡◌, ◌≤◌, ◌<◌, ◌+◌, ℕ, List, length, IfOk};
+ghost use Rattle.std.specs.Prelude.{◌≡◌, ◌≤◌, length, IfOk};
 ghost use Rattle.gq_parser.specs.Tree.{document_of};
 ghost use Rattle.merge_table.specs.Numbered.{AreInOrder};
 ghost use Rattle.merge_table.specs.Table.{IsBelow};
-ghost use Rattle.selection_members.specs.Fragments.{place_in, AreTargets};
-ghost use Rattle.selection_members.specs.Members.{count_operations, count_fragments, members_of_fragment, starts_from};
-ghost use Rattle.selection_members.specs.Placed.{ArePlaced, IsNumbering};
-ghost use Rattle.selection_members.specs.Ranked.{IsOrder};
-ghost use Rattle.selection_members.specs.Walks.{to, Knows, IsFixed};
+ghost use Rattle.selection_members.specs.Fragments.{AreTargets};
+ghost use Rattle.selection_members.specs.Members.{count_operations, members_of_fragment, starts_from};
+ghost use Rattle.selection_members.specs.Placed.{IsNumbering};
+ghost use Rattle.selection_members.specs.Walks.{IsFixed};
 ghost use Rattle.document_parts.specs.Parts.{parts_in};
-ghost use Rattle.field_merging.specs.Numbered.{AreInside, IsInverse, AreNumbered};
+ghost use Rattle.field_merging.specs.Knowledge.{IsFragmentOrder, AreNumberedIn};
 
 use crate::fields::numbered_fields;
+use crate::known::Grounds;
 use document_parts::Parts;
 use merge_table::{Field, Row};
 use selection_members::{Numbering, Source, Targets, Walk, known_fragments, members_of_fields};
 use std::alloc::{AllocError, Global};
-
-/// What is known of a document whose fragments don't reach themselves.
-#[derive(Clone, Copy)]
-pub struct Grounds<'a, 'd> {
-    pub parts: &'a Parts<'d>,
-    pub targets: &'a Targets<'d>,
-    pub starts: &'a [usize],
-    pub order: &'a [usize],
-    pub numbers: &'a [usize],
-    ghost few: { length order.now ≤ 1024 },
-    ghost whole: { length numbers.now ≡ length order.now },
-    ghost all: { length order.now ≡ length (parts_in parts.now).fields },
-    ghost inverse: { IsInverse order.now numbers.now (length order.now) },
-    ghost placed: { ArePlaced (document_of parts.now.document.now) order.now numbers.now },
-    ghost named: { AreTargets (document_of parts.now.document.now).fragments targets.now },
-    ghost started: { starts.now ≡ starts_from (count_operations (document_of parts.now.document.now).operations) (document_of parts.now.document.now).fragments },
-    ghost counted: { count_operations (document_of parts.now.document.now).operations + count_fragments (document_of parts.now.document.now).fragments ≡ length (parts_in parts.now).fields },
-    ghost inside: { AreInside (parts_in parts.now).fields },
-    ghost fixed: { IsFixed (members_of_fragment (document_of parts.now.document.now)) (document_of parts.now.document.now) },
-}
 
 /// These, where fields have places.
 pub fn grounds_of<'a, 'd>(
@@ -79,8 +59,8 @@ pub fn fields_in_order(
     grounds: &Grounds,
     fragments: &[usize],
 ) -> Result<Vec<Field>, AllocError>
-    requires fragments { IsOrder fragments.now (place_in (document_of grounds.now.parts.now.document.now).fragments) (document_of grounds.now.parts.now.document.now).fragments }
-    ensures numbered { IfOk result (λ fields. AreNumbered (parts_in grounds.now.parts.now) grounds.now.numbers.now (members_of_fragment (document_of grounds.now.parts.now.document.now)) grounds.now.order.now fields.items) }
+    requires fragments { IsFragmentOrder fragments.now grounds.now }
+    ensures numbered { IfOk result (λ fields. AreNumberedIn grounds.now fields.items) }
     ensures order { IfOk result (λ fields. AreInOrder fields.items) }
 {
     let blank = blank_rows(alloc, grounds.order.len())?;

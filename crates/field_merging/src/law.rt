@@ -1,10 +1,10 @@
 //! What holds of the definition.
 
-ghost use Rattle.std.specs.Prelude.{◌≡◌, ◌≤◌, ◌+◌, ℕ, List, [], Option, Some, length, map, slice_get};
+ghost use Rattle.std.specs.Prelude.{◌≡◌, ◌≤◌, ℕ, List, [], Option, Some, length, map, slice_get};
 ghost use Rattle.gq_parser.specs.Tree.{Document, Selection};
 ghost use Rattle.schema_syntax.specs.Tree.{Definition};
-ghost use Rattle.selection_members.specs.Members.{members_below, members_entered, members_of_fragment, sets_of};
-ghost use Rattle.selection_members.specs.Written.{written_fields, own_below};
+ghost use Rattle.selection_members.specs.Members.{members_entered, members_of_fragment, sets_of};
+ghost use Rattle.selection_members.specs.Written.{written_fields};
 ghost use Rattle.document_parts.specs.Broken.{BrokenOf};
 ghost use Rattle.document_parts.specs.Listing.{fields_of, parts_of};
 ghost use Rattle.document_parts.specs.Parts.{PartsOf};
@@ -12,7 +12,7 @@ ghost use Rattle.spread_graph.specs.Levels.{levels_expanded};
 ghost use Rattle.spread_graph.specs.Rules.{fragment_cycles};
 ghost use Rattle.field_merging.specs.Numbered.{as_written};
 ghost use Rattle.field_merging.specs.Rule.{IsMerging};
-ghost use Rattle.field_merging.specs.Selected.{selected_below, selected_by_fragment, selecting_sets, looked_up};
+ghost use Rattle.field_merging.specs.Selected.{own_members, own_selected, selecting_sets, looked_up};
 
 /// Of the selection sets of a document that can't be merged one is told, with its first response key that has a failing pair.
 pub fn one_set_is_told()
@@ -29,17 +29,20 @@ pub fn fields_are_listed_as_written()
 /// a document, and those of the own set of each field.
 pub fn numbers_name_fields()
     ensures sets { (d : Document) → map (looked_up (written_fields d)) (sets_of d) ≡ selecting_sets d }
-    ensures own { (d : Document) (a : ℕ) (f : Selection) → slice_get (written_fields d) a ≡ Some f → map (slice_get (written_fields d)) (members_below (members_of_fragment d) (a + 1) (own_below f)) ≡ map Some (selected_below (selected_by_fragment d) (own_below f)) }
+    ensures own { (d : Document) (a : ℕ) (f : Selection) → slice_get (written_fields d) a ≡ Some f
+        → map (slice_get (written_fields d)) (own_members d a f) ≡ map Some (own_selected d f) }
 {}
 
 /// Where no fragment reaches itself, a fragment has the same members however many fragments may be entered, one inside another: as
 /// many as there are cut nothing off.
 pub fn all_members_are_entered()
-    ensures { (definitions : List Definition) (d : Document) → fragment_cycles (parts_of definitions d) ≡ [] → (k : ℕ) → length d.fragments ≤ k → (name : List ℕ) → members_entered k d name ≡ members_of_fragment d name }
+    ensures { (definitions : List Definition) (d : Document) → fragment_cycles (parts_of definitions d) ≡ []
+        → (k : ℕ) → length d.fragments ≤ k → (name : List ℕ) → members_entered k d name ≡ members_of_fragment d name }
 {}
 
 /// Where no fragment reaches itself, a fragment has the same levels however many fragments a path may expand: as many as there are
 /// cut nothing off.
 pub fn all_levels_are_counted()
-    ensures { (definitions : List Definition) (d : Document) → fragment_cycles (parts_of definitions d) ≡ [] → (k : ℕ) → length d.fragments ≤ k → (j : ℕ) → levels_expanded k d.fragments j ≡ levels_expanded (length d.fragments) d.fragments j }
+    ensures { (definitions : List Definition) (d : Document) → fragment_cycles (parts_of definitions d) ≡ []
+        → (k : ℕ) → length d.fragments ≤ k → (j : ℕ) → levels_expanded k d.fragments j ≡ levels_expanded (length d.fragments) d.fragments j }
 {}

@@ -11,6 +11,7 @@ mod attributes;
 mod clashing;
 mod fields;
 mod grounds;
+mod known;
 mod law;
 mod merging;
 mod ranks;

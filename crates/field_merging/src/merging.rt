@@ -1,27 +1,25 @@
 //! The rule (section 5.3.2).
 
-ghost use Rattle.std.specs.Prelude.{◌≡◌, ◌<◌, ◌≤◌, ◌+◌, [], ℕ, List, true, length, map, All, IfOk, IfSome};
+ghost use Rattle.std.specs.Prelude.{◌≡◌, ◌<◌, ◌≤◌, [], ℕ, List, length, map, All, IfOk, IfSome};
 ghost use Rattle.std.specs.Option.{option_map};
-ghost use Rattle.gq_parser.specs.Tree.{document_of};
 ghost use Rattle.merge_table.specs.Clashes.{first_clash};
-ghost use Rattle.merge_table.specs.Numbered.{is_in};
 ghost use Rattle.selection_members.specs.Fragments.{place_in};
-ghost use Rattle.selection_members.specs.Members.{members_of_fragment};
-ghost use Rattle.selection_members.specs.Ranked.{AreRanked, IsOrder};
-ghost use Rattle.selection_members.specs.Walks.{clash, clashing_of, IsInside};
+ghost use Rattle.selection_members.specs.Ranked.{AreRanked};
+ghost use Rattle.selection_members.specs.Walks.{clashing_of, IsInside};
 ghost use Rattle.document_parts.specs.Broken.{broken_of};
 ghost use Rattle.document_parts.specs.Listing.{parts_of};
 ghost use Rattle.document_parts.specs.Parts.{parts_in};
 ghost use Rattle.spread_graph.specs.Graphs.{graph_of};
 ghost use Rattle.spread_graph.specs.Rules.{fragment_cycles};
-ghost use Rattle.field_merging.specs.Members.{fields_of};
-ghost use Rattle.field_merging.specs.Rule.{IsMerging, key_of};
-ghost use Rattle.field_merging.specs.Told.{told_set, earlier_set, earliest_set, AreCompared};
+ghost use Rattle.field_merging.specs.Knowledge.{document_in, IsFragmentOrder, IsCompared, fields_in, clash_in, key_in, set_in, HasFieldsOf};
+ghost use Rattle.field_merging.specs.Rule.{IsMerging};
+ghost use Rattle.field_merging.specs.Told.{told_set, earlier_set, earliest_set};
 
 use crate::agreeing::agree_by_key;
 use crate::attributes::response_key;
-use crate::clashing::{Compared, clashing_sets};
-use crate::grounds::{Grounds, fields_in_order, grounds_of};
+use crate::clashing::clashing_sets;
+use crate::grounds::{fields_in_order, grounds_of};
+use crate::known::{Compared, Grounds};
 use crate::ranks::rank_fragments;
 use document_parts::{Broken, Parts};
 use merge_table::{failing_keys, failing_pairs};
@@ -34,10 +32,10 @@ use std::alloc::{AllocError, Global};
 
 // The first member of a set whose response key has a conflict, by its number in the document.
 fn first_clashing<'d>(compared: &Compared<'_, 'd>, set: ClashingSet<'d>) -> Option<usize>
-    requires compared { AreCompared (parts_in compared.now.grounds.parts.now) compared.now.grounds.numbers.now compared.now.grounds.order.now compared.now.fields.now compared.now.rows.now compared.now.fragments.now }
-    requires under { (c : ℕ) → is_in (clashing_of (members_of_fragment (document_of compared.now.grounds.parts.now.document.now)) set).members c ≡ true → c < length (parts_in compared.now.grounds.parts.now).fields }
+    requires compared { IsCompared compared.now }
+    requires under { HasFieldsOf compared.now (set_in compared.now set) }
     requires inside { IsInside (length compared.now.grounds.numbers.now) set }
-    ensures first { result ≡ first_clash (fields_of (parts_in compared.now.grounds.parts.now)).one_key (clash compared.now.rows.now compared.now.grounds.numbers.now) (clashing_of (members_of_fragment (document_of compared.now.grounds.parts.now.document.now)) set.entry).members }
+    ensures first { result ≡ first_clash (fields_in compared.now).one_key (clash_in compared.now) (set_in compared.now set.entry).members }
     ensures there { IfSome result (λ f. f < length (parts_in compared.now.grounds.parts.now).fields) }
 {
     let walk = Walk {
@@ -60,10 +58,10 @@ fn first_clashing<'d>(compared: &Compared<'_, 'd>, set: ClashingSet<'d>) -> Opti
 
 // The fault to report for a set in which two fields conflict.
 fn told<'d>(compared: &Compared<'_, 'd>, set: ClashingSet<'d>) -> Option<Broken<'d>>
-    requires compared { AreCompared (parts_in compared.now.grounds.parts.now) compared.now.grounds.numbers.now compared.now.grounds.order.now compared.now.fields.now compared.now.rows.now compared.now.fragments.now }
-    requires under { (c : ℕ) → is_in (clashing_of (members_of_fragment (document_of compared.now.grounds.parts.now.document.now)) set).members c ≡ true → c < length (parts_in compared.now.grounds.parts.now).fields }
+    requires compared { IsCompared compared.now }
+    requires under { HasFieldsOf compared.now (set_in compared.now set) }
     requires inside { IsInside (length compared.now.grounds.numbers.now) set }
-    ensures { option_map broken_of result ≡ told_set (fields_of (parts_in compared.now.grounds.parts.now)).one_key (clash compared.now.rows.now compared.now.grounds.numbers.now) (key_of (parts_in compared.now.grounds.parts.now)) (clashing_of (members_of_fragment (document_of compared.now.grounds.parts.now.document.now)) set.entry) }
+    ensures { option_map broken_of result ≡ told_set (fields_in compared.now).one_key (clash_in compared.now) (key_in compared.now) (set_in compared.now set.entry) }
 {
     let number = first_clashing(compared, set)?;
     let field = &compared.grounds.parts.fields[number];
@@ -102,7 +100,7 @@ fn first_told<'d>(
     alloc: Global,
     compared: &Compared<'_, 'd>,
 ) -> Result<Option<Broken<'d>>, AllocError>
-    requires compared { AreCompared (parts_in compared.now.grounds.parts.now) compared.now.grounds.numbers.now compared.now.grounds.order.now compared.now.fields.now compared.now.rows.now compared.now.fragments.now }
+    requires compared { IsCompared compared.now }
     ensures { IfOk result (λ told. IsMerging (parts_in compared.now.grounds.parts.now) (option_map broken_of told)) }
 {
     let sets = clashing_sets(alloc, compared)?;
@@ -118,8 +116,8 @@ fn compare<'d>(
     grounds: Grounds<'_, 'd>,
     fragments: &[usize],
 ) -> Result<Option<Broken<'d>>, AllocError>
-    requires fragments { IsOrder fragments.now (place_in (document_of grounds.parts.now.document.now).fragments) (document_of grounds.parts.now.document.now).fragments }
-    requires ranked { ∥ AreRanked (place_in (document_of grounds.parts.now.document.now).fragments) (document_of grounds.parts.now.document.now).fragments ∥₁ }
+    requires fragments { IsFragmentOrder fragments.now grounds }
+    requires ranked { ∥ AreRanked (place_in (document_in grounds).fragments) (document_in grounds).fragments ∥₁ }
     ensures { IfOk result (λ told. IsMerging (parts_in grounds.entry.parts.now) (option_map broken_of told)) }
 {
     let fields = fields_in_order(alloc, &grounds, fragments)?;

@@ -1,10 +1,8 @@
 //! An order of fragments in which each comes after those that it spreads.
 
-ghost use Rattle.std.specs.Prelude.{◌≡◌, ◌<◌, ℕ, true, false, length, slice_index_or, IsTrue, IfOk, OnOk};
-ghost use Rattle.document_parts.specs.declared.part.Owner.TheVariants as owner;
-ghost use Rattle.spread_graph.specs.Graphs.{row};
+ghost use Rattle.std.specs.Prelude.{◌≡◌, ◌<◌, ℕ, false, length, slice_index_or, IsTrue, IfOk, OnOk};
 ghost use Rattle.spread_graph.specs.Walks.{IsMarked};
-ghost use Rattle.field_merging.specs.Orders.{are_marked, IsFree, IsPart, IsGraphOrder};
+ghost use Rattle.field_merging.specs.Orders.{are_marked, IsFree, IsPart, IsGraphOrder, TakesReady};
 
 use document_parts::Owner;
 use spread_graph::Graph;
@@ -102,7 +100,7 @@ fn take_next(
     requires part { IsPart graph.now order.old.items taken.old.items }
     ensures part { OnOk result (IsPart graph.now order.new.items taken.new.items) }
     ensures kept { (x : ℕ) → IsMarked taken.old.items x → OnOk result (IsMarked taken.new.items x) }
-    ensures taken { fragment < length graph.now.fragments → are_marked taken.old.items (row graph.now (owner.Fragment fragment)) ≡ true → OnOk result (IsMarked taken.new.items fragment) }
+    ensures taken { OnOk result (TakesReady graph.now taken.old.items taken.new.items fragment) }
 {
     if fragment >= graph.len() {
         return Ok(());
@@ -122,7 +120,7 @@ fn take_next(
 fn take_all(graph: &Graph, taken: &mut Vec<bool>, order: &mut Vec<usize>) -> Result<(), AllocError>
     requires part { IsPart graph.now order.old.items taken.old.items }
     ensures part { OnOk result (IsPart graph.now order.new.items taken.new.items) }
-    ensures taken { (x : ℕ) → x < length graph.now.fragments → are_marked taken.old.items (row graph.now (owner.Fragment x)) ≡ true → OnOk result (IsMarked taken.new.items x) }
+    ensures taken { (x : ℕ) → OnOk result (TakesReady graph.now taken.old.items taken.new.items x) }
 {
     for fragment in 0..graph.len() {
         take_next(graph, fragment, taken, order)?;

@@ -1,4 +1,5 @@
 pub mod Held
+pub mod Places
 pub mod Plans
 pub mod Prepared
 pub mod Texts

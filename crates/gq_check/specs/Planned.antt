@@ -1,10 +1,16 @@
--- What holds of every plan: it is prepared from a valid document.
-use Rattle.std.specs.Prelude.{◌≡◌, ℕ, List, Option, Ok}
+-- How plans are prepared, and what holds of every plan: it is prepared from a valid document.
+use Rattle.std.specs.Prelude.{◌≡◌, ℕ, List, Option, Result, Ok, get_or}
+use Rattle.std.specs.Borrow.{Bor}
 use Rattle.serde_json.specs.Data.{Data}
-use Rattle.gq_parser.specs.Tree.{Document, Operation, Fragment}
+use Rattle.serde_json.specs.View.{view}
+use Rattle.serde_json.specs.declared.value.Value.{Value}
+use Rattle.gq_parser.specs.declared.tree.Operation as rust-operation
+use Rattle.gq_parser.specs.Tree.{Document, Operation, Fragment, operation_of}
+use Rattle.schema_syntax.specs.declared.tree.Definition as rust-definition
 use Rattle.schema_syntax.specs.Tree.{Definition}
-use Rattle.gq_check.specs.Plans.{PlanOf}
-use Rattle.gq_check.specs.Prepared.{chosen_operation, prepared}
+use Rattle.gq_schema.specs.Types.{tree_of}
+use Rattle.gq_check.specs.Plans.{PlanParts, PlanOf, plan_of, operations_of}
+use Rattle.gq_check.specs.Prepared.{PreparedOf, FaultOf, asked_name, chosen_operation, prepared}
 use Rattle.gq_check.specs.Verdict.{IsValid}
 
 -- Some document is valid over the plan's definitions; the plan has its fragments, and one of its operations, with the values of
@@ -24,3 +30,15 @@ pub record IsChosen (defs : List Definition) (o : Operation) (fragments : List F
   pub same : fragments ≡ document.fragments
   pub name : Option (List ℕ)
   pub chosen : chosen_operation document.operations name ≡ Ok o
+
+-- At this place of the operations stands the one that is asked for by this name, or the only one.
+abbrev pub IsChosenAt : List rust-operation.Operation → Option (List ℕ) → ℕ → Type 0
+IsChosenAt os name place = (d : rust-operation.Operation) → chosen_operation (operations_of os) name ≡ Ok (operation_of (get_or os place d))
+
+-- what preparing gives over these definitions, of an operation among these that may be asked for by its name, with these values
+abbrev pub preparation : List rust-definition.Definition → List rust-operation.Operation → Option (Bor (List ℕ)) → Value → Result PreparedOf FaultOf
+preparation defs os name given = prepared (tree_of defs) (operations_of os) (asked_name name) (view given)
+
+-- the operation of a plan, and its variables that have a value
+abbrev pub prepared_in : PlanParts → PreparedOf
+prepared_in p = record { operation = (plan_of p).operation; variables = (plan_of p).variables }

@@ -10,6 +10,8 @@ use Rattle.gq_schema.specs.Types.{tree_of}
 use Rattle.gq_schema.specs.BindingsTree.{BindingsOf}
 use Rattle.variable_values.specs.declared.variable.Variable as rust-variable
 use Rattle.variable_values.specs.Variables.{VariableOf, variables_of}
+use Rattle.gq_check.specs.declared.held.Held.{Held}
+use Rattle.gq_check.specs.Held.{held_of}
 
 -- the parts of a plan as the program holds them
 pub record PlanParts : Type 0 where
@@ -38,6 +40,20 @@ pub record PlanOf : Type 0 where
   pub operation : Operation
   pub fragments : List Fragment
   pub variables : List VariableOf
+
+-- the parts of a plan that owns or borrows its operation and its fragments
+abbrev pub plan_parts : List rust-definition.Definition → BindingsOf → Held rust-operation.Operation → Held (List rust-fragment.Fragment)
+    → List rust-variable.Variable → PlanParts
+plan_parts definitions bindings operation fragments variables = record {
+  definitions = definitions;
+  bindings = bindings;
+  operation = held_of operation;
+  fragments = held_of fragments;
+  variables = variables;
+}
+
+abbrev pub operations_of : List rust-operation.Operation → List Operation
+operations_of os = map operation_of os
 
 abbrev pub fragments_of : List rust-fragment.Fragment → List Fragment
 fragments_of fs = map fragment_of fs

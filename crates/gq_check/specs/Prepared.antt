@@ -1,6 +1,7 @@
 -- Coerced variables: the chosen operation with the values of its variables (sections 6.1 and 6.1.2).
 use Rattle.std.specs.Prelude.{◌≡◌, ℕ, Bool, false, List, [], ◌∷◌, Option, Some, None, Result, Ok, Err, find, bytes_eq, string_bytes}
-use Rattle.std.specs.Option.{option_map_or}
+use Rattle.std.specs.Borrow.{Bor}
+use Rattle.std.specs.Option.{option_map, option_map_or}
 use Rattle.serde_json.specs.Data.{Data}
 use Rattle.gq_parser.specs.Tree.{Operation}
 use Rattle.schema_syntax.specs.Tree.{Definition}
@@ -36,6 +37,10 @@ abbrev pub only_operation : List Operation → Result Operation FaultOf
 only_operation [] = Err operation_needed
 only_operation (o ∷ []) = Ok o
 only_operation (o ∷ p ∷ os) = Err operation_needed
+
+-- the name that an operation is asked for by, if it is
+abbrev pub asked_name : Option (Bor (List ℕ)) → Option (List ℕ)
+asked_name name = option_map (λ n. n.now) name
 
 -- the operation that is asked for by its name, or the only one (section 6.1, GetOperation)
 abbrev pub chosen_operation : List Operation → Option (List ℕ) → Result Operation FaultOf

@@ -1,15 +1,16 @@
 //! The choice of the operation (section 6.1, GetOperation).
 
-ghost use Rattle.std.specs.Prelude.{◌≡◌, ◌<◌, Ok, IfOk, IfErr, get_or, length, map};
-ghost use Rattle.std.specs.Option.{option_map};
-ghost use Rattle.gq_parser.specs.declared.tree.Operation as rust;
+ghost use Rattle.std.specs.Prelude.{◌≡◌, ◌<◌, IfOk, IfErr, length};
 ghost use Rattle.gq_parser.specs.Tree.{operation_of};
-ghost use Rattle.gq_check.specs.Prepared.{is_operation, chosen_operation, IsPrepareFault};
+ghost use Rattle.gq_check.specs.Planned.{IsChosenAt};
+ghost use Rattle.gq_check.specs.Plans.{operations_of};
+ghost use Rattle.gq_check.specs.Prepared.{is_operation, asked_name, chosen_operation, IsPrepareFault};
 
 use crate::fault::PrepareFault;
 use gq_parser::Operation;
 use std::alloc::Global;
 
+// Whether an operation has this name.
 fn is_operation(name: &str, operation: &Operation) -> bool
     ensures { result ≡ is_operation name.now (operation_of operation.now) }
 {
@@ -19,14 +20,15 @@ fn is_operation(name: &str, operation: &Operation) -> bool
     }
 }
 
+// The place of the first operation of this name.
 fn operation_named(
     alloc: Global,
     operations: &[Operation],
     name: &str,
 ) -> Result<usize, PrepareFault>
     ensures inside { IfOk result (λ place. place < length operations.now) }
-    ensures ok { (d : rust.Operation) → IfOk result (λ place. chosen_operation (map operation_of operations.now) (Some name.now) ≡ Ok (operation_of (get_or operations.now place d))) }
-    ensures err { IfErr result (IsPrepareFault (chosen_operation (map operation_of operations.now) (Some name.now))) }
+    ensures ok { IfOk result (IsChosenAt operations.now (Some name.now)) }
+    ensures err { IfErr result (IsPrepareFault (chosen_operation (operations_of operations.now) (Some name.now))) }
 {
     for (place, operation) in operations.iter().enumerate() {
         if is_operation(name, operation) {
@@ -36,10 +38,11 @@ fn operation_named(
     Err(PrepareFault::NoSuchOperation(String::from_str(alloc, name)?))
 }
 
+// The place of the only operation.
 fn only_operation(operations: &[Operation]) -> Result<usize, PrepareFault>
     ensures inside { IfOk result (λ place. place < length operations.now) }
-    ensures ok { (d : rust.Operation) → IfOk result (λ place. chosen_operation (map operation_of operations.now) None ≡ Ok (operation_of (get_or operations.now place d))) }
-    ensures err { IfErr result (IsPrepareFault (chosen_operation (map operation_of operations.now) None)) }
+    ensures ok { IfOk result (IsChosenAt operations.now None) }
+    ensures err { IfErr result (IsPrepareFault (chosen_operation (operations_of operations.now) None)) }
 {
     if operations.len() != 1 {
         return Err(PrepareFault::OperationNeeded);
@@ -54,8 +57,8 @@ pub fn chosen_operation(
     name: Option<&str>,
 ) -> Result<usize, PrepareFault>
     ensures inside { IfOk result (λ place. place < length operations.now) }
-    ensures ok { (d : rust.Operation) → IfOk result (λ place. chosen_operation (map operation_of operations.now) (option_map (λ n. n.now) name.entry) ≡ Ok (operation_of (get_or operations.now place d))) }
-    ensures err { IfErr result (IsPrepareFault (chosen_operation (map operation_of operations.now) (option_map (λ n. n.now) name.entry))) }
+    ensures ok { IfOk result (IsChosenAt operations.now (asked_name name.entry)) }
+    ensures err { IfErr result (IsPrepareFault (chosen_operation (operations_of operations.now) (asked_name name.entry))) }
 {
     match name {
         Some(name) => operation_named(alloc, operations, name),

@@ -1,8 +1,9 @@
 //! Where each name stands in a list.
 
-ghost use Rattle.std.specs.Prelude.{◌≡◌, ℕ, List, Some, None, OnOk, bytes_eq, string_bytes, if◌then◌else◌};
+ghost use Rattle.std.specs.Prelude.{◌≡◌, ℕ, List, OnOk, string_bytes};
 ghost use Rattle.std.specs.HashMap.{get_by_text};
 ghost use Rattle.gq_schema.specs.Scan.{or_else};
+ghost use Rattle.gq_check.specs.Places.{place_of};
 
 use std::alloc::AllocError;
 use std::collections::HashMap;
@@ -12,7 +13,7 @@ pub type Places = HashMap<String, usize>;
 
 /// Notes the place of a name, unless one of the name stands earlier.
 pub fn note(places: &mut Places, name: &String, place: usize) -> Result<(), AllocError>
-    ensures { (q : List ℕ) → OnOk result (get_by_text places.new q ≡ or_else (get_by_text places.old q) (if bytes_eq q (string_bytes name.now) then Some place else None)) }
+    ensures { (q : List ℕ) → OnOk result (get_by_text places.new q ≡ or_else (get_by_text places.old q) (place_of (string_bytes name.now) place q)) }
 {
     places.entry(name.clone()?)?.or_insert(place);
     Ok(())

@@ -5,8 +5,7 @@ ghost use Rattle.std.specs.Option.{option_map, option_copied};
 ghost use Rattle.gq_parser.specs.Tree.{fragment_of};
 ghost use Rattle.gq_schema.specs.Inputs.{input_of};
 ghost use Rattle.variable_values.specs.Variables.{value_in};
-ghost use Rattle.gq_check.specs.Held.{held_of};
-ghost use Rattle.gq_check.specs.Plans.{plan_of, fragment_in};
+ghost use Rattle.gq_check.specs.Plans.{plan_of, plan_parts, fragment_in};
 ghost use Rattle.gq_check.specs.Planned.{IsPlan};
 
 use crate::fragments::Fragments;
@@ -72,8 +71,8 @@ impl<'a> Plan<'a> {
         fragments: Held<'a, Fragments>,
         variables: Variables,
     ) -> Plan<'a>
-        requires { IsPlan (plan_of (record { definitions = schema.now; bindings = bindings.now; operation = held_of operation; fragments = held_of fragments; variables = variables })) }
-        ensures { result ≡ record { definitions = schema.now; bindings = bindings.now; operation = held_of operation.entry; fragments = held_of fragments.entry; variables = variables } }
+        requires { IsPlan (plan_of (plan_parts schema.now bindings.now operation fragments variables)) }
+        ensures { result ≡ plan_parts schema.now bindings.now operation.entry fragments.entry variables }
     {
         Plan {
             schema,

@@ -1,14 +1,13 @@
 //! Preparing an operation (section 6.1).
 
-ghost use Rattle.std.specs.Prelude.{◌≡◌, Ok, IfOk, IfErr, map};
-ghost use Rattle.std.specs.Option.{option_map};
+ghost use Rattle.std.specs.Prelude.{◌≡◌, Ok, IfOk, IfErr};
 ghost use Rattle.serde_json.specs.View.{view};
 ghost use Rattle.gq_parser.specs.Tree.{operation_of};
 ghost use Rattle.gq_schema.specs.Types.{tree_of};
 ghost use Rattle.gq_check.specs.Held.{held_of};
-ghost use Rattle.gq_check.specs.Plans.{plan_of, fragments_of};
-ghost use Rattle.gq_check.specs.Planned.{IsChosen};
-ghost use Rattle.gq_check.specs.Prepared.{prepared, prepared_operation, prepare_fault, IsPrepareFault};
+ghost use Rattle.gq_check.specs.Plans.{fragments_of};
+ghost use Rattle.gq_check.specs.Planned.{IsChosen, preparation, prepared_in};
+ghost use Rattle.gq_check.specs.Prepared.{prepared_operation, prepare_fault, IsPrepareFault};
 
 use crate::checked::Checked;
 use crate::fault::PrepareFault;
@@ -50,7 +49,7 @@ fn with_values<'a>(
     ensures bindings { IfOk result (λ plan. plan.bindings ≡ bindings.now) }
     ensures fragments { IfOk result (λ plan. plan.fragments ≡ held_of fragments.entry) }
     ensures ok { IfOk result (λ plan. prepared_operation (tree_of schema.now) (view variables.now) (Ok (operation_of (held_of operation.entry)))
-        ≡ Ok (record { operation = (plan_of plan).operation; variables = (plan_of plan).variables })) }
+        ≡ Ok (prepared_in plan)) }
     ensures err { IfErr result (IsPrepareFault (prepared_operation (tree_of schema.now) (view variables.now) (Ok (operation_of (held_of operation.entry))))) }
 {
     let definitions = &operation.get().variables;
@@ -81,9 +80,8 @@ pub fn prepare<'a>(
     ensures schema { IfOk result (λ plan. plan.definitions ≡ schema.now) }
     ensures bindings { IfOk result (λ plan. plan.bindings ≡ bindings.now) }
     ensures fragments { IfOk result (λ plan. plan.fragments ≡ checked.entry.document.fragments.items) }
-    ensures ok { IfOk result (λ plan. prepared (tree_of schema.now) (map operation_of checked.entry.document.operations.items) (option_map (λ name. name.now) operation_name.entry) (view variables.now)
-        ≡ Ok (record { operation = (plan_of plan).operation; variables = (plan_of plan).variables })) }
-    ensures err { IfErr result (IsPrepareFault (prepared (tree_of schema.now) (map operation_of checked.entry.document.operations.items) (option_map (λ name. name.now) operation_name.entry) (view variables.now))) }
+    ensures ok { IfOk result (λ plan. preparation schema.now checked.entry.document.operations.items operation_name.entry variables.now ≡ Ok (prepared_in plan)) }
+    ensures err { IfErr result (IsPrepareFault (preparation schema.now checked.entry.document.operations.items operation_name.entry variables.now)) }
 {
     let Document {
         mut operations,
@@ -110,9 +108,8 @@ pub fn prepare_kept<'a>(
     ensures schema { IfOk result (λ plan. plan.definitions ≡ kept.now.definitions) }
     ensures bindings { IfOk result (λ plan. plan.bindings ≡ bindings.now) }
     ensures fragments { IfOk result (λ plan. plan.fragments ≡ kept.now.fragments) }
-    ensures ok { IfOk result (λ plan. prepared (tree_of kept.now.definitions) (map operation_of kept.now.operations) (option_map (λ name. name.now) operation_name.entry) (view variables.now)
-        ≡ Ok (record { operation = (plan_of plan).operation; variables = (plan_of plan).variables })) }
-    ensures err { IfErr result (IsPrepareFault (prepared (tree_of kept.now.definitions) (map operation_of kept.now.operations) (option_map (λ name. name.now) operation_name.entry) (view variables.now))) }
+    ensures ok { IfOk result (λ plan. preparation kept.now.definitions kept.now.operations operation_name.entry variables.now ≡ Ok (prepared_in plan)) }
+    ensures err { IfErr result (IsPrepareFault (preparation kept.now.definitions kept.now.operations operation_name.entry variables.now)) }
 {
     let operations = kept.operations();
     let place = chosen_operation(alloc, operations, operation_name)?;

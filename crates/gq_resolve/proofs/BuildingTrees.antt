@@ -93,9 +93,19 @@ mutual
       let es' : List ErrorOf = es ++ errors spot.non_null spot.place (path_in (l ∷ ls) spot.part) t in
       ap (λ xs. built xs b) (append_assoc first others end) ∙ built-append first (others ++ end) b ∙ ap (built (others ++ end)) (built-program p R b n.1 open_none.0) ∙ built-programs rest R kind l' ls root_spot top es' next open_none.1 ∙ closed-more l ls top es spot t (trees rest R) n.0 open_none.0
 
+-- what was put of a program, of which nothing waits
+whole-is : (b : BuiltOf) (p : Program) (R : Reader) → IsWhole b p R → b ≡ whole (tree p R) nothing_built
+whole-is b p R w = w.put ∙ built-program p R nothing_built w.numbered w.closed
+
 -- the answer of a program, of which nothing waits
 pub answer-whole : (b : BuiltOf) (p : Program) (R : Reader) (a : AnsweredOf) → IsWhole b p R → a.response ≡ b.top → a.errors ≡ b.errors → a ≡ completed (tree p R)
 answer-whole b p R a w r e =
-    let built_is : b ≡ whole (tree p R) nothing_built = w.put ∙ built-program p R nothing_built w.numbered w.closed in
     let answer : BuiltOf → AnsweredOf = λ x. record { response = x.top; errors = x.errors } in
-    ap (λ x. record { response = x; errors = a.errors }) r ∙ ap (λ x. record { response = b.top; errors = x }) e ∙ ap answer built_is
+    ap (λ x. record { response = x; errors = a.errors }) r ∙ ap (λ x. record { response = b.top; errors = x }) e ∙ ap answer (whole-is b p R w)
+
+-- nothing is begun then
+pub no-levels : (b : BuiltOf) (p : Program) (R : Reader) → IsWhole b p R → b.levels ≡ []
+no-levels b p R w = ap (λ (x : BuiltOf). x.levels) (whole-is b p R w)
+
+pub answer-parts : (b : BuiltOf) (p : Program) (R : Reader) → IsWhole b p R → (b.top ≡ (completed (tree p R)).response) × (b.errors ≡ (completed (tree p R)).errors)
+answer-parts b p R w = (ap (λ (x : BuiltOf). x.top) (whole-is b p R w), ap (λ (x : BuiltOf). x.errors) (whole-is b p R w))

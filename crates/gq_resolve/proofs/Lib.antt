@@ -12,3 +12,6 @@ pub mod Advancing
 pub mod Polling
 pub mod BuildingLevels
 pub mod BuildingTrees
+pub mod Sizes
+pub mod Bounding
+pub mod Limiting

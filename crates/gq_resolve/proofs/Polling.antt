@@ -73,6 +73,12 @@ module _ (plan : PlanOf) (m : MemoryOf) (old : List WantedOf) (r : Rooted × Out
   pub part-wanted : (new : List WantedOf) → AddsPart old new (loads_of r.1.blocked.keys) → AddsPart old new (lacking plan m)
   part-wanted new h = part-thinned old new (lacking plan m) (subst (λ (ls : List Load). AddsPart old new ls) same-loads (thinned-part old new (loads_of r.1.blocked.keys) h))
 
+  -- nothing waits, and nothing is open
+  pub answer-shut : r.1.blocked.keys ≡ [] → is_open (tree (plan_program plan) (told m)) ≡ false
+  answer-shut none =
+      let front : front_over m (plan_program plan) ≡ [] = front-none m (plan_program plan) (thinned-none (lacking plan m) (sym same-loads ∙ ap (λ bs. thinned [] (loads_of bs)) none)) in
+      ap is_open (told-tree plan m can.loaders) ∙ closed-tree m (plan_program plan) front
+
   -- nothing waits, and this is the answer
   pub answer-done : (answer : AnsweredOf) → r.1.blocked.keys ≡ [] → (is_open (tree (plan_program plan) (told m)) ≡ false → answer ≡ completed (tree (plan_program plan) (told m)))
       → (front_over m (plan_program plan) ≡ []) × (exec (plan_program plan) (reader m) ≡ Some answer)

@@ -13,3 +13,5 @@ pub mod Written
 pub mod Composing
 pub mod Suspended
 pub mod Built
+pub mod Limited
+pub mod Bounded

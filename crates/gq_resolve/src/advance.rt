@@ -5,8 +5,10 @@ ghost use Rattle.load_memory.specs.Pairs.{MemoryOf};
 ghost use Rattle.gq_check.specs.Plans.{plan_of};
 ghost use Rattle.gq_resolve.specs.Evaluated.{AddsPart, CanEvaluate, GrowsTo};
 ghost use Rattle.gq_resolve.specs.Suspended.{plan_on, IsRooted, GoesOver, IsResponse, MayGoOn, Advanced, FitsStopped, FitsTour, IsAdvanced, lacking};
+ghost use Rattle.gq_resolve.specs.Limited.{RespondsWithin};
 
 use crate::answered::Answered;
+use crate::bounded::BoundedBuilder;
 use crate::builder::Builder;
 use crate::groups::{Group, Member, members_of};
 use crate::no_memory::NoMemory;
@@ -73,14 +75,15 @@ fn gone_over<'p, S: Sink + Drop>(
     Ok((Rooted { members, groups }, at.out))
 }
 
-// Goes over the whole plan, and writes as long as nothing is missing.
+// Goes over the whole plan, and writes as long as nothing is missing and the text isn't too long.
 fn written<'p>(
     tour: &Tour<'_, 'p, '_>,
+    most: usize,
     rooted: Rooted<'p>,
 ) -> Result<(Rooted<'p>, Output), NoMemory>
     ensures { IsRooted (plan_on tour.now) rooted.entry → IfOk result (Advanced (plan_on tour.now) tour.now.memory.now) }
 {
-    let mut out = Output::new(tour.alloc)?;
+    let mut out = Output::new(tour.alloc, most)?;
     out.begin(Kind::Object)?;
     out.field(Spot {
         key: "data",
@@ -98,6 +101,19 @@ pub fn responded<'p>(tour: &Tour<'_, 'p, '_>, rooted: Rooted<'p>) -> Result<Answ
 {
     let (_, out) = gone_over(tour, rooted, Builder::new(tour.alloc))?;
     Ok(out.finish())
+}
+
+/// The same where its text may have so many bytes. None where it is certain that it is longer.
+pub fn responded_within<'p>(
+    tour: &Tour<'_, 'p, '_>,
+    rooted: Rooted<'p>,
+    most: usize,
+) -> Result<Option<Answered>, NoMemory>
+    ensures { IsRooted (plan_on tour.now) rooted.entry → IfOk result (RespondsWithin most (plan_on tour.now) tour.now.memory.now) }
+{
+    let builder = BoundedBuilder::new(tour.alloc, most);
+    let (_, builder) = gone_over(tour, rooted, builder)?;
+    Ok(builder.finish())
 }
 
 // Goes on at the positions that wait, and looks for loads alone.
@@ -128,27 +144,29 @@ fn searched<'p>(
 // Goes on from where an execution stopped, or begins it.
 fn advanced<'p>(
     tour: &Tour<'_, 'p, '_>,
+    most: usize,
     stopped: Option<Stopped<'p>>,
 ) -> Result<(Rooted<'p>, Output), NoMemory>
     ensures { FitsTour tour.now stopped.entry → IfOk result (Advanced (plan_on tour.now) tour.now.memory.now) }
 {
     let Some(Stopped { rooted, waiting }) = stopped else {
-        return written(tour, begun(tour)?);
+        return written(tour, most, begun(tour)?);
     };
     let Some(waiting) = waiting else {
-        return written(tour, rooted);
+        return written(tour, most, rooted);
     };
     let (rooted, out) = searched(tour, rooted, waiting)?;
     if out.blocked.is_empty() {
-        return written(tour, rooted);
+        return written(tour, most, rooted);
     }
     Ok((rooted, out))
 }
 
-/// Goes on with each load that the memory has. Where nothing is missing, it comes to the end. Else it adds what is missing to
-/// the wants, and keeps where it stopped.
+/// Goes on with each load that the memory has. Where nothing is missing, it comes to the end, and has written an answer without
+/// errors that isn't longer than so many bytes. Else it adds what is missing to the wants, and keeps where it stopped.
 pub fn advance<'p>(
     tour: &Tour<'_, 'p, '_>,
+    most: usize,
     stopped: &mut Option<Stopped<'p>>,
     wants: &mut Wants,
 ) -> Result<Option<(Rooted<'p>, Output)>, NoMemory>
@@ -157,7 +175,7 @@ pub fn advance<'p>(
     ensures err { FitsTour tour.now stopped.old → OnErr result (AddsPart wants.old wants.new (lacking (plan_on tour.now) tour.now.memory.now)) }
     ensures grown { (m : MemoryOf) → FitsTour tour.now stopped.old → GrowsTo tour.now.memory.now m → FitsStopped (plan_on tour.now) m stopped.new }
 {
-    let (rooted, out) = advanced(tour, stopped.take())?;
+    let (rooted, out) = advanced(tour, most, stopped.take())?;
     if out.blocked.is_empty() {
         return Ok(Some((rooted, out)));
     }

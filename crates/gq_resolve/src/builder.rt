@@ -6,6 +6,7 @@ ghost use Rattle.execution.specs.Program.{Null, Program, tree};
 ghost use Rattle.execution.specs.Executed.{completed};
 ghost use Rattle.plan_program.specs.Prepared.{own_seen};
 ghost use Rattle.gq_resolve.specs.Answered.{part_of, response_of, answered_of};
+ghost use Rattle.gq_resolve.specs.Bounded.{key_size, without_last_parts, without_errors, is_pulled};
 ghost use Rattle.gq_resolve.specs.Built.{path_in, placed, given_own, at_root, with_error, built, nothing_built, IsWhole, spot_held, built_of, goes-append};
 
 use crate::answered::Answered;
@@ -33,7 +34,8 @@ pub struct Builder {
     errors: Vec<FieldError>,
 }
 
-fn copied_own(alloc: Global, own: &Own) -> Result<Own, AllocError>
+/// A copy of an own value.
+pub fn copied_own(alloc: Global, own: &Own) -> Result<Own, AllocError>
     ensures { IfOk result (λ copy. own_seen copy ≡ own_seen own.now) }
 {
     match own {
@@ -67,6 +69,42 @@ impl Builder {
             response: self.top,
             errors: self.errors,
         }
+    }
+
+    /// How many bytes the key of what is put next has.
+    pub fn key_size(&self) -> usize
+        ensures { result ≡ key_size (built_of self.now).levels (built_of self.now).spot.part }
+    {
+        match self.levels.last() {
+            Some(level) => level.key_size(&self.position),
+            None => 0,
+        }
+    }
+
+    /// Whether what was begun last will be null.
+    pub fn is_pulled(&self) -> bool
+        ensures { result ≡ is_pulled (built_of self.now).levels }
+    {
+        match self.levels.last() {
+            Some(level) => level.pulled,
+            None => false,
+        }
+    }
+
+    /// Drops the parts of what was begun last.
+    pub fn drop_last_parts(&mut self)
+        ensures { built_of self.new ≡ without_last_parts (built_of self.old) }
+    {
+        if let Some(level) = self.levels.last_mut() {
+            level.drop_parts(self.alloc);
+        }
+    }
+
+    /// Drops the errors.
+    pub fn drop_errors(&mut self)
+        ensures { built_of self.new ≡ without_errors (built_of self.old) }
+    {
+        self.errors = Vec::new(self.alloc);
     }
 
     // The position of what is put next, which is then the root's until another is entered.
@@ -118,7 +156,8 @@ impl Builder {
         }
     }
 
-    fn put_own(&mut self, own: Own, strict: bool) -> Result<(), NoMemory>
+    /// Puts an own value, and its error.
+    pub fn put_own(&mut self, own: Own, strict: bool) -> Result<(), NoMemory>
         ensures { OnOk result (built_of self.new ≡ given_own strict (own_seen own) (built_of self.old)) }
     {
         match own {

@@ -3,6 +3,7 @@
 ghost use Rattle.std.specs.Prelude.{◌≡◌, IfOk, OnOk, string_bytes};
 ghost use Rattle.execution.specs.Program.{Key, ObjectOf};
 ghost use Rattle.gq_resolve.specs.Answered.{part_of, response_of};
+ghost use Rattle.gq_resolve.specs.Bounded.{part_size, without_parts};
 ghost use Rattle.gq_resolve.specs.Built.{root_spot, step_in, level_with, level_response, spot_held, level_seen};
 
 use crate::completing::is_null;
@@ -84,6 +85,26 @@ impl Level {
             Parts::Fields(fields) => fields.push((position.into_key(alloc), response))?,
         }
         Ok(())
+    }
+
+    /// How many bytes the key of one of its positions has.
+    pub fn key_size(&self, position: &Position) -> usize
+        ensures { result ≡ part_size (level_seen self.now).kind (spot_held position.now).part }
+    {
+        match (&self.parts, &position.step) {
+            (Parts::Fields(_), PathPart::Key(key)) => key.len(),
+            _ => 0,
+        }
+    }
+
+    /// Drops what it has.
+    pub fn drop_parts(&mut self, alloc: Global)
+        ensures { level_seen self.new ≡ without_parts (level_seen self.old) }
+    {
+        match self.parts {
+            Parts::Items(_) => self.parts = Parts::Items(Vec::new(alloc)),
+            Parts::Fields(_) => self.parts = Parts::Fields(Vec::new(alloc)),
+        }
     }
 
     /// Its position and its response, now that it ends.

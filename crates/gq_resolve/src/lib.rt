@@ -8,6 +8,7 @@
 
 mod advance;
 mod answered;
+mod bounded;
 mod builder;
 mod cells;
 mod completing;
@@ -17,6 +18,7 @@ mod groups;
 mod kept;
 mod keys;
 mod level;
+mod limited;
 mod no_memory;
 mod output;
 mod reading;

@@ -1,4 +1,4 @@
-//! An answer without errors, as it is written, and the positions of it that wait.
+//! An answer without errors, as it is written within a limit, and the positions of it that wait.
 
 ghost use Rattle.std.specs.Prelude.{◌≡◌, ◌↔◌, ◌∷◌, [], IfOk, OnOk, IsTrue, Bool, false, true, option_map, string_bytes};
 ghost use Rattle.std.specs.Fmt.{signed_decimal};
@@ -22,6 +22,9 @@ use std::alloc::Global;
 /// The room that a text has from the start.
 const FIRST_ROOM: usize = 128;
 
+/// A limit that no text reaches.
+pub const NO_LIMIT: usize = usize::MAX;
+
 /// A position that waits for a load: how it goes on, and the load.
 #[derive(PartialEq, Eq, Hash, Drop)]
 pub struct Blocked {
@@ -30,24 +33,34 @@ pub struct Blocked {
     pub key: Key,
 }
 
-/// What a walk over a plan has written, and the positions that wait. It writes only while nothing waits and no error was
-/// met.
+/// What a walk over a plan has written, and the positions that wait. It writes only while nothing waits, no error was met and
+/// the text isn't longer than its limit.
 #[derive(Drop)]
 pub struct Output {
     pub alloc: Global,
     pub writer: Writer,
     /// Each of them once, however often it is met.
     pub blocked: IndexSet<Blocked>,
-    /// Whether no error was met.
+    /// Whether no error was met, and the limit wasn't passed.
     pub is_plain: bool,
+    /// How many bytes the text may grow. An escape in it counts as the character that it stands for.
+    left: usize,
     pub ghost begins: { writer.before ≡ [] },
+}
+
+// How many bytes a token takes at least.
+fn least_bytes(token: Token<'_>) -> usize {
+    match token {
+        Token::Key(text) | Token::String(text) => text.len().saturating_add(2),
+        _ => 1,
+    }
 }
 
 impl Output {
     ghost use Rattle.gq_resolve.specs.Written.{IsWriting, Adds, AddsOwn, AddsLeaf};
 
-    /// Nothing yet.
-    pub fn new(alloc: Global) -> Result<Output, NoMemory>
+    /// Nothing yet. It writes up to so many bytes, and one token more.
+    pub fn new(alloc: Global, most: usize) -> Result<Output, NoMemory>
         ensures tokens { IfOk result (λ out. out.writer.tokens ≡ []) }
         ensures blocked { IfOk result (λ out. out.blocked.keys ≡ []) }
     {
@@ -56,6 +69,7 @@ impl Output {
             writer: Writer::new(Vec::with_capacity(alloc, FIRST_ROOM)?),
             blocked: IndexSet::new(alloc),
             is_plain: true,
+            left: most,
         })
     }
 
@@ -69,6 +83,7 @@ impl Output {
             writer: Writer::new(Vec::new(alloc)),
             blocked: IndexSet::new(alloc),
             is_plain: false,
+            left: 0,
         }
     }
 
@@ -95,13 +110,25 @@ impl Output {
         self.is_plain = false;
     }
 
+    // Counts bytes that were written. Past the limit nothing more is written.
+    fn count(&mut self, bytes: usize)
+        ensures { Adds true [] self.old self.new }
+    {
+        match self.left.checked_sub(bytes) {
+            Some(left) => self.left = left,
+            None => self.is_plain = false,
+        }
+    }
+
     // Writes a token.
     fn put(&mut self, token: Token<'_>) -> Result<(), NoMemory>
         requires { IsPrintable (token_of token) }
         ensures { OnOk result (Adds true (token_of token.entry ∷ []) self.old self.new) }
     {
         if self.is_writing() {
+            let bytes = least_bytes(token);
             self.writer.token(token)?;
+            self.count(bytes);
         }
         Ok(())
     }
@@ -112,6 +139,7 @@ impl Output {
     {
         if self.is_writing() {
             self.writer.i64(i64::from(value))?;
+            self.count(1);
         }
         Ok(())
     }

@@ -7,12 +7,15 @@ ghost use Rattle.execution.specs.Front.{missing};
 ghost use Rattle.gq_check.specs.Plans.{plan_of};
 ghost use Rattle.plan_program.specs.PlanPrograms.{plan_program};
 ghost use Rattle.gq_resolve.specs.Evaluated.{reader, IsWritten, AddsPart, CanEvaluate, GrowsTo};
+ghost use Rattle.gq_resolve.specs.Limited.{IsLimited};
 ghost use Rattle.gq_resolve.specs.Suspended.{plan_in, FitsMemory};
 
 use crate::advance::{Stopped, advance, responded};
 use crate::answered::{Answered, answer_text};
 use crate::kept::most_kept;
+use crate::limited::limited_answer;
 use crate::no_memory::NoMemory;
+use crate::output::NO_LIMIT;
 use crate::resolve::Resolve;
 use crate::tour::Tour;
 use futures::task::Poll;
@@ -68,7 +71,7 @@ impl<'p, 'a> RootState<'p, 'a> {
             memory,
             most: self.most,
         };
-        let Some((rooted, out)) = advance(&tour, &mut self.stopped, wants)? else {
+        let Some((rooted, out)) = advance(&tour, NO_LIMIT, &mut self.stopped, wants)? else {
             return Ok(Poll::Pending);
         };
         if out.is_plain {
@@ -77,6 +80,37 @@ impl<'p, 'a> RootState<'p, 'a> {
         drop(out);
         let answered = responded(&tour, rooted)?;
         Ok(Poll::Ready(answer_text(alloc, &answered)?))
+    }
+
+    /// The same, where the text may have so many bytes and no more: a longer one is refused, and the text is that of its
+    /// refusal. What it holds of the answer at any time is in proportion to that limit.
+    ///
+    /// # Errors
+    ///
+    /// As `poll`.
+    pub fn poll_text_within(
+        &mut self,
+        alloc: Global,
+        memory: &Memory,
+        wants: &mut Wants,
+        most: usize,
+    ) -> Result<Poll<String>, NoMemory>
+        requires { CanEvaluate (plan_in self.old) memory.now wants.old }
+        ensures ok { FitsMemory self.old memory.now → IfOk result (λ polled. IsLimited most wants.old wants.new (plan_program (plan_in self.old)) memory.now polled) }
+        ensures err { FitsMemory self.old memory.now → OnErr result (AddsPart wants.old wants.new (missing (reader memory.now) (needs (plan_program (plan_in self.old)) (reader memory.now)))) }
+        ensures grown { (m : MemoryOf) → FitsMemory self.old memory.now → GrowsTo memory.now m → FitsMemory self.new m }
+        ensures same_plan { plan_in self.new ≡ plan_in self.old }
+    {
+        let tour = Tour {
+            alloc,
+            plan: self.plan,
+            memory,
+            most: self.most,
+        };
+        match advance(&tour, most, &mut self.stopped, wants)? {
+            Some((rooted, out)) => Ok(Poll::Ready(limited_answer(&tour, rooted, out, most)?)),
+            None => Ok(Poll::Pending),
+        }
     }
 }
 
@@ -99,7 +133,7 @@ impl<'p, 'a> Resolve for RootState<'p, 'a> {
             memory,
             most: self.most,
         };
-        match advance(&tour, &mut self.stopped, wants)? {
+        match advance(&tour, NO_LIMIT, &mut self.stopped, wants)? {
             Some((rooted, _)) => Ok(Poll::Ready(responded(&tour, rooted)?)),
             None => Ok(Poll::Pending),
         }

@@ -3,6 +3,7 @@ pub mod BindingsSeen
 pub mod BindingsPlaces
 pub mod BindingsTypes
 pub mod BindingsForms
+pub mod BindingsTargets
 pub mod BindingsReading
 pub mod BindingsFaults
 pub mod Scan

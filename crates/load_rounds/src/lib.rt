@@ -10,6 +10,9 @@
 //! takes their replies in any order. Each call's contract says what has been done since the run was begun (`specs::Runs`,
 //! `IsRun`), and in the end that is the headline.
 //!
+//! What is answered is a plan, or a plan with a limit ([`Limited`]): an answer whose text is longer is refused, and all else is
+//! as for the plan.
+//!
 //! Several plans are answered in rounds that they share, in turn ([`Session::answer_all`]) or by hand ([`Session::begin_all`]):
 //! there is one log, and each answer has a headline of its own (`specs::SharedRounds`, `SharedHeadline`).
 #![tactic(auto)]
@@ -21,6 +24,7 @@ mod executed;
 pub mod fault;
 mod keys;
 pub mod law;
+pub mod limited;
 mod plan;
 mod round;
 pub mod run;
@@ -33,6 +37,7 @@ pub use answer::Answer;
 pub use answering::Answering;
 pub use execute::Execute;
 pub use fault::SessionFault;
+pub use limited::Limited;
 pub use run::{Next, Run, Stage};
 pub use run_all::{NextAll, RunAll};
 pub use session::Session;

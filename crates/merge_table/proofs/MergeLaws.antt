@@ -2,8 +2,8 @@
 use Rattle.std.proofs.Common.{◌≡◌, ◌≢◌, ℕ, ◌<◌, Bool, true, false, not, ◌||◌, ◌&&◌, List, refl, ◌∙◌, inl, inr}
 use Rattle.std.proofs.lemmas.Bool.{or_cases, or_parts, or_left, or_right, and_parts, and_cases, both_ways, not-true, not-false}
 use Rattle.merge_table.specs.Merging.{Fields, IsPair, joined, SameShape, same, CanMerge, merges, Merges}
-use Rattle.merge_table.specs.declared.table.Rule.{Rule}
-use Rattle.merge_table.specs.declared.table.Rule.TheVariants.{Shape, Merge}
+use Rattle.merge_table.specs.declared.recursion.Rule.{Rule}
+use Rattle.merge_table.specs.declared.recursion.Rule.TheVariants.{Shape, Merge}
 use Rattle.merge_table.specs.Table.{fail, TellsAll, Holds, IsReady, fails_itself, asks_members}
 
 -- the relations between two fields don't ask which is the first

@@ -7,7 +7,7 @@ use Rattle.merge_table.specs.Merging.{Fields, IsPair, joined}
 use Rattle.merge_table.specs.Numbered.{at, test_at, have_one_key, are_alike, may_meet, do_agree, fields_of, members_at}
 use Rattle.merge_table.specs.declared.field.Field.{Field}
 use Rattle.merge_table.specs.Table.{row, entry, fail, IsBelow, Tells, TellsAll, Found, FailsWith, AreMarks, TestsJoined, TestsPair, KnowsInner, Holds, fails_itself, asks_members, fails_with}
-use Rattle.merge_table.specs.declared.table.Rule.{Rule}
+use Rattle.merge_table.specs.declared.recursion.Rule.{Rule}
 use Rattle.merge_table.proofs.MergeLaws.{Laws, IsSymmetric}
 use Rattle.merge_table.proofs.Bits.{has-empty, or-false}
 
@@ -270,13 +270,20 @@ inner-noted D rows old new marks members b enters marked others own known = reco
 
 -- ---- reading the fields
 
+at-read : {A : Type 0} (g : Field → A) (d : A) (fields : List Field) (b : ℕ) (f : Field) → b < length fields → at g d fields b ≡ g (get_or fields b f)
+at-read g d [] b f lt = absurd (omega arith)
+at-read g d (r ∷ rs) zero f lt = refl
+at-read g d (r ∷ rs) (suc b) f lt = at-read g d rs b f (omega arith)
+
 pub at-get : {A : Type 0} (g : Field → A) (d : A) (fields : List Field) (b : ℕ) (f : Field) → b < length fields → f ≡ get_or fields b f → at g d fields b ≡ g f
-at-get g d [] b f lt e = absurd (omega arith)
-at-get g d (r ∷ rs) zero f lt e = ap g (sym e)
-at-get g d (r ∷ rs) (suc b) f lt e = at-get g d rs b f (omega arith) e
+at-get g d fields b f lt e = at-read g d fields b f lt ∙ ap g (sym e)
 
 pub test_at-get : (t : Field → Field → Bool) (fields : List Field) (a b : ℕ) (x y : Field) → a < length fields → b < length fields → x ≡ get_or fields a x → y ≡ get_or fields b y → test_at t fields a b ≡ t x y
 test_at-get t fields a b x y la lb ea eb = at-get (λ z. at (t z) false fields b) false fields a x la ea ∙ at-get (t x) false fields b y lb eb
+
+-- the same of what an index into a struct's list gives
+pub test_at-read : (t : Field → Field → Bool) (fields : List Field) (a b : ℕ) (x y : Field) → a < length fields → b < length fields → t (get_or fields a x) (get_or fields b y) ≡ test_at t fields a b
+test_at-read t fields a b x y la lb = sym (at-read (λ z. at (t z) false fields b) false fields a x la ∙ at-read (t (get_or fields a x)) false fields b y lb)
 
 -- ---- a row's tests
 

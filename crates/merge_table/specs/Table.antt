@@ -1,7 +1,7 @@
 -- A table of pairs of numbered fields: row b has each a below b that fails with it.
 use Rattle.std.specs.Prelude.{◌≡◌, ◌≢◌, ◌⊎◌, ℕ, ◌<◌, Bool, true, false, ◌||◌, ◌&&◌, not, List, [], ◌∷◌, length, slice_index_or, Option, Some, None, if◌then◌else◌}
-use Rattle.merge_table.specs.declared.table.Rule.{Rule}
-use Rattle.merge_table.specs.declared.table.Rule.TheVariants.{Shape, Merge}
+use Rattle.merge_table.specs.declared.recursion.Rule.{Rule}
+use Rattle.merge_table.specs.declared.recursion.Rule.TheVariants.{Shape, Merge}
 use Rattle.merge_table.specs.Sets.{has, Common}
 use Rattle.merge_table.specs.Merging.{Fields, SameShape, Merges}
 
@@ -39,6 +39,10 @@ Holds Merge D = Merges D
 abbrev pub IsReady : Rule → Fields ℕ → ℕ → List (List ℕ) → Type 0
 IsReady Shape D n shapes = Unit {0}
 IsReady Merge D n shapes = (length shapes ≡ n) × TellsAll (SameShape D) D n shapes
+
+-- the recursion that asks the table of shapes has a row of it for each field
+abbrev pub HasShapes : Rule → ℕ → List (List ℕ) → Type 0
+HasShapes rule n shapes = rule ≡ Merge → length shapes ≡ n
 
 -- a pair of one key fails by itself
 abbrev pub fails_itself : Rule → Fields ℕ → List (List ℕ) → ℕ → ℕ → Bool

@@ -10,6 +10,7 @@
 mod field;
 mod keys;
 mod merge;
+mod recursion;
 mod row;
 mod sets;
 mod table;

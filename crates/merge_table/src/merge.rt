@@ -6,8 +6,9 @@ ghost use Rattle.merge_table.specs.Numbered.{fields_of, AreInOrder, AreBelow, is
 ghost use Rattle.merge_table.specs.Table.{IsBelow, TellsAll, AreMarks, has_marked, first_marked};
 
 use crate::field::Field;
+use crate::recursion::Rule;
 use crate::row::Row;
-use crate::table::{Rule, is_one_key, marks_of, members_of, table};
+use crate::table::{is_one_key, marks_of, members_of, table};
 use std::alloc::{AllocError, Global};
 
 /// Which pairs of fields conflict: row `b` has each earlier field that conflicts with `b`.

@@ -1,29 +1,14 @@
 //! Which pairs of fields conflict, by a table of pairs.
-ghost use Rattle.std.specs.Prelude.{◌≡◌, ◌≢◌, ◌<◌, ◌≤◌, ◌||◌, ◌&&◌, ◌==◌, ◌+◌, ℕ, [], ◌∷◌, length, IfOk, true, false};
+ghost use Rattle.std.specs.Prelude.{◌≡◌, ◌≢◌, ◌<◌, ◌≤◌, ℕ, [], ◌∷◌, length, IfOk, true, false};
 ghost use Rattle.merge_table.specs.Sets.{has, Meets};
 ghost use Rattle.merge_table.specs.Numbered.{fields_of, members_at, is_in, AreInOrder};
-ghost use Rattle.merge_table.specs.Table.{fail, entry, IsBelow, TellsAll, Holds, IsReady, fails_itself, asks_members, AreMarks, TestsJoined, fails_with, TestsPair};
+ghost use Rattle.merge_table.specs.Table.{IsBelow, TellsAll, Holds, IsReady, AreMarks, TestsJoined};
+ghost use Rattle.merge_table.specs.Recursions.{TestsFields};
 
 use crate::field::Field;
+use crate::recursion::{Recursion, Rule};
 use crate::row::Row;
 use std::alloc::{AllocError, Global};
-
-/// Which of the rule's two recursions a table is for.
-#[derive(Clone, Copy)]
-pub enum Rule {
-    Shape,
-    Merge,
-}
-
-/// Whether two fields conflict.
-fn is_failing(rows: &[Row], c: usize, d: usize) -> bool
-    requires c { c < length rows.now }
-    requires d { d < length rows.now }
-    requires most { length rows.now ≤ 1024 }
-    ensures { result ≡ fail rows.now c d }
-{
-    rows[c].has(d) || rows[d].has(c)
-}
 
 /// The fields that conflict with one of a set's members.
 pub fn marks_of(rows: &[Row], members: &Row) -> Row
@@ -63,51 +48,6 @@ pub fn marks_of_field(rows: &[Row], field: usize) -> Row
     marks
 }
 
-/// Whether two fields with one response key conflict by themselves, whatever is below them.
-fn fails_itself(rule: Rule, fields: &[Field], shapes: &[Row], a: usize, b: usize) -> bool
-    requires a { a < length fields.now }
-    requires b { b < length fields.now }
-    requires most { length fields.now ≤ 1024 }
-    requires ready { IsReady rule (fields_of fields.now) (length fields.now) shapes.now }
-    ensures { result ≡ fails_itself rule (fields_of fields.now) shapes.now a b }
-{
-    let (one, other) = (&fields[a], &fields[b]);
-    match rule {
-        Rule::Shape => !one.is_alike(other),
-        Rule::Merge => is_failing(shapes, a, b) || (one.may_meet(other) && !one.agrees(other)),
-    }
-}
-
-/// Whether the members of their joined selection sets count for two fields with one response key.
-fn asks_members(rule: Rule, fields: &[Field], a: usize, b: usize) -> bool
-    requires a { a < length fields.now }
-    requires b { b < length fields.now }
-    ensures { result ≡ asks_members rule (fields_of fields.now) a b }
-{
-    match rule {
-        Rule::Shape => true,
-        Rule::Merge => fields[a].may_meet(&fields[b]),
-    }
-}
-
-/// Whether two fields conflict; `joined` says whether members of their joined selection sets do.
-fn fails_with(
-    rule: Rule,
-    fields: &[Field],
-    shapes: &[Row],
-    joined: bool,
-    a: usize,
-    b: usize,
-) -> bool
-    requires a { a < length fields.now }
-    requires b { b < length fields.now }
-    requires most { length fields.now ≤ 1024 }
-    requires ready { IsReady rule (fields_of fields.now) (length fields.now) shapes.now }
-    ensures { result ≡ fails_with rule (fields_of fields.now) shapes.now joined a b }
-{
-    fails_itself(rule, fields, shapes, a, b) || (asks_members(rule, fields, a, b) && joined)
-}
-
 /// Whether members of the joined selection sets of two fields conflict. `marks` are the fields that
 /// conflict with a member of `b`, and `inner` the fields of which two own members conflict.
 fn joined_fails(fields: &[Field], marks: &Row, inner: &Row, a: usize, b: usize) -> bool
@@ -128,40 +68,29 @@ pub(crate) fn is_one_key(fields: &[Field], a: usize, b: usize) -> bool
     fields[a].has_one_key(&fields[b])
 }
 
-/// Whether field `a` conflicts with a later field `b`.
-fn pair_fails(
-    rule: Rule,
-    fields: &[Field],
-    shapes: &[Row],
-    marks: &Row,
-    inner: &Row,
-    a: usize,
-    b: usize,
-) -> bool
-    requires a { a < length fields.now }
-    requires b { b < length fields.now }
-    requires most { length fields.now ≤ 1024 }
-    requires ready { IsReady rule (fields_of fields.now) (length fields.now) shapes.now }
-    ensures { TestsPair rule (fields_of fields.now) shapes.now marks.now inner.now (members_at fields.now a) a b result }
+/// Whether field `a` conflicts with a later field `b`, by the `marks` and `inner` of [`joined_fails`].
+fn pair_fails(recursion: &Recursion, marks: &Row, inner: &Row, a: usize, b: usize) -> bool
+    requires a { a < length recursion.now.fields.now }
+    requires b { b < length recursion.now.fields.now }
+    ensures { TestsFields recursion.now marks.now inner.now a b result }
 {
+    let fields = recursion.fields;
     if !is_one_key(fields, a, b) {
         return false;
     }
     let joined = joined_fails(fields, marks, inner, a, b);
-    fails_with(rule, fields, shapes, joined, a, b)
+    recursion.fails_itself(a, b) || (recursion.asks_members(a, b) && joined)
 }
 
 /// The earlier fields that conflict with field `b`.
-fn next_row(rule: Rule, fields: &[Field], shapes: &[Row], marks: &Row, inner: &Row, b: usize) -> Row
-    requires b { b < length fields.now }
-    requires most { length fields.now ≤ 1024 }
-    requires ready { IsReady rule (fields_of fields.now) (length fields.now) shapes.now }
+fn next_row(recursion: &Recursion, marks: &Row, inner: &Row, b: usize) -> Row
+    requires b { b < length recursion.now.fields.now }
     ensures below { (a : ℕ) → has result a ≡ true → a < b }
-    ensures each { (a : ℕ) → a < b → TestsPair rule (fields_of fields.now) shapes.now marks.now inner.now (members_at fields.now a) a b (has result a) }
+    ensures each { (a : ℕ) → a < b → TestsFields recursion.now marks.now inner.now a b (has result a) }
 {
     let mut row = Row::new();
     for a in 0..b {
-        if pair_fails(rule, fields, shapes, marks, inner, a, b) {
+        if pair_fails(recursion, marks, inner, a, b) {
             row.insert(a);
         }
     }
@@ -204,13 +133,18 @@ pub(crate) fn table(
     ensures below { IfOk result (λ rows. IsBelow rows.items) }
     ensures tells { IfOk result (λ rows. TellsAll (Holds rule (fields_of fields.now)) (fields_of fields.now) (length fields.now) rows.items) }
 {
+    let recursion = Recursion {
+        rule,
+        fields,
+        shapes,
+    };
     let mut rows: Vec<Row> = Vec::with_capacity(alloc, fields.len())?;
     let mut inner = Row::new();
     for b in 0..fields.len() {
         let members = members_of(fields, b);
         let marks = marks_of(&rows, members);
         note_inner(&mut inner, &marks, members, b);
-        let row = next_row(rule, fields, shapes, &marks, &inner, b);
+        let row = next_row(&recursion, &marks, &inner, b);
         rows.push(row)?;
     }
     Ok(rows)

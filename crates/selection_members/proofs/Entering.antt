@@ -2,7 +2,12 @@
 use Rattle.std.proofs.Common.{◌≡◌, ◌∙◌, sym, ap, subst, ℕ, suc, ◌+◌, ◌<◌, List, [], ◌∷◌, ◌++◌, length, get_or, drop, drop-cons, add-one, append_assoc, append-nil, Option, Some, None, IfSome}
 use Rattle.std.specs.Prelude.{slice_get}
 use Rattle.std.proofs.lemmas.List.{map-append}
-use Rattle.gq_parser.specs.Tree.{Selection, Selections, no_selection, and_selection}
+use Rattle.gq_parser.specs.declared.tree.Field as rust-field
+use Rattle.gq_parser.specs.declared.tree.Selection as rust
+use Rattle.gq_parser.specs.declared.tree.Selection.TheFolds.{fold_out-Field}
+use Rattle.gq_parser.specs.declared.tree.Selection.TheVariants as selection
+use Rattle.gq_parser.specs.Tree.{Selection, Selections, SelectionSet, no_selection, and_selection, selection_of, selection_step, field_step, inline_step, set_step}
+use Rattle.gq_parser.proofs.Views.{selection_field}
 use Rattle.merge_table.specs.declared.sets.Reached.{Reached}
 use Rattle.merge_table.specs.Entered.{IsReached}
 use Rattle.selection_members.specs.Members.{count_from, members_from, members_among}
@@ -47,3 +52,9 @@ entered-all rows numbers all spread n r e = let same : e.done ≡ all = sym (app
 -- what is left at a place: the element there, and then what is left behind it
 pub drop-next : {A : Type 0} (xs ys : List A) (i : ℕ) (x : A) → xs ≡ ys → i < length xs → x ≡ get_or xs i x → drop i ys ≡ x ∷ drop (i + 1) ys
 drop-next xs ys i x same lt is = rw (← same, add-one) (drop-cons xs i x lt ∙ ap (λ y. y ∷ drop (suc i) xs) (sym is))
+
+-- a field is met alone
+pub field-alone : (spread : List ℕ → List ℕ) (n : ℕ) (s : rust.Selection) (f : rust-field.Field) → s ≡ selection.Field f → members_from spread n (selection_of s) ≡ n ∷ []
+field-alone spread n s f is =
+    ap (λ (x : rust.Selection). members_from spread n (selection_of x)) is
+    ∙ ap (λ (x : Selection). members_from spread n x) (selection_field f ∙ fold_out-Field Selection Selection Selection SelectionSet selection_step field_step inline_step set_step f)

@@ -1,4 +1,5 @@
 pub mod Fragments
+pub mod Knowledge
 pub mod Meeting
 pub mod Members
 pub mod Placed

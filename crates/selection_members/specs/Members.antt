@@ -33,6 +33,10 @@ abbrev pub count_fragments : List Fragment → ℕ
 count_fragments [] = 0
 count_fragments (f ∷ fs) = count_in f.selection_set + count_fragments fs
 
+-- the fields of a document
+abbrev pub count_fields : Document → ℕ
+count_fields d = count_operations d.operations + count_fragments d.fragments
+
 -- a count up to the greatest that there is
 abbrev pub capped : ℕ → ℕ
 capped n = min n (2 ^ 64 - 1)

@@ -2,6 +2,7 @@
 use Rattle.std.specs.Prelude.{◌≡◌, ◌<◌, ◌≤◌, ◌+◌, ◌⊎◌, ℕ, true, List, length, Some, slice_get}
 use Rattle.gq_parser.specs.Tree.{Selection, Fragment, Document}
 use Rattle.merge_table.specs.Numbered.{is_in}
+use Rattle.selection_members.specs.declared.numbering.Numbering.{Numbering}
 use Rattle.selection_members.specs.Fragments.{place_in}
 use Rattle.selection_members.specs.Members.{count_in, count_operations, count_fragments, starts_from, members_below, members_of_fragment}
 use Rattle.selection_members.specs.Walks.{to}
@@ -43,3 +44,14 @@ pub record IsNumbering (d : Document) (order numbers : List ℕ) : Type 0 where
   pub len : length order ≡ length numbers
   pub all : (a : ℕ) → a < length numbers → HasPlace order numbers a
   pub placed : ArePlaced d order numbers
+
+-- ---- the same of a numbering, which has an order and places
+
+abbrev pub HasPlaceIn : Numbering → ℕ → Type 0
+HasPlaceIn n a = HasPlace n.order.items n.numbers.items a
+
+abbrev pub ArePlacedIn : Document → Numbering → Type 0
+ArePlacedIn d n = ArePlaced d n.order.items n.numbers.items
+
+abbrev pub AreReadyIn : Document → Numbering → ℕ → ℕ → Type 0
+AreReadyIn d n first end = AreReady d n.order.items n.numbers.items first end

@@ -1,6 +1,6 @@
 -- What is known where the members of selection sets are gathered. Fields have other numbers in a table of pairs than in their
 -- document.
-use Rattle.std.specs.Prelude.{◌≡◌, ◌<◌, ◌≤◌, ◌+◌, ℕ, Bool, true, List, [], map, slice_index_or, slice_get, Option, Some, None, IfSome}
+use Rattle.std.specs.Prelude.{◌≡◌, ◌<◌, ◌≤◌, ◌+◌, ◌++◌, ℕ, Bool, true, List, [], map, filter, All, slice_index_or, slice_get, Option, Some, None, IfSome}
 use Rattle.gq_parser.specs.Tree.{Document, SelectionSet, set_at, set_of}
 use Rattle.gq_lexer.specs.declared.place.Place.{Place}
 use Rattle.merge_table.specs.declared.sets.Reached.{Reached}
@@ -9,7 +9,7 @@ use Rattle.merge_table.specs.Clashes.{has_clash}
 use Rattle.merge_table.specs.Sets.{has}
 use Rattle.merge_table.specs.Table.{fail}
 use Rattle.selection_members.specs.declared.visiting.ClashingSet as rust
-use Rattle.selection_members.specs.Members.{SetOf, count_in, count_operations, members_in, members_named}
+use Rattle.selection_members.specs.Members.{SetOf, count_in, count_operations, members_in, members_named, own_set}
 
 -- the number that a field has in the table
 abbrev pub to : List ℕ → ℕ → ℕ
@@ -62,3 +62,17 @@ IsFixed spread d = (name : List ℕ) → spread name ≡ members_named spread (c
 -- a set has so many fields at most up to its last
 abbrev pub IsInside : ℕ → rust.ClashingSet → Type 0
 IsInside many c = c.first + count_in (set_of c.set.now) ≤ many
+
+-- so have all of these
+abbrev pub AreInside : ℕ → List rust.ClashingSet → Type 0
+AreInside many cs = All (IsInside many) cs
+
+-- a list of sets has gained those of these in which two fields clash
+abbrev pub AreClashingAdded : List (List ℕ) → List ℕ → (List ℕ → List ℕ) → List SetOf → List rust.ClashingSet → List rust.ClashingSet → Type 0
+AreClashingAdded rows numbers spread sets old new = map (clashing_of spread) new ≡ map (clashing_of spread) old ++ filter (is_clashing rows numbers) sets
+
+-- It has gained this set, whose members are reached, if two of them clash. The first field of the set has the number `first`.
+abbrev pub AddsIfClashing : Reached → ℕ → SelectionSet → List rust.ClashingSet → List rust.ClashingSet → Type 0
+AddsIfClashing reached first set old new = (rows : List (List ℕ)) (numbers : List ℕ) (spread : List ℕ → List ℕ)
+    → IsReached rows (renumbered numbers (members_in spread first set)) reached
+    → AreClashingAdded rows numbers spread (own_set spread first set) old new

@@ -1,16 +1,17 @@
 //! The first member of a set that passes a test.
 
 ghost use Rattle.std.specs.Prelude.{◌≡◌, ◌≤◌, ◌+◌, ℕ, List, length, find};
-ghost use Rattle.gq_parser.specs.Tree.{document_of, set_of};
+ghost use Rattle.gq_parser.specs.Tree.{set_of};
 ghost use Rattle.selection_members.specs.Fragments.{place_in};
+ghost use Rattle.selection_members.specs.Knowledge.{document_in, IsTableKnown};
 ghost use Rattle.selection_members.specs.Members.{count_in, members_in};
 ghost use Rattle.selection_members.specs.Ranked.{AreRanked};
-ghost use Rattle.selection_members.specs.Walks.{Knows, IsFixed, is_key};
+ghost use Rattle.selection_members.specs.Walks.{IsFixed, is_key};
 
-use crate::fragments::{Source, fragment_set};
+use crate::fragments::fragment_set;
+use crate::known::{Source, Walk};
 use crate::meeting::{Met, first_met};
 use crate::visiting::ClashingSet;
-use crate::walk::Walk;
 use merge_table::{Reached, Row};
 
 /// The first member of a set, in order of first meeting, that is among `keys`, which are numbers in the table of pairs. It takes
@@ -21,10 +22,11 @@ pub fn first_member<'d>(
     keys: &Row,
     set: ClashingSet<'d>,
 ) -> Option<usize>
-    requires len { length table.now ≡ length (document_of source.now.document.now).fragments }
-    requires ranked { ∥ AreRanked (place_in (document_of source.now.document.now).fragments) (document_of source.now.document.now).fragments ∥₁ }
+    requires len { length table.now ≡ length (document_in source.now).fragments }
+    requires ranked { ∥ AreRanked (place_in (document_in source.now).fragments) (document_in source.now).fragments ∥₁ }
     requires inside { set.first + count_in (set_of set.set.now) ≤ length source.now.numbers.now }
-    ensures { (spread : List ℕ → List ℕ) → Knows source.now.rows.now source.now.numbers.now table.now (place_in (document_of source.now.document.now).fragments) spread → IsFixed spread (document_of source.now.document.now) → result ≡ find (is_key keys.now source.now.numbers.now) (members_in spread set.entry.first (set_of set.entry.set.now)) }
+    ensures { (spread : List ℕ → List ℕ) → IsTableKnown source.now table.now spread → IsFixed spread (document_in source.now)
+        → result ≡ find (is_key keys.now source.now.numbers.now) (members_in spread set.entry.first (set_of set.entry.set.now)) }
 {
     let walk = Walk {
         targets: source.targets,

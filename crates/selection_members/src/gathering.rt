@@ -1,14 +1,13 @@
 //! The members of the own selection sets of all fields, in one walk through a document.
 
-ghost use Rattle.std.specs.Prelude.{◌≡◌, ◌≤◌, ◌+◌, ◌++◌, ◌∷◌, [], ℕ, List, length, map, IfOk, OnOk};
+ghost use Rattle.std.specs.Prelude.{◌≡◌, ◌≤◌, ◌+◌, ◌∷◌, length, map, IfOk, OnOk};
 ghost use Rattle.gq_parser.specs.Tree.{set_of, selection_of, below_of, operation_of, fragment_of, document_of};
-ghost use Rattle.merge_table.specs.Entered.{IsReached};
-ghost use Rattle.selection_members.specs.Fragments.{target_at};
-ghost use Rattle.selection_members.specs.Members.{count_in, count_from, count_below, count_operations, count_fragments, members_in, members_from, members_below};
-ghost use Rattle.selection_members.specs.Walks.{renumbered, Knows};
-ghost use Rattle.selection_members.specs.Written.{written_in, written_from, written_below, written_operations, written_fragments, written_fields, belows, AreOwn, AreAdded};
+ghost use Rattle.selection_members.specs.Knowledge.{ReachesAll, Gains, AddsRows, HasRows};
+ghost use Rattle.selection_members.specs.Members.{count_in, count_from, count_below, count_operations, count_fragments, count_fields, members_in, members_from};
+ghost use Rattle.selection_members.specs.Written.{written_in, written_from, written_below, written_operations, written_fragments, written_fields, belows};
 
-use crate::walk::{Walk, add_field, add_fragment};
+use crate::known::Walk;
+use crate::walk::{add_field, add_fragment};
 use gq_parser::{Document, Fragment, Operation, Selection, SelectionSet};
 use merge_table::{Reached, Row};
 use std::alloc::{AllocError, Global};
@@ -32,8 +31,8 @@ fn gather_set(
 ) -> Result<Gathered, AllocError>
     requires inside { first + count_in (set_of set.now) ≤ length walk.now.numbers.now }
     ensures next { IfOk result (λ gathered. gathered.next ≡ first + count_in (set_of set.now)) }
-    ensures reached { (spread : List ℕ → List ℕ) → Knows walk.now.rows.now walk.now.numbers.now walk.now.fragments.now (target_at walk.now.targets.now) spread → IfOk result (λ gathered. IsReached walk.now.rows.now (renumbered walk.now.numbers.now (members_in spread first (set_of set.now))) gathered.reached) }
-    ensures rows { (spread : List ℕ → List ℕ) → Knows walk.now.rows.now walk.now.numbers.now walk.now.fragments.now (target_at walk.now.targets.now) spread → OnOk result (AreAdded walk.now.numbers.now spread first (belows (written_in (set_of set.now))) rows.old.items rows.new.items) }
+    ensures reached { IfOk result (λ gathered. ReachesAll walk.now (λ spread. members_in spread first (set_of set.now)) gathered.reached) }
+    ensures rows { OnOk result (AddsRows walk.now first (belows (written_in (set_of set.now))) rows.old.items rows.new.items) }
 {
     let mut reached = Reached::new();
     let mut next = first;
@@ -54,8 +53,8 @@ fn gather(
 ) -> Result<usize, AllocError>
     requires inside { number + count_from (selection_of selection.now) ≤ length walk.now.numbers.now }
     ensures next { IfOk result (λ next. next ≡ number + count_from (selection_of selection.now)) }
-    ensures reached { (spread : List ℕ → List ℕ) (ms : List ℕ) → Knows walk.now.rows.now walk.now.numbers.now walk.now.fragments.now (target_at walk.now.targets.now) spread → IsReached walk.now.rows.now (renumbered walk.now.numbers.now ms) reached.old → OnOk result (IsReached walk.now.rows.now (renumbered walk.now.numbers.now (ms ++ members_from spread number (selection_of selection.now))) reached.new) }
-    ensures rows { (spread : List ℕ → List ℕ) → Knows walk.now.rows.now walk.now.numbers.now walk.now.fragments.now (target_at walk.now.targets.now) spread → OnOk result (AreAdded walk.now.numbers.now spread number (belows (written_from (selection_of selection.now))) rows.old.items rows.new.items) }
+    ensures reached { OnOk result (Gains walk.now (λ spread. members_from spread number (selection_of selection.now)) reached.old reached.new) }
+    ensures rows { OnOk result (AddsRows walk.now number (belows (written_from (selection_of selection.now))) rows.old.items rows.new.items) }
 {
     match selection {
         Selection::Field(field) => {
@@ -84,7 +83,7 @@ fn gather_field(
 ) -> Result<usize, AllocError>
     requires inside { number + 1 + count_below (below_of below.now) ≤ length walk.now.numbers.now }
     ensures next { IfOk result (λ next. next ≡ number + 1 + count_below (below_of below.now)) }
-    ensures rows { (spread : List ℕ → List ℕ) → Knows walk.now.rows.now walk.now.numbers.now walk.now.fragments.now (target_at walk.now.targets.now) spread → OnOk result (AreAdded walk.now.numbers.now spread number (below_of below.now ∷ belows (written_below (below_of below.now))) rows.old.items rows.new.items) }
+    ensures rows { OnOk result (AddsRows walk.now number (below_of below.now ∷ belows (written_below (below_of below.now))) rows.old.items rows.new.items) }
 {
     let place = rows.len();
     rows.push(Row::new())?;
@@ -111,7 +110,7 @@ fn gather_operations(
 ) -> Result<usize, AllocError>
     requires inside { count_operations (map operation_of operations.now) ≤ length walk.now.numbers.now }
     ensures next { IfOk result (λ next. next ≡ count_operations (map operation_of operations.now)) }
-    ensures rows { (spread : List ℕ → List ℕ) → Knows walk.now.rows.now walk.now.numbers.now walk.now.fragments.now (target_at walk.now.targets.now) spread → OnOk result (AreAdded walk.now.numbers.now spread 0 (belows (written_operations (map operation_of operations.now))) rows.old.items rows.new.items) }
+    ensures rows { OnOk result (AddsRows walk.now 0 (belows (written_operations (map operation_of operations.now))) rows.old.items rows.new.items) }
 {
     let mut next = 0;
     for operation in operations {
@@ -128,7 +127,7 @@ fn gather_fragments(
     rows: &mut Vec<Row>,
 ) -> Result<(), AllocError>
     requires inside { first + count_fragments (map fragment_of fragments.now) ≤ length walk.now.numbers.now }
-    ensures { (spread : List ℕ → List ℕ) → Knows walk.now.rows.now walk.now.numbers.now walk.now.fragments.now (target_at walk.now.targets.now) spread → OnOk result (AreAdded walk.now.numbers.now spread first (belows (written_fragments (map fragment_of fragments.now))) rows.old.items rows.new.items) }
+    ensures { OnOk result (AddsRows walk.now first (belows (written_fragments (map fragment_of fragments.now))) rows.old.items rows.new.items) }
 {
     let mut next = first;
     for fragment in fragments {
@@ -143,8 +142,8 @@ pub fn members_of_fields(
     walk: &Walk,
     document: &Document,
 ) -> Result<Vec<Row>, AllocError>
-    requires inside { count_operations (document_of document.now).operations + count_fragments (document_of document.now).fragments ≤ length walk.now.numbers.now }
-    ensures { (spread : List ℕ → List ℕ) → Knows walk.now.rows.now walk.now.numbers.now walk.now.fragments.now (target_at walk.now.targets.now) spread → IfOk result (λ rows. AreOwn walk.now.numbers.now spread 0 (belows (written_fields (document_of document.now))) rows.items) }
+    requires inside { count_fields (document_of document.now) ≤ length walk.now.numbers.now }
+    ensures { IfOk result (λ rows. HasRows walk.now (belows (written_fields (document_of document.now))) rows.items) }
 {
     let mut rows = Vec::new(alloc);
     let first = gather_operations(walk, &document.operations, &mut rows)?;

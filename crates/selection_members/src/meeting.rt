@@ -1,15 +1,16 @@
 //! The first member of a set that passes a test, where its fields and those of the fragments that it enters are met in order.
 
-ghost use Rattle.std.specs.Prelude.{◌≡◌, ◌<◌, ◌≤◌, ◌+◌, ◌∷◌, [], ℕ, Bool, true, List, length, find};
+ghost use Rattle.std.specs.Prelude.{◌<◌, ◌≤◌, ◌+◌, ◌∷◌, [], ℕ, Bool, List, length};
 ghost use Rattle.gq_parser.specs.Tree.{set_of, selection_of};
 ghost use Rattle.selection_members.specs.Fragments.{target_at};
 ghost use Rattle.selection_members.specs.Members.{count_in, count_from, members_in, members_from};
 ghost use Rattle.selection_members.specs.Ranked.{spreads_in, spreads_from};
-ghost use Rattle.selection_members.specs.Walks.{Knows, is_key};
-ghost use Rattle.selection_members.specs.Meeting.{IsMet, IsPast, IsSpread, met_of};
+ghost use Rattle.selection_members.specs.Knowledge.{IsFirstMet, MeetsFirst, MeetsSpread};
+ghost use Rattle.selection_members.specs.Meeting.{IsPast, IsSpread, met_of};
 
 use crate::counting::fields_from;
-use crate::walk::{Walk, known_at};
+use crate::known::Walk;
+use crate::walk::known_at;
 use gq_parser::{Selection, SelectionSet};
 use merge_table::Row;
 
@@ -25,7 +26,7 @@ pub enum Met {
 // Whether a field passes.
 fn field_met(walk: &Walk, keys: &Row, number: usize) -> Option<Met>
     requires inside { number < length walk.now.numbers.now }
-    ensures met { (spread : List ℕ → List ℕ) → IsMet (target_at walk.now.targets.now) spread (is_key keys.now walk.now.numbers.now) (find (is_key keys.now walk.now.numbers.now) (number ∷ [])) result }
+    ensures met { (spread : List ℕ → List ℕ) → IsFirstMet walk.now keys.now spread (number ∷ []) result }
     ensures spread { (test : List ℕ → Bool) → IsSpread (target_at walk.now.targets.now) test result }
 {
     if keys.has(walk.numbers[number]) {
@@ -37,8 +38,8 @@ fn field_met(walk: &Walk, keys: &Row, number: usize) -> Option<Met>
 
 // Whether a member of the fragment of a name passes.
 fn fragment_met(walk: &Walk, keys: &Row, name: &str) -> Option<Met>
-    ensures met { (spread : List ℕ → List ℕ) → Knows walk.now.rows.now walk.now.numbers.now walk.now.fragments.now (target_at walk.now.targets.now) spread → IsMet (target_at walk.now.targets.now) spread (is_key keys.now walk.now.numbers.now) (find (is_key keys.now walk.now.numbers.now) (spread name.now)) result }
-    ensures spread { (test : List ℕ → Bool) → test name.now ≡ true → IsSpread (target_at walk.now.targets.now) test result }
+    ensures met { MeetsFirst walk.now keys.now (λ spread. spread name.now) result }
+    ensures spread { MeetsSpread walk.now (λ test. test name.now) result }
 {
     match walk.targets.get(name) {
         Some(target) => {
@@ -64,8 +65,8 @@ enum Came {
 /// Where the first member of a set that passes is met; the set's first field has the number `first`.
 pub fn first_met(walk: &Walk, keys: &Row, set: &SelectionSet, first: usize) -> Option<Met>
     requires inside { first + count_in (set_of set.now) ≤ length walk.now.numbers.now }
-    ensures met { (spread : List ℕ → List ℕ) → Knows walk.now.rows.now walk.now.numbers.now walk.now.fragments.now (target_at walk.now.targets.now) spread → IsMet (target_at walk.now.targets.now) spread (is_key keys.now walk.now.numbers.now) (find (is_key keys.now walk.now.numbers.now) (members_in spread first (set_of set.now))) result }
-    ensures spread { (test : List ℕ → Bool) → spreads_in test (set_of set.now) ≡ true → IsSpread (target_at walk.now.targets.now) test result }
+    ensures met { MeetsFirst walk.now keys.now (λ spread. members_in spread first (set_of set.now)) result }
+    ensures spread { MeetsSpread walk.now (λ test. spreads_in test (set_of set.now)) result }
 {
     match come_through(walk, keys, set, first) {
         Came::Met(met) => Some(met),
@@ -78,8 +79,8 @@ pub fn first_met(walk: &Walk, keys: &Row, set: &SelectionSet, first: usize) -> O
 fn come_through(walk: &Walk, keys: &Row, set: &SelectionSet, first: usize) -> Came
     requires inside { first + count_in (set_of set.now) ≤ length walk.now.numbers.now }
     ensures past { IsPast (first + count_in (set_of set.now)) result }
-    ensures met { (spread : List ℕ → List ℕ) → Knows walk.now.rows.now walk.now.numbers.now walk.now.fragments.now (target_at walk.now.targets.now) spread → IsMet (target_at walk.now.targets.now) spread (is_key keys.now walk.now.numbers.now) (find (is_key keys.now walk.now.numbers.now) (members_in spread first (set_of set.now))) (met_of result) }
-    ensures spread { (test : List ℕ → Bool) → spreads_in test (set_of set.now) ≡ true → IsSpread (target_at walk.now.targets.now) test (met_of result) }
+    ensures met { MeetsFirst walk.now keys.now (λ spread. members_in spread first (set_of set.now)) (met_of result) }
+    ensures spread { MeetsSpread walk.now (λ test. spreads_in test (set_of set.now)) (met_of result) }
 {
     let mut next = first;
     for selection in &set.selections {
@@ -96,8 +97,8 @@ fn come_through(walk: &Walk, keys: &Row, set: &SelectionSet, first: usize) -> Ca
 fn come_past(walk: &Walk, keys: &Row, selection: &Selection, number: usize) -> Came
     requires inside { number + count_from (selection_of selection.now) ≤ length walk.now.numbers.now }
     ensures past { IsPast (number + count_from (selection_of selection.now)) result }
-    ensures met { (spread : List ℕ → List ℕ) → Knows walk.now.rows.now walk.now.numbers.now walk.now.fragments.now (target_at walk.now.targets.now) spread → IsMet (target_at walk.now.targets.now) spread (is_key keys.now walk.now.numbers.now) (find (is_key keys.now walk.now.numbers.now) (members_from spread number (selection_of selection.now))) (met_of result) }
-    ensures spread { (test : List ℕ → Bool) → spreads_from test (selection_of selection.now) ≡ true → IsSpread (target_at walk.now.targets.now) test (met_of result) }
+    ensures met { MeetsFirst walk.now keys.now (λ spread. members_from spread number (selection_of selection.now)) (met_of result) }
+    ensures spread { MeetsSpread walk.now (λ test. spreads_from test (selection_of selection.now)) (met_of result) }
 {
     match selection {
         Selection::Field(_) => match field_met(walk, keys, number) {

@@ -1,11 +1,11 @@
 //! The places of fields in the table of pairs: what a field's selection set has comes before the field.
 
-ghost use Rattle.std.specs.Prelude.{◌≡◌, ◌<◌, ◌≤◌, ◌+◌, [], ℕ, length, IfOk, OnOk, MatchBool};
+ghost use Rattle.std.specs.Prelude.{◌≡◌, ◌<◌, ◌≤◌, [], ℕ, length, IfOk, OnOk, MatchBool};
 ghost use Rattle.gq_parser.specs.Tree as tree;
 ghost use Rattle.gq_parser.specs.Tree.{document_of};
 ghost use Rattle.selection_members.specs.Fragments.{place_in};
-ghost use Rattle.selection_members.specs.Members.{count_operations, count_fragments, members_of_fragment, starts_from};
-ghost use Rattle.selection_members.specs.Placed.{HasPlace, IsOwn, ArePlaced, AreReady, AreDone, IsNumbering};
+ghost use Rattle.selection_members.specs.Members.{count_operations, count_fields, members_of_fragment, starts_from};
+ghost use Rattle.selection_members.specs.Placed.{HasPlaceIn, IsOwn, ArePlacedIn, AreReadyIn, AreDone, IsNumbering};
 ghost use Rattle.selection_members.specs.Ranked.{IsOrder};
 ghost use Rattle.selection_members.specs.Walks.{IsFixed};
 
@@ -26,7 +26,7 @@ pub struct Numbering {
 // Whether a field has a place.
 fn has_place(numbering: &Numbering, field: usize) -> bool
     requires { field < length numbering.now.numbers.items }
-    ensures { MatchBool result (HasPlace numbering.now.order.items numbering.now.numbers.items field) (HasPlace numbering.now.order.items numbering.now.numbers.items field → ⊥) }
+    ensures { MatchBool result (HasPlaceIn numbering.now field) (HasPlaceIn numbering.now field → ⊥) }
 {
     match numbering.order.get(numbering.numbers[field]) {
         Some(there) => *there == field,
@@ -38,9 +38,9 @@ fn has_place(numbering: &Numbering, field: usize) -> bool
 fn place(numbering: &mut Numbering, field: usize) -> Result<(), AllocError>
     requires there { field < length numbering.old.numbers.items }
     ensures len { length numbering.new.numbers.items ≡ length numbering.old.numbers.items }
-    ensures own { OnOk result (HasPlace numbering.new.order.items numbering.new.numbers.items field) }
-    ensures kept { (a : ℕ) → HasPlace numbering.old.order.items numbering.old.numbers.items a → OnOk result (HasPlace numbering.new.order.items numbering.new.numbers.items a) }
-    ensures placed { (d : tree.Document) → ArePlaced d numbering.old.order.items numbering.old.numbers.items → ((c : ℕ) → IsOwn d field c → HasPlace numbering.old.order.items numbering.old.numbers.items c) → OnOk result (ArePlaced d numbering.new.order.items numbering.new.numbers.items) }
+    ensures own { OnOk result (HasPlaceIn numbering.new field) }
+    ensures kept { (a : ℕ) → HasPlaceIn numbering.old a → OnOk result (HasPlaceIn numbering.new a) }
+    ensures placed { (d : tree.Document) → ArePlacedIn d numbering.old → ((c : ℕ) → IsOwn d field c → HasPlaceIn numbering.old c) → OnOk result (ArePlacedIn d numbering.new) }
 {
     if has_place(numbering, field) {
         return Ok(());
@@ -55,9 +55,9 @@ fn place(numbering: &mut Numbering, field: usize) -> Result<(), AllocError>
 fn place_all(numbering: &mut Numbering, first: usize, end: usize) -> Result<(), AllocError>
     requires there { end ≤ length numbering.old.numbers.items }
     ensures len { length numbering.new.numbers.items ≡ length numbering.old.numbers.items }
-    ensures own { (a : ℕ) → first ≤ a → a < end → OnOk result (HasPlace numbering.new.order.items numbering.new.numbers.items a) }
-    ensures kept { (a : ℕ) → HasPlace numbering.old.order.items numbering.old.numbers.items a → OnOk result (HasPlace numbering.new.order.items numbering.new.numbers.items a) }
-    ensures placed { (d : tree.Document) → ArePlaced d numbering.old.order.items numbering.old.numbers.items → AreReady d numbering.old.order.items numbering.old.numbers.items first end → OnOk result (ArePlaced d numbering.new.order.items numbering.new.numbers.items) }
+    ensures own { (a : ℕ) → first ≤ a → a < end → OnOk result (HasPlaceIn numbering.new a) }
+    ensures kept { (a : ℕ) → HasPlaceIn numbering.old a → OnOk result (HasPlaceIn numbering.new a) }
+    ensures placed { (d : tree.Document) → ArePlacedIn d numbering.old → AreReadyIn d numbering.old first end → OnOk result (ArePlacedIn d numbering.new) }
 {
     for field in (first..end).rev() {
         place(numbering, field)?;
@@ -74,7 +74,7 @@ fn place_fragments(
 ) -> Result<(), AllocError>
     requires none { numbering.old.order.items ≡ [] }
     requires few { length numbering.old.numbers.items ≤ 1024 }
-    requires counted { count_operations (document_of document.now).operations + count_fragments (document_of document.now).fragments ≤ length numbering.old.numbers.items }
+    requires counted { count_fields (document_of document.now) ≤ length numbering.old.numbers.items }
     requires started { starts.now ≡ starts_from (count_operations (document_of document.now).operations) (document_of document.now).fragments }
     requires fragments { IsOrder fragments.now (place_in (document_of document.now).fragments) (document_of document.now).fragments }
     requires fixed { IsFixed (members_of_fragment (document_of document.now)) (document_of document.now) }
@@ -99,7 +99,7 @@ pub fn numbering_of(
     count: usize,
 ) -> Result<Numbering, AllocError>
     requires few { count ≤ 1024 }
-    requires counted { count ≡ count_operations (document_of document.now).operations + count_fragments (document_of document.now).fragments }
+    requires counted { count ≡ count_fields (document_of document.now) }
     requires started { starts.now ≡ starts_from (count_operations (document_of document.now).operations) (document_of document.now).fragments }
     requires fragments { IsOrder fragments.now (place_in (document_of document.now).fragments) (document_of document.now).fragments }
     requires fixed { IsFixed (members_of_fragment (document_of document.now)) (document_of document.now) }

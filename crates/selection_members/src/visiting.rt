@@ -1,13 +1,13 @@
 //! The selection sets of a document, each after those inside it.
 
-ghost use Rattle.std.specs.Prelude.{◌≡◌, ◌≤◌, ◌+◌, ◌++◌, ℕ, List, length, map, filter, All, IfOk, OnOk};
+ghost use Rattle.std.specs.Prelude.{◌≡◌, ◌≤◌, ◌+◌, ℕ, length, IfOk, OnOk};
 ghost use Rattle.gq_parser.specs.Tree.{set_of, selection_of, below_of};
-ghost use Rattle.merge_table.specs.Entered.{IsReached};
-ghost use Rattle.selection_members.specs.Fragments.{target_at};
-ghost use Rattle.selection_members.specs.Members.{count_in, count_from, count_below, members_in, members_from, own_set, sets_in, sets_from, sets_below};
-ghost use Rattle.selection_members.specs.Walks.{renumbered, Knows, is_clashing, clashing_of, IsInside};
+ghost use Rattle.selection_members.specs.Knowledge.{ReachesAll, Gains, AddsClashing};
+ghost use Rattle.selection_members.specs.Members.{count_in, count_from, count_below, members_in, members_from, sets_in, sets_from, sets_below};
+ghost use Rattle.selection_members.specs.Walks.{IsInside, AreInside, AddsIfClashing};
 
-use crate::walk::{Walk, add_field, add_fragment};
+use crate::known::Walk;
+use crate::walk::{add_field, add_fragment};
 use gq_parser::{Selection, SelectionSet};
 use merge_table::Reached;
 use std::alloc::AllocError;
@@ -38,8 +38,8 @@ pub fn add_clashing<'d>(
     clashing: &mut Vec<ClashingSet<'d>>,
 ) -> Result<(), AllocError>
     requires inside { first + count_in (set_of set.now) ≤ length walk.now.numbers.now }
-    ensures sets { (spread : List ℕ → List ℕ) → Knows walk.now.rows.now walk.now.numbers.now walk.now.fragments.now (target_at walk.now.targets.now) spread → OnOk result (map (clashing_of spread) clashing.new.items ≡ map (clashing_of spread) clashing.old.items ++ filter (is_clashing walk.now.rows.now walk.now.numbers.now) (sets_in spread first (set_of set.now))) }
-    ensures inside { All (IsInside (length walk.now.numbers.now)) clashing.old.items → OnOk result (All (IsInside (length walk.now.numbers.now)) clashing.new.items) }
+    ensures sets { OnOk result (AddsClashing walk.now (λ spread. sets_in spread first (set_of set.now)) clashing.old.items clashing.new.items) }
+    ensures inside { AreInside (length walk.now.numbers.now) clashing.old.items → OnOk result (AreInside (length walk.now.numbers.now) clashing.new.items) }
 {
     let _visited = visit_set(walk, set, first, clashing)?;
     Ok(())
@@ -52,8 +52,9 @@ fn note<'d>(
     first: usize,
     clashing: &mut Vec<ClashingSet<'d>>,
 ) -> Result<(), AllocError>
-    ensures sets { (rows : List (List ℕ)) (numbers : List ℕ) (spread : List ℕ → List ℕ) → IsReached rows (renumbered numbers (members_in spread first (set_of set.now))) reached.now → OnOk result (map (clashing_of spread) clashing.new.items ≡ map (clashing_of spread) clashing.old.items ++ filter (is_clashing rows numbers) (own_set spread first (set_of set.now))) }
-    ensures inside { (many : ℕ) → IsInside many (record { set = set.entry; first = first }) → All (IsInside many) clashing.old.items → OnOk result (All (IsInside many) clashing.new.items) }
+    ensures sets { OnOk result (AddsIfClashing reached.now first (set_of set.now) clashing.old.items clashing.new.items) }
+    ensures inside { (many : ℕ) → IsInside many (record { set = set.entry; first = first }) → AreInside many clashing.old.items
+        → OnOk result (AreInside many clashing.new.items) }
 {
     if reached.has_clash() {
         clashing.push(ClashingSet { set, first })?;
@@ -71,9 +72,9 @@ fn visit_set<'d>(
 ) -> Result<Visited, AllocError>
     requires inside { first + count_in (set_of set.now) ≤ length walk.now.numbers.now }
     ensures next { IfOk result (λ visited. visited.next ≡ first + count_in (set_of set.now)) }
-    ensures reached { (spread : List ℕ → List ℕ) → Knows walk.now.rows.now walk.now.numbers.now walk.now.fragments.now (target_at walk.now.targets.now) spread → IfOk result (λ visited. IsReached walk.now.rows.now (renumbered walk.now.numbers.now (members_in spread first (set_of set.now))) visited.reached) }
-    ensures clashing { (spread : List ℕ → List ℕ) → Knows walk.now.rows.now walk.now.numbers.now walk.now.fragments.now (target_at walk.now.targets.now) spread → OnOk result (map (clashing_of spread) clashing.new.items ≡ map (clashing_of spread) clashing.old.items ++ filter (is_clashing walk.now.rows.now walk.now.numbers.now) (sets_in spread first (set_of set.now))) }
-    ensures inside { All (IsInside (length walk.now.numbers.now)) clashing.old.items → OnOk result (All (IsInside (length walk.now.numbers.now)) clashing.new.items) }
+    ensures reached { IfOk result (λ visited. ReachesAll walk.now (λ spread. members_in spread first (set_of set.now)) visited.reached) }
+    ensures clashing { OnOk result (AddsClashing walk.now (λ spread. sets_in spread first (set_of set.now)) clashing.old.items clashing.new.items) }
+    ensures inside { AreInside (length walk.now.numbers.now) clashing.old.items → OnOk result (AreInside (length walk.now.numbers.now) clashing.new.items) }
 {
     let mut reached = Reached::new();
     let mut next = first;
@@ -95,9 +96,9 @@ fn visit<'d>(
 ) -> Result<usize, AllocError>
     requires inside { number + count_from (selection_of selection.now) ≤ length walk.now.numbers.now }
     ensures next { IfOk result (λ next. next ≡ number + count_from (selection_of selection.now)) }
-    ensures reached { (spread : List ℕ → List ℕ) (ms : List ℕ) → Knows walk.now.rows.now walk.now.numbers.now walk.now.fragments.now (target_at walk.now.targets.now) spread → IsReached walk.now.rows.now (renumbered walk.now.numbers.now ms) reached.old → OnOk result (IsReached walk.now.rows.now (renumbered walk.now.numbers.now (ms ++ members_from spread number (selection_of selection.now))) reached.new) }
-    ensures clashing { (spread : List ℕ → List ℕ) → Knows walk.now.rows.now walk.now.numbers.now walk.now.fragments.now (target_at walk.now.targets.now) spread → OnOk result (map (clashing_of spread) clashing.new.items ≡ map (clashing_of spread) clashing.old.items ++ filter (is_clashing walk.now.rows.now walk.now.numbers.now) (sets_from spread number (selection_of selection.now))) }
-    ensures inside { All (IsInside (length walk.now.numbers.now)) clashing.old.items → OnOk result (All (IsInside (length walk.now.numbers.now)) clashing.new.items) }
+    ensures reached { OnOk result (Gains walk.now (λ spread. members_from spread number (selection_of selection.now)) reached.old reached.new) }
+    ensures clashing { OnOk result (AddsClashing walk.now (λ spread. sets_from spread number (selection_of selection.now)) clashing.old.items clashing.new.items) }
+    ensures inside { AreInside (length walk.now.numbers.now) clashing.old.items → OnOk result (AreInside (length walk.now.numbers.now) clashing.new.items) }
 {
     match selection {
         Selection::Field(field) => {
@@ -126,8 +127,8 @@ fn visit_below<'d>(
 ) -> Result<usize, AllocError>
     requires inside { first + count_below (below_of below.now) ≤ length walk.now.numbers.now }
     ensures next { IfOk result (λ next. next ≡ first + count_below (below_of below.now)) }
-    ensures clashing { (spread : List ℕ → List ℕ) → Knows walk.now.rows.now walk.now.numbers.now walk.now.fragments.now (target_at walk.now.targets.now) spread → OnOk result (map (clashing_of spread) clashing.new.items ≡ map (clashing_of spread) clashing.old.items ++ filter (is_clashing walk.now.rows.now walk.now.numbers.now) (sets_below spread first (below_of below.now))) }
-    ensures inside { All (IsInside (length walk.now.numbers.now)) clashing.old.items → OnOk result (All (IsInside (length walk.now.numbers.now)) clashing.new.items) }
+    ensures clashing { OnOk result (AddsClashing walk.now (λ spread. sets_below spread first (below_of below.now)) clashing.old.items clashing.new.items) }
+    ensures inside { AreInside (length walk.now.numbers.now) clashing.old.items → OnOk result (AreInside (length walk.now.numbers.now) clashing.new.items) }
 {
     match below {
         Some(set) => {

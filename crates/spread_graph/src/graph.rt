@@ -64,7 +64,8 @@ fn add_spread(
     operations: &mut Rows,
     fragments: &mut Rows,
 ) -> Result<(), AllocError>
-    ensures operations { OnOk result (rows_in operations.new.items ≡ with_spread count operation_number (rows_in operations.old.items) (spread_part_of spread.now)) }
+    ensures operations { OnOk result (rows_in operations.new.items
+        ≡ with_spread count operation_number (rows_in operations.old.items) (spread_part_of spread.now)) }
     ensures fragments { OnOk result (rows_in fragments.new.items ≡ with_spread count fragment_number (rows_in fragments.old.items) (spread_part_of spread.now)) }
 {
     match spread.target {

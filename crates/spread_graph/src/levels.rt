@@ -79,7 +79,8 @@ fn selection_levels(parts: &Parts, table: &[Option<usize>], selection: &Selectio
 
 // Learns the levels of a fragment from those that are known, where they suffice.
 fn learn(parts: &Parts, table: &mut Table, number: usize)
-    ensures settled { (k : ℕ) → IsSettled table.old.items k (parts_in parts.now).document.fragments → IsSettled table.new.items (k + 1) (parts_in parts.now).document.fragments }
+    ensures settled { (k : ℕ) → IsSettled table.old.items k (parts_in parts.now).document.fragments
+        → IsSettled table.new.items (k + 1) (parts_in parts.now).document.fragments }
     ensures len { length table.new.items ≡ length table.old.items }
 {
     match parts.document.fragments.get(number) {
@@ -95,7 +96,8 @@ fn learn(parts: &Parts, table: &mut Table, number: usize)
 
 // The levels of fragments, each taken once after those that it spreads. In a document with cycles some stay unknown.
 fn ordered_table(alloc: Global, parts: &Parts, graph: &Graph) -> Result<Table, AllocError>
-    ensures agrees { IfOk result (λ table. Agrees table.items (levels_expanded (length (parts_in parts.now).document.fragments) (parts_in parts.now).document.fragments)) }
+    ensures agrees { IfOk result (λ table. Agrees table.items
+        (levels_expanded (length (parts_in parts.now).document.fragments) (parts_in parts.now).document.fragments)) }
     ensures len { IfOk result (λ table. length table.items ≡ length (parts_in parts.now).document.fragments) }
 {
     let count = parts.document.fragments.len();
@@ -123,7 +125,8 @@ fn next_table(alloc: Global, parts: &Parts, table: &[Option<usize>]) -> Result<T
 
 // The levels of all fragments, on paths that expand more and more. It takes a pass for each fragment.
 fn expanded_table(alloc: Global, parts: &Parts) -> Result<Table, AllocError>
-    ensures agrees { IfOk result (λ table. Agrees table.items (levels_expanded (length (parts_in parts.now).document.fragments) (parts_in parts.now).document.fragments)) }
+    ensures agrees { IfOk result (λ table. Agrees table.items
+        (levels_expanded (length (parts_in parts.now).document.fragments) (parts_in parts.now).document.fragments)) }
     ensures full { IfOk result (λ table. IsFull table.items (length (parts_in parts.now).document.fragments)) }
 {
     let count = parts.document.fragments.len();
@@ -147,7 +150,8 @@ fn is_full(table: &[Option<usize>]) -> bool
 
 // The levels of all fragments.
 fn levels_table(alloc: Global, parts: &Parts, graph: &Graph) -> Result<Table, AllocError>
-    ensures agrees { IfOk result (λ table. Agrees table.items (levels_expanded (length (parts_in parts.now).document.fragments) (parts_in parts.now).document.fragments)) }
+    ensures agrees { IfOk result (λ table. Agrees table.items
+        (levels_expanded (length (parts_in parts.now).document.fragments) (parts_in parts.now).document.fragments)) }
     ensures full { IfOk result (λ table. IsFull table.items (length (parts_in parts.now).document.fragments)) }
 {
     let table = ordered_table(alloc, parts, graph)?;

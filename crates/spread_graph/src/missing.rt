@@ -27,7 +27,8 @@ fn note_row(
     sets: &[BatchSet],
     noted: &mut Vec<bool>,
 ) -> Result<(), AllocError>
-    ensures { (s : ℕ) → OnOk result (slice_index_or noted.new.items s false ≡ ((is_among s row.now && not (is_within reached_by (set_at sets.now (slice_index numbers.now s)))) || slice_index_or noted.old.items s false)) }
+    ensures { (s : ℕ) → OnOk result (slice_index_or noted.new.items s false
+        ≡ ((is_among s row.now && not (is_within reached_by (set_at sets.now (slice_index numbers.now s)))) || slice_index_or noted.old.items s false)) }
 {
     for place in row {
         let number = numbers.get(*place).copied().unwrap_or(0);
@@ -46,7 +47,8 @@ pub fn note_missing_in_fragments(
     sets: &[BatchSet],
     noted: &mut Vec<bool>,
 ) -> Result<(), AllocError>
-    ensures { (s : ℕ) → OnOk result (slice_index_or noted.new.items s false ≡ (any_below (is_missing_in (rows_in rows.now) reached.now (set_at sets.now (slice_index numbers.now s)) s) (length reached.now) || slice_index_or noted.old.items s false)) }
+    ensures { (s : ℕ) → OnOk result (slice_index_or noted.new.items s false
+        ≡ (any_below (is_missing_in (rows_in rows.now) reached.now (set_at sets.now (slice_index numbers.now s)) s) (length reached.now) || slice_index_or noted.old.items s false)) }
 {
     for fragment in 0..reached.len() {
         note_row(
@@ -72,7 +74,8 @@ pub fn note_missing_in_operations(
 ) -> Result<(), AllocError>
     requires first { first < 2 ^ 63 }
     requires count { count ≤ 64 }
-    ensures { (s : ℕ) → OnOk result (slice_index_or noted.new.items s false ≡ (any_below (is_missing_at (rows_in rows.now) first (set_at sets.now (slice_index numbers.now s)) s) count || slice_index_or noted.old.items s false)) }
+    ensures { (s : ℕ) → OnOk result (slice_index_or noted.new.items s false
+        ≡ (any_below (is_missing_at (rows_in rows.now) first (set_at sets.now (slice_index numbers.now s)) s) count || slice_index_or noted.old.items s false)) }
 {
     for number in 0..count {
         let own = row_of(rows, first + number);

@@ -34,7 +34,8 @@ pub fn add_to_row(
     row: usize,
     number: usize,
 ) -> Result<(), AllocError>
-    ensures { (i : ℕ) → OnOk result (row_at (rows_in rows.new.items) i ≡ (if i == row then row_at (rows_in rows.old.items) i ++ number ∷ [] else row_at (rows_in rows.old.items) i)) }
+    ensures { (i : ℕ) → OnOk result (row_at (rows_in rows.new.items) i
+        ≡ (if i == row then row_at (rows_in rows.old.items) i ++ number ∷ [] else row_at (rows_in rows.old.items) i)) }
 {
     while rows.len() <= row {
         rows.push(Vec::new(alloc))?;

@@ -14,5 +14,7 @@ pub mod CorrectValues
 pub mod CompatibleTypes
 pub mod AllowedUsages
 -- What the search for forbidden uses keeps.
+pub mod Allowances
 pub mod UsePlaces
 pub mod UseKinds
+pub mod ForbiddenMarks

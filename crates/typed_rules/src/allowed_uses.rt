@@ -1,10 +1,10 @@
 //! Which operations of a batch allow which uses of variables where they stand.
 
-ghost use Rattle.std.specs.Prelude.{◌≡◌, ◌≤◌, ◌<◌, ◌+◌, ◌==◌, ◌&&◌, ℕ, Some, IfOk, OnOk, length, map, not, slice_get, true, false, string_bytes, if◌then◌else◌};
-ghost use Rattle.gq_parser.specs.Tree as tree;
-ghost use Rattle.gq_parser.specs.Tree.{variable_of, variables_of, operation_of};
+ghost use Rattle.std.specs.Prelude.{◌≡◌, ◌≤◌, ◌<◌, ◌+◌, ◌==◌, ◌&&◌, ℕ, IfOk, OnOk, length, map, not, true, string_bytes, if◌then◌else◌};
+ghost use Rattle.gq_parser.specs.Tree.{variable_of, variables_of};
 ghost use Rattle.document_parts.specs.Parts.{use_of};
 ghost use Rattle.spread_graph.specs.Batches.{has, set_at};
+ghost use Rattle.typed_rules.specs.Allowances.{allows, AllowsWhere, KeepsOthers, AreAllowed};
 ghost use Rattle.typed_rules.specs.AllowedUsages.{forbids};
 ghost use Rattle.typed_rules.specs.UseKinds.{is_listed, use_at, IsKind, is_forbidden_use};
 
@@ -15,30 +15,42 @@ use gq_parser::{Operation, VariableDefinition};
 use spread_graph::{BatchSet, put, set_of};
 use std::alloc::{AllocError, Global};
 
+/// Whether an operation allows a use of a variable where it is.
+#[derive(Clone, Copy)]
+enum Allowance {
+    Allowed,
+    Forbidden,
+}
+
 // Whether a variable may stand where a use stands, or that isn't known.
-fn may_stand(variable: &VariableDefinition, part: &VariableUse) -> bool
-    ensures { result ≡ not (is_forbidden_use (variable_of variable.now) (use_of part.now)) }
+fn allowance(variable: &VariableDefinition, part: &VariableUse) -> Allowance
+    ensures { allows result ≡ not (is_forbidden_use (variable_of variable.now) (use_of part.now)) }
 {
     match part.location {
-        Some(location) => is_allowed(
-            &variable.of_type,
-            variable.default.as_ref(),
-            location.of_type,
-            location.has_default,
-        ),
-        None => true,
+        Some(location) => {
+            if is_allowed(
+                &variable.of_type,
+                variable.default.as_ref(),
+                location.of_type,
+                location.has_default,
+            ) {
+                Allowance::Allowed
+            } else {
+                Allowance::Forbidden
+            }
+        }
+        None => Allowance::Allowed,
     }
 }
 
-// The same set, with an operation or without it.
-fn with_or_without(set: BatchSet, number: usize, is_in: bool) -> BatchSet
+// The same set of operations, with one of them in it if that one allows the use, and else without it.
+fn noted(set: BatchSet, number: usize, allowance: Allowance) -> BatchSet
     requires { number < 64 }
-    ensures { (m : ℕ) → m < 64 → has result m ≡ (if m == number then is_in else has set m) }
+    ensures { (m : ℕ) → m < 64 → has result m ≡ (if m == number then allows allowance else has set m) }
 {
-    if is_in {
-        set.with(number)
-    } else {
-        set.without(number)
+    match allowance {
+        Allowance::Allowed => set.with(number),
+        Allowance::Forbidden => set.without(number),
     }
 }
 
@@ -51,10 +63,10 @@ fn allow_use(
     sets: &mut Vec<BatchSet>,
 ) -> Result<(), AllocError>
     requires { number < 64 }
-    ensures { (r m : ℕ) → r < length uses.now → m < 64 → OnOk result (has (set_at sets.new.items r) m ≡ (if m == number && r == place then not (is_forbidden_use (variable_of variable.now) (use_at (map use_of uses.now) r)) else has (set_at sets.old.items r) m)) }
+    ensures { OnOk result (AllowsWhere (λ r m. m == number && r == place) (variable_of variable.now) uses.now sets.old.items sets.new.items) }
 {
     if let Some(part) = uses.get(place) {
-        let set = with_or_without(set_of(sets, place), number, may_stand(variable, part));
+        let set = noted(set_of(sets, place), number, allowance(variable, part));
         put(sets, BatchSet::new(), place, set)?;
     }
     Ok(())
@@ -69,7 +81,8 @@ fn allow_by_variable(
     sets: &mut Vec<BatchSet>,
 ) -> Result<(), AllocError>
     requires { number < 64 }
-    ensures { (r m : ℕ) → r < length uses.now → m < 64 → OnOk result (has (set_at sets.new.items r) m ≡ (if m == number && is_listed kinds.now.known (string_bytes variable.now.name) r then not (is_forbidden_use (variable_of variable.now) (use_at (map use_of uses.now) r)) else has (set_at sets.old.items r) m)) }
+    ensures { OnOk result (AllowsWhere (λ r m. m == number && is_listed kinds.now.known (string_bytes variable.now.name) r)
+        (variable_of variable.now) uses.now sets.old.items sets.new.items) }
 {
     for place in kinds.of(variable.name.as_str()) {
         allow_use(uses, *place, variable, number, sets)?;
@@ -89,7 +102,7 @@ fn allow_by_operation(
     requires { number < 64 }
     ensures own { (r : ℕ) → r < length uses.now → IsKind kinds.now.known (map use_of uses.now) r → has (set_at sets.old.items r) number ≡ true →
         OnOk result (has (set_at sets.new.items r) number ≡ not (forbids (variables_of variables.now) (use_at (map use_of uses.now) r))) }
-    ensures others { (r m : ℕ) → r < length uses.now → m < 64 → (m == number) ≡ false → OnOk result (has (set_at sets.new.items r) m ≡ has (set_at sets.old.items r) m) }
+    ensures others { OnOk result (KeepsOthers number uses.now sets.old.items sets.new.items) }
 {
     let mut left = variables.len();
     while left > 0 {
@@ -111,8 +124,7 @@ pub fn allowed(
 ) -> Result<Vec<BatchSet>, AllocError>
     requires count { count ≤ 64 }
     requires within { first + count ≤ length operations.now }
-    ensures { IfOk result (λ sets. (r m : ℕ) (o : tree.Operation) → r < length uses.now → m < count → IsKind kinds.now.known (map use_of uses.now) r → slice_get (map operation_of operations.now) (first + m) ≡ Some o →
-        has (set_at sets.items r) m ≡ not (forbids o.variables (use_at (map use_of uses.now) r))) }
+    ensures { IfOk result (λ sets. AreAllowed kinds.now uses.now operations.now first count sets.items) }
 {
     let mut sets = vec![in alloc; BatchSet::all(); uses.len()]?;
     for number in 0..count {

@@ -1,15 +1,14 @@
 //! All Variable Usages Are Allowed (section 5.8.5).
 
-ghost use Rattle.std.specs.Prelude.{◌≡◌, ◌≤◌, ◌<◌, ◌+◌, ◌^◌, ◌||◌, ℕ, IfOk, OnOk, length, map, drop, false, slice_index_or};
+ghost use Rattle.std.specs.Prelude.{◌≡◌, ◌≤◌, ◌<◌, ◌+◌, ◌^◌, IfOk, OnOk, length, map, false, slice_index_or};
 ghost use Rattle.std.specs.Option.{option_map};
-ghost use Rattle.gq_parser.specs.Tree.{document_of};
 ghost use Rattle.document_parts.specs.Broken.{broken_of, earliest};
 ghost use Rattle.document_parts.specs.Parts.{use_of, parts_in};
-ghost use Rattle.spread_graph.specs.Graphs.{GraphOf, graph_of};
-ghost use Rattle.spread_graph.specs.Batches.{AreReachers};
-ghost use Rattle.typed_rules.specs.AllowedUsages.{is_forbidden, forbidden_usages};
-ghost use Rattle.typed_rules.specs.UseKinds.{use_at, AreKinds};
+ghost use Rattle.spread_graph.specs.Graphs.{graph_of};
+ghost use Rattle.typed_rules.specs.AllowedUsages.{forbidden_usages};
+ghost use Rattle.typed_rules.specs.UseKinds.{AreKinds};
 ghost use Rattle.typed_rules.specs.UsePlaces.{ArePlaces};
+ghost use Rattle.typed_rules.specs.ForbiddenMarks.{MarksForbidden, AreForbidden};
 
 use crate::allowed_uses::allowed;
 use crate::use_kinds::UseKinds;
@@ -28,37 +27,42 @@ struct UseTable<'d> {
     kinds: UseKinds<'d>,
 }
 
-// Marks the uses that an operation of a batch includes and forbids. The batch is `count` operations from `first` on.
+/// Some operations in a row: `count` of a document's, from `first` on. `reached` says of each fragment which of them reach it.
+#[derive(Drop)]
+struct Batch {
+    first: usize,
+    count: usize,
+    reached: Vec<BatchSet>,
+}
+
+// Marks the uses that an operation of a batch includes and forbids.
 fn mark_batch(
     alloc: Global,
     parts: &Parts,
     table: &UseTable,
-    first: usize,
-    count: usize,
-    reached: &[BatchSet],
+    batch: &Batch,
     marks: &mut Vec<bool>,
 ) -> Result<(), AllocError>
-    requires first { first < 2 ^ 63 }
-    requires count { count ≤ 64 }
-    requires within { first + count ≤ length parts.now.document.now.operations.items }
+    requires first { batch.now.first < 2 ^ 63 }
+    requires count { batch.now.count ≤ 64 }
+    requires within { batch.now.first + batch.now.count ≤ length parts.now.document.now.operations.items }
     requires places { ArePlaces table.now.places parts.now.uses.items }
     requires kinds { AreKinds table.now.kinds (map use_of parts.now.uses.items) }
-    ensures { (g : GraphOf) (k : ℕ) → AreReachers g first count reached.now → k < length parts.now.uses.items →
-        OnOk result ((slice_index_or marks.new.items k false || is_forbidden g (first + count) (drop (first + count) (document_of parts.now.document.now).operations) (use_at (map use_of parts.now.uses.items) k))
-        ≡ (slice_index_or marks.old.items k false || is_forbidden g first (drop first (document_of parts.now.document.now).operations) (use_at (map use_of parts.now.uses.items) k))) }
+    ensures { OnOk result (MarksForbidden parts.now batch.now marks.old.items marks.new.items) }
 {
+    let (first, count) = (batch.first, batch.count);
     let operations = &parts.document.operations;
     let sets = allowed(alloc, &table.kinds, &parts.uses, operations, first, count)?;
     let kinds = &table.kinds.stand_ins;
     let places = &table.places;
     note_missing_in_operations(&places.operations, first, count, kinds, &sets, marks)?;
-    note_missing_in_fragments(&places.fragments, reached, kinds, &sets, marks)?;
+    note_missing_in_fragments(&places.fragments, &batch.reached, kinds, &sets, marks)?;
     Ok(())
 }
 
 // The uses that an operation forbids, a mark for each.
 fn forbidden_marks(alloc: Global, parts: &Parts, graph: &Graph) -> Result<Vec<bool>, AllocError>
-    ensures { IfOk result (λ marks. (k : ℕ) → k < length parts.now.uses.items → slice_index_or marks.items k false ≡ is_forbidden graph.now 0 (document_of parts.now.document.now).operations (use_at (map use_of parts.now.uses.items) k)) }
+    ensures { IfOk result (λ marks. AreForbidden graph.now parts.now marks.items) }
 {
     let table = UseTable {
         places: UsePlaces::new(alloc, &parts.uses)?,
@@ -71,7 +75,12 @@ fn forbidden_marks(alloc: Global, parts: &Parts, graph: &Graph) -> Result<Vec<bo
     while first < operations {
         let count = batch_from(first, operations);
         let reached = reachers(alloc, graph, &edges, first, count)?;
-        mark_batch(alloc, parts, &table, first, count, &reached, &mut marks)?;
+        let batch = Batch {
+            first,
+            count,
+            reached,
+        };
+        mark_batch(alloc, parts, &table, &batch, &mut marks)?;
         first += count;
     }
     Ok(marks)

@@ -11,6 +11,7 @@ use crate::unknown_fields::is_type_name;
 use document_parts::{ArgumentPart, Broken, Earliest, FieldPart, Parts};
 use gq_parser::Argument;
 
+// The fault of an argument that isn't defined.
 fn unknown_argument<'d>(part: &ArgumentPart<'d>) -> Option<Broken<'d>>
     ensures { option_map broken_of result ≡ unknown_argument (argument_part_of part.now) }
 {
@@ -20,8 +21,10 @@ fn unknown_argument<'d>(part: &ArgumentPart<'d>) -> Option<Broken<'d>>
     Some(Broken::named(part.argument.name.as_str(), part.argument.place))
 }
 
+// Adds all of these arguments as faults.
 fn add_all<'d>(earliest: &mut Earliest<'d>, arguments: &'d [Argument])
-    ensures { option_map broken_of earliest.new.found ≡ fold with_broken (option_map broken_of earliest.old.found) (map broken_argument (arguments_of arguments.now)) }
+    ensures { option_map broken_of earliest.new.found
+        ≡ fold with_broken (option_map broken_of earliest.old.found) (map broken_argument (arguments_of arguments.now)) }
 {
     for argument in arguments {
         earliest.add(Broken::named(argument.name.as_str(), argument.place));

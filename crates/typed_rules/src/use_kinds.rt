@@ -62,7 +62,8 @@ fn noted<'k>(known: &'k Known, name: &str) -> &'k [usize]
 
 // Of these uses, which are of its name, one that stands for a use.
 fn stand_in(uses: &[VariableUse], places: &[usize], part: &VariableUse) -> Option<usize>
-    ensures { IfSome result (λ k. (list_any (nat_eq k) places.now ≡ true) × (same_location (use_at (map use_of uses.now) k).location (use_of part.now).location ≡ true)) }
+    ensures { IfSome result (λ k. (list_any (nat_eq k) places.now ≡ true)
+        × (same_location (use_at (map use_of uses.now) k).location (use_of part.now).location ≡ true)) }
 {
     for place in places {
         if let Some(other) = uses.get(*place) {

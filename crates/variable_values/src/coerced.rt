@@ -106,7 +106,8 @@ pub fn coerce_variables(
     definitions: &[VariableDefinition],
     given: &Value,
 ) -> Result<Vec<Variable>, VariableFault>
-    ensures ok { IfOk result (λ variables. coerced_variables (tree_of schema.now) (definitions_of definitions.now) (view given.now) ≡ Ok (variables_of variables.items)) }
+    ensures ok { IfOk result (λ variables. coerced_variables (tree_of schema.now) (definitions_of definitions.now) (view given.now)
+        ≡ Ok (variables_of variables.items)) }
     ensures err { IfErr result (IsVariableFault (coerced_variables (tree_of schema.now) (definitions_of definitions.now) (view given.now))) }
 {
     if !given.is_null() && !given.is_object() {

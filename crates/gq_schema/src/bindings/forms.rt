@@ -3,11 +3,12 @@
 ghost use Rattle.std.specs.Prelude.{◌≡◌, [], ◌∷◌, IfOk, map};
 ghost use Rattle.std.specs.Option.{option_map};
 ghost use Rattle.bindings_syntax.specs.Seen.{part_seen, key_seen, step_seen, steps_seen, form_seen};
-ghost use Rattle.bindings_syntax.specs.Statements.{to_one, to_many};
+ghost use Rattle.bindings_syntax.specs.Statements.{to_column, to_one, to_many, to_each, to_via};
 ghost use Rattle.schema_syntax.specs.Tree.{field_of};
 ghost use Rattle.gq_schema.specs.Types.{tree_of};
 ghost use Rattle.gq_schema.specs.BindingsSeen.{part_of, key_of, step_of, binding_of};
-ghost use Rattle.gq_schema.specs.BindingsForms.{keyed_loader, paired_loader, whole_loader, part_fits, asked_loader, later_step, later_steps, via_loaders, column_binding, each_binding, form_binding, field_binding};
+ghost use Rattle.gq_schema.specs.BindingsForms.{keyed_loader, paired_loader, whole_loader, part_fits, asked_loader, later_step, later_steps, field_binding};
+ghost use Rattle.gq_schema.specs.BindingsTargets.{Gives};
 
 use super::binding::{Binding, KeyPart, KeySource, Step};
 use super::loaders::Loaders;
@@ -56,52 +57,6 @@ fn whole_loader(loaders: &Loaders, name: &str) -> Option<usize>
     }
 }
 
-/// Whether a field can take this part of a key.
-fn part_fits(of_root: bool, field: &FieldDefinition, part: PartWords<'_>) -> bool
-    ensures { result ≡ part_fits of_root (field_of field.now) (part_seen part.entry) }
-{
-    match part {
-        PartWords::Argument(argument) => takes_key(field, argument),
-        PartWords::Column(_) => !of_root,
-    }
-}
-
-/// The number of a loader that the field can ask with this key.
-fn asked_loader(
-    loaders: &Loaders,
-    of_root: bool,
-    field: &FieldDefinition,
-    name: &str,
-    key: KeyWords<'_>,
-) -> Option<usize>
-    ensures { result ≡ asked_loader loaders.now of_root (field_of field.now) name.now (key_seen key.entry) }
-{
-    match key {
-        KeyWords::Argument(argument) => {
-            if takes_key(field, argument) {
-                keyed_loader(loaders, name)
-            } else {
-                None
-            }
-        }
-        KeyWords::Column(_) => {
-            if of_root {
-                None
-            } else {
-                keyed_loader(loaders, name)
-            }
-        }
-        KeyWords::All => whole_loader(loaders, name),
-        KeyWords::Pair(one, two) => {
-            if part_fits(of_root, field, one) && part_fits(of_root, field, two) {
-                paired_loader(loaders, name)
-            } else {
-                None
-            }
-        }
-    }
-}
-
 fn owned_part(alloc: Global, part: PartWords<'_>) -> Result<KeyPart, AllocError>
     ensures { IfOk result (λ owned. part_of owned ≡ part_seen part.entry) }
 {
@@ -124,91 +79,6 @@ fn owned_key(alloc: Global, key: KeyWords<'_>) -> Result<KeySource, AllocError>
             Ok(KeySource::Pair(one, two))
         }
     }
-}
-
-/// `column COLUMN`.
-fn column(
-    alloc: Global,
-    schema: &Schema,
-    of_root: bool,
-    field: &FieldDefinition,
-    column: &str,
-) -> Result<Option<Binding>, AllocError>
-    ensures { IfOk result (λ found. option_map binding_of found ≡ column_binding (tree_of schema.now) of_root (field_of field.now) column.now) }
-{
-    if !of_root && is_leaf_type(schema, &field.of_type) {
-        Ok(Some(Binding::Column(String::from_str(alloc, column)?)))
-    } else {
-        Ok(None)
-    }
-}
-
-/// `one LOADER KEY`.
-fn one(
-    alloc: Global,
-    schema: &Schema,
-    loaders: &Loaders,
-    of_root: bool,
-    field: &FieldDefinition,
-    loader: &str,
-    key: KeyWords<'_>,
-) -> Result<Option<Binding>, AllocError>
-    ensures { IfOk result (λ found. option_map binding_of found
-        ≡ form_binding (tree_of schema.now) loaders.now of_root (field_of field.now) (to_one loader.now (key_seen key.entry))) }
-{
-    if !is_composite_type(schema, &field.of_type) {
-        return Ok(None);
-    }
-    let Some(loader) = asked_loader(loaders, of_root, field, loader, key) else {
-        return Ok(None);
-    };
-    let key = owned_key(alloc, key)?;
-    Ok(Some(Binding::One { loader, key }))
-}
-
-/// `many LOADER KEY`.
-fn many(
-    alloc: Global,
-    schema: &Schema,
-    loaders: &Loaders,
-    of_root: bool,
-    field: &FieldDefinition,
-    loader: &str,
-    key: KeyWords<'_>,
-) -> Result<Option<Binding>, AllocError>
-    ensures { IfOk result (λ found. option_map binding_of found
-        ≡ form_binding (tree_of schema.now) loaders.now of_root (field_of field.now) (to_many loader.now (key_seen key.entry))) }
-{
-    if !is_composite_list(schema, &field.of_type) {
-        return Ok(None);
-    }
-    let Some(loader) = asked_loader(loaders, of_root, field, loader, key) else {
-        return Ok(None);
-    };
-    let key = owned_key(alloc, key)?;
-    Ok(Some(Binding::Many { loader, key }))
-}
-
-/// `each LOADER arg NAME`.
-fn each(
-    alloc: Global,
-    schema: &Schema,
-    loaders: &Loaders,
-    field: &FieldDefinition,
-    loader: &str,
-    argument: &str,
-) -> Result<Option<Binding>, AllocError>
-    ensures { IfOk result (λ found. option_map binding_of found
-        ≡ each_binding (tree_of schema.now) loaders.now (field_of field.now) loader.now argument.now) }
-{
-    if !is_composite_list(schema, &field.of_type) || !takes_keys(field, argument) {
-        return Ok(None);
-    }
-    let Some(loader) = keyed_loader(loaders, loader) else {
-        return Ok(None);
-    };
-    let argument = String::from_str(alloc, argument)?;
-    Ok(Some(Binding::Each { loader, argument }))
 }
 
 /// A loader of `via` after its first; none where no loader by one column has that name.
@@ -261,49 +131,160 @@ fn owned_steps(
     }
 }
 
-/// `via LOADER KEY LOADER2 COLUMN ..`, for a list of composites.
-fn via(
-    alloc: Global,
-    loaders: &Loaders,
-    loader: Option<usize>,
-    key: KeyWords<'_>,
-    steps: StepsWords<'_>,
-) -> Result<Option<Binding>, AllocError>
-    ensures { IfOk result (λ found. option_map binding_of found ≡ via_loaders loaders.now loader (key_seen key.entry) (steps_seen steps.entry)) }
-{
-    let Some(loader) = loader else {
-        return Ok(None);
-    };
-    let Some(steps) = owned_steps(alloc, loaders, steps)? else {
-        return Ok(None);
-    };
-    let key = owned_key(alloc, key)?;
-    Ok(Some(Binding::Via { loader, key, steps }))
+/// The field that a line binds, and what its form is read over.
+#[derive(Clone, Copy)]
+struct Target<'a> {
+    schema: &'a Schema,
+    loaders: &'a Loaders,
+    field: &'a FieldDefinition,
+    /// Whether the field is one of a root type, whose objects have no row.
+    of_root: bool,
 }
 
-/// What a form gives for a field.
-fn form_binding(
-    alloc: Global,
-    schema: &Schema,
-    loaders: &Loaders,
-    of_root: bool,
-    field: &FieldDefinition,
-    form: Form<'_>,
-) -> Result<Option<Binding>, AllocError>
-    ensures { IfOk result (λ found. option_map binding_of found
-        ≡ form_binding (tree_of schema.now) loaders.now of_root (field_of field.now) (form_seen form.entry)) }
-{
-    match form {
-        Form::Column(name) => column(alloc, schema, of_root, field, name),
-        Form::One { loader, key } => one(alloc, schema, loaders, of_root, field, loader, key),
-        Form::Many { loader, key } => many(alloc, schema, loaders, of_root, field, loader, key),
-        Form::Each { loader, argument } => each(alloc, schema, loaders, field, loader, argument),
-        Form::Via { loader, key, steps } => {
-            if !is_composite_list(schema, &field.of_type) {
-                return Ok(None);
+impl Target<'_> {
+    /// Whether the field can take this part of a key.
+    fn takes_part(&self, part: PartWords<'_>) -> bool
+        ensures { result ≡ part_fits self.now.of_root (field_of self.now.field.now) (part_seen part.entry) }
+    {
+        match part {
+            PartWords::Argument(argument) => takes_key(self.field, argument),
+            PartWords::Column(_) => !self.of_root,
+        }
+    }
+
+    /// The number of a loader that the field can ask with this key.
+    fn asked_loader(&self, name: &str, key: KeyWords<'_>) -> Option<usize>
+        ensures { result ≡ asked_loader self.now.loaders.now self.now.of_root (field_of self.now.field.now) name.now (key_seen key.entry) }
+    {
+        match key {
+            KeyWords::Argument(argument) => {
+                if takes_key(self.field, argument) {
+                    keyed_loader(self.loaders, name)
+                } else {
+                    None
+                }
             }
-            let loader = asked_loader(loaders, of_root, field, loader, key);
-            via(alloc, loaders, loader, key, steps)
+            KeyWords::Column(_) => {
+                if self.of_root {
+                    None
+                } else {
+                    keyed_loader(self.loaders, name)
+                }
+            }
+            KeyWords::All => whole_loader(self.loaders, name),
+            KeyWords::Pair(one, two) => {
+                if self.takes_part(one) && self.takes_part(two) {
+                    paired_loader(self.loaders, name)
+                } else {
+                    None
+                }
+            }
+        }
+    }
+
+    /// `column COLUMN`, for a leaf.
+    fn column(&self, alloc: Global, column: &str) -> Result<Option<Binding>, AllocError>
+        ensures { IfOk result (Gives self.now (to_column column.now)) }
+    {
+        if !self.of_root && is_leaf_type(self.schema, &self.field.of_type) {
+            Ok(Some(Binding::Column(String::from_str(alloc, column)?)))
+        } else {
+            Ok(None)
+        }
+    }
+
+    /// `one LOADER KEY`, for a composite.
+    fn one(
+        &self,
+        alloc: Global,
+        loader: &str,
+        key: KeyWords<'_>,
+    ) -> Result<Option<Binding>, AllocError>
+        ensures { IfOk result (Gives self.now (to_one loader.now (key_seen key.entry))) }
+    {
+        if !is_composite_type(self.schema, &self.field.of_type) {
+            return Ok(None);
+        }
+        let Some(loader) = self.asked_loader(loader, key) else {
+            return Ok(None);
+        };
+        let key = owned_key(alloc, key)?;
+        Ok(Some(Binding::One { loader, key }))
+    }
+
+    /// `many LOADER KEY`, for a list of composites.
+    fn many(
+        &self,
+        alloc: Global,
+        loader: &str,
+        key: KeyWords<'_>,
+    ) -> Result<Option<Binding>, AllocError>
+        ensures { IfOk result (Gives self.now (to_many loader.now (key_seen key.entry))) }
+    {
+        if !is_composite_list(self.schema, &self.field.of_type) {
+            return Ok(None);
+        }
+        let Some(loader) = self.asked_loader(loader, key) else {
+            return Ok(None);
+        };
+        let key = owned_key(alloc, key)?;
+        Ok(Some(Binding::Many { loader, key }))
+    }
+
+    /// `each LOADER arg NAME`, for a list of composites.
+    fn each(
+        &self,
+        alloc: Global,
+        loader: &str,
+        argument: &str,
+    ) -> Result<Option<Binding>, AllocError>
+        ensures { IfOk result (Gives self.now (to_each loader.now argument.now)) }
+    {
+        if !is_composite_list(self.schema, &self.field.of_type)
+            || !takes_keys(self.field, argument)
+        {
+            return Ok(None);
+        }
+        let Some(loader) = keyed_loader(self.loaders, loader) else {
+            return Ok(None);
+        };
+        let argument = String::from_str(alloc, argument)?;
+        Ok(Some(Binding::Each { loader, argument }))
+    }
+
+    /// `via LOADER KEY LOADER2 COLUMN ..`, for a list of composites.
+    fn via(
+        &self,
+        alloc: Global,
+        loader: &str,
+        key: KeyWords<'_>,
+        steps: StepsWords<'_>,
+    ) -> Result<Option<Binding>, AllocError>
+        ensures { IfOk result (Gives self.now (to_via loader.now (key_seen key.entry) (steps_seen steps.entry))) }
+    {
+        if !is_composite_list(self.schema, &self.field.of_type) {
+            return Ok(None);
+        }
+        let Some(loader) = self.asked_loader(loader, key) else {
+            return Ok(None);
+        };
+        let Some(steps) = owned_steps(alloc, self.loaders, steps)? else {
+            return Ok(None);
+        };
+        let key = owned_key(alloc, key)?;
+        Ok(Some(Binding::Via { loader, key, steps }))
+    }
+
+    /// What a form gives for the field; nothing where it does not fit.
+    fn binding(&self, alloc: Global, form: Form<'_>) -> Result<Option<Binding>, AllocError>
+        ensures { IfOk result (Gives self.now (form_seen form.entry)) }
+    {
+        match form {
+            Form::Column(name) => self.column(alloc, name),
+            Form::One { loader, key } => self.one(alloc, loader, key),
+            Form::Many { loader, key } => self.many(alloc, loader, key),
+            Form::Each { loader, argument } => self.each(alloc, loader, argument),
+            Form::Via { loader, key, steps } => self.via(alloc, loader, key, steps),
         }
     }
 }
@@ -326,6 +307,11 @@ pub fn field_binding(
     let Some(field) = schema.field(type_name, field_name) else {
         return Ok(None);
     };
-    let of_root = is_root_type(schema, type_name);
-    form_binding(alloc, schema, loaders, of_root, field, form)
+    let target = Target {
+        schema,
+        loaders,
+        field,
+        of_root: is_root_type(schema, type_name),
+    };
+    target.binding(alloc, form)
 }

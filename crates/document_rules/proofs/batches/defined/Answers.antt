@@ -1,4 +1,4 @@
-use Rattle.std.proofs.Common.{◌+◌, ◌<◌, ap, sym, false, ℕ, List, Option, length, map, bytes_eq, arith}
+use Rattle.std.proofs.Common.{◌≡◌, ◌+◌, ◌<◌, ap, sym, false, ℕ, List, Option, length, get_or, map, bytes_eq, arith}
 use Rattle.std.specs.List.{list_any}
 use Rattle.std.specs.Option.{option_map_or}
 use Rattle.std.specs.HashMap.{get_by}
@@ -13,10 +13,12 @@ use Rattle.document_rules.proofs.batches.defined.Goals as goal
 pub loop-number-preserved : goal.loop-number-preserved
 loop-number-preserved c = λ n m.
     let number : List ℕ → Option ℕ = λ q. get_by (λ (p : Bor (List ℕ)). bytes_eq q p.now) c.args.names.now in
-    let all = c.args.operations.now in
+    let all = c.args.batch.now.operations.now in
+    let first = c.args.batch.now.first in
     let i = c.loop-number.number in
-    let item = c.index-operations-first.result in
-    let within : c.args.first + i < length all = omega arith in
-    let is = slice_get-seen operation_of all (c.args.first + i) item within c.index-operations-first.is in
+    let item = get_or all (first + i) c.index-batch-batch.result in
+    let at : item ≡ get_or all (first + i) item = ap (get_or all (first + i)) c.index-batch-batch.is in
+    let within : first + i < length all = omega arith in
+    let is = slice_get-seen operation_of all (first + i) item within at in
     let here = sym (ap (λ (p : Option Operation). option_map_or (λ (q : Operation). list_any (is_numbered number n) q.variables) p false) is) in
-    below_step (λ k. defines_at number n (map operation_of all) (c.args.first + k)) m i _ (has (set_at c.loop-number.sets.items n) m) _ (c.in_ok-add_defined.ensures n m) here (c.loop-number.invariant n m)
+    below_step (λ k. defines_at number n (map operation_of all) (first + k)) m i _ (has (set_at c.loop-number.sets.items n) m) _ (c.in_ok-add_defined.ensures n m) here (c.loop-number.invariant n m)

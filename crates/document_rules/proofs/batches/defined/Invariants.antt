@@ -9,4 +9,4 @@ use Rattle.document_rules.proofs.batches.defined.Given as goal
 
 abbrev pub invariant-loop-number : goal.invariant-loop-number
 invariant-loop-number l = (n m : ℕ) →
-    has (set_at l.sets.items n) m ≡ (nat_lt m l.number && defines_at (λ (q : List ℕ). get_by (λ (k : Bor (List ℕ)). bytes_eq q k.now) l.names) n (map operation_of l.operations) (l.first + m))
+    has (set_at l.sets.items n) m ≡ (nat_lt m l.number && defines_at (λ (q : List ℕ). get_by (λ (k : Bor (List ℕ)). bytes_eq q k.now) l.names) n (map operation_of l.batch.operations.now) (l.batch.first + m))

@@ -1,13 +1,14 @@
-use Rattle.std.proofs.Common.{◌≡◌, ◌-◌, ◌<◌, ◌||◌, ℕ, List, false, length, map, drop, slice_index, slice_index_or}
+use Rattle.std.proofs.Common.{◌≡◌, ◌-◌, ◌<◌, ℕ, List, length, map}
 use Rattle.gq_parser.specs.Tree.{operation_of}
 use Rattle.document_parts.specs.Parts.{VariableUse}
 use Rattle.document_rules.specs.UsesDefined.{one_lacks}
 use Rattle.document_rules.specs.UseRows.{use_at, IsUseTable}
+use Rattle.document_rules.specs.BatchSteps.{is_noted_or_lacks}
 use Rattle.document_rules.proofs.variables.lacking_uses.Given as goal
 
 abbrev pub invariant-loop-first : goal.invariant-loop-first
 invariant-loop-first l = (uses : List VariableUse) → IsUseTable uses l.table → (k : ℕ) → k < length uses →
-    (slice_index_or l.lacking.items (slice_index l.table.stand_ins.items k) false || one_lacks l.graph l.first (drop l.first (map operation_of l.operations)) (use_at uses k))
+    is_noted_or_lacks l.graph uses l.table (map operation_of l.operations) l.lacking.items l.first k
     ≡ one_lacks l.graph 0 (map operation_of l.operations) (use_at uses k)
 
 abbrev pub decreases-loop-first : goal.decreases-loop-first

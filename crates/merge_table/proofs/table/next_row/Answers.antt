@@ -1,13 +1,12 @@
 use Rattle.std.proofs.Common.{ℕ, Bool, true, false}
-use Rattle.merge_table.specs.Numbered.{fields_of, members_at}
-use Rattle.merge_table.specs.Table.{TestsPair}
+use Rattle.merge_table.specs.Recursions.{TestsFields}
 use Rattle.merge_table.proofs.TableLaws.{row-more, row-same}
 use Rattle.merge_table.proofs.table.next_row.Goals as goal
 use Rattle.merge_table.proofs.table.next_row.Goals.{then-pair_fails, else-pair_fails}
 
 pub loop-a-preserved : goal.loop-a-preserved
 loop-a-preserved c =
-    let P : ℕ → Bool → Type 0 = λ k t. TestsPair c.args.rule (fields_of c.args.fields.now) c.args.shapes.now c.args.marks.now c.args.inner.now (members_at c.args.fields.now k) k c.args.b t in
+    let P : ℕ → Bool → Type 0 = λ k t. TestsFields c.args.recursion.now c.args.marks.now c.args.inner.now k c.args.b t in
     elim c.if-pair_fails.branch [
       | then-pair_fails w ↦
           let here : P c.loop-a.a true = rw w.if-pair_fails.true at c.pair_fails.ensures in

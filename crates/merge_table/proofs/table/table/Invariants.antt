@@ -8,5 +8,5 @@ invariant-loop-b l = record {
   len : length l.rows.items ≡ l.b;
   below : IsBelow l.rows.items;
   inner : KnowsInner (fields_of l.fields) l.rows.items l.inner l.b;
-  tells : TellsAll (Holds l.rule (fields_of l.fields)) (fields_of l.fields) l.b l.rows.items;
+  tells : TellsAll (Holds l.fn.rule (fields_of l.fields)) (fields_of l.fields) l.b l.rows.items;
 }

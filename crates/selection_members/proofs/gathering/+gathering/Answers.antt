@@ -1,16 +1,24 @@
 use Rattle.std.proofs.Common.{◌≡◌, ◌∙◌, sym, ap, subst, refl, ◌≤◌, ◌+◌, ◌++◌, [], List, length, drop, drop_of_length-le, false, arith}
 use Rattle.std.proofs.lemmas.Bool.{both_ways}
 use Rattle.std.proofs.lemmas.List.{map-append}
+use Rattle.std.proofs.lemmas.Result.{on_ok_weaker}
 use Rattle.gq_parser.specs.declared.tree.Selection.{Selection}
 use Rattle.gq_parser.specs.Tree as tree
 use Rattle.gq_parser.specs.Tree.{Below, Inline, SelectionSet, and_selection, set_of, selection_of, map_selections, condition_if, directives_of}
 use Rattle.gq_parser.proofs.Views.{of_set, of_inline, selection_spread, selection_inline}
+use Rattle.selection_members.specs.Knowledge.{Gains}
 use Rattle.selection_members.specs.Members.{count_in, count_from, count_among, members_in, members_from}
 use Rattle.selection_members.specs.Walks.{renumbered}
 use Rattle.selection_members.specs.Written.{written_in, written_among, written_from, own_below, belows}
 use Rattle.selection_members.proofs.Adding.{Adding, adding-none, adding-more, adding-all, belows-length, from-count, field-added, field-place}
-use Rattle.selection_members.proofs.Entering.{Entered, joined-members, entered-more, drop-next}
+use Rattle.selection_members.proofs.Entering.{Entered, field-alone, joined-members, entered-more, drop-next}
 use Rattle.selection_members.proofs.gathering.+gathering.Goals as goal
+
+pub gather-returns-in-Field-clause-reached : goal.gather-returns-in-Field-clause-reached
+gather-returns-in-Field-clause-reached t c =
+    let gains : Gains c.args.walk.now (λ spread. members_from spread c.args.number (selection_of c.args.selection.now)) c.args.reached.now c.add_field.new.reached =
+    λ spread ms knows is. rw (field-alone spread c.args.number c.args.selection.now c.in-Field.field c.in-Field.is) (c.add_field.ensures ms is) in
+    on_ok_weaker c.gather_field.result (λ _. gains) c.gather_field.ensures.rows
 
 pub gather-returns-in-Spread-clause-reached : goal.gather-returns-in-Spread-clause-reached
 gather-returns-in-Spread-clause-reached t c = λ spread ms knows is.

@@ -1,12 +1,9 @@
 use Rattle.std.proofs.Common.{◌∷◌, ◌≡◌, ◌∙◌, sym, ap, subst, ◌≤◌, ◌+◌, ◌++◌, [], ℕ, List, true, length, drop, drop_of_length-le, Option, Some, None, arith}
 use Rattle.std.specs.Prelude.{find}
 use Rattle.gq_parser.specs.declared.tree.Selection.{Selection}
-use Rattle.gq_parser.specs.declared.tree.Field.{Field}
-use Rattle.gq_parser.specs.declared.tree.Selection.TheFolds.{fold_out-Field}
-use Rattle.gq_parser.specs.declared.tree.Selection.TheVariants as selection
 use Rattle.gq_parser.specs.Tree as tree
-use Rattle.gq_parser.specs.Tree.{and_selection, set_of, selection_of, map_selections, condition_if, directives_of, selection_step, field_step, inline_step, set_step}
-use Rattle.gq_parser.proofs.Views.{of_set, of_inline, selection_field, selection_spread, selection_inline}
+use Rattle.gq_parser.specs.Tree.{and_selection, set_of, selection_of, map_selections, condition_if, directives_of}
+use Rattle.gq_parser.proofs.Views.{of_set, of_inline, selection_spread, selection_inline}
 use Rattle.selection_members.specs.declared.meeting.Met.{Met}
 use Rattle.selection_members.specs.declared.meeting.Came.{Came}
 use Rattle.selection_members.specs.Fragments.{target_at}
@@ -14,16 +11,10 @@ use Rattle.selection_members.specs.Members.{count_in, count_from, count_among, m
 use Rattle.selection_members.specs.Walks.{is_key}
 use Rattle.selection_members.specs.Meeting.{IsMet, IsPast, IsSpread, met_of}
 use Rattle.selection_members.specs.Ranked.{spreads_in, spreads_among, spreads_from}
-use Rattle.selection_members.proofs.Entering.{drop-next}
+use Rattle.selection_members.proofs.Entering.{drop-next, field-alone}
 use Rattle.selection_members.proofs.Spreading.{spreads-next}
 use Rattle.selection_members.proofs.FirstLaws.{find-past, met-here}
 use Rattle.selection_members.proofs.meeting.+meeting.Goals as goal
-
--- a field is met alone
-field-alone : (spread : List ℕ → List ℕ) (n : ℕ) (s : Selection) (f : Field) → s ≡ selection.Field f → members_from spread n (selection_of s) ≡ n ∷ []
-field-alone spread n s f is =
-    ap (λ (x : Selection). members_from spread n (selection_of x)) is
-    ∙ ap (λ (x : tree.Selection). members_from spread n x) (selection_field f ∙ fold_out-Field tree.Selection tree.Selection tree.Selection tree.SelectionSet selection_step field_step inline_step set_step f)
 
 pub come_past-returns-in-Some-clause-met : goal.come_past-returns-in-Some-clause-met
 come_past-returns-in-Some-clause-met t c = λ spread knows.

@@ -1,14 +1,22 @@
 use Rattle.std.proofs.Common.{◌≡◌, ◌∙◌, sym, ap, subst, refl, ◌≤◌, ◌+◌, ◌++◌, [], List, length, drop, drop_of_length-le, map, append-nil, arith}
 use Rattle.std.specs.Prelude.{filter}
+use Rattle.std.proofs.lemmas.Result.{on_ok_weaker}
 use Rattle.gq_parser.specs.declared.tree.Selection.{Selection}
 use Rattle.gq_parser.specs.Tree as tree
 use Rattle.gq_parser.specs.Tree.{Inline, SelectionSet, set_at, and_selection, set_of, selection_of, map_selections, condition_if, directives_of}
 use Rattle.gq_parser.proofs.Views.{of_set, of_inline, selection_spread, selection_inline}
+use Rattle.selection_members.specs.Knowledge.{Gains}
 use Rattle.selection_members.specs.Members.{count_in, count_from, count_among, members_in, members_from, sets_among}
 use Rattle.selection_members.specs.Walks.{renumbered, is_clashing, clashing_of, place_of}
 use Rattle.selection_members.proofs.Clashing.{with-own, found-more}
-use Rattle.selection_members.proofs.Entering.{Entered, joined-members, entered-more, entered-all, drop-next}
+use Rattle.selection_members.proofs.Entering.{Entered, field-alone, joined-members, entered-more, entered-all, drop-next}
 use Rattle.selection_members.proofs.visiting.+visiting.Goals as goal
+
+pub visit-returns-in-Field-clause-reached : goal.visit-returns-in-Field-clause-reached
+visit-returns-in-Field-clause-reached t c =
+    let gains : Gains c.args.walk.now (λ spread. members_from spread c.args.number (selection_of c.args.selection.now)) c.args.reached.now c.add_field.new.reached =
+    λ spread ms knows is. rw (field-alone spread c.args.number c.args.selection.now c.in-Field.field c.in-Field.is) (c.add_field.ensures ms is) in
+    on_ok_weaker c.visit_below.result (λ _. gains) c.visit_below.ensures.clashing
 
 pub visit-returns-in-Spread-clause-reached : goal.visit-returns-in-Spread-clause-reached
 visit-returns-in-Spread-clause-reached t c = λ spread ms knows is.

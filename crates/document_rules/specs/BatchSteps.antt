@@ -1,0 +1,76 @@
+-- What the rules on variables learn of a batch of operations.
+use Rattle.std.specs.Prelude.{◌≡◌, ◌<◌, ◌+◌, ◌||◌, ◌&&◌, ℕ, Bool, false, not, List, Option, length, map, filter, drop, bytes_eq, nat_lt, slice_index, slice_index_or}
+use Rattle.std.specs.List.{list_any}
+use Rattle.std.specs.HashMap.{HashMap, get_by}
+use Rattle.std.specs.Borrow.{Bor}
+use Rattle.gq_parser.specs.Tree.{Operation, operation_of}
+use Rattle.document_parts.specs.declared.broken.Earliest.{Earliest}
+use Rattle.document_parts.specs.Broken.{BrokenOf}
+use Rattle.document_parts.specs.Parts.{VariableUse}
+use Rattle.spread_graph.specs.declared.batch.BatchSet.{BatchSet}
+use Rattle.spread_graph.specs.Graphs.{GraphOf}
+use Rattle.spread_graph.specs.Batches.{has, set_at, AreReachers}
+use Rattle.document_rules.specs.declared.batch.Batch.{Batch}
+use Rattle.document_rules.specs.declared.use_table.UseTable.{UseTable}
+use Rattle.document_rules.specs.Named.{named_variable}
+use Rattle.document_rules.specs.Scans.{with_all}
+use Rattle.document_rules.specs.UsesDefined.{one_lacks}
+use Rattle.document_rules.specs.VariablesUsed.{unused_variables}
+use Rattle.document_rules.specs.UseTable.{is_numbered, has_if}
+use Rattle.document_rules.specs.UseRows.{use_at, IsUseTable, defines_at}
+
+-- all operations of the document, and not those of the batch alone
+abbrev pub operations_in : Batch → List Operation
+operations_in b = map operation_of b.operations.now
+
+-- the sets that the batch has are those of this graph
+abbrev pub IsReached : GraphOf → Batch → Type 0
+IsReached g b = AreReachers g b.first b.count b.reached.items
+
+-- ---- sets of a batch's operations, by the numbers of names
+
+-- the numbers of names, as the table of uses has them
+abbrev pub number_by : {S : Type 0} → HashMap (Bor (List ℕ)) ℕ S → List ℕ → Option ℕ
+number_by names q = get_by (λ k. bytes_eq q k.now) names
+
+-- a variable of the operation has a name of the number n
+abbrev pub has_numbered : (List ℕ → Option ℕ) → ℕ → Operation → Bool
+has_numbered number n o = list_any (is_numbered number n) o.variables
+
+-- the sets have what they had, and in the set n each operation m that passes
+abbrev pub Adds : (ℕ → ℕ → Bool) → List BatchSet → List BatchSet → Type 0
+Adds test old new = (n m : ℕ) → has (set_at new n) m ≡ (test n m || has (set_at old n) m)
+
+-- of each number of a name the operations of the batch that have a variable of that name
+abbrev pub AreDefiners : Batch → (List ℕ → Option ℕ) → List BatchSet → Type 0
+AreDefiners b number sets = (n m : ℕ) → has (set_at sets n) m ≡ (nat_lt m b.count && defines_at number n (operations_in b) (b.first + m))
+
+-- ---- uses whose variables operations lack
+
+-- the use that stands for the use k is noted
+abbrev pub is_noted : UseTable → List Bool → ℕ → Bool
+is_noted table noted k = slice_index_or noted (slice_index table.stand_ins.items k) false
+
+-- that is noted, or one of the operations from the number i on lacks the use
+abbrev pub is_noted_or_lacks : GraphOf → List VariableUse → UseTable → List Operation → List Bool → ℕ → ℕ → Bool
+is_noted_or_lacks g uses table operations noted i k = is_noted table noted k || one_lacks g i (drop i operations) (use_at uses k)
+
+-- what the batch lacks is noted now, and needs no more looking at
+abbrev pub NotesLacking : Batch → UseTable → List Bool → List Bool → Type 0
+NotesLacking b table old new = (g : GraphOf) (uses : List VariableUse) (k : ℕ) → IsUseTable uses table → IsReached g b → k < length uses
+    → is_noted_or_lacks g uses table (operations_in b) new (b.first + b.count) k ≡ is_noted_or_lacks g uses table (operations_in b) old b.first k
+
+-- exactly the uses are noted that one of these operations lacks
+abbrev pub AreLacking : GraphOf → List Operation → UseTable → List Bool → Type 0
+AreLacking g operations table noted = (uses : List VariableUse) → IsUseTable uses table → (k : ℕ) → k < length uses → is_noted table noted k ≡ one_lacks g 0 operations (use_at uses k)
+
+-- ---- variables that operations never use
+
+-- the operation's variables in whose sets the operation m of the batch isn't
+abbrev pub unused_by : List BatchSet → ℕ → (List ℕ → Option ℕ) → Operation → List BrokenOf
+unused_by sets m number o = map named_variable (filter (λ v. not (has_if sets m (number v.name))) o.variables)
+
+-- the batch's unused variables are told now, and need no more looking at
+abbrev pub TellsUnused : Batch → UseTable → Earliest → Earliest → Type 0
+TellsUnused b table old new = (g : GraphOf) (uses : List VariableUse) → IsUseTable uses table → IsReached g b
+    → with_all new (unused_variables g uses (b.first + b.count) (drop (b.first + b.count) (operations_in b))) ≡ with_all old (unused_variables g uses b.first (drop b.first (operations_in b)))

@@ -1,0 +1,63 @@
+-- What is known of a document before its fields are compared, and once they are.
+use Rattle.std.specs.Prelude.{◌≡◌, ◌<◌, ℕ, Bool, true, List, length, filter}
+use Rattle.gq_parser.specs.Tree.{Document, document_of}
+use Rattle.merge_table.specs.declared.field.Field as table
+use Rattle.merge_table.specs.Merging.{Fields}
+use Rattle.merge_table.specs.Numbered.{is_in}
+use Rattle.selection_members.specs.declared.visiting.ClashingSet.{ClashingSet}
+use Rattle.selection_members.specs.Fragments.{place_in}
+use Rattle.selection_members.specs.Members.{SetOf, members_of_fragment, sets_of}
+use Rattle.selection_members.specs.Ranked.{IsOrder}
+use Rattle.selection_members.specs.Walks.{clash, is_clashing, clashing_of}
+use Rattle.document_parts.specs.Parts.{PartsOf, parts_in}
+use Rattle.field_merging.specs.declared.known.Compared.{Compared}
+use Rattle.field_merging.specs.declared.known.Grounds.{Grounds}
+use Rattle.field_merging.specs.Members.{fields_of}
+use Rattle.field_merging.specs.Numbered.{AreNumbered}
+use Rattle.field_merging.specs.Rule.{key_of}
+use Rattle.field_merging.specs.Told.{AreCompared}
+
+-- ---- before
+
+abbrev pub parts_known : Grounds → PartsOf
+parts_known g = parts_in g.parts.now
+
+abbrev pub document_in : Grounds → Document
+document_in g = document_of g.parts.now.document.now
+
+-- an order of the fragments, each after those that it spreads
+abbrev pub IsFragmentOrder : List ℕ → Grounds → Type 0
+IsFragmentOrder order g = IsOrder order (place_in (document_in g).fragments) (document_in g).fragments
+
+-- the fields of a table are those of the document, in their order
+abbrev pub AreNumberedIn : Grounds → List table.Field → Type 0
+AreNumberedIn g fields = AreNumbered (parts_known g) g.numbers.now (members_of_fragment (document_in g)) g.order.now fields
+
+-- ---- once they are compared
+
+abbrev pub IsCompared : Compared → Type 0
+IsCompared c = AreCompared (parts_known c.grounds) c.grounds.numbers.now c.grounds.order.now c.fields.now c.rows.now c.fragments.now
+
+-- the fields of the document, as the rule sees them
+abbrev pub fields_in : Compared → Fields ℕ
+fields_in c = fields_of (parts_known c.grounds)
+
+-- the response key of the field of a number
+abbrev pub key_in : Compared → ℕ → List ℕ
+key_in c = key_of (parts_known c.grounds)
+
+-- two fields clash, by their numbers in the document
+abbrev pub clash_in : Compared → ℕ → ℕ → Bool
+clash_in c = clash c.rows.now c.grounds.numbers.now
+
+-- what a set of the document says
+abbrev pub set_in : Compared → ClashingSet → SetOf
+set_in c set = clashing_of (members_of_fragment (document_in c.grounds)) set
+
+-- the sets of the document in which two fields clash
+abbrev pub clashing_in : Compared → List SetOf
+clashing_in c = filter (is_clashing c.rows.now c.grounds.numbers.now) (sets_of (document_in c.grounds))
+
+-- the members of a set are fields of the document
+abbrev pub HasFieldsOf : Compared → SetOf → Type 0
+HasFieldsOf compared s = (c : ℕ) → is_in s.members c ≡ true → c < length (parts_known compared.grounds).fields

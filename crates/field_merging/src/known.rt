@@ -1,0 +1,48 @@
+//! What is known of a document before its fields are compared, and once they are.
+
+ghost use Rattle.std.specs.Prelude.{◌≡◌, ◌≤◌, ◌+◌, length};
+ghost use Rattle.gq_parser.specs.Tree.{document_of};
+ghost use Rattle.merge_table.specs.Table.{IsBelow};
+ghost use Rattle.selection_members.specs.Fragments.{AreTargets};
+ghost use Rattle.selection_members.specs.Members.{count_operations, count_fragments, members_of_fragment, starts_from};
+ghost use Rattle.selection_members.specs.Placed.{ArePlaced};
+ghost use Rattle.selection_members.specs.Walks.{IsFixed};
+ghost use Rattle.document_parts.specs.Parts.{parts_in};
+ghost use Rattle.field_merging.specs.Numbered.{AreInside, IsInverse};
+
+use document_parts::Parts;
+use merge_table::{Field, Reached, Row};
+use selection_members::Targets;
+
+/// What is known of a document whose fragments don't reach themselves.
+#[derive(Clone, Copy)]
+pub struct Grounds<'a, 'd> {
+    pub parts: &'a Parts<'d>,
+    pub targets: &'a Targets<'d>,
+    pub starts: &'a [usize],
+    pub order: &'a [usize],
+    pub numbers: &'a [usize],
+    ghost few: { length order.now ≤ 1024 },
+    ghost whole: { length numbers.now ≡ length order.now },
+    ghost all: { length order.now ≡ length (parts_in parts.now).fields },
+    ghost inverse: { IsInverse order.now numbers.now (length order.now) },
+    ghost placed: { ArePlaced (document_of parts.now.document.now) order.now numbers.now },
+    ghost named: { AreTargets (document_of parts.now.document.now).fragments targets.now },
+    ghost started: { starts.now ≡ starts_from (count_operations (document_of parts.now.document.now).operations) (document_of parts.now.document.now).fragments },
+    ghost counted: { count_operations (document_of parts.now.document.now).operations + count_fragments (document_of parts.now.document.now).fragments ≡ length (parts_in parts.now).fields },
+    ghost inside: { AreInside (parts_in parts.now).fields },
+    ghost fixed: { IsFixed (members_of_fragment (document_of parts.now.document.now)) (document_of parts.now.document.now) },
+}
+
+/// What is known once the fields are compared.
+#[derive(Clone, Copy)]
+pub struct Compared<'a, 'd> {
+    pub grounds: Grounds<'a, 'd>,
+    pub fields: &'a [Field],
+    pub rows: &'a [Row],
+    pub fragments: &'a [Reached],
+    ghost len: { length rows.now ≡ length fields.now },
+    ghost all: { length fields.now ≡ length grounds.order.now },
+    ghost below: { IsBelow rows.now },
+    ghost there: { length fragments.now ≡ length (document_of grounds.parts.now.document.now).fragments },
+}

@@ -1,0 +1,122 @@
+-- The text of an answer has at least the bytes that are counted of it.
+use Rattle.std.proofs.Common.{◌≡◌, ◌≤◌, ◌+◌, ◌/◌, ◌%◌, ◌==◌, ℕ, ℤ, pos, negsuc, suc, zero, Bool, true, false, cond, List, [], ◌∷◌, ◌++◌, length, subst, arith, length-append, codes, decimal, if◌then◌else◌, nat_lt}
+use Rattle.std.specs.Char.{digit_char}
+use Rattle.std.specs.Fmt.{digits_onto, digit_glyph, signed_decimal}
+use Rattle.std.proofs.DigitsParse.{digits_onto-nil}
+use Rattle.json.specs.Token.{Token}
+use Rattle.json.specs.Print.{escape_letter, escape_byte, escape, quoted, token_text, ends, separator, print_from}
+use Rattle.json.specs.Json.{Members, member, no_members, array}
+use Rattle.answer_json.specs.Answer.{places_json}
+use Rattle.json.specs.Tree.{json_tokens, items_tokens, members_tokens}
+use Rattle.execution.specs.Program.{ListOf, ObjectOf, Part, Key, Item, Text, Int, Boolean}
+use Rattle.execution.specs.Completion.{ResponseOf, NullResponse, LeafResponse, Holding, ResponsesOf, NoResponses, Responding, ErrorOf, AnsweredOf}
+use Rattle.gq_resolve.specs.Answered.{json_of, items_json, members_json, path_json, error_json, errors_json, errors_before, answered_json, answer_text}
+use Rattle.gq_resolve.specs.Bounded.{size_of, sizes_of, error_size, errors_size}
+
+-- ---- texts of tokens
+
+-- the bytes of these tokens, without commas
+abbrev texts : List Token → ℕ
+texts [] = 0
+texts (t ∷ ts) = length (token_text t) + texts ts
+
+texts-append : (ts us : List Token) → texts (ts ++ us) ≡ texts ts + texts us
+texts-append [] us = omega arith
+texts-append (t ∷ ts) us = omega (arith, texts-append ts us)
+
+printed : (c : Bool) (ts : List Token) → texts ts ≤ length (print_from c ts)
+unfolding print_from
+printed c [] = omega arith
+printed c (t ∷ ts) = omega (arith, length-append (separator c t) (token_text t ++ print_from (ends t) ts), length-append (token_text t) (print_from (ends t) ts), printed (ends t) ts)
+
+some-byte : (a b : Bool) (xs ys zs : List ℕ) → 1 ≤ length xs → 1 ≤ length ys → 1 ≤ length zs → 1 ≤ length (cond a xs (cond b ys zs))
+some-byte true b xs ys zs x y z = x
+some-byte false true xs ys zs x y z = y
+some-byte false false xs ys zs x y z = z
+
+byte-escaped : (x : ℕ) → 1 ≤ length (escape_byte x)
+unfolding escape_byte
+byte-escaped x =
+    some-byte (nat_lt 0 (escape_letter x)) (nat_lt x 32) (92 ∷ escape_letter x ∷ []) (92 ∷ 117 ∷ 48 ∷ 48 ∷ digit_char (x / 16) ∷ digit_char (x % 16) ∷ []) (x ∷ []) (omega arith) (omega arith) (omega arith)
+
+escaped : (s : List ℕ) → length s ≤ length (escape s)
+escaped [] = omega arith
+escaped (x ∷ xs) = omega (arith, length-append (escape_byte x) (escape xs), byte-escaped x, escaped xs)
+
+in-quotes : (s : List ℕ) → suc (length s) ≤ length (quoted s)
+in-quotes s = omega (arith, length-append (escape s) (34 ∷ []), escaped s)
+
+-- ---- numbers
+
+digits-grow : (k base : ℕ) (upper : Bool) (n : ℕ) (acc : List ℕ) → length acc ≤ length (digits_onto k base upper n acc)
+digits-grow zero base upper n acc = omega arith
+digits-grow (suc k) base upper n acc = go (n / base == 0) (digits-grow k base upper (n / base) (digit_glyph upper (n % base) ∷ acc))
+  where
+    go : (b : Bool) → suc (length acc) ≤ length (digits_onto k base upper (n / base) (digit_glyph upper (n % base) ∷ acc)) → length acc ≤ length (if b then digit_glyph upper (n % base) ∷ acc else digits_onto k base upper (n / base) (digit_glyph upper (n % base) ∷ acc))
+    go true more = omega arith
+    go false more = omega (arith, more)
+
+some-digits : (k base : ℕ) (upper : Bool) (n : ℕ) → 1 ≤ length (digits_onto (suc k) base upper n [])
+some-digits k base upper n = go (n / base == 0)
+  where
+    go : (b : Bool) → 1 ≤ length (if b then digit_glyph upper (n % base) ∷ [] else digits_onto k base upper (n / base) (digit_glyph upper (n % base) ∷ []))
+    go true = omega arith
+    go false = omega (arith, digits-grow k base upper (n / base) (digit_glyph upper (n % base) ∷ []))
+
+some-decimal : (n : ℕ) → 1 ≤ length (decimal n)
+some-decimal n = subst (λ (ds : List ℕ). 1 ≤ length ds) (digits_onto-nil 10 false n) (some-digits 63 10 false n)
+
+some-number : (z : ℤ) → 1 ≤ length (signed_decimal z)
+some-number (pos n) = some-decimal n
+some-number (negsuc n) = omega arith
+
+-- ---- responses
+
+mutual
+  response-sure : (r : ResponseOf) → size_of r ≤ texts (json_tokens (json_of r))
+  response-sure NullResponse = omega arith
+  response-sure (LeafResponse (Text text)) = omega (arith, in-quotes text)
+  response-sure (LeafResponse (Int z)) = omega (arith, some-number z)
+  response-sure (LeafResponse (Boolean true)) = omega arith
+  response-sure (LeafResponse (Boolean false)) = omega arith
+  response-sure (Holding ListOf rs) = omega (arith, items-sure rs)
+  response-sure (Holding ObjectOf rs) = omega (arith, members-sure rs)
+
+  items-sure : (rs : ResponsesOf) → sizes_of ListOf rs ≤ texts (items_tokens (items_json rs))
+  items-sure NoResponses = omega arith
+  items-sure (Responding part r rs) = omega (arith, texts-append (json_tokens (json_of r)) (items_tokens (items_json rs)), response-sure r, items-sure rs)
+
+  members-sure : (rs : ResponsesOf) → sizes_of ObjectOf rs ≤ texts (members_tokens (members_json rs))
+  members-sure NoResponses = omega arith
+  members-sure (Responding (Key k) r rs) = omega (arith, length-append (quoted k) (58 ∷ []), in-quotes k, texts-append (json_tokens (json_of r)) (members_tokens (members_json rs)), response-sure r, members-sure rs)
+  members-sure (Responding (Item n) r rs) = omega (arith, texts-append (json_tokens (json_of r)) (members_tokens (members_json rs)), response-sure r, members-sure rs)
+
+-- ---- errors
+
+path-sure : (path : List Part) → length path ≤ texts (items_tokens (path_json path))
+path-sure [] = omega arith
+path-sure (Key k ∷ ps) = omega (arith, in-quotes k, path-sure ps)
+path-sure (Item n ∷ ps) = omega (arith, some-decimal n, path-sure ps)
+
+error-sure : (e : ErrorOf) → error_size e ≤ texts (json_tokens (error_json e))
+error-sure e = omega (arith, in-quotes e.message, path-sure e.path, texts-append (items_tokens (path_json e.path)) (members_tokens no_members), texts-append (json_tokens (places_json e.place)) (members_tokens (member (codes "path") (array (path_json e.path)) no_members)))
+
+errors-sure : (es : List ErrorOf) → errors_size es ≤ texts (items_tokens (errors_json es))
+errors-sure [] = omega arith
+errors-sure (e ∷ es) = omega (arith, error-sure e, texts-append (json_tokens (error_json e)) (items_tokens (errors_json es)), errors-sure es)
+
+-- ---- answers
+
+abbrev data_member : ResponseOf → Members
+data_member r = member (codes "data") (json_of r) no_members
+
+data-sure : (r : ResponseOf) → size_of r ≤ texts (members_tokens (data_member r))
+data-sure r = omega (arith, response-sure r, texts-append (json_tokens (json_of r)) (members_tokens no_members))
+
+members-both : (es : List ErrorOf) (r : ResponseOf) → errors_size es + size_of r ≤ texts (members_tokens (errors_before es (data_member r)))
+members-both [] r = omega (arith, data-sure r)
+members-both (e ∷ es) r = omega (arith, errors-sure (e ∷ es), data-sure r, texts-append (items_tokens (errors_json (e ∷ es))) (members_tokens (data_member r)))
+
+-- of the errors and the response so many bytes are sure
+pub answer-sure : (a : AnsweredOf) → errors_size a.errors + size_of a.response ≤ length (answer_text a)
+answer-sure a = omega (arith, printed false (json_tokens (answered_json a)), members-both a.errors a.response)

@@ -1,0 +1,216 @@
+//! The response that a walk builds where its text may be too long.
+
+ghost use Rattle.std.specs.Prelude.{◌≡◌, ◌≤◌, OnOk, reverse};
+ghost use Rattle.execution.specs.Executed.{response};
+ghost use Rattle.execution.specs.Program.{At};
+ghost use Rattle.plan_program.specs.Prepared.{own_seen};
+ghost use Rattle.gq_resolve.specs.Built.{BuiltOf, given_own, nothing_built};
+ghost use Rattle.gq_resolve.specs.Bounded.{size_of, bytes_in, Bounds, CountsPut, CountsErrors, AreErrorBytes, FinishesWhole, FinishesOver};
+
+use crate::answered::Answered;
+use crate::builder::{Builder, copied_own};
+use crate::cells::cell_value;
+use crate::no_memory::NoMemory;
+use crate::sink::Sink;
+use crate::spot::{Items, Kind, Leaf, Onward, Spot};
+use load_memory::KeyRef;
+use plan_program::Own;
+use std::alloc::Global;
+
+/// How many bytes the text of an object or a list has at least.
+#[derive(Drop)]
+pub struct Least {
+    /// Its key.
+    pub key: usize,
+    /// What is open around it, before it.
+    pub around: usize,
+    /// Its parts so far.
+    pub parts: usize,
+}
+
+/// A builder that keeps no more than an answer of so many bytes needs.
+///
+/// It counts bytes that the text has for sure. Where the parts of an object or a list, with those of what is open around it, have
+/// more of them than the limit, it is null in the answer, or what is around it is, or the answer is too long: so its parts are
+/// dropped.
+#[derive(Drop)]
+pub struct BoundedBuilder {
+    alloc: Global,
+    builder: Builder,
+    most: usize,
+    /// Of each object and list that has begun and not ended, outermost first.
+    levels: Vec<Least>,
+    /// Of the response of the root.
+    top: usize,
+    errors: usize,
+}
+
+// How many bytes the text of an own value has at least.
+fn own_size(own: &Own) -> usize
+    ensures { result ≤ size_of (response (At (own_seen own.now))) }
+{
+    match own {
+        Own::Text(text) => text.len().saturating_add(1),
+        _ => 1,
+    }
+}
+
+// How many bytes the error of an own value has at least, so deep in the answer.
+fn error_size(own: &Own, strict: bool, depth: usize) -> usize
+    ensures { AreErrorBytes (own_seen own.now) strict depth result }
+{
+    match own {
+        Own::Null => { if strict { depth.saturating_add(1) } else { 0 } }
+        Own::Fault(message) => message.len().saturating_add(depth).saturating_add(1),
+        _ => 0,
+    }
+}
+
+impl BoundedBuilder {
+    /// Nothing yet, at the root of an answer that may have so many bytes.
+    pub fn new(alloc: Global, most: usize) -> BoundedBuilder
+        ensures bounds { Bounds nothing_built result }
+        ensures most { result.most ≡ most }
+    {
+        BoundedBuilder {
+            alloc,
+            builder: Builder::new(alloc),
+            most,
+            levels: Vec::new(alloc),
+            top: 0,
+            errors: 0,
+        }
+    }
+
+    /// The response with its errors, unless it is certain that its text is too long.
+    pub fn finish(self) -> Option<Answered>
+        ensures whole { FinishesWhole self result }
+        ensures too_long { FinishesOver self result }
+    {
+        if self.top > self.most || self.errors > self.most {
+            return None;
+        }
+        Some(self.builder.finish())
+    }
+
+    // How many bytes of the objects and lists that are open are counted.
+    fn open_bytes(&self) -> usize
+        ensures { result ≤ bytes_in (reverse self.now.levels.items) }
+    {
+        match self.levels.last() {
+            Some(level) => level.around.saturating_add(level.parts),
+            None => 0,
+        }
+    }
+
+    // Counts errors that were added.
+    fn count_errors(&mut self, added: usize)
+        ensures counted { CountsErrors added self.old self.new }
+        ensures most { self.new.most ≡ self.old.most }
+    {
+        self.errors = self.errors.saturating_add(added);
+        if self.errors > self.most {
+            self.builder.drop_errors();
+        }
+    }
+
+    // Counts what was put, with its key.
+    fn count(&mut self, key: usize, size: usize)
+        ensures counted { CountsPut key size self.old self.new }
+        ensures most { self.new.most ≡ self.old.most }
+    {
+        let Some(level) = self.levels.last_mut() else {
+            self.top = size;
+            return;
+        };
+        level.parts = level.parts.saturating_add(key.saturating_add(size));
+        let bytes = level.around.saturating_add(level.parts);
+        if bytes > self.most {
+            self.builder.drop_last_parts();
+        }
+    }
+
+    fn put_own(&mut self, own: Own, strict: bool) -> Result<(), NoMemory>
+        ensures bounds { OnOk result ((all : BuiltOf) → Bounds all self.old → Bounds (given_own strict (own_seen own) all) self.new) }
+        ensures most { OnOk result (self.new.most ≡ self.old.most) }
+    {
+        let added = error_size(&own, strict, self.levels.len());
+        let size = own_size(&own);
+        let key = self.builder.key_size();
+        self.builder.put_own(own, strict)?;
+        self.count_errors(added);
+        self.count(key, size);
+        Ok(())
+    }
+}
+
+impl Sink for BoundedBuilder {
+    ghost use Rattle.std.specs.Prelude.{refl};
+    ghost use Rattle.gq_resolve.specs.Bounded.{BoundsPuts, goes-more};
+
+    ghost goes = { λ v ps old new. BoundsPuts ps old new };
+
+    ghost below = { λ n s. Unit {0} };
+
+    ghost waits = { λ s. 0 };
+
+    ghost none = { λ v s. (refl, λ all h. h) };
+
+    ghost more = { λ v. goes-more };
+
+    ghost rises = { λ n m s le h. h };
+
+    ghost stays = { λ v ps a b h w. w };
+
+    ghost narrow = { λ v w n ps a b le same below held h. h };
+
+    fn begin(&mut self, kind: Kind) -> Result<(), NoMemory> {
+        let key = self.builder.key_size();
+        let around = self.open_bytes();
+        self.builder.begin(kind)?;
+        self.levels.push(Least {
+            key,
+            around,
+            parts: 0,
+        })?;
+        Ok(())
+    }
+
+    fn end(&mut self, kind: Kind) -> Result<(), NoMemory> {
+        let pulled = self.builder.is_pulled();
+        self.builder.end(kind)?;
+        let Some(Least { key, parts, .. }) = self.levels.pop() else {
+            return Ok(());
+        };
+        let size = if pulled { 1 } else { parts.saturating_add(1) };
+        self.count(key, size);
+        Ok(())
+    }
+
+    fn field(&mut self, spot: Spot<'_>) -> Result<(), NoMemory> {
+        self.builder.field(spot)
+    }
+
+    fn item(&mut self, items: Items, number: usize) -> Result<(), NoMemory> {
+        self.builder.item(items, number)
+    }
+
+    fn own(&mut self, own: &Own, strict: bool) -> Result<(), NoMemory> {
+        let own = copied_own(self.alloc, own)?;
+        self.put_own(own, strict)
+    }
+
+    fn cell(&mut self, leaf: Leaf<'_>, strict: bool) -> Result<(), NoMemory> {
+        let own = cell_value(self.alloc, leaf.schema, leaf.column, leaf.ty, leaf.row)?;
+        self.put_own(own, strict)
+    }
+
+    fn waiting(&self) -> usize {
+        0
+    }
+
+    // No answer is built where a position waits.
+    fn wait(&mut self, _onward: Onward, _loader: usize, _key: KeyRef<'_>) -> Result<(), NoMemory> {
+        Ok(())
+    }
+}

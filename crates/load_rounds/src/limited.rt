@@ -1,0 +1,52 @@
+//! Plans whose answers may have so many bytes and no more.
+ghost use Rattle.std.specs.Prelude.{◌≡◌, length};
+ghost use Rattle.gq_check.specs.Plans.{plan_of};
+ghost use Rattle.gq_resolve.specs.Limited.{limited_answer};
+ghost use Rattle.gq_resolve.specs.Suspended.{plan_in, FitsMemory};
+ghost use Rattle.plan_program.specs.PlanPrograms.{plan_program};
+
+use crate::execute::Execute;
+use futures::task::Poll;
+use gq_check::Plan;
+use gq_resolve::RootState;
+use load_memory::{Memory, NoMemory};
+use load_queue::Wants;
+use std::alloc::Global;
+
+/// A plan with a limit. It is executed as the plan is, and its text is that of the plan's answer if that has at most so many
+/// bytes. A longer one is refused, and the text is that of the refusal: an execution keeps no more of it than the limit needs.
+#[derive(Drop)]
+pub struct Limited<'p, 'a> {
+    pub plan: &'p Plan<'a>,
+    /// How many bytes the text of an answer has at most.
+    pub most: usize,
+}
+
+impl<'p, 'a: 'p> Execute<'p> for Limited<'p, 'a> {
+    type Progress = RootState<'p, 'a>;
+
+    ghost program = { λ limited. plan_program (plan_of limited.plan.now) };
+
+    ghost text_of = { λ limited. limited_answer limited.most };
+
+    ghost loaders = { λ limited. length (plan_of limited.plan.now).bindings.loaders };
+
+    ghost fits = { λ limited state m. (plan_in state ≡ plan_of limited.plan.now) × FitsMemory state m };
+
+    fn start(&'p self) -> RootState<'p, 'a> {
+        RootState::new(self.plan)
+    }
+
+    fn execute(
+        &'p self,
+        progress: &mut RootState<'p, 'a>,
+        alloc: Global,
+        memory: &Memory,
+        wants: &mut Wants,
+    ) -> Result<Poll<String>, NoMemory> {
+        match progress.poll_text_within(alloc, memory, wants, self.most) {
+            Ok(polled) => Ok(polled),
+            Err(_) => Err(NoMemory),
+        }
+    }
+}

@@ -1,0 +1,107 @@
+-- What a walk knows of the fragments of a document, and what it finds by that. Where `spread` gives the members of the fragment of
+-- each name, `members` gives those of a part of the document.
+use Rattle.std.specs.Prelude.{◌≡◌, ◌++◌, ℕ, Bool, true, List, find, Option, Some, slice_get}
+use Rattle.gq_parser.specs.Tree.{Below, Fragment, Document, document_of}
+use Rattle.merge_table.specs.declared.sets.Reached.{Reached}
+use Rattle.merge_table.specs.Entered.{IsReached}
+use Rattle.selection_members.specs.declared.known.Source.{Source}
+use Rattle.selection_members.specs.declared.known.Walk.{Walk}
+use Rattle.selection_members.specs.declared.meeting.Met.{Met}
+use Rattle.selection_members.specs.declared.visiting.ClashingSet.{ClashingSet}
+use Rattle.selection_members.specs.Fragments.{place_in, target_at}
+use Rattle.selection_members.specs.Meeting.{IsMet, IsSpread}
+use Rattle.selection_members.specs.Members.{SetOf, count_operations, members_named}
+use Rattle.selection_members.specs.Ranked.{spreads_in}
+use Rattle.selection_members.specs.Walks.{renumbered, KnowsAt, KnowsSome, Knows, is_key, AreClashingAdded}
+use Rattle.selection_members.specs.Written.{AreOwn, AreAdded}
+
+-- ---- what a walk knows
+
+-- what it knows of each fragment is what `spread` gives
+abbrev pub IsKnown : Walk → (List ℕ → List ℕ) → Type 0
+IsKnown w spread = Knows w.rows.now w.numbers.now w.fragments.now (target_at w.targets.now) spread
+
+-- the same of each fragment whose name passes a test
+abbrev pub IsKnownWhere : Walk → (List ℕ → List ℕ) → (List ℕ → Bool) → Type 0
+IsKnownWhere w spread test = KnowsSome test w.rows.now w.numbers.now w.fragments.now (target_at w.targets.now) spread
+
+-- the same of the fragment of a name
+abbrev pub IsKnownAt : Walk → (List ℕ → List ℕ) → List ℕ → Type 0
+IsKnownAt w spread name = KnowsAt w.rows.now w.numbers.now w.fragments.now (spread name) (target_at w.targets.now name)
+
+-- ---- what it reaches
+
+-- these fields are reached, by their numbers in the document
+abbrev pub Reaches : Walk → List ℕ → Reached → Type 0
+Reaches w ms reached = IsReached w.rows.now (renumbered w.numbers.now ms) reached
+
+-- the members of a part are reached
+abbrev pub ReachesAll : Walk → ((List ℕ → List ℕ) → List ℕ) → Reached → Type 0
+ReachesAll w members reached = (spread : List ℕ → List ℕ) → IsKnown w spread → Reaches w (members spread) reached
+
+-- the members of a part are reached beside those that were
+abbrev pub Gains : Walk → ((List ℕ → List ℕ) → List ℕ) → Reached → Reached → Type 0
+Gains w members old new = (spread : List ℕ → List ℕ) (ms : List ℕ) → IsKnown w spread → Reaches w ms old → Reaches w (ms ++ members spread) new
+
+-- The same two, where those fragments at least are known whose names pass a test; `passes` says whether the names of all spreads
+-- of the part do.
+abbrev pub ReachesWhere : Walk → ((List ℕ → Bool) → Bool) → ((List ℕ → List ℕ) → List ℕ) → Reached → Type 0
+ReachesWhere w passes members reached = (spread : List ℕ → List ℕ) (test : List ℕ → Bool) → IsKnownWhere w spread test → passes test ≡ true
+    → Reaches w (members spread) reached
+
+abbrev pub GainsWhere : Walk → ((List ℕ → Bool) → Bool) → ((List ℕ → List ℕ) → List ℕ) → Reached → Reached → Type 0
+GainsWhere w passes members old new = (spread : List ℕ → List ℕ) (test : List ℕ → Bool) (ms : List ℕ) → IsKnownWhere w spread test → passes test ≡ true
+    → Reaches w ms old → Reaches w (ms ++ members spread) new
+
+-- ---- what it adds
+
+-- rows are added for these fields, the first of which has the number n
+abbrev pub AddsRows : Walk → ℕ → List Below → List (List ℕ) → List (List ℕ) → Type 0
+AddsRows w n bs old new = (spread : List ℕ → List ℕ) → IsKnown w spread → AreAdded w.numbers.now spread n bs old new
+
+-- the rows are those of these fields, from the number 0
+abbrev pub HasRows : Walk → List Below → List (List ℕ) → Type 0
+HasRows w bs rows = (spread : List ℕ → List ℕ) → IsKnown w spread → AreOwn w.numbers.now spread 0 bs rows
+
+-- those of these sets are added in which two fields clash
+abbrev pub AddsClashing : Walk → ((List ℕ → List ℕ) → List SetOf) → List ClashingSet → List ClashingSet → Type 0
+AddsClashing w sets old new = (spread : List ℕ → List ℕ) → IsKnown w spread → AreClashingAdded w.rows.now w.numbers.now spread (sets spread) old new
+
+-- ---- what it meets
+
+-- the first of these fields is met that is among the keys
+abbrev pub IsFirstMet : Walk → List ℕ → (List ℕ → List ℕ) → List ℕ → Option Met → Type 0
+IsFirstMet w keys spread ms met = IsMet (target_at w.targets.now) spread (is_key keys w.numbers.now) (find (is_key keys w.numbers.now) ms) met
+
+-- the first of the members of a part
+abbrev pub MeetsFirst : Walk → List ℕ → ((List ℕ → List ℕ) → List ℕ) → Option Met → Type 0
+MeetsFirst w keys members met = (spread : List ℕ → List ℕ) → IsKnown w spread → IsFirstMet w keys spread (members spread) met
+
+-- a fragment that is met is that of a name that passes each test that the names of all spreads of the part pass
+abbrev pub MeetsSpread : Walk → ((List ℕ → Bool) → Bool) → Option Met → Type 0
+MeetsSpread w passes met = (test : List ℕ → Bool) → passes test ≡ true → IsSpread (target_at w.targets.now) test met
+
+-- ---- what is known before there is a walk
+
+abbrev pub document_in : Source → Document
+document_in s = document_of s.document.now
+
+-- the fragment of a name has this number
+abbrev pub IsNumberOf : Source → List ℕ → ℕ → Type 0
+IsNumberOf s name j = place_in (document_in s).fragments name ≡ Some j
+
+-- the members of the fragment of a name, by those of the fragments that it spreads
+abbrev pub members_at : Source → (List ℕ → List ℕ) → List ℕ → List ℕ
+members_at s spread name = members_named spread (count_operations (document_in s).operations) (document_in s).fragments name
+
+-- what a table says of each fragment is what `spread` gives
+abbrev pub IsTableKnown : Source → List Reached → (List ℕ → List ℕ) → Type 0
+IsTableKnown s table spread = Knows s.rows.now s.numbers.now table (place_in (document_in s).fragments) spread
+
+-- This holds of the members of the fragment of a number, by their numbers in the table of pairs, where a table has what the
+-- fragments that it spreads have.
+abbrev pub LearnsOf : Source → List Reached → ℕ → (List ℕ → Type 0) → Type 0
+LearnsOf s table j P = (spread : List ℕ → List ℕ) (name : List ℕ) (test : List ℕ → Bool) (f : Fragment)
+    → KnowsSome test s.rows.now s.numbers.now table (place_in (document_in s).fragments) spread
+    → IsNumberOf s name j → slice_get (document_in s).fragments j ≡ Some f → spreads_in test f.selection_set ≡ true
+    → P (renumbered s.numbers.now (members_at s spread name))
