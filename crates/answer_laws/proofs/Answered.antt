@@ -15,28 +15,30 @@ use Rattle.gq_schema.specs.BindingsTree as bindings
 use Rattle.execution.specs.Loads.{Load, Memory, mode_at, read, AnswersMore}
 use Rattle.execution.specs.Program.{Program, tree, chain}
 use Rattle.execution.specs.Front.{front, keys_for}
+use Rattle.execution.specs.Completion.{AnsweredOf}
 use Rattle.execution.specs.Executed.{completed}
 use Rattle.execution.specs.Rounds.{RuleOf, rule_of, modes_of, may_at, key_by_key, round_orders, orders_from, IsReply, AreReplies, after_round, AreRounds, without_failed, direct, RespectsCacheKeys, HoldsItems, AreLimited, HasLoaders}
-use Rattle.execution.specs.Sessions.{Forgot, Asked}
+use Rattle.execution.specs.Sessions.{Forgot, AskedLoads}
 use Rattle.execution.proofs.Monotone.{exec-whole, front-open}
 use Rattle.execution.proofs.RoundLaws.{rounds-chain}
 use Rattle.gq_check.specs.Plans.{PlanOf}
 use Rattle.gq_check.specs.Planned.{IsPlan}
 use Rattle.plan_program.specs.PlanPrograms.{plan_program}
-use Rattle.gq_resolve.specs.Answered.{answer_text}
 use Rattle.load_rounds.specs.Sessions.{StateOf, state_of, rules_of, session_modes, after_step}
 use Rattle.load_rounds.specs.Calls.{RoundRan}
 use Rattle.load_rounds.specs.Headline.{IsTextOf}
 use Rattle.load_rounds.specs.KeyByKey.{CompareAlike, item_of_loader, item_over}
 use Rattle.load_rounds.specs.PlanLoads.{plan-loads}
+use Rattle.load_rounds.specs.Within.{text_within}
 use Rattle.load_rounds.proofs.Following.{InRounds, in-none, in-more, in-all}
 use Rattle.load_rounds.proofs.Numbering.{orders-below, orders-loads}
 use Rattle.world.specs.Worlds.{WorldOf, IsLimit, HasSources}
 use Rattle.world_answers.specs.Answers.{may_tell, IsAnsweredAnew}
+use Rattle.world_answers.specs.Services.{ServiceOf}
 use Rattle.world_answers.specs.Sessions.{loader_over, loaders_over, session_over}
-use Rattle.world_answers.proofs.Direct.{compare-alike, nothing-told, answer-direct}
+use Rattle.world_answers.proofs.Direct.{compare-alike, nothing-held, answer-direct}
 use Rattle.world_answers.proofs.Loading.{length-over}
-use Rattle.world_answers.proofs.Together.{respects-over, rounds-told, rounds-by-key}
+use Rattle.world_answers.proofs.Together.{respects-over, rounds-held, rounds-by-key}
 use Rattle.answer_laws.proofs.Logs.{chain-more}
 
 there : {A : Type 0} (xs : List A) (a : ℕ) → a < length xs → (x : A) × (slice_get xs a ≡ Some x)
@@ -92,7 +94,7 @@ orders-within cur loads =
 round-there : (cur : StateOf SourceOf) (loads : List Load) → (new : StateOf SourceOf) × RoundRan may_tell cur new loads
 round-there cur loads =
     let r = replies-there cur.loaders (round_orders (rules_of cur) loads) (orders-within cur loads) in
-    (after_step cur (Asked loads r.0), record { replies = r.0; answered = r.1; after = refl })
+    (after_step cur (AskedLoads loads r.0), record { replies = r.0; answered = r.1; after = refl })
 
 -- ---- rounds come to an end
 
@@ -124,7 +126,7 @@ module _ (w : WorldOf) (has : HasSources w) where
     few : (cur : StateOf SourceOf) (n : ℕ) → InRounds may_tell old cur p n → n ≤ chain p (direct item)
     few cur n is =
         let at : HoldsItems (session_modes old) item cur.memory =
-        rounds-told item (rules_of old) p respects (without_failed old.memory) is.log cur.memory (nothing-told w.limit (session_modes old) item) (rounds-by-key ls (rules_of old) p (without_failed old.memory) is.log cur.memory is.made.rounds) in
+        rounds-held item (rules_of old) p respects (without_failed old.memory) is.log cur.memory (nothing-held w.limit (session_modes old) item) (rounds-by-key ls (rules_of old) p (without_failed old.memory) is.log cur.memory is.made.rounds) in
         let more : AnswersMore (read (session_modes old) cur.memory) (direct item) = λ load o f. ap (λ (x : OutcomeOf). Some x) (sym (at load.loader load.key o f)) in
         let a : length is.log ≤ chain p (read (session_modes old) cur.memory) = rounds-chain (may_at may_tell ls) (rules_of old) p (without_failed old.memory) is.log cur.memory limited own is.made.rounds in
         let b : chain p (read (session_modes old) cur.memory) ≤ chain p (direct item) = chain-more p (read (session_modes old) cur.memory) (direct item) more in
@@ -154,21 +156,27 @@ module _ (w : WorldOf) (has : HasSources w) where
 -- ---- a plan is answered
 
 -- the text of an execution over what is known
-abbrev pub text_over : Program → StateOf SourceOf → List ℕ
-text_over p last = answer_text (completed (tree p (read (session_modes last) last.memory)))
+abbrev pub text_over : (AnsweredOf → List ℕ) → Program → StateOf SourceOf → List ℕ
+text_over text_of p last = text_of (completed (tree p (read (session_modes last) last.memory)))
 
-pub text-told : (p : Program) (last : StateOf SourceOf) → front (session_modes last) p last.memory ≡ [] → IsTextOf answer_text p (read (session_modes last) last.memory) (text_over p last)
-text-told p last none = record {
+pub text-reported : (text_of : AnsweredOf → List ℕ) (p : Program) (last : StateOf SourceOf) → front (session_modes last) p last.memory ≡ [] → IsTextOf text_of p (read (session_modes last) last.memory) (text_over text_of p last)
+text-reported text_of p last none = record {
   answered = completed (tree p (read (session_modes last) last.memory));
   executed = exec-whole p (read (session_modes last) last.memory) ((front-open (session_modes last) p last.memory).0 none);
-  told = refl;
+  report = refl;
 }
 
 -- a plan over the bindings of a world needs no other loaders
 pub plan-within : (w : WorldOf) (plan : PlanOf) → plan.bindings ≡ w.bindings → HasLoaders (length w.bindings.loaders) (plan_program plan)
 plan-within w plan bound = subst (λ (b : bindings.BindingsOf). HasLoaders (length b.loaders) (plan_program plan)) bound (plan-loads plan)
 
-module _ (w : WorldOf) (plan : PlanOf) (has : HasSources w) (bound : plan.bindings ≡ w.bindings) where
+module _ (s : ServiceOf) (plan : PlanOf) (has : HasSources s.world) (bound : plan.bindings ≡ s.world.bindings) where
+  abbrev w : WorldOf
+  w = s.world
+
+  abbrev text_of : AnsweredOf → List ℕ
+  text_of = text_within s.most
+
   abbrev p : Program
   p = plan_program plan
 
@@ -178,12 +186,12 @@ module _ (w : WorldOf) (plan : PlanOf) (has : HasSources w) (bound : plan.bindin
       let b : length plan.bindings.loaders ≡ length w.bindings.loaders = ap (λ (x : bindings.BindingsOf). length x.loaders) bound in
       omega (arith, a, b)
 
-  pub plan-answered : IsPlan plan → (text : List ℕ) × IsAnsweredAnew w plan text
+  pub plan-answered : IsPlan plan → (text : List ℕ) × IsAnsweredAnew s plan text
   plan-answered valid =
       let d = rounds-end w has p (over-loaders w has p (plan-within w plan bound)) in (
-        text_over p d.last,
-        answer-direct w d.last plan (text_over p d.last) d.rounds has.each (record {
+        text_over text_of p d.last,
+        answer-direct s d.last plan (text_over text_of p d.last) d.rounds has.each (record {
           valid = valid;
-          headline = in-all may_tell (state_of (session_over w)) d.last p d.rounds (length plan.bindings.loaders) answer_text (text_over p d.last) d.is (limited w has) (plan-loads plan) enough d.none (text-told p d.last d.none);
+          headline = in-all may_tell (state_of (session_over w)) d.last p d.rounds (length plan.bindings.loaders) text_of (text_over text_of p d.last) d.is (limited w has) (plan-loads plan) enough d.none (text-reported text_of p d.last d.none);
         }),
       )

@@ -1,4 +1,4 @@
--- Whether two fields merge can be told, whatever the document: each of the two recursions is found by going down further and
+-- Whether two fields merge can be said, whatever the document: each of the two recursions is found by going down further and
 -- further, until going down once more tells no new pair, which comes since pairs of numbered fields are finitely many.
 use Rattle.std.proofs.Common.{◌≡◌, ◌≢◌, sym, ap, subst, refl, ℕ, zero, suc, ◌+◌, ◌<◌, ◌≤◌, Bool, true, false, not, ◌&&◌, ◌||◌, ◌==◌, ◌⊎◌, inl, inr, if◌then◌else◌, arith}
 use Rattle.std.proofs.lemmas.Bool.{or_cases, or_parts, or_left, or_right, and_parts, and_from, and_cases, both_ways, cases_Bool, not-true, not-false, eqb-true, eq-eqb}

@@ -83,39 +83,39 @@ data TokensOf (tokens : List Token) : Type 0 where
   unexpected : (place : Option Place) → IsUnexpectedAt tokens place → TokensOf tokens
   too-deep : (place : Place) → IsTooDeepAt tokens place → TokensOf tokens
 
-outcome-told : (tokens : List Token) (o : Outcome) → read most_brackets (one ADefinition) tokens ≡ o → Ends most_brackets (one ADefinition) tokens o → TokensOf tokens
-outcome-told tokens Done e ends' =
+outcome-read : (tokens : List Token) (o : Outcome) → read most_brackets (one ADefinition) tokens ≡ o → Ends most_brackets (one ADefinition) tokens o → TokensOf tokens
+outcome-read tokens Done e ends' =
     let d = means-document tokens (read-some tokens e) (read-means most_brackets (one ADefinition) tokens e) in
     whole d.0 d.1 ends'
-outcome-told tokens (Stopped place) e ends' = unexpected place (stopped tokens place ends')
-outcome-told tokens (Sunk place) e ends' = too-deep place (sunk tokens place ends')
+outcome-read tokens (Stopped place) e ends' = unexpected place (stopped tokens place ends')
+outcome-read tokens (Sunk place) e ends' = too-deep place (sunk tokens place ends')
 
 -- ---- texts
 
-abbrev pub IsTold : List ℕ → Type 0
-IsTold text = ((d : Document) × IsDocumentOf text d) ⊎ ((f : ParseFault) × (f ≢ parse.NoMemory) × IsParseFault text f)
+abbrev pub IsRead : List ℕ → Type 0
+IsRead text = ((d : Document) × IsDocumentOf text d) ⊎ ((f : ParseFault) × (f ≢ parse.NoMemory) × IsParseFault text f)
 
-tokens-told : (text : List ℕ) (tokens : List lexer.Token) → length text ≤ most_bytes → AreTokens text tokens → TokensOf (tokens_of text tokens) → IsTold text
-tokens-told text tokens short reads (whole d is shallow) = inl (d, record { tokens = tokens; short = short; reads = reads; is = is; shallow = shallow })
-tokens-told text tokens short reads (unexpected None is) =
+tokens-read : (text : List ℕ) (tokens : List lexer.Token) → length text ≤ most_bytes → AreTokens text tokens → TokensOf (tokens_of text tokens) → IsRead text
+tokens-read text tokens short reads (whole d is shallow) = inl (d, record { tokens = tokens; short = short; reads = reads; is = is; shallow = shallow })
+tokens-read text tokens short reads (unexpected None is) =
     inr (parse.UnexpectedEnd (place_of text (length text)), (λ e. cc e), (record { tokens = tokens; short = short; reads = reads; holds = is }, refl))
-tokens-told text tokens short reads (unexpected (Some p) is) = inr (parse.Unexpected p, (λ e. cc e), record { tokens = tokens; short = short; reads = reads; holds = is })
-tokens-told text tokens short reads (too-deep p is) = inr (parse.TooDeep p, (λ e. cc e), record { tokens = tokens; short = short; reads = reads; holds = is })
+tokens-read text tokens short reads (unexpected (Some p) is) = inr (parse.Unexpected p, (λ e. cc e), record { tokens = tokens; short = short; reads = reads; holds = is })
+tokens-read text tokens short reads (too-deep p is) = inr (parse.TooDeep p, (λ e. cc e), record { tokens = tokens; short = short; reads = reads; holds = is })
 
-stop-told : (text : List ℕ) (s : Stop) (place : Place) → length text ≤ most_bytes → StopsAt text s place → IsTold text
-stop-told text stop.BadCharacter place short is = inr (parse.Lex (lex.BadCharacter place), (λ e. cc e), (is, short))
-stop-told text stop.UnterminatedString place short is = inr (parse.Lex (lex.UnterminatedString place), (λ e. cc e), (is, short))
-stop-told text stop.BadEscape place short is = inr (parse.Lex (lex.BadEscape place), (λ e. cc e), (is, short))
-stop-told text stop.BadNumber place short is = inr (parse.Lex (lex.BadNumber place), (λ e. cc e), (is, short))
+stop-read : (text : List ℕ) (s : Stop) (place : Place) → length text ≤ most_bytes → StopsAt text s place → IsRead text
+stop-read text stop.BadCharacter place short is = inr (parse.Lex (lex.BadCharacter place), (λ e. cc e), (is, short))
+stop-read text stop.UnterminatedString place short is = inr (parse.Lex (lex.UnterminatedString place), (λ e. cc e), (is, short))
+stop-read text stop.BadEscape place short is = inr (parse.Lex (lex.BadEscape place), (λ e. cc e), (is, short))
+stop-read text stop.BadNumber place short is = inr (parse.Lex (lex.BadNumber place), (λ e. cc e), (is, short))
 
-short-told : (text : List ℕ) → length text ≤ most_bytes → IsTold text
-short-told text short = elim (each_is_read text) [
-  | inl found ↦ tokens-told text found.0 short found.1 (outcome-told (tokens_of text found.0) (read most_brackets (one ADefinition) (tokens_of text found.0)) refl (read_ends most_brackets (one ADefinition) (tokens_of text found.0)))
-  | inr stops ↦ stop-told text stops.0 stops.1 short stops.2
+short-read : (text : List ℕ) → length text ≤ most_bytes → IsRead text
+short-read text short = elim (each_is_read text) [
+  | inl found ↦ tokens-read text found.0 short found.1 (outcome-read (tokens_of text found.0) (read most_brackets (one ADefinition) (tokens_of text found.0)) refl (read_ends most_brackets (one ADefinition) (tokens_of text found.0)))
+  | inr stops ↦ stop-read text stops.0 stops.1 short stops.2
 ]
 
-pub text-told : (text : List ℕ) → IsTold text
-text-told text = elim (cases_Bool (ltb most_bytes (length text))) [
+pub text-read : (text : List ℕ) → IsRead text
+text-read text = elim (cases_Bool (ltb most_bytes (length text))) [
   | inl long ↦ inr (parse.Lex lex.TooLong, (λ e. cc e), ltb-true most_bytes (length text) long)
-  | inr short ↦ short-told text (ltb-false most_bytes (length text) short)
+  | inr short ↦ short-read text (ltb-false most_bytes (length text) short)
 ]

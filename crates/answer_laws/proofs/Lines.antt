@@ -23,7 +23,7 @@ use Rattle.gq_check.specs.declared.fault.PrepareFault.TheVariants as prepare
 use Rattle.gq_check.specs.Plans.{PlanOf}
 use Rattle.gq_check.specs.Prepared.{PreparedOf, FaultOf as Unprepared, no_such_operation, operation_needed, variables_not_object, bad_variable, is_operation, found_operation, only_operation, chosen_operation, with_variables, prepared_operation, prepared}
 use Rattle.gq_check.specs.Verdict.{FaultOf, Breaks, TooComplex, TooDeep, NotServed, IsVerdict, IsValid}
-use Rattle.load_rounds.specs.SharedRounds.{ToldOf}
+use Rattle.load_rounds.specs.SharedRounds.{ReportOf}
 use Rattle.request_line.specs.Requests.{RequestOf, asked, asked_each, most_requests, IsRequest, AreRequests, IsNoRequest}
 use Rattle.world.specs.declared.request.RequestFault.{RequestFault}
 use Rattle.world.specs.declared.request.RequestFault.TheVariants as fault
@@ -32,11 +32,12 @@ use Rattle.world.specs.Worlds.{WorldOf, HasSources}
 use Rattle.world_answers.specs.Answers.{values_of, IsPlanned, IsFaulty, IsAnsweredAnew, refusal_text, not_a_request, AnswersRequest, faulty, planned}
 use Rattle.world_answers.specs.Arrays.{array_text, AnswersArray}
 use Rattle.world_answers.specs.Lines.{IsAnswer, no_request, request, several}
+use Rattle.world_answers.specs.Services.{ServiceOf}
 use Rattle.world_answers.specs.Planning.{PlanValues, in_places}
 use Rattle.world_answers.proofs.Values.{plans-bound, array-answered}
-use Rattle.answer_laws.specs.Told.{IsPlanFor, IsRefusedOrAnswered, invalid, unprepared, answered}
-use Rattle.answer_laws.proofs.Telling.{told-there}
-use Rattle.answer_laws.proofs.Documents.{IsTold, text-told}
+use Rattle.answer_laws.specs.Requests.{IsPlanFor, IsRefusedOrAnswered, invalid, unprepared, answered}
+use Rattle.answer_laws.proofs.Telling.{outcome-there}
+use Rattle.answer_laws.proofs.Documents.{IsRead, text-read}
 use Rattle.answer_laws.proofs.Each.{Each, Maybe, each-find}
 use Rattle.answer_laws.proofs.Shared.{plans-answered}
 use Rattle.answer_laws.proofs.Names.{DocumentNames}
@@ -120,15 +121,15 @@ some-fault (parse.UnexpectedEnd p) some = refl
 some-fault (parse.TooDeep p) some = refl
 some-fault parse.NoMemory some = absurd (some refl)
 
-module _ (w : WorldOf) (has : HasSources w) (r : RequestOf) (called : Maybe IsSaid r.operation_name) where
+module _ (s : ServiceOf) (has : HasSources s.world) (r : RequestOf) (called : Maybe IsSaid r.operation_name) where
   abbrev HasAnswer : Type 0
-  HasAnswer = (text : List ℕ) × AnswersRequest w r text
+  HasAnswer = (text : List ℕ) × AnswersRequest s r text
 
   abbrev defs' : List Definition
-  defs' = tree_of w.definitions
+  defs' = tree_of s.world.definitions
 
   at-fault : (f : RequestFault) → is_want_of_memory f ≡ false → IsRequestFault defs' r.query r.operation_name (values_of r.variables) f → HasAnswer
-  at-fault f some is = (refusal_text (request_message f) (request_place f), faulty {fault = f} (record { told = some; faulty = is }) refl)
+  at-fault f some is = (refusal_text (request_message f) (request_place f), faulty {fault = f} (record { reported = some; faulty = is }) refl)
 
   module _ (d : Document) (says : IsDocumentOf r.query d) where
     of-invalid : (f : FaultOf) → FaultSaid f → IsVerdict defs' d (Some f) → HasAnswer
@@ -150,21 +151,21 @@ module _ (w : WorldOf) (has : HasSources w) (r : RequestOf) (called : Maybe IsSa
     of-unprepared (bad_variable n) said valid e =
         at-fault (fault.Prepare (prepare.BadVariable said.0)) refl (record { document = d; says = says; valid = valid; fault = subst (λ m. want ≡ Err (bad_variable m)) (sym said.1) e })
 
-    of-plan : (plan : PlanOf) (text : List ℕ) → IsValid defs' d → IsPlanFor w d r.operation_name (values_of r.variables) plan → IsAnsweredAnew w plan text → HasAnswer
+    of-plan : (plan : PlanOf) (text : List ℕ) → IsValid defs' d → IsPlanFor s.world d r.operation_name (values_of r.variables) plan → IsAnsweredAnew s plan text → HasAnswer
     of-plan plan text valid is anew =
         (text, planned {plan = plan} (record { definitions = is.definitions; bindings = is.bindings; planned = record { document = d; says = says; valid = valid; fragments = is.fragments; prepared = is.prepares } }) anew)
 
-    of-told : DocumentNames IsWritten d → IsRefusedOrAnswered w d r.operation_name (values_of r.variables) → HasAnswer
-    of-told names (invalid f is) = of-invalid f (verdict-said (parts_of defs' d) (parts-named defs' d (schema-said w.definitions) names) (Some f) is) is
-    of-told names (unprepared f valid e) = of-unprepared f (subst ResultSaid e (prepared-said defs' (values_of r.variables) d.operations r.operation_name names.operations called)) valid e
-    of-told names (answered {plan = plan} {text = text} valid is anew) = of-plan plan text valid is anew
+    of-outcome : DocumentNames IsWritten d → IsRefusedOrAnswered s d r.operation_name (values_of r.variables) → HasAnswer
+    of-outcome names (invalid f is) = of-invalid f (verdict-said (parts_of defs' d) (parts-named defs' d (schema-said s.world.definitions) names) (Some f) is) is
+    of-outcome names (unprepared f valid e) = of-unprepared f (subst ResultSaid e (prepared-said defs' (values_of r.variables) d.operations r.operation_name names.operations called)) valid e
+    of-outcome names (answered {plan = plan} {text = text} valid is anew) = of-plan plan text valid is anew
 
-  of-query : IsTold r.query → HasAnswer
-  of-query (inl (d, says)) = of-told d says (document-written r.query d says) (told-there w has d r.operation_name (values_of r.variables))
+  of-query : IsRead r.query → HasAnswer
+  of-query (inl (d, says)) = of-outcome d says (document-written r.query d says) (outcome-there s has d r.operation_name (values_of r.variables))
   of-query (inr (f, some, is)) = at-fault (fault.Parse f) (some-fault f some) is
 
-  pub request-answered : (text : List ℕ) × AnswersRequest w r text
-  request-answered = of-query (text-told r.query)
+  pub request-answered : (text : List ℕ) × AnswersRequest s r text
+  request-answered = of-query (text-read r.query)
 
 -- ---- a line
 
@@ -188,29 +189,29 @@ record Values (w : WorldOf) (values : List (Option RequestOf)) : Type 0 where
   plans : List PlanOf
   are : PlanValues w values refusals plans
 
-module _ (w : WorldOf) (has : HasSources w) where
+module _ (s : ServiceOf) (has : HasSources s.world) where
   abbrev ValueSaid : RequestOf → Type 0
   ValueSaid r = Maybe IsSaid r.operation_name
 
-  next-value : (r : RequestOf) (text : List ℕ) (values : List (Option RequestOf)) → AnswersRequest w r text → Values w values → Values w (Some r ∷ values)
-  next-value r text values (faulty {fault = f} h e) rest = record { refusals = Some text ∷ rest.refusals; plans = rest.plans; are = (record { fault = f; faulty = h; told = e }, rest.are) }
+  next-value : (r : RequestOf) (text : List ℕ) (values : List (Option RequestOf)) → AnswersRequest s r text → Values s.world values → Values s.world (Some r ∷ values)
+  next-value r text values (faulty {fault = f} h e) rest = record { refusals = Some text ∷ rest.refusals; plans = rest.plans; are = (record { fault = f; faulty = h; report = e }, rest.are) }
   next-value r text values (planned {plan = p} h anew) rest = record { refusals = None ∷ rest.refusals; plans = p ∷ rest.plans; are = (h, rest.are) }
 
-  values-there : (values : List (Option RequestOf)) → Each (Maybe ValueSaid) values → Values w values
+  values-there : (values : List (Option RequestOf)) → Each (Maybe ValueSaid) values → Values s.world values
   values-there [] said = record { refusals = []; plans = []; are = tt }
   values-there (None ∷ values) said = let rest = values-there values said.1 in record { refusals = Some not_a_request ∷ rest.refusals; plans = rest.plans; are = (refl, rest.are) }
-  values-there (Some r ∷ values) said = let a = request-answered w has r said.0 in next-value r a.0 values a.1 (values-there values said.1)
+  values-there (Some r ∷ values) said = let a = request-answered s has r said.0 in next-value r a.0 values a.1 (values-there values said.1)
 
-  array-there : (values : List (Option RequestOf)) → Each (Maybe ValueSaid) values → (text : List ℕ) × AnswersArray w values text
+  array-there : (values : List (Option RequestOf)) → Each (Maybe ValueSaid) values → (text : List ℕ) × AnswersArray s values text
   array-there values said =
       let v = values-there values said in
-      let a = plans-answered w has v.plans (plans-bound w values v.refusals v.plans v.are) in
-      let text = array_text (in_places v.refusals (map (λ (t : ToldOf). t.text) a.1)) in
-      (text, array-answered w values v.refusals v.plans a.1 a.0 text has.each v.are a.2 refl)
+      let a = plans-answered s has v.plans (plans-bound s.world values v.refusals v.plans v.are) in
+      let text = array_text (in_places v.refusals (map (λ (t : ReportOf). t.text) a.1)) in
+      (text, array-answered s values v.refusals v.plans a.1 a.0 text has.each v.are a.2 refl)
 
-module _ (w : WorldOf) (has : HasSources w) (line : List ℕ) where
+module _ (s : ServiceOf) (has : HasSources s.world) (line : List ℕ) where
   abbrev Answered : Type 0
-  Answered = (text : List ℕ) × IsAnswer w line text
+  Answered = (text : List ℕ) × IsAnswer s line text
 
   refused : IsNoRequest line → Answered
   refused none = (not_a_request, no_request none refl)
@@ -218,12 +219,12 @@ module _ (w : WorldOf) (has : HasSources w) (line : List ℕ) where
   abbrev array_in : Option (List (Option RequestOf))
   array_in = option_map asked_each (option_and_then as_array (read line))
 
-  module _ (one : (r : RequestOf) → IsRequest line r → Maybe IsSaid r.operation_name) (each : (values : List (Option RequestOf)) → AreRequests line values → Each (Maybe (ValueSaid w has)) values) where
+  module _ (one : (r : RequestOf) → IsRequest line r → Maybe IsSaid r.operation_name) (each : (values : List (Option RequestOf)) → AreRequests line values → Each (Maybe (ValueSaid s has)) values) where
     of-values : IsUtf8 line → ((r : RequestOf) → IsRequest line r → ⊥) → (values : List (Option RequestOf)) → array_in ≡ Some values → Answered
     of-values utf8 none values e = elim (in_range 0 most_requests (length values)) [
       | inl within ↦
           let are : AreRequests line values = record { text = utf8; values = e; some = within.0; few = within.1 } in
-          let a = array-there w has values (each values are) in
+          let a = array-there s has values (each values are) in
           (a.0, several {values = values} are a.1)
       | inr outside ↦ refused (record {
         not_one = none;
@@ -239,7 +240,7 @@ module _ (w : WorldOf) (has : HasSources w) (line : List ℕ) where
     of-reading utf8 None e = of-array utf8 (λ r is. none-some r (sym e ∙ is.members)) array_in refl
     of-reading utf8 (Some r) e =
         let is : IsRequest line r = record { text = utf8; members = e } in
-        let a = request-answered w has r (one r is) in
+        let a = request-answered s has r (one r is) in
         (a.0, request {r = r} is a.1)
 
     line-answered : Answered
@@ -256,11 +257,11 @@ module _ (w : WorldOf) (has : HasSources w) (line : List ℕ) where
   name-said None short h = tt
   name-said (Some n) short h = let le = h.short in said n (omega (arith, short, le)) h.utf8
 
-  names-said : (values : List (Option RequestOf)) → length line < 2 ^ 63 → Each (Maybe (RequestFits (length line))) values → Each (Maybe (ValueSaid w has)) values
+  names-said : (values : List (Option RequestOf)) → length line < 2 ^ 63 → Each (Maybe (RequestFits (length line))) values → Each (Maybe (ValueSaid s has)) values
   names-said [] short h = tt
   names-said (None ∷ values) short h = (tt, names-said values short h.1)
   names-said (Some r ∷ values) short h = (name-said r.operation_name short h.0, names-said values short h.1)
 
-  pub line-there : length line < 2 ^ 63 → (text : List ℕ) × IsAnswer w line text
+  pub line-there : length line < 2 ^ 63 → (text : List ℕ) × IsAnswer s line text
   line-there short = line-answered (λ r is. name-said r.operation_name short (request-fits (length line) line r (omega arith) is))
       (λ values are. names-said values short (requests-fit (length line) line values (omega arith) are))

@@ -18,7 +18,7 @@ use Rattle.execution.specs.Executed.{exec, completed}
 use Rattle.execution.specs.Rounds.{RuleOf, modes_of, key_by_key, round_orders, IsReply, AreReplies, reply_pairs, pairs_of, after_round, AreRounds, IsLawful, direct, RespectsCacheKeys, HoldsItems, AreLimited, HasLoaders}
 use Rattle.execution.proofs.Monotone.{exec-whole}
 use Rattle.execution.proofs.RoundLaws.{rounds-chain}
-use Rattle.world_answers.proofs.Together.{rounds-told}
+use Rattle.world_answers.proofs.Together.{rounds-held}
 
 -- ---- a larger reader reads a chain as long
 
@@ -34,7 +34,7 @@ mutual
 
   all-chain-more : (ps : Programs) (R Q : Reader) → AnswersMore R Q → all_chain ps R ≤ all_chain ps Q
   all-chain-more End R Q more = omega arith
-  all-chain-more (With spot p rest) R Q more = let a = chain-more p R Q more in let b = all-chain-more rest R Q more in omega (arith, a, b)
+  all-chain-more (With position p rest) R Q more = let a = chain-more p R Q more in let b = all-chain-more rest R Q more in omega (arith, a, b)
 
 module _ (item : ℕ → KeyOf → ItemOf) where
   -- ---- direct execution leaves nothing open
@@ -47,7 +47,7 @@ module _ (item : ℕ → KeyOf → ItemOf) where
 
     all-closed : (ps : Programs) → any_open (trees ps (direct item)) ≡ false
     all-closed End = refl
-    all-closed (With spot p rest) = let a = closed p in let b = all-closed rest in rw (a, b) refl
+    all-closed (With position p rest) = let a = closed p in let b = all-closed rest in rw (a, b) refl
 
   pub direct-some : (p : Program) → (answered : AnsweredOf) × (exec p (direct item) ≡ Some answered)
   direct-some p = (completed (tree p (direct item)), exec-whole p (direct item) (closed p))
@@ -88,7 +88,7 @@ module _ (item : ℕ → KeyOf → ItemOf) where
         }
 
     pub log-there : (M : Memory) → HoldsItems (modes_of rules) item M → AreLimited rules → HasLoaders (length rules) p → (rounds : List (List ReplyOf)) × (end : Memory) × IsLawful (key_by_key item) rules p M rounds end
-    log-there M told limited loaders = go (made (suc (chain p (direct item))) M)
+    log-there M held limited loaders = go (made (suc (chain p (direct item))) M)
       where
         go : Made M (suc (chain p (direct item))) → (rounds : List (List ReplyOf)) × (end : Memory) × IsLawful (key_by_key item) rules p M rounds end
         go m = (m.rounds, m.end, (m.are, enough m.enough))
@@ -96,7 +96,7 @@ module _ (item : ℕ → KeyOf → ItemOf) where
             enough : (front (modes_of rules) p m.end ≡ []) ⊎ (length m.rounds ≡ suc (chain p (direct item))) → front (modes_of rules) p m.end ≡ []
             enough (inl e) = e
             enough (inr e) =
-                let at : HoldsItems (modes_of rules) item m.end = rounds-told item rules p alike M m.rounds m.end told m.are in
+                let at : HoldsItems (modes_of rules) item m.end = rounds-held item rules p alike M m.rounds m.end held m.are in
                 let more : AnswersMore (read (modes_of rules) m.end) (direct item) = λ load o f. ap (λ x. Some x) (sym (at load.loader load.key o f)) in
                 let few : length m.rounds ≤ chain p (read (modes_of rules) m.end) = rounds-chain (key_by_key item) rules p M m.rounds m.end limited loaders m.are in
                 let long = chain-more p (read (modes_of rules) m.end) (direct item) more in

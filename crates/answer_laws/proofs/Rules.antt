@@ -16,32 +16,32 @@ use Rattle.document_parts.specs.Broken.{BrokenOf, earlier, with_broken, earliest
 use Rattle.document_parts.specs.Parts.{PartsOf, FieldPart, SpreadPart, InlinePart, VariablePart, DirectiveList, ArgumentList, ArgumentPart, VariableUse}
 use Rattle.document_rules.specs.Named.{named_variable, named_fragment, named_directive, named_argument}
 use Rattle.document_rules.specs.Repeated.{has_name, repeated_behind, repeated}
-use Rattle.document_rules.specs.OperationNames.{named_operation, operation_name_uniqueness}
-use Rattle.document_rules.specs.LoneAnonymous.{is_anonymous, anonymous, lone_anonymous_operation}
-use Rattle.document_rules.specs.ArgumentNames.{repeated_arguments, argument_uniqueness}
-use Rattle.document_rules.specs.FragmentNames.{fragment_name_uniqueness}
-use Rattle.document_rules.specs.FragmentsUsed.{is_unused as is_unused_fragment, fragments_must_be_used}
-use Rattle.document_rules.specs.SpreadTargets.{is_undefined, named_spread, fragment_spread_target_defined}
-use Rattle.document_rules.specs.DirectivesDefined.{is_defined, undefined_directives, directives_are_defined}
-use Rattle.document_rules.specs.DirectiveLocations.{is_valid, misplaced_directives, directives_are_in_valid_locations}
-use Rattle.document_rules.specs.DirectivesUnique.{repeated_directives, directives_are_unique_per_location}
-use Rattle.document_rules.specs.VariableNames.{repeated_variables, variable_uniqueness}
+use Rattle.document_rules.specs.OperationNameUniqueness.{named_operation, operation_name_uniqueness}
+use Rattle.document_rules.specs.LoneAnonymousOperation.{is_anonymous, anonymous, lone_anonymous_operation}
+use Rattle.document_rules.specs.ArgumentUniqueness.{repeated_arguments, argument_uniqueness}
+use Rattle.document_rules.specs.FragmentNameUniqueness.{fragment_name_uniqueness}
+use Rattle.document_rules.specs.FragmentsMustBeUsed.{is_unused as is_unused_fragment, fragments_must_be_used}
+use Rattle.document_rules.specs.FragmentSpreadTargetDefined.{is_undefined, named_spread, fragment_spread_target_defined}
+use Rattle.document_rules.specs.DirectivesAreDefined.{is_defined, undefined_directives, directives_are_defined}
+use Rattle.document_rules.specs.DirectivesAreInValidLocations.{is_valid, misplaced_directives, directives_are_in_valid_locations}
+use Rattle.document_rules.specs.DirectivesAreUniquePerLocation.{repeated_directives, directives_are_unique_per_location}
+use Rattle.document_rules.specs.VariableUniqueness.{repeated_variables, variable_uniqueness}
 use Rattle.document_rules.specs.VariableReach.{named_use}
-use Rattle.document_rules.specs.UsesDefined.{one_lacks, all_variable_uses_defined}
-use Rattle.document_rules.specs.VariablesUsed.{is_unused, unused_variables, all_variables_used}
+use Rattle.document_rules.specs.AllVariableUsesDefined.{one_lacks, all_variable_uses_defined}
+use Rattle.document_rules.specs.AllVariablesUsed.{is_unused, unused_variables, all_variables_used}
 use Rattle.document_rules.specs.NotServed.{other_kind, operation_not_served, is_introspection, named_field, not_served}
 use Rattle.typed_rules.specs.Words.{named_if, is_type_name}
 use Rattle.typed_rules.specs.FieldSelections.{is_unknown as is_unknown_field, unknown_field, unknown_fields}
-use Rattle.typed_rules.specs.LeafSelections.{misfit_field, misfit_fields}
+use Rattle.typed_rules.specs.LeafFieldSelections.{misfit_field, misfit_fields}
 use Rattle.typed_rules.specs.ArgumentNames.{unknown_argument, broken_argument, type_name_arguments, unknown_arguments}
 use Rattle.typed_rules.specs.RequiredArguments.{is_missing, name_of, first_missing, broken_at, missing_argument, missing_arguments}
 use Rattle.typed_rules.specs.TypeConditions.{condition_of, inline_condition, conditions}
-use Rattle.typed_rules.specs.TypeExistence.{unknown_type, unknown_types}
-use Rattle.typed_rules.specs.CompositeTypes.{leaf_type, leaf_types}
-use Rattle.typed_rules.specs.PossibleSpreads.{impossible_spread, impossible_condition, impossible_inline, impossible_spreads}
-use Rattle.typed_rules.specs.CorrectValues.{is_wrong, wrong_argument, wrong_default, wrong_variable, wrong_values}
-use Rattle.typed_rules.specs.InputVariables.{non_input_variable, non_input_variables}
-use Rattle.typed_rules.specs.AllowedUsages.{forbidden_usage, forbidden_usages}
+use Rattle.typed_rules.specs.FragmentSpreadTypeExistence.{unknown_type, unknown_types}
+use Rattle.typed_rules.specs.FragmentsOnCompositeTypes.{leaf_type, leaf_types}
+use Rattle.typed_rules.specs.FragmentSpreadIsPossible.{impossible_spread, impossible_condition, impossible_inline, impossible_spreads}
+use Rattle.typed_rules.specs.ValuesOfCorrectType.{is_wrong, wrong_argument, wrong_default, wrong_variable, wrong_values}
+use Rattle.typed_rules.specs.VariablesAreInputTypes.{non_input_variable, non_input_variables}
+use Rattle.typed_rules.specs.AllVariableUsagesAreAllowed.{forbidden_usage, forbidden_usages}
 use Rattle.spread_graph.specs.Graphs.{GraphOf, graph_of}
 use Rattle.spread_graph.specs.Reach.{is_cyclic}
 use Rattle.spread_graph.specs.Levels.{levels_of}
@@ -53,7 +53,7 @@ use Rattle.field_merging.specs.Members.{at}
 use Rattle.field_merging.specs.Rule.{AreBroken, none, merges, fails, key_of, IsMerging}
 use Rattle.gq_check.specs.declared.fault.Rule.{Rule}
 use Rattle.gq_check.specs.declared.fault.Rule.TheVariants as rule
-use Rattle.gq_check.specs.Verdict.{FaultOf, Breaks, TooComplex, TooDeep, NotServed, breaks, told, served_fault, operations_fault, fields_fault, arguments_fault, fragments_fault, spreads_fault, values_fault, directives_fault, variables_fault, rules_fault, limits_fault, first_fault, IsVerdictAfter, IsVerdict}
+use Rattle.gq_check.specs.Verdict.{FaultOf, Breaks, TooComplex, TooDeep, NotServed, breaks, report, served_fault, operations_fault, fields_fault, arguments_fault, fragments_fault, spreads_fault, values_fault, directives_fault, variables_fault, rules_fault, limits_fault, first_fault, IsVerdictAfter, IsVerdict}
 use Rattle.answer_laws.proofs.Each.{Each, Maybe, each-append, each-filter, each-find, each-map, each-filter_map, each-flat_map, maybe-map, maybe-and_then}
 use Rattle.answer_laws.proofs.Written.{IsWritten}
 use Rattle.answer_laws.proofs.Strings.{IsSaid, said-name, said-variable, said-word}
@@ -270,7 +270,7 @@ module _ (p : PartsOf) (h : PartsNames p) where
 
   -- ---- the verdict
 
-  rule-said : (r : Rule) (bs : List BrokenOf) → AllSaid bs → Maybe FaultSaid (told r bs)
+  rule-said : (r : Rule) (bs : List BrokenOf) → AllSaid bs → Maybe FaultSaid (report r bs)
   rule-said r bs q = maybe-map BrokenSaid FaultSaid (breaks r) (earliest bs) (λ b s. s) (earliest-said bs q)
 
   first-of : (a b : Option FaultOf) → Maybe FaultSaid a → Maybe FaultSaid b → Maybe FaultSaid (or_else a b)

@@ -5,6 +5,7 @@ use Rattle.load_memory.specs.Replies.{ReplyOf}
 use Rattle.csv_source.specs.Tables.{SourceOf}
 use Rattle.execution.specs.Loads.{Load, Memory, read}
 use Rattle.execution.specs.Program.{ListOf, Program, Under, needs, all_needs}
+use Rattle.execution.specs.Completion.{AnsweredOf}
 use Rattle.execution.specs.Front.{front}
 use Rattle.execution.specs.Rounds.{RuleOf, modes_of, may_at, HasLoaders, IsBelow, one_unless_empty, own_rounds, after_round, without_failed}
 use Rattle.execution.proofs.FewestLaws.{all-rounds}
@@ -13,18 +14,16 @@ use Rattle.execution.proofs.Same.{one-either}
 use Rattle.execution.proofs.SharedLaws.{below-front, own-chain, own-sparing}
 use Rattle.gq_check.specs.Plans.{PlanOf}
 use Rattle.plan_program.specs.PlanPrograms.{plan_program}
-use Rattle.gq_resolve.specs.Answered.{answer_text}
 use Rattle.load_rounds.specs.Headline.{IsTextOf}
 use Rattle.load_rounds.specs.Sessions.{StateOf, state_of, rules_of, session_modes}
-use Rattle.load_rounds.specs.SharedRounds.{RequestOf, ToldOf, requests, items_from, together, greatest, AreShared}
+use Rattle.load_rounds.specs.SharedRounds.{RequestOf, ReportOf, requests, items_from, together, greatest, AreShared}
+use Rattle.load_rounds.specs.Within.{text_within}
 use Rattle.world.specs.Worlds.{WorldOf, HasSources}
 use Rattle.world_answers.specs.Answers.{may_tell}
 use Rattle.world_answers.specs.Arrays.{AnswersTogether}
+use Rattle.world_answers.specs.Services.{ServiceOf}
 use Rattle.world_answers.specs.Sessions.{loaders_over, session_over}
-use Rattle.answer_laws.proofs.Answered.{limited, over-loaders, Done, rounds-end, text_over, text-told, plan-within}
-
-abbrev asked_of : List PlanOf → List RequestOf
-asked_of plans = requests plan_program (λ plan. answer_text) plans
+use Rattle.answer_laws.proofs.Answered.{limited, over-loaders, Done, rounds-end, text_over, text-reported, plan-within}
 
 own-most : (rules : List RuleOf) (p : Program) (M : Memory) (log : List (List ReplyOf)) → own_rounds rules p M log ≤ length log
 own-most rules p M [] = omega arith
@@ -34,7 +33,16 @@ own-most rules p M (r ∷ log) = go (front (modes_of rules) p M) (own-most rules
     go [] h = omega (arith, h)
     go (l ∷ ls) h = omega (arith, h)
 
-module _ (w : WorldOf) (has : HasSources w) where
+module _ (s : ServiceOf) (has : HasSources s.world) where
+  abbrev w : WorldOf
+  w = s.world
+
+  abbrev text_of : AnsweredOf → List ℕ
+  text_of = text_within s.most
+
+  abbrev asked_of : List PlanOf → List RequestOf
+  asked_of plans = requests plan_program (λ plan. text_of) plans
+
   abbrev old : StateOf SourceOf
   old = state_of (session_over w)
 
@@ -61,24 +69,24 @@ module _ (w : WorldOf) (has : HasSources w) where
     abbrev log : List (List ReplyOf)
     log = end.is.log
 
-    abbrev told_to : PlanOf → ToldOf
-    told_to plan = record { text = text_over (plan_program plan) end.last; rounds = own_rounds (rules_of old) (plan_program plan) first log }
+    abbrev report_to : PlanOf → ReportOf
+    report_to plan = record { text = text_over text_of (plan_program plan) end.last; rounds = own_rounds (rules_of old) (plan_program plan) first log }
 
-    abbrev told_all : List PlanOf → List ToldOf
-    told_all [] = []
-    told_all (p ∷ ps) = told_to p ∷ told_all ps
+    abbrev all_reports : List PlanOf → List ReportOf
+    all_reports [] = []
+    all_reports (p ∷ ps) = report_to p ∷ all_reports ps
 
     same : session_modes end.last ≡ session_modes old
     same = ap modes_of end.is.rules
 
     -- each has its answer, in its own rounds
-    each-shared : (n : ℕ) (plans : List PlanOf) → ((p : Program) → IsBelow p (items_from n (asked_of plans)) → IsBelow p (items_from 0 (asked_of all))) → AreShared old end.last log (asked_of plans) (told_all plans)
+    each-shared : (n : ℕ) (plans : List PlanOf) → ((p : Program) → IsBelow p (items_from n (asked_of plans)) → IsBelow p (items_from 0 (asked_of all))) → AreShared old end.last log (asked_of plans) (all_reports plans)
     each-shared n [] among = tt
     each-shared n (p ∷ ps) among =
         let here : IsBelow (plan_program p) (items_from 0 (asked_of all)) = among (plan_program p) (inl refl) in
         let none : front (session_modes end.last) (plan_program p) end.last.memory ≡ [] = below-front (session_modes end.last) ListOf (items_from 0 (asked_of all)) (plan_program p) end.last.memory here end.none in (
           record {
-            answered = subst (λ ms. IsTextOf answer_text (plan_program p) (read ms end.last.memory) (text_over (plan_program p) end.last)) same (text-told (plan_program p) end.last none);
+            answered = subst (λ ms. IsTextOf text_of (plan_program p) (read ms end.last.memory) (text_over text_of (plan_program p) end.last)) same (text-reported text_of (plan_program p) end.last none);
             counted = refl;
             chained = own-chain (may_at may_tell old.loaders) (rules_of old) ListOf (items_from 0 (asked_of all)) (plan_program p) (limited w has) within here first log end.last.memory end.is.made.rounds;
             fewest = λ Ns run. own-sparing (may_at may_tell old.loaders) (rules_of old) ListOf (items_from 0 (asked_of all)) (plan_program p) (limited w has) within here first log end.last.memory Ns end.is.made.rounds run;
@@ -87,25 +95,25 @@ module _ (w : WorldOf) (has : HasSources w) where
         )
 
     -- the answer with the most rounds has all of them
-    greatest-most : (plans : List PlanOf) → greatest (told_all plans) ≤ length log
+    greatest-most : (plans : List PlanOf) → greatest (all_reports plans) ≤ length log
     greatest-most [] = omega arith
     greatest-most (p ∷ ps) = omega (arith, own-most (rules_of old) (plan_program p) first log, greatest-most ps)
 
-    greatest-has : (n : ℕ) (p : Program) (plans : List PlanOf) → IsBelow p (items_from n (asked_of plans)) → own_rounds (rules_of old) p first log ≤ greatest (told_all plans)
+    greatest-has : (n : ℕ) (p : Program) (plans : List PlanOf) → IsBelow p (items_from n (asked_of plans)) → own_rounds (rules_of old) p first log ≤ greatest (all_reports plans)
     greatest-has n p [] below = absurd below
     greatest-has n p (q ∷ qs) (inl e) = let own = ap (λ r. own_rounds (rules_of old) r first log) e in omega (arith, own)
     greatest-has n p (q ∷ qs) (inr rest) = omega (arith, greatest-has (suc n) p qs rest)
 
-    longest : (count : ℕ) → length log ≡ count → length log ≡ greatest (told_all all)
+    longest : (count : ℕ) → length log ≡ count → length log ≡ greatest (all_reports all)
     longest zero e = omega (arith, e, greatest-most all)
     longest (suc count) e =
         let one = all-rounds (may_at may_tell old.loaders) (rules_of old) ListOf (items_from 0 (asked_of all)) first log end.last.memory end.is.made.rounds (omega (arith, e)) in
         omega (arith, greatest-most all, one.2, greatest-has 0 one.0 all one.1)
 
-    pub plans-answered : (after : StateOf SourceOf) × (told : List ToldOf) × AnswersTogether w all after told
+    pub plans-answered : (after : StateOf SourceOf) × (reports : List ReportOf) × AnswersTogether s all after reports
     plans-answered = (
       end.last,
-      told_all all,
+      all_reports all,
       record {
         log = log;
         made = end.is.made;

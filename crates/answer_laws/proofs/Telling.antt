@@ -8,27 +8,31 @@ use Rattle.gq_check.specs.Planned.{IsPlan}
 use Rattle.gq_check.specs.Prepared.{PreparedOf, FaultOf as Unprepared, prepared}
 use Rattle.gq_check.specs.Verdict.{FaultOf, IsVerdict, IsValid}
 use Rattle.world.specs.Worlds.{WorldOf, HasSources}
-use Rattle.answer_laws.specs.Told.{IsRefusedOrAnswered, invalid, unprepared, answered}
+use Rattle.world_answers.specs.Services.{ServiceOf}
+use Rattle.answer_laws.specs.Requests.{IsRefusedOrAnswered, invalid, unprepared, answered}
 use Rattle.answer_laws.proofs.Answered.{plan-answered}
 use Rattle.answer_laws.proofs.Verdicts.{verdict-there}
 
-module _ (w : WorldOf) (has : HasSources w) (d : Document) (name : Option (List ℕ)) (given : Data) where
+module _ (s : ServiceOf) (has : HasSources s.world) (d : Document) (name : Option (List ℕ)) (given : Data) where
+  abbrev w : WorldOf
+  w = s.world
+
   abbrev plan_of : PreparedOf → PlanOf
   plan_of p = record { definitions = tree_of w.definitions; bindings = w.bindings; operation = p.operation; fragments = d.fragments; variables = p.variables }
 
-  planned : IsValid (tree_of w.definitions) d → (p : PreparedOf) → prepared (tree_of w.definitions) d.operations name given ≡ Ok p → IsRefusedOrAnswered w d name given
+  planned : IsValid (tree_of w.definitions) d → (p : PreparedOf) → prepared (tree_of w.definitions) d.operations name given ≡ Ok p → IsRefusedOrAnswered s d name given
   planned valid p e =
       let is : IsPlan (plan_of p) = record { document = d; valid = valid; same = refl; name = name; given = given; prepares = e } in
-      let a = plan-answered w (plan_of p) has refl is in
+      let a = plan-answered s (plan_of p) has refl is in
       answered {plan = plan_of p} {text = a.0} valid (record { definitions = refl; bindings = refl; fragments = refl; prepares = e }) a.1
 
-  of-prepared : IsValid (tree_of w.definitions) d → (r : Result PreparedOf Unprepared) → prepared (tree_of w.definitions) d.operations name given ≡ r → IsRefusedOrAnswered w d name given
+  of-prepared : IsValid (tree_of w.definitions) d → (r : Result PreparedOf Unprepared) → prepared (tree_of w.definitions) d.operations name given ≡ r → IsRefusedOrAnswered s d name given
   of-prepared valid (Ok p) e = planned valid p e
   of-prepared valid (Err f) e = unprepared f valid e
 
-  of-verdict : (v : Option FaultOf) → IsVerdict (tree_of w.definitions) d v → IsRefusedOrAnswered w d name given
+  of-verdict : (v : Option FaultOf) → IsVerdict (tree_of w.definitions) d v → IsRefusedOrAnswered s d name given
   of-verdict (Some f) is = invalid f is
   of-verdict None is = of-prepared is (prepared (tree_of w.definitions) d.operations name given) refl
 
-  pub told-there : IsRefusedOrAnswered w d name given
-  told-there = let v = verdict-there (tree_of w.definitions) d in of-verdict v.0 v.1
+  pub outcome-there : IsRefusedOrAnswered s d name given
+  outcome-there = let v = verdict-there (tree_of w.definitions) d in of-verdict v.0 v.1

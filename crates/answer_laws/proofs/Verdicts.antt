@@ -13,10 +13,10 @@ use Rattle.selection_members.proofs.Below.{document-fields}
 use Rattle.field_merging.specs.Compare.{have_one_key}
 use Rattle.field_merging.specs.Members.{at, fields_of}
 use Rattle.field_merging.specs.Rule.{IsMerging, key_of}
-use Rattle.field_merging.specs.Told.{told_sets}
+use Rattle.field_merging.specs.Reports.{reports_of_sets}
 use Rattle.field_merging.proofs.Classes.{same-key}
 use Rattle.field_merging.proofs.Twins.{there, test-is}
-use Rattle.field_merging.proofs.Telling.{told-broken}
+use Rattle.field_merging.proofs.Telling.{report-broken}
 use Rattle.gq_check.specs.declared.fault.Rule.TheVariants as rule
 use Rattle.gq_check.specs.Verdict.{FaultOf, breaks, first_fault, IsVerdictAfter, IsVerdict}
 use Rattle.plan_laws.proofs.Counted.{many-document}
@@ -47,9 +47,9 @@ module _ (defs : List Definition) (d : Document) where
 
   merging : (broken : Option BrokenOf) × IsMerging p broken
   merging =
-      let told : List BrokenOf = told_sets D.one_key (clashes D (length p.fields) bounded) (key_of p) (sets_of p.document) in
-      let broken = told-broken D (length p.fields) (clashes D (length p.fields) bounded) (key_of p) reflexive (tells D (length p.fields) bounded) (sets_of p.document) (document-fields (length p.fields) p.document (many-document defs d)) in
-      (earliest told, (told, broken, refl))
+      let reported : List BrokenOf = reports_of_sets D.one_key (clashes D (length p.fields) bounded) (key_of p) (sets_of p.document) in
+      let broken = report-broken D (length p.fields) (clashes D (length p.fields) bounded) (key_of p) reflexive (tells D (length p.fields) bounded) (sets_of p.document) (document-fields (length p.fields) p.document (many-document defs d)) in
+      (earliest reported, (reported, broken, refl))
 
   after : (first : Option FaultOf) → (v : Option FaultOf) × IsVerdictAfter p first v
   after (Some f) = (Some f, refl)

@@ -17,13 +17,14 @@ ghost use Rattle.execution.specs.Rounds.{RuleOf, modes_of, AreLimited, HasLoader
 ghost use Rattle.gq_check.specs.Plans.{PlanOf};
 ghost use Rattle.gq_check.specs.Planned.{IsPlan};
 ghost use Rattle.gq_check.specs.Verdict.{FaultOf, IsVerdict};
-ghost use Rattle.world.specs.Worlds.{WorldOf, HasSources};
+ghost use Rattle.world.specs.Worlds.{HasSources};
 ghost use Rattle.world_answers.specs.Answers.{IsAnsweredAnew};
 ghost use Rattle.world_answers.specs.Lines.{IsAnswer};
-ghost use Rattle.answer_laws.specs.Told.{IsRefusedOrAnswered};
+ghost use Rattle.world_answers.specs.Services.{ServiceOf};
+ghost use Rattle.answer_laws.specs.Requests.{IsRefusedOrAnswered};
 
 /// Each text is a document, or has a first fault. `NoMemory`, which says nothing of a text, isn't counted as one.
-pub fn texts_are_told()
+pub fn texts_are_read()
     ensures { (text : List ℕ) → ((d : Document) × IsDocumentOf text d)
         ⊎ ((f : ParseFault) × (f ≢ parse.NoMemory) × IsParseFault text f) }
 {}
@@ -44,22 +45,25 @@ pub fn answers_are_there()
         → RespectsCacheKeys (modes_of rules) item → HoldsItems (modes_of rules) item M → (rounds : List (List ReplyOf)) × (end : Memory) × IsLawful (key_by_key item) rules p M rounds end }
 {}
 
-/// Each plan over the bindings of a world has an answer: a text that is that of direct execution, and a session of the world, new
-/// at first, in which it was answered with the headline. So only being out of memory keeps a plan from its answer.
+/// Each plan over the bindings of a world has an answer, whatever the limit: a text that is that of direct execution, and a session
+/// of the world, new at first, in which it was answered with the headline. So only being out of memory keeps a plan from its answer.
 pub fn plans_are_answered()
-    ensures { (w : WorldOf) (plan : PlanOf) → HasSources w → plan.bindings ≡ w.bindings → IsPlan plan → (text : List ℕ) × IsAnsweredAnew w plan text }
+    ensures { (s : ServiceOf) (plan : PlanOf) → HasSources s.world → plan.bindings ≡ s.world.bindings
+        → IsPlan plan → (text : List ℕ) × IsAnsweredAnew s plan text }
 {}
 
-/// Each request over a world whose query is a document comes to a fault of the document, or to one of the choice of its operation
+/// Each request to a service whose query is a document comes to a fault of the document, or to one of the choice of its operation
 /// and its variables, or to an answer.
-pub fn requests_are_told()
-    ensures { (w : WorldOf) (d : Document) (name : Option (List ℕ)) (given : Data) → HasSources w → IsRefusedOrAnswered w d name given }
+pub fn requests_are_answered()
+    ensures { (s : ServiceOf) (d : Document) (name : Option (List ℕ)) (given : Data) → HasSources s.world
+        → IsRefusedOrAnswered s d name given }
 {}
 
-/// Each line has an answer over a world, and so exactly one (`one_answer` of `world_answers`): it is no request, or its query is no
-/// document, or one to which `requests_are_told` applies, and a string can hold every name that a refusal tells. An array has the
+/// Each line has an answer by a service, and so exactly one (`one_answer` of `world_answers`): it is no request, or its query is no
+/// document, or one to which `requests_are_answered` applies, and a string can hold every name that a refusal tells. An array has the
 /// refusals of its values, and all of its plans can be answered in one session. Of a line that no memory holds, one of 2^63 bytes or
 /// more, this isn't said.
 pub fn lines_are_answered()
-    ensures { (w : WorldOf) (line : List ℕ) → HasSources w → length line < 2 ^ 63 → (text : List ℕ) × IsAnswer w line text }
+    ensures { (s : ServiceOf) (line : List ℕ) → HasSources s.world → length line < 2 ^ 63
+        → (text : List ℕ) × IsAnswer s line text }
 {}

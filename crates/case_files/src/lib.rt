@@ -1,6 +1,6 @@
-//! Tests as data: a driver's cases are lines of files, each an input beside what is to be told of it.
+//! Tests as data: a driver's cases are lines of files, each an input beside what is to be reported of it.
 //!
-//! A driver says by a [`Teller`] what is told of a case's text, and [`run`] does the rest: it reads the files that the program's
+//! A driver says by a [`Reporter`] what is reported of a case's text, and [`run`] does the rest: it reads the files that the program's
 //! words name, tells each case that fails, and at last how it ended. docs/TESTING.md says how cases are written.
 #![tactic(auto)]
 
@@ -9,5 +9,5 @@ mod running;
 mod symbols;
 
 pub use lines::{Case, Entry, entries};
-pub use running::{Asked, Teller, run};
+pub use running::{Question, Reporter, run};
 pub use symbols::plain;

@@ -4,7 +4,7 @@ use crate::symbols::plain;
 use anyhow::{Context, Result, bail};
 use std::alloc::Global;
 
-/// A text, and what is to be told of it.
+/// A text, and what is to be reported of it.
 #[derive(Drop)]
 pub struct Case {
     /// The number of the line on which what is wanted begins.

@@ -9,14 +9,14 @@ use std::rt::{Env, Files};
 
 /// What is asked of a text.
 #[derive(Drop)]
-pub struct Asked {
+pub struct Question {
     /// The words of the last `ask`.
     pub words: String,
     /// The texts of the files of the last `over`, as they are.
     pub over: Vec<String>,
 }
 
-impl Asked {
+impl Question {
     /// The text of the file of this number, from 0.
     pub fn file(&self, number: usize) -> Result<&str> {
         let text = self.over.get(number).context("no file to go by")?;
@@ -24,9 +24,9 @@ impl Asked {
     }
 }
 
-/// What is told of texts.
-pub trait Teller {
-    fn told(&self, alloc: Global, asked: &Asked, text: &str) -> Result<String>;
+/// What is reported of texts.
+pub trait Reporter {
+    fn report(&self, alloc: Global, asked: &Question, text: &str) -> Result<String>;
 }
 
 /// How many cases there were, and how many of them failed.
@@ -45,37 +45,37 @@ fn texts_of<R: Files + AllocGlobal>(rt: &R, files: &str) -> Result<Vec<String>> 
     Ok(texts)
 }
 
-/// Whether a case holds. One that doesn't is told on a line.
-fn holds<R: Print + AllocGlobal, T: Teller>(
+/// Whether a case holds. One that doesn't is reported on a line.
+fn holds<R: Print + AllocGlobal, T: Reporter>(
     rt: &R,
-    teller: &T,
-    asked: &Asked,
+    reporter: &T,
+    asked: &Question,
     file: &str,
     case: &Case,
 ) -> Result<bool> {
-    let told = match teller.told(rt.alloc(), asked, &case.text) {
-        Ok(told) => told,
+    let report = match reporter.report(rt.alloc(), asked, &case.text) {
+        Ok(report) => report,
         Err(error) => format!(in rt.alloc(); "an error: {error}")?,
     };
-    if told == case.wanted {
+    if report == case.wanted {
         return Ok(true);
     }
     let line = case.line;
     let text = case.text.as_str();
     let wanted = case.wanted.as_str();
     let words = asked.words.as_str();
-    println!(rt; "{file}:{line}: {words} of {text:?}: wanted {wanted:?}, found {told:?}")?;
+    println!(rt; "{file}:{line}: {words} of {text:?}: wanted {wanted:?}, found {report:?}")?;
     Ok(false)
 }
 
 /// Runs the cases of a file.
-fn run_file<R: Files + Print + AllocGlobal, T: Teller>(
+fn run_file<R: Files + Print + AllocGlobal, T: Reporter>(
     rt: &R,
-    teller: &T,
+    reporter: &T,
     file: &str,
 ) -> Result<Count> {
     let written = fs::read_to_string(rt, file).context(format_args!("reading {file}"))?;
-    let mut asked = Asked {
+    let mut asked = Question {
         words: String::new(rt.alloc()),
         over: Vec::new(rt.alloc()),
     };
@@ -89,7 +89,7 @@ fn run_file<R: Files + Print + AllocGlobal, T: Teller>(
             Entry::Over(files) => asked.over = texts_of(rt, &files)?,
             Entry::Case(case) => {
                 count.cases = count.cases.saturating_add(1);
-                if !holds(rt, teller, &asked, file, &case)? {
+                if !holds(rt, reporter, &asked, file, &case)? {
                     count.failing = count.failing.saturating_add(1);
                 }
             }
@@ -98,15 +98,15 @@ fn run_file<R: Files + Print + AllocGlobal, T: Teller>(
     Ok(count)
 }
 
-/// Runs the cases of the files that the words name. How many there are is told on standard error.
-fn run_files<R: Files + Env + Print + Eprint + AllocGlobal, T: Teller>(
+/// Runs the cases of the files that the words name. How many there are is reported on standard error.
+fn run_files<R: Files + Env + Print + Eprint + AllocGlobal, T: Reporter>(
     rt: &R,
-    teller: &T,
+    reporter: &T,
 ) -> Result<u64> {
     let mut files = 0_u64;
     let mut failing = 0_u64;
     for file in std::env::args(rt)?.skip(1) {
-        let count = run_file(rt, teller, &file).context(format_args!("{file}"))?;
+        let count = run_file(rt, reporter, &file).context(format_args!("{file}"))?;
         let cases = count.cases;
         eprintln!(rt; "{file}: {cases} cases")?;
         if cases == 0 {
@@ -123,11 +123,11 @@ fn run_files<R: Files + Env + Print + Eprint + AllocGlobal, T: Teller>(
 
 /// Runs the cases of the files that the program's words name: a line for each case that fails, and one that says how it ended.
 /// The status is 0 where all cases hold, and else 1, also where a file can't be read or has no case.
-pub fn run<R: Files + Env + Print + Eprint + AllocGlobal, T: Teller>(
+pub fn run<R: Files + Env + Print + Eprint + AllocGlobal, T: Reporter>(
     rt: &R,
-    teller: &T,
+    reporter: &T,
 ) -> ExitCode {
-    let (line, status) = match run_files(rt, teller) {
+    let (line, status) = match run_files(rt, reporter) {
         Ok(0) => (println!(rt; "all cases hold"), 0),
         Ok(failing) => (println!(rt; "cases that fail: {failing}"), 1),
         Err(error) => (println!(rt; "no verdict: {error:?}"), 1),

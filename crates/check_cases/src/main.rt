@@ -14,31 +14,31 @@ mod types;
 mod verdicts;
 
 use anyhow::{Result, bail};
-use case_files::{Asked, Teller};
+use case_files::{Question, Reporter};
 use document_parts::{Parts, condition_arguments};
 use gq_parser::parse;
 use gq_schema::Schema;
 use std::alloc::Global;
 use std::process::ExitCode;
 
-/// The teller of this crate.
+/// The reporter of this crate.
 struct Validation;
 
-impl Teller for Validation {
-    fn told(&self, alloc: Global, asked: &Asked, text: &str) -> Result<String> {
+impl Reporter for Validation {
+    fn report(&self, alloc: Global, asked: &Question, text: &str) -> Result<String> {
         match asked.words.as_str() {
             "table" => tables::table(alloc, text),
             "sets of a table" => tables::sets(alloc, text),
             "earliest" => rules::earliest(alloc, text),
             "usages" => types::usages(alloc, text),
             "overlaps" => types::overlaps(alloc, asked.file(0)?, text),
-            words => told_over(alloc, asked, words, text),
+            words => report_over(alloc, asked, words, text),
         }
     }
 }
 
-/// What is told over a schema.
-fn told_over(alloc: Global, asked: &Asked, words: &str, text: &str) -> Result<String> {
+/// What is reported over a schema.
+fn report_over(alloc: Global, asked: &Question, words: &str, text: &str) -> Result<String> {
     if let Some(request) = words.strip_prefix("plan ") {
         return verdicts::plan(alloc, asked, request, text);
     }
@@ -46,12 +46,12 @@ fn told_over(alloc: Global, asked: &Asked, words: &str, text: &str) -> Result<St
     match words {
         "verdict" => verdicts::verdict(alloc, schema, text),
         "want of memory" => verdicts::no_memory(alloc),
-        words => told_of_parts(alloc, schema, words, text),
+        words => report_of_parts(alloc, schema, words, text),
     }
 }
 
-/// What is told of the parts of a document.
-fn told_of_parts(alloc: Global, schema: &str, words: &str, text: &str) -> Result<String> {
+/// What is reported of the parts of a document.
+fn report_of_parts(alloc: Global, schema: &str, words: &str, text: &str) -> Result<String> {
     let schema = Schema::read(alloc, schema)?;
     let condition = condition_arguments(alloc)?;
     let document = parse(alloc, text)?;
@@ -59,13 +59,13 @@ fn told_of_parts(alloc: Global, schema: &str, words: &str, text: &str) -> Result
     match words {
         "complexity" => rules::complexity(alloc, &parts),
         "field merging" => merging::by_both(alloc, &parts),
-        "field merging alone" => merging::told(alloc, &parts),
-        words => told_by_name(alloc, &parts, words),
+        "field merging alone" => merging::report(alloc, &parts),
+        words => report_by_name(alloc, &parts, words),
     }
 }
 
 /// What a rule tells of a document, a list of its parts, or what spreads reach.
-fn told_by_name(alloc: Global, parts: &Parts, words: &str) -> Result<String> {
+fn report_by_name(alloc: Global, parts: &Parts, words: &str) -> Result<String> {
     if let Some(title) = words.strip_prefix("rule ") {
         return rules::by_both(alloc, title, parts);
     }

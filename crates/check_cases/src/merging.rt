@@ -12,7 +12,7 @@ use spread_graph::{Graph, fragment_cycles};
 use std::alloc::Global;
 
 /// What the rule tells of a document.
-pub fn told(alloc: Global, parts: &Parts) -> Result<String>
+pub fn report(alloc: Global, parts: &Parts) -> Result<String>
     requires { parts_in parts.now ≡ parts_of (parts_in parts.now).definitions (parts_in parts.now).document }
 {
     let graph = Graph::new(alloc, parts)?;
@@ -29,7 +29,7 @@ pub fn told(alloc: Global, parts: &Parts) -> Result<String>
 pub fn by_both(alloc: Global, parts: &Parts) -> Result<String>
     requires { parts_in parts.now ≡ parts_of (parts_in parts.now).definitions (parts_in parts.now).document }
 {
-    let found = told(alloc, parts)?;
+    let found = report(alloc, parts)?;
     let slow = displayed(alloc, slow_merging::field_merging(parts))?;
     if found == slow {
         Ok(found)

@@ -64,7 +64,7 @@ pub fn broken<'d>(alloc: Global, title: &str, parts: &Parts<'d>) -> Result<Optio
     })
 }
 
-/// How it is told, with its place.
+/// How it is reported, with its place.
 pub fn displayed(alloc: Global, broken: Option<Broken>) -> Result<String, AllocError> {
     let Some(broken) = broken else {
         return String::from_str(alloc, "kept");
@@ -88,7 +88,7 @@ const SLOW: &[&str] = &[
     "All Variables Used",
 ];
 
-/// What a rule tells of a document. Where one of the rules that have a slow program differs from that on it, this is told.
+/// What a rule tells of a document. Where one of the rules that have a slow program differs from that on it, this is reported.
 pub fn by_both(alloc: Global, title: &str, parts: &Parts) -> Result<String> {
     for title in SLOW {
         let found = displayed(alloc, broken(alloc, title, parts)?)?;
@@ -102,12 +102,12 @@ pub fn by_both(alloc: Global, title: &str, parts: &Parts) -> Result<String> {
 
 /// Whether a document is too complex.
 pub fn complexity(alloc: Global, parts: &Parts) -> Result<String> {
-    let told = if is_too_complex(parts) {
+    let report = if is_too_complex(parts) {
         "too complex"
     } else {
         "served"
     };
-    Ok(String::from_str(alloc, told)?)
+    Ok(String::from_str(alloc, report)?)
 }
 
 fn owner_of(owner: &str) -> Result<Owner> {

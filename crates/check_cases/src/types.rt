@@ -76,10 +76,10 @@ fn compare_at(
             let slow = is_usage_allowed(variable, default, location, !location_default.is_empty());
             *count = count.saturating_add(1);
             if is_kept(alloc, &schema, "All Variable Usages Are Allowed", &text)? != slow {
-                let told = format!(in alloc;
+                let report = format!(in alloc;
                     "{location}{location_default}, {text}: slowly {slow}"
                 )?;
-                return Ok(Some(told));
+                return Ok(Some(report));
             }
         }
     }
@@ -101,8 +101,8 @@ pub fn usages(alloc: Global, text: &str) -> Result<String> {
             continue;
         }
         for default in ["", default] {
-            if let Some(told) = compare_at(alloc, &types, location, default, &mut count)? {
-                return Ok(told);
+            if let Some(report) = compare_at(alloc, &types, location, default, &mut count)? {
+                return Ok(report);
             }
         }
     }

@@ -1,7 +1,7 @@
 //! Verdicts on documents, and plans of requests.
 
 use anyhow::{Context, Result};
-use case_files::{Asked, plain};
+use case_files::{Question, plain};
 use gq_check::{CheckFault, Plan, PrepareFault, check, prepare};
 use gq_parser::parse;
 use gq_schema::{Bindings, Input, Schema};
@@ -46,7 +46,7 @@ fn displayed_plan(alloc: Global, plan: &Plan) -> Result<String, AllocError> {
     )
 }
 
-/// What is told of a document; `valid` where nothing is.
+/// What is reported of a document; `valid` where nothing is.
 pub fn verdict(alloc: Global, schema: &str, text: &str) -> Result<String> {
     let schema = Schema::read(alloc, schema)?;
     let document = parse(alloc, text)?;
@@ -82,7 +82,7 @@ fn request_of(alloc: Global, request: &str) -> Result<Request> {
 }
 
 /// What the first two files say.
-fn read_served(alloc: Global, asked: &Asked) -> Result<Served> {
+fn read_served(alloc: Global, asked: &Question) -> Result<Served> {
     let schema = Schema::read(alloc, asked.file(0)?)?;
     let bindings = Bindings::read(alloc, &schema, asked.file(1)?)?;
     Ok(Served { schema, bindings })
@@ -104,7 +104,7 @@ fn planned(alloc: Global, served: &Served, request: &Request, text: &str) -> Res
 }
 
 /// What the plan of a valid document is, or the fault, of a request over the schema and bindings of the first two files.
-pub fn plan(alloc: Global, asked: &Asked, request: &str, text: &str) -> Result<String> {
+pub fn plan(alloc: Global, asked: &Question, request: &str, text: &str) -> Result<String> {
     let request = request_of(alloc, request)?;
     let served = read_served(alloc, asked)?;
     planned(alloc, &served, &request, text)

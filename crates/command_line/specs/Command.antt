@@ -16,6 +16,9 @@ workers_rule = record (new_rule (codes "workers")) { long = Some (codes "workers
 abbrev pub max_batch_rule : Rule
 max_batch_rule = record (new_rule (codes "max-batch")) { long = Some (codes "max-batch"); value_names = 1; parser = Some (parser.Signed (pos 1) (pos 65535)) }
 
+abbrev pub max_answer_rule : Rule
+max_answer_rule = record (new_rule (codes "max-answer")) { long = Some (codes "max-answer"); value_names = 1; parser = Some (parser.Signed (pos 1) (pos 4294967295)) }
+
 abbrev pub explain_rule : Rule
 explain_rule = record (new_rule (codes "explain")) { long = Some (codes "explain"); action = Some SetTrue }
 
@@ -31,8 +34,8 @@ unnamed = let a : App = new_app (codes "query_cli") in record a { top = record a
 
 -- the options
 abbrev pub options : App
-options = with_rule (with_rule (with_rule (with_rule (with_rule unnamed schema_rule) bindings_rule) workers_rule) max_batch_rule) explain_rule
+options = with_rule (with_rule (with_rule (with_rule (with_rule (with_rule unnamed schema_rule) bindings_rule) workers_rule) max_batch_rule) max_answer_rule) explain_rule
 
--- two files, two numbers and a flag if wanted, a file of requests, and any number of tables
+-- two files, three numbers and a flag if wanted, a file of requests, and any number of tables
 abbrev pub command_line : App
 command_line = with_rule (with_rule options requests_rule) table_rule

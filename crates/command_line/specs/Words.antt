@@ -52,6 +52,7 @@ pub record IsWords (rows : List Row) (words : Words) : Type 0 where
   pub bindings : string_bytes words.bindings ≡ text_at rows (codes "bindings")
   pub workers : IsNumber (one_of (codes "workers") rows) words.workers
   pub max_batch : IsNumber (one_of (codes "max-batch") rows) words.max_batch
+  pub max_answer : IsNumber (one_of (codes "max-answer") rows) words.max_answer
   pub explain : IsFlag (one_of (codes "explain") rows) words.explain
   pub requests : string_bytes words.requests ≡ text_at rows (codes "REQUESTS")
   pub tables : AreTables (table_words rows) words.tables.items

@@ -2,7 +2,7 @@
 
 ghost use Rattle.std.specs.Prelude.{◌≡◌, IfOk, false};
 ghost use Rattle.clap.specs.Words.{app_of, rule_of};
-ghost use Rattle.command_line.specs.Command.{command_line, schema_rule, bindings_rule, workers_rule, max_batch_rule, explain_rule, requests_rule, table_rule};
+ghost use Rattle.command_line.specs.Command.{command_line, schema_rule, bindings_rule, workers_rule, max_batch_rule, max_answer_rule, explain_rule, requests_rule, table_rule};
 
 use clap::{Arg, ArgAction, Command};
 use std::alloc::{AllocError, Global};
@@ -31,6 +31,20 @@ fn max_batch<'a>(alloc: Global) -> Arg<'a>
         .value_name("N")
         .help("At most how many keys one batch has, from 1 to 65535; no bound if left out")
         .value_parser(clap::value_parser!(u32).range(1..=65_535))
+}
+
+// The option for a number of bytes, at least 1 and at most 4,294,967,295.
+fn max_answer<'a>(alloc: Global) -> Arg<'a>
+    ensures rule { rule_of result ≡ max_answer_rule }
+    ensures local { result.global ≡ false }
+{
+    Arg::new(alloc, "max-answer")
+        .long("max-answer")
+        .value_name("BYTES")
+        .help(
+            "At most how many bytes one answer has, from 1 to 4294967295; a longer one is refused; no bound if left out",
+        )
+        .value_parser(clap::value_parser!(u32).range(1..=4_294_967_295))
 }
 
 // A flag.
@@ -113,6 +127,7 @@ pub fn command<'a>(alloc: Global) -> Result<Command<'a>, AllocError>
         .arg(bindings(alloc))?
         .arg(workers(alloc))?
         .arg(max_batch(alloc))?
+        .arg(max_answer(alloc))?
         .arg(explain(alloc))?
         .arg(requests(alloc))?
         .arg(tables(alloc))

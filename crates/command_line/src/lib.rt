@@ -11,6 +11,6 @@ mod origin;
 mod stop;
 mod words;
 
-pub use origin::{End, LocatedStop, Origin, Spot, Subject};
+pub use origin::{End, LocatedStop, Location, Origin, Subject};
 pub use stop::Stop;
 pub use words::{TableFile, Words};

@@ -28,7 +28,7 @@ pub enum Subject {
 
 /// Where in a file a fault is, or why the file can't be read.
 #[derive(Clone, Copy, Debug)]
-pub enum Spot {
+pub enum Location {
     /// Nowhere but in the whole file.
     Whole,
     /// In a line, from 1.
@@ -43,7 +43,7 @@ pub enum Spot {
 #[derive(Clone, Copy, Debug)]
 pub struct Origin {
     pub subject: Subject,
-    pub spot: Spot,
+    pub location: Location,
 }
 
 /// How a run ends, and where the fault is, as far as that is known.
@@ -61,10 +61,10 @@ pub struct End {
 }
 
 // An origin that is known.
-fn in_file(subject: Subject, spot: Spot) -> Option<Origin>
-    ensures { result ≡ in_file subject spot }
+fn in_file(subject: Subject, location: Location) -> Option<Origin>
+    ensures { result ≡ in_file subject location }
 {
-    Some(Origin { subject, spot })
+    Some(Origin { subject, location })
 }
 
 // The place of a schema's fault, and the line of a bindings' one. Want of memory is nowhere.
@@ -72,17 +72,17 @@ fn origin_of_schema(fault: &SchemaFault) -> Option<Origin>
     ensures { result ≡ origin_of_schema fault.now }
 {
     match fault {
-        SchemaFault::Syntax(place) => in_file(Subject::Schema, Spot::At(*place)),
-        SchemaFault::Duplicate(place) => in_file(Subject::Schema, Spot::At(*place)),
-        SchemaFault::UnknownType(place) => in_file(Subject::Schema, Spot::At(*place)),
-        SchemaFault::BadImplements(place) => in_file(Subject::Schema, Spot::At(*place)),
-        SchemaFault::NoQueryRoot => in_file(Subject::Schema, Spot::Whole),
-        SchemaFault::ReservedName(place) => in_file(Subject::Schema, Spot::At(*place)),
-        SchemaFault::NotServed(place) => in_file(Subject::Schema, Spot::At(*place)),
-        SchemaFault::BadBinding(line) => in_file(Subject::Bindings, Spot::Line(*line)),
+        SchemaFault::Syntax(place) => in_file(Subject::Schema, Location::At(*place)),
+        SchemaFault::Duplicate(place) => in_file(Subject::Schema, Location::At(*place)),
+        SchemaFault::UnknownType(place) => in_file(Subject::Schema, Location::At(*place)),
+        SchemaFault::BadImplements(place) => in_file(Subject::Schema, Location::At(*place)),
+        SchemaFault::NoQueryRoot => in_file(Subject::Schema, Location::Whole),
+        SchemaFault::ReservedName(place) => in_file(Subject::Schema, Location::At(*place)),
+        SchemaFault::NotServed(place) => in_file(Subject::Schema, Location::At(*place)),
+        SchemaFault::BadBinding(line) => in_file(Subject::Bindings, Location::Line(*line)),
         SchemaFault::NoMemory => None,
-        SchemaFault::BadKind(place) => in_file(Subject::Schema, Spot::At(*place)),
-        SchemaFault::BadDefault(place) => in_file(Subject::Schema, Spot::At(*place)),
+        SchemaFault::BadKind(place) => in_file(Subject::Schema, Location::At(*place)),
+        SchemaFault::BadDefault(place) => in_file(Subject::Schema, Location::At(*place)),
     }
 }
 
@@ -93,7 +93,7 @@ fn origin_of_world(fault: &WorldFault) -> Option<Origin>
     match fault {
         WorldFault::Schema(fault) => origin_of_schema(fault),
         WorldFault::NoSuchTable | WorldFault::NoSuchColumn => {
-            in_file(Subject::Bindings, Spot::Whole)
+            in_file(Subject::Bindings, Location::Whole)
         }
         WorldFault::BadLimit | WorldFault::DuplicateTable | WorldFault::NoMemory => None,
     }
@@ -103,8 +103,11 @@ fn origin_of_serve(fault: ServeFault) -> Option<Origin>
     ensures { result ≡ origin_of_serve fault }
 {
     match fault {
-        ServeFault::LineTooLong | ServeFault::ReadFault => in_file(Subject::Requests, Spot::Whole),
-        ServeFault::WriteFault => in_file(Subject::Output, Spot::Whole),
+        ServeFault::LineTooLong | ServeFault::ReadFault => in_file(
+            Subject::Requests,
+            Location::Whole,
+        ),
+        ServeFault::WriteFault => in_file(Subject::Output, Location::Whole),
         ServeFault::BadCount | ServeFault::NoMemory => None,
     }
 }
@@ -174,7 +177,7 @@ impl Words {
 
 // A line of a file, or the file alone for line 0.
 fn written_line(alloc: Global, file: &str, line: u64) -> Result<String, AllocError>
-    ensures { IfOk result (λ text. IsWritten file.now (Spot.Line line) (string_bytes text)) }
+    ensures { IfOk result (λ text. IsWritten file.now (Location.Line line) (string_bytes text)) }
 {
     if line == 0 {
         return String::from_str(alloc, file);
@@ -184,7 +187,7 @@ fn written_line(alloc: Global, file: &str, line: u64) -> Result<String, AllocErr
 
 // A line and a column of a file.
 fn written_place(alloc: Global, file: &str, place: Place) -> Result<String, AllocError>
-    ensures { IfOk result (λ text. IsWritten file.now (Spot.At place) (string_bytes text)) }
+    ensures { IfOk result (λ text. IsWritten file.now (Location.At place) (string_bytes text)) }
 {
     let Place { line, column } = place;
     Ok(format!(in alloc; "{file}:{line}:{column}")?)
@@ -192,7 +195,7 @@ fn written_place(alloc: Global, file: &str, place: Place) -> Result<String, Allo
 
 // A file, and what the system says of it.
 fn written_reason(alloc: Global, file: &str, reason: io::Error) -> Result<String, AllocError>
-    ensures { IfOk result (λ text. IsWritten file.now (Spot.Reason reason) (string_bytes text)) }
+    ensures { IfOk result (λ text. IsWritten file.now (Location.Reason reason) (string_bytes text)) }
 {
     let mut text = format!(in alloc; "{file}: ")?;
     let reason = reason.to_string(alloc)?;
@@ -201,14 +204,14 @@ fn written_reason(alloc: Global, file: &str, reason: io::Error) -> Result<String
 }
 
 // The file, and where in it.
-fn written(alloc: Global, file: &str, spot: Spot) -> Result<String, AllocError>
-    ensures { IfOk result (λ text. IsWritten file.now spot (string_bytes text)) }
+fn written(alloc: Global, file: &str, location: Location) -> Result<String, AllocError>
+    ensures { IfOk result (λ text. IsWritten file.now location (string_bytes text)) }
 {
-    match spot {
-        Spot::Whole => String::from_str(alloc, file),
-        Spot::Line(line) => written_line(alloc, file, line),
-        Spot::At(place) => written_place(alloc, file, place),
-        Spot::Reason(reason) => written_reason(alloc, file, reason),
+    match location {
+        Location::Whole => String::from_str(alloc, file),
+        Location::Line(line) => written_line(alloc, file, line),
+        Location::At(place) => written_place(alloc, file, place),
+        Location::Reason(reason) => written_reason(alloc, file, reason),
     }
 }
 
@@ -220,7 +223,7 @@ fn explanation(alloc: Global, words: &Words, origin: Option<Origin>) -> Option<S
         return None;
     }
     let origin = origin?;
-    match written(alloc, words.file(origin.subject), origin.spot) {
+    match written(alloc, words.file(origin.subject), origin.location) {
         Ok(text) => Some(text),
         Err(_) => None,
     }

@@ -18,7 +18,8 @@ pub struct TableFile {
     pub file: String,
 }
 
-/// The parts of a command line: `--schema F --bindings F [--workers N] [--max-batch N] [--explain] REQUESTS [NAME=F]..`.
+/// The parts of a command line: `--schema F --bindings F [--workers N] [--max-batch N]
+/// [--max-answer BYTES] [--explain] REQUESTS [NAME=F]..`.
 #[derive(Debug, Drop)]
 pub struct Words {
     /// The file of the schema.
@@ -29,6 +30,8 @@ pub struct Words {
     pub workers: Option<u32>,
     /// The batch limit, from 1 to 65,535; `None`: no limit.
     pub max_batch: Option<u32>,
+    /// How many bytes one answer has at most, from 1 to 4,294,967,295; `None`: no limit.
+    pub max_answer: Option<u32>,
     /// Whether a run that ends by a fault says where it is.
     pub explain: bool,
     /// The file of the request lines.
@@ -131,6 +134,7 @@ fn words_of(alloc: Global, matches: &ArgMatches<'_>) -> Result<Words, Stop>
         bindings: text_of(alloc, matches, "bindings")?,
         workers: number_of(matches, "workers"),
         max_batch: number_of(matches, "max-batch"),
+        max_answer: number_of(matches, "max-answer"),
         explain: is_given(matches, "explain"),
         requests: text_of(alloc, matches, "REQUESTS")?,
         tables,

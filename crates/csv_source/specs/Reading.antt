@@ -147,18 +147,18 @@ IsDevice fault.TooManyRows = ⊥
 IsDevice fault.DuplicateColumn = ⊥
 IsDevice fault.NoSuchColumn = ⊥
 
--- what is told of a failed read of `csv`
-abbrev pub told_of : ErrorKind → TableFault
-told_of kind.OutOfMemory = fault.NoMemory
-told_of (kind.Io e) = fault.ReadFault
-told_of (kind.UnequalLengths pos expected len) = fault.ReadFault
-told_of (kind.Utf8 pos err) = fault.ReadFault
-told_of (kind.Serialize why) = fault.ReadFault
-told_of (kind.Deserialize pos err) = fault.ReadFault
+-- what is reported of a failed read of `csv`
+abbrev pub reported_fault : ErrorKind → TableFault
+reported_fault kind.OutOfMemory = fault.NoMemory
+reported_fault (kind.Io e) = fault.ReadFault
+reported_fault (kind.UnequalLengths pos expected len) = fault.ReadFault
+reported_fault (kind.Utf8 pos err) = fault.ReadFault
+reported_fault (kind.Serialize why) = fault.ReadFault
+reported_fault (kind.Deserialize pos err) = fault.ReadFault
 
 -- `csv` stopped this reader for the reader underneath or for memory, which the fault tells
 pub record IsStopped {R : Type 0} (s : Reader R) (e : TableFault) : Type 0 where
   pub why : ErrorKind
-  pub told : e ≡ told_of why
+  pub reported : e ≡ reported_fault why
   pub stops : stops_reader why ≡ true
   pub failed : has_failed s ≡ true

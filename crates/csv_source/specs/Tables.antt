@@ -10,6 +10,10 @@ use Rattle.load_memory.specs.declared.key.KeyMode.TheVariants.{Exact}
 abbrev pub rows_of : SheetOf → List RowOf
 rows_of s = map (paired s.names) s.rows
 
+-- the field at a place of a row equals a text
+abbrev pub equals_at : KeyMode → List (List ℕ) → ℕ → List ℕ → Bool
+equals_at mode fields place t = bytes_eq (fold_text mode t) (fold_text mode (get_or fields place []))
+
 -- a field equals a folded text; an empty field is null, and equals none
 abbrev pub cell_is : KeyMode → List ℕ → Option (List ℕ) → Bool
 cell_is mode folded None = false

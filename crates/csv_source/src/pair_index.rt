@@ -1,11 +1,11 @@
 //! The index of two columns, by which the rows of a pair of texts are found.
-ghost use Rattle.std.specs.Prelude.{◌≡◌, ◌<◌, ◌+◌, ◌&&◌, [], IfOk, IfErr, OnOk, bytes_eq, get_or, length, Contains, filter};
+ghost use Rattle.std.specs.Prelude.{◌≡◌, ◌<◌, ◌+◌, ◌&&◌, [], IfOk, IfErr, OnOk, get_or, length, Contains};
 ghost use Rattle.std.specs.Arc.{arc_value};
-ghost use Rattle.load_memory.specs.Keys.{fold_text};
+ghost use Rattle.load_memory.specs.Keys.{pair};
 ghost use Rattle.load_memory.specs.Rows.{IsRectangular};
 ghost use Rattle.csv_source.specs.Chains.{AreColumns, IsPairLinkedIn};
 ghost use Rattle.csv_source.specs.Faults.{PairFault};
-ghost use Rattle.csv_source.specs.Tables.{rows_of, has_pair};
+ghost use Rattle.csv_source.specs.Tables.{rows_of, rows_by, two_columns, equals_at};
 
 use crate::fault::TableFault;
 use crate::hash::pair_bucket;
@@ -136,8 +136,8 @@ impl PairIndex {
     /// The rows whose first column equals the first text and whose second column equals the second, in file order. An
     /// empty field equals no text.
     pub fn rows(&self, alloc: Global, one: &str, two: &str) -> Result<Vec<Row>, NoMemory>
-        ensures { let mode = self.now.mode in IfOk result (λ v. v.items ≡ filter
-            (has_pair mode self.now.column self.now.second (fold_text mode one.now) (fold_text mode two.now)) self.now.rows) }
+        ensures { IfOk result (λ v. v.items
+            ≡ rows_by self.now.mode self.now.rows (two_columns self.now.column self.now.second) (pair one.now two.now)) }
     {
         let mut found = Vec::new(alloc);
         let mut place = self.first[pair_bucket(self.by.mode, self.first.len(), one, two)];
@@ -156,8 +156,8 @@ fn is_same_pair(sheet: &Sheet, by: Pairing, row: u32, one: &str, two: &str) -> b
     requires row { row < length sheet.now.rows }
     requires column { by.column < length sheet.now.names }
     requires second { by.second < length sheet.now.names }
-    ensures { result ≡ (bytes_eq (fold_text by.mode one.now) (fold_text by.mode (get_or (get_or sheet.now.rows row []) by.column []))
-        && bytes_eq (fold_text by.mode two.now) (fold_text by.mode (get_or (get_or sheet.now.rows row []) by.second []))) }
+    ensures { let fields = get_or sheet.now.rows row [] in result
+        ≡ (equals_at by.mode fields by.column one.now && equals_at by.mode fields by.second two.now) }
 {
     is_same(by.mode, sheet.field(row, by.column), one)
         && is_same(by.mode, sheet.field(row, by.second), two)

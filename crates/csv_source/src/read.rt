@@ -5,7 +5,7 @@ ghost use Rattle.csv.specs.Reading.{AreRecords, default_config, strip_bom, error
 ghost use Rattle.csv.specs.Records.{AllText, fields_of};
 ghost use Rattle.csv.specs.declared.parser.State.TheVariants as st;
 ghost use Rattle.load_memory.specs.Rows.{draft_with_names, draft_with_row};
-ghost use Rattle.csv_source.specs.Reading.{IsPlain, StandsBehind, ReadsMore, HasEnded, IsDevice, IsStopped, told_of};
+ghost use Rattle.csv_source.specs.Reading.{IsPlain, StandsBehind, ReadsMore, HasEnded, IsDevice, IsStopped, reported_fault};
 ghost use Rattle.csv_source.specs.Reading.{IsHeader, HeaderFault, RowFault, ReadIs, Repeats};
 
 use crate::fault::TableFault;
@@ -23,7 +23,7 @@ const MAX_ROWS: u32 = 1_000_000;
 // What a failed read means.
 fn device(error: Error) -> TableFault
     ensures device { IsDevice result }
-    ensures told { result ≡ told_of (error_kind error) }
+    ensures reported { result ≡ reported_fault (error_kind error) }
 {
     match error.into_kind() {
         ErrorKind::OutOfMemory => TableFault::NoMemory,
@@ -125,8 +125,8 @@ fn add_fields(sheet: &mut SheetBuilder, fields: &StringRecord) -> Result<(), NoM
 fn add_row(sheet: &mut SheetBuilder, raw: ByteRecord) -> Result<ByteRecord, TableFault>
     requires none { sheet.old.begun ≡ [] }
     requires room { length sheet.old.rows + 1 < 2 ^ 32 }
-    ensures ok { OnOk result ((sheet.new ≡ draft_with_row sheet.old (fields_of raw))
-        × (length (fields_of raw) ≡ length sheet.old.names) × AllText (fields_of raw)) }
+    ensures ok { let row = fields_of raw in OnOk result ((sheet.new ≡ draft_with_row sheet.old row)
+        × (length row ≡ length sheet.old.names) × AllText row) }
     ensures err { IfErr result (RowFault sheet.old.names (fields_of raw)) }
 {
     if raw.len() != sheet.width() {

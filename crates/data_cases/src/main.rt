@@ -7,15 +7,15 @@ mod keys;
 mod memory;
 mod queue;
 mod readers;
+mod report;
 mod requests;
 mod serving;
 mod sources;
 mod tables;
-mod told;
 mod writing;
 
+use report::Data;
 use std::process::ExitCode;
-use told::Data;
 
 fn main(rt: HostRuntime) -> ExitCode {
     case_files::run(&rt, &Data { rt: &rt })

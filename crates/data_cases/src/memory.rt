@@ -175,31 +175,31 @@ const LOOKED_UP: &[&str] = &["a", "A", "b", "B", "", "*"];
 fn known(alloc: Global, memory: &Memory, done: bool) -> Result<String, NoMemory> {
     let count = if memory.is_empty() { 0 } else { memory.len() };
     let sign = if done { "" } else { "not done, " };
-    let mut told = format!(in alloc; "{sign}{count}:")?;
+    let mut report = format!(in alloc; "{sign}{count}:")?;
     for loader in 0..memory.modes().len() {
         for key in LOOKED_UP {
             let cached = cached(alloc, key, memory.mode(loader))?;
             if let Some(outcome) = memory.get(loader, &cached) {
                 let fault = outcome_text(outcome);
                 let known = format!(in alloc; " {loader}{key}={fault}")?;
-                told.push_str(&known)?;
+                report.push_str(&known)?;
             }
         }
     }
-    Ok(told)
+    Ok(report)
 }
 
 /// What is known after each step, of a memory that knows nothing at first.
-pub fn told<R: Wait + AllocGlobal>(rt: &R, text: &str) -> Result<String> {
+pub fn report<R: Wait + AllocGlobal>(rt: &R, text: &str) -> Result<String> {
     let alloc = rt.alloc();
     let mut memory = three_loaders(alloc)?;
-    let mut told = String::new(alloc);
+    let mut report = String::new(alloc);
     for line in text.lines() {
         let done = step(rt, &mut memory, line)?;
-        if !told.is_empty() {
-            told.push('\n')?;
+        if !report.is_empty() {
+            report.push('\n')?;
         }
-        told.push_str(&known(alloc, &memory, done)?)?;
+        report.push_str(&known(alloc, &memory, done)?)?;
     }
-    Ok(told)
+    Ok(report)
 }

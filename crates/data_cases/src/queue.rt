@@ -89,7 +89,7 @@ fn two_rounds(
     Ok(text)
 }
 
-/// What is told of a loader of this limit that cuts keys, or why there is none.
+/// What is reported of a loader of this limit that cuts keys, or why there is none.
 fn cut(alloc: Global, texts: &str, max: Option<u32>) -> Result<String, NoMemory> {
     let source = Scripted { items: None };
     match Loader::new(alloc, "users", source, KeyMode::Exact, max) {
@@ -121,7 +121,7 @@ fn slowly_cut(alloc: Global, texts: &str, max: Option<u32>) -> Result<String, Al
 }
 
 /// What a loader cuts, as of `1 2 3 by 2` or `1 2 3 by none`: the real one and a plain slow program have to agree.
-pub fn cut_told(alloc: Global, text: &str) -> Result<String> {
+pub fn cut_report(alloc: Global, text: &str) -> Result<String> {
     let (texts, max) = text.split_once("by ").context("no limit")?;
     let texts = texts.trim();
     let max = if max == "none" {
@@ -129,12 +129,12 @@ pub fn cut_told(alloc: Global, text: &str) -> Result<String> {
     } else {
         Some(max.parse()?)
     };
-    let told = cut(alloc, texts, max)?;
+    let report = cut(alloc, texts, max)?;
     let slow = slowly_cut(alloc, texts, max)?;
-    if told == slow {
-        return Ok(told);
+    if report == slow {
+        return Ok(report);
     }
-    Ok(format!(in alloc; "{told}, and slowly {slow}")?)
+    Ok(format!(in alloc; "{report}, and slowly {slow}")?)
 }
 
 /// The reply to an order of three keys.
@@ -165,7 +165,7 @@ fn reply_text(alloc: Global, reply: &Reply) -> Result<String, AllocError> {
 }
 
 /// The reply to three keys of a source that gives so many items, or `fails`.
-pub fn run_told(alloc: Global, text: &str) -> Result<String> {
+pub fn run_report(alloc: Global, text: &str) -> Result<String> {
     let items = if text == "fails" {
         None
     } else {
@@ -178,20 +178,20 @@ pub fn run_told(alloc: Global, text: &str) -> Result<String> {
 fn wanted(alloc: Global, wants: &mut Wants, text: &str) -> Result<String>
     requires { 2 ≤ length wants.old }
 {
-    let mut told = String::new(alloc);
+    let mut report = String::new(alloc);
     for asked in text.split(", ") {
         let (loader, key) = asked.split_once(' ').context("no key")?;
         let loader = if loader == "0" { 0 } else { 1 };
         let is_new = wants.add(loader, key_of(alloc, key)?)?;
-        told.push_str(if is_new { "new " } else { "known " })?;
+        report.push_str(if is_new { "new " } else { "known " })?;
     }
-    push_keys(alloc, &mut told, 0, "", wants.keys(0))?;
-    push_keys(alloc, &mut told, 1, "", wants.keys(1))?;
-    Ok(told)
+    push_keys(alloc, &mut report, 0, "", wants.keys(0))?;
+    push_keys(alloc, &mut report, 1, "", wants.keys(1))?;
+    Ok(report)
 }
 
-/// What is told of keys that are wanted in turn, as `0 Ada, 1 aDA`, of a loader that compares bytes and one that compares letters.
-pub fn wants_told(alloc: Global, text: &str) -> Result<String> {
+/// What is reported of keys that are wanted in turn, as `0 Ada, 1 aDA`, of a loader that compares bytes and one that compares letters.
+pub fn wants_report(alloc: Global, text: &str) -> Result<String> {
     let memory = three_loaders(alloc)?;
     if memory.modes().len() < 2 {
         bail!("no loaders");

@@ -32,7 +32,7 @@ impl<'a> Read for Failing<'a> {
     }
 }
 
-/// What is told of a table whose reader fails at a call.
+/// What is reported of a table whose reader fails at a call.
 fn failed_at(alloc: Global, text: &[u8], fails_at: usize, kind: io::ErrorKind) -> &'static str {
     let reader = Failing {
         text,
@@ -47,8 +47,8 @@ fn failed_at(alloc: Global, text: &[u8], fails_at: usize, kind: io::ErrorKind) -
     }
 }
 
-/// What is told of a table, as `fails: id,name`, whose reader fails or is interrupted at each of its calls, or else at none.
-pub fn told(alloc: Global, text: &str) -> Result<String> {
+/// What is reported of a table, as `fails: id,name`, whose reader fails or is interrupted at each of its calls, or else at none.
+pub fn report(alloc: Global, text: &str) -> Result<String> {
     let (kind, text) = match text.split_once(": ") {
         Some(("fails", text)) => (io::ErrorKind::BrokenPipe, text),
         Some(("is interrupted", text)) => (io::ErrorKind::Interrupted, text),

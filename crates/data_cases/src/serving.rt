@@ -10,7 +10,7 @@ use std::io::{ErrorKind, Read};
 const REFUSAL: &str = "{\"errors\":[{\"message\":\"not a request\"}]}";
 
 /// What serving answers, and the faults of the reader and of the writer.
-type Told = (Result<u64, ServeFault>, u64, u64);
+type Ending = (Result<u64, ServeFault>, u64, u64);
 
 /// The answer of a line: a text, if there is one; otherwise the line itself, or `?` where it is no text. A line that begins with
 /// `!` wants memory.
@@ -31,7 +31,7 @@ fn served<R: Read + Drop>(
     fixed: Option<&'static str>,
     reader: R,
     narrow: &mut Narrow,
-) -> Told {
+) -> Ending {
     let mut reader = Counted::new(reader);
     let mut writer = Counted::new(narrow);
     let result = serve(alloc, &mut reader, &mut writer, |line: &[u8]| {
@@ -43,8 +43,8 @@ fn served<R: Read + Drop>(
 }
 
 /// How serving ended: how many lines there were, or its fault with those of the reader and of the writer.
-fn end_of(alloc: Global, told: Told) -> Result<String, AllocError> {
-    match told {
+fn end_of(alloc: Global, report: Ending) -> Result<String, AllocError> {
+    match report {
         (Ok(1), 0, 0) => String::from_str(alloc, "1 line"),
         (Ok(lines), 0, 0) => format!(in alloc; "{lines} lines"),
         (Ok(lines), reads, writes) => {
@@ -55,11 +55,11 @@ fn end_of(alloc: Global, told: Told) -> Result<String, AllocError> {
 }
 
 /// How many lines a text has, and what is written where each answers itself.
-pub fn lines_told(alloc: Global, text: &str) -> Result<String> {
+pub fn lines_report(alloc: Global, text: &str) -> Result<String> {
     let input = bytes_of(alloc, text)?;
     let mut writer = Narrow::new(alloc, usize::MAX, 0, ErrorKind::Other);
-    let told = served(alloc, None, input.as_slice(), &mut writer);
-    let end = end_of(alloc, told)?;
+    let report = served(alloc, None, input.as_slice(), &mut writer);
+    let end = end_of(alloc, report)?;
     let written = str::from_utf8(writer.bytes.as_slice())?;
     Ok(format!(in alloc; "{end}: {written}")?)
 }
@@ -102,12 +102,12 @@ fn plainly_cut(alloc: Global, input: &[u8]) -> Result<(u64, Vec<u8>), AllocError
 fn is_cut_plainly(alloc: Global, input: &[u8]) -> Result<bool, AllocError> {
     let (lines, written) = plainly_cut(alloc, input)?;
     let mut writer = Narrow::new(alloc, usize::MAX, 0, ErrorKind::Other);
-    let told = served(alloc, None, input, &mut writer);
-    Ok(told == (Ok(lines), 0, 0) && writer.bytes.as_slice() == written.as_slice())
+    let report = served(alloc, None, input, &mut writer);
+    Ok(report == (Ok(lines), 0, 0) && writer.bytes.as_slice() == written.as_slice())
 }
 
 /// All texts of at most four characters out of three, or so many numbered lines: each is to be cut as by a plain program.
-pub fn bytes_told(alloc: Global, text: &str) -> Result<String> {
+pub fn bytes_report(alloc: Global, text: &str) -> Result<String> {
     if let Some(count) = text.strip_suffix(" numbered lines") {
         let count: u32 = count.parse()?;
         let mut input = String::new(alloc);
@@ -127,12 +127,12 @@ pub fn bytes_told(alloc: Global, text: &str) -> Result<String> {
     Ok(String::from_str(alloc, "alike")?)
 }
 
-/// What is told of lines that are refused, behind how many bytes the writer takes at a call, as `1: []`.
-pub fn fixed_told(alloc: Global, text: &str) -> Result<String> {
+/// What is reported of lines that are refused, behind how many bytes the writer takes at a call, as `1: []`.
+pub fn fixed_report(alloc: Global, text: &str) -> Result<String> {
     let (takes, text) = text.split_once(": ").context("no number of bytes")?;
     let mut writer = Narrow::new(alloc, takes.parse()?, 0, ErrorKind::Other);
-    let told = served(alloc, Some(REFUSAL), text.as_bytes(), &mut writer);
-    let end = end_of(alloc, told)?;
+    let report = served(alloc, Some(REFUSAL), text.as_bytes(), &mut writer);
+    let end = end_of(alloc, report)?;
     let written = writer.bytes.len();
     let flushes = writer.flushes;
     Ok(format!(in alloc; "{end}, {written} bytes, {flushes} flushes")?)
@@ -147,8 +147,8 @@ fn kind_of(word: &str) -> Result<ErrorKind> {
     }
 }
 
-/// What is told of two lines whose reader gives a byte at a call, and fails or is interrupted at one, as `fails at 3`.
-pub fn reader_told(alloc: Global, text: &str) -> Result<String> {
+/// What is reported of two lines whose reader gives a byte at a call, and fails or is interrupted at one, as `fails at 3`.
+pub fn reader_report(alloc: Global, text: &str) -> Result<String> {
     let (word, call) = text.split_once(" at ").context("no call")?;
     let reader = Slow {
         rest: b"[]\n[]\n",
@@ -157,8 +157,8 @@ pub fn reader_told(alloc: Global, text: &str) -> Result<String> {
         kind: kind_of(word)?,
     };
     let mut writer = Narrow::new(alloc, usize::MAX, 0, ErrorKind::Other);
-    let told = served(alloc, Some(REFUSAL), reader, &mut writer);
-    let end = end_of(alloc, told)?;
+    let report = served(alloc, Some(REFUSAL), reader, &mut writer);
+    let end = end_of(alloc, report)?;
     let written = writer.bytes.len();
     Ok(format!(in alloc; "{end}, {written} bytes")?)
 }
@@ -168,7 +168,7 @@ pub fn reader_told(alloc: Global, text: &str) -> Result<String> {
 fn is_written(alloc: Global, kind: ErrorKind, call: u32) -> bool {
     let mut writer = Narrow::new(alloc, 1, call, kind);
     writer.flush_fails = call == 0;
-    let told = served(alloc, Some(REFUSAL), b"[]\n[]\n".as_slice(), &mut writer);
+    let report = served(alloc, Some(REFUSAL), b"[]\n[]\n".as_slice(), &mut writer);
     let is_served = kind == ErrorKind::Interrupted && call != 0;
     let want = if is_served {
         (Ok(2), 0, 0)
@@ -178,11 +178,11 @@ fn is_written(alloc: Global, kind: ErrorKind, call: u32) -> bool {
     let is_whole = is_served || call == 0;
     let written = if is_whole { 82 } else { call.saturating_sub(1) };
     let is_flushed = writer.flushes == 1 || !is_whole;
-    told == want && writer.bytes.len() == written as usize && is_flushed
+    report == want && writer.bytes.len() == written as usize && is_flushed
 }
 
 /// The first of so many calls at which a writer of two lines isn't served as it has to be, as `fails at 0 to 82`.
-pub fn writer_told(alloc: Global, text: &str) -> Result<String> {
+pub fn writer_report(alloc: Global, text: &str) -> Result<String> {
     let (word, last) = text.split_once(" at 0 to ").context("no calls")?;
     let kind = kind_of(word)?;
     let last: u32 = last.parse()?;

@@ -10,18 +10,18 @@ use std::alloc::{AllocError, Global};
 
 /// What is asked of a table: a column to go by, how its keys are compared, another column, and keys, as `name fold: id of Ada|Bob`.
 #[derive(Clone, Copy)]
-struct Asked<'a> {
+struct Lookup<'a> {
     by: &'a str,
     mode: KeyMode,
     column: &'a str,
     keys: &'a str,
 }
 
-fn asked_of(text: &str) -> Result<Asked<'_>> {
+fn lookup_of(text: &str) -> Result<Lookup<'_>> {
     let (by, rest) = text.split_once(": ").context("no column to go by")?;
     let (by, mode) = by.split_once(' ').context("no mode")?;
     let (column, keys) = rest.split_once(" of ").context("no column")?;
-    Ok(Asked {
+    Ok(Lookup {
         by,
         mode: mode_of(mode),
         column,
@@ -42,21 +42,21 @@ fn fetched(alloc: Global, source: &CsvSource<'_>, keys: &str, column: &str) -> R
     let Ok(items) = source.fetch(alloc, keys.as_slice()) else {
         bail!("no answer");
     };
-    let mut told = String::new(alloc);
+    let mut report = String::new(alloc);
     for item in &items {
-        told.push('|')?;
+        report.push('|')?;
         if let Item::Rows(rows) = item {
             let texts = column_of(alloc, rows.as_slice(), column)?;
-            told.push_str(&texts)?;
+            report.push_str(&texts)?;
         }
     }
-    Ok(told)
+    Ok(report)
 }
 
 /// What a source gives that goes by a column, or why there is none.
-pub fn by_told(alloc: Global, table: &str, text: &str) -> Result<String> {
+pub fn by_report(alloc: Global, table: &str, text: &str) -> Result<String> {
     let table = Table::read(alloc, table.as_bytes())?;
-    let asked = asked_of(text)?;
+    let asked = lookup_of(text)?;
     match CsvSource::by(alloc, &table, asked.by, asked.mode) {
         Ok(source) => fetched(alloc, &source, asked.keys, asked.column),
         Err(fault) => Ok(format!(in alloc; "{fault}")?),
@@ -64,9 +64,9 @@ pub fn by_told(alloc: Global, table: &str, text: &str) -> Result<String> {
 }
 
 /// What a source of an index gives.
-pub fn by_index_told(alloc: Global, table: &str, text: &str) -> Result<String> {
+pub fn by_index_report(alloc: Global, table: &str, text: &str) -> Result<String> {
     let table = Table::read(alloc, table.as_bytes())?;
-    let asked = asked_of(text)?;
+    let asked = lookup_of(text)?;
     let index = ColumnIndex::new(alloc, &table, asked.by, asked.mode)?;
     fetched(
         alloc,
@@ -109,41 +109,41 @@ fn rows_of_pair(
 fn filtered_by_two(
     alloc: Global,
     table: &Table,
-    asked: &Asked<'_>,
+    asked: &Lookup<'_>,
     columns: (&str, &str),
 ) -> Result<String> {
-    let mut told = String::new(alloc);
+    let mut report = String::new(alloc);
     for key in &keys_and_all(alloc, asked.keys)? {
-        told.push('|')?;
+        report.push('|')?;
         let rows = rows_of_pair(alloc, table, columns, asked.mode, key)?;
-        told.push_str(column_of(alloc, rows.as_slice(), asked.column)?.as_str())?;
+        report.push_str(column_of(alloc, rows.as_slice(), asked.column)?.as_str())?;
     }
-    Ok(told)
+    Ok(report)
 }
 
 /// What a source gives that goes by two columns, or why there is none: one with an index of its own, one of an index, and a plain
 /// filter have to agree.
-pub fn by_two_told(alloc: Global, table: &str, text: &str) -> Result<String> {
+pub fn by_two_report(alloc: Global, table: &str, text: &str) -> Result<String> {
     let table = Table::read(alloc, table.as_bytes())?;
-    let asked = asked_of(text)?;
+    let asked = lookup_of(text)?;
     let (one, two) = asked.by.split_once(',').context("no second column")?;
     let source = match CsvSource::by_two(alloc, &table, one, two, asked.mode) {
         Ok(source) => source,
         Err(fault) => return Ok(format!(in alloc; "{fault}")?),
     };
-    let told = fetched(alloc, &source, asked.keys, asked.column)?;
+    let report = fetched(alloc, &source, asked.keys, asked.column)?;
     let index = PairIndex::new(alloc, &table, one, two, asked.mode)?;
     let indexed = CsvSource::of_pair_index(&index);
     let shared = fetched(alloc, &indexed, asked.keys, asked.column)?;
     let plain = filtered_by_two(alloc, &table, &asked, (one, two))?;
-    if told == plain && told == shared && source.mode() == indexed.mode() {
-        return Ok(told);
+    if report == plain && report == shared && source.mode() == indexed.mode() {
+        return Ok(report);
     }
-    Ok(format!(in alloc; "{told}, by an index {shared}, and by the filter {plain}")?)
+    Ok(format!(in alloc; "{report}, by an index {shared}, and by the filter {plain}")?)
 }
 
 /// What a source of all rows gives, behind its mode.
-pub fn all_told(alloc: Global, table: &str, text: &str) -> Result<String> {
+pub fn all_report(alloc: Global, table: &str, text: &str) -> Result<String> {
     let table = Table::read(alloc, table.as_bytes())?;
     let (column, keys) = text.split_once(" of ").context("no column")?;
     let source = CsvSource::all(&table);
@@ -152,13 +152,13 @@ pub fn all_told(alloc: Global, table: &str, text: &str) -> Result<String> {
 }
 
 /// For each key, after a bar, the first fields of the rows whose second field is that key, by the plain definition; none for all.
-fn filtered(alloc: Global, sheet: &Sheet, asked: &Asked<'_>) -> Result<String, AllocError> {
+fn filtered(alloc: Global, sheet: &Sheet, asked: &Lookup<'_>) -> Result<String, AllocError> {
     if sheet.width() != 2 {
         return String::from_str(alloc, "other columns");
     }
-    let mut told = String::new(alloc);
+    let mut report = String::new(alloc);
     for key in asked.keys.split('|') {
-        told.push('|')?;
+        report.push('|')?;
         for place in 0..sheet.len() {
             let field = sheet.field(place, 1);
             let is_same = match asked.mode {
@@ -166,24 +166,24 @@ fn filtered(alloc: Global, sheet: &Sheet, asked: &Asked<'_>) -> Result<String, A
                 KeyMode::FoldAscii => field.eq_ignore_ascii_case(key),
             };
             if is_same && !field.is_empty() {
-                told.push_str(sheet.field(place, 0))?;
-                told.push(';')?;
+                report.push_str(sheet.field(place, 0))?;
+                report.push(';')?;
             }
         }
     }
-    told.push('|')?;
-    Ok(told)
+    report.push('|')?;
+    Ok(report)
 }
 
 /// What a source gives of the first column that goes by the second: the real one and a plain filter have to agree.
-pub fn filter_told(alloc: Global, table: &str, text: &str) -> Result<String> {
+pub fn filter_report(alloc: Global, table: &str, text: &str) -> Result<String> {
     let table = Table::read(alloc, table.as_bytes())?;
-    let asked = asked_of(text)?;
+    let asked = lookup_of(text)?;
     let source = CsvSource::by(alloc, &table, asked.by, asked.mode)?;
-    let told = fetched(alloc, &source, asked.keys, asked.column)?;
+    let report = fetched(alloc, &source, asked.keys, asked.column)?;
     let plain = filtered(alloc, table.sheet(), &asked)?;
-    if told == plain {
-        return Ok(told);
+    if report == plain {
+        return Ok(report);
     }
-    Ok(format!(in alloc; "{told}, and by the filter {plain}")?)
+    Ok(format!(in alloc; "{report}, and by the filter {plain}")?)
 }

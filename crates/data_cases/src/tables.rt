@@ -17,7 +17,7 @@ pub fn length_of<R: Read + Drop>(alloc: Global, reader: R) -> Result<u32, TableF
 }
 
 /// How many rows bytes have as a table, or their fault.
-fn told_of_bytes(alloc: Global, bytes: &[u8]) -> Result<String> {
+fn report_of_bytes(alloc: Global, bytes: &[u8]) -> Result<String> {
     Ok(match length_of(alloc, bytes) {
         Ok(1) => String::from_str(alloc, "1 row")?,
         Ok(rows) => format!(in alloc; "{rows} rows")?,
@@ -25,13 +25,13 @@ fn told_of_bytes(alloc: Global, bytes: &[u8]) -> Result<String> {
     })
 }
 
-pub fn rows_told(alloc: Global, text: &str) -> Result<String> {
+pub fn rows_report(alloc: Global, text: &str) -> Result<String> {
     let bytes = bytes_of(alloc, text)?;
-    told_of_bytes(alloc, bytes.as_slice())
+    report_of_bytes(alloc, bytes.as_slice())
 }
 
 /// The same of a table of so many rows and a text behind them, as `1000000: 1,2`.
-pub fn more_rows_told(alloc: Global, text: &str) -> Result<String> {
+pub fn more_rows_report(alloc: Global, text: &str) -> Result<String> {
     let (count, end) = text.split_once(": ").context("no number of rows")?;
     let count: u32 = count.parse()?;
     let mut bytes = Vec::new(alloc);
@@ -40,11 +40,11 @@ pub fn more_rows_told(alloc: Global, text: &str) -> Result<String> {
         bytes.extend_from_slice(b"1\n")?;
     }
     bytes.extend_from_slice(end.as_bytes())?;
-    told_of_bytes(alloc, bytes.as_slice())
+    report_of_bytes(alloc, bytes.as_slice())
 }
 
-/// What is told of each front of a text but the empty one: a table, a bad record, or something else.
-pub fn fronts_told(alloc: Global, text: &str) -> Result<String> {
+/// What is reported of each front of a text but the empty one: a table, a bad record, or something else.
+pub fn fronts_report(alloc: Global, text: &str) -> Result<String> {
     let bytes = text.as_bytes();
     for end in 1..bytes.len() {
         match length_of(alloc, &bytes[..end]) {
@@ -72,7 +72,7 @@ fn sheet_text(alloc: Global, sheet: &Sheet) -> Result<String, AllocError> {
     Ok(text)
 }
 
-pub fn sheet_told(alloc: Global, text: &str) -> Result<String> {
+pub fn sheet_report(alloc: Global, text: &str) -> Result<String> {
     let table = Table::read(alloc, text.as_bytes())?;
     Ok(sheet_text(alloc, table.sheet())?)
 }
@@ -106,7 +106,7 @@ fn row(alloc: Global, written: &str) -> Result<Row> {
 }
 
 /// What rows of their own have in a column, as `id of id=1,name=Ada;id=2`.
-pub fn column_told(alloc: Global, text: &str) -> Result<String> {
+pub fn column_report(alloc: Global, text: &str) -> Result<String> {
     let (column, written) = text.split_once(" of ").context("no rows")?;
     let mut rows = Vec::new(alloc);
     for written in written.split(';') {

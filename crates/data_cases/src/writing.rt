@@ -108,7 +108,7 @@ fn sample(alloc: Global, value: &str) -> Result<Response, AllocError> {
 }
 
 /// The text of an object of a list, with a text as a value and as names, or where the plain writer writes another.
-pub fn plain_told(alloc: Global, value: &str) -> Result<String> {
+pub fn plain_report(alloc: Global, value: &str) -> Result<String> {
     let response = sample(alloc, value)?;
     let data = plain(alloc, &response)?;
     let want = format!(in alloc; "{{\"data\":{data}}}")?;
@@ -172,7 +172,7 @@ fn response(alloc: Global, name: &str) -> Result<Response> {
 }
 
 /// The text of an answer or of a refusal.
-pub fn told(alloc: Global, name: &str) -> Result<String> {
+pub fn report(alloc: Global, name: &str) -> Result<String> {
     let place = Place { line: 1, column: 2 };
     if let Some(message) = name.strip_prefix("refused at 1:2 ") {
         return Ok(write_refusal(alloc, message, Some(place))?);

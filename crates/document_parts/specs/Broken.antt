@@ -1,4 +1,4 @@
--- What breaks a rule, and which of several such is told.
+-- What breaks a rule, and which of several such is reported.
 use Rattle.std.specs.Prelude.{ℕ, List, ◌++◌, Option, Some, None, codes, fold, if◌then◌else◌}
 use Rattle.gq_lexer.specs.Place.{is_before}
 use Rattle.gq_lexer.specs.declared.place.Place.{Place}
@@ -11,7 +11,7 @@ pub record BrokenOf : Type 0 where
   pub name : List ℕ
   pub place : Place
 
--- the name as it is told: that of a variable has its `$` where a variable's is told beside other names
+-- the name as it is reported: that of a variable has its `$` where a variable's is reported beside other names
 abbrev pub name_of : BrokenName → List ℕ
 name_of (Plain n) = n.now
 name_of (Variable n) = codes "$" ++ n.now

@@ -12,8 +12,8 @@ argument_location a = record { of_type = a.of_type; has_default = is_some a.defa
 
 -- the location of a list literal's items: no default, and none where the type is no list
 abbrev pub item_of : TypeTree → Option Location
-item_of (Named p n strict) = None
-item_of (ListOf p t strict) = Some (record { of_type = t; has_default = false })
+item_of (Named p n non_null) = None
+item_of (ListOf p t non_null) = Some (record { of_type = t; has_default = false })
 
 abbrev pub item_location : Option Location → Option Location
 item_location l = option_and_then (λ (l : Location). item_of l.of_type) l

@@ -17,7 +17,7 @@ use Rattle.spread_graph.proofs.MissingLaws.{missing-in_operation, missing-in_fra
 use Rattle.document_rules.specs.declared.use_table.UseTable as rust
 use Rattle.document_rules.specs.Rows.{RowsOf, is_same_owner, row}
 use Rattle.document_rules.specs.VariableReach.{is_within, defines}
-use Rattle.document_rules.specs.UsesDefined.{lacks, one_lacks}
+use Rattle.document_rules.specs.AllVariableUsesDefined.{lacks, one_lacks}
 use Rattle.document_rules.specs.UseTable.{is_numbered}
 use Rattle.document_rules.specs.UseRows.{use_at, rows_in, IsUseTable, defines_at}
 use Rattle.document_rules.proofs.ReachLaws.{stands_alone, defines-use}

@@ -7,7 +7,7 @@ use Rattle.std.specs.List.{list_any, fold}
 use Rattle.document_parts.specs.declared.broken.Earliest as rust
 use Rattle.document_parts.specs.Broken.{BrokenOf, with_broken}
 use Rattle.document_rules.specs.Repeated.{has_name, repeated_behind, repeated}
-use Rattle.document_rules.specs.Scans.{told, with_all, Tells, repeated_by}
+use Rattle.document_rules.specs.Scans.{report, with_all, Tells, repeated_by}
 
 -- what is left at a place: the element there, and then what is left behind it
 pub drop-next : {A : Type 0} (xs : List A) (i : ℕ) (x : A) → i < length xs → x ≡ get_or xs i x → drop i xs ≡ x ∷ drop (i + 1) xs
@@ -56,6 +56,6 @@ repeated-short [] short = refl
 repeated-short (n ∷ []) short = refl
 repeated-short (n ∷ (m ∷ ns)) short = absurd (omega arith)
 
--- what is told of a list and then of another
-pub told-more : (old new : rust.Earliest) (bs rest : List BrokenOf) → Tells old new bs → with_all new rest ≡ with_all old (bs ++ rest)
-told-more old new bs rest tells = ap (λ kept. fold with_broken kept rest) tells ∙ sym (fold-append with_broken (told old) bs rest)
+-- what is reported of a list and then of another
+pub report-more : (old new : rust.Earliest) (bs rest : List BrokenOf) → Tells old new bs → with_all new rest ≡ with_all old (bs ++ rest)
+report-more old new bs rest tells = ap (λ kept. fold with_broken kept rest) tells ∙ sym (fold-append with_broken (report old) bs rest)

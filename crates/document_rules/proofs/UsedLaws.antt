@@ -17,7 +17,7 @@ use Rattle.spread_graph.proofs.MissingLaws.{any_below-at, passing}
 use Rattle.document_rules.specs.declared.use_table.UseTable as rust
 use Rattle.document_rules.specs.Rows.{row, row_at}
 use Rattle.document_rules.specs.VariableReach.{is_within}
-use Rattle.document_rules.specs.VariablesUsed.{uses_there}
+use Rattle.document_rules.specs.AllVariablesUsed.{uses_there}
 use Rattle.document_rules.specs.UseTable.{number_in, is_number, has_if}
 use Rattle.document_rules.specs.UseRows.{no_use, use_at, rows_in, IsUseTable, is_number_among, is_used_in, is_used_at, has_number}
 use Rattle.document_rules.proofs.ReachLaws.{same_tests, number-use}

@@ -14,8 +14,8 @@ use Rattle.document_rules.specs.declared.batch.Batch.{Batch}
 use Rattle.document_rules.specs.declared.use_table.UseTable.{UseTable}
 use Rattle.document_rules.specs.Named.{named_variable}
 use Rattle.document_rules.specs.Scans.{with_all}
-use Rattle.document_rules.specs.UsesDefined.{one_lacks}
-use Rattle.document_rules.specs.VariablesUsed.{unused_variables}
+use Rattle.document_rules.specs.AllVariableUsesDefined.{one_lacks}
+use Rattle.document_rules.specs.AllVariablesUsed.{unused_variables}
 use Rattle.document_rules.specs.UseTable.{is_numbered, has_if}
 use Rattle.document_rules.specs.UseRows.{use_at, IsUseTable, defines_at}
 
@@ -70,7 +70,7 @@ AreLacking g operations table noted = (uses : List VariableUse) → IsUseTable u
 abbrev pub unused_by : List BatchSet → ℕ → (List ℕ → Option ℕ) → Operation → List BrokenOf
 unused_by sets m number o = map named_variable (filter (λ v. not (has_if sets m (number v.name))) o.variables)
 
--- the batch's unused variables are told now, and need no more looking at
+-- the batch's unused variables are reported now, and need no more looking at
 abbrev pub TellsUnused : Batch → UseTable → Earliest → Earliest → Type 0
 TellsUnused b table old new = (g : GraphOf) (uses : List VariableUse) → IsUseTable uses table → IsReached g b
     → with_all new (unused_variables g uses (b.first + b.count) (drop (b.first + b.count) (operations_in b))) ≡ with_all old (unused_variables g uses b.first (drop b.first (operations_in b)))

@@ -1,4 +1,4 @@
--- What a pass has told, and has still to tell.
+-- What a pass has reported, and has still to report.
 use Rattle.std.specs.Prelude.{◌≡◌, ℕ, Bool, ◌||◌, List, [], ◌∷◌, Option, bytes_eq, fold, if◌then◌else◌}
 use Rattle.std.specs.Option.{option_map}
 use Rattle.std.specs.HashSet.{HashSet, contains_by}
@@ -6,16 +6,16 @@ use Rattle.std.specs.Borrow.{Bor}
 use Rattle.document_parts.specs.declared.broken.Earliest as rust
 use Rattle.document_parts.specs.Broken.{BrokenOf, broken_of, with_broken}
 
-abbrev pub told : rust.Earliest → Option BrokenOf
-told earliest = option_map broken_of earliest.found
+abbrev pub report : rust.Earliest → Option BrokenOf
+report earliest = option_map broken_of earliest.found
 
--- the earliest of what was told and of these
+-- the earliest of what was reported and of these
 abbrev pub with_all : rust.Earliest → List BrokenOf → Option BrokenOf
-with_all earliest bs = fold with_broken (told earliest) bs
+with_all earliest bs = fold with_broken (report earliest) bs
 
--- these were told, each in turn
+-- these were reported, each in turn
 abbrev pub Tells : rust.Earliest → rust.Earliest → List BrokenOf → Type 0
-Tells old new bs = told new ≡ with_all old bs
+Tells old new bs = report new ≡ with_all old bs
 
 -- whether the set has this text
 abbrev pub has_text : {S : Type 0} → HashSet (Bor (List ℕ)) S → List ℕ → Bool
@@ -28,6 +28,6 @@ repeated_by stood (n ∷ ns) =
     if stood n.name then n ∷ repeated_by (λ q. bytes_eq q n.name || stood q) ns
     else repeated_by (λ q. bytes_eq q n.name || stood q) ns
 
--- the earliest of what was told and of what is repeated from here on
+-- the earliest of what was reported and of what is repeated from here on
 abbrev pub left : {S : Type 0} → HashSet (Bor (List ℕ)) S → rust.Earliest → List BrokenOf → Option BrokenOf
 left names earliest rest = with_all earliest (repeated_by (has_text names) rest)

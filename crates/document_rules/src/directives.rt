@@ -6,9 +6,9 @@ ghost use Rattle.gq_parser.specs.Tree.{directive_of};
 ghost use Rattle.document_parts.specs.Broken.{broken_of, earliest};
 ghost use Rattle.document_parts.specs.Parts.{directive_list_of, parts_in};
 ghost use Rattle.document_rules.specs.Scans.{Tells};
-ghost use Rattle.document_rules.specs.DirectivesDefined.{is_defined, undefined_directives, directives_are_defined};
-ghost use Rattle.document_rules.specs.DirectiveLocations.{is_valid, misplaced_directives, directives_are_in_valid_locations};
-ghost use Rattle.document_rules.specs.DirectivesUnique.{directives_are_unique_per_location};
+ghost use Rattle.document_rules.specs.DirectivesAreDefined.{is_defined, undefined_directives, directives_are_defined};
+ghost use Rattle.document_rules.specs.DirectivesAreInValidLocations.{is_valid, misplaced_directives, directives_are_in_valid_locations};
+ghost use Rattle.document_rules.specs.DirectivesAreUniquePerLocation.{directives_are_unique_per_location};
 
 use crate::names::add_repeated;
 use document_parts::{Broken, DirectiveList, DirectiveLocation, Earliest, Parts};

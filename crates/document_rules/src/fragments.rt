@@ -6,9 +6,9 @@ ghost use Rattle.std.specs.Option.{option_map};
 ghost use Rattle.document_parts.specs.Broken.{broken_of, earliest};
 ghost use Rattle.document_parts.specs.Parts.{parts_in};
 ghost use Rattle.document_rules.specs.Scans.{has_text};
-ghost use Rattle.document_rules.specs.FragmentNames.{fragment_name_uniqueness};
-ghost use Rattle.document_rules.specs.FragmentsUsed.{spreads, fragments_must_be_used};
-ghost use Rattle.document_rules.specs.SpreadTargets.{fragment_spread_target_defined};
+ghost use Rattle.document_rules.specs.FragmentNameUniqueness.{fragment_name_uniqueness};
+ghost use Rattle.document_rules.specs.FragmentsMustBeUsed.{spreads, fragments_must_be_used};
+ghost use Rattle.document_rules.specs.FragmentSpreadTargetDefined.{fragment_spread_target_defined};
 
 use crate::names::{Names, add_repeated};
 use document_parts::{Broken, Earliest, Parts};

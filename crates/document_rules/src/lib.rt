@@ -5,7 +5,6 @@
 //! or nothing if the document keeps the rule. No rule needs places to differ, nor another rule to be kept.
 #![tactic(auto)]
 
-mod arguments;
 mod batch;
 mod batches;
 mod directives;
@@ -13,10 +12,10 @@ mod fragments;
 mod names;
 mod operations;
 mod served;
+mod unique_argument_names;
 mod use_table;
 mod variables;
 
-pub use arguments::argument_uniqueness;
 pub use directives::{
     directives_are_defined, directives_are_in_valid_locations, directives_are_unique_per_location,
 };
@@ -25,4 +24,5 @@ pub use fragments::{
 };
 pub use operations::{lone_anonymous_operation, operation_name_uniqueness};
 pub use served::{MOST_FIELDS, is_too_complex, not_served};
+pub use unique_argument_names::argument_uniqueness;
 pub use variables::{all_variable_uses_defined, all_variables_used, variable_uniqueness};

@@ -4,8 +4,8 @@ ghost use Rattle.std.specs.Prelude.{◌≡◌, IfOk};
 ghost use Rattle.std.specs.Option.{option_map};
 ghost use Rattle.document_parts.specs.Broken.{broken_of, earliest};
 ghost use Rattle.document_parts.specs.Parts.{parts_in};
-ghost use Rattle.document_rules.specs.OperationNames.{operation_name_uniqueness};
-ghost use Rattle.document_rules.specs.LoneAnonymous.{lone_anonymous_operation};
+ghost use Rattle.document_rules.specs.OperationNameUniqueness.{operation_name_uniqueness};
+ghost use Rattle.document_rules.specs.LoneAnonymousOperation.{lone_anonymous_operation};
 
 use crate::names::{Names, note};
 use document_parts::{Broken, Earliest, Parts};

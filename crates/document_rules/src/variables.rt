@@ -6,10 +6,10 @@ ghost use Rattle.gq_parser.specs.Tree.{operation_of};
 ghost use Rattle.document_parts.specs.Broken.{broken_of, earliest};
 ghost use Rattle.document_parts.specs.Parts.{VariableUse as Use, parts_in};
 ghost use Rattle.spread_graph.specs.Graphs.{GraphOf, graph_of};
-ghost use Rattle.document_rules.specs.VariableNames.{variable_uniqueness};
-ghost use Rattle.document_rules.specs.UsesDefined.{all_variable_uses_defined};
+ghost use Rattle.document_rules.specs.VariableUniqueness.{variable_uniqueness};
+ghost use Rattle.document_rules.specs.AllVariableUsesDefined.{all_variable_uses_defined};
 ghost use Rattle.document_rules.specs.Scans.{Tells};
-ghost use Rattle.document_rules.specs.VariablesUsed.{unused_variables, all_variables_used};
+ghost use Rattle.document_rules.specs.AllVariablesUsed.{unused_variables, all_variables_used};
 ghost use Rattle.document_rules.specs.BatchSteps.{number_by, AreLacking, unused_by, TellsUnused};
 
 use crate::batch::Batch;

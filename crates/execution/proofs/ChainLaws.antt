@@ -59,7 +59,7 @@ mutual
 
   pub all_left : Programs → Reader → Reader → ℕ
   all_left End R Q = 0
-  all_left (With spot p rest) R Q = max (left p R Q) (all_left rest R Q)
+  all_left (With position p rest) R Q = max (left p R Q) (all_left rest R Q)
 
 left-read : (load : Load) (next : OutcomeOf → Program) (R Q : Reader) → AnswersMore R Q → (r : Option OutcomeOf) → R load ≡ r → ((o : OutcomeOf) → left (next o) R Q ≤ chain (next o) Q) → left (Read load next) R Q ≤ chain (Read load next) Q
 unfolding left
@@ -76,7 +76,7 @@ mutual
 
   pub all-left-le : (ps : Programs) (R Q : Reader) → AnswersMore R Q → all_left ps R Q ≤ all_chain ps Q
   all-left-le End R Q more = omega arith
-  all-left-le (With spot p rest) R Q more = omega (arith, left-le p R Q more, all-left-le rest R Q more)
+  all-left-le (With position p rest) R Q more = omega (arith, left-le p R Q more, all-left-le rest R Q more)
 
 left-open : (load : Load) (next : OutcomeOf → Program) (R Q : Reader) → (r : Option OutcomeOf) → R load ≡ r → is_open (tree (Read load next) R) ≡ true → ((o : OutcomeOf) → is_open (tree (next o) R) ≡ true → 1 ≤ left (next o) R Q) → 1 ≤ left (Read load next) R Q
 unfolding left
@@ -97,7 +97,7 @@ mutual
 
   pub all-left-some : (ps : Programs) (R Q : Reader) → any_open (trees ps R) ≡ true → 1 ≤ all_left ps R Q
   all-left-some End R Q h = absurd (cc h)
-  all-left-some (With spot p rest) R Q h = elim (or-cases (is_open (tree p R)) (any_open (trees rest R)) h) [
+  all-left-some (With position p rest) R Q h = elim (or-cases (is_open (tree p R)) (any_open (trees rest R)) h) [
     | inl a ↦ let i : 1 ≤ left p R Q = left-some p R Q a in omega arith
     | inr b ↦ let i : 1 ≤ all_left rest R Q = all-left-some rest R Q b in omega arith
   ]
@@ -127,7 +127,7 @@ mutual
 
   pub all-fewer-left : (ps : Programs) (R R' Q : Reader) → AnswersMore R R' → AnswersMore R' Q → ((l : Load) → IsOneOf l (all_needs ps R) → IsSome (R' l)) → all_left ps R' Q ≤ all_left ps R Q - 1
   all-fewer-left End R R' Q e1 e2 cover = omega arith
-  all-fewer-left (With spot p rest) R R' Q e1 e2 cover =
+  all-fewer-left (With position p rest) R R' Q e1 e2 cover =
       omega (
         arith,
         fewer-left p R R' Q e1 e2 (λ l h. cover l (one-left l (needs p R) (all_needs rest R) h)),

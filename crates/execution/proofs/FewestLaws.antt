@@ -55,7 +55,7 @@ either false b h = inr h
 -- where some position is open, one of the programs is
 open-below : (ps : Programs) (R : Reader) → any_open (trees ps R) ≡ true → (p : Program) × IsBelow p ps × (is_open (tree p R) ≡ true)
 open-below End R h = absurd (cc h)
-open-below (With spot q rest) R h = elim (either (is_open (tree q R)) (any_open (trees rest R)) h) [
+open-below (With position q rest) R h = elim (either (is_open (tree q R)) (any_open (trees rest R)) h) [
   | inl a ↦ (q, inl refl, a)
   | inr b ↦ let r = open-below rest R b in (r.0, inr r.1, r.2)
 ]

@@ -21,7 +21,7 @@ mutual
 
   pub all_rest-rest : (ps : Programs) (R Q : Reader) → AnswersMore R Q → all_rest (all_rest ps R) Q ≡ all_rest ps Q
   all_rest-rest End R Q more = refl
-  all_rest-rest (With spot p ps) R Q more = rw (rest-rest p R Q more, all_rest-rest ps R Q more) refl
+  all_rest-rest (With position p ps) R Q more = rw (rest-rest p R Q more, all_rest-rest ps R Q more) refl
 
 tree-read : (load : Load) (next : OutcomeOf → Program) (R Q : Reader) → AnswersMore R Q → (r : Option OutcomeOf) → R load ≡ r → ((o : OutcomeOf) → tree (rest (next o) R) Q ≡ tree (next o) Q) → tree (rest (Read load next) R) Q ≡ tree (Read load next) Q
 tree-read load next R Q more None e ih = rw e refl
@@ -35,7 +35,7 @@ mutual
 
   pub trees-rest : (ps : Programs) (R Q : Reader) → AnswersMore R Q → trees (all_rest ps R) Q ≡ trees ps Q
   trees-rest End R Q more = refl
-  trees-rest (With spot p ps) R Q more = rw (tree-rest p R Q more, trees-rest ps R Q more) refl
+  trees-rest (With position p ps) R Q more = rw (tree-rest p R Q more, trees-rest ps R Q more) refl
 
 -- what is needed and isn't answered, depth first
 abbrev pub asks : Program → Reader → List Load
@@ -65,7 +65,7 @@ mutual
 
   pub all_asks-rest : (ps : Programs) (R Q : Reader) → AnswersMore R Q → missing Q (all_needs (all_rest ps R) Q) ≡ missing Q (all_needs ps Q)
   all_asks-rest End R Q more = refl
-  all_asks-rest (With spot p ps) R Q more =
+  all_asks-rest (With position p ps) R Q more =
       rw (missing-append Q (needs (rest p R) Q) (all_needs (all_rest ps R) Q), missing-append Q (needs p Q) (all_needs ps Q), asks-rest p R Q more, all_asks-rest ps R Q more) refl
 
 pub more-self : (R : Reader) → AnswersMore R R
@@ -102,4 +102,4 @@ mutual
 
   pub helds-rest : (ps : Programs) (R : Reader) → trees (all_rest ps R) unanswered ≡ trees ps R
   helds-rest End R = refl
-  helds-rest (With spot p ps) R = rw (held-rest p R, helds-rest ps R) refl
+  helds-rest (With position p ps) R = rw (held-rest p R, helds-rest ps R) refl

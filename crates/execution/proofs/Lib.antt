@@ -12,3 +12,4 @@ pub mod StoreLaws
 pub mod SharedLaws
 pub mod OnceLaws
 pub mod FewestLaws
+pub mod PartLaws

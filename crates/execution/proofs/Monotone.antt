@@ -37,7 +37,7 @@ mutual
 
   pub opens-missing : (ps : Programs) (R : Reader) → any_open (trees ps R) ≡ any_missing R (all_needs ps R)
   opens-missing End R = refl
-  opens-missing (With spot p rest) R = rw (open-missing p R, opens-missing rest R) (sym (any_missing-append R (needs p R) (all_needs rest R)))
+  opens-missing (With position p rest) R = rw (open-missing p R, opens-missing rest R) (sym (any_missing-append R (needs p R) (all_needs rest R)))
 
 missing-none : (R : Reader) (ls : List Load) → any_missing R ls ≡ false → missing R ls ≡ []
 unfolding any_missing
@@ -95,7 +95,7 @@ mutual
 
   pub trees-stay : (ps : Programs) (R Q : Reader) → AnswersMore R Q → any_open (trees ps R) ≡ false → trees ps Q ≡ trees ps R
   trees-stay End R Q more h = refl
-  trees-stay (With spot p rest) R Q more h =
+  trees-stay (With position p rest) R Q more h =
       let b : (is_open (tree p R) ≡ false) × (any_open (trees rest R) ≡ false) = or-false (is_open (tree p R)) (any_open (trees rest R)) h in
       rw (tree-stays p R Q more b.0, trees-stay rest R Q more b.1) refl
 
@@ -121,7 +121,7 @@ mutual
 
   pub all-needs-grow : (ps : Programs) (R Q : Reader) → AnswersMore R Q → (l : Load) → IsOneOf l (all_needs ps R) → IsOneOf l (all_needs ps Q)
   all-needs-grow End R Q more l h = h
-  all-needs-grow (With spot p rest) R Q more l h = elim (one-either l (needs p R) (all_needs rest R) h) [
+  all-needs-grow (With position p rest) R Q more l h = elim (one-either l (needs p R) (all_needs rest R) h) [
     | inl a ↦ one-left l (needs p Q) (all_needs rest Q) (needs-grow p R Q more l a)
     | inr b ↦ one-right l (needs p Q) (all_needs rest Q) (all-needs-grow rest R Q more l b)
   ]

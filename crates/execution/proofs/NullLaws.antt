@@ -3,14 +3,14 @@ use Rattle.std.proofs.Common.{◌≡◌, ℕ, Bool, true, false, ◌||◌, ◌&&
 use Rattle.std.specs.List.{flat_map}
 use Rattle.gq_lexer.specs.declared.place.Place.{Place}
 use Rattle.execution.specs.Loads.{Reader}
-use Rattle.execution.specs.Program.{Leaf, Own, Value, Null, Fault, Kind, Part, Spot, Program, Tree, Open, At, Over, Trees, NoMore, And, tree}
+use Rattle.execution.specs.Program.{Leaf, LeafValue, Value, Null, Fault, Kind, Part, FieldPosition, Program, Tree, Open, At, Over, Trees, NoMore, And, tree}
 use Rattle.execution.specs.Completion.{HasOwnNull, IsChild, IsNonNullWay, IsNullAt, IsResponse, AreResponses, ResponseOf, NullResponse, LeafResponse, Holding, ResponsesOf, NoResponses, Responding, is_open, any_open, PositionOf, positions, positions_below, top_position, ErrorOf, own_errors, errors_at, AnsweredOf, IsCompletion}
 use Rattle.execution.specs.Executed.{nulls, pulls_down, response, responses, errors, all_errors, completed, exec}
 use Rattle.execution.proofs.Monotone.{exec-whole}
 
 -- one of these of non-null type is null
 abbrev PullsDown : Trees → Type 0
-PullsDown below = (n : ℕ) × (spot : Spot) × (t : Tree) × IsChild below n spot t × (spot.non_null ≡ true) × IsNullAt t
+PullsDown below = (n : ℕ) × (position : FieldPosition) × (t : Tree) × IsChild below n position t × (position.non_null ≡ true) × IsNullAt t
 
 not-true : (b : Bool) → (b ≡ true → ⊥) → b ≡ false
 not-true true h = absurd (h refl)
@@ -40,16 +40,16 @@ mutual
 
   pulls-is : (ts : Trees) → pulls_down ts ≡ true → PullsDown ts
   pulls-is NoMore h = absurd (cc h)
-  pulls-is (And spot t rest) h = elim (either (spot.non_null && nulls t) (pulls_down rest) h) [
-    | inl e ↦ let b : (spot.non_null ≡ true) × (nulls t ≡ true) = both spot.non_null (nulls t) e in (0, spot, t, (refl, refl), b.0, nulls-is t b.1)
+  pulls-is (And position t rest) h = elim (either (position.non_null && nulls t) (pulls_down rest) h) [
+    | inl e ↦ let b : (position.non_null ≡ true) × (nulls t ≡ true) = both position.non_null (nulls t) e in (0, position, t, (refl, refl), b.0, nulls-is t b.1)
     | inr e ↦ let p : PullsDown rest = pulls-is rest e in (suc p.0, p.1, p.2, p.3, p.4, p.5)
   ]
 
-pulls-from : (ts : Trees) (n : ℕ) (spot : Spot) (t : Tree) → IsChild ts n spot t → spot.non_null ≡ true → nulls t ≡ true → pulls_down ts ≡ true
-pulls-from NoMore n spot t here non h = absurd here
-pulls-from (And first t0 rest) zero spot t here non h =
-    rw (ap nulls here.1, ap (λ (s : Spot). s.non_null) here.0, non, h) refl
-pulls-from (And first t0 rest) (suc n) spot t here non h = rw (pulls-from rest n spot t here non h) (or-true (first.non_null && nulls t0))
+pulls-from : (ts : Trees) (n : ℕ) (position : FieldPosition) (t : Tree) → IsChild ts n position t → position.non_null ≡ true → nulls t ≡ true → pulls_down ts ≡ true
+pulls-from NoMore n position t here non h = absurd here
+pulls-from (And first t0 rest) zero position t here non h =
+    rw (ap nulls here.1, ap (λ (s : FieldPosition). s.non_null) here.0, non, h) refl
+pulls-from (And first t0 rest) (suc n) position t here non h = rw (pulls-from rest n position t here non h) (or-true (first.non_null && nulls t0))
   where
     or-true : (a : Bool) → (a || true) ≡ true
     or-true true = refl
@@ -85,14 +85,14 @@ mutual
 
   pub responses-are : (ts : Trees) → any_open ts ≡ false → AreResponses ts (responses ts)
   responses-are NoMore h = tt
-  responses-are (And spot t rest) h =
+  responses-are (And position t rest) h =
       let b : (is_open t ≡ false) × (any_open rest ≡ false) = neither (is_open t) (any_open rest) h in
       (refl, response-is t b.0, responses-are rest b.1)
 
 leaf-null : (t : Tree) (leaf : Leaf) → t ≡ At (Value leaf) → IsNullAt t → ⊥
 leaf-null t leaf e n = let h : nulls t ≡ true = way-nulls n.0 t n.1 n.2 n.3 in let f : nulls t ≡ false = ap nulls e in cc (sym h ∙ f)
 
-own-leaf : (own : Own) (leaf : Leaf) → own ≡ Value leaf → LeafResponse leaf ≡ response (At own)
+own-leaf : (own : LeafValue) (leaf : Leaf) → own ≡ Value leaf → LeafResponse leaf ≡ response (At own)
 own-leaf own leaf e = rw e refl
 
 mutual
@@ -113,8 +113,8 @@ mutual
   pub responses-only : (ts : Trees) (rs : ResponsesOf) → AreResponses ts rs → rs ≡ responses ts
   responses-only NoMore NoResponses h = refl
   responses-only NoMore (Responding part r rs) h = absurd h
-  responses-only (And spot t rest) NoResponses h = absurd h
-  responses-only (And spot t rest) (Responding part r rs) h = rw (h.0, response-only t r h.1, responses-only rest rs h.2) refl
+  responses-only (And position t rest) NoResponses h = absurd h
+  responses-only (And position t rest) (Responding part r rs) h = rw (h.0, response-only t r h.1, responses-only rest rs h.2) refl
 
 append-none : {X : Type 0} (xs : List X) → xs ++ [] ≡ xs
 append-none [] = refl
@@ -124,21 +124,21 @@ flat_map-append : {X Y : Type 0} (f : X → List Y) (xs ys : List X) → flat_ma
 flat_map-append f [] ys = refl
 flat_map-append f (x ∷ xs) ys = ap (λ zs. f x ++ zs) (flat_map-append f xs ys) ∙ sym (append_assoc (f x) (flat_map f xs) (flat_map f ys))
 
-abbrev position : Bool → Place → List Part → Tree → PositionOf
-position non_null place path t = record { path = path; non_null = non_null; place = place; at = t }
+abbrev position_with : Bool → Place → List Part → Tree → PositionOf
+position_with non_null place path t = record { path = path; non_null = non_null; place = place; at = t }
 
 mutual
   -- the errors from below are those of all positions, in depth-first order
-  pub errors-are : (non_null : Bool) (place : Place) (path : List Part) (t : Tree) → errors non_null place path t ≡ flat_map errors_at (positions (position non_null place path t) t)
+  pub errors-are : (non_null : Bool) (place : Place) (path : List Part) (t : Tree) → errors non_null place path t ≡ flat_map errors_at (positions (position_with non_null place path t) t)
   errors-are non_null place path Open = refl
   errors-are non_null place path (At own) = sym (append-none (own_errors non_null place path (At own)))
   errors-are non_null place path (Over kind below) = all-errors-are path below
 
   pub all-errors-are : (path : List Part) (ts : Trees) → all_errors path ts ≡ flat_map errors_at (positions_below path ts)
   all-errors-are path NoMore = refl
-  all-errors-are path (And spot t rest) =
-      let here : PositionOf = position spot.non_null spot.place (path ++ spot.part ∷ []) t in
-      ap (λ es. es ++ all_errors path rest) (errors-are spot.non_null spot.place (path ++ spot.part ∷ []) t)
+  all-errors-are path (And position t rest) =
+      let here : PositionOf = position_with position.non_null position.place (path ++ position.part ∷ []) t in
+      ap (λ es. es ++ all_errors path rest) (errors-are position.non_null position.place (path ++ position.part ∷ []) t)
       ∙ ap (λ es. flat_map errors_at (positions here t) ++ es) (all-errors-are path rest)
       ∙ sym (flat_map-append errors_at (positions here t) (positions_below path rest))
 

@@ -29,20 +29,20 @@ at-pair loader key p e =
 
 module _ (item : ℕ → KeyOf → ItemOf) where
   -- the outcomes of keys
-  abbrev told : ℕ → List KeyOf → List OutcomeOf
-  told loader keys = map known (map (item loader) keys)
+  abbrev known_items : ℕ → List KeyOf → List OutcomeOf
+  known_items loader keys = map known (map (item loader) keys)
 
-  outcomes-told : (loader : ℕ) (keys : List KeyOf) (a : AnswerOf) → a ≡ given (map (item loader) keys) → outcomes_of (length keys) a ≡ told loader keys
-  outcomes-told loader keys a e =
+  outcomes-known : (loader : ℕ) (keys : List KeyOf) (a : AnswerOf) → a ≡ given (map (item loader) keys) → outcomes_of (length keys) a ≡ known_items loader keys
+  outcomes-known loader keys a e =
       ap (outcomes_of (length keys)) e ∙ (rw (eq-eqb (length (map (item loader) keys)) (length keys) (length-map keys (item loader))) refl)
 
-  reply-told : (o : OrderOf) (r : ReplyOf) → IsReply (key_by_key item) o r → r.outcomes ≡ told o.loader o.keys
-  reply-told o r h = h.outcomes ∙ outcomes-told o.loader o.keys h.answer h.may_be
+  reply-known : (o : OrderOf) (r : ReplyOf) → IsReply (key_by_key item) o r → r.outcomes ≡ known_items o.loader o.keys
+  reply-known o r h = h.outcomes ∙ outcomes-known o.loader o.keys h.answer h.may_be
 
-  reply-is : (o : OrderOf) (r : ReplyOf) → IsReply (key_by_key item) o r → r ≡ record { loader = o.loader; keys = o.keys; outcomes = told o.loader o.keys }
+  reply-is : (o : OrderOf) (r : ReplyOf) → IsReply (key_by_key item) o r → r ≡ record { loader = o.loader; keys = o.keys; outcomes = known_items o.loader o.keys }
   reply-is o r h =
       let make : ℕ → List KeyOf → List OutcomeOf → ReplyOf = λ n ks os. record { loader = n; keys = ks; outcomes = os } in
-      ap (λ n. make n r.keys r.outcomes) h.loader ∙ ap (λ ks. make o.loader ks r.outcomes) h.keys ∙ ap (λ os. make o.loader o.keys os) (reply-told o r h)
+      ap (λ n. make n r.keys r.outcomes) h.loader ∙ ap (λ ks. make o.loader ks r.outcomes) h.keys ∙ ap (λ os. make o.loader o.keys os) (reply-known o r h)
 
   replies-one : (os : List OrderOf) (rs ss : List ReplyOf) → AreReplies (key_by_key item) os rs → AreReplies (key_by_key item) os ss → rs ≡ ss
   replies-one [] [] [] h k = refl
@@ -70,13 +70,13 @@ module _ (item : ℕ → KeyOf → ItemOf) where
         (rw (same, more.0) refl, more.1)
 
   -- a reply's pairs say what asking key by key gives
-  pairs-told : (mode : KeyMode) (n : ℕ) (keys : List KeyOf) (loader : ℕ) (key : KeyOf) (o : OutcomeOf) → look (reply_pairs mode n keys (told n keys)) loader key ≡ Some o
+  pairs-known : (mode : KeyMode) (n : ℕ) (keys : List KeyOf) (loader : ℕ) (key : KeyOf) (o : OutcomeOf) → look (reply_pairs mode n keys (known_items n keys)) loader key ≡ Some o
       → (n ≡ loader) × (k : KeyOf) × (folded mode k ≡ key) × (o ≡ known (item n k))
-  pairs-told mode n [] loader key o h = absurd (cc h)
-  pairs-told mode n (k ∷ ks) loader key o h = go (is_at loader key (record { loader = n; key = folded mode k; outcome = known (item n k) })) refl h (pairs-told mode n ks loader key o)
+  pairs-known mode n [] loader key o h = absurd (cc h)
+  pairs-known mode n (k ∷ ks) loader key o h = go (is_at loader key (record { loader = n; key = folded mode k; outcome = known (item n k) })) refl h (pairs-known mode n ks loader key o)
     where
-      go : (b : Bool) → is_at loader key (record { loader = n; key = folded mode k; outcome = known (item n k) }) ≡ b → (if b then Some (known (item n k)) else look (reply_pairs mode n ks (told n ks)) loader key) ≡ Some o
-          → (look (reply_pairs mode n ks (told n ks)) loader key ≡ Some o → (n ≡ loader) × (k : KeyOf) × (folded mode k ≡ key) × (o ≡ known (item n k)))
+      go : (b : Bool) → is_at loader key (record { loader = n; key = folded mode k; outcome = known (item n k) }) ≡ b → (if b then Some (known (item n k)) else look (reply_pairs mode n ks (known_items n ks)) loader key) ≡ Some o
+          → (look (reply_pairs mode n ks (known_items n ks)) loader key ≡ Some o → (n ≡ loader) × (k : KeyOf) × (folded mode k ≡ key) × (o ≡ known (item n k)))
           → (n ≡ loader) × (k : KeyOf) × (folded mode k ≡ key) × (o ≡ known (item n k))
       go true e h ih =
           let at = at-pair loader key (record { loader = n; key = folded mode k; outcome = known (item n k) }) e in
@@ -92,37 +92,37 @@ module _ (item : ℕ → KeyOf → ItemOf) where
       go true h ih = inl h
       go false h ih = ih h
 
-  replies-told : (modes : List KeyMode) (os : List OrderOf) (rs : List ReplyOf) (loader : ℕ) (key : KeyOf) (o : OutcomeOf) → AreReplies (key_by_key item) os rs → look (pairs_of modes rs) loader key ≡ Some o
+  replies-known : (modes : List KeyMode) (os : List OrderOf) (rs : List ReplyOf) (loader : ℕ) (key : KeyOf) (o : OutcomeOf) → AreReplies (key_by_key item) os rs → look (pairs_of modes rs) loader key ≡ Some o
       → (k : KeyOf) × (folded (mode_at modes loader) k ≡ key) × (o ≡ known (item loader k))
-  replies-told modes [] [] loader key o h e = absurd (cc e)
-  replies-told modes [] (r ∷ rs) loader key o h e = absurd h
-  replies-told modes (w ∷ ws) [] loader key o h e = absurd h
-  replies-told modes (w ∷ ws) (r ∷ rs) loader key o h e = elim (either-look loader key o (reply_pairs (mode_at modes r.loader) r.loader r.keys r.outcomes) (pairs_of modes rs) e) [
+  replies-known modes [] [] loader key o h e = absurd (cc e)
+  replies-known modes [] (r ∷ rs) loader key o h e = absurd h
+  replies-known modes (w ∷ ws) [] loader key o h e = absurd h
+  replies-known modes (w ∷ ws) (r ∷ rs) loader key o h e = elim (either-look loader key o (reply_pairs (mode_at modes r.loader) r.loader r.keys r.outcomes) (pairs_of modes rs) e) [
     | inl a ↦
-        let is : r.outcomes ≡ told r.loader r.keys = rw (h.0.loader, h.0.keys) (reply-told w r h.0) in
-        let f : look (reply_pairs (mode_at modes r.loader) r.loader r.keys (told r.loader r.keys)) loader key ≡ Some o = ap (λ os. look (reply_pairs (mode_at modes r.loader) r.loader r.keys os) loader key) (sym is) ∙ a in
-        let t = pairs-told (mode_at modes r.loader) r.loader r.keys loader key o f in
+        let is : r.outcomes ≡ known_items r.loader r.keys = rw (h.0.loader, h.0.keys) (reply-known w r h.0) in
+        let f : look (reply_pairs (mode_at modes r.loader) r.loader r.keys (known_items r.loader r.keys)) loader key ≡ Some o = ap (λ os. look (reply_pairs (mode_at modes r.loader) r.loader r.keys os) loader key) (sym is) ∙ a in
+        let t = pairs-known (mode_at modes r.loader) r.loader r.keys loader key o f in
         (t.1, ap (λ n. folded (mode_at modes n) t.1) (sym t.0) ∙ t.2, t.3 ∙ ap (λ n. known (item n t.1)) t.0)
-    | inr b ↦ replies-told modes ws rs loader key o h.1 b
+    | inr b ↦ replies-known modes ws rs loader key o h.1 b
   ]
 
   module _ (rules : List RuleOf) (p : Program) (alike : RespectsCacheKeys (modes_of rules) item) where
-    round-told : (M : Memory) (os : List OrderOf) (round : List ReplyOf) → HoldsItems (modes_of rules) item M → AreReplies (key_by_key item) os round → HoldsItems (modes_of rules) item (after_round rules M round)
-    round-told M os round told h = λ loader key o e. go loader key o (M loader (folded (mode_at (modes_of rules) loader) key)) refl e
+    round-held : (M : Memory) (os : List OrderOf) (round : List ReplyOf) → HoldsItems (modes_of rules) item M → AreReplies (key_by_key item) os round → HoldsItems (modes_of rules) item (after_round rules M round)
+    round-held M os round held h = λ loader key o e. go loader key o (M loader (folded (mode_at (modes_of rules) loader) key)) refl e
       where
         go : (loader : ℕ) (key : KeyOf) (o : OutcomeOf) (r : Option OutcomeOf) → M loader (folded (mode_at (modes_of rules) loader) key) ≡ r
             → option_or r (look (pairs_of (modes_of rules) round) loader (folded (mode_at (modes_of rules) loader) key)) ≡ Some o → o ≡ known (item loader key)
         go loader key o None f e =
-            let t = replies-told (modes_of rules) os round loader (folded (mode_at (modes_of rules) loader) key) o h e in
+            let t = replies-known (modes_of rules) os round loader (folded (mode_at (modes_of rules) loader) key) o h e in
             t.2 ∙ ap known (alike loader t.0 key t.1)
-        go loader key o (Some x) f e = told loader key o (f ∙ e)
+        go loader key o (Some x) f e = held loader key o (f ∙ e)
 
-    rounds-told : (M : Memory) (rs : List (List ReplyOf)) (end : Memory) → HoldsItems (modes_of rules) item M → AreRounds (key_by_key item) rules p M rs end → HoldsItems (modes_of rules) item end
-    rounds-told M [] end told h = λ loader key o e. told loader key o (sym (h loader (folded (mode_at (modes_of rules) loader) key)) ∙ e)
-    rounds-told M (r ∷ rs) end told h = rounds-told (after_round rules M r) rs end (round-told M (round_orders rules (front (modes_of rules) p M)) r told h.1) h.2
+    rounds-held : (M : Memory) (rs : List (List ReplyOf)) (end : Memory) → HoldsItems (modes_of rules) item M → AreRounds (key_by_key item) rules p M rs end → HoldsItems (modes_of rules) item end
+    rounds-held M [] end held h = λ loader key o e. held loader key o (sym (h loader (folded (mode_at (modes_of rules) loader) key)) ∙ e)
+    rounds-held M (r ∷ rs) end held h = rounds-held (after_round rules M r) rs end (round-held M (round_orders rules (front (modes_of rules) p M)) r held h.1) h.2
 
     pub log-direct : (M : Memory) (rs : List (List ReplyOf)) (end : Memory) → HoldsItems (modes_of rules) item M → IsLawful (key_by_key item) rules p M rs end → exec p (read (modes_of rules) end) ≡ exec p (direct item)
-    log-direct M rs end told h =
-        let at : HoldsItems (modes_of rules) item end = rounds-told M rs end told h.0 in
+    log-direct M rs end held h =
+        let at : HoldsItems (modes_of rules) item end = rounds-held M rs end held h.0 in
         let more : AnswersMore (read (modes_of rules) end) (direct item) = λ load o e. ap (λ x. Some x) (sym (at load.loader load.key o e)) in
         sym (exec-stays p (read (modes_of rules) end) (direct item) more ((front-open (modes_of rules) p end).0 h.1))

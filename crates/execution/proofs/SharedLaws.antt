@@ -16,8 +16,8 @@ use Rattle.execution.proofs.RoundLaws.{round-fills, stored-extends}
 
 below-needs : (p : Program) (ps : Programs) (R : Reader) (l : Load) → IsBelow p ps → IsOneOf l (needs p R) → IsOneOf l (all_needs ps R)
 below-needs p End R l h i = absurd h
-below-needs p (With spot q rest) R l (inl e) i = one-left l (needs q R) (all_needs rest R) (rw (← e) i)
-below-needs p (With spot q rest) R l (inr h) i = one-right l (needs q R) (all_needs rest R) (below-needs p rest R l h i)
+below-needs p (With position q rest) R l (inl e) i = one-left l (needs q R) (all_needs rest R) (rw (← e) i)
+below-needs p (With position q rest) R l (inr h) i = one-right l (needs q R) (all_needs rest R) (below-needs p rest R l h i)
 
 neither : (a b : Bool) → (a || b) ≡ false → (a ≡ false) × (b ≡ false)
 neither true b h = absurd (cc h)
@@ -25,8 +25,8 @@ neither false b h = (refl, h)
 
 below-open : (p : Program) (ps : Programs) (R : Reader) → IsBelow p ps → any_open (trees ps R) ≡ false → is_open (tree p R) ≡ false
 below-open p End R h e = absurd h
-below-open p (With spot q rest) R (inl s) e = ap (λ t. is_open (tree t R)) s ∙ (neither (is_open (tree q R)) (any_open (trees rest R)) e).0
-below-open p (With spot q rest) R (inr i) e = below-open p rest R i (neither (is_open (tree q R)) (any_open (trees rest R)) e).1
+below-open p (With position q rest) R (inl s) e = ap (λ t. is_open (tree t R)) s ∙ (neither (is_open (tree q R)) (any_open (trees rest R)) e).0
+below-open p (With position q rest) R (inr i) e = below-open p rest R i (neither (is_open (tree q R)) (any_open (trees rest R)) e).1
 
 pub below-front : (modes : List KeyMode) (kind : Kind) (ps : Programs) (p : Program) (M : Memory) → IsBelow p ps → front modes (Under kind ps) M ≡ [] → front modes p M ≡ []
 below-front modes kind ps p M h e = (front-open modes p M).1 (below-open p ps (read modes M) h ((front-open modes (Under kind ps) M).0 e))

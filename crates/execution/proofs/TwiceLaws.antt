@@ -12,7 +12,7 @@ use Rattle.load_queue.specs.Orders.{OrderOf}
 use Rattle.execution.specs.Loads.{Load, Memory, mode_at, read, IsOneOf}
 use Rattle.execution.specs.Front.{missing, firsts}
 use Rattle.execution.specs.Rounds.{RuleOf, modes_of, round_orders, IsReply, AreReplies, reply_pairs, pairs_of, unless_failed, AreLimited}
-use Rattle.execution.specs.Sessions.{Cell, key_cell, cell_of, AreApart, order_cells, Step, Forgot, Asked, Lost, Primed, Cleared, ClearedAll, after, AreMissing, IsStep, AreSteps, clears, HasFailed, FailedAt, IsAskedAgainRightly}
+use Rattle.execution.specs.Sessions.{Cell, key_cell, cell_of, AreApart, order_cells, Step, Forgot, AskedLoads, Lost, Primed, Cleared, ClearedAll, after, AreMissing, IsStep, AreSteps, clears, HasFailed, FailedAt, IsAskedAgainRightly}
 use Rattle.execution.proofs.Same.{filter-one, firsts-one}
 use Rattle.execution.proofs.ReplyLaws.{make, one-map, look-member, member-some, pairs-from, pair_cell, replies-cells, firsts-apart, orders-apart, orders-loads}
 
@@ -47,7 +47,7 @@ neither false b h = (refl, h)
 
 kept-step : (rules : List RuleOf) (c : Cell) (item : ItemOf) (M : Memory) (step : Step) → M c.0 c.1 ≡ Some (known item) → clears c step ≡ false → after rules M step c.0 c.1 ≡ Some (known item)
 kept-step rules c item M Forgot e h = ap unless_failed e
-kept-step rules c item M (Asked loads replies) e h = rw e refl
+kept-step rules c item M (AskedLoads loads replies) e h = rw e refl
 kept-step rules c item M (Lost loads) e h = e
 kept-step rules c item M (Primed pair) e h = rw e refl
 kept-step rules c item M (Cleared d) e h = rw h e
@@ -105,8 +105,8 @@ module _ (may : ℕ → List KeyOf → AnswerOf → Type 0) where
   some-value (Some o) h = (o, refl)
 
   -- what a round asked has its outcome afterwards
-  pub asked-outcome : (rules : List RuleOf) (M : Memory) (loads : List Load) (replies : List ReplyOf) (c : Cell) → AreLimited rules → IsStep may rules M (Asked loads replies) → IsOneOf c (order_cells (modes_of rules) (round_orders rules loads))
-      → (o : OutcomeOf) × (look (pairs_of (modes_of rules) replies) c.0 c.1 ≡ Some o) × (after rules M (Asked loads replies) c.0 c.1 ≡ Some o)
+  pub asked-outcome : (rules : List RuleOf) (M : Memory) (loads : List Load) (replies : List ReplyOf) (c : Cell) → AreLimited rules → IsStep may rules M (AskedLoads loads replies) → IsOneOf c (order_cells (modes_of rules) (round_orders rules loads))
+      → (o : OutcomeOf) × (look (pairs_of (modes_of rules) replies) c.0 c.1 ≡ Some o) × (after rules M (AskedLoads loads replies) c.0 c.1 ≡ Some o)
   asked-outcome rules M loads replies c positive h one =
       let modes : List KeyMode = modes_of rules in
       let cells : map pair_cell (pairs_of modes replies) ≡ order_cells modes (round_orders rules loads) = replies-cells may modes (round_orders rules loads) replies h.1 in
@@ -124,16 +124,16 @@ module _ (may : ℕ → List KeyOf → AnswerOf → Type 0) where
       let own = own-pair modes r.0.loader c.0 c.1 (batch_fault text) r.0.keys r.0.outcomes r.2 in
       (r.0, r.1, own.0, reply-failed o.0 r.0 text o.1 own.1)
 
-  pub again : (rules : List RuleOf) (M : Memory) (first later : List Load) (replies others : List ReplyOf) (between : List Step) (c : Cell) → AreLimited rules → AreSteps may rules M (Asked first replies ∷ (between ++ Asked later others ∷ []))
+  pub again : (rules : List RuleOf) (M : Memory) (first later : List Load) (replies others : List ReplyOf) (between : List Step) (c : Cell) → AreLimited rules → AreSteps may rules M (AskedLoads first replies ∷ (between ++ AskedLoads later others ∷ []))
       → IsOneOf c (order_cells (modes_of rules) (round_orders rules first)) → IsOneOf c (order_cells (modes_of rules) (round_orders rules later)) → IsAskedAgainRightly (modes_of rules) c replies between
   again rules M first later replies others between c positive h one two =
       let got = asked-outcome rules M first replies c positive h.0 one in
-      let onward : AreSteps may rules (after_all rules (after rules M (Asked first replies)) between) (Asked later others ∷ []) = steps-after rules (after rules M (Asked first replies)) between (Asked later others ∷ []) h.1 in
-      let none : after_all rules (after rules M (Asked first replies)) between c.0 c.1 ≡ None = absent rules (after_all rules (after rules M (Asked first replies)) between) later c positive onward.0.0 two in
+      let onward : AreSteps may rules (after_all rules (after rules M (AskedLoads first replies)) between) (AskedLoads later others ∷ []) = steps-after rules (after rules M (AskedLoads first replies)) between (AskedLoads later others ∷ []) h.1 in
+      let none : after_all rules (after rules M (AskedLoads first replies)) between c.0 c.1 ≡ None = absent rules (after_all rules (after rules M (AskedLoads first replies)) between) later c positive onward.0.0 two in
       go got.0 got.1 got.2 none (list_any (clears c) between) refl
     where
-      go : (o : OutcomeOf) → look (pairs_of (modes_of rules) replies) c.0 c.1 ≡ Some o → after rules M (Asked first replies) c.0 c.1 ≡ Some o → after_all rules (after rules M (Asked first replies)) between c.0 c.1 ≡ None
+      go : (o : OutcomeOf) → look (pairs_of (modes_of rules) replies) c.0 c.1 ≡ Some o → after rules M (AskedLoads first replies) c.0 c.1 ≡ Some o → after_all rules (after rules M (AskedLoads first replies)) between c.0 c.1 ≡ None
           → (b : Bool) → list_any (clears c) between ≡ b → IsAskedAgainRightly (modes_of rules) c replies between
       go o seen there none true e = inl e
       go (batch_fault text) seen there none false e = inr (failed-at rules first replies c text h.0.1 seen)
-      go (known item) seen there none false e = absurd (cc (sym none ∙ kept rules c item (after rules M (Asked first replies)) between there e))
+      go (known item) seen there none false e = absurd (cc (sym none ∙ kept rules c item (after rules M (AskedLoads first replies)) between there e))

@@ -3,7 +3,7 @@
 use Rattle.std.specs.Prelude.{◌≡◌, ℕ, zero, suc, Bool, true, false, ◌||◌, List, [], ◌∷◌, ◌++◌, codes}
 use Rattle.std.specs.List.{flat_map}
 use Rattle.gq_lexer.specs.declared.place.Place.{Place}
-use Rattle.execution.specs.Program.{Leaf, Value, Null, Fault, Kind, Part, Spot, Tree, Open, At, Over, Trees, NoMore, And}
+use Rattle.execution.specs.Program.{Leaf, Value, Null, Fault, Kind, Part, FieldPosition, Tree, Open, At, Over, Trees, NoMore, And}
 
 -- the own value is null or a fault
 abbrev pub HasOwnNull : Tree → Type 0
@@ -14,15 +14,15 @@ HasOwnNull (Over kind below) = ⊥
 HasOwnNull Open = ⊥
 
 -- the position of this number among these is of this type and has this tree
-abbrev pub IsChild : Trees → ℕ → Spot → Tree → Type 0
-IsChild NoMore n spot t = ⊥
-IsChild (And first t0 rest) zero spot t = (first ≡ spot) × (t0 ≡ t)
-IsChild (And first t0 rest) (suc n) spot t = IsChild rest n spot t
+abbrev pub IsChild : Trees → ℕ → FieldPosition → Tree → Type 0
+IsChild NoMore n position t = ⊥
+IsChild (And first t0 rest) zero position t = (first ≡ position) × (t0 ≡ t)
+IsChild (And first t0 rest) (suc n) position t = IsChild rest n position t
 
 -- the way leads from p down to q, and each position below p on it, q included, is of non-null type
 abbrev pub IsNonNullWay : Tree → List ℕ → Tree → Type 0
 IsNonNullWay p [] q = p ≡ q
-IsNonNullWay p (n ∷ way) q = (below : Trees) × (kind : Kind) × (spot : Spot) × (t : Tree) × (p ≡ Over kind below) × IsChild below n spot t × (spot.non_null ≡ true) × IsNonNullWay t way q
+IsNonNullWay p (n ∷ way) q = (below : Trees) × (kind : Kind) × (position : FieldPosition) × (t : Tree) × (p ≡ Over kind below) × IsChild below n position t × (position.non_null ≡ true) × IsNonNullWay t way q
 
 -- A position is null in the response exactly where some position at it or below it has an own null, and each position
 -- between the two, the lower one included, is of non-null type.
@@ -54,8 +54,8 @@ abbrev mutual
   pub AreResponses : Trees → ResponsesOf → Type 0
   AreResponses NoMore NoResponses = Unit {0}
   AreResponses NoMore (Responding part r rs) = ⊥
-  AreResponses (And spot t rest) NoResponses = ⊥
-  AreResponses (And spot t rest) (Responding part r rs) = (part ≡ spot.part) × IsResponse t r × AreResponses rest rs
+  AreResponses (And position t rest) NoResponses = ⊥
+  AreResponses (And position t rest) (Responding part r rs) = (part ≡ position.part) × IsResponse t r × AreResponses rest rs
 
 -- a position with its path, whether its type is non-null, where its errors are, and its tree
 pub record PositionOf : Type 0 where
@@ -73,8 +73,8 @@ abbrev mutual
 
   pub positions_below : List Part → Trees → List PositionOf
   positions_below path NoMore = []
-  positions_below path (And spot t rest) =
-      positions (record { path = path ++ spot.part ∷ []; non_null = spot.non_null; place = spot.place; at = t }) t ++ positions_below path rest
+  positions_below path (And position t rest) =
+      positions (record { path = path ++ position.part ∷ []; non_null = position.non_null; place = position.place; at = t }) t ++ positions_below path rest
 
 -- `data`: of nullable type. An error of its own, which no plan makes, has the place of a text's first character.
 abbrev pub top_position : Tree → PositionOf
@@ -110,7 +110,7 @@ abbrev mutual
 
   pub any_open : Trees → Bool
   any_open NoMore = false
-  any_open (And spot t rest) = is_open t || any_open rest
+  any_open (And position t rest) = is_open t || any_open rest
 
 -- a response with its errors
 pub record AnsweredOf : Type 0 where

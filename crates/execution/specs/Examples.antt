@@ -9,16 +9,16 @@ use Rattle.load_queue.specs.Answers.{given, outcomes_of}
 use Rattle.load_queue.specs.Orders.{OrderOf}
 use Rattle.execution.specs.Loads.{Load, Reader, Memory}
 use Rattle.execution.specs.Rounds.{RuleOf}
-use Rattle.execution.specs.Program.{Text, Own, Value, Null, Fault, ListOf, ObjectOf, Part, Key, Item, Spot, Program, Is, Read, Under, Programs, End, With}
+use Rattle.execution.specs.Program.{Text, LeafValue, Value, Null, Fault, ListOf, ObjectOf, Part, Key, Item, FieldPosition, Program, Is, Read, Under, Programs, End, With}
 use Rattle.execution.specs.Completion.{ResponseOf, NullResponse, LeafResponse, Holding, NoResponses, Responding, ErrorOf, AnsweredOf, null_message}
 
 abbrev pub at_column : ℕ → Place
 at_column column = record { line = 1; column = column }
 
-abbrev pub nullable : Part → ℕ → Spot
+abbrev pub nullable : Part → ℕ → FieldPosition
 nullable part column = record { part = part; non_null = false; place = at_column column }
 
-abbrev pub required : Part → ℕ → Spot
+abbrev pub required : Part → ℕ → FieldPosition
 required part column = record { part = part; non_null = true; place = at_column column }
 
 abbrev pub key : List ℕ → Part
@@ -42,7 +42,7 @@ abbrev pub user_is_null : AnsweredOf
 user_is_null = answered (Holding ObjectOf (Responding (key (codes "user")) NullResponse NoResponses)) (error null_message 13 (key (codes "user") ∷ key (codes "name") ∷ []) ∷ [])
 
 -- `{users{name}}` with the types `[User!]!` and `String!`: the second user has no name
-abbrev pub user : Own → Program
+abbrev pub user : LeafValue → Program
 user name = object (With (required (key (codes "name")) 8) (Is name) End)
 
 abbrev pub users_and_one_without_name : Program
@@ -110,6 +110,12 @@ first_answered load = if load.loader == 0 then Some (known (rows [])) else None
 abbrev pub fault_answered : Reader
 fault_answered load = Some (batch_fault (codes "down"))
 
+-- each of the three fields is null, and has the fault
+abbrev pub three_faults : AnsweredOf
+three_faults =
+    answered (Holding ObjectOf (Responding (key (codes "a")) NullResponse (Responding (key (codes "b")) NullResponse (Responding (key (codes "c")) NullResponse NoResponses))))
+    (error (codes "down") 2 (key (codes "a") ∷ []) ∷ error (codes "down") 4 (key (codes "b") ∷ []) ∷ error (codes "down") 6 (key (codes "c") ∷ []) ∷ [])
+
 -- loader 0 folds its keys and is asked two at once; loader 1 has no limit
 abbrev pub two_loaders : List RuleOf
 two_loaders = record { mode = FoldAscii; limit = Some 2 } ∷ record { mode = Exact; limit = None } ∷ []
@@ -117,12 +123,23 @@ two_loaders = record { mode = FoldAscii; limit = Some 2 } ∷ record { mode = Ex
 abbrev pub five_loads : List Load
 five_loads = load_of 0 (codes "ABC") ∷ record { loader = 1; key = all } ∷ load_of 0 (codes "abc") ∷ load_of 0 (codes "b") ∷ load_of 0 (codes "c") ∷ []
 
+-- the first of each cache key
+abbrev pub four_loads : List Load
+four_loads = load_of 0 (codes "ABC") ∷ record { loader = 1; key = all } ∷ load_of 0 (codes "b") ∷ load_of 0 (codes "c") ∷ []
+
 abbrev pub order : ℕ → List KeyOf → OrderOf
 order loader keys = record { loader = loader; keys = keys }
+
+-- those of loader 0 in pieces of two keys, and then that of loader 1
+abbrev pub three_orders : List OrderOf
+three_orders = order 0 (text (codes "ABC") ∷ text (codes "b") ∷ []) ∷ order 0 (text (codes "c") ∷ []) ∷ order 1 (all ∷ []) ∷ []
 
 -- two keys of loader 0, answered by one item
 abbrev pub one_item_too_few : ReplyOf
 one_item_too_few = record { loader = 0; keys = text (codes "ABC") ∷ text (codes "b") ∷ []; outcomes = outcomes_of 2 (given (rows [] ∷ [])) }
+
+abbrev pub one_of_two : OutcomeOf
+one_of_two = batch_fault (codes "the source answered 1 results for 2 keys")
 
 abbrev pub nothing_known : Memory
 nothing_known loader key = None

@@ -16,7 +16,7 @@ abbrev mutual
 
   pub pulls_down : Trees → Bool
   pulls_down NoMore = false
-  pulls_down (And spot t rest) = (spot.non_null && nulls t) || pulls_down rest
+  pulls_down (And position t rest) = (position.non_null && nulls t) || pulls_down rest
 
 abbrev mutual
   pub response : Tree → ResponseOf
@@ -28,7 +28,7 @@ abbrev mutual
 
   pub responses : Trees → ResponsesOf
   responses NoMore = NoResponses
-  responses (And spot t rest) = Responding spot.part (response t) (responses rest)
+  responses (And position t rest) = Responding position.part (response t) (responses rest)
 
 -- the errors of a position and of those below it, in depth-first order
 abbrev mutual
@@ -39,7 +39,7 @@ abbrev mutual
 
   pub all_errors : List Part → Trees → List ErrorOf
   all_errors path NoMore = []
-  all_errors path (And spot t rest) = errors spot.non_null spot.place (path ++ spot.part ∷ []) t ++ all_errors path rest
+  all_errors path (And position t rest) = errors position.non_null position.place (path ++ position.part ∷ []) t ++ all_errors path rest
 
 abbrev pub completed : Tree → AnsweredOf
 completed t = record { response = response t; errors = errors false (top_position t).place [] t }

@@ -3,7 +3,7 @@ use Rattle.std.specs.Prelude.{ℕ, ◌==◌, if◌then◌else◌, not, List, [],
 use Rattle.std.specs.List.{filter}
 use Rattle.load_memory.specs.Keys.{KeyOf}
 use Rattle.load_memory.specs.declared.key.KeyMode.{KeyMode}
-use Rattle.load_queue.specs.Wanted.{WantedOf, with_wanted}
+use Rattle.load_queue.specs.Wanted.{WantedOf, nothing_wanted, with_wanted}
 use Rattle.execution.specs.Loads.{Load, Reader, Memory, read, same}
 use Rattle.execution.specs.Program.{Program, needs}
 
@@ -28,6 +28,10 @@ front_of_keys modes loader keys M = firsts modes (missing (read modes M) (map (�
 abbrev pub wanting : List WantedOf → List Load → List WantedOf
 wanting wants [] = wants
 wanting wants (l ∷ ls) = wanting (with_wanted wants l.loader l.key) ls
+
+-- the wants of loaders of these modes, with these loads in order
+abbrev pub wanted : List KeyMode → List Load → List WantedOf
+wanted modes ls = wanting (map nothing_wanted modes) ls
 
 abbrev pub modes_wanted : List WantedOf → List KeyMode
 modes_wanted wants = map (λ w. w.mode) wants

@@ -7,3 +7,4 @@ pub mod Rounds
 pub mod Residual
 pub mod Examples
 pub mod Sessions
+pub mod Logs

@@ -13,10 +13,10 @@ pub data Leaf : Type 0 where
   Boolean : Bool → Leaf
 
 -- the own value of a position with nothing below it; a fault has its text
-pub data Own : Type 0 where
-  Value : Leaf → Own
-  Null : Own
-  Fault : List ℕ → Own
+pub data LeafValue : Type 0 where
+  Value : Leaf → LeafValue
+  Null : LeafValue
+  Fault : List ℕ → LeafValue
 
 -- what a position with others below it is
 pub data Kind : Type 0 where
@@ -29,7 +29,7 @@ pub data Part : Type 0 where
   Item : ℕ → Part
 
 -- a position: the last step of its path, its type, and where its errors are: at the first field of its group
-pub record Spot : Type 0 where
+pub record FieldPosition : Type 0 where
   pub part : Part
   pub non_null : Bool
   pub place : Place
@@ -37,24 +37,24 @@ pub record Spot : Type 0 where
 -- A position has an own value, reads a load and goes on by its outcome, or has positions below it.
 mutual
   pub data Program : Type 0 where
-    Is : Own → Program
+    Is : LeafValue → Program
     Read : Load → (OutcomeOf → Program) → Program
     Under : Kind → Programs → Program
 
   pub data Programs : Type 0 where
     End : Programs
-    With : Spot → Program → Programs → Programs
+    With : FieldPosition → Program → Programs → Programs
 
 -- The execution tree. A position whose load isn't answered is open, and has nothing below it; its siblings go on.
 mutual
   pub data Tree : Type 0 where
     Open : Tree
-    At : Own → Tree
+    At : LeafValue → Tree
     Over : Kind → Trees → Tree
 
   pub data Trees : Type 0 where
     NoMore : Trees
-    And : Spot → Tree → Trees → Trees
+    And : FieldPosition → Tree → Trees → Trees
 
 -- the first where a load isn't answered, else the second at its outcome
 abbrev pub given : {A : Type 0} → Option OutcomeOf → A → (OutcomeOf → A) → A
@@ -70,7 +70,7 @@ abbrev mutual
 
   pub trees : Programs → Reader → Trees
   trees End R = NoMore
-  trees (With spot program rest) R = And spot (tree program R) (trees rest R)
+  trees (With position program rest) R = And position (tree program R) (trees rest R)
 
 -- needs(plan, M): the loads that are read, depth first, a position's own before those below it
 abbrev mutual
@@ -81,7 +81,7 @@ abbrev mutual
 
   pub all_needs : Programs → Reader → List Load
   all_needs End R = []
-  all_needs (With spot program rest) R = needs program R ++ all_needs rest R
+  all_needs (With position program rest) R = needs program R ++ all_needs rest R
 
 -- chain(plan, M), *Load chain*: the greatest number of loads that are read along one path
 abbrev mutual
@@ -92,4 +92,4 @@ abbrev mutual
 
   pub all_chain : Programs → Reader → ℕ
   all_chain End R = 0
-  all_chain (With spot program rest) R = max (chain program R) (all_chain rest R)
+  all_chain (With position program rest) R = max (chain program R) (all_chain rest R)

@@ -12,7 +12,7 @@ abbrev mutual
 
   pub all_rest : Programs → Reader → Programs
   all_rest End R = End
-  all_rest (With spot program more) R = With spot (rest program R) (all_rest more R)
+  all_rest (With position program more) R = With position (rest program R) (all_rest more R)
 
 -- the first is of the second, and has done only what the reader answers
 abbrev pub Fits : Program → Program → Reader → Type 0

@@ -130,7 +130,7 @@ all_primed pairs (p ∷ ps) = all_primed (primed pairs p) ps
 -- *Shared rounds*: the program is one of those below a position
 abbrev pub IsBelow : Program → Programs → Type 0
 IsBelow p End = ⊥
-IsBelow p (With spot q rest) = (p ≡ q) ⊎ IsBelow p rest
+IsBelow p (With position q rest) = (p ≡ q) ⊎ IsBelow p rest
 
 abbrev pub one_unless_empty : List Load → ℕ
 one_unless_empty [] = 0

@@ -37,7 +37,7 @@ order_cells modes (o ∷ os) = map (key_cell modes o.loader) o.keys ++ order_cel
 -- A lost round stores nothing.
 pub data Step : Type 0 where
   Forgot : Step
-  Asked : List Load → List ReplyOf → Step
+  AskedLoads : List Load → List ReplyOf → Step
   Lost : List Load → Step
   Primed : PairOf → Step
   Cleared : Cell → Step
@@ -52,7 +52,7 @@ is_cell c d = (c.0 == d.0) && same_key c.1 d.1
 -- the memory after a step
 abbrev pub after : List RuleOf → Memory → Step → Memory
 after rules M Forgot = without_failed M
-after rules M (Asked loads replies) = after_round rules M replies
+after rules M (AskedLoads loads replies) = after_round rules M replies
 after rules M (Lost loads) = M
 after rules M (Primed pair) = stored M (pair ∷ [])
 after rules M (Cleared cell) = without (is_cell cell) M
@@ -64,7 +64,7 @@ AreMissing modes M loads = (needed : List Load) × (loads ≡ firsts modes (miss
 
 abbrev pub IsStep : (ℕ → List KeyOf → AnswerOf → Type 0) → List RuleOf → Memory → Step → Type 0
 IsStep may rules M Forgot = Unit {0}
-IsStep may rules M (Asked loads replies) = AreMissing (modes_of rules) M loads × AreReplies may (round_orders rules loads) replies
+IsStep may rules M (AskedLoads loads replies) = AreMissing (modes_of rules) M loads × AreReplies may (round_orders rules loads) replies
 IsStep may rules M (Lost loads) = AreMissing (modes_of rules) M loads
 IsStep may rules M (Primed pair) = Unit {0}
 IsStep may rules M (Cleared cell) = Unit {0}
@@ -76,7 +76,7 @@ AreSteps may rules M (step ∷ steps) = IsStep may rules M step × AreSteps may 
 
 abbrev pub clears : Cell → Step → Bool
 clears cell Forgot = false
-clears cell (Asked loads replies) = false
+clears cell (AskedLoads loads replies) = false
 clears cell (Lost loads) = false
 clears cell (Primed pair) = false
 clears cell (Cleared c) = is_cell c cell

@@ -1,16 +1,16 @@
 //! What holds of the definitions. Each function does nothing: its contract is the law.
-ghost use Rattle.std.specs.Prelude.{◌≡◌, ◌↔◌, ◌≤◌, ◌<◌, ◌⊎◌, map, ℕ, IsSome, List, [], ◌∷◌, ◌++◌, Some, true, length, IsPermutation};
+ghost use Rattle.std.specs.Prelude.{◌≡◌, ◌↔◌, ◌≤◌, ◌<◌, ◌⊎◌, ℕ, IsSome, List, [], Some, true, length, IsPermutation};
 ghost use Rattle.load_memory.specs.declared.key.KeyMode.{KeyMode};
 ghost use Rattle.execution.specs.Loads.{Load, Memory, Reader, read, Extends, AnswersMore, IsOneOf};
-ghost use Rattle.execution.specs.Program.{Program, Programs, Under, Kind, Tree, needs, tree, chain};
+ghost use Rattle.execution.specs.Program.{Program, Tree, needs, tree, chain};
 ghost use Rattle.execution.specs.Completion.{IsNullAt, IsCompletion, AnsweredOf};
-ghost use Rattle.execution.specs.Front.{front, front_of_keys, firsts, wanting, modes_wanted, keys_for};
+ghost use Rattle.execution.specs.Front.{front, front_of_keys, firsts, wanting, wanted, modes_wanted, keys_for};
 ghost use Rattle.load_memory.specs.Replies.{ReplyOf};
-ghost use Rattle.execution.specs.Rounds.{RuleOf, modes_of, any_answer, IsLawful, IsSparing, AreLimited, HasLoaders, key_by_key, direct, RespectsCacheKeys, HoldsItems, round_orders, AreReplies, AreRounds, after_round, stored, all_primed, IsBelow, own_rounds};
+ghost use Rattle.execution.specs.Rounds.{modes_of, any_answer, AreLimited, key_by_key, direct, stored, all_primed};
 ghost use Rattle.load_memory.specs.Keys.{KeyOf};
-ghost use Rattle.load_memory.specs.Outcomes.{ItemOf};
-ghost use Rattle.execution.specs.Sessions.{Cell, Step, Asked, AreSteps, AreMissing, AreApart, order_cells, asked_cells, IsAskedAgainRightly, IsAnsweredIn};
-ghost use Rattle.load_queue.specs.Wanted.{WantedOf, nothing_wanted, keys_wanted};
+ghost use Rattle.execution.specs.Sessions.{AreMissing, AreApart, IsAskedAgainRightly};
+ghost use Rattle.execution.specs.Logs.{LogOf, HasRounds, IsLawfulLog, IsBoundedLog, IsSparingRun, longest_chain, count_of_own, IsPartOf, IsOfPart, IsSharedLog, executed, FitsItems, AreBothLawful, IsSameMemory, HasPair, IsAnsweredBy, log_cells, IsLimitedRound, AgreeAfter, round_cells, TwiceOf, AsksTwice};
+ghost use Rattle.load_queue.specs.Wanted.{WantedOf, keys_wanted};
 ghost use Rattle.load_memory.specs.Pairs.{PairOf, look};
 ghost use Rattle.execution.specs.Residual.{rest, Fits, unanswered};
 ghost use Rattle.execution.specs.Executed.{exec, nulls};
@@ -28,7 +28,7 @@ pub fn completion()
 pub fn monotone_execution()
     ensures defined { (modes : List KeyMode) (p : Program) (M : Memory) → IsSome (exec p (read modes M)) ↔ (front modes p M ≡ []) }
     ensures same { (modes : List KeyMode) (p : Program) (M N : Memory) → Extends M N → front modes p M ≡ [] → exec p (read modes N) ≡ exec p (read modes M) }
-    ensures grows { (modes : List KeyMode) (p : Program) (M N : Memory) (load : Load) → Extends M N → IsOneOf load (needs p (read modes M)) → IsOneOf load (needs p (read modes N)) }
+    ensures grows { (modes : _) (p : _) (M N : Memory) (load : _) → Extends M N → IsOneOf load (needs p (read modes M)) → IsOneOf load (needs p (read modes N)) }
 {}
 
 /// A suspended program fits a reader if it has done only what the reader answers; a fresh program fits every reader. A
@@ -46,16 +46,15 @@ pub fn suspended_programs()
 /// first of equal cache keys; and wants that were empty then hold the front's keys for each loader.
 pub fn wants_are_the_front()
     ensures first { (wants : List WantedOf) (loads : List Load) → wanting wants (firsts (modes_wanted wants) loads) ≡ wanting wants loads }
-    ensures front { (modes : List KeyMode) (loads : List Load) (loader : ℕ) → loader < length modes
-        → keys_wanted (wanting (map nothing_wanted modes) loads) loader ≡ keys_for loader (firsts modes loads) }
+    ensures front { (modes : _) (loads : _) (loader : ℕ) → loader < length modes
+        → keys_wanted (wanted modes loads) loader ≡ keys_for loader (firsts modes loads) }
 {}
 
 /// *Reply order is immaterial*: whatever the sources answer, the memory after a round is the same for every order of the
 /// round's replies.
 pub fn reply_order_is_immaterial()
-    ensures { (rules : List RuleOf) (p : Program) (M : Memory) (round other : List ReplyOf)
-        → AreLimited rules → AreReplies any_answer (round_orders rules (front (modes_of rules) p M)) round → IsPermutation round other
-        → (loader : ℕ) (key : KeyOf) → after_round rules M other loader key ≡ after_round rules M round loader key }
+    ensures { (rules : _) (p : _) (M : _) (round other : _) → IsLimitedRound rules p M round
+        → IsPermutation round other → AgreeAfter rules M other round }
 {}
 
 /// To prime pairs one after another, each where its key is absent, is to store them.
@@ -66,63 +65,49 @@ pub fn stored_is_primed()
 /// *Rounds within the chain*: whatever the sources answer, a lawful log has at most as many rounds as the load chain over
 /// its last memory has loads.
 pub fn rounds_within_the_chain()
-    ensures { (rules : List RuleOf) (p : Program) (M : Memory) (rounds : List (List ReplyOf)) (end : Memory)
-        → AreLimited rules → HasLoaders (length rules) p → IsLawful any_answer rules p M rounds end
-        → length rounds ≤ chain p (read (modes_of rules) end) }
+    ensures { (log : LogOf) → IsBoundedLog log → length log.rounds ≤ longest_chain log }
 {}
 
 /// *No sparing run is shorter*: whatever the sources answer, a run that asks in each step for any part of what is needed and
 /// missing has no fewer steps than a lawful log has rounds. Some such run has as many, since the log is one itself.
 pub fn no_sparing_run_is_shorter()
-    ensures attained { (rules : List RuleOf) (p : Program) (M : Memory) (rounds : List (List ReplyOf)) (end : Memory)
-        → AreLimited rules → IsLawful any_answer rules p M rounds end
-        → (steps : List Memory) × IsSparing (modes_of rules) p end M steps × (length steps ≡ length rounds) }
-    ensures fewest { (rules : List RuleOf) (p : Program) (M : Memory) (rounds : List (List ReplyOf)) (end : Memory) (steps : List Memory)
-        → AreLimited rules → HasLoaders (length rules) p → IsLawful any_answer rules p M rounds end
-        → IsSparing (modes_of rules) p end M steps → length rounds ≤ length steps }
+    ensures attained { (log : _) → AreLimited log.rules → IsLawfulLog any_answer log
+        → (steps : _) × IsSparingRun log steps × (length steps ≡ length log.rounds) }
+    ensures fewest { (log : LogOf) (steps : List Memory) → IsBoundedLog log → IsSparingRun log steps → length log.rounds ≤ length steps }
 {}
 
 /// *Shared rounds are few*: if several programs share rounds, as the parts of one program, each is executed over the last
 /// memory. Its own rounds are those in which something that it needs was missing: at most its own load chain, and no more
 /// than the steps of any sparing run of it alone. For one of them all rounds are its own.
 pub fn shared_rounds_are_few()
-    ensures executed { (rules : List RuleOf) (kind : Kind) (programs : Programs) (p : Program) (end : Memory)
-        → IsBelow p programs → front (modes_of rules) (Under kind programs) end ≡ [] → front (modes_of rules) p end ≡ [] }
-    ensures chain { (rules : List RuleOf) (kind : Kind) (programs : Programs) (p : Program) (M : Memory) (rounds : List (List ReplyOf)) (end : Memory)
-        → AreLimited rules → HasLoaders (length rules) (Under kind programs) → IsBelow p programs → IsLawful any_answer rules (Under kind programs) M rounds end
-        → own_rounds rules p M rounds ≤ chain p (read (modes_of rules) end) }
-    ensures sparing { (rules : List RuleOf) (kind : Kind) (programs : Programs) (p : Program) (M : Memory) (rounds : List (List ReplyOf)) (end : Memory) (steps : List Memory)
-        → AreLimited rules → HasLoaders (length rules) (Under kind programs) → IsBelow p programs → IsLawful any_answer rules (Under kind programs) M rounds end
-        → IsSparing (modes_of rules) p end M steps → own_rounds rules p M rounds ≤ length steps }
-    ensures greatest { (rules : List RuleOf) (kind : Kind) (programs : Programs) (M : Memory) (rounds : List (List ReplyOf)) (end : Memory)
-        → IsLawful any_answer rules (Under kind programs) M rounds end → 0 < length rounds
-        → (p : Program) × IsBelow p programs × (own_rounds rules p M rounds ≡ length rounds) }
+    ensures executed { (modes : List KeyMode) (whole p : Program) (end : Memory)
+        → IsPartOf p whole → front modes whole end ≡ [] → front modes p end ≡ [] }
+    ensures chain { (log part : LogOf) → IsBoundedLog log → IsOfPart log part → count_of_own part ≤ longest_chain part }
+    ensures sparing { (log part : LogOf) (steps : List Memory) → IsBoundedLog log → IsOfPart log part
+        → IsSparingRun part steps → count_of_own part ≤ length steps }
+    ensures greatest { (log : _) → IsSharedLog log → 0 < length log.rounds
+        → (part : LogOf) × IsOfPart log part × (count_of_own part ≡ length log.rounds) }
 {}
 
 /// *One lawful log*: over sources that answer key by key there is at most one lawful log from a memory, and one memory at its
 /// end. If the sources answer equal cache keys alike, and the memory has at first what they would answer, as an empty one
 /// has, execution over the last memory is direct execution.
 pub fn one_lawful_log()
-    ensures rounds { (item : ℕ → KeyOf → ItemOf) (rules : List RuleOf) (p : Program) (M : Memory) (rounds others : List (List ReplyOf)) (end last : Memory)
-        → IsLawful (key_by_key item) rules p M rounds end → IsLawful (key_by_key item) rules p M others last → rounds ≡ others }
-    ensures memory { (item : ℕ → KeyOf → ItemOf) (rules : List RuleOf) (p : Program) (M : Memory) (rounds others : List (List ReplyOf)) (end last : Memory)
-        → IsLawful (key_by_key item) rules p M rounds end → IsLawful (key_by_key item) rules p M others last
-        → (loader : ℕ) (key : KeyOf) → end loader key ≡ last loader key }
-    ensures direct { (item : ℕ → KeyOf → ItemOf) (rules : List RuleOf) (p : Program) (M : Memory) (rounds : List (List ReplyOf)) (end : Memory)
-        → RespectsCacheKeys (modes_of rules) item → HoldsItems (modes_of rules) item M → IsLawful (key_by_key item) rules p M rounds end
-        → exec p (read (modes_of rules) end) ≡ exec p (direct item) }
+    ensures rounds { (item : _) (log : LogOf) (others : List (List ReplyOf)) (last : Memory)
+        → AreBothLawful item log others last → log.rounds ≡ others }
+    ensures memory { (item : _) (log : LogOf) (others : List (List ReplyOf)) (last : Memory)
+        → AreBothLawful item log others last → IsSameMemory log.end last }
+    ensures direct { (item : _) (log : LogOf) → FitsItems item log → IsLawfulLog (key_by_key item) log
+        → executed log ≡ exec log.program (direct item) }
 {}
 
 /// Within one log no loader is asked twice for one cache key, whatever the sources answer, and each pair of the last memory
 /// was there at first or is in a reply of the log.
 pub fn asked_once_and_answered()
-    ensures once { (rules : List RuleOf) (p : Program) (M : Memory) (rounds : List (List ReplyOf)) (end : Memory)
-        → AreLimited rules → AreRounds any_answer rules p M rounds end → AreApart (asked_cells rules p M rounds) }
-    ensures answered { (rules : List RuleOf) (p : Program) (M : Memory) (rounds : List (List ReplyOf)) (end : Memory) (pair : PairOf)
-        → AreRounds any_answer rules p M rounds end → end pair.loader pair.key ≡ Some pair.outcome
-        → (M pair.loader pair.key ≡ Some pair.outcome) ⊎ IsAnsweredIn (modes_of rules) pair rounds }
-    ensures kept { (rules : List RuleOf) (p : Program) (M : Memory) (rounds : List (List ReplyOf)) (end : Memory)
-        → AreRounds any_answer rules p M rounds end → Extends M end }
+    ensures once { (log : LogOf) → AreLimited log.rules → HasRounds any_answer log → AreApart (log_cells log) }
+    ensures answered { (log : LogOf) (pair : PairOf) → HasRounds any_answer log → HasPair log.end pair
+        → HasPair log.start pair ⊎ IsAnsweredBy log pair }
+    ensures kept { (log : LogOf) → HasRounds any_answer log → Extends log.start log.end }
 {}
 
 /// *No key twice*, over any steps of a session. The rounds of an answer, and that of a list of keys, ask for loads that the
@@ -132,10 +117,8 @@ pub fn asked_once_and_answered()
 pub fn no_key_twice()
     ensures front { (modes : List KeyMode) (p : Program) (M : Memory) → AreMissing modes M (front modes p M) }
     ensures keys { (modes : List KeyMode) (loader : ℕ) (keys : List KeyOf) (M : Memory) → AreMissing modes M (front_of_keys modes loader keys M) }
-    ensures together { (rules : List RuleOf) (M : Memory) (loads : List Load)
-        → AreLimited rules → AreMissing (modes_of rules) M loads → AreApart (order_cells (modes_of rules) (round_orders rules loads)) }
-    ensures again { (rules : List RuleOf) (M : Memory) (first later : List Load) (replies others : List ReplyOf) (between : List Step) (cell : Cell)
-        → AreLimited rules → AreSteps any_answer rules M (Asked first replies ∷ (between ++ Asked later others ∷ []))
-        → IsOneOf cell (order_cells (modes_of rules) (round_orders rules first)) → IsOneOf cell (order_cells (modes_of rules) (round_orders rules later))
-        → IsAskedAgainRightly (modes_of rules) cell replies between }
+    ensures together { (rules : _) (M : _) (loads : List Load) → AreLimited rules → AreMissing (modes_of rules) M loads
+        → AreApart (round_cells rules loads) }
+    ensures again { (rules : _) (M : _) (t : TwiceOf) → AreLimited rules → AsksTwice rules M t
+        → IsAskedAgainRightly (modes_of rules) t.cell t.replies t.between }
 {}

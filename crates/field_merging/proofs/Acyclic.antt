@@ -102,25 +102,25 @@ place-below test n (g ∷ fs) k h = go (test g) (λ e. place-below test (n + 1) 
 -- ---- what a fragment's selections tell the graph
 
 module _ (fragments : List Fragment) (j : ℕ) where
-  abbrev told : List SelectionPart → List ℕ
-  told parts = targets_of (length fragments) fragment_number (filter_map (spread_part fragments) parts) j
+  abbrev spread_from : List SelectionPart → List ℕ
+  spread_from parts = targets_of (length fragments) fragment_number (filter_map (spread_part fragments) parts) j
 
-  told-append : (xs ys : List SelectionPart) → told (xs ++ ys) ≡ told xs ++ told ys
-  told-append xs ys =
+  spread_from-append : (xs ys : List SelectionPart) → spread_from (xs ++ ys) ≡ spread_from xs ++ spread_from ys
+  spread_from-append xs ys =
       ap (λ (ss : List SpreadPart). filter_map (target_of (length fragments) fragment_number j) ss) (filter_map-append (spread_part fragments) xs ys)
       ∙ filter_map-append (target_of (length fragments) fragment_number j) (filter_map (spread_part fragments) xs) (filter_map (spread_part fragments) ys)
 
   abbrev pub Has : ℕ → List SelectionPart → Type 0
-  Has k parts = is_among k (told parts) ≡ true
+  Has k parts = is_among k (spread_from parts) ≡ true
 
-  has-either : (k : ℕ) (xs ys : List SelectionPart) → is_among k (told (xs ++ ys)) ≡ (is_among k (told xs) || is_among k (told ys))
-  has-either k xs ys = ap (is_among k) (told-append xs ys) ∙ list_any-append (λ m. m == k) (told xs) (told ys)
+  has-either : (k : ℕ) (xs ys : List SelectionPart) → is_among k (spread_from (xs ++ ys)) ≡ (is_among k (spread_from xs) || is_among k (spread_from ys))
+  has-either k xs ys = ap (is_among k) (spread_from-append xs ys) ∙ list_any-append (λ m. m == k) (spread_from xs) (spread_from ys)
 
   has-left : (k : ℕ) (xs ys : List SelectionPart) → Has k xs → Has k (xs ++ ys)
-  has-left k xs ys h = has-either k xs ys ∙ ap (λ b. b || is_among k (told ys)) h
+  has-left k xs ys h = has-either k xs ys ∙ ap (λ b. b || is_among k (spread_from ys)) h
 
   has-right : (k : ℕ) (xs ys : List SelectionPart) → Has k ys → Has k (xs ++ ys)
-  has-right k xs ys h = has-either k xs ys ∙ ap (λ b. is_among k (told xs) || b) h ∙ go (is_among k (told xs))
+  has-right k xs ys h = has-either k xs ys ∙ ap (λ b. is_among k (spread_from xs) || b) h ∙ go (is_among k (spread_from xs))
     where
       go : (b : Bool) → (b || true) ≡ true
       go true = refl

@@ -1,4 +1,4 @@
--- Of the sets in which two fields clash the one with the earliest `{` is told.
+-- Of the sets in which two fields clash the one with the earliest `{` is reported.
 use Rattle.std.proofs.Common.{◌≡◌, ◌∙◌, sym, ap, subst, refl, ℕ, ◌<◌, inl, inr, Bool, true, false, ◌&&◌, ◌==◌, cond, List, [], ◌∷◌, Option, Some}
 use Rattle.std.specs.Prelude.{filter, filter_map, find, fold}
 use Rattle.std.specs.List.{list_any}
@@ -11,9 +11,9 @@ use Rattle.merge_table.specs.Clashes.{key_clashes, first_clash, has_clash}
 use Rattle.merge_table.specs.Numbered.{is_in}
 use Rattle.selection_members.specs.Members.{SetOf}
 use Rattle.selection_members.proofs.Below.{AllUnder, AreFields}
-use Rattle.field_merging.specs.Told.{told_set, with_set, earliest_set}
+use Rattle.field_merging.specs.Reports.{report_of_set, with_set, earliest_set}
 
--- ---- a set in which two fields clash is told
+-- ---- a set in which two fields clash is reported
 
 any-found : (test : ℕ → Bool) (ms : List ℕ) → list_any test ms ≡ true → (a : ℕ) × (is_in ms a ≡ true) × (test a ≡ true)
 any-found test [] e = absurd (both_ways false refl e)
@@ -46,29 +46,29 @@ clash-found one_key clashes ms own e =
     find-some (key_clashes one_key clashes ms) ms a.0 a.1
     (any-from (λ x. one_key x a.0 && list_any (clashes x) ms) ms a.0 a.1 (and_from (one_key a.0 a.0) (list_any (clashes a.0) ms) (own a.0 a.1) a.2))
 
--- what is told of a set stands at its `{`
-pub record IsTold (f : SetOf → Option BrokenOf) (s : SetOf) : Type 0 where
+-- what is reported of a set stands at its `{`
+pub record IsReported (f : SetOf → Option BrokenOf) (s : SetOf) : Type 0 where
   pub broken : BrokenOf
   pub is : f s ≡ Some broken
   pub at : broken.place ≡ s.place
 
-abbrev pub AllTold : (SetOf → Option BrokenOf) → List SetOf → Type 0
-AllTold f [] = Unit {0}
-AllTold f (s ∷ ss) = IsTold f s × AllTold f ss
+abbrev pub AllReported : (SetOf → Option BrokenOf) → List SetOf → Type 0
+AllReported f [] = Unit {0}
+AllReported f (s ∷ ss) = IsReported f s × AllReported f ss
 
 module _ (one_key clashes : ℕ → ℕ → Bool) (key : ℕ → List ℕ) (n : ℕ) (own : (a : ℕ) → a < n → one_key a a ≡ true) where
-  clash-told : (s : SetOf) → AllUnder n s.members → has_clash clashes s.members ≡ true → IsTold (told_set one_key clashes key) s
-  clash-told s under e =
+  clash-reported : (s : SetOf) → AllUnder n s.members → has_clash clashes s.members ≡ true → IsReported (report_of_set one_key clashes key) s
+  clash-reported s under e =
       let f = clash-found one_key clashes s.members (λ a h. own a (under a h)) e in
       record { broken = record { name = key f.0; place = s.place }; is = rw f.1 refl; at = refl }
 
-  pub all-told : (sets : List SetOf) → AreFields n sets → AllTold (told_set one_key clashes key) (filter (λ (s : SetOf). has_clash clashes s.members) sets)
-  all-told [] us = tt
-  all-told (s ∷ sets) us = go (has_clash clashes s.members) refl (all-told sets us.1)
+  pub all-reported : (sets : List SetOf) → AreFields n sets → AllReported (report_of_set one_key clashes key) (filter (λ (s : SetOf). has_clash clashes s.members) sets)
+  all-reported [] us = tt
+  all-reported (s ∷ sets) us = go (has_clash clashes s.members) refl (all-reported sets us.1)
     where
-      go : (t : Bool) → has_clash clashes s.members ≡ t → AllTold (told_set one_key clashes key) (filter (λ (s : SetOf). has_clash clashes s.members) sets)
-          → AllTold (told_set one_key clashes key) (cond t (s ∷ filter (λ (s : SetOf). has_clash clashes s.members) sets) (filter (λ (s : SetOf). has_clash clashes s.members) sets))
-      go true e rest = (clash-told s us.0 e, rest)
+      go : (t : Bool) → has_clash clashes s.members ≡ t → AllReported (report_of_set one_key clashes key) (filter (λ (s : SetOf). has_clash clashes s.members) sets)
+          → AllReported (report_of_set one_key clashes key) (cond t (s ∷ filter (λ (s : SetOf). has_clash clashes s.members) sets) (filter (λ (s : SetOf). has_clash clashes s.members) sets))
+      go true e rest = (clash-reported s us.0 e, rest)
       go false e rest = rest
 
 -- ---- the earliest
@@ -81,23 +81,23 @@ module _ (f : SetOf → Option BrokenOf) where
       go true = sym hx
       go false = sym hy
 
-  kept-told : (ss : List SetOf) (a : SetOf) → AllTold f ss → IsTold f a → fold with_broken (f a) (filter_map f ss) ≡ option_and_then f (fold with_set (Some a) ss)
-  kept-told [] a all told = refl
-  kept-told (s ∷ ss) a all told =
+  kept-reported : (ss : List SetOf) (a : SetOf) → AllReported f ss → IsReported f a → fold with_broken (f a) (filter_map f ss) ≡ option_and_then f (fold with_set (Some a) ss)
+  kept-reported [] a all report = refl
+  kept-reported (s ∷ ss) a all report =
       let here = all.0 in
-      let one = here.is in let other = told.is in
-      let step : Some (earlier told.broken here.broken) ≡ f (cond (is_before s.place a.place) s a) = place-same here.broken.place s.place told.broken.place a.place here.broken told.broken s a one other here.at told.at in
-      rw (other, one) (ap (λ (o : Option BrokenOf). fold with_broken o (filter_map f ss)) step ∙ kept-told ss (cond (is_before s.place a.place) s a) all.1 (go (is_before s.place a.place)))
+      let one = here.is in let other = report.is in
+      let step : Some (earlier report.broken here.broken) ≡ f (cond (is_before s.place a.place) s a) = place-same here.broken.place s.place report.broken.place a.place here.broken report.broken s a one other here.at report.at in
+      rw (other, one) (ap (λ (o : Option BrokenOf). fold with_broken o (filter_map f ss)) step ∙ kept-reported ss (cond (is_before s.place a.place) s a) all.1 (go (is_before s.place a.place)))
     where
-      go : (t : Bool) → IsTold f (cond t s a)
+      go : (t : Bool) → IsReported f (cond t s a)
       go true = all.0
-      go false = told
+      go false = report
 
-  pub earliest-told : (ss : List SetOf) → AllTold f ss → earliest (filter_map f ss) ≡ option_and_then f (earliest_set ss)
-  earliest-told [] all = refl
-  earliest-told (s ∷ ss) all =
+  pub earliest-reported : (ss : List SetOf) → AllReported f ss → earliest (filter_map f ss) ≡ option_and_then f (earliest_set ss)
+  earliest-reported [] all = refl
+  earliest-reported (s ∷ ss) all =
       let here = all.0.is in
-      rw here (ap (λ (o : Option BrokenOf). fold with_broken o (filter_map f ss)) (sym here) ∙ kept-told ss s all.1 all.0)
+      rw here (ap (λ (o : Option BrokenOf). fold with_broken o (filter_map f ss)) (sym here) ∙ kept-reported ss s all.1 all.0)
 
 -- the earliest set is one of the sets
 one-under : (n : ℕ) (ss : List SetOf) (a s : SetOf) → AreFields n ss → AllUnder n a.members → fold with_set (Some a) ss ≡ Some s → AllUnder n s.members

@@ -1,4 +1,4 @@
--- What is told of a document whose fields have been compared under their numbers.
+-- What is reported of a document whose fields have been compared under their numbers.
 use Rattle.std.proofs.Common.{◌≡◌, ◌∙◌, sym, ap, refl, ℕ, zero, suc, ◌+◌, ◌<◌, ◌≤◌, Bool, true, false, ◌||◌, ◌&&◌, ◌==◌, cond, List, [], ◌∷◌, ◌++◌, length, map, drop, get_or, append_assoc, Option, Some, None, arith}
 use Rattle.std.specs.Prelude.{slice_get, slice_index_or, filter, filter_map, find, fold}
 use Rattle.std.specs.List.{list_any}
@@ -23,10 +23,10 @@ use Rattle.field_merging.specs.Compare.{have_one_key}
 use Rattle.field_merging.specs.Members.{members_at, fields_of}
 use Rattle.field_merging.specs.Numbered.{AreNumbered, IsInverse, AreInside}
 use Rattle.field_merging.specs.Rule.{IsMerging, key_of}
-use Rattle.field_merging.specs.Told.{told_set, told_sets}
+use Rattle.field_merging.specs.Reports.{report_of_set, reports_of_sets}
 use Rattle.field_merging.proofs.Classes.{same-key}
 use Rattle.field_merging.proofs.Twins.{there, at-is, test-is, renumbers}
-use Rattle.field_merging.proofs.Telling.{told-broken, told-clash}
+use Rattle.field_merging.proofs.Telling.{report-broken, report-clash}
 
 -- ---- tests of lists
 
@@ -84,10 +84,10 @@ fields-kept n test (s ∷ sets) us = go (test s) (fields-kept n test sets us.1)
     go true rest = (us.0, rest)
     go false rest = rest
 
--- ---- the earliest of what is told
+-- ---- the earliest of what is reported
 
-pub told-next : (f : SetOf → Option BrokenOf) (kept : Option BrokenOf) (s : SetOf) (sets : List SetOf) → fold with_broken kept (filter_map f (s ∷ sets)) ≡ fold with_broken (with_broken_if kept (f s)) (filter_map f sets)
-told-next f kept s sets = go (f s) refl
+pub report-next : (f : SetOf → Option BrokenOf) (kept : Option BrokenOf) (s : SetOf) (sets : List SetOf) → fold with_broken kept (filter_map f (s ∷ sets)) ≡ fold with_broken (with_broken_if kept (f s)) (filter_map f sets)
+report-next f kept s sets = go (f s) refl
   where
     go : (o : Option BrokenOf) → f s ≡ o → fold with_broken kept (filter_map f (s ∷ sets)) ≡ fold with_broken (with_broken_if kept (f s)) (filter_map f sets)
     go None e = rw e refl
@@ -104,7 +104,7 @@ module _ (p : PartsOf) (numbers order : List ℕ) (xs : List table.Field) (rows 
     (are : AreNumbered p numbers (members_of_fragment p.document) order xs)
     (inverse : IsInverse order numbers (length order)) (whole : length order ≡ length p.fields) (inside : AreInside p.fields)
     (counted : count_operations p.document.operations + count_fragments p.document.fragments ≡ length p.fields)
-    (len : length xs ≡ length order) (told : TellsAll (Merges (numbered.fields_of xs)) (numbered.fields_of xs) (length xs) rows) where
+    (len : length xs ≡ length order) (decided : TellsAll (Merges (numbered.fields_of xs)) (numbered.fields_of xs) (length xs) rows) where
   abbrev pub n : ℕ
   n = length p.fields
 
@@ -140,7 +140,7 @@ module _ (p : PartsOf) (numbers order : List ℕ) (xs : List table.Field) (rows 
   reflexive a h = let f = there p.fields a h in test-is have_one_key p.fields a a f.0 f.0 f.1 f.1 ∙ same-key.own f.0
 
   tells : (a b : ℕ) → a < n → b < n → Tells (Merges D) D a b (clash rows numbers a b)
-  tells = told-clash D E n numbers (λ i. slice_index_or order i 0) (members_at p) rows renumbered (λ c d hc hd. told c d (omega (arith, len, whole, hc)) (omega (arith, len, whole, hd)))
+  tells = report-clash D E n numbers (λ i. slice_index_or order i 0) (members_at p) rows renumbered (λ c d hc hd. decided c d (omega (arith, len, whole, hc)) (omega (arith, len, whole, hd)))
 
   pub sets-under : AreFields n (sets_of p.document)
   sets-under = document-fields n p.document most
@@ -158,11 +158,11 @@ module _ (p : PartsOf) (numbers order : List ℕ) (xs : List table.Field) (rows 
       find-on (is_key keys numbers) (key_clashes D.one_key (clash rows numbers) ms) ms
       (λ f e. let lt = placed f (us f e) in is (to numbers f) (omega (arith, len, whole, lt)) ∙ key-same ms us f (us f e))
 
-  pub is-told : IsMerging p (earliest (told_sets D.one_key (clash rows numbers) (key_of p) (filter (is_clashing rows numbers) (sets_of p.document))))
-  is-told = (
-    told_sets D.one_key (clash rows numbers) (key_of p) (sets_of p.document),
-    told-broken D n (clash rows numbers) (key_of p) reflexive tells (sets_of p.document) sets-under,
-    ap earliest (kept (told_set D.one_key (clash rows numbers) (key_of p)) (is_clashing rows numbers) (λ s e. rw (unclashing D.one_key (clash rows numbers) s.members e) refl) (sets_of p.document)),
+  pub is-reported : IsMerging p (earliest (reports_of_sets D.one_key (clash rows numbers) (key_of p) (filter (is_clashing rows numbers) (sets_of p.document))))
+  is-reported = (
+    reports_of_sets D.one_key (clash rows numbers) (key_of p) (sets_of p.document),
+    report-broken D n (clash rows numbers) (key_of p) reflexive tells (sets_of p.document) sets-under,
+    ap earliest (kept (report_of_set D.one_key (clash rows numbers) (key_of p)) (is_clashing rows numbers) (λ s e. rw (unclashing D.one_key (clash rows numbers) s.members e) refl) (sets_of p.document)),
   )
 
 -- ---- sets one after another

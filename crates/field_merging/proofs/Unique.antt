@@ -1,4 +1,4 @@
--- Of a document's broken sets one is told.
+-- Of a document's broken sets one is reported.
 use Rattle.std.proofs.Common.{◌≡◌, ◌∙◌, sym, ap, subst, ℕ, List, [], ◌∷◌, Option, refl, ◌⊎◌, inl, inr}
 use Rattle.std.specs.Prelude.{Bool}
 use Rattle.document_parts.specs.Broken.{BrokenOf, earliest}

@@ -15,7 +15,7 @@ use Rattle.field_merging.specs.declared.known.Grounds.{Grounds}
 use Rattle.field_merging.specs.Members.{fields_of}
 use Rattle.field_merging.specs.Numbered.{AreNumbered}
 use Rattle.field_merging.specs.Rule.{key_of}
-use Rattle.field_merging.specs.Told.{AreCompared}
+use Rattle.field_merging.specs.Reports.{AreCompared}
 
 -- ---- before
 

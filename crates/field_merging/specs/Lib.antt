@@ -6,5 +6,5 @@ pub mod Members
 pub mod Numbered
 pub mod Orders
 pub mod Rule
-pub mod Told
+pub mod Reports
 pub mod Selected

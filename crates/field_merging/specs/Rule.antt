@@ -27,6 +27,6 @@ key_of p = at response_key [] p.fields
 abbrev pub FieldMerging : PartsOf → List BrokenOf → Type 0
 FieldMerging p bs = AreBroken (fields_of p) (key_of p) (sets_of p.document) bs
 
--- what is told: the broken set with the earliest `{`, if any is broken
+-- what is reported: the broken set with the earliest `{`, if any is broken
 abbrev pub IsMerging : PartsOf → Option BrokenOf → Type 0
-IsMerging p told = (bs : List BrokenOf) × FieldMerging p bs × (told ≡ earliest bs)
+IsMerging p report = (bs : List BrokenOf) × FieldMerging p bs × (report ≡ earliest bs)

@@ -14,8 +14,8 @@ ghost use Rattle.field_merging.specs.Numbered.{as_written};
 ghost use Rattle.field_merging.specs.Rule.{IsMerging};
 ghost use Rattle.field_merging.specs.Selected.{own_members, own_selected, selecting_sets, looked_up};
 
-/// Of the selection sets of a document that can't be merged one is told, with its first response key that has a failing pair.
-pub fn one_set_is_told()
+/// Of the selection sets of a document that can't be merged one is reported, with its first response key that has a failing pair.
+pub fn one_set_is_reported()
     ensures { (p : PartsOf) (a b : Option BrokenOf) → IsMerging p a → IsMerging p b → a ≡ b }
 {}
 

@@ -13,7 +13,7 @@ ghost use Rattle.spread_graph.specs.Graphs.{graph_of};
 ghost use Rattle.spread_graph.specs.Rules.{fragment_cycles};
 ghost use Rattle.field_merging.specs.Knowledge.{document_in, IsFragmentOrder, IsCompared, fields_in, clash_in, key_in, set_in, HasFieldsOf};
 ghost use Rattle.field_merging.specs.Rule.{IsMerging};
-ghost use Rattle.field_merging.specs.Told.{told_set, earlier_set, earliest_set};
+ghost use Rattle.field_merging.specs.Reports.{report_of_set, earlier_set, earliest_set};
 
 use crate::agreeing::agree_by_key;
 use crate::attributes::response_key;
@@ -57,11 +57,11 @@ fn first_clashing<'d>(compared: &Compared<'_, 'd>, set: ClashingSet<'d>) -> Opti
 }
 
 // The fault to report for a set in which two fields conflict.
-fn told<'d>(compared: &Compared<'_, 'd>, set: ClashingSet<'d>) -> Option<Broken<'d>>
+fn report<'d>(compared: &Compared<'_, 'd>, set: ClashingSet<'d>) -> Option<Broken<'d>>
     requires compared { IsCompared compared.now }
     requires under { HasFieldsOf compared.now (set_in compared.now set) }
     requires inside { IsInside (length compared.now.grounds.numbers.now) set }
-    ensures { option_map broken_of result ≡ told_set (fields_in compared.now).one_key (clash_in compared.now) (key_in compared.now) (set_in compared.now set.entry) }
+    ensures { option_map broken_of result ≡ report_of_set (fields_in compared.now).one_key (clash_in compared.now) (key_in compared.now) (set_in compared.now set.entry) }
 {
     let number = first_clashing(compared, set)?;
     let field = &compared.grounds.parts.fields[number];
@@ -96,16 +96,16 @@ fn earliest_set<'d>(sets: &[ClashingSet<'d>]) -> Option<ClashingSet<'d>>
 }
 
 // Finds the set with the earliest `{` that can't merge. Only in that set does it look for the response key to report.
-fn first_told<'d>(
+fn first_report<'d>(
     alloc: Global,
     compared: &Compared<'_, 'd>,
 ) -> Result<Option<Broken<'d>>, AllocError>
     requires compared { IsCompared compared.now }
-    ensures { IfOk result (λ told. IsMerging (parts_in compared.now.grounds.parts.now) (option_map broken_of told)) }
+    ensures { IfOk result (λ report. IsMerging (parts_in compared.now.grounds.parts.now) (option_map broken_of report)) }
 {
     let sets = clashing_sets(alloc, compared)?;
     match earliest_set(&sets) {
-        Some(set) => Ok(told(compared, set)),
+        Some(set) => Ok(report(compared, set)),
         None => Ok(None),
     }
 }
@@ -118,7 +118,7 @@ fn compare<'d>(
 ) -> Result<Option<Broken<'d>>, AllocError>
     requires fragments { IsFragmentOrder fragments.now grounds }
     requires ranked { ∥ AreRanked (place_in (document_in grounds).fragments) (document_in grounds).fragments ∥₁ }
-    ensures { IfOk result (λ told. IsMerging (parts_in grounds.entry.parts.now) (option_map broken_of told)) }
+    ensures { IfOk result (λ report. IsMerging (parts_in grounds.entry.parts.now) (option_map broken_of report)) }
 {
     let fields = fields_in_order(alloc, &grounds, fragments)?;
     let rows = failing_pairs(alloc, &fields)?;
@@ -136,7 +136,7 @@ fn compare<'d>(
         rows: &rows,
         fragments: &known,
     };
-    first_told(alloc, &compared)
+    first_report(alloc, &compared)
 }
 
 /// Field Selection Merging: the selection set with the earliest `{` that can't be merged, by its first response key with a
@@ -154,7 +154,7 @@ pub fn field_merging<'d>(
     requires graph { graph.now ≡ graph_of (parts_in parts.now) }
     requires cycles { fragment_cycles (parts_in parts.now) ≡ [] }
     requires few { length (parts_in parts.now).fields ≤ 1024 }
-    ensures { IfOk result (λ told. IsMerging (parts_in parts.now) (option_map broken_of told)) }
+    ensures { IfOk result (λ report. IsMerging (parts_in parts.now) (option_map broken_of report)) }
 {
     if agree_by_key(alloc, parts)? {
         return Ok(None);

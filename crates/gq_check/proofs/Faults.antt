@@ -15,7 +15,7 @@ pub second-none : {A : Type 0} (a b : Option A) → or_else a b ≡ None → b �
 second-none (Some x) b h = cc
 second-none None b h = h
 
--- a fault that says the verdict is the one that is told
+-- a fault that says the verdict is the one that is reported
 pub tells : (verdict : Option FaultOf → Type 0) (e : CheckFault) (f : FaultOf) → fault_of e ≡ Some f → verdict (Some f) → IsCheckFault verdict e
 tells verdict (check.Rule r name p) f says is = subst verdict (sym says) is
 tells verdict check.TooComplex f says is = subst verdict (sym says) is

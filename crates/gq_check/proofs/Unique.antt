@@ -10,7 +10,7 @@ use Rattle.field_merging.specs.Rule.{IsMerging}
 use Rattle.gq_check.specs.declared.fault.Rule.TheVariants as rule
 use Rattle.gq_check.specs.Verdict.{FaultOf, breaks, first_fault, IsVerdictAfter, IsVerdict}
 
--- of the selection sets of a document one is told at most
+-- of the selection sets of a document one is reported at most
 abbrev pub OneSet : Type 0
 OneSet = (p : PartsOf) (a b : Option BrokenOf) → IsMerging p a → IsMerging p b → a ≡ b
 

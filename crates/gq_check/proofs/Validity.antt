@@ -9,30 +9,30 @@ use Rattle.gq_parser.specs.Tree.{Document}
 use Rattle.schema_syntax.specs.Tree.{Definition}
 use Rattle.document_parts.specs.Listing.{parts_of}
 use Rattle.document_parts.specs.Parts.{PartsOf}
-use Rattle.document_rules.specs.OperationNames.{operation_name_uniqueness}
-use Rattle.document_rules.specs.LoneAnonymous.{lone_anonymous_operation}
-use Rattle.document_rules.specs.ArgumentNames.{argument_uniqueness}
-use Rattle.document_rules.specs.FragmentNames.{fragment_name_uniqueness}
-use Rattle.document_rules.specs.FragmentsUsed.{fragments_must_be_used}
-use Rattle.document_rules.specs.SpreadTargets.{fragment_spread_target_defined}
-use Rattle.document_rules.specs.DirectivesDefined.{directives_are_defined}
-use Rattle.document_rules.specs.DirectiveLocations.{directives_are_in_valid_locations}
-use Rattle.document_rules.specs.DirectivesUnique.{directives_are_unique_per_location}
-use Rattle.document_rules.specs.VariableNames.{variable_uniqueness}
-use Rattle.document_rules.specs.UsesDefined.{all_variable_uses_defined}
-use Rattle.document_rules.specs.VariablesUsed.{all_variables_used}
+use Rattle.document_rules.specs.OperationNameUniqueness.{operation_name_uniqueness}
+use Rattle.document_rules.specs.LoneAnonymousOperation.{lone_anonymous_operation}
+use Rattle.document_rules.specs.ArgumentUniqueness.{argument_uniqueness}
+use Rattle.document_rules.specs.FragmentNameUniqueness.{fragment_name_uniqueness}
+use Rattle.document_rules.specs.FragmentsMustBeUsed.{fragments_must_be_used}
+use Rattle.document_rules.specs.FragmentSpreadTargetDefined.{fragment_spread_target_defined}
+use Rattle.document_rules.specs.DirectivesAreDefined.{directives_are_defined}
+use Rattle.document_rules.specs.DirectivesAreInValidLocations.{directives_are_in_valid_locations}
+use Rattle.document_rules.specs.DirectivesAreUniquePerLocation.{directives_are_unique_per_location}
+use Rattle.document_rules.specs.VariableUniqueness.{variable_uniqueness}
+use Rattle.document_rules.specs.AllVariableUsesDefined.{all_variable_uses_defined}
+use Rattle.document_rules.specs.AllVariablesUsed.{all_variables_used}
 use Rattle.document_rules.specs.NotServed.{not_served}
 use Rattle.document_rules.specs.TooComplex.{is_too_complex}
 use Rattle.typed_rules.specs.FieldSelections.{unknown_fields}
-use Rattle.typed_rules.specs.LeafSelections.{misfit_fields}
+use Rattle.typed_rules.specs.LeafFieldSelections.{misfit_fields}
 use Rattle.typed_rules.specs.ArgumentNames.{unknown_arguments}
 use Rattle.typed_rules.specs.RequiredArguments.{missing_arguments}
-use Rattle.typed_rules.specs.TypeExistence.{unknown_types}
-use Rattle.typed_rules.specs.CompositeTypes.{leaf_types}
-use Rattle.typed_rules.specs.PossibleSpreads.{impossible_spreads}
-use Rattle.typed_rules.specs.CorrectValues.{wrong_values}
-use Rattle.typed_rules.specs.InputVariables.{non_input_variables}
-use Rattle.typed_rules.specs.AllowedUsages.{forbidden_usages}
+use Rattle.typed_rules.specs.FragmentSpreadTypeExistence.{unknown_types}
+use Rattle.typed_rules.specs.FragmentsOnCompositeTypes.{leaf_types}
+use Rattle.typed_rules.specs.FragmentSpreadIsPossible.{impossible_spreads}
+use Rattle.typed_rules.specs.ValuesOfCorrectType.{wrong_values}
+use Rattle.typed_rules.specs.VariablesAreInputTypes.{non_input_variables}
+use Rattle.typed_rules.specs.AllVariableUsagesAreAllowed.{forbidden_usages}
 use Rattle.spread_graph.specs.Rules.{fragment_cycles, too_deep}
 use Rattle.merge_table.specs.Merging.{Fields, CanMerge}
 use Rattle.merge_table.specs.Numbered.{is_in}
@@ -42,9 +42,9 @@ use Rattle.field_merging.specs.Rule.{AreBroken, none, merges, fails, key_of}
 use Rattle.gq_check.specs.declared.fault.Rule.TheVariants as rule
 use Rattle.gq_check.proofs.Faults.{first-none, second-none}
 use Rattle.gq_check.specs.Valid.{CanBeMerged, KeepsRules}
-use Rattle.gq_check.specs.Verdict.{FaultOf, TooComplex, TooDeep, NotServed, breaks, told, served_fault, operations_fault, fields_fault, arguments_fault, fragments_fault, spreads_fault, values_fault, directives_fault, variables_fault, rules_fault, limits_fault, first_fault, IsMergingFault, IsVerdictAfter}
+use Rattle.gq_check.specs.Verdict.{FaultOf, TooComplex, TooDeep, NotServed, breaks, report, served_fault, operations_fault, fields_fault, arguments_fault, fragments_fault, spreads_fault, values_fault, directives_fault, variables_fault, rules_fault, limits_fault, first_fault, IsMergingFault, IsVerdictAfter}
 
--- ---- what is told where nothing is broken
+-- ---- what is reported where nothing is broken
 
 fold-some : (b : BrokenOf) (bs : List BrokenOf) → fold with_broken (Some b) bs ≡ None → ⊥
 fold-some b [] e = cc e
@@ -58,13 +58,13 @@ unmapped : {A B : Type 0} (f : A → B) (o : Option A) → option_map f o ≡ No
 unmapped f None e = refl
 unmapped f (Some x) e = absurd (cc e)
 
--- nothing is told, so nothing is broken
+-- nothing is reported, so nothing is broken
 kept : (f : BrokenOf → FaultOf) (bs : List BrokenOf) → option_map f (earliest bs) ≡ None → bs ≡ []
 kept f bs e = nothing-broken bs (unmapped f (earliest bs) e)
 
--- nothing is broken, so nothing is told
-untold : (f : BrokenOf → FaultOf) (bs : List BrokenOf) → bs ≡ [] → option_map f (earliest bs) ≡ None
-untold f bs e = ap (λ (b : List BrokenOf). option_map f (earliest b)) e
+-- nothing is broken, so nothing is reported
+unreported : (f : BrokenOf → FaultOf) (bs : List BrokenOf) → bs ≡ [] → option_map f (earliest bs) ≡ None
+unreported f bs e = ap (λ (b : List BrokenOf). option_map f (earliest b)) e
 
 parted : {A : Type 0} (a b : Option A) → or_else a b ≡ None → (a ≡ None) × (b ≡ None)
 parted a b e = (first-none a b e, second-none a b e)
@@ -102,8 +102,8 @@ merging-kept p h =
     all-merge (fields_of p) (key_of p) (sets_of p.document) h.1.0 h.1.1
     (nothing-broken h.1.0 (sym h.1.2 ∙ unmapped (breaks rule.FieldSelectionMerging) h.0 (sym h.2)))
 
-merging-untold : (p : PartsOf) → CanBeMerged p → IsMergingFault p None
-merging-untold p h = (None, ([], none-broken (fields_of p) (key_of p) (sets_of p.document) h, refl), refl)
+merging-unreported : (p : PartsOf) → CanBeMerged p → IsMergingFault p None
+merging-unreported p h = (None, ([], none-broken (fields_of p) (key_of p) (sets_of p.document) h, refl), refl)
 
 -- ---- all rules
 
@@ -113,7 +113,7 @@ not_served_fault b = NotServed b.name b.place
 abbrev too_deep_fault : BrokenOf → FaultOf
 too_deep_fault b = TooDeep b.place
 
--- nothing is told in all, so nothing is told before field merging, nor of it
+-- nothing is reported in all, so nothing is reported before field merging, nor of it
 alone : (p : PartsOf) (first : Option FaultOf) → IsVerdictAfter p first None → (first ≡ None) × IsMergingFault p None
 alone p (Some f) h = absurd (cc h)
 alone p None h = (refl, h)
@@ -135,8 +135,8 @@ before-merging p e =
     let arguments = parted (arguments_fault p) _ fields.1 in
     let fragments = parted (fragments_fault p) _ arguments.1 in
     let spreads = parted (spreads_fault p) _ fragments.1 in
-    let at_spread_targets = parted (told rule.FragmentSpreadTargetDefined (fragment_spread_target_defined p)) _ spreads.0 in
-    let at_cycles = parted (told rule.FragmentSpreadsMustNotFormCycles (fragment_cycles p)) _ at_spread_targets.1 in
+    let at_spread_targets = parted (report rule.FragmentSpreadTargetDefined (fragment_spread_target_defined p)) _ spreads.0 in
+    let at_cycles = parted (report rule.FragmentSpreadsMustNotFormCycles (fragment_cycles p)) _ at_spread_targets.1 in
     let limits = parted (option_map too_deep_fault (earliest (too_deep p))) _ whole.1 in
     (kept (breaks rule.FragmentSpreadsMustNotFormCycles) (fragment_cycles p) at_cycles.0, at-most (length p.fields) (few (is_too_complex p) limits.1))
   where
@@ -155,21 +155,21 @@ valid-keeps p h =
     let spreads = parted (spreads_fault p) _ fragments.1 in
     let values = parted (values_fault p) _ spreads.1 in
     let directives = parted (directives_fault p) _ values.1 in
-    let at_operation_names = parted (told rule.OperationNameUniqueness (operation_name_uniqueness p)) _ operations.0 in
-    let at_selected_fields = parted (told rule.FieldSelections (unknown_fields p)) _ fields.0 in
-    let at_argument_names = parted (told rule.ArgumentNames (unknown_arguments p)) _ arguments.0 in
-    let at_arguments_once = parted (told rule.ArgumentUniqueness (argument_uniqueness p)) _ at_argument_names.1 in
-    let at_fragment_names = parted (told rule.FragmentNameUniqueness (fragment_name_uniqueness p)) _ fragments.0 in
-    let at_fragment_types = parted (told rule.FragmentSpreadTypeExistence (unknown_types p)) _ at_fragment_names.1 in
-    let at_composite_types = parted (told rule.FragmentsOnCompositeTypes (leaf_types p)) _ at_fragment_types.1 in
-    let at_spread_targets = parted (told rule.FragmentSpreadTargetDefined (fragment_spread_target_defined p)) _ spreads.0 in
-    let at_cycles = parted (told rule.FragmentSpreadsMustNotFormCycles (fragment_cycles p)) _ at_spread_targets.1 in
-    let at_known_directives = parted (told rule.DirectivesAreDefined (directives_are_defined p)) _ directives.0 in
-    let at_directive_locations = parted (told rule.DirectivesAreInValidLocations (directives_are_in_valid_locations p)) _ at_known_directives.1 in
-    let at_variables_once = parted (told rule.VariableUniqueness (variable_uniqueness p)) _ directives.1 in
-    let at_input_types = parted (told rule.VariablesAreInputTypes (non_input_variables p)) _ at_variables_once.1 in
-    let at_uses_defined = parted (told rule.AllVariableUsesDefined (all_variable_uses_defined p)) _ at_input_types.1 in
-    let at_variables_used = parted (told rule.AllVariablesUsed (all_variables_used p)) _ at_uses_defined.1 in
+    let at_operation_names = parted (report rule.OperationNameUniqueness (operation_name_uniqueness p)) _ operations.0 in
+    let at_selected_fields = parted (report rule.FieldSelections (unknown_fields p)) _ fields.0 in
+    let at_argument_names = parted (report rule.ArgumentNames (unknown_arguments p)) _ arguments.0 in
+    let at_arguments_once = parted (report rule.ArgumentUniqueness (argument_uniqueness p)) _ at_argument_names.1 in
+    let at_fragment_names = parted (report rule.FragmentNameUniqueness (fragment_name_uniqueness p)) _ fragments.0 in
+    let at_fragment_types = parted (report rule.FragmentSpreadTypeExistence (unknown_types p)) _ at_fragment_names.1 in
+    let at_composite_types = parted (report rule.FragmentsOnCompositeTypes (leaf_types p)) _ at_fragment_types.1 in
+    let at_spread_targets = parted (report rule.FragmentSpreadTargetDefined (fragment_spread_target_defined p)) _ spreads.0 in
+    let at_cycles = parted (report rule.FragmentSpreadsMustNotFormCycles (fragment_cycles p)) _ at_spread_targets.1 in
+    let at_known_directives = parted (report rule.DirectivesAreDefined (directives_are_defined p)) _ directives.0 in
+    let at_directive_locations = parted (report rule.DirectivesAreInValidLocations (directives_are_in_valid_locations p)) _ at_known_directives.1 in
+    let at_variables_once = parted (report rule.VariableUniqueness (variable_uniqueness p)) _ directives.1 in
+    let at_input_types = parted (report rule.VariablesAreInputTypes (non_input_variables p)) _ at_variables_once.1 in
+    let at_uses_defined = parted (report rule.AllVariableUsesDefined (all_variable_uses_defined p)) _ at_input_types.1 in
+    let at_variables_used = parted (report rule.AllVariablesUsed (all_variables_used p)) _ at_uses_defined.1 in
     let limits = parted (option_map too_deep_fault (earliest (too_deep p))) _ whole.1 in
     record {
       served = kept not_served_fault (not_served p) served.0;
@@ -203,54 +203,54 @@ valid-keeps p h =
 
 no-operations : (p : PartsOf) → KeepsRules p → operations_fault p ≡ None
 no-operations p k =
-    together _ _ (untold (breaks rule.OperationNameUniqueness) (operation_name_uniqueness p) k.operation_names)
-    (untold (breaks rule.LoneAnonymousOperation) (lone_anonymous_operation p) k.lone_operation)
+    together _ _ (unreported (breaks rule.OperationNameUniqueness) (operation_name_uniqueness p) k.operation_names)
+    (unreported (breaks rule.LoneAnonymousOperation) (lone_anonymous_operation p) k.lone_operation)
 
 no-fields : (p : PartsOf) → KeepsRules p → fields_fault p ≡ None
 no-fields p k =
-    together _ _ (untold (breaks rule.FieldSelections) (unknown_fields p) k.selected_fields)
-    (untold (breaks rule.LeafFieldSelections) (misfit_fields p) k.leaves)
+    together _ _ (unreported (breaks rule.FieldSelections) (unknown_fields p) k.selected_fields)
+    (unreported (breaks rule.LeafFieldSelections) (misfit_fields p) k.leaves)
 
 no-arguments : (p : PartsOf) → KeepsRules p → arguments_fault p ≡ None
 no-arguments p k =
-    together _ _ (untold (breaks rule.ArgumentNames) (unknown_arguments p) k.argument_names)
-    (together _ _ (untold (breaks rule.ArgumentUniqueness) (argument_uniqueness p) k.arguments_once)
-    (untold (breaks rule.RequiredArguments) (missing_arguments p) k.required_arguments))
+    together _ _ (unreported (breaks rule.ArgumentNames) (unknown_arguments p) k.argument_names)
+    (together _ _ (unreported (breaks rule.ArgumentUniqueness) (argument_uniqueness p) k.arguments_once)
+    (unreported (breaks rule.RequiredArguments) (missing_arguments p) k.required_arguments))
 
 no-fragments : (p : PartsOf) → KeepsRules p → fragments_fault p ≡ None
 no-fragments p k =
-    together _ _ (untold (breaks rule.FragmentNameUniqueness) (fragment_name_uniqueness p) k.fragment_names)
-    (together _ _ (untold (breaks rule.FragmentSpreadTypeExistence) (unknown_types p) k.fragment_types)
-    (together _ _ (untold (breaks rule.FragmentsOnCompositeTypes) (leaf_types p) k.composite_types)
-    (untold (breaks rule.FragmentsMustBeUsed) (fragments_must_be_used p) k.fragments_used)))
+    together _ _ (unreported (breaks rule.FragmentNameUniqueness) (fragment_name_uniqueness p) k.fragment_names)
+    (together _ _ (unreported (breaks rule.FragmentSpreadTypeExistence) (unknown_types p) k.fragment_types)
+    (together _ _ (unreported (breaks rule.FragmentsOnCompositeTypes) (leaf_types p) k.composite_types)
+    (unreported (breaks rule.FragmentsMustBeUsed) (fragments_must_be_used p) k.fragments_used)))
 
 no-spreads : (p : PartsOf) → KeepsRules p → spreads_fault p ≡ None
 no-spreads p k =
-    together _ _ (untold (breaks rule.FragmentSpreadTargetDefined) (fragment_spread_target_defined p) k.spread_targets)
-    (together _ _ (untold (breaks rule.FragmentSpreadsMustNotFormCycles) (fragment_cycles p) k.cycles)
-    (untold (breaks rule.FragmentSpreadIsPossible) (impossible_spreads p) k.possible_spreads))
+    together _ _ (unreported (breaks rule.FragmentSpreadTargetDefined) (fragment_spread_target_defined p) k.spread_targets)
+    (together _ _ (unreported (breaks rule.FragmentSpreadsMustNotFormCycles) (fragment_cycles p) k.cycles)
+    (unreported (breaks rule.FragmentSpreadIsPossible) (impossible_spreads p) k.possible_spreads))
 
 no-values : (p : PartsOf) → KeepsRules p → values_fault p ≡ None
 no-values p k =
-    untold (breaks rule.ValuesOfCorrectType) (wrong_values p) k.values
+    unreported (breaks rule.ValuesOfCorrectType) (wrong_values p) k.values
 
 no-directives : (p : PartsOf) → KeepsRules p → directives_fault p ≡ None
 no-directives p k =
-    together _ _ (untold (breaks rule.DirectivesAreDefined) (directives_are_defined p) k.known_directives)
-    (together _ _ (untold (breaks rule.DirectivesAreInValidLocations) (directives_are_in_valid_locations p) k.directive_locations)
-    (untold (breaks rule.DirectivesAreUniquePerLocation) (directives_are_unique_per_location p) k.directives_once))
+    together _ _ (unreported (breaks rule.DirectivesAreDefined) (directives_are_defined p) k.known_directives)
+    (together _ _ (unreported (breaks rule.DirectivesAreInValidLocations) (directives_are_in_valid_locations p) k.directive_locations)
+    (unreported (breaks rule.DirectivesAreUniquePerLocation) (directives_are_unique_per_location p) k.directives_once))
 
 no-variables : (p : PartsOf) → KeepsRules p → variables_fault p ≡ None
 no-variables p k =
-    together _ _ (untold (breaks rule.VariableUniqueness) (variable_uniqueness p) k.variables_once)
-    (together _ _ (untold (breaks rule.VariablesAreInputTypes) (non_input_variables p) k.input_types)
-    (together _ _ (untold (breaks rule.AllVariableUsesDefined) (all_variable_uses_defined p) k.uses_defined)
-    (together _ _ (untold (breaks rule.AllVariablesUsed) (all_variables_used p) k.variables_used)
-    (untold (breaks rule.AllVariableUsagesAreAllowed) (forbidden_usages p) k.allowed_usages))))
+    together _ _ (unreported (breaks rule.VariableUniqueness) (variable_uniqueness p) k.variables_once)
+    (together _ _ (unreported (breaks rule.VariablesAreInputTypes) (non_input_variables p) k.input_types)
+    (together _ _ (unreported (breaks rule.AllVariableUsesDefined) (all_variable_uses_defined p) k.uses_defined)
+    (together _ _ (unreported (breaks rule.AllVariablesUsed) (all_variables_used p) k.variables_used)
+    (unreported (breaks rule.AllVariableUsagesAreAllowed) (forbidden_usages p) k.allowed_usages))))
 
 no-rules : (p : PartsOf) → KeepsRules p → rules_fault p ≡ None
 no-rules p k =
-    together _ _ (untold not_served_fault (not_served p) k.served)
+    together _ _ (unreported not_served_fault (not_served p) k.served)
     (together _ _ (no-operations p k)
     (together _ _ (no-fields p k)
     (together _ _ (no-arguments p k)
@@ -261,6 +261,6 @@ no-rules p k =
 
 pub keeps-valid : (p : PartsOf) → KeepsRules p → IsVerdictAfter p (first_fault p) None
 keeps-valid p k =
-    let limits = together _ _ (untold too_deep_fault (too_deep p) k.levels) (ap complex k.few_fields) in
+    let limits = together _ _ (unreported too_deep_fault (too_deep p) k.levels) (ap complex k.few_fields) in
     let first = together _ _ (no-rules p k) limits in
-    subst (λ (f : Option FaultOf). IsVerdictAfter p f None) (sym first) (merging-untold p k.merging)
+    subst (λ (f : Option FaultOf). IsVerdictAfter p f None) (sym first) (merging-unreported p k.merging)

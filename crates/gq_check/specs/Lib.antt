@@ -4,6 +4,6 @@ pub mod Plans
 pub mod Prepared
 pub mod Texts
 pub mod Verdict
-pub mod Told
+pub mod Report
 pub mod Planned
 pub mod Valid

@@ -66,7 +66,7 @@ prepare_fault variables.NotObject = fault.VariablesNotObject
 prepare_fault (variables.Bad name) = fault.BadVariable name
 prepare_fault variables.NoMemory = fault.NoMemory
 
--- the fault that is told where a plan is wanted; of memory this says nothing
+-- the fault that is reported where a plan is wanted; of memory this says nothing
 abbrev pub IsPrepareFault : {A : Type 0} → Result A FaultOf → PrepareFault → Type 0
 IsPrepareFault want (fault.NoSuchOperation name) = want ≡ Err (no_such_operation (string_bytes name))
 IsPrepareFault want fault.OperationNeeded = want ≡ Err operation_needed

@@ -1,6 +1,6 @@
 -- The verdict on a document over a schema (section 5): nothing where it is valid, else the first fault in this order: what isn't
 -- served; the rules but Field Selection Merging in the order of their sections' numbers, compared part by part; too many levels;
--- too many fields; Field Selection Merging. Of one rule the earliest place is told.
+-- too many fields; Field Selection Merging. Of one rule the earliest place is reported.
 use Rattle.std.specs.Prelude.{◌≡◌, ℕ, List, Option, Some, None, option_map, string_bytes, if◌then◌else◌}
 use Rattle.gq_lexer.specs.declared.place.Place.{Place}
 use Rattle.gq_parser.specs.Tree.{Document}
@@ -9,30 +9,30 @@ use Rattle.gq_schema.specs.Scan.{or_else}
 use Rattle.document_parts.specs.Broken.{BrokenOf, earliest}
 use Rattle.document_parts.specs.Parts.{PartsOf}
 use Rattle.document_parts.specs.Listing.{parts_of}
-use Rattle.document_rules.specs.OperationNames.{operation_name_uniqueness}
-use Rattle.document_rules.specs.LoneAnonymous.{lone_anonymous_operation}
-use Rattle.document_rules.specs.ArgumentNames.{argument_uniqueness}
-use Rattle.document_rules.specs.FragmentNames.{fragment_name_uniqueness}
-use Rattle.document_rules.specs.FragmentsUsed.{fragments_must_be_used}
-use Rattle.document_rules.specs.SpreadTargets.{fragment_spread_target_defined}
-use Rattle.document_rules.specs.DirectivesDefined.{directives_are_defined}
-use Rattle.document_rules.specs.DirectiveLocations.{directives_are_in_valid_locations}
-use Rattle.document_rules.specs.DirectivesUnique.{directives_are_unique_per_location}
-use Rattle.document_rules.specs.VariableNames.{variable_uniqueness}
-use Rattle.document_rules.specs.UsesDefined.{all_variable_uses_defined}
-use Rattle.document_rules.specs.VariablesUsed.{all_variables_used}
+use Rattle.document_rules.specs.OperationNameUniqueness.{operation_name_uniqueness}
+use Rattle.document_rules.specs.LoneAnonymousOperation.{lone_anonymous_operation}
+use Rattle.document_rules.specs.ArgumentUniqueness.{argument_uniqueness}
+use Rattle.document_rules.specs.FragmentNameUniqueness.{fragment_name_uniqueness}
+use Rattle.document_rules.specs.FragmentsMustBeUsed.{fragments_must_be_used}
+use Rattle.document_rules.specs.FragmentSpreadTargetDefined.{fragment_spread_target_defined}
+use Rattle.document_rules.specs.DirectivesAreDefined.{directives_are_defined}
+use Rattle.document_rules.specs.DirectivesAreInValidLocations.{directives_are_in_valid_locations}
+use Rattle.document_rules.specs.DirectivesAreUniquePerLocation.{directives_are_unique_per_location}
+use Rattle.document_rules.specs.VariableUniqueness.{variable_uniqueness}
+use Rattle.document_rules.specs.AllVariableUsesDefined.{all_variable_uses_defined}
+use Rattle.document_rules.specs.AllVariablesUsed.{all_variables_used}
 use Rattle.document_rules.specs.NotServed.{not_served}
 use Rattle.document_rules.specs.TooComplex.{is_too_complex}
 use Rattle.typed_rules.specs.FieldSelections.{unknown_fields}
-use Rattle.typed_rules.specs.LeafSelections.{misfit_fields}
+use Rattle.typed_rules.specs.LeafFieldSelections.{misfit_fields}
 use Rattle.typed_rules.specs.ArgumentNames.{unknown_arguments}
 use Rattle.typed_rules.specs.RequiredArguments.{missing_arguments}
-use Rattle.typed_rules.specs.TypeExistence.{unknown_types}
-use Rattle.typed_rules.specs.CompositeTypes.{leaf_types}
-use Rattle.typed_rules.specs.PossibleSpreads.{impossible_spreads}
-use Rattle.typed_rules.specs.CorrectValues.{wrong_values}
-use Rattle.typed_rules.specs.InputVariables.{non_input_variables}
-use Rattle.typed_rules.specs.AllowedUsages.{forbidden_usages}
+use Rattle.typed_rules.specs.FragmentSpreadTypeExistence.{unknown_types}
+use Rattle.typed_rules.specs.FragmentsOnCompositeTypes.{leaf_types}
+use Rattle.typed_rules.specs.FragmentSpreadIsPossible.{impossible_spreads}
+use Rattle.typed_rules.specs.ValuesOfCorrectType.{wrong_values}
+use Rattle.typed_rules.specs.VariablesAreInputTypes.{non_input_variables}
+use Rattle.typed_rules.specs.AllVariableUsagesAreAllowed.{forbidden_usages}
 use Rattle.spread_graph.specs.Rules.{fragment_cycles, too_deep}
 use Rattle.field_merging.specs.Rule.{IsMerging}
 use Rattle.gq_check.specs.declared.fault.Rule.{Rule}
@@ -51,9 +51,9 @@ pub data FaultOf : Type 0 where
 abbrev pub breaks : Rule → BrokenOf → FaultOf
 breaks r b = Breaks r b.name b.place
 
--- what is told of a rule, of all that breaks it
-abbrev pub told : Rule → List BrokenOf → Option FaultOf
-told r broken = option_map (breaks r) (earliest broken)
+-- what is reported of a rule, of all that breaks it
+abbrev pub report : Rule → List BrokenOf → Option FaultOf
+report r broken = option_map (breaks r) (earliest broken)
 
 -- ---- the rules, by what they speak of
 
@@ -63,56 +63,56 @@ served_fault p = option_map (λ (b : BrokenOf). NotServed b.name b.place) (earli
 -- section 5.2
 abbrev pub operations_fault : PartsOf → Option FaultOf
 operations_fault p =
-    or_else (told rule.OperationNameUniqueness (operation_name_uniqueness p))
-    (told rule.LoneAnonymousOperation (lone_anonymous_operation p))
+    or_else (report rule.OperationNameUniqueness (operation_name_uniqueness p))
+    (report rule.LoneAnonymousOperation (lone_anonymous_operation p))
 
 -- section 5.3, but Field Selection Merging (section 5.3.2), which comes last
 abbrev pub fields_fault : PartsOf → Option FaultOf
 fields_fault p =
-    or_else (told rule.FieldSelections (unknown_fields p))
-    (told rule.LeafFieldSelections (misfit_fields p))
+    or_else (report rule.FieldSelections (unknown_fields p))
+    (report rule.LeafFieldSelections (misfit_fields p))
 
 -- section 5.4
 abbrev pub arguments_fault : PartsOf → Option FaultOf
 arguments_fault p =
-    or_else (told rule.ArgumentNames (unknown_arguments p))
-    (or_else (told rule.ArgumentUniqueness (argument_uniqueness p))
-    (told rule.RequiredArguments (missing_arguments p)))
+    or_else (report rule.ArgumentNames (unknown_arguments p))
+    (or_else (report rule.ArgumentUniqueness (argument_uniqueness p))
+    (report rule.RequiredArguments (missing_arguments p)))
 
 -- section 5.5.1
 abbrev pub fragments_fault : PartsOf → Option FaultOf
 fragments_fault p =
-    or_else (told rule.FragmentNameUniqueness (fragment_name_uniqueness p))
-    (or_else (told rule.FragmentSpreadTypeExistence (unknown_types p))
-    (or_else (told rule.FragmentsOnCompositeTypes (leaf_types p))
-    (told rule.FragmentsMustBeUsed (fragments_must_be_used p))))
+    or_else (report rule.FragmentNameUniqueness (fragment_name_uniqueness p))
+    (or_else (report rule.FragmentSpreadTypeExistence (unknown_types p))
+    (or_else (report rule.FragmentsOnCompositeTypes (leaf_types p))
+    (report rule.FragmentsMustBeUsed (fragments_must_be_used p))))
 
 -- section 5.5.2
 abbrev pub spreads_fault : PartsOf → Option FaultOf
 spreads_fault p =
-    or_else (told rule.FragmentSpreadTargetDefined (fragment_spread_target_defined p))
-    (or_else (told rule.FragmentSpreadsMustNotFormCycles (fragment_cycles p))
-    (told rule.FragmentSpreadIsPossible (impossible_spreads p)))
+    or_else (report rule.FragmentSpreadTargetDefined (fragment_spread_target_defined p))
+    (or_else (report rule.FragmentSpreadsMustNotFormCycles (fragment_cycles p))
+    (report rule.FragmentSpreadIsPossible (impossible_spreads p)))
 
 -- section 5.6
 abbrev pub values_fault : PartsOf → Option FaultOf
-values_fault p = told rule.ValuesOfCorrectType (wrong_values p)
+values_fault p = report rule.ValuesOfCorrectType (wrong_values p)
 
 -- section 5.7
 abbrev pub directives_fault : PartsOf → Option FaultOf
 directives_fault p =
-    or_else (told rule.DirectivesAreDefined (directives_are_defined p))
-    (or_else (told rule.DirectivesAreInValidLocations (directives_are_in_valid_locations p))
-    (told rule.DirectivesAreUniquePerLocation (directives_are_unique_per_location p)))
+    or_else (report rule.DirectivesAreDefined (directives_are_defined p))
+    (or_else (report rule.DirectivesAreInValidLocations (directives_are_in_valid_locations p))
+    (report rule.DirectivesAreUniquePerLocation (directives_are_unique_per_location p)))
 
 -- section 5.8
 abbrev pub variables_fault : PartsOf → Option FaultOf
 variables_fault p =
-    or_else (told rule.VariableUniqueness (variable_uniqueness p))
-    (or_else (told rule.VariablesAreInputTypes (non_input_variables p))
-    (or_else (told rule.AllVariableUsesDefined (all_variable_uses_defined p))
-    (or_else (told rule.AllVariablesUsed (all_variables_used p))
-    (told rule.AllVariableUsagesAreAllowed (forbidden_usages p)))))
+    or_else (report rule.VariableUniqueness (variable_uniqueness p))
+    (or_else (report rule.VariablesAreInputTypes (non_input_variables p))
+    (or_else (report rule.AllVariableUsesDefined (all_variable_uses_defined p))
+    (or_else (report rule.AllVariablesUsed (all_variables_used p))
+    (report rule.AllVariableUsagesAreAllowed (forbidden_usages p)))))
 
 -- ---- all of them but Field Selection Merging
 
@@ -139,7 +139,7 @@ first_fault p = or_else (rules_fault p) (limits_fault p)
 
 -- ---- all of them
 
--- what is told of Field Selection Merging
+-- what is reported of Field Selection Merging
 abbrev pub IsMergingFault : PartsOf → Option FaultOf → Type 0
 IsMergingFault p v = (broken : Option BrokenOf) × IsMerging p broken × (v ≡ option_map (breaks rule.FieldSelectionMerging) broken)
 
@@ -170,7 +170,7 @@ fault_of (check.TooDeep p) = Some (TooDeep p)
 fault_of (check.NotServed name p) = Some (NotServed (string_bytes name) p)
 fault_of check.NoMemory = None
 
--- the fault that is told where verdicts are these; of memory this says nothing
+-- the fault that is reported where verdicts are these; of memory this says nothing
 abbrev pub IsCheckFault : (Option FaultOf → Type 0) → CheckFault → Type 0
 IsCheckFault verdict (check.Rule r name p) = verdict (Some (Breaks r (string_bytes name) p))
 IsCheckFault verdict check.TooComplex = verdict (Some TooComplex)

@@ -7,14 +7,14 @@ ghost use Rattle.document_parts.specs.Listing.{parts_of};
 ghost use Rattle.gq_check.specs.Valid.{KeepsRules};
 ghost use Rattle.gq_check.specs.Verdict.{FaultOf, IsVerdict, IsValid};
 
-use field_merging::one_set_is_told;
+use field_merging::one_set_is_reported;
 
 /// A document has at most one verdict over a schema. So [`check`](crate::check) returns a fault only if the document isn't
 /// valid.
 pub fn one_verdict()
     ensures { (defs : List schema.Definition) (d : trees.Document) (v w : Option FaultOf) → IsVerdict defs d v → IsVerdict defs d w → v ≡ w }
 {
-    one_set_is_told();
+    one_set_is_reported();
 }
 
 /// A document is valid exactly if it keeps every rule. So [`check`](crate::check) accepts a document only if nothing in it

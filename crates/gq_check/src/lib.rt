@@ -18,8 +18,8 @@ mod operation;
 mod places;
 mod plan;
 mod preparation;
+mod report;
 mod rules;
-mod told;
 mod validation;
 mod variables;
 

@@ -23,7 +23,7 @@ fn validate(alloc: Global, schema: &Schema, document: &Document) -> Result<(), C
     let parts = Parts::new(alloc, schema, &condition, document)?;
     let graph = Graph::new(alloc, &parts)?;
     match verdict(alloc, &parts, &graph)? {
-        Some(told) => Err(told.to_fault(alloc)?),
+        Some(report) => Err(report.to_fault(alloc)?),
         None => Ok(()),
     }
 }

@@ -1,11 +1,24 @@
 -- What a method of the parser does with the tokens that are left.
 use Rattle.std.specs.Prelude.{◌≡◌, ◌≢◌, ◌≤◌, ℕ, Bool, true, false, List, [], ◌∷◌, ◌++◌, length, Result, Ok, Err, Option, Some, None, string_bytes}
+use Rattle.std.specs.declared.string.String.{String}
+use Rattle.std.specs.declared.alloc.Global.{Global}
 use Rattle.gq_lexer.specs.declared.place.Place.{Place}
+use Rattle.gq_lexer.specs.declared.token.Punct.TheVariants.{Dollar, Spread, BracketLeft, BraceLeft}
 use Rattle.gq_parser.specs.declared.fault.Fault as rust
 use Rattle.gq_parser.specs.declared.fault.Fault.TheVariants.{Unexpected, TooDeep, NoMemory}
 use Rattle.gq_parser.specs.declared.fault.ParseFault.{ParseFault}
 use Rattle.gq_parser.specs.declared.fault.ParseFault.TheVariants as fault
 use Rattle.gq_parser.specs.declared.tree.Document as rust-document
+use Rattle.gq_parser.specs.declared.tree.Literal as rust-literal
+use Rattle.gq_parser.specs.declared.tree.TypeRef as rust-type
+use Rattle.gq_parser.specs.declared.tree.TypeCondition as rust-condition
+use Rattle.gq_parser.specs.declared.tree.Selection as rust-selection
+use Rattle.gq_parser.specs.declared.tree.SelectionSet as rust-set
+use Rattle.gq_parser.specs.declared.tree.Field as rust-field
+use Rattle.gq_parser.specs.declared.tree.Inline as rust-inline
+use Rattle.gq_parser.specs.declared.tree.OperationKind.{OperationKind}
+use Rattle.gq_parser.specs.declared.tree.Operation as rust-operation
+use Rattle.gq_parser.specs.declared.tree.Fragment as rust-fragment
 use Rattle.gq_lexer.specs.Place.{place_of}
 use Rattle.gq_parser.specs.declared.keyword.Keyword.{Keyword}
 use Rattle.gq_parser.specs.declared.lexeme.Lexeme as rust-lexeme
@@ -13,10 +26,11 @@ use Rattle.gq_parser.specs.declared.lexeme.Lexeme.TheVariants as lexeme
 use Rattle.gq_parser.specs.declared.definition.Definition as rust-definition
 use Rattle.gq_parser.specs.declared.definition.Definition.TheVariants as definition
 use Rattle.gq_parser.specs.declared.keyword.Keyword.TheVariants.{Query, Mutation, Subscription, On}
+use Rattle.gq_parser.specs.declared.keyword.Keyword.TheVariants as keyword
 use Rattle.gq_parser.specs.Keywords.{keyword_of, IsFragmentName}
 use Rattle.gq_parser.specs.Word.{Word, Punct, Name, Int, Float, Text, Token, at}
-use Rattle.gq_parser.specs.Tree.{Operation, Fragment, operation_of, fragment_of}
-use Rattle.gq_parser.specs.Grammar.{IsOperation, IsFragment, AreDefinitions}
+use Rattle.gq_parser.specs.Tree.{Operation, Fragment, text_if, literal_of, type_of, condition_if, selection_of, field_of, inline_of, set_of, operation_of, fragment_of}
+use Rattle.gq_parser.specs.Grammar.{IsValue, IsType, IsFieldName, IsCondition, IsSelection, IsSelectionSet, IsKind, IsOperation, IsFragment, AreDefinitions}
 use Rattle.gq_parser.specs.Machine.{Symbol, ADefinition, one, Outcome, Stopped, Sunk, read}
 
 abbrev pub Fails : rust.Fault → Outcome → Type 0
@@ -76,6 +90,50 @@ IsNoKind _ = Unit {0}
 abbrev pub IsDefinition : rust-definition.Definition → List Token → List Token → Type 0
 IsDefinition (definition.Operation o) before after = IsOperation (operation_of o) before after
 IsDefinition (definition.Fragment f) before after = IsFragment (fragment_of f) before after
+
+-- ---- what was read, of a tree whose first token or tokens were read before
+
+-- the value that a name says
+abbrev pub IsNamedValue : Place → List ℕ → rust-literal.Literal → Type 0
+IsNamedValue p n v = (constant : Bool) (after : List Token) → IsValue constant (literal_of v) (at p (Name (keyword_of n) n) ∷ after) after
+
+abbrev pub IsTypeAfterName : Place → Keyword → List ℕ → rust-type.TypeRef → List Token → List Token → Type 0
+IsTypeAfterName p k n t before after = IsType (type_of t) (at p (Name k n) ∷ before) after
+
+abbrev pub IsTypeAfterBracket : Place → rust-type.TypeRef → List Token → List Token → Type 0
+IsTypeAfterBracket p t before after = IsType (type_of t) (at p (Punct BracketLeft) ∷ before) after
+
+-- the alias and the name of a field, whose first name was read
+abbrev pub AreNamesAfterFirst : Place → Keyword → String Global → Option (String Global) × String Global → List Token → List Token → Type 0
+AreNamesAfterFirst p k first names before after = IsFieldName p (text_if names.0) (string_bytes names.1) (at p (Name k (string_bytes first)) ∷ before) after
+
+abbrev pub IsFieldAfterName : Place → Keyword → String Global → rust-field.Field → List Token → List Token → Type 0
+IsFieldAfterName p k first f before after = IsSelection (field_of f) (at p (Name k (string_bytes first)) ∷ before) after
+
+abbrev pub IsSelectionAfterDots : Place → rust-selection.Selection → List Token → List Token → Type 0
+IsSelectionAfterDots p s before after = IsSelection (selection_of s) (at p (Punct Spread) ∷ before) after
+
+abbrev pub IsInlineAfterCondition : Place → Option rust-condition.TypeCondition → rust-inline.Inline → List Token → List Token → Type 0
+IsInlineAfterCondition p condition i before after = (mid : List Token) → IsCondition (condition_if condition) mid before → IsSelection (inline_of i) (at p (Punct Spread) ∷ mid) after
+
+abbrev pub IsSetAfterBrace : Place → rust-set.SelectionSet → List Token → List Token → Type 0
+IsSetAfterBrace p s before after = IsSelectionSet (set_of s) (at p (Punct BraceLeft) ∷ before) after
+
+abbrev pub IsOperationAfterKind : Place → OperationKind → rust-operation.Operation → List Token → List Token → Type 0
+IsOperationAfterKind p kind o before after = (k : Keyword) (w : List ℕ) → IsKind kind k → IsOperation (operation_of o) (at p (Name k w) ∷ before) after
+
+-- an operation without a kind
+abbrev pub IsOperationAfterBrace : Place → rust-operation.Operation → List Token → List Token → Type 0
+IsOperationAfterBrace p o before after = IsOperation (operation_of o) (at p (Punct BraceLeft) ∷ before) after
+
+abbrev pub IsFragmentAfterWord : Place → rust-fragment.Fragment → List Token → List Token → Type 0
+IsFragmentAfterWord p f before after = (w : List ℕ) → IsFragment (fragment_of f) (at p (Name keyword.Fragment w) ∷ before) after
+
+-- ---- single tokens
+
+-- a dollar sign was taken, at this place
+abbrev pub IsDollarTaken : Place → List Token → List Token → Type 0
+IsDollarTaken p before after = before ≡ at p (Punct Dollar) ∷ after
 
 -- this punctuator was taken
 abbrev pub IsPunct : Word → List Token → List Token → Type 0

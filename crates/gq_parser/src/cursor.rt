@@ -8,7 +8,7 @@ ghost use Rattle.gq_parser.specs.Word as words;
 ghost use Rattle.gq_parser.specs.Tree.{text_if};
 ghost use Rattle.gq_parser.specs.Grammar.{IsOptionalName};
 ghost use Rattle.gq_parser.specs.Machine.{AName, AFragmentName, AnOn, AColon, ABracket, MaybeName, FirstVariable, MoreVariables, a_variable_then, one};
-ghost use Rattle.gq_parser.specs.Parsing.{Reads, Takes, Eats, IsName, IsPunct, IsFragmentNameTaken, IsOnTaken, IsNoName, IsMissing, says};
+ghost use Rattle.gq_parser.specs.Parsing.{Reads, Takes, Eats, IsName, IsPunct, IsFragmentNameTaken, IsOnTaken, IsDollarTaken, IsNoName, IsMissing, says};
 
 use crate::fault::Fault;
 use crate::keyword::{Keyword, keyword_of};
@@ -185,7 +185,7 @@ impl<'a> Parser<'a> {
 
     /// The dollar sign of a variable's definition, and its place.
     pub(crate) fn dollar(&mut self) -> Result<Place, Fault>
-        ensures reads { (room : _) → Reads (λ p before after. before ≡ at p (words.Punct Punct.Dollar) ∷ after) room (one FirstVariable) room (a_variable_then ++ one MoreVariables) self.old self.new result }
+        ensures reads { (room : _) → Reads IsDollarTaken room (one FirstVariable) room (a_variable_then ++ one MoreVariables) self.old self.new result }
         ensures shrinks { OnOk result (length self.new < length self.old) }
     {
         match self.next()? {

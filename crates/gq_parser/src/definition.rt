@@ -1,13 +1,11 @@
 //! Operations and fragments.
 
-ghost use Rattle.std.specs.Prelude.{◌≡◌, ◌<◌, ◌≤◌, ◌∷◌, [], suc, length, List, ℕ, OnOk, MatchOption, string_bytes};
-ghost use Rattle.gq_parser.specs.declared.keyword.Keyword as keywords;
-ghost use Rattle.gq_parser.specs.Word.{Token, at};
-ghost use Rattle.gq_parser.specs.Word as words;
-ghost use Rattle.gq_parser.specs.Tree.{default_of, variable_of, variables_of, operation_of, fragment_of};
-ghost use Rattle.gq_parser.specs.Grammar.{IsDefault, IsVariable, AreOptionalVariables, IsKind, IsOperation, IsFragment};
+ghost use Rattle.std.specs.Prelude.{◌≡◌, ◌<◌, ◌≤◌, [], suc, length, OnOk, MatchOption, string_bytes};
+ghost use Rattle.gq_parser.specs.Word.{Token};
+ghost use Rattle.gq_parser.specs.Tree.{default_of, variable_of, variables_of};
+ghost use Rattle.gq_parser.specs.Grammar.{IsDefault, IsVariable, AreOptionalVariables, IsKind};
 ghost use Rattle.gq_parser.specs.Machine.{FirstSelection, MaybeDefault, FirstVariable, MoreVariables, MaybeVariables, an_operation_then, a_fragment_then, ADefinition, one};
-ghost use Rattle.gq_parser.specs.Parsing.{Reads, IsDefinition, IsNoKind};
+ghost use Rattle.gq_parser.specs.Parsing.{Reads, IsDefinition, IsOperationAfterKind, IsOperationAfterBrace, IsFragmentAfterWord, IsNoKind};
 
 use crate::cursor::Parser;
 use crate::fault::Fault;
@@ -91,7 +89,7 @@ impl Parser<'_> {
         kind: OperationKind,
         room: u32,
     ) -> Result<Operation, Fault>
-        ensures reads { Reads (λ o before after. (k : keywords.Keyword) (w : List ℕ) → IsKind kind k → IsOperation (operation_of o) (at place (words.Name k w) ∷ before) after) room an_operation_then room [] self.old self.new result }
+        ensures reads { Reads (IsOperationAfterKind place kind) room an_operation_then room [] self.old self.new result }
         ensures shrinks { OnOk result (length self.new ≤ length self.old) }
     {
         let name = self.name_if()?;
@@ -110,7 +108,7 @@ impl Parser<'_> {
 
     /// A fragment, whose first word was read.
     fn fragment(&mut self, place: Place, room: u32) -> Result<Fragment, Fault>
-        ensures reads { Reads (λ f before after. (w : List ℕ) → IsFragment (fragment_of f) (at place (words.Name Keyword.Fragment w) ∷ before) after) room a_fragment_then room [] self.old self.new result }
+        ensures reads { Reads (IsFragmentAfterWord place) room a_fragment_then room [] self.old self.new result }
         ensures shrinks { OnOk result (length self.new ≤ length self.old) }
     {
         let name = self.fragment_name()?;
@@ -129,7 +127,7 @@ impl Parser<'_> {
 
     /// An operation without a kind, whose brace was read.
     fn shorthand(&mut self, place: Place, room: u32) -> Result<Operation, Fault>
-        ensures reads { Reads (λ o before. IsOperation (operation_of o) (at place (words.Punct Punct.BraceLeft) ∷ before)) room (one FirstSelection) (suc room) [] self.old self.new result }
+        ensures reads { Reads (IsOperationAfterBrace place) room (one FirstSelection) (suc room) [] self.old self.new result }
         ensures shrinks { OnOk result (length self.new ≤ length self.old) }
     {
         let selection_set = self.selections(place, room)?;

@@ -19,27 +19,20 @@ pub enum Keyword {
     Other,
 }
 
+/// The keyword that a name is where the grammar expects one.
 #[tactic(auto, unfolding(crate::specs::Keywords::keyword_of))]
-pub(crate) fn keyword_of(name: &str) -> Keyword
+pub fn keyword_of(name: &str) -> Keyword
     ensures { result ≡ keyword_of name.now }
 {
-    if name == "query" {
-        Keyword::Query
-    } else if name == "mutation" {
-        Keyword::Mutation
-    } else if name == "subscription" {
-        Keyword::Subscription
-    } else if name == "fragment" {
-        Keyword::Fragment
-    } else if name == "on" {
-        Keyword::On
-    } else if name == "true" {
-        Keyword::True
-    } else if name == "false" {
-        Keyword::False
-    } else if name == "null" {
-        Keyword::Null
-    } else {
-        Keyword::Other
+    match name {
+        "query" => Keyword::Query,
+        "mutation" => Keyword::Mutation,
+        "subscription" => Keyword::Subscription,
+        "fragment" => Keyword::Fragment,
+        "on" => Keyword::On,
+        "true" => Keyword::True,
+        "false" => Keyword::False,
+        "null" => Keyword::Null,
+        _ => Keyword::Other,
     }
 }

@@ -19,7 +19,7 @@ mod tree;
 mod value;
 
 pub use fault::ParseFault;
-pub use keyword::Keyword;
+pub use keyword::{Keyword, keyword_of};
 pub use law::one_tree;
 pub use reading::parse;
 pub use tree::{

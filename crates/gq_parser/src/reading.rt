@@ -75,7 +75,7 @@ pub fn parse(alloc: Global, text: &str) -> Result<Document, ParseFault>
     // Such a document is found, and there is no other.
     ensures only { (d : trees.Document) → IsDocumentOf text.now d → Finds d result }
 
-    // Otherwise the first fault is told, with its place.
+    // Otherwise the first fault is reported, with its place.
     ensures fault { IfErr result (IsParseFault text.now) }
 {
     let tokens = lex(alloc, text)?;

@@ -1,13 +1,11 @@
 //! Selections and selection sets.
 
-ghost use Rattle.std.specs.Prelude.{◌≡◌, ◌<◌, ◌≤◌, ◌∷◌, [], suc, length, List, OnOk, string_bytes};
+ghost use Rattle.std.specs.Prelude.{◌≡◌, ◌<◌, ◌≤◌, [], suc, length, OnOk, string_bytes};
 ghost use Rattle.gq_parser.specs.declared.keyword.Keyword as keywords;
-ghost use Rattle.gq_parser.specs.Word.{Token, at};
-ghost use Rattle.gq_parser.specs.Word as words;
-ghost use Rattle.gq_parser.specs.Tree.{text_if, condition_of, condition_if, selection_of, field_of, inline_of, set_of, below_of, set_at, map_selections};
-ghost use Rattle.gq_parser.specs.Grammar.{IsFieldName, IsCondition, IsSelection, IsOptionalSet, IsSelectionSet};
+ghost use Rattle.gq_parser.specs.Tree.{condition_of, selection_of, set_of, below_of, set_at, map_selections};
+ghost use Rattle.gq_parser.specs.Grammar.{IsSelection, IsOptionalSet, IsSelectionSet};
 ghost use Rattle.gq_parser.specs.Machine.{AName, AfterName, AfterDots, a_field_then, an_inline_then, MaybeSet, ASet, FirstSelection, MoreSelections, one};
-ghost use Rattle.gq_parser.specs.Parsing.{Reads, IsName};
+ghost use Rattle.gq_parser.specs.Parsing.{Reads, IsName, AreNamesAfterFirst, IsFieldAfterName, IsSelectionAfterDots, IsInlineAfterCondition, IsSetAfterBrace};
 
 use crate::cursor::Parser;
 use crate::fault::Fault;
@@ -18,7 +16,7 @@ use gq_lexer::{Place, Punct};
 impl Parser<'_> {
     /// What a field is called, whose first name was read.
     fn field_name(&mut self, first: String) -> Result<(Option<String>, String), Fault>
-        ensures reads { (room : _) (place : _) (k : keywords.Keyword) → Reads (λ names before. IsFieldName place (text_if names.0) (string_bytes names.1) (at place (words.Name k (string_bytes first)) ∷ before)) room (one AfterName) room [] self.old self.new result }
+        ensures reads { (room : _) (place : _) (k : keywords.Keyword) → Reads (AreNamesAfterFirst place k first) room (one AfterName) room [] self.old self.new result }
         ensures shrinks { OnOk result (length self.new ≤ length self.old) }
     {
         if !self.eat(Punct::Colon) {
@@ -46,7 +44,7 @@ impl Parser<'_> {
     /// A field, whose first name was read.
     #[cycle(selection)]
     fn field(&mut self, place: Place, first: String, room: u32) -> Result<Field, Fault>
-        ensures reads { (k : keywords.Keyword) → Reads (λ f before. IsSelection (field_of f) (at place (words.Name k (string_bytes first)) ∷ before)) room a_field_then room [] self.old self.new result }
+        ensures reads { (k : keywords.Keyword) → Reads (IsFieldAfterName place k first) room a_field_then room [] self.old self.new result }
         ensures shrinks { OnOk result (length self.new ≤ length self.old) }
     {
         let (alias, name) = self.field_name(first)?;
@@ -66,7 +64,7 @@ impl Parser<'_> {
     /// A spread or an inline fragment, whose dots were read.
     #[cycle(selection)]
     fn dots(&mut self, place: Place, room: u32) -> Result<Selection, Fault>
-        ensures reads { Reads (λ s before. IsSelection (selection_of s) (at place (words.Punct Punct.Spread) ∷ before)) room (one AfterDots) room [] self.old self.new result }
+        ensures reads { Reads (IsSelectionAfterDots place) room (one AfterDots) room [] self.old self.new result }
         ensures shrinks { OnOk result (length self.new ≤ length self.old) }
     {
         let Some((_, name)) = self.take_name() else {
@@ -102,7 +100,7 @@ impl Parser<'_> {
         condition: Option<TypeCondition>,
         room: u32,
     ) -> Result<Inline, Fault>
-        ensures reads { Reads (λ i before after. (mid : List Token) → IsCondition (condition_if condition) mid before → IsSelection (inline_of i) (at place (words.Punct Punct.Spread) ∷ mid) after) room an_inline_then room [] self.old self.new result }
+        ensures reads { Reads (IsInlineAfterCondition place condition) room an_inline_then room [] self.old self.new result }
         ensures shrinks { OnOk result (length self.new ≤ length self.old) }
     {
         let directives = self.directives(false, room)?;
@@ -148,7 +146,7 @@ impl Parser<'_> {
     /// A selection set whose brace was read.
     #[cycle(selection)]
     pub(crate) fn selections(&mut self, place: Place, room: u32) -> Result<SelectionSet, Fault>
-        ensures reads { Reads (λ s before. IsSelectionSet (set_of s) (at place (words.Punct Punct.BraceLeft) ∷ before)) room (one FirstSelection) (suc room) [] self.old self.new result }
+        ensures reads { Reads (IsSetAfterBrace place) room (one FirstSelection) (suc room) [] self.old self.new result }
         ensures shrinks { OnOk result (length self.new < length self.old) }
     {
         let mut selections = Vec::with_capacity(self.alloc, 1)?;

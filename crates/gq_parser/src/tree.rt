@@ -2,6 +2,10 @@
 //!
 //! The tree holds all that the text says, so that nobody who has it needs the text again.
 
+ghost use Rattle.std.specs.Prelude.{◌≡◌};
+ghost use Rattle.gq_parser.specs.Tree.{type_of};
+ghost use Rattle.gq_parser.specs.Types.{named_of, named_place, is_non_null, is_list};
+
 use gq_lexer::Place;
 
 /// A document: its operations and its fragments, each in the order of the text (section 2.2).
@@ -179,4 +183,42 @@ pub enum TypeRef {
         /// Whether a `!` follows the `]`.
         non_null: bool,
     },
+}
+
+impl TypeRef {
+    /// The name that its lists and `!`s are around.
+    pub fn named(&self) -> &str
+        ensures { result.now ≡ named_of (type_of self.now) }
+    {
+        match self {
+            TypeRef::Named { name, .. } => name.as_str(),
+            TypeRef::List { item, .. } => item.named(),
+        }
+    }
+
+    /// The place of that name.
+    pub fn named_place(&self) -> Place
+        ensures { result ≡ named_place (type_of self.now) }
+    {
+        match self {
+            TypeRef::Named { place, .. } => *place,
+            TypeRef::List { item, .. } => item.named_place(),
+        }
+    }
+
+    /// Whether a `!` ends it.
+    pub fn is_non_null(&self) -> bool
+        ensures { result ≡ is_non_null (type_of self.now) }
+    {
+        match self {
+            TypeRef::Named { non_null, .. } => *non_null,
+            TypeRef::List { non_null, .. } => *non_null,
+        }
+    }
+
+    pub fn is_list(&self) -> bool
+        ensures { result ≡ is_list (type_of self.now) }
+    {
+        matches!(self, TypeRef::List { .. })
+    }
 }

@@ -3,12 +3,10 @@
 ghost use Rattle.std.specs.Prelude.{◌≡◌, ◌<◌, ◌≤◌, ◌∷◌, [], suc, length, List, OnOk, IfOk, IfErr, string_bytes};
 ghost use Rattle.gq_parser.specs.declared.keyword.Keyword as keywords;
 ghost use Rattle.gq_parser.specs.Keywords.{keyword_of};
-ghost use Rattle.gq_parser.specs.Word.{Token, at};
-ghost use Rattle.gq_parser.specs.Word as words;
 ghost use Rattle.gq_parser.specs.Tree.{literal_of, map_literals, map_members, argument_of, arguments_of, directives_of, type_of};
 ghost use Rattle.gq_parser.specs.Grammar.{IsValue, AreValues, AreMembers, IsType, IsArgument, AreOptionalArguments, AreDirectives};
 ghost use Rattle.gq_parser.specs.Machine.{AValue, MoreValues, MoreMembers, AType, ABracket, MaybeBang, an_argument, MaybeArguments, MaybeDirectives, one};
-ghost use Rattle.gq_parser.specs.Parsing.{Reads};
+ghost use Rattle.gq_parser.specs.Parsing.{Reads, IsNamedValue, IsTypeAfterName, IsTypeAfterBracket};
 
 use crate::cursor::Parser;
 use crate::fault::Fault;
@@ -20,7 +18,7 @@ use std::alloc::Global;
 
 /// What a name says where a value is wanted.
 fn named_value(alloc: Global, place: Place, name: &str) -> Result<Literal, Fault>
-    ensures value { IfOk result (λ v. (constant : _) (after : List Token) → IsValue constant (literal_of v) (at place (words.Name (keyword_of name.now) name.now) ∷ after) after) }
+    ensures value { IfOk result (IsNamedValue place name.now) }
     ensures fault { IfErr result (λ f. f ≡ Fault.NoMemory) }
 {
     match keyword_of(name) {
@@ -200,7 +198,7 @@ impl Parser<'_> {
 
     /// A type whose name was read.
     fn named_type(&mut self, place: Place, name: &str) -> Result<TypeRef, Fault>
-        ensures reads { (room : _) (k : keywords.Keyword) → Reads (λ t before. IsType (type_of t) (at place (words.Name k name.now) ∷ before)) room (one MaybeBang) room [] self.old self.new result }
+        ensures reads { (room : _) (k : keywords.Keyword) → Reads (IsTypeAfterName place k name.now) room (one MaybeBang) room [] self.old self.new result }
         ensures shrinks { OnOk result (length self.new ≤ length self.old) }
     {
         let name = String::from_str(self.alloc, name)?;
@@ -215,7 +213,7 @@ impl Parser<'_> {
     /// A list's type, whose bracket was read.
     #[cycle(type_ref)]
     fn list_type(&mut self, place: Place, room: u32) -> Result<TypeRef, Fault>
-        ensures reads { Reads (λ t before. IsType (type_of t) (at place (words.Punct Punct.BracketLeft) ∷ before)) room (AType ∷ ABracket ∷ one MaybeBang) (suc room) [] self.old self.new result }
+        ensures reads { Reads (IsTypeAfterBracket place) room (AType ∷ ABracket ∷ one MaybeBang) (suc room) [] self.old self.new result }
         ensures shrinks { OnOk result (length self.new ≤ length self.old) }
     {
         let item = self.type_ref(room)?;

@@ -13,7 +13,7 @@ use Rattle.load_memory.specs.Keys.{KeyOf, key_of}
 use Rattle.load_memory.specs.Pairs.{MemoryOf}
 use Rattle.load_memory.specs.Rows.{RowOf}
 use Rattle.execution.specs.Loads.{Load, Reader, AnswersMore}
-use Rattle.execution.specs.Program.{ObjectOf, Key, Spot, Program, Under, Programs, Tree, tree}
+use Rattle.execution.specs.Program.{ObjectOf, Key, FieldPosition, Program, Under, Programs, Tree, tree}
 use Rattle.execution.specs.Completion.{ErrorOf, top_position}
 use Rattle.execution.specs.Executed.{response, completed}
 use Rattle.execution.specs.Residual.{unanswered}
@@ -23,8 +23,8 @@ use Rattle.plan_program.specs.PlanPrograms.{read_key, root_prepared, plan_progra
 use Rattle.gq_resolve.specs.Answered.{json_of, errors_before, answered_json}
 use Rattle.gq_resolve.specs.Groups.{AreKnown, members_seen, Makes, AreMade, AreRight, Grows}
 use Rattle.gq_resolve.specs.Puts.{Put, Begins, Ends, Enters, View, puts}
-use Rattle.gq_resolve.specs.Spots.{onward_of}
-use Rattle.gq_resolve.specs.Evaluated.{told}
+use Rattle.gq_resolve.specs.Positions.{onward_of}
+use Rattle.gq_resolve.specs.Evaluated.{lookup}
 use Rattle.gq_resolve.specs.Suspended.{view_of, IsRooted, MayGoOn, load_of, loads_of, GoesOver, Advanced}
 use Rattle.gq_resolve.specs.Walks.{Goes}
 use Rattle.gq_resolve.specs.Composing.{puts-more, within-rises, asks-narrow}
@@ -51,7 +51,7 @@ rooted-more plan r gs grows is = record { root = makes-more plan r.groups.items 
 
 -- the walk over the root object, which has no row
 pub over-root : {S : Type 0} {goes : Putting S} {below : Below S} {most : ℕ} (plan : PlanOf) (m : MemoryOf) (r : Rooted) (row : RowOf) (ms : List Member) (a b : Progress S) → a.groups ≡ r.groups → row ≡ [] → ms ≡ r.members.items → IsRooted plan r
-    → below (length r.groups.items) a.out → Goes goes below most plan (AreKnown (length a.groups.items) ms) (λ v. puts false (Under ObjectOf (members_seen plan.definitions v most_levels row ms)) (told m)) a b
+    → below (length r.groups.items) a.out → Goes goes below most plan (AreKnown (length a.groups.items) ms) (λ v. puts false (Under ObjectOf (members_seen plan.definitions v most_levels row ms)) (lookup m)) a b
     → GoesOver goes plan m a.out (record { members = r.members; groups = b.groups }, b.out)
 over-root {goes = goes} {below = below} plan m r row ms a b start none same rooted wait p =
     let v : View = view_of plan b.groups.items in
@@ -62,7 +62,7 @@ over-root {goes = goes} {below = below} plan m r row ms a b start none same root
     let from : below (length a.groups.items) a.out = rw start wait in
     record {
       rooted = rooted-more plan (record { members = r.members; groups = a.groups }) b.groups p.grows is;
-      put = subst (λ (us : Programs). goes v (puts false (Under ObjectOf us) (told m)) a.out b.out) fields (p.puts root.known is.right from v (covers-view plan b.groups.items));
+      put = subst (λ (us : Programs). goes v (puts false (Under ObjectOf us) (lookup m)) a.out b.out) fields (p.puts root.known is.right from v (covers-view plan b.groups.items));
     }
 
 -- ---- what is left
@@ -74,8 +74,8 @@ loads-asked v (b ∷ bs) = ap (λ ls. load_of b ∷ ls) (loads-asked v bs)
 
 -- nothing waited, and what is put asks what the plan asks, over a larger memory too
 left-over : (plan : PlanOf) (m : MemoryOf) (r : Rooted) (ps : List Put) (a b : Output) → IsRooted plan r → a.blocked.keys ≡ [] → Puts (view_of plan r.groups.items) ps a b
-    → ((Q : Reader) → AnswersMore (told m) Q → thinned [] (puts_ask Q ps) ≡ thinned [] (asks (plan_program plan) Q)) → thinned [] (puts_ask unanswered ps) ≡ thinned [] (asks (plan_program plan) (told m))
-    → (IsWriting b → b.writer.tokens ≡ json_tokens (answered_json (completed (tree (plan_program plan) (told m))))) → Advanced plan m (r, b)
+    → ((Q : Reader) → AnswersMore (lookup m) Q → thinned [] (puts_ask Q ps) ≡ thinned [] (asks (plan_program plan) Q)) → thinned [] (puts_ask unanswered ps) ≡ thinned [] (asks (plan_program plan) (lookup m))
+    → (IsWriting b → b.writer.tokens ≡ json_tokens (answered_json (completed (tree (plan_program plan) (lookup m))))) → Advanced plan m (r, b)
 left-over plan m r ps a b rooted none put later now written =
     let v : View = view_of plan r.groups.items in
     let asked : (Q : Reader) → thinned [] (all_asks v b.blocked.keys Q) ≡ thinned [] (puts_ask Q ps) = λ Q. put.asked Q ∙ ap (λ xs. thinned (thinned [] (all_asks v xs Q)) (puts_ask Q ps)) none in
@@ -92,42 +92,42 @@ left-over plan m r ps a b rooted none put later now written =
 -- ---- from the root
 
 -- the answer is an object with the member `data`
-abbrev pub data_spot : Spot
-data_spot = record { part = Key (codes "data"); non_null = false; place = record { line = 1; column = 1 } }
+abbrev pub data_position : FieldPosition
+data_position = record { part = Key (codes "data"); non_null = false; place = record { line = 1; column = 1 } }
 
 -- what is put of the whole answer
 abbrev answer_puts : PlanOf → MemoryOf → List Put
-answer_puts plan m = Begins ObjectOf ∷ Enters ObjectOf data_spot ∷ (puts false (plan_program plan) (told m) ++ Ends ObjectOf ∷ [])
+answer_puts plan m = Begins ObjectOf ∷ Enters ObjectOf data_position ∷ (puts false (plan_program plan) (lookup m) ++ Ends ObjectOf ∷ [])
 
-answer-asks : (plan : PlanOf) (m : MemoryOf) (Q : Reader) → puts_ask Q (answer_puts plan m) ≡ puts_ask Q (puts false (plan_program plan) (told m))
-answer-asks plan m Q = flat_map-append (put_asks Q) (puts false (plan_program plan) (told m)) (Ends ObjectOf ∷ []) ∙ append-nil (puts_ask Q (puts false (plan_program plan) (told m)))
+answer-asks : (plan : PlanOf) (m : MemoryOf) (Q : Reader) → puts_ask Q (answer_puts plan m) ≡ puts_ask Q (puts false (plan_program plan) (lookup m))
+answer-asks plan m Q = flat_map-append (put_asks Q) (puts false (plan_program plan) (lookup m)) (Ends ObjectOf ∷ []) ∙ append-nil (puts_ask Q (puts false (plan_program plan) (lookup m)))
 
 -- the tokens of an answer that was written
-answer-tokens : (plan : PlanOf) (m : MemoryOf) (v : View) (a b : Output) → a.writer.tokens ≡ [] → Puts v (answer_puts plan m) a b → IsWriting b → b.writer.tokens ≡ json_tokens (answered_json (completed (tree (plan_program plan) (told m))))
+answer-tokens : (plan : PlanOf) (m : MemoryOf) (v : View) (a b : Output) → a.writer.tokens ≡ [] → Puts v (answer_puts plan m) a b → IsWriting b → b.writer.tokens ≡ json_tokens (answered_json (completed (tree (plan_program plan) (lookup m))))
 answer-tokens plan m v a b none put writing =
-    let t : Tree = tree (plan_program plan) (told m) in
-    let inner : List Put = puts false (plan_program plan) (told m) in
+    let t : Tree = tree (plan_program plan) (lookup m) in
+    let inner : List Put = puts false (plan_program plan) (lookup m) in
     let w = put.written writing in
     let parts = and_parts _ _ (sym (list_all-append is_plain inner (Ends ObjectOf ∷ [])) ∙ w.1) in
-    let here : IsPlain false t (puts_tokens inner) = plain-puts false (plan_program plan) (told m) parts.0 in
+    let here : IsPlain false t (puts_tokens inner) = plain-puts false (plan_program plan) (lookup m) parts.0 in
     w.2 ∙ ap (λ ts. ts ++ puts_tokens (answer_puts plan m)) none
     ∙ ap (λ ts. begin_object ∷ key (codes "data") ∷ ts) (flat_map-append put_tokens inner (Ends ObjectOf ∷ []))
     ∙ sym (ap (λ (es : List ErrorOf). json_tokens (object (errors_before es (member (codes "data") (json_of (response t)) no_members)))) (here.errors (top_position t).place [])
     ∙ ap (λ ts. begin_object ∷ key (codes "data") ∷ (ts ++ end_object ∷ [])) here.tokens)
 
 -- the whole answer was put, one thing after another
-pub answer-written : (plan : PlanOf) (m : MemoryOf) (old : Rooted) (r : Rooted × Output) (a b c d : Output) → a.blocked.keys ≡ [] → a.writer.tokens ≡ [] → ((v : View) → Puts v (Begins ObjectOf ∷ []) a b) → ((v : View) → Puts v (Enters ObjectOf data_spot ∷ []) b c)
+pub answer-written : (plan : PlanOf) (m : MemoryOf) (old : Rooted) (r : Rooted × Output) (a b c d : Output) → a.blocked.keys ≡ [] → a.writer.tokens ≡ [] → ((v : View) → Puts v (Begins ObjectOf ∷ []) a b) → ((v : View) → Puts v (Enters ObjectOf data_position ∷ []) b c)
     → (IsWithin (length old.groups.items) c → GoesOver Puts plan m c r) → ((v : View) → Puts v (Ends ObjectOf ∷ []) r.1 d) → Advanced plan m (r.0, d)
 answer-written plan m old r a b c d none empty begun entered over ended =
     let v : View = view_of plan r.0.groups.items in
     let at : View = view_of plan old.groups.items in
     let over' : GoesOver Puts plan m c r = over ((entered at).within ((begun at).within (subst (AreWithin at.count) (sym none) (λ k d lt. absurd (omega (arith, lt)))))) in
-    let inner : List Put = puts false (plan_program plan) (told m) in
+    let inner : List Put = puts false (plan_program plan) (lookup m) in
     let put : Puts v (answer_puts plan m) a d =
-    puts-more v (Begins ObjectOf ∷ []) (Enters ObjectOf data_spot ∷ (inner ++ Ends ObjectOf ∷ [])) a b d (begun v)
-    (puts-more v (Enters ObjectOf data_spot ∷ []) (inner ++ Ends ObjectOf ∷ []) b c d (entered v) (puts-more v inner (Ends ObjectOf ∷ []) c r.1 d over'.put (ended v))) in
-    left-over plan m r.0 (answer_puts plan m) a d over'.rooted none put (λ Q more. ap (thinned []) (answer-asks plan m Q ∙ asks-puts false (plan_program plan) (told m) Q more))
-    (ap (thinned []) (answer-asks plan m unanswered ∙ waits-puts false (plan_program plan) (told m))) (answer-tokens plan m v a d empty put)
+    puts-more v (Begins ObjectOf ∷ []) (Enters ObjectOf data_position ∷ (inner ++ Ends ObjectOf ∷ [])) a b d (begun v)
+    (puts-more v (Enters ObjectOf data_position ∷ []) (inner ++ Ends ObjectOf ∷ []) b c d (entered v) (puts-more v inner (Ends ObjectOf ∷ []) c r.1 d over'.put (ended v))) in
+    left-over plan m r.0 (answer_puts plan m) a d over'.rooted none put (λ Q more. ap (thinned []) (answer-asks plan m Q ∙ asks-puts false (plan_program plan) (lookup m) Q more))
+    (ap (thinned []) (answer-asks plan m unanswered ∙ waits-puts false (plan_program plan) (lookup m))) (answer-tokens plan m v a d empty put)
 
 -- ---- positions that go on
 
@@ -150,11 +150,11 @@ output_laws = record { more = puts-more; rises = within-rises; stays = λ v ps a
 pub record AreResumed (most : ℕ) (plan : PlanOf) (m : MemoryOf) (all left : List Blocked) (start now : Progress Output) : Type 0 where
   pub before : List Blocked
   pub split : all ≡ before ++ left
-  pub goes : Goes Puts IsWithin most plan (AreWithin (length start.groups.items) all) (λ v. resumed v (told m) before) start now
+  pub goes : Goes Puts IsWithin most plan (AreWithin (length start.groups.items) all) (λ v. resumed v (lookup m) before) start now
 
 -- one more
 pub resumed-one : {most : ℕ} {plan : PlanOf} {m : MemoryOf} {all left after : List Blocked} {start now new : Progress Output} (b : Blocked) (key : KeyOf) → left ≡ b ∷ after → key ≡ key_of b.key
-    → Goes Puts IsWithin most plan (b.onward.group < length now.groups.items) (λ v. puts false (read_key b.loader key (v.after (onward_of b.onward))) (told m)) now new
+    → Goes Puts IsWithin most plan (b.onward.group < length now.groups.items) (λ v. puts false (read_key b.loader key (v.after (onward_of b.onward))) (lookup m)) now new
     → AreResumed most plan m all left start now → AreResumed most plan m all after start new
 resumed-one {m = m} {all = all} {after = after} {start = start} {now = now} b asked next is here h =
     let split : all ≡ h.before ++ b ∷ after = h.split ∙ ap (λ bs. h.before ++ bs) next in
@@ -168,8 +168,8 @@ resumed-one {m = m} {all = all} {after = after} {start = start} {now = now} b as
       before = h.before ++ b ∷ [];
       split = split ∙ sym (append_assoc h.before (b ∷ []) after);
       goes = goes-as (goes-then output_laws among h.goes here)
-          (λ k v cov. ap (λ (x : KeyOf). resumed v (told m) h.before ++ puts false (read_key b.loader x (v.after (onward_of b.onward))) (told m)) is
-          ∙ flat_map_more (λ (x : Blocked). puts false (left_of v x) (told m)) [] h.before b);
+          (λ k v cov. ap (λ (x : KeyOf). resumed v (lookup m) h.before ++ puts false (read_key b.loader x (v.after (onward_of b.onward))) (lookup m)) is
+          ∙ flat_map_more (λ (x : Blocked). puts false (left_of v x) (lookup m)) [] h.before b);
     }
 
 -- all of them went on, and nothing was written
@@ -178,7 +178,7 @@ pub all-resumed : {most : ℕ} {plan : PlanOf} {m : MemoryOf} {all left : List B
 all-resumed {plan = plan} {m = m} {all = all} {start = start} {now = now} r same none blind ended h may =
     let v : View = view_of plan now.groups.items in
     let old : View = view_of plan r.groups.items in
-    let R : Reader = told m in
+    let R : Reader = lookup m in
     let whole : h.before ≡ all = sym (append-nil h.before) ∙ sym (h.split ∙ ap (λ bs. h.before ++ bs) ended) in
     let grows : Grows plan r.groups.items now.groups.items = rw same h.goes.grows in
     let within : AreWithin (length start.groups.items) all = rw (← same) may.within in

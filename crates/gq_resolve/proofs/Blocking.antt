@@ -11,13 +11,13 @@ use Rattle.load_memory.proofs.Looks.{same_key-is}
 use Rattle.load_memory.proofs.PartLaws.{key-eq}
 use Rattle.execution.specs.Loads.{Load, Reader}
 use Rattle.gq_resolve.specs.Puts.{Waits, View, waiting}
-use Rattle.gq_resolve.specs.Spots.{onward_of}
+use Rattle.gq_resolve.specs.Positions.{onward_of}
 use Rattle.gq_resolve.specs.Written.{asks, thinned, left_of, all_asks, AreWithin, Puts}
 use Rattle.gq_resolve.specs.Composing.{thinned-append}
 use Rattle.gq_resolve.specs.declared.output.Blocked.{Blocked}
 use Rattle.gq_resolve.specs.declared.output.Output.{Output}
 use Rattle.gq_resolve.specs.contracts.output.BlockedPartialEq.TheImpl as blocked_eq
-use Rattle.gq_resolve.specs.contracts.spot.OnwardPartialEq.TheImpl as onward_eq
+use Rattle.gq_resolve.specs.contracts.positions.OnwardPartialEq.TheImpl as onward_eq
 use Rattle.gq_resolve.proofs.Thinning.{noted-again}
 
 later-same : (p q : Option ℕ) → option_eq (λ (a b : ℕ). a == b) p q ≡ true → p ≡ q

@@ -3,7 +3,7 @@ use Rattle.std.proofs.Common.{◌≡◌, ◌≤◌, ◌<◌, ◌+◌, ◌-◌, �
 use Rattle.std.specs.Prelude.{reverse}
 use Rattle.std.proofs.lemmas.List.{reverse-append, set_split, drop_all, take_more, take_all}
 use Rattle.execution.specs.Loads.{Reader}
-use Rattle.execution.specs.Program.{Own, Kind, ListOf, ObjectOf, Part, Key, Item, Spot, Program, At, tree}
+use Rattle.execution.specs.Program.{LeafValue, Kind, ListOf, ObjectOf, Part, Key, Item, FieldPosition, Program, At, tree}
 use Rattle.execution.specs.Completion.{ResponseOf, NullResponse, Holding, ResponsesOf, NoResponses, Responding, ErrorOf, own_errors}
 use Rattle.execution.specs.Executed.{completed}
 use Rattle.gq_resolve.specs.Answered.{is_null_response, answer_text}
@@ -42,42 +42,42 @@ counted-sum key size old new same around e = record { same_key = same; same_arou
 -- ---- one put
 
 rest-placed : (most : ℕ) (all kept : BuiltOf) (l k : LevelOf) (ls ks : List LevelOf) (r got : ResponseOf) (top errors : ℕ) → KeepsRest most all kept top errors → KeepsRest most (placed_in (l ∷ ls) r all) (placed_in (k ∷ ks) got kept) top errors
-rest-placed most all kept l k ls ks r got top errors h = record { spot = refl; top_least = h.top_least; top_whole = h.top_whole; errors_least = h.errors_least; errors_fit = h.errors_fit; errors_whole = h.errors_whole }
+rest-placed most all kept l k ls ks r got top errors h = record { position = refl; top_least = h.top_least; top_whole = h.top_whole; errors_least = h.errors_least; errors_fit = h.errors_fit; errors_whole = h.errors_whole }
 
-level-counted : (most : ℕ) (ls : List LevelOf) (all kept : BuiltOf) (l k : LevelOf) (r got : ResponseOf) (key size : ℕ) (n m : Least) (ns : List Least) → kept.spot ≡ all.spot → KeepsLevel most ls l k n ns → IsSure most (n.around + n.parts) (l ∷ ls) all.spot.part r got key size → AreCounted key size n m
-    → KeepsLevel most ls (level_with all.spot r l) (level_with kept.spot got k) m ns
-level-counted most ls all kept l k r got key size n m ns spot h sure c =
-    let part : Part = step_in l.kind (count_of l.parts) all.spot.part in
+level-counted : (most : ℕ) (ls : List LevelOf) (all kept : BuiltOf) (l k : LevelOf) (r got : ResponseOf) (key size : ℕ) (n m : Least) (ns : List Least) → kept.position ≡ all.position → KeepsLevel most ls l k n ns → IsSure most (n.around + n.parts) (l ∷ ls) all.position.part r got key size → AreCounted key size n m
+    → KeepsLevel most ls (level_with all.position r l) (level_with kept.position got k) m ns
+level-counted most ls all kept l k r got key size n m ns position h sure c =
+    let part : Part = step_in l.kind (count_of l.parts) all.position.part in
     record {
-      spot = h.spot;
+      position = h.position;
       kind = h.kind;
-      pulled = rw (spot, h.pulled, sure.null) refl;
-      key = subst (λ (x : ℕ). x ≤ key_size ls l.spot.part) (sym c.same_key) h.key;
-      parts = omega (arith, sizes-put l.kind l.parts part r, step-size l.kind (count_of l.parts) all.spot.part, c.least, h.parts, sure.key_least, sure.least);
+      pulled = rw (position, h.pulled, sure.null) refl;
+      key = subst (λ (x : ℕ). x ≤ key_size ls l.position.part) (sym c.same_key) h.key;
+      parts = omega (arith, sizes-put l.kind l.parts part r, step-size l.kind (count_of l.parts) all.position.part, c.least, h.parts, sure.key_least, sure.least);
       fits = c.fits;
       inside = subst (λ (x : ℕ). x ≤ bytes_in ns) (sym c.same_around) h.inside;
       whole = λ le.
           let few : AreFew most (n.around + n.parts + size) = c.covers most le in
           let parts : k.parts ≡ l.parts = h.whole (omega (arith, few)) in
           let same : got ≡ r = sure.whole few in
-          rw (parts, h.kind, spot, same) refl;
+          rw (parts, h.kind, position, same) refl;
     }
 
-pub placed-inside : (most : ℕ) (all kept : BuiltOf) (als kls : List LevelOf) (r got : ResponseOf) (key size : ℕ) (n m : Least) (ns : List Least) (top errors : ℕ) → KeepLevels most als kls (n ∷ ns) → KeepsRest most all kept top errors → IsSure most (bytes_in (n ∷ ns)) als all.spot.part r got key size → AreCounted key size n m
+pub placed-inside : (most : ℕ) (all kept : BuiltOf) (als kls : List LevelOf) (r got : ResponseOf) (key size : ℕ) (n m : Least) (ns : List Least) (top errors : ℕ) → KeepLevels most als kls (n ∷ ns) → KeepsRest most all kept top errors → IsSure most (bytes_in (n ∷ ns)) als all.position.part r got key size → AreCounted key size n m
     → Keeps most (placed_in als r all) (placed_in kls got kept) (m ∷ ns) top errors
 placed-inside most all kept [] [] r got key size n m ns top errors h rest sure c = absurd h
 placed-inside most all kept [] (k ∷ ks) r got key size n m ns top errors h rest sure c = absurd h
 placed-inside most all kept (l ∷ ls) [] r got key size n m ns top errors h rest sure c = absurd h
 placed-inside most all kept (l ∷ ls) (k ∷ ks) r got key size n m ns top errors h rest sure c = record {
-  levels = (level-counted most ls all kept l k r got key size n m ns rest.spot h.0 sure c, h.1);
+  levels = (level-counted most ls all kept l k r got key size n m ns rest.position h.0 sure c, h.1);
   rest = rest-placed most all kept l k ls ks r got top errors rest;
 }
 
-pub placed-root : (most : ℕ) (all kept : BuiltOf) (als kls : List LevelOf) (r got : ResponseOf) (key size : ℕ) (top errors : ℕ) → KeepLevels most als kls [] → KeepsRest most all kept top errors → IsSure most 0 als all.spot.part r got key size
+pub placed-root : (most : ℕ) (all kept : BuiltOf) (als kls : List LevelOf) (r got : ResponseOf) (key size : ℕ) (top errors : ℕ) → KeepLevels most als kls [] → KeepsRest most all kept top errors → IsSure most 0 als all.position.part r got key size
     → Keeps most (placed_in als r all) (placed_in kls got kept) [] size errors
 placed-root most all kept [] [] r got key size top errors h rest sure = record {
   levels = tt;
-  rest = record { spot = refl; top_least = sure.least; top_whole = λ le. sure.whole (omega (arith, le)); errors_least = rest.errors_least; errors_fit = rest.errors_fit; errors_whole = rest.errors_whole };
+  rest = record { position = refl; top_least = sure.least; top_whole = λ le. sure.whole (omega (arith, le)); errors_least = rest.errors_least; errors_fit = rest.errors_fit; errors_whole = rest.errors_whole };
 }
 placed-root most all kept [] (k ∷ ks) r got key size top errors h rest sure = absurd h
 placed-root most all kept (l ∷ ls) [] r got key size top errors h rest sure = absurd h
@@ -91,7 +91,7 @@ dropped-levels most [] (k ∷ ks) m ns over h = absurd h
 dropped-levels most (l ∷ ls) [] m ns over h = absurd h
 dropped-levels most (l ∷ ls) (k ∷ ks) m ns over h = (
   record {
-    spot = h.0.spot;
+    position = h.0.position;
     kind = h.0.kind;
     pulled = h.0.pulled;
     key = h.0.key;
@@ -106,7 +106,7 @@ dropped-levels most (l ∷ ls) (k ∷ ks) m ns over h = (
 pub parts-dropped : (most : ℕ) (all kept : BuiltOf) (m : Least) (ns : List Least) (top errors : ℕ) → most < min (m.around + m.parts) (2 ^ 64 - 1) → Keeps most all kept (m ∷ ns) top errors → Keeps most all (without_last_parts kept) (m ∷ ns) top errors
 parts-dropped most all kept m ns top errors over h = record {
   levels = dropped-levels most all.levels kept.levels m ns over h.levels;
-  rest = record { spot = h.rest.spot; top_least = h.rest.top_least; top_whole = h.rest.top_whole; errors_least = h.rest.errors_least; errors_fit = h.rest.errors_fit; errors_whole = h.rest.errors_whole };
+  rest = record { position = h.rest.position; top_least = h.rest.top_least; top_whole = h.rest.top_whole; errors_least = h.rest.errors_least; errors_fit = h.rest.errors_fit; errors_whole = h.rest.errors_whole };
 }
 
 -- ---- errors
@@ -120,7 +120,7 @@ pub errors-counted : (most : ℕ) (all kept : BuiltOf) (es : List ErrorOf) (ns :
 errors-counted most all kept es ns top old new added sure sum h = record {
   levels = h.levels;
   rest = record {
-    spot = h.rest.spot;
+    position = h.rest.position;
     top_least = h.rest.top_least;
     top_whole = h.rest.top_whole;
     errors_least = omega (arith, errors-append all.errors es, h.rest.errors_least, sure, sum);
@@ -133,7 +133,7 @@ pub errors-dropped : (most : ℕ) (all kept : BuiltOf) (ns : List Least) (top er
 errors-dropped most all kept ns top errors over h = record {
   levels = h.levels;
   rest = record {
-    spot = h.rest.spot;
+    position = h.rest.position;
     top_least = h.rest.top_least;
     top_whole = h.rest.top_whole;
     errors_least = h.rest.errors_least;
@@ -150,7 +150,7 @@ kept-path most [] [] (n ∷ ns) part h = absurd h
 kept-path most [] (k ∷ ks) ns part h = absurd h
 kept-path most (l ∷ ls) [] ns part h = absurd h
 kept-path most (l ∷ ls) (k ∷ ks) [] part h = absurd h
-kept-path most (l ∷ ls) (k ∷ ks) (n ∷ ns) part h = ap (λ (path : List Part). path ++ part ∷ []) (ap (λ (s : Spot). path_in ks s.part) h.0.spot ∙ kept-path most ls ks ns l.spot.part h.1)
+kept-path most (l ∷ ls) (k ∷ ks) (n ∷ ns) part h = ap (λ (path : List Part). path ++ part ∷ []) (ap (λ (s : FieldPosition). path_in ks s.part) h.0.position ∙ kept-path most ls ks ns l.position.part h.1)
 
 path-depth : (most : ℕ) (als kls : List LevelOf) (ns : List Least) (part : Part) → KeepLevels most als kls ns → length ns ≡ length (path_in als part)
 path-depth most [] [] [] part h = refl
@@ -158,7 +158,7 @@ path-depth most [] [] (n ∷ ns) part h = absurd h
 path-depth most [] (k ∷ ks) ns part h = absurd h
 path-depth most (l ∷ ls) [] ns part h = absurd h
 path-depth most (l ∷ ls) (k ∷ ks) [] part h = absurd h
-path-depth most (l ∷ ls) (k ∷ ks) (n ∷ ns) part h = omega (arith, length-append (path_in ls l.spot.part) (part ∷ []), path-depth most ls ks ns l.spot.part h.1)
+path-depth most (l ∷ ls) (k ∷ ks) (n ∷ ns) part h = omega (arith, length-append (path_in ls l.position.part) (part ∷ []), path-depth most ls ks ns l.position.part h.1)
 
 kept-key : (most : ℕ) (als kls : List LevelOf) (ns : List Least) (part : Part) → KeepLevels most als kls ns → key_size kls part ≡ key_size als part
 kept-key most [] [] ns part h = refl
@@ -168,27 +168,27 @@ kept-key most (l ∷ ls) (k ∷ ks) [] part h = absurd h
 kept-key most (l ∷ ls) (k ∷ ks) (n ∷ ns) part h = ap (λ (kind : Kind). part_size kind part) h.0.kind
 
 -- the errors of an own value are those at its position
-pub errors-same : (strict : Bool) (own : Own) (most : ℕ) (all kept : BuiltOf) (ns : List Least) (top errors : ℕ) → Keeps most all kept ns top errors
-    → own_errors strict kept.spot.place (path_in kept.levels kept.spot.part) (At own) ≡ own_errors strict all.spot.place (path_in all.levels all.spot.part) (At own)
-errors-same strict own most all kept ns top errors h =
-    ap (λ (s : Spot). own_errors strict s.place (path_in kept.levels s.part) (At own)) h.rest.spot
-    ∙ ap (λ (path : List Part). own_errors strict all.spot.place path (At own)) (kept-path most all.levels kept.levels ns all.spot.part h.levels)
+pub errors-same : (non_null : Bool) (leaf_value : LeafValue) (most : ℕ) (all kept : BuiltOf) (ns : List Least) (top errors : ℕ) → Keeps most all kept ns top errors
+    → own_errors non_null kept.position.place (path_in kept.levels kept.position.part) (At leaf_value) ≡ own_errors non_null all.position.place (path_in all.levels all.position.part) (At leaf_value)
+errors-same non_null leaf_value most all kept ns top errors h =
+    ap (λ (s : FieldPosition). own_errors non_null s.place (path_in kept.levels s.part) (At leaf_value)) h.rest.position
+    ∙ ap (λ (path : List Part). own_errors non_null all.position.place path (At leaf_value)) (kept-path most all.levels kept.levels ns all.position.part h.levels)
 
-pub depth-below : (most : ℕ) (all kept : BuiltOf) (ns : List Least) (top errors depth : ℕ) → Keeps most all kept ns top errors → depth ≡ length ns → depth ≤ length (path_in all.levels all.spot.part)
-depth-below most all kept ns top errors depth h e = omega (arith, e, path-depth most all.levels kept.levels ns all.spot.part h.levels)
+pub depth-below : (most : ℕ) (all kept : BuiltOf) (ns : List Least) (top errors depth : ℕ) → Keeps most all kept ns top errors → depth ≡ length ns → depth ≤ length (path_in all.levels all.position.part)
+depth-below most all kept ns top errors depth h e = omega (arith, e, path-depth most all.levels kept.levels ns all.position.part h.levels)
 
-pub key-sure : (most : ℕ) (all kept : BuiltOf) (ns : List Least) (top errors : ℕ) → Keeps most all kept ns top errors → key_size kept.levels kept.spot.part ≡ key_size all.levels all.spot.part
-key-sure most all kept ns top errors h = ap (λ (s : Spot). key_size kept.levels s.part) h.rest.spot ∙ kept-key most all.levels kept.levels ns all.spot.part h.levels
+pub key-sure : (most : ℕ) (all kept : BuiltOf) (ns : List Least) (top errors : ℕ) → Keeps most all kept ns top errors → key_size kept.levels kept.position.part ≡ key_size all.levels all.position.part
+key-sure most all kept ns top errors h = ap (λ (s : FieldPosition). key_size kept.levels s.part) h.rest.position ∙ kept-key most all.levels kept.levels ns all.position.part h.levels
 
-pub own-sure : (most before : ℕ) (around : List LevelOf) (part : Part) (r : ResponseOf) (key size : ℕ) → key ≤ key_size around part → size ≤ size_of r → IsSure most before around part r r key size
-own-sure most before around part r key size k s = record { null = refl; key_least = k; least = s; whole = λ le. refl }
+pub leaf_value-sure : (most before : ℕ) (around : List LevelOf) (part : Part) (r : ResponseOf) (key size : ℕ) → key ≤ key_size around part → size ≤ size_of r → IsSure most before around part r r key size
+leaf_value-sure most before around part r key size k s = record { null = refl; key_least = k; least = s; whole = λ le. refl }
 
 -- ---- objects and lists
 
-pub begun-kept : (most : ℕ) (all kept : BuiltOf) (kind : Kind) (n : Least) (ns : List Least) (top errors : ℕ) → Keeps most all kept ns top errors → n.key ≤ key_size all.levels all.spot.part → n.around ≤ bytes_in ns → n.parts ≡ 0 → Keeps most (begun kind all) (begun kind kept) (n ∷ ns) top errors
+pub begun-kept : (most : ℕ) (all kept : BuiltOf) (kind : Kind) (n : Least) (ns : List Least) (top errors : ℕ) → Keeps most all kept ns top errors → n.key ≤ key_size all.levels all.position.part → n.around ≤ bytes_in ns → n.parts ≡ 0 → Keeps most (begun kind all) (begun kind kept) (n ∷ ns) top errors
 begun-kept most all kept kind n ns top errors h key inside none = record {
-  levels = (record { spot = h.rest.spot; kind = refl; pulled = refl; key = key; parts = omega (arith, none); fits = omega (arith, none); inside = inside; whole = λ le. refl }, h.levels);
-  rest = record { spot = refl; top_least = h.rest.top_least; top_whole = h.rest.top_whole; errors_least = h.rest.errors_least; errors_fit = h.rest.errors_fit; errors_whole = h.rest.errors_whole };
+  levels = (record { position = h.rest.position; kind = refl; pulled = refl; key = key; parts = omega (arith, none); fits = omega (arith, none); inside = inside; whole = λ le. refl }, h.levels);
+  rest = record { position = refl; top_least = h.rest.top_least; top_whole = h.rest.top_whole; errors_least = h.rest.errors_least; errors_fit = h.rest.errors_fit; errors_whole = h.rest.errors_whole };
 }
 
 -- what was begun last has ended, and is put at its position
@@ -200,7 +200,7 @@ pub record HasEnded (most : ℕ) (all kept : BuiltOf) (ns : List Least) (top err
   pub all_is : ended_in all.levels all ≡ placed r outer
   pub kept_is : ended_in kept.levels kept ≡ placed got inner
   pub keeps : Keeps most outer inner ns top errors
-  pub sure : IsSure most (bytes_in ns) outer.levels outer.spot.part r got key size
+  pub sure : IsSure most (bytes_in ns) outer.levels outer.position.part r got key size
 
 null-level : (b : Bool) (kind : Kind) (rs : ResponsesOf) → is_null_response (if b then NullResponse else Holding kind rs) ≡ b
 null-level true kind rs = refl
@@ -216,26 +216,26 @@ ended-whole true kind rs gs most before around parts size in_it lt e h le = refl
 ended-whole false kind rs gs most before around parts size in_it lt e h le = ap (Holding kind) (h (omega (arith, in_it, lt, e, le)))
 
 ended-inside : (most : ℕ) (all kept : BuiltOf) (als kls : List LevelOf) (n : Least) (ns : List Least) (top errors key size : ℕ) → KeepLevels most als kls (n ∷ ns) → KeepsRest most all kept top errors → key ≡ n.key → size ≡ (if is_pulled kls then 1 else min (n.parts + 1) (2 ^ 64 - 1))
-    → (outer : BuiltOf) × (inner : BuiltOf) × (r : ResponseOf) × (got : ResponseOf) × (ended_in als all ≡ placed r outer) × (ended_in kls kept ≡ placed got inner) × Keeps most outer inner ns top errors × IsSure most (bytes_in ns) outer.levels outer.spot.part r got key size
+    → (outer : BuiltOf) × (inner : BuiltOf) × (r : ResponseOf) × (got : ResponseOf) × (ended_in als all ≡ placed r outer) × (ended_in kls kept ≡ placed got inner) × Keeps most outer inner ns top errors × IsSure most (bytes_in ns) outer.levels outer.position.part r got key size
 ended-inside most all kept [] [] n ns top errors key size h rest k s = absurd h
 ended-inside most all kept [] (y ∷ ys) n ns top errors key size h rest k s = absurd h
 ended-inside most all kept (l ∷ ls) [] n ns top errors key size h rest k s = absurd h
 ended-inside most all kept (l ∷ ls) (y ∷ ys) n ns top errors key size h rest k s =
     let one = h.0 in
     let same : size ≡ (if l.pulled then 1 else min (n.parts + 1) (2 ^ 64 - 1)) = s ∙ ap (λ (b : Bool). if b then 1 else min (n.parts + 1) (2 ^ 64 - 1)) one.pulled in (
-      record { levels = ls; spot = l.spot; top = all.top; errors = all.errors },
-      record { levels = ys; spot = y.spot; top = kept.top; errors = kept.errors },
+      record { levels = ls; position = l.position; top = all.top; errors = all.errors },
+      record { levels = ys; position = y.position; top = kept.top; errors = kept.errors },
       level_response l,
       level_response y,
       refl,
       refl,
       record {
         levels = h.1;
-        rest = record { spot = one.spot; top_least = rest.top_least; top_whole = rest.top_whole; errors_least = rest.errors_least; errors_fit = rest.errors_fit; errors_whole = rest.errors_whole };
+        rest = record { position = one.position; top_least = rest.top_least; top_whole = rest.top_whole; errors_least = rest.errors_least; errors_fit = rest.errors_fit; errors_whole = rest.errors_whole };
       },
       record {
         null = null-level y.pulled y.kind y.parts ∙ one.pulled ∙ sym (null-level l.pulled l.kind l.parts);
-        key_least = subst (λ (x : ℕ). x ≤ key_size ls l.spot.part) (sym k) one.key;
+        key_least = subst (λ (x : ℕ). x ≤ key_size ls l.position.part) (sym k) one.key;
         least = ended-size l.pulled l.kind l.parts n.parts size same one.parts;
         whole = λ le. ap (λ (b : Bool). if b then NullResponse else Holding y.kind y.parts) one.pulled ∙ ap (λ (kind : Kind). if l.pulled then NullResponse else Holding kind y.parts) one.kind
             ∙ ended-whole l.pulled l.kind l.parts y.parts most (bytes_in ns) n.around n.parts size one.inside one.fits same one.whole le;
@@ -258,7 +258,7 @@ ended-none most all kept (l ∷ ls) (k ∷ ks) h = absurd h
 pub no-count : (most : ℕ) (kept : BuiltOf) → kept ≡ nothing_built → Keeps most nothing_built kept [] 0 0
 no-count most kept e = subst (λ (b : BuiltOf). Keeps most nothing_built b [] 0 0) (sym e) (record {
   levels = tt;
-  rest = record { spot = refl; top_least = omega arith; top_whole = λ le. refl; errors_least = omega arith; errors_fit = omega arith; errors_whole = λ le. refl };
+  rest = record { position = refl; top_least = omega arith; top_whole = λ le. refl; errors_least = omega arith; errors_fit = omega arith; errors_whole = λ le. refl };
 })
 
 pub nothing-ended : (most : ℕ) (all kept : BuiltOf) (top errors : ℕ) → Keeps most all kept [] top errors → Keeps most (ended_in all.levels all) (ended_in kept.levels kept) [] top errors
@@ -278,7 +278,7 @@ whole-kept most all kept ns top errors p R h w t e =
     let none : all.levels ≡ [] = no-levels all p R w in
     let none' : kept.levels ≡ [] = none-kept most kept.levels ns (subst (λ (ls : List LevelOf). KeepLevels most ls kept.levels ns) none h.levels) in
     let same : kept ≡ all =
-    ap (λ (ls : List LevelOf). record kept { levels = ls }) (none' ∙ sym none) ∙ ap (λ (s : Spot). record kept { levels = all.levels; spot = s }) h.rest.spot
+    ap (λ (ls : List LevelOf). record kept { levels = ls }) (none' ∙ sym none) ∙ ap (λ (s : FieldPosition). record kept { levels = all.levels; position = s }) h.rest.position
     ∙ ap (λ (r : ResponseOf). record all { top = r; errors = kept.errors }) (h.rest.top_whole t) ∙ ap (λ (es : List ErrorOf). record all { errors = es }) (h.rest.errors_whole e) in
     subst (λ (b : BuiltOf). IsWhole b p R) (sym same) w
 
@@ -310,12 +310,12 @@ replaced ns i old new last at =
     (reverse front, (ap reverse split ∙ pushed front old, ap reverse changed ∙ pushed front new))
 
 -- what was put is counted at what was begun last, and its parts may be dropped
-pub count-kept : (most : ℕ) (all kept b : BuiltOf) (r got : ResponseOf) (key size : ℕ) (ns : List Least) (i : ℕ) (old new : Least) (top errors : ℕ) → Keeps most all kept (reverse ns) top errors → IsSure most (bytes_in (reverse ns)) all.levels all.spot.part r got key size
+pub count-kept : (most : ℕ) (all kept b : BuiltOf) (r got : ResponseOf) (key size : ℕ) (ns : List Least) (i : ℕ) (old new : Least) (top errors : ℕ) → Keeps most all kept (reverse ns) top errors → IsSure most (bytes_in (reverse ns)) all.levels all.position.part r got key size
     → i + 1 ≡ length ns → old ≡ get_or ns i old → new.key ≡ old.key → new.around ≡ old.around → new.parts ≡ min (old.parts + min (key + size) (2 ^ 64 - 1)) (2 ^ 64 - 1) → b ≡ placed got kept → Keeps most (placed r all) b (reverse (set ns i new)) top errors
 count-kept most all kept b r got key size ns i old new top errors h sure last at same in_it sum e =
     let around = replaced ns i old new last at in
     let was : Keeps most all kept (old ∷ around.0) top errors = subst (λ (xs : List Least). Keeps most all kept xs top errors) around.1.0 h in
-    let now : Keeps most (placed r all) (placed got kept) (new ∷ around.0) top errors = placed-inside most all kept all.levels kept.levels r got key size old new around.0 top errors was.levels was.rest (subst (λ (xs : List Least). IsSure most (bytes_in xs) all.levels all.spot.part r got key size) around.1.0 sure) (counted-sum key size old new same in_it sum) in
+    let now : Keeps most (placed r all) (placed got kept) (new ∷ around.0) top errors = placed-inside most all kept all.levels kept.levels r got key size old new around.0 top errors was.levels was.rest (subst (λ (xs : List Least). IsSure most (bytes_in xs) all.levels all.position.part r got key size) around.1.0 sure) (counted-sum key size old new same in_it sum) in
     subst (λ (x : BuiltOf). Keeps most (placed r all) x (reverse (set ns i new)) top errors) (sym e) (subst (λ (xs : List Least). Keeps most (placed r all) (placed got kept) xs top errors) (sym around.1.1) now)
 
 pub count-dropped : (most : ℕ) (all b : BuiltOf) (ns : List Least) (i : ℕ) (old new : Least) (top errors : ℕ) → Keeps most all b (reverse (set ns i new)) top errors → i + 1 ≡ length ns → old ≡ get_or ns i old → most < min (new.around + new.parts) (2 ^ 64 - 1) → Keeps most all (without_last_parts b) (reverse (set ns i new)) top errors
@@ -324,10 +324,10 @@ count-dropped most all b ns i old new top errors h last at over =
     let was : Keeps most all b (new ∷ around.0) top errors = subst (λ (xs : List Least). Keeps most all b xs top errors) around.1.1 h in
     subst (λ (xs : List Least). Keeps most all (without_last_parts b) xs top errors) (sym around.1.1) (parts-dropped most all b new around.0 top errors over was)
 
-pub entered-kept : (most : ℕ) (all kept b : BuiltOf) (ns : List Least) (top errors : ℕ) (s : Spot) → Keeps most all kept ns top errors → b ≡ record kept { spot = s } → Keeps most (record all { spot = s }) b ns top errors
-entered-kept most all kept b ns top errors s h e = subst (λ (x : BuiltOf). Keeps most (record all { spot = s }) x ns top errors) (sym e) (record {
+pub entered-kept : (most : ℕ) (all kept b : BuiltOf) (ns : List Least) (top errors : ℕ) (s : FieldPosition) → Keeps most all kept ns top errors → b ≡ record kept { position = s } → Keeps most (record all { position = s }) b ns top errors
+entered-kept most all kept b ns top errors s h e = subst (λ (x : BuiltOf). Keeps most (record all { position = s }) x ns top errors) (sym e) (record {
   levels = h.levels;
-  rest = record { spot = refl; top_least = h.rest.top_least; top_whole = h.rest.top_whole; errors_least = h.rest.errors_least; errors_fit = h.rest.errors_fit; errors_whole = h.rest.errors_whole };
+  rest = record { position = refl; top_least = h.rest.top_least; top_whole = h.rest.top_whole; errors_least = h.rest.errors_least; errors_fit = h.rest.errors_fit; errors_whole = h.rest.errors_whole };
 })
 
 -- nothing is in a list of this length

@@ -7,10 +7,10 @@ use Rattle.answer_json.specs.declared.response.Response.{Response, fold-roll-Res
 use Rattle.answer_json.specs.declared.response.Response.TheVariants as response
 use Rattle.answer_json.specs.declared.response.Response.TheOpen.{Null as Null-F}
 use Rattle.answer_json.specs.declared.response.PathPart.{PathPart}
-use Rattle.execution.specs.Program.{Null, At, ListOf, ObjectOf, Part, Key, Item, Spot}
+use Rattle.execution.specs.Program.{Null, At, ListOf, ObjectOf, Part, Key, Item, FieldPosition}
 use Rattle.execution.specs.Completion.{ResponseOf, NullResponse, ErrorOf, null_message, own_errors}
 use Rattle.gq_resolve.specs.Answered.{part_of, items_from, members_of, response_step, response_of}
-use Rattle.gq_resolve.specs.Built.{LevelOf, BuiltOf, root_spot, at_root, level_with, placed_in, placed, with_errors, with_error, path_in, count_of, step_in, put_part, member_seen, level_seen, levels_seen}
+use Rattle.gq_resolve.specs.Built.{LevelOf, BuiltOf, root_position, at_root, level_with, placed_in, placed, with_errors, with_error, path_in, count_of, step_in, put_part, member_seen, level_seen, levels_seen}
 use Rattle.gq_resolve.specs.Bounded.{without_parts, levels_without, without_last_parts}
 use Rattle.gq_resolve.specs.declared.level.Level.{Level}
 
@@ -63,21 +63,21 @@ levels-set ls n old new last at =
 abbrev pub step_to : Level → Part
 step_to l = part_of l.position.step
 
-path-behind : (seen : List LevelOf) (root : LevelOf) (part : Part) → path_in (seen ++ root ∷ []) part ≡ map (λ (l : LevelOf). l.spot.part) (reverse seen) ++ part ∷ []
+path-behind : (seen : List LevelOf) (root : LevelOf) (part : Part) → path_in (seen ++ root ∷ []) part ≡ map (λ (l : LevelOf). l.position.part) (reverse seen) ++ part ∷ []
 path-behind [] root part = refl
 path-behind (l ∷ ls) root part =
-    let step : LevelOf → Part = λ l. l.spot.part in
+    let step : LevelOf → Part = λ l. l.position.part in
     let turned : reverse (l ∷ ls) ≡ reverse ls ++ l ∷ [] = reverse-append (l ∷ []) ls in
-    ap (λ path. path ++ part ∷ []) (path-behind ls root l.spot.part) ∙ ap (λ path. path ++ part ∷ []) (sym (map-append step (reverse ls) (l ∷ []))) ∙ ap (λ ls. map step ls ++ part ∷ []) (sym turned)
+    ap (λ path. path ++ part ∷ []) (path-behind ls root l.position.part) ∙ ap (λ path. path ++ part ∷ []) (sym (map-append step (reverse ls) (l ∷ []))) ∙ ap (λ ls. map step ls ++ part ∷ []) (sym turned)
 
-map-steps : (ls : List Level) → map (λ (l : LevelOf). l.spot.part) (map level_seen ls) ≡ map step_to ls
+map-steps : (ls : List Level) → map (λ (l : LevelOf). l.position.part) (map level_seen ls) ≡ map step_to ls
 map-steps [] = refl
 map-steps (l ∷ ls) = ap (λ steps. step_to l ∷ steps) (map-steps ls)
 
 -- the path of a position below the root
 pub path-below : (root : Level) (below : List Level) (part : Part) → path_in (levels_seen (root ∷ below)) part ≡ map step_to below ++ part ∷ []
 path-below root below part =
-    let step : LevelOf → Part = λ l. l.spot.part in
+    let step : LevelOf → Part = λ l. l.position.part in
     let turned : levels_seen (root ∷ below) ≡ reverse (map level_seen below) ++ level_seen root ∷ [] = reverse-append (level_seen root ∷ []) (map level_seen below) in
     ap (λ ls. path_in ls part) turned ∙ path-behind (reverse (map level_seen below)) (level_seen root) part ∙ ap (λ ls. map step ls ++ part ∷ []) (reverse-reverse (map level_seen below)) ∙ ap (λ steps. steps ++ part ∷ []) (map-steps below)
 
@@ -96,26 +96,26 @@ path-ended xs ls root i path new last part same some at before ended e p =
 errors-none : (b : BuiltOf) → with_errors [] b ≡ b
 errors-none b = ap (λ (es : List ErrorOf). record b { errors = es }) (append-nil b.errors)
 
-pub null-errors : (strict : Bool) (message : List ℕ) (b after : BuiltOf) → strict ≡ true → message ≡ null_message → after ≡ with_error message b → after ≡ with_errors (own_errors strict b.spot.place (path_in b.levels b.spot.part) (At Null)) b
-null-errors strict message b after s m e = rw s (e ∙ ap (λ m. with_error m b) m)
+pub null-errors : (non_null : Bool) (message : List ℕ) (b after : BuiltOf) → non_null ≡ true → message ≡ null_message → after ≡ with_error message b → after ≡ with_errors (own_errors non_null b.position.place (path_in b.levels b.position.part) (At Null)) b
+null-errors non_null message b after s m e = rw s (e ∙ ap (λ m. with_error m b) m)
 
-pub no-errors : (strict : Bool) (b : BuiltOf) → strict ≡ false → b ≡ with_errors (own_errors strict b.spot.place (path_in b.levels b.spot.part) (At Null)) b
-no-errors strict b s = rw s (sym (errors-none b))
+pub no-errors : (non_null : Bool) (b : BuiltOf) → non_null ≡ false → b ≡ with_errors (own_errors non_null b.position.place (path_in b.levels b.position.part) (At Null)) b
+no-errors non_null b s = rw s (sym (errors-none b))
 
 pub placed-null : (b after : BuiltOf) → after ≡ b → placed (response_of response.Null) after ≡ placed NullResponse b
 placed-null b after e = ap (placed (response_of response.Null)) e ∙ ap (λ r. placed r b) response-null
 
 -- ---- what was begun last
 
-pub placed-last : (b now : BuiltOf) (spot : Spot) (r : ResponseOf) (ls : List Level) (n : ℕ) (old new : Level) → now ≡ at_root b → now.levels ≡ levels_seen ls → spot ≡ b.spot → n + 1 ≡ length ls → old ≡ get_or ls n old
-    → level_seen new ≡ level_with spot r (level_seen old) → record now { levels = levels_seen (set ls n new) } ≡ placed r b
-placed-last b now spot r ls n old new left seen s last at e =
+pub placed-last : (b now : BuiltOf) (position : FieldPosition) (r : ResponseOf) (ls : List Level) (n : ℕ) (old new : Level) → now ≡ at_root b → now.levels ≡ levels_seen ls → position ≡ b.position → n + 1 ≡ length ls → old ≡ get_or ls n old
+    → level_seen new ≡ level_with position r (level_seen old) → record now { levels = levels_seen (set ls n new) } ≡ placed r b
+placed-last b now position r ls n old new left seen s last at e =
     let parts = levels-set ls n old new last at in
     let around : List LevelOf = parts.0 in
     let had : b.levels ≡ level_seen old ∷ around = sym (ap (λ (x : BuiltOf). x.levels) left) ∙ seen ∙ parts.1.0 in
-    let put : level_seen new ≡ level_with b.spot r (level_seen old) = e ∙ ap (λ s. level_with s r (level_seen old)) s in
+    let put : level_seen new ≡ level_with b.position r (level_seen old) = e ∙ ap (λ s. level_with s r (level_seen old)) s in
     ap (λ (x : BuiltOf). record x { levels = levels_seen (set ls n new) }) left
-    ∙ ap (λ (x : List LevelOf). record { levels = x; spot = root_spot; top = b.top; errors = b.errors }) (parts.1.1 ∙ ap (λ l. l ∷ around) put)
+    ∙ ap (λ (x : List LevelOf). record { levels = x; position = root_position; top = b.top; errors = b.errors }) (parts.1.1 ∙ ap (λ l. l ∷ around) put)
     ∙ ap (λ (x : List LevelOf). placed_in x r b) (sym had)
 
 -- the parts of the last were dropped

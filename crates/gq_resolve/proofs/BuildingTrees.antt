@@ -3,12 +3,12 @@ use Rattle.std.proofs.Common.{◌≡◌, suc, Bool, true, false, ◌||◌, ◌&&
 use Rattle.std.proofs.Math.Bool.{or-false, or_assoc}
 use Rattle.std.proofs.lemmas.Bool.{or_parts}
 use Rattle.execution.specs.Loads.{Reader}
-use Rattle.execution.specs.Program.{Kind, Part, Spot, Value, Null, Fault, Program, Is, Read, Under, Programs, End, With, Tree, Open, At, Over, Trees, And, given, tree, trees}
+use Rattle.execution.specs.Program.{Kind, Part, FieldPosition, Value, Null, Fault, Program, Is, Read, Under, Programs, End, With, Tree, Open, At, Over, Trees, And, given, tree, trees}
 use Rattle.execution.specs.Completion.{ResponseOf, NullResponse, Holding, ResponsesOf, NoResponses, Responding, ErrorOf, AnsweredOf, is_open, any_open}
 use Rattle.execution.specs.Executed.{nulls, pulls_down, response, responses, errors, all_errors, completed}
 use Rattle.gq_resolve.specs.Answered.{is_null_response}
 use Rattle.gq_resolve.specs.Puts.{Put, Ends, Waits, puts, all_puts}
-use Rattle.gq_resolve.specs.Built.{LevelOf, BuiltOf, path_in, count_of, step_in, put_part, level_with, placed_in, placed, with_errors, built, built-append, root_spot, nothing_built, IsNumbered, AreNumbered, IsWhole}
+use Rattle.gq_resolve.specs.Built.{LevelOf, BuiltOf, path_in, count_of, step_in, put_part, level_with, placed_in, placed, with_errors, built, built-append, root_position, nothing_built, IsNumbered, AreNumbered, IsWhole}
 
 -- ---- parts
 
@@ -43,55 +43,55 @@ null-response (Over kind below) h = go (pulls_down below)
 
 -- a position is built with its errors
 abbrev whole : Tree → BuiltOf → BuiltOf
-whole t b = placed (response t) (with_errors (errors b.spot.non_null b.spot.place (path_in b.levels b.spot.part) t) b)
+whole t b = placed (response t) (with_errors (errors b.position.non_null b.position.place (path_in b.levels b.position.part) t) b)
 
 -- an object or a list at this position is built, inside these
-abbrev shut : Spot → Kind → ResponsesOf → Bool → List LevelOf → ResponseOf → List ErrorOf → BuiltOf
-shut spot kind parts pulled ls top es = placed_in ls (if pulled then NullResponse else Holding kind parts) (record { levels = ls; spot = spot; top = top; errors = es })
+abbrev shut : FieldPosition → Kind → ResponsesOf → Bool → List LevelOf → ResponseOf → List ErrorOf → BuiltOf
+shut position kind parts pulled ls top es = placed_in ls (if pulled then NullResponse else Holding kind parts) (record { levels = ls; position = position; top = top; errors = es })
 
 -- the same, where these parts follow those that it has
 abbrev closed : LevelOf → List LevelOf → ResponseOf → List ErrorOf → Trees → BuiltOf
-closed l ls top es ts = shut l.spot l.kind (joined l.parts (responses ts)) (l.pulled || pulls_down ts) ls top (es ++ all_errors (path_in ls l.spot.part) ts)
+closed l ls top es ts = shut l.position l.kind (joined l.parts (responses ts)) (l.pulled || pulls_down ts) ls top (es ++ all_errors (path_in ls l.position.part) ts)
 
-closed-more : (l : LevelOf) (ls : List LevelOf) (top : ResponseOf) (es : List ErrorOf) (spot : Spot) (t : Tree) (ts : Trees) → step_in l.kind (count_of l.parts) spot.part ≡ spot.part → is_open t ≡ false
-    → closed (level_with spot (response t) l) ls top (es ++ errors spot.non_null spot.place (path_in (l ∷ ls) spot.part) t) ts ≡ closed l ls top es (And spot t ts)
-closed-more l ls top es spot t ts numbered h =
-    let parts : joined (put_part l.parts (step_in l.kind (count_of l.parts) spot.part) (response t)) (responses ts) ≡ joined l.parts (Responding spot.part (response t) (responses ts)) =
-    ap (λ part. joined (put_part l.parts part (response t)) (responses ts)) numbered ∙ joined-put l.parts spot.part (response t) (responses ts) in
-    let pulled : ((l.pulled || (spot.non_null && is_null_response (response t))) || pulls_down ts) ≡ (l.pulled || ((spot.non_null && nulls t) || pulls_down ts)) =
-    ap (λ b. (l.pulled || (spot.non_null && b)) || pulls_down ts) (null-response t h) ∙ or_assoc l.pulled (spot.non_null && nulls t) (pulls_down ts) in
-    let path : List Part = path_in ls l.spot.part in
-    let errs : (es ++ errors spot.non_null spot.place (path_in (l ∷ ls) spot.part) t) ++ all_errors path ts ≡ es ++ (errors spot.non_null spot.place (path_in (l ∷ ls) spot.part) t ++ all_errors path ts) =
-    append_assoc es (errors spot.non_null spot.place (path_in (l ∷ ls) spot.part) t) (all_errors path ts) in
-    let before : List ErrorOf = (es ++ errors spot.non_null spot.place (path_in (l ∷ ls) spot.part) t) ++ all_errors path ts in
-    ap (λ rs. shut l.spot l.kind rs ((l.pulled || (spot.non_null && is_null_response (response t))) || pulls_down ts) ls top before) parts
-    ∙ ap (λ b. shut l.spot l.kind (joined l.parts (Responding spot.part (response t) (responses ts))) b ls top before) pulled
-    ∙ ap (shut l.spot l.kind (joined l.parts (Responding spot.part (response t) (responses ts))) (l.pulled || ((spot.non_null && nulls t) || pulls_down ts)) ls top) errs
+closed-more : (l : LevelOf) (ls : List LevelOf) (top : ResponseOf) (es : List ErrorOf) (position : FieldPosition) (t : Tree) (ts : Trees) → step_in l.kind (count_of l.parts) position.part ≡ position.part → is_open t ≡ false
+    → closed (level_with position (response t) l) ls top (es ++ errors position.non_null position.place (path_in (l ∷ ls) position.part) t) ts ≡ closed l ls top es (And position t ts)
+closed-more l ls top es position t ts numbered h =
+    let parts : joined (put_part l.parts (step_in l.kind (count_of l.parts) position.part) (response t)) (responses ts) ≡ joined l.parts (Responding position.part (response t) (responses ts)) =
+    ap (λ part. joined (put_part l.parts part (response t)) (responses ts)) numbered ∙ joined-put l.parts position.part (response t) (responses ts) in
+    let pulled : ((l.pulled || (position.non_null && is_null_response (response t))) || pulls_down ts) ≡ (l.pulled || ((position.non_null && nulls t) || pulls_down ts)) =
+    ap (λ b. (l.pulled || (position.non_null && b)) || pulls_down ts) (null-response t h) ∙ or_assoc l.pulled (position.non_null && nulls t) (pulls_down ts) in
+    let path : List Part = path_in ls l.position.part in
+    let errs : (es ++ errors position.non_null position.place (path_in (l ∷ ls) position.part) t) ++ all_errors path ts ≡ es ++ (errors position.non_null position.place (path_in (l ∷ ls) position.part) t ++ all_errors path ts) =
+    append_assoc es (errors position.non_null position.place (path_in (l ∷ ls) position.part) t) (all_errors path ts) in
+    let before : List ErrorOf = (es ++ errors position.non_null position.place (path_in (l ∷ ls) position.part) t) ++ all_errors path ts in
+    ap (λ rs. shut l.position l.kind rs ((l.pulled || (position.non_null && is_null_response (response t))) || pulls_down ts) ls top before) parts
+    ∙ ap (λ b. shut l.position l.kind (joined l.parts (Responding position.part (response t) (responses ts))) b ls top before) pulled
+    ∙ ap (shut l.position l.kind (joined l.parts (Responding position.part (response t) (responses ts))) (l.pulled || ((position.non_null && nulls t) || pulls_down ts)) ls top) errs
 
 mutual
-  built-program : (p : Program) (R : Reader) (b : BuiltOf) → IsNumbered p → is_open (tree p R) ≡ false → built (puts b.spot.non_null p R) b ≡ whole (tree p R) b
-  built-program (Is own) R b n h = refl
+  built-program : (p : Program) (R : Reader) (b : BuiltOf) → IsNumbered p → is_open (tree p R) ≡ false → built (puts b.position.non_null p R) b ≡ whole (tree p R) b
+  built-program (Is leaf_value) R b n h = refl
   built-program (Read load next) R b n h =
-      elim (R load) as (λ o. is_open (given o Open (λ outcome. tree (next outcome) R)) ≡ false → built (given o (Waits (Read load next) ∷ []) (λ outcome. puts b.spot.non_null (next outcome) R)) b ≡ whole (given o Open (λ outcome. tree (next outcome) R)) b) [
+      elim (R load) as (λ o. is_open (given o Open (λ outcome. tree (next outcome) R)) ≡ false → built (given o (Waits (Read load next) ∷ []) (λ outcome. puts b.position.non_null (next outcome) R)) b ≡ whole (given o Open (λ outcome. tree (next outcome) R)) b) [
         | None ↦ λ shut. absurd (cc shut)
         | Some outcome ↦ λ shut. built-program (next outcome) R b (n outcome) shut
       ] h
-  built-program (Under kind below) R b n h = built-programs below R kind (record { spot = b.spot; kind = kind; parts = NoResponses; pulled = false }) b.levels root_spot b.top b.errors n h
+  built-program (Under kind below) R b n h = built-programs below R kind (record { position = b.position; kind = kind; parts = NoResponses; pulled = false }) b.levels root_position b.top b.errors n h
 
-  built-programs : (ps : Programs) (R : Reader) (kind : Kind) (l : LevelOf) (ls : List LevelOf) (spot : Spot) (top : ResponseOf) (es : List ErrorOf) → AreNumbered l.kind (count_of l.parts) ps → any_open (trees ps R) ≡ false
-      → built (all_puts kind ps R ++ Ends kind ∷ []) (record { levels = l ∷ ls; spot = spot; top = top; errors = es }) ≡ closed l ls top es (trees ps R)
-  built-programs End R kind l ls spot top es n h = rw (joined-none l.parts, or-false l.pulled, append-nil es) refl
-  built-programs (With spot p rest) R kind l ls old top es n h =
+  built-programs : (ps : Programs) (R : Reader) (kind : Kind) (l : LevelOf) (ls : List LevelOf) (position : FieldPosition) (top : ResponseOf) (es : List ErrorOf) → AreNumbered l.kind (count_of l.parts) ps → any_open (trees ps R) ≡ false
+      → built (all_puts kind ps R ++ Ends kind ∷ []) (record { levels = l ∷ ls; position = position; top = top; errors = es }) ≡ closed l ls top es (trees ps R)
+  built-programs End R kind l ls position top es n h = rw (joined-none l.parts, or-false l.pulled, append-nil es) refl
+  built-programs (With position p rest) R kind l ls old top es n h =
       let t : Tree = tree p R in
-      let b : BuiltOf = record { levels = l ∷ ls; spot = spot; top = top; errors = es } in
-      let first : List Put = puts spot.non_null p R in
+      let b : BuiltOf = record { levels = l ∷ ls; position = position; top = top; errors = es } in
+      let first : List Put = puts position.non_null p R in
       let others : List Put = all_puts kind rest R in
       let end : List Put = Ends kind ∷ [] in
       let open_none : (is_open t ≡ false) × (any_open (trees rest R) ≡ false) = or_parts (is_open t) (any_open (trees rest R)) h in
-      let l' : LevelOf = level_with spot (response t) l in
-      let next : AreNumbered l'.kind (count_of l'.parts) rest = subst (λ n. AreNumbered l.kind n rest) (sym (count-put l.parts (step_in l.kind (count_of l.parts) spot.part) (response t))) n.2 in
-      let es' : List ErrorOf = es ++ errors spot.non_null spot.place (path_in (l ∷ ls) spot.part) t in
-      ap (λ xs. built xs b) (append_assoc first others end) ∙ built-append first (others ++ end) b ∙ ap (built (others ++ end)) (built-program p R b n.1 open_none.0) ∙ built-programs rest R kind l' ls root_spot top es' next open_none.1 ∙ closed-more l ls top es spot t (trees rest R) n.0 open_none.0
+      let l' : LevelOf = level_with position (response t) l in
+      let next : AreNumbered l'.kind (count_of l'.parts) rest = subst (λ n. AreNumbered l.kind n rest) (sym (count-put l.parts (step_in l.kind (count_of l.parts) position.part) (response t))) n.2 in
+      let es' : List ErrorOf = es ++ errors position.non_null position.place (path_in (l ∷ ls) position.part) t in
+      ap (λ xs. built xs b) (append_assoc first others end) ∙ built-append first (others ++ end) b ∙ ap (built (others ++ end)) (built-program p R b n.1 open_none.0) ∙ built-programs rest R kind l' ls root_position top es' next open_none.1 ∙ closed-more l ls top es position t (trees rest R) n.0 open_none.0
 
 -- what was put of a program, of which nothing waits
 whole-is : (b : BuiltOf) (p : Program) (R : Reader) → IsWhole b p R → b ≡ whole (tree p R) nothing_built

@@ -25,13 +25,13 @@ read-rest load next R (Some o) e ih = rw e (ih o)
 
 mutual
   pub needs-rest : (p : Program) (R : Reader) → needs (rest p R) unanswered ≡ missing R (needs p R)
-  needs-rest (Is own) R = refl
+  needs-rest (Is leaf_value) R = refl
   needs-rest (Read load next) R = read-rest load next R (R load) refl (λ o. needs-rest (next o) R)
   needs-rest (Under kind below) R = all-needs-rest below R
 
   all-needs-rest : (ps : Programs) (R : Reader) → all_needs (all_rest ps R) unanswered ≡ missing R (all_needs ps R)
   all-needs-rest End R = refl
-  all-needs-rest (With spot p ps) R = rw (needs-rest p R, all-needs-rest ps R) (sym (missing-append R (needs p R) (all_needs ps R)))
+  all-needs-rest (With position p ps) R = rw (needs-rest p R, all-needs-rest ps R) (sym (missing-append R (needs p R) (all_needs ps R)))
 
 -- ---- the front
 

@@ -9,14 +9,14 @@ use Rattle.schema_syntax.specs.Tree.{Definition}
 use Rattle.load_memory.specs.Rows.{RowOf}
 use Rattle.execution.specs.Program.{Program, Programs, End, With}
 use Rattle.gq_check.specs.Plans.{PlanOf}
-use Rattle.plan_program.specs.Asked.{BelowOf, ValueFrom, PreparedOf}
-use Rattle.plan_program.specs.Prepared.{key_from_seen, asked_seen, prepared_seen, all_prepared_seen}
+use Rattle.plan_program.specs.FieldValues.{ChildrenOf, ValueFrom, PreparedOf}
+use Rattle.plan_program.specs.Prepared.{key_from_seen, value_from_seen, prepared_seen, all_prepared_seen}
 use Rattle.plan_program.specs.PlanPrograms.{fields_of, read_from, asked_program, object_program}
 use Rattle.plan_program.specs.declared.prepared.KeyFrom.{KeyFrom}
 use Rattle.plan_program.specs.declared.prepared.Prepared.{Prepared}
 use Rattle.gq_resolve.specs.Puts.{OnwardOf, View}
-use Rattle.gq_resolve.specs.Groups.{below_in, nowhere, below_at, then_at, then_rows, next_rows, after_at, Covers, type_prepared, IsAsked, asks_seen, members_seen, Makes, IsShape, IsRight, AreRight, Grows, IsNew, IsAsking, AreMade, AreKept, IsShaped}
-use Rattle.gq_resolve.specs.Spots.{spot_seen}
+use Rattle.gq_resolve.specs.Groups.{children_in, nowhere, children_at, then_at, then_rows, next_rows, after_at, Covers, type_prepared, IsAsked, asks_seen, members_seen, Makes, IsShape, IsRight, AreRight, Grows, IsNew, IsAsking, AreMade, AreKept, IsShaped}
+use Rattle.gq_resolve.specs.Positions.{position_seen}
 use Rattle.gq_resolve.specs.Suspended.{view_of}
 use Rattle.gq_resolve.specs.declared.groups.Asks.{Asks}
 use Rattle.gq_resolve.specs.declared.groups.Asks.TheVariants as asks
@@ -29,7 +29,7 @@ use Rattle.gq_resolve.specs.declared.groups.Then.TheVariants.{First}
 -- ---- more groups
 
 pub asked-more : (n m : ℕ) (a : Asks) → n ≤ m → IsAsked n a → IsAsked m a
-asked-more n m (asks.Known own) le h = tt
+asked-more n m (asks.Known leaf_value) le h = tt
 asked-more n m (asks.Cell column ty) le h = tt
 asked-more n m (asks.Load loader key group) le h = omega (arith, le, h)
 asked-more n m (asks.Each loader keys items group) le h = omega (arith, le, h)
@@ -56,14 +56,14 @@ grows-then plan a b c f g = record {
 
 -- what covers a list covers another whose groups do the same
 covers-like : (plan : PlanOf) (old new : List Group) (v : View) → length old ≤ length new
-    → ((i : ℕ) → i < length old → then_at new i ≡ then_at old i) → ((i : ℕ) → i < length old → below_at new i ≡ below_at old i) → Covers plan new v → Covers plan old v
+    → ((i : ℕ) → i < length old → then_at new i ≡ then_at old i) → ((i : ℕ) → i < length old → children_at new i ≡ children_at old i) → Covers plan new v → Covers plan old v
 covers-like plan old new v le e f c = record {
   count = omega (arith, le, c.count);
   tells = λ onward lt. c.tells onward (omega (arith, le, lt)) ∙ same onward (e onward.group lt) (f onward.group lt);
 }
   where
-    same : (onward : OnwardOf) → then_at new onward.group ≡ then_at old onward.group → below_at new onward.group ≡ below_at old onward.group → after_at plan new onward ≡ after_at plan old onward
-    same onward p q = ap (λ n. next_rows plan onward.levels onward.later n (below_at new onward.group)) p ∙ ap (λ b. next_rows plan onward.levels onward.later (then_at old onward.group) b) q
+    same : (onward : OnwardOf) → then_at new onward.group ≡ then_at old onward.group → children_at new onward.group ≡ children_at old onward.group → after_at plan new onward ≡ after_at plan old onward
+    same onward p q = ap (λ n. next_rows plan onward.levels onward.later n (children_at new onward.group)) p ∙ ap (λ b. next_rows plan onward.levels onward.later (then_at old onward.group) b) q
 
 -- the element of a number, in a longer list
 slice-left : {X : Type 0} (xs ys : List X) (i : ℕ) → i < length xs → slice_get (xs ++ ys) i ≡ slice_get xs i
@@ -78,14 +78,14 @@ slice-end (x ∷ xs) y = slice-end xs y
 length-more : {X : Type 0} (xs : List X) (y : X) → length (xs ++ y ∷ []) ≡ length xs + 1
 length-more xs y = length-append xs (y ∷ [])
 
-shape-more : (plan : PlanOf) (old new : List Group) (below : BelowOf) (s : Shape) → length old ≤ length new → ((v : View) → Covers plan new v → Covers plan old v) → IsShape plan old below s → IsShape plan new below s
-shape-more plan old new below s le covers made = record {
+shape-more : (plan : PlanOf) (old new : List Group) (children : ChildrenOf) (s : Shape) → length old ≤ length new → ((v : View) → Covers plan new v → Covers plan old v) → IsShape plan old children s → IsShape plan new children s
+shape-more plan old new children s le covers made = record {
   known = λ n m among. asked-more (length old) (length new) (get_or s.members.value.items n m).asks le (made.known n m among);
   members = λ v c. made.members v (covers v c);
 }
 
 right-one : (plan : PlanOf) (old new : List Group) (g : Group) → length old ≤ length new → ((v : View) → Covers plan new v → Covers plan old v) → IsRight plan old g → IsRight plan new g
-right-one plan old new g le covers h = λ j s within. shape-more plan old new (below_in g.below) (get_or g.shapes.items j s) le covers (h j s within)
+right-one plan old new g le covers h = λ j s within. shape-more plan old new (children_in g.children) (get_or g.shapes.items j s) le covers (h j s within)
 
 right-more : (plan : PlanOf) (old new more : List Group) → length old ≤ length new → ((v : View) → Covers plan new v → Covers plan old v) → All (IsRight plan old) more → All (IsRight plan new) more
 right-more plan old new more le covers h = λ k d lt. right-one plan old new (get_or more k d) le covers (h k d lt)
@@ -101,8 +101,8 @@ bare-right plan gs g bare = λ k d lt. absurd (omega (arith, bare, lt))
 grows-new : (plan : PlanOf) (gs : List Group) (g : Group) → IsBare g → Grows plan gs (gs ++ g ∷ [])
 grows-new plan gs g bare =
     let le : length gs ≤ length (gs ++ g ∷ []) = omega (arith, length-more gs g) in
-    let stand : (i : ℕ) → i < length gs → below_at (gs ++ g ∷ []) i ≡ below_at gs i =
-    λ i lt. ap (λ o. option_map_or (λ (x : Group). below_in x.below) o nowhere) (slice-left gs (g ∷ []) i lt) in
+    let stand : (i : ℕ) → i < length gs → children_at (gs ++ g ∷ []) i ≡ children_at gs i =
+    λ i lt. ap (λ o. option_map_or (λ (x : Group). children_in x.children) o nowhere) (slice-left gs (g ∷ []) i lt) in
     let covers : (v : View) → Covers plan (gs ++ g ∷ []) v → Covers plan gs v =
     λ v c. covers-like plan gs (gs ++ g ∷ []) v le (λ i lt. ap (λ o. option_map_or (λ (x : Group). x.then) o First) (slice-left gs (g ∷ []) i lt)) stand c in
     record {
@@ -112,19 +112,19 @@ grows-new plan gs g bare =
       right = λ h. All-push (IsRight plan (gs ++ g ∷ [])) gs g (right-more plan gs (gs ++ g ∷ []) gs le covers h) (bare-right plan (gs ++ g ∷ []) g bare);
     }
 
-pub is-new : (gs : List Group) (g : Group) (n : ℕ) → n ≡ length gs → IsBare g → IsNew gs (gs ++ g ∷ []) g.then (below_in g.below) n
+pub is-new : (gs : List Group) (g : Group) (n : ℕ) → n ≡ length gs → IsBare g → IsNew gs (gs ++ g ∷ []) g.then (children_in g.children) n
 is-new gs g n e bare = rw e (record {
   grows = λ plan. grows-new plan gs g bare;
   front = take_at gs (g ∷ []) (length gs) refl;
   within = omega (arith, length-more gs g);
   does = ap (λ o. option_map_or (λ (x : Group). x.then) o First) (slice-end gs g);
-  stands = ap (λ o. option_map_or (λ (x : Group). below_in x.below) o nowhere) (slice-end gs g);
+  stands = ap (λ o. option_map_or (λ (x : Group). children_in x.children) o nowhere) (slice-end gs g);
 })
 
 -- ---- a group of a number
 
-below-there : (gs : List Group) (i : ℕ) (g : Group) → slice_get gs i ≡ Some g → below_at gs i ≡ below_in g.below
-below-there gs i g e = ap (λ o. option_map_or (λ (x : Group). below_in x.below) o nowhere) e
+children-there : (gs : List Group) (i : ℕ) (g : Group) → slice_get gs i ≡ Some g → children_at gs i ≡ children_in g.children
+children-there gs i g e = ap (λ o. option_map_or (λ (x : Group). children_in x.children) o nowhere) e
 
 right-there : (plan : PlanOf) (gs : List Group) (i : ℕ) (g : Group) → slice_get gs i ≡ Some g → AreRight plan gs → IsRight plan gs g
 right-there plan gs i g e h = subst (IsRight plan gs) (get_or_from_slice_get gs i g g e) (h i g (slice_get_within gs i g e))
@@ -132,9 +132,9 @@ right-there plan gs i g e h = subst (IsRight plan gs) (get_or_from_slice_get gs 
 pub kept-there : (gs : List Group) (i k : ℕ) (g : Group) (s : Shape) (ty : List ℕ) → i < length gs → g ≡ get_or gs i g → k < length g.shapes.items → s ≡ get_or g.shapes.items k s → string_bytes s.ty ≡ ty → AreKept gs i ty s.members.value.items
 kept-there gs i k g s ty within same lt is name = λ plan h.
     let there : slice_get gs i ≡ Some g = slice_get-get_or gs i g within ∙ ap Some (sym same) in
-    let here : IsShape plan gs (below_in g.below) s = subst (IsShape plan gs (below_in g.below)) (sym is) (right-there plan gs i g there h k s lt) in
-    subst (λ (b : BelowOf). Makes plan gs s.members.value.items (type_prepared plan b ty)) (sym (below-there gs i g there))
-    (subst (λ (t : List ℕ). Makes plan gs s.members.value.items (type_prepared plan (below_in g.below) t)) name here)
+    let here : IsShape plan gs (children_in g.children) s = subst (IsShape plan gs (children_in g.children)) (sym is) (right-there plan gs i g there h k s lt) in
+    subst (λ (b : ChildrenOf). Makes plan gs s.members.value.items (type_prepared plan b ty)) (sym (children-there gs i g there))
+    (subst (λ (t : List ℕ). Makes plan gs s.members.value.items (type_prepared plan (children_in g.children) t)) name here)
 
 -- ---- a shape that is kept
 
@@ -146,14 +146,14 @@ seen-set f d (x ∷ xs) zero (suc j) e y h = refl
 seen-set f d (x ∷ xs) (suc i) zero e y h = refl
 seen-set f d (x ∷ xs) (suc i) (suc j) e y h = seen-set f d xs i j e y h
 
-pub grows-kept : (plan : PlanOf) (gs : List Group) (i : ℕ) (g new : Group) (s : Shape) → i < length gs → g ≡ get_or gs i g → new.then ≡ g.then → new.below ≡ g.below → new.shapes.items ≡ g.shapes.items ++ s ∷ []
-    → IsShape plan gs (below_at gs i) s → Grows plan gs (set gs i new)
+pub grows-kept : (plan : PlanOf) (gs : List Group) (i : ℕ) (g new : Group) (s : Shape) → i < length gs → g ≡ get_or gs i g → new.then ≡ g.then → new.children ≡ g.children → new.shapes.items ≡ g.shapes.items ++ s ∷ []
+    → IsShape plan gs (children_at gs i) s → Grows plan gs (set gs i new)
 grows-kept plan gs i g new s lt is does stands more here =
     let all : List Group = set gs i new in
     let le : length gs ≤ length all = omega (arith, length-set gs i new) in
     let there : slice_get gs i ≡ Some g = slice_get-get_or gs i g lt ∙ ap Some (sym is) in
-    let stand : (j : ℕ) → j < length gs → below_at all j ≡ below_at gs j =
-    λ j within. seen-set (λ (x : Group). below_in x.below) nowhere gs i j g new (ap below_in stands ∙ ap (λ (x : Group). below_in x.below) is) in
+    let stand : (j : ℕ) → j < length gs → children_at all j ≡ children_at gs j =
+    λ j within. seen-set (λ (x : Group). children_in x.children) nowhere gs i j g new (ap children_in stands ∙ ap (λ (x : Group). children_in x.children) is) in
     let covers : (v : View) → Covers plan all v → Covers plan gs v =
     λ v c. covers-like plan gs all v le (λ j within. seen-set (λ (x : Group). x.then) First gs i j g new (does ∙ ap (λ (x : Group). x.then) is)) stand c in
     record {
@@ -162,31 +162,31 @@ grows-kept plan gs i g new s lt is does stands more here =
       covers = covers;
       right = λ h.
           let old : IsRight plan all g = right-one plan gs all g le covers (right-there plan gs i g there h) in
-          let shape : IsShape plan all (below_in g.below) s = shape-more plan gs all (below_in g.below) s le covers (subst (λ (b : BelowOf). IsShape plan gs b s) (below-there gs i g there) here) in
-          let both : All (IsShape plan all (below_in g.below)) new.shapes.items = subst (All (IsShape plan all (below_in g.below))) (sym more) (All-push (IsShape plan all (below_in g.below)) g.shapes.items s old shape) in
-          All-set (IsRight plan all) gs i new (subst (λ (b : BelowOf). All (IsShape plan all b) new.shapes.items) (sym (ap below_in stands)) both) (right-more plan gs all gs le covers h);
+          let shape : IsShape plan all (children_in g.children) s = shape-more plan gs all (children_in g.children) s le covers (subst (λ (b : ChildrenOf). IsShape plan gs b s) (children-there gs i g there) here) in
+          let both : All (IsShape plan all (children_in g.children)) new.shapes.items = subst (All (IsShape plan all (children_in g.children))) (sym more) (All-push (IsShape plan all (children_in g.children)) g.shapes.items s old shape) in
+          All-set (IsRight plan all) gs i new (subst (λ (b : ChildrenOf). All (IsShape plan all b) new.shapes.items) (sym (ap children_in stands)) both) (right-more plan gs all gs le covers h);
     }
 
 -- ---- what groups ask for
 
 abbrev pub chained : Programs → Programs → Programs
 chained End qs = qs
-chained (With spot p ps) qs = With spot p (chained ps qs)
+chained (With position p ps) qs = With position p (chained ps qs)
 
 pub members-append : (defs : List Definition) (v : View) (levels : ℕ) (row : RowOf) (ms ns : List Member) → members_seen defs v levels row (ms ++ ns) ≡ chained (members_seen defs v levels row ms) (members_seen defs v levels row ns)
 members-append defs v levels row [] ns = refl
-members-append defs v levels row (m ∷ ms) ns = ap (With (spot_seen m.spot) (asks_seen defs v levels row m.asks)) (members-append defs v levels row ms ns)
+members-append defs v levels row (m ∷ ms) ns = ap (With (position_seen m.position) (asks_seen defs v levels row m.asks)) (members-append defs v levels row ms ns)
 
 fields-append : (f : ValueFrom → Program) (ps qs : List PreparedOf) → fields_of f (ps ++ qs) ≡ chained (fields_of f ps) (fields_of f qs)
 fields-append f [] qs = refl
-fields-append f (p ∷ ps) qs = ap (With p.spot (f p.asked)) (fields-append f ps qs)
+fields-append f (p ∷ ps) qs = ap (With p.position (f p.asked)) (fields-append f ps qs)
 
 -- the first of the first
 pub front-then : {X : Type 0} (a b c : List X) → length a ≤ length b → take (length a) b ≡ a → take (length b) c ≡ b → take (length a) c ≡ a
 front-then a b c le f g = sym (take-take (length a) (length b) c le) ∙ ap (take (length a)) g ∙ f
 
 -- one member more
-pub made-more : (old mid new : List Group) (ps : List Prepared) (p : Prepared) (ms : List Member) (m : Member) → AreMade old mid (all_prepared_seen ps) ms → IsAsking mid new (asked_seen p.asked) m.asks → spot_seen m.spot ≡ (prepared_seen p).spot
+pub made-more : (old mid new : List Group) (ps : List Prepared) (p : Prepared) (ms : List Member) (m : Member) → AreMade old mid (all_prepared_seen ps) ms → IsAsking mid new (value_from_seen p.asked) m.asks → position_seen m.position ≡ (prepared_seen p).position
     → AreMade old new (all_prepared_seen (ps ++ p ∷ [])) (ms ++ m ∷ [])
 made-more old mid new ps p ms m h a same = record {
   grows = λ plan. grows-then plan old mid new (h.grows plan) (a.grows plan);
@@ -196,9 +196,9 @@ made-more old mid new ps p ms m h a same = record {
     members = λ v c levels row.
         let f : ValueFrom → Program = asked_program plan.definitions (object_program plan levels) row in
         members-append plan.definitions v levels row ms (m ∷ [])
-        ∙ ap (λ qs. chained qs (With (spot_seen m.spot) (asks_seen plan.definitions v levels row m.asks) End)) (made.members v c levels row)
-        ∙ ap (λ q. chained (fields_of f (all_prepared_seen ps)) (With (spot_seen m.spot) q End)) (a.same plan v c levels row)
-        ∙ ap (λ spot. chained (fields_of f (all_prepared_seen ps)) (With spot (f (asked_seen p.asked)) End)) same
+        ∙ ap (λ qs. chained qs (With (position_seen m.position) (asks_seen plan.definitions v levels row m.asks) End)) (made.members v c levels row)
+        ∙ ap (λ q. chained (fields_of f (all_prepared_seen ps)) (With (position_seen m.position) q End)) (a.same plan v c levels row)
+        ∙ ap (λ position. chained (fields_of f (all_prepared_seen ps)) (With position (f (value_from_seen p.asked)) End)) same
         ∙ sym (fields-append f (all_prepared_seen ps) (prepared_seen p ∷ []))
         ∙ ap (fields_of f) (sym (map-append prepared_seen ps (p ∷ [])));
   };
@@ -208,16 +208,16 @@ pub made-none : (gs : List Group) → AreMade gs gs [] []
 made-none gs = record { grows = λ plan. grows-self plan gs; front = take_all (length gs) gs (omega arith); makes = λ plan. record { known = λ k d lt. absurd (omega (arith, lt)); members = λ v c levels row. refl } }
 
 -- what a load with a group more asks for
-pub load-asking : (old new : List Group) (next : Then) (below : BelowOf) (loader : ℕ) (key : KeyFrom) (group : ℕ) (asked : ValueFrom) → IsNew old new next below group
-    → ((plan : PlanOf) (levels : ℕ) (row : RowOf) → read_from loader (key_from_seen key) row (then_rows plan levels next below) ≡ asked_program plan.definitions (object_program plan levels) row asked) → IsAsking old new asked (asks.Load loader key group)
-load-asking old new next below loader key group asked h is = record {
+pub load-asking : (old new : List Group) (next : Then) (children : ChildrenOf) (loader : ℕ) (key : KeyFrom) (group : ℕ) (asked : ValueFrom) → IsNew old new next children group
+    → ((plan : PlanOf) (levels : ℕ) (row : RowOf) → read_from loader (key_from_seen key) row (then_rows plan levels next children) ≡ asked_program plan.definitions (object_program plan levels) row asked) → IsAsking old new asked (asks.Load loader key group)
+load-asking old new next children loader key group asked h is = record {
   grows = h.grows;
   front = h.front;
   known = h.within;
   same = λ plan v cov levels row.
       let onward : OnwardOf = record { group = group; later = None; levels = levels } in
       ap (λ (f : List RowOf → Program). read_from loader (key_from_seen key) row f)
-      (cov.tells onward h.within ∙ ap (λ n. then_rows plan levels n (below_at new group)) h.does ∙ ap (λ b. then_rows plan levels next b) h.stands)
+      (cov.tells onward h.within ∙ ap (λ n. then_rows plan levels n (children_at new group)) h.does ∙ ap (λ b. then_rows plan levels next b) h.stands)
       ∙ is plan levels row;
 }
 
@@ -228,16 +228,16 @@ shaped-kept plan most gs group ty ms h = record { grows = grows-self plan gs; fr
 
 -- a shape that was made is kept, where there was such a group
 pub shaped-then : (plan : PlanOf) (most : ℕ) (old mid new : List Group) (count group : ℕ) (ty : List ℕ) (s : Shape) (ms : List Member) → count ≡ length old → string_bytes s.ty ≡ ty → s.members.value.items ≡ ms
-    → AreMade old mid (type_prepared plan (below_at old group) ty) ms → ((p : PlanOf) → (group < count → IsShape p mid (below_at mid group) s) → Grows p mid new) → (most ≤ count → new ≡ mid) → IsShaped plan most old new group ty ms
+    → AreMade old mid (type_prepared plan (children_at old group) ty) ms → ((p : PlanOf) → (group < count → IsShape p mid (children_at mid group) s) → Grows p mid new) → (most ≤ count → new ≡ mid) → IsShaped plan most old new group ty ms
 shaped-then plan most old mid new count group ty s ms counted name same h kept full =
-    let made : Makes plan mid ms (type_prepared plan (below_at old group) ty) = h.makes plan in
-    let shape : group < count → IsShape plan mid (below_at mid group) s =
-    λ lt. subst (λ (b : BelowOf). IsShape plan mid b s) (sym ((h.grows plan).stand group (omega (arith, lt, counted))))
-    (subst (λ (xs : List Member). Makes plan mid xs (type_prepared plan (below_at old group) (string_bytes s.ty))) (sym same)
-    (subst (λ (t : List ℕ). Makes plan mid ms (type_prepared plan (below_at old group) t)) (sym name) made)) in
+    let made : Makes plan mid ms (type_prepared plan (children_at old group) ty) = h.makes plan in
+    let shape : group < count → IsShape plan mid (children_at mid group) s =
+    λ lt. subst (λ (b : ChildrenOf). IsShape plan mid b s) (sym ((h.grows plan).stand group (omega (arith, lt, counted))))
+    (subst (λ (xs : List Member). Makes plan mid xs (type_prepared plan (children_at old group) (string_bytes s.ty))) (sym same)
+    (subst (λ (t : List ℕ). Makes plan mid ms (type_prepared plan (children_at old group) t)) (sym name) made)) in
     let grown : Grows plan mid new = kept plan shape in
     record {
       grows = grows-then plan old mid new (h.grows plan) grown;
       front = λ le. ap (take (length old)) (full (omega (arith, le, counted))) ∙ h.front;
-      makes = λ r. makes-more plan mid new ms (type_prepared plan (below_at old group) ty) grown made;
+      makes = λ r. makes-more plan mid new ms (type_prepared plan (children_at old group) ty) grown made;
     }

@@ -1,4 +1,4 @@
-pub mod Told
+pub mod Lookups
 pub mod Loaders
 pub mod Evaluating
 pub mod Texts

@@ -17,22 +17,22 @@ use Rattle.execution.specs.Loads.{Load, Reader}
 use Rattle.execution.specs.Program.{Value, Null, Text as Leaf-Text, Kind, ListOf, ObjectOf, Part, Key, Program, Is, Read, Under, Programs, End, With}
 use Rattle.execution.specs.Residual.{rest, all_rest}
 use Rattle.gq_check.specs.Plans.{PlanOf}
-use Rattle.plan_program.specs.Groups.{FieldOf, GroupOf, nothing_collected, collect_below}
+use Rattle.plan_program.specs.Groups.{FieldOf, GroupOf, nothing_collected, collect_subfields}
 use Rattle.plan_program.specs.Arguments.{ArgumentsOf, ValueOf, all_values, null_argument, arguments_of}
-use Rattle.plan_program.specs.Asked.{KeyFrom, fixed, of_column, of_pair, BelowOf, ValueFrom, known as settled, cell, first_row, all_rows, each_row, joined_rows, PreparedOf, key_from, with_loader, have_loaders, with_steps, with_key, each_asked, input_named, bound_asked, below_of, with_arguments, defined_asked, field_asked, first_asked, all_prepared, spot_of}
-use Rattle.plan_program.specs.PlanPrograms.{TypeOf, object_type, type_fault, type_of_row, places, fields_of, Objects, typed_object, row_object, with_rows, PartOver, told as part_told, lacking, part_over, read_pair, read_key, read_cell, read_from, read_if, first_of, first_object, joined_object, asked_program, object_program, most_levels, root_prepared, plan_program}
+use Rattle.plan_program.specs.FieldValues.{KeyFrom, fixed, of_column, of_pair, ChildrenOf, ValueFrom, known as settled, cell, first_row, all_rows, each_row, joined_rows, PreparedOf, key_from, with_loader, have_loaders, with_steps, with_key, each_asked, input_named, bound_asked, children_of, with_arguments, defined_asked, field_asked, first_asked, all_prepared, position_of}
+use Rattle.plan_program.specs.PlanPrograms.{TypeOf, object_type, type_fault, type_of_row, places, fields_of, Objects, typed_object, row_object, with_rows, PartOver, known_part, lacking, part_over, read_pair, read_key, read_cell, read_from, read_if, first_of, first_object, joined_object, asked_program, object_program, most_levels, root_prepared, plan_program}
 use Rattle.gq_resolve.specs.Built.{step_in, IsNumbered, AreNumbered}
 
 abbrev mutual
   -- each load is of one of the first so many loaders, and a list's items are numbered from 0, and an object's fields have keys
   Fits : ℕ → Program → Type 0
-  Fits n (Is own) = Unit {0}
+  Fits n (Is leaf_value) = Unit {0}
   Fits n (Read load next) = (load.loader < n) × ((o : OutcomeOf) → Fits n (next o))
   Fits n (Under kind below) = AllFit n kind 0 below
 
   AllFit : ℕ → Kind → ℕ → Programs → Type 0
   AllFit n kind i End = Unit {0}
-  AllFit n kind i (With spot p ps) = (step_in kind i spot.part ≡ spot.part) × Fits n p × AllFit n kind (suc i) ps
+  AllFit n kind i (With position p ps) = (step_in kind i position.part ≡ position.part) × Fits n p × AllFit n kind (suc i) ps
 
 same-read : (load : Load) (next : OutcomeOf → Program) (T R : Reader) (r : Option OutcomeOf) → T load ≡ R load → R load ≡ r → ((o : OutcomeOf) → rest (next o) T ≡ rest (next o) R) → rest (Read load next) T ≡ rest (Read load next) R
 same-read load next T R None e f ih = let g : T load ≡ None = e ∙ f in rw (g, f) refl
@@ -40,23 +40,23 @@ same-read load next T R (Some o) e f ih = let g : T load ≡ Some o = e ∙ f in
 
 mutual
   pub same-rest : (n : ℕ) (T R : Reader) → ((load : Load) → load.loader < n → T load ≡ R load) → (p : Program) → Fits n p → rest p T ≡ rest p R
-  same-rest n T R same (Is own) h = refl
+  same-rest n T R same (Is leaf_value) h = refl
   same-rest n T R same (Read load next) h = same-read load next T R (R load) (same load h.0) refl (λ o. same-rest n T R same (next o) (h.1 o))
   same-rest n T R same (Under kind below) h = ap (Under kind) (same-all n T R same kind 0 below h)
 
   same-all : (n : ℕ) (T R : Reader) → ((load : Load) → load.loader < n → T load ≡ R load) → (kind : Kind) (i : ℕ) (ps : Programs) → AllFit n kind i ps → all_rest ps T ≡ all_rest ps R
   same-all n T R same kind i End h = refl
-  same-all n T R same kind i (With spot p ps) h = rw (same-rest n T R same p h.1, same-all n T R same kind (suc i) ps h.2) refl
+  same-all n T R same kind i (With position p ps) h = rw (same-rest n T R same p h.1, same-all n T R same kind (suc i) ps h.2) refl
 
 mutual
   numbered : (n : ℕ) (p : Program) → Fits n p → IsNumbered p
-  numbered n (Is own) h = tt
+  numbered n (Is leaf_value) h = tt
   numbered n (Read load next) h = λ o. numbered n (next o) (h.1 o)
   numbered n (Under kind below) h = all-numbered n kind 0 below h
 
   all-numbered : (n : ℕ) (kind : Kind) (i : ℕ) (ps : Programs) → AllFit n kind i ps → AreNumbered kind i ps
   all-numbered n kind i End h = tt
-  all-numbered n kind i (With spot p ps) h = (h.0, numbered n p h.1, all-numbered n kind (suc i) ps h.2)
+  all-numbered n kind i (With position p ps) h = (h.0, numbered n p h.1, all-numbered n kind (suc i) ps h.2)
 
 -- ---- what groups ask for
 
@@ -65,7 +65,7 @@ StepsBelow n [] = Unit {0}
 StepsBelow n (s ∷ ss) = (s.loader < n) × StepsBelow n ss
 
 abbrev AskedBelow : ℕ → ValueFrom → Type 0
-AskedBelow n (settled own) = Unit {0}
+AskedBelow n (settled leaf_value) = Unit {0}
 AskedBelow n (cell column t) = Unit {0}
 AskedBelow n (first_row loader key below) = loader < n
 AskedBelow n (all_rows loader key below) = loader < n
@@ -74,7 +74,7 @@ AskedBelow n (joined_rows loader key steps below) = (loader < n) × StepsBelow n
 
 -- its position is a field's
 abbrev PreparedFits : ℕ → PreparedOf → Type 0
-PreparedFits n p = (key : List ℕ) × (p.spot.part ≡ Key key) × AskedBelow n p.asked
+PreparedFits n p = (key : List ℕ) × (p.position.part ≡ Key key) × AskedBelow n p.asked
 
 abbrev AllPreparedFit : ℕ → List PreparedOf → Type 0
 AllPreparedFit n [] = Unit {0}
@@ -109,7 +109,7 @@ module _ (plan : PlanOf) where
   key-below None asked h = tt
   key-below (Some k) asked h = h k
 
-  each-below : (loader : ℕ) (below : BelowOf) (input : Option Input) → loader < count → AskedBelow count (each_asked loader below input)
+  each-below : (loader : ℕ) (below : ChildrenOf) (input : Option Input) → loader < count → AskedBelow count (each_asked loader below input)
   each-below loader below None h = tt
   each-below loader below (Some (Items is)) h = h
   each-below loader below (Some (Int z)) h = tt
@@ -117,7 +117,7 @@ module _ (plan : PlanOf) where
   each-below loader below (Some (Boolean b)) h = tt
   each-below loader below (Some NullInput) h = tt
 
-  bound-below : (t : TypeTree) (below : BelowOf) (values : List ValueOf) (binding : Option BindingOf) → AskedBelow count (bound_asked plan t below values binding)
+  bound-below : (t : TypeTree) (below : ChildrenOf) (values : List ValueOf) (binding : Option BindingOf) → AskedBelow count (bound_asked plan t below values binding)
   bound-below t below values None = tt
   bound-below t below values (Some (by_column column)) = tt
   bound-below t below values (Some (by_one loader key)) = loader-below loader _ (λ h. key-below (key_from values key) _ (λ k. h))
@@ -131,13 +131,13 @@ module _ (plan : PlanOf) where
 
   defined-fits : (ty : List ℕ) (f : FieldOf) (g : GroupOf) (d : Option Field) → PreparedFits count (defined_asked plan ty f g d)
   defined-fits ty f g None = (g.key, refl, tt)
-  defined-fits ty f g (Some d) = (g.key, refl, arguments-below (arguments_of plan ty g) _ (λ vs. bound-below d.of_type (below_of d.of_type f.place g.fields) vs (binding_in plan.bindings.fields ty f.name)))
+  defined-fits ty f g (Some d) = (g.key, refl, arguments-below (arguments_of plan ty g) _ (λ vs. bound-below d.of_type (children_of d.of_type f.place g.fields) vs (binding_in plan.bindings.fields ty f.name)))
 
   first-fits : (ty : List ℕ) (g : GroupOf) (fs : List FieldOf) → PreparedFits count (first_asked plan ty g fs)
   first-fits ty g [] = (g.key, refl, tt)
   first-fits ty g (f ∷ fs) = go (bytes_eq f.name (codes "__typename"))
     where
-      go : (b : Bool) → PreparedFits count (if b then record { spot = spot_of g.key f.place true; asked = settled (Value (Leaf-Text ty)) } else defined_asked plan ty f g (field_in plan.definitions ty f.name))
+      go : (b : Bool) → PreparedFits count (if b then record { position = position_of g.key f.place true; asked = settled (Value (Leaf-Text ty)) } else defined_asked plan ty f g (field_in plan.definitions ty f.name))
       go true = (g.key, refl, tt)
       go false = defined-fits ty f g (field_in plan.definitions ty f.name)
 
@@ -166,10 +166,10 @@ module _ (n : ℕ) where
 
   pair-fits : (loader : ℕ) (one two : PartOver) (next : List RowOf → Program) → loader < n → NextFits next → Fits n (read_pair loader one two next)
   pair-fits loader (lacking column) two next h each = tt
-  pair-fits loader (part_told one) (lacking column) next h each = tt
-  pair-fits loader (part_told None) (part_told two) next h each = tt
-  pair-fits loader (part_told (Some s)) (part_told None) next h each = tt
-  pair-fits loader (part_told (Some s)) (part_told (Some t)) next h each = read-fits loader (pair s t) next h each
+  pair-fits loader (known_part one) (lacking column) next h each = tt
+  pair-fits loader (known_part None) (known_part two) next h each = tt
+  pair-fits loader (known_part (Some s)) (known_part None) next h each = tt
+  pair-fits loader (known_part (Some s)) (known_part (Some t)) next h each = read-fits loader (pair s t) next h each
 
   from-fits : (loader : ℕ) (key : KeyFrom) (row : RowOf) (next : List RowOf → Program) → loader < n → NextFits next → Fits n (read_from loader key row next)
   from-fits loader (fixed key) row next h each = read-fits loader key next h each
@@ -185,14 +185,14 @@ module _ (n : ℕ) where
   places-fit non_null place i f (x ∷ xs) each = (refl, each x, places-fit non_null place (suc i) f xs each)
 
   module _ (defs : List Definition) (objects : Objects) (each : (ty : List ℕ) (fields : List FieldOf) (row : RowOf) → Fits n (objects ty fields row)) where
-    typed-fits : (below : BelowOf) (row : RowOf) (t : TypeOf) → Fits n (typed_object objects below row t)
+    typed-fits : (below : ChildrenOf) (row : RowOf) (t : TypeOf) → Fits n (typed_object objects below row t)
     typed-fits below row (type_fault fault) = tt
     typed-fits below row (object_type ty) = each ty below.fields row
 
-    row-fits : (below : BelowOf) (row : RowOf) → Fits n (row_object defs objects below row)
+    row-fits : (below : ChildrenOf) (row : RowOf) → Fits n (row_object defs objects below row)
     row-fits below row = typed-fits below row (type_of_row defs below.type_name row)
 
-    object-fits : (below : BelowOf) (rs : List RowOf) → Fits n (first_object defs objects below rs)
+    object-fits : (below : ChildrenOf) (rs : List RowOf) → Fits n (first_object defs objects below rs)
     object-fits below [] = tt
     object-fits below (r ∷ rs) = row-fits below r
 
@@ -200,12 +200,12 @@ module _ (n : ℕ) where
     first-fits-of object [] one = tt
     first-fits-of object (r ∷ rs) one = one r
 
-    joined-fits : (below : BelowOf) (steps : List StepOf) (row : RowOf) → StepsBelow n steps → Fits n (joined_object defs objects below steps row)
+    joined-fits : (below : ChildrenOf) (steps : List StepOf) (row : RowOf) → StepsBelow n steps → Fits n (joined_object defs objects below steps row)
     joined-fits below [] row i = row-fits below row
     joined-fits below (s ∷ ss) row i = cell-fits s.loader s.column (cell_of row s.column) _ i.0 (λ rs. first-fits-of (joined_object defs objects below ss) rs (λ r. joined-fits below ss r i.1))
 
     asked-fits : (row : RowOf) (a : ValueFrom) → AskedBelow n a → Fits n (asked_program defs objects row a)
-    asked-fits row (settled own) i = tt
+    asked-fits row (settled leaf_value) i = tt
     asked-fits row (cell column t) i = tt
     asked-fits row (first_row loader key below) i = from-fits loader key row _ i (object-fits below)
     asked-fits row (all_rows loader key below) i = from-fits loader key row _ i (λ rs. places-fit below.item_non_null below.place 0 _ rs (row-fits below))
@@ -219,7 +219,7 @@ module _ (n : ℕ) where
 program-fits : (plan : PlanOf) (levels : ℕ) (ty : List ℕ) (fields : List FieldOf) (row : RowOf) → Fits (length plan.bindings.loaders) (object_program plan levels ty fields row)
 program-fits plan zero ty fields row = tt
 program-fits plan (suc levels) ty fields row =
-    fields-fit (length plan.bindings.loaders) plan.definitions (object_program plan levels) (program-fits plan levels) row 0 _ (prepared-fit plan ty (collect_below plan ty nothing_collected fields).groups)
+    fields-fit (length plan.bindings.loaders) plan.definitions (object_program plan levels) (program-fits plan levels) row 0 _ (prepared-fit plan ty (collect_subfields plan ty nothing_collected fields).groups)
 
 pub plan-fits : (plan : PlanOf) → Fits (length plan.bindings.loaders) (plan_program plan)
 plan-fits plan = fields-fit (length plan.bindings.loaders) plan.definitions (object_program plan most_levels) (program-fits plan most_levels) [] 0 (root_prepared plan) (prepared-fit plan _ _)

@@ -13,7 +13,7 @@ use Rattle.execution.proofs.Fitting.{held-rest}
 use Rattle.execution.proofs.Monotone.{exec-whole}
 use Rattle.gq_check.specs.Plans.{PlanOf}
 use Rattle.plan_program.specs.PlanPrograms.{plan_program}
-use Rattle.gq_resolve.specs.Evaluated.{reader, front_over, AddsPart, CanEvaluate, GrowsTo, told}
+use Rattle.gq_resolve.specs.Evaluated.{reader, front_over, AddsPart, CanEvaluate, GrowsTo, lookup}
 use Rattle.gq_resolve.specs.Suspended.{FitsWaiting, FitsStopped, loads_of, Advanced, lacking}
 use Rattle.gq_resolve.specs.Written.{asks, thinned}
 use Rattle.gq_resolve.specs.declared.advance.Rooted.{Rooted}
@@ -23,7 +23,7 @@ use Rattle.gq_resolve.specs.declared.output.Output.{Output}
 use Rattle.gq_resolve.proofs.Evaluating.{needs-rest, front-none, front-there, closed-tree, wants-front}
 use Rattle.gq_resolve.proofs.Loaders.{same-rest, plan-fits}
 use Rattle.gq_resolve.proofs.Thinning.{thinned-none, wanting-thinned, part-thinned, thinned-part}
-use Rattle.gq_resolve.proofs.Told.{told-same, told-more}
+use Rattle.gq_resolve.proofs.Lookups.{lookup-same, lookup-more}
 
 -- ---- larger memories
 
@@ -34,29 +34,29 @@ still-fits plan m n r bs None a same h grown = a.goes_on.rooted
 still-fits plan m n r bs (Some ws) a same h grown = rw (h, same) (record {
   rooted = a.goes_on.rooted;
   within = a.goes_on.within;
-  ask = λ R more. a.goes_on.ask R (λ load outcome e. more load outcome (told-more m n grown load outcome e));
+  ask = λ R more. a.goes_on.ask R (λ load outcome e. more load outcome (lookup-more m n grown load outcome e));
 })
 
 -- a root fits every memory
 pub none-fits : (plan : PlanOf) (m : MemoryOf) (stopped : Option Stopped) → stopped ≡ None → FitsStopped plan m stopped
 none-fits plan m stopped none = subst (FitsStopped plan m) (sym none) tt
 
--- ---- what is told, and what the memory has
+-- ---- what is looked up, and what the memory has
 
--- a plan reads no more of a memory than is told
-left-same : (plan : PlanOf) (m : MemoryOf) → length plan.bindings.loaders ≤ length m.modes → rest (plan_program plan) (told m) ≡ rest (plan_program plan) (reader m)
-left-same plan m le = same-rest (length plan.bindings.loaders) (told m) (reader m) (told-same m (length plan.bindings.loaders) le) (plan_program plan) (plan-fits plan)
+-- a plan reads no more of a memory than is looked up
+left-same : (plan : PlanOf) (m : MemoryOf) → length plan.bindings.loaders ≤ length m.modes → rest (plan_program plan) (lookup m) ≡ rest (plan_program plan) (reader m)
+left-same plan m le = same-rest (length plan.bindings.loaders) (lookup m) (reader m) (lookup-same m (length plan.bindings.loaders) le) (plan_program plan) (plan-fits plan)
 
-told-asks : (plan : PlanOf) (m : MemoryOf) → length plan.bindings.loaders ≤ length m.modes → asks (plan_program plan) (told m) ≡ lacking plan m
-told-asks plan m le = sym (needs-rest (plan_program plan) (told m)) ∙ ap (λ q. needs q unanswered) (left-same plan m le) ∙ needs-rest (plan_program plan) (reader m)
+lookup-asks : (plan : PlanOf) (m : MemoryOf) → length plan.bindings.loaders ≤ length m.modes → asks (plan_program plan) (lookup m) ≡ lacking plan m
+lookup-asks plan m le = sym (needs-rest (plan_program plan) (lookup m)) ∙ ap (λ q. needs q unanswered) (left-same plan m le) ∙ needs-rest (plan_program plan) (reader m)
 
-told-tree : (plan : PlanOf) (m : MemoryOf) → length plan.bindings.loaders ≤ length m.modes → tree (plan_program plan) (told m) ≡ tree (plan_program plan) (reader m)
-told-tree plan m le = sym (held-rest (plan_program plan) (told m)) ∙ ap (λ q. tree q unanswered) (left-same plan m le) ∙ held-rest (plan_program plan) (reader m)
+lookup-tree : (plan : PlanOf) (m : MemoryOf) → length plan.bindings.loaders ≤ length m.modes → tree (plan_program plan) (lookup m) ≡ tree (plan_program plan) (reader m)
+lookup-tree plan m le = sym (held-rest (plan_program plan) (lookup m)) ∙ ap (λ q. tree q unanswered) (left-same plan m le) ∙ held-rest (plan_program plan) (reader m)
 
 module _ (plan : PlanOf) (m : MemoryOf) (old : List WantedOf) (r : Rooted × Output) (can : CanEvaluate plan m old) (a : Advanced plan m r) where
   -- the loads of what waits are those that are missing, each once
   same-loads : thinned [] (loads_of r.1.blocked.keys) ≡ thinned [] (lacking plan m)
-  same-loads = a.lacks ∙ ap (thinned []) (told-asks plan m can.loaders)
+  same-loads = a.lacks ∙ ap (thinned []) (lookup-asks plan m can.loaders)
 
   -- something waits, and the front was added
   pub front-added : (new : List WantedOf) → (r.1.blocked.keys ≡ [] → ⊥) → new ≡ wanting old (loads_of r.1.blocked.keys) → (front_over m (plan_program plan) ≢ []) × (new ≡ wanting old (front_over m (plan_program plan)))
@@ -74,16 +74,16 @@ module _ (plan : PlanOf) (m : MemoryOf) (old : List WantedOf) (r : Rooted × Out
   part-wanted new h = part-thinned old new (lacking plan m) (subst (λ (ls : List Load). AddsPart old new ls) same-loads (thinned-part old new (loads_of r.1.blocked.keys) h))
 
   -- nothing waits, and nothing is open
-  pub answer-shut : r.1.blocked.keys ≡ [] → is_open (tree (plan_program plan) (told m)) ≡ false
+  pub answer-shut : r.1.blocked.keys ≡ [] → is_open (tree (plan_program plan) (lookup m)) ≡ false
   answer-shut none =
       let front : front_over m (plan_program plan) ≡ [] = front-none m (plan_program plan) (thinned-none (lacking plan m) (sym same-loads ∙ ap (λ bs. thinned [] (loads_of bs)) none)) in
-      ap is_open (told-tree plan m can.loaders) ∙ closed-tree m (plan_program plan) front
+      ap is_open (lookup-tree plan m can.loaders) ∙ closed-tree m (plan_program plan) front
 
   -- nothing waits, and this is the answer
-  pub answer-done : (answer : AnsweredOf) → r.1.blocked.keys ≡ [] → (is_open (tree (plan_program plan) (told m)) ≡ false → answer ≡ completed (tree (plan_program plan) (told m)))
+  pub answer-done : (answer : AnsweredOf) → r.1.blocked.keys ≡ [] → (is_open (tree (plan_program plan) (lookup m)) ≡ false → answer ≡ completed (tree (plan_program plan) (lookup m)))
       → (front_over m (plan_program plan) ≡ []) × (exec (plan_program plan) (reader m) ≡ Some answer)
   answer-done answer none h =
       let front : front_over m (plan_program plan) ≡ [] = front-none m (plan_program plan) (thinned-none (lacking plan m) (sym same-loads ∙ ap (λ bs. thinned [] (loads_of bs)) none)) in
       let shut : is_open (tree (plan_program plan) (reader m)) ≡ false = closed-tree m (plan_program plan) front in
-      let same = told-tree plan m can.loaders in
+      let same = lookup-tree plan m can.loaders in
       (front, exec-whole (plan_program plan) (reader m) shut ∙ ap (λ x. Some x) (sym (h (ap is_open same ∙ shut) ∙ ap completed same)))

@@ -18,7 +18,7 @@ use Rattle.execution.specs.Residual.{rest, all_rest, unanswered}
 use Rattle.execution.proofs.Fitting.{missing-append, asks-rest}
 use Rattle.gq_resolve.specs.Answered.{json_of, items_json, members_json}
 use Rattle.gq_resolve.specs.Puts.{Put, Ends, puts, all_puts}
-use Rattle.gq_resolve.specs.Written.{is_plain, opening, closing, own_tokens, part_tokens, put_tokens, asks, put_asks}
+use Rattle.gq_resolve.specs.Written.{is_plain, opening, closing, leaf_value_tokens, part_tokens, put_tokens, asks, put_asks}
 use Rattle.gq_resolve.proofs.Evaluating.{needs-rest}
 
 -- ---- loads
@@ -27,38 +27,38 @@ use Rattle.gq_resolve.proofs.Evaluating.{needs-rest}
 abbrev pub puts_ask : Reader → List Put → List Load
 puts_ask Q ps = flat_map (put_asks Q) ps
 
-read-asked : (strict : Bool) (load : Load) (next : OutcomeOf → Program) (R Q : Reader) (r : Option OutcomeOf) → R load ≡ r → ((o : OutcomeOf) → puts_ask Q (puts strict (next o) R) ≡ asks (rest (next o) R) Q)
-    → puts_ask Q (puts strict (Read load next) R) ≡ asks (rest (Read load next) R) Q
-read-asked strict load next R Q None e ih = rw e (append-nil (asks (Read load next) Q))
-read-asked strict load next R Q (Some o) e ih = rw e (ih o)
+read-asked : (non_null : Bool) (load : Load) (next : OutcomeOf → Program) (R Q : Reader) (r : Option OutcomeOf) → R load ≡ r → ((o : OutcomeOf) → puts_ask Q (puts non_null (next o) R) ≡ asks (rest (next o) R) Q)
+    → puts_ask Q (puts non_null (Read load next) R) ≡ asks (rest (Read load next) R) Q
+read-asked non_null load next R Q None e ih = rw e (append-nil (asks (Read load next) Q))
+read-asked non_null load next R Q (Some o) e ih = rw e (ih o)
 
 mutual
   -- what is put asks what is left of the program
-  asked-rest : (strict : Bool) (p : Program) (R Q : Reader) → puts_ask Q (puts strict p R) ≡ asks (rest p R) Q
-  asked-rest strict (Is own) R Q = refl
-  asked-rest strict (Read load next) R Q = read-asked strict load next R Q (R load) refl (λ o. asked-rest strict (next o) R Q)
-  asked-rest strict (Under kind below) R Q =
+  asked-rest : (non_null : Bool) (p : Program) (R Q : Reader) → puts_ask Q (puts non_null p R) ≡ asks (rest p R) Q
+  asked-rest non_null (Is leaf_value) R Q = refl
+  asked-rest non_null (Read load next) R Q = read-asked non_null load next R Q (R load) refl (λ o. asked-rest non_null (next o) R Q)
+  asked-rest non_null (Under kind below) R Q =
       flat_map-append (put_asks Q) (all_puts kind below R) (Ends kind ∷ []) ∙ append-nil (puts_ask Q (all_puts kind below R)) ∙ all-asked-rest kind below R Q
 
   all-asked-rest : (kind : Kind) (ps : Programs) (R Q : Reader) → puts_ask Q (all_puts kind ps R) ≡ missing Q (all_needs (all_rest ps R) Q)
   all-asked-rest kind End R Q = refl
-  all-asked-rest kind (With spot p ps) R Q =
-      flat_map-append (put_asks Q) (puts spot.non_null p R) (all_puts kind ps R)
-      ∙ ap (λ ls. ls ++ puts_ask Q (all_puts kind ps R)) (asked-rest spot.non_null p R Q)
+  all-asked-rest kind (With position p ps) R Q =
+      flat_map-append (put_asks Q) (puts position.non_null p R) (all_puts kind ps R)
+      ∙ ap (λ ls. ls ++ puts_ask Q (all_puts kind ps R)) (asked-rest position.non_null p R Q)
       ∙ ap (λ ls. asks (rest p R) Q ++ ls) (all-asked-rest kind ps R Q)
       ∙ sym (missing-append Q (needs (rest p R) Q) (all_needs (all_rest ps R) Q))
 
 -- over a reader that answers more, what is put asks what the program asks
-pub asks-puts : (strict : Bool) (p : Program) (R Q : Reader) → AnswersMore R Q → puts_ask Q (puts strict p R) ≡ asks p Q
-asks-puts strict p R Q more = asked-rest strict p R Q ∙ asks-rest p R Q more
+pub asks-puts : (non_null : Bool) (p : Program) (R Q : Reader) → AnswersMore R Q → puts_ask Q (puts non_null p R) ≡ asks p Q
+asks-puts non_null p R Q more = asked-rest non_null p R Q ∙ asks-rest p R Q more
 
 all-missing : (ls : List Load) → missing unanswered ls ≡ ls
 all-missing [] = refl
 all-missing (l ∷ ls) = ap (λ ks. l ∷ ks) (all-missing ls)
 
 -- the loads that it waits for are those that it asks
-pub waits-puts : (strict : Bool) (p : Program) (R : Reader) → puts_ask unanswered (puts strict p R) ≡ asks p R
-waits-puts strict p R = asked-rest strict p R unanswered ∙ all-missing (needs (rest p R) unanswered) ∙ needs-rest p R
+pub waits-puts : (non_null : Bool) (p : Program) (R : Reader) → puts_ask unanswered (puts non_null p R) ≡ asks p R
+waits-puts non_null p R = asked-rest non_null p R unanswered ∙ all-missing (needs (rest p R) unanswered) ∙ needs-rest p R
 
 -- ---- text
 
@@ -69,9 +69,9 @@ abbrev pub puts_tokens : List Put → List Token
 puts_tokens ps = flat_map put_tokens ps
 
 -- the tokens of a tree without errors
-pub record IsPlain (strict : Bool) (t : Tree) (ts : List Token) : Type 0 where
-  pub stays : (strict && nulls t) ≡ false
-  pub errors : (place : Place) (path : List Part) → errors_at strict place path t ≡ []
+pub record IsPlain (non_null : Bool) (t : Tree) (ts : List Token) : Type 0 where
+  pub stays : (non_null && nulls t) ≡ false
+  pub errors : (place : Place) (path : List Part) → errors_at non_null place path t ≡ []
   pub tokens : json_tokens (json_of (response t)) ≡ ts
 
 abbrev kind_tokens : Kind → ResponsesOf → List Token
@@ -89,9 +89,9 @@ part-put ListOf part r rs ts us e f = rw (e, f) (sym (append_assoc ts us (closin
 part-put ObjectOf (Key k) r rs ts us e f = rw (e, f) (ap (λ vs. key k ∷ vs) (sym (append_assoc ts us (closing ObjectOf ∷ []))))
 part-put ObjectOf (Item n) r rs ts us e f = rw (e, f) (ap (λ vs. key (decimal n) ∷ vs) (sym (append_assoc ts us (closing ObjectOf ∷ []))))
 
-under-put : (strict : Bool) (kind : Kind) (below : Trees) (ts : List Token) → ArePlain kind below ts → IsPlain strict (Over kind below) (opening kind ∷ (ts ++ closing kind ∷ []))
-under-put strict kind below ts p = record {
-  stays = ap (λ b. strict && b) p.stay ∙ and-false strict;
+under-put : (non_null : Bool) (kind : Kind) (below : Trees) (ts : List Token) → ArePlain kind below ts → IsPlain non_null (Over kind below) (opening kind ∷ (ts ++ closing kind ∷ []))
+under-put non_null kind below ts p = record {
+  stays = ap (λ b. non_null && b) p.stay ∙ and-false non_null;
   errors = λ place path. p.errors path;
   tokens = ap (λ b. json_tokens (json_of (if b then NullResponse else Holding kind (responses below)))) p.stay ∙ go kind (responses below) p.tokens;
 }
@@ -100,35 +100,35 @@ under-put strict kind below ts p = record {
     go ListOf rs e = ap (λ vs. begin_array ∷ vs) e
     go ObjectOf rs e = ap (λ vs. begin_object ∷ vs) e
 
-read-plain : (strict : Bool) (load : Load) (next : OutcomeOf → Program) (R : Reader) (r : Option OutcomeOf) → R load ≡ r
-    → ((o : OutcomeOf) → puts_plain (puts strict (next o) R) ≡ true → IsPlain strict (tree (next o) R) (puts_tokens (puts strict (next o) R)))
-    → puts_plain (puts strict (Read load next) R) ≡ true → IsPlain strict (tree (Read load next) R) (puts_tokens (puts strict (Read load next) R))
-read-plain strict load next R None e ih h = let f : false ≡ true = rw e at h in absurd (cc f)
-read-plain strict load next R (Some o) e ih h = rw e (ih o (rw e at h))
+read-plain : (non_null : Bool) (load : Load) (next : OutcomeOf → Program) (R : Reader) (r : Option OutcomeOf) → R load ≡ r
+    → ((o : OutcomeOf) → puts_plain (puts non_null (next o) R) ≡ true → IsPlain non_null (tree (next o) R) (puts_tokens (puts non_null (next o) R)))
+    → puts_plain (puts non_null (Read load next) R) ≡ true → IsPlain non_null (tree (Read load next) R) (puts_tokens (puts non_null (Read load next) R))
+read-plain non_null load next R None e ih h = let f : false ≡ true = rw e at h in absurd (cc f)
+read-plain non_null load next R (Some o) e ih h = rw e (ih o (rw e at h))
 
 mutual
   -- where all is plain, the tokens are those of the response, and there are no errors
-  pub plain-puts : (strict : Bool) (p : Program) (R : Reader) → puts_plain (puts strict p R) ≡ true → IsPlain strict (tree p R) (puts_tokens (puts strict p R))
-  plain-puts strict (Is (Value leaf)) R h = record { stays = and-false strict; errors = λ place path. refl; tokens = sym (append-nil (own_tokens (Value leaf))) }
+  pub plain-puts : (non_null : Bool) (p : Program) (R : Reader) → puts_plain (puts non_null p R) ≡ true → IsPlain non_null (tree p R) (puts_tokens (puts non_null p R))
+  plain-puts non_null (Is (Value leaf)) R h = record { stays = and-false non_null; errors = λ place path. refl; tokens = sym (append-nil (leaf_value_tokens (Value leaf))) }
   plain-puts true (Is Null) R h = absurd (cc h)
   plain-puts false (Is Null) R h = record { stays = refl; errors = λ place path. refl; tokens = refl }
-  plain-puts strict (Is (Fault text)) R h = absurd (cc h)
-  plain-puts strict (Read load next) R h = read-plain strict load next R (R load) refl (λ o. plain-puts strict (next o) R) h
-  plain-puts strict (Under kind below) R h =
+  plain-puts non_null (Is (Fault text)) R h = absurd (cc h)
+  plain-puts non_null (Read load next) R h = read-plain non_null load next R (R load) refl (λ o. plain-puts non_null (next o) R) h
+  plain-puts non_null (Under kind below) R h =
       let parts = and_parts _ _ (sym (list_all-append is_plain (all_puts kind below R) (Ends kind ∷ [])) ∙ h) in
-      subst (λ (ts : List Token). IsPlain strict (Over kind (trees below R)) (opening kind ∷ ts)) (sym (flat_map-append put_tokens (all_puts kind below R) (Ends kind ∷ [])))
-      (under-put strict kind (trees below R) (puts_tokens (all_puts kind below R)) (all-plain-puts kind below R parts.0))
+      subst (λ (ts : List Token). IsPlain non_null (Over kind (trees below R)) (opening kind ∷ ts)) (sym (flat_map-append put_tokens (all_puts kind below R) (Ends kind ∷ [])))
+      (under-put non_null kind (trees below R) (puts_tokens (all_puts kind below R)) (all-plain-puts kind below R parts.0))
 
   all-plain-puts : (kind : Kind) (ps : Programs) (R : Reader) → puts_plain (all_puts kind ps R) ≡ true → ArePlain kind (trees ps R) (puts_tokens (all_puts kind ps R))
   all-plain-puts ListOf End R h = record { stay = refl; errors = λ path. refl; tokens = refl }
   all-plain-puts ObjectOf End R h = record { stay = refl; errors = λ path. refl; tokens = refl }
-  all-plain-puts kind (With spot p ps) R h =
-      let each = and_parts _ _ (sym (list_all-append is_plain (puts spot.non_null p R) (all_puts kind ps R)) ∙ h) in
-      let here : IsPlain spot.non_null (tree p R) (puts_tokens (puts spot.non_null p R)) = plain-puts spot.non_null p R each.0 in
+  all-plain-puts kind (With position p ps) R h =
+      let each = and_parts _ _ (sym (list_all-append is_plain (puts position.non_null p R) (all_puts kind ps R)) ∙ h) in
+      let here : IsPlain position.non_null (tree p R) (puts_tokens (puts position.non_null p R)) = plain-puts position.non_null p R each.0 in
       let there : ArePlain kind (trees ps R) (puts_tokens (all_puts kind ps R)) = all-plain-puts kind ps R each.1 in
       record {
         stay = rw (here.stays, there.stay) refl;
-        errors = λ path. ap (λ (es : List ErrorOf). es ++ all_errors path (trees ps R)) (here.errors spot.place (path ++ spot.part ∷ [])) ∙ there.errors path;
-        tokens = part-put kind spot.part (response (tree p R)) (responses (trees ps R)) (puts_tokens (puts spot.non_null p R)) (puts_tokens (all_puts kind ps R)) here.tokens there.tokens
-            ∙ ap (λ ts. (part_tokens kind spot.part ++ ts) ++ closing kind ∷ []) (sym (flat_map-append put_tokens (puts spot.non_null p R) (all_puts kind ps R)));
+        errors = λ path. ap (λ (es : List ErrorOf). es ++ all_errors path (trees ps R)) (here.errors position.place (path ++ position.part ∷ [])) ∙ there.errors path;
+        tokens = part-put kind position.part (response (tree p R)) (responses (trees ps R)) (puts_tokens (puts position.non_null p R)) (puts_tokens (all_puts kind ps R)) here.tokens there.tokens
+            ∙ ap (λ ts. (part_tokens kind position.part ++ ts) ++ closing kind ∷ []) (sym (flat_map-append put_tokens (puts position.non_null p R) (all_puts kind ps R)));
       }

@@ -9,7 +9,7 @@ use Rattle.gq_schema.specs.BindingsSeen.{step_of}
 use Rattle.load_memory.specs.Rows.{RowOf}
 use Rattle.execution.specs.Loads.{Reader}
 use Rattle.execution.specs.Program.{Program}
-use Rattle.plan_program.specs.Asked.{BelowOf, of_column}
+use Rattle.plan_program.specs.FieldValues.{ChildrenOf, of_column}
 use Rattle.plan_program.specs.PlanPrograms.{Objects, read_from, first_of, joined_object}
 use Rattle.gq_resolve.specs.Following.{stepped_puts}
 use Rattle.gq_resolve.specs.Puts.{puts}
@@ -18,7 +18,7 @@ use Rattle.gq_resolve.specs.declared.following.Stepped.{Stepped}
 
 -- from a row these steps come to what others come to from another row
 abbrev pub Reaches : Reader → List StepOf → RowOf → List StepOf → RowOf → Type 0
-Reaches R steps from others row = (strict : Bool) (defs : List Definition) (objects : Objects) (below : BelowOf) → puts strict (joined_object defs objects below steps from) R ≡ puts strict (joined_object defs objects below others row) R
+Reaches R steps from others row = (non_null : Bool) (defs : List Definition) (objects : Objects) (below : ChildrenOf) → puts non_null (joined_object defs objects below steps from) R ≡ puts non_null (joined_object defs objects below others row) R
 
 -- the step of a number, and those after it
 step-there : (steps : List Step) (i : ℕ) (s : Step) → i < length steps → s ≡ get_or steps i s → drop i (map step_of steps) ≡ step_of s ∷ drop (i + 1) (map step_of steps)
@@ -31,19 +31,19 @@ step-there steps i s lt is =
 
 -- where one loader more came to
 pub reach-step : (R : Reader) (start : List StepOf) (from : RowOf) (steps : List Step) (i : ℕ) (s : Step) (row : RowOf) (there : Stepped) → Reaches R start from (drop i (map step_of steps)) row → i < length steps → s ≡ get_or steps i s
-    → ((strict : Bool) (next : RowOf → Program) → puts strict (read_from s.loader (of_column (step_of s).column) row (first_of next)) R ≡ stepped_puts strict R s.loader next there)
-    → (strict : Bool) (defs : List Definition) (objects : Objects) (below : BelowOf)
-    → puts strict (joined_object defs objects below start from) R ≡ stepped_puts strict R s.loader (joined_object defs objects below (drop (i + 1) (map step_of steps))) there
-reach-step R start from steps i s row there reached lt is step = λ strict defs objects below.
-    reached strict defs objects below
-    ∙ ap (λ (ss : List StepOf). puts strict (joined_object defs objects below ss row) R) (step-there steps i s lt is)
-    ∙ step strict (joined_object defs objects below (drop (i + 1) (map step_of steps)))
+    → ((non_null : Bool) (next : RowOf → Program) → puts non_null (read_from s.loader (of_column (step_of s).column) row (first_of next)) R ≡ stepped_puts non_null R s.loader next there)
+    → (non_null : Bool) (defs : List Definition) (objects : Objects) (below : ChildrenOf)
+    → puts non_null (joined_object defs objects below start from) R ≡ stepped_puts non_null R s.loader (joined_object defs objects below (drop (i + 1) (map step_of steps))) there
+reach-step R start from steps i s row there reached lt is step = λ non_null defs objects below.
+    reached non_null defs objects below
+    ∙ ap (λ (ss : List StepOf). puts non_null (joined_object defs objects below ss row) R) (step-there steps i s lt is)
+    ∙ step non_null (joined_object defs objects below (drop (i + 1) (map step_of steps)))
 
 -- where no step is left
 pub reach-end : (R : Reader) (start : List StepOf) (from : RowOf) (steps : List Step) (i : ℕ) (row : RowOf) → Reaches R start from (drop i (map step_of steps)) row → length steps ≤ i → Reaches R start from [] row
-reach-end R start from steps i row reached le = λ strict defs objects below.
-    reached strict defs objects below
-    ∙ ap (λ (ss : List StepOf). puts strict (joined_object defs objects below ss row) R) (drop_all i (map step_of steps) (omega (arith, le, length-map steps step_of)))
+reach-end R start from steps i row reached le = λ non_null defs objects below.
+    reached non_null defs objects below
+    ∙ ap (λ (ss : List StepOf). puts non_null (joined_object defs objects below ss row) R) (drop_all i (map step_of steps) (omega (arith, le, length-map steps step_of)))
 
 -- those that are left after the step of a number
 pub left-after : (steps : List Step) (i n : ℕ) → i < length steps → n ≡ length steps - i - 1 → drop (i + 1) (map step_of steps) ≡ last_steps n (map step_of steps)

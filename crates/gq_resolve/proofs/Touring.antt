@@ -8,13 +8,13 @@ use Rattle.gq_schema.specs.BindingsTree.{StepOf}
 use Rattle.load_memory.specs.Rows.{RowOf}
 use Rattle.load_memory.specs.declared.key.CacheKey.{CacheKey}
 use Rattle.execution.specs.Loads.{Reader}
-use Rattle.execution.specs.Program.{Kind, ListOf, ObjectOf, Item, Spot, Program, Under, Programs, End, With}
+use Rattle.execution.specs.Program.{Kind, ListOf, ObjectOf, Item, FieldPosition, Program, Under, Programs, End, With}
 use Rattle.gq_check.specs.Plans.{PlanOf}
-use Rattle.plan_program.specs.Asked.{BelowOf}
+use Rattle.plan_program.specs.FieldValues.{ChildrenOf}
 use Rattle.plan_program.specs.PlanPrograms.{places, list_of, first_of, row_object, joined_object, joined_objects, object_program}
 use Rattle.gq_resolve.specs.Puts.{Put, Begins, Ends, Enters, OnwardOf, View, puts, all_puts}
-use Rattle.gq_resolve.specs.Spots.{spot_seen, later_of}
-use Rattle.gq_resolve.specs.Groups.{below_at, then_at, then_rows, next_rows, steps_in, Covers, IsAsked, AreKnown, asks_seen, members_seen, AreRight, Grows, IsShaped}
+use Rattle.gq_resolve.specs.Positions.{position_seen, later_of}
+use Rattle.gq_resolve.specs.Groups.{children_at, then_at, then_rows, next_rows, steps_in, Covers, IsAsked, AreKnown, asks_seen, members_seen, AreRight, Grows, IsShaped}
 use Rattle.gq_resolve.specs.Suspended.{view_of}
 use Rattle.gq_resolve.specs.Steps.{last_steps}
 use Rattle.gq_resolve.specs.Following.{FollowsTo, followed_puts}
@@ -74,9 +74,9 @@ module _ {S : Type 0} {goes : Putting S} {below : Below S} {most : ℕ} {plan : 
   }
 
   -- the same program otherwise
-  pub walks-as : (strict : Bool) (R : Reader) (p q : View → Program) {known : Type 0} {a b : Progress S} → Goes goes below most plan known (λ v. puts strict (p v) R) a b → (known → (v : View) → Covers plan a.groups.items v → p v ≡ q v)
-      → Goes goes below most plan known (λ v. puts strict (q v) R) a b
-  walks-as strict R p q g same = goes-as g (λ k v cov. ap (λ x. puts strict x R) (same k v cov))
+  pub walks-as : (non_null : Bool) (R : Reader) (p q : View → Program) {known : Type 0} {a b : Progress S} → Goes goes below most plan known (λ v. puts non_null (p v) R) a b → (known → (v : View) → Covers plan a.groups.items v → p v ≡ q v)
+      → Goes goes below most plan known (λ v. puts non_null (q v) R) a b
+  walks-as non_null R p q g same = goes-as g (λ k v cov. ap (λ x. puts non_null x R) (same k v cov))
 
   -- what a look-up changes is none of what is put
   pub goes-probed : {known : Type 0} {ps : View → List Put} {a b : Progress S} (probe : CacheKey) → Goes goes below most plan known ps (record a { probe = probe }) b → Goes goes below most plan known ps a b
@@ -97,18 +97,18 @@ module _ {S : Type 0} {goes : Putting S} {below : Below S} {most : ℕ} {plan : 
       goes-then laws (λ k. k) p here
 
   -- an object of a type, whose members were prepared first
-  pub goes-made : {known : Type 0} (strict : Bool) (R : Reader) (levels n group : ℕ) (ty : List ℕ) (row : RowOf) (a mid b : Progress S) (ms : List Member) → Laws goes below → levels ≡ suc n → mid.out ≡ a.out
+  pub goes-made : {known : Type 0} (non_null : Bool) (R : Reader) (levels n group : ℕ) (ty : List ℕ) (row : RowOf) (a mid b : Progress S) (ms : List Member) → Laws goes below → levels ≡ suc n → mid.out ≡ a.out
       → IsShaped plan most a.groups.items mid.groups.items group ty ms → Goes goes below most plan (AreKnown (length mid.groups.items) ms) (λ v. puts false (Under ObjectOf (members_seen plan.definitions v n row ms)) R) mid b
-      → Goes goes below most plan known (λ v. puts strict (object_program plan levels ty (below_at a.groups.items group).fields row) R) a b
-  goes-made strict R levels n group ty row a mid b ms laws above same shaped p = record {
+      → Goes goes below most plan known (λ v. puts non_null (object_program plan levels ty (children_at a.groups.items group).fields row) R) a b
+  goes-made non_null R levels n group ty row a mid b ms laws above same shaped p = record {
     grows = grows-then plan a.groups.items mid.groups.items b.groups.items shaped.grows p.grows;
     front = λ le. front-then a.groups.items mid.groups.items b.groups.items shaped.grows.longer (shaped.front le) (p.front (omega (arith, le, shaped.grows.longer)));
     puts = λ k rt wait v cov.
         let made = shaped.makes rt in
         let from : below (length mid.groups.items) mid.out =
         subst (below (length mid.groups.items)) (sym same) (laws.rises (length a.groups.items) (length mid.groups.items) a.out shaped.grows.longer wait) in
-        subst (λ (s : S). goes v (puts strict (object_program plan levels ty (below_at a.groups.items group).fields row) R) s b.out) same
-        (subst (λ (l : ℕ). goes v (puts strict (object_program plan l ty (below_at a.groups.items group).fields row) R) mid.out b.out) (sym above)
+        subst (λ (s : S). goes v (puts non_null (object_program plan levels ty (children_at a.groups.items group).fields row) R) s b.out) same
+        (subst (λ (l : ℕ). goes v (puts non_null (object_program plan l ty (children_at a.groups.items group).fields row) R) mid.out b.out) (sym above)
         (subst (λ (us : Programs). goes v (puts false (Under ObjectOf us) R) mid.out b.out) (made.members v (p.grows.covers v cov) n row) (p.puts made.known (shaped.grows.right rt) from v cov)));
   }
 
@@ -141,9 +141,9 @@ module _ {S : Type 0} {goes : Putting S} {below : Below S} {most : ℕ} {plan : 
 
 puts-chained : (kind : Kind) (ps qs : Programs) (R : Reader) → all_puts kind (chained ps qs) R ≡ all_puts kind ps R ++ all_puts kind qs R
 puts-chained kind End qs R = refl
-puts-chained kind (With spot p ps) qs R =
-    ap (λ us. Enters kind spot ∷ (puts spot.non_null p R ++ us)) (puts-chained kind ps qs R)
-    ∙ ap (λ us. Enters kind spot ∷ us) (sym (append_assoc (puts spot.non_null p R) (all_puts kind ps R) (all_puts kind qs R)))
+puts-chained kind (With position p ps) qs R =
+    ap (λ us. Enters kind position ∷ (puts position.non_null p R ++ us)) (puts-chained kind ps qs R)
+    ∙ ap (λ us. Enters kind position ∷ us) (sym (append_assoc (puts position.non_null p R) (all_puts kind ps R) (all_puts kind qs R)))
 
 -- what is put of an object up to some of its members
 abbrev pub fields_put : List Definition → ℕ → RowOf → Reader → List Member → View → List Put
@@ -151,9 +151,9 @@ fields_put defs levels row R ms v = Begins ObjectOf ∷ all_puts ObjectOf (membe
 
 -- one more
 pub fields-more : (defs : List Definition) (levels : ℕ) (row : RowOf) (R : Reader) (ms : List Member) (i : ℕ) (m : Member) (v : View) → i < length ms → m ≡ get_or ms i m
-    → fields_put defs levels row R (take i ms) v ++ Enters ObjectOf (spot_seen m.spot) ∷ puts m.spot.non_null (asks_seen defs v levels row m.asks) R ≡ fields_put defs levels row R (take (i + 1) ms) v
+    → fields_put defs levels row R (take i ms) v ++ Enters ObjectOf (position_seen m.position) ∷ puts m.position.non_null (asks_seen defs v levels row m.asks) R ≡ fields_put defs levels row R (take (i + 1) ms) v
 fields-more defs levels row R ms i m v lt is =
-    ap (λ us. fields_put defs levels row R (take i ms) v ++ Enters ObjectOf (spot_seen m.spot) ∷ us) (sym (append-nil (puts m.spot.non_null (asks_seen defs v levels row m.asks) R)))
+    ap (λ us. fields_put defs levels row R (take i ms) v ++ Enters ObjectOf (position_seen m.position) ∷ us) (sym (append-nil (puts m.position.non_null (asks_seen defs v levels row m.asks) R)))
     ∙ ap (λ us. Begins ObjectOf ∷ us) (sym (puts-chained ObjectOf (members_seen defs v levels row (take i ms)) (members_seen defs v levels row (m ∷ [])) R))
     ∙ ap (λ ps. Begins ObjectOf ∷ all_puts ObjectOf ps R) (sym (members-append defs v levels row (take i ms) (m ∷ [])))
     ∙ ap (λ xs. fields_put defs levels row R xs v) (sym (take_more ms i m lt ∙ ap (λ x. take i ms ++ x ∷ []) (sym is)))
@@ -162,41 +162,41 @@ fields-more defs levels row R ms i m v lt is =
 pub known-at : (n k : ℕ) (ms : List Member) (i : ℕ) (m : Member) → n ≤ k → i < length ms → m ≡ get_or ms i m → AreKnown n ms → IsAsked k m.asks
 known-at n k ms i m le lt is known = subst (λ (x : Member). IsAsked k x.asks) (sym is) (asked-more n k (get_or ms i m).asks le (known i m lt))
 
-places-append : (strict : Bool) (place : Place) (n : ℕ) (ps : List Program) (p : Program) → places strict place n (ps ++ p ∷ []) ≡ chained (places strict place n ps) (places strict place (n + length ps) (p ∷ []))
-places-append strict place n [] p = let e : n + 0 ≡ n = omega arith in rw e refl
-places-append strict place n (q ∷ ps) p =
+places-append : (non_null : Bool) (place : Place) (n : ℕ) (ps : List Program) (p : Program) → places non_null place n (ps ++ p ∷ []) ≡ chained (places non_null place n ps) (places non_null place (n + length ps) (p ∷ []))
+places-append non_null place n [] p = let e : n + 0 ≡ n = omega arith in rw e refl
+places-append non_null place n (q ∷ ps) p =
     let e : n + suc (length ps) ≡ suc n + length ps = omega arith in
-    rw e (ap (With (record { part = Item n; non_null = strict; place = place }) q) (places-append strict place (suc n) ps p))
+    rw e (ap (With (record { part = Item n; non_null = non_null; place = place }) q) (places-append non_null place (suc n) ps p))
 
 -- what is put of a list up to some of its items
 abbrev pub items_put : {A : Type 0} → Bool → Place → Reader → (View → A → Program) → List A → View → List Put
-items_put strict place R f xs v = Begins ListOf ∷ all_puts ListOf (places strict place 0 (map (f v) xs)) R
+items_put non_null place R f xs v = Begins ListOf ∷ all_puts ListOf (places non_null place 0 (map (f v) xs)) R
 
 -- one more
-pub items-more : {A : Type 0} (strict : Bool) (place : Place) (R : Reader) (f : View → A → Program) (xs : List A) (i : ℕ) (x : A) (v : View) → i < length xs → x ≡ get_or xs i x
-    → items_put strict place R f (take i xs) v ++ Enters ListOf (record { part = Item i; non_null = strict; place = place }) ∷ puts strict (f v x) R ≡ items_put strict place R f (take (i + 1) xs) v
-items-more strict place R f xs i x v lt is =
+pub items-more : {A : Type 0} (non_null : Bool) (place : Place) (R : Reader) (f : View → A → Program) (xs : List A) (i : ℕ) (x : A) (v : View) → i < length xs → x ≡ get_or xs i x
+    → items_put non_null place R f (take i xs) v ++ Enters ListOf (record { part = Item i; non_null = non_null; place = place }) ∷ puts non_null (f v x) R ≡ items_put non_null place R f (take (i + 1) xs) v
+items-more non_null place R f xs i x v lt is =
     let ps : List Program = map (f v) (take i xs) in
     let number : i ≡ 0 + length ps = omega (arith, length-map (take i xs) (f v), length-take-le i xs (omega (arith, lt))) in
-    ap (λ us. items_put strict place R f (take i xs) v ++ Enters ListOf (record { part = Item i; non_null = strict; place = place }) ∷ us) (sym (append-nil (puts strict (f v x) R)))
-    ∙ ap (λ n. items_put strict place R f (take i xs) v ++ all_puts ListOf (places strict place n (f v x ∷ [])) R) number
-    ∙ ap (λ us. Begins ListOf ∷ us) (sym (puts-chained ListOf (places strict place 0 ps) (places strict place (0 + length ps) (f v x ∷ [])) R))
-    ∙ ap (λ us. Begins ListOf ∷ all_puts ListOf us R) (sym (places-append strict place 0 ps (f v x)))
-    ∙ ap (λ qs. Begins ListOf ∷ all_puts ListOf (places strict place 0 qs) R) (sym (ap (map (f v)) (take_more xs i x lt ∙ ap (λ y. take i xs ++ y ∷ []) (sym is)) ∙ map_push (f v) (take i xs) x))
+    ap (λ us. items_put non_null place R f (take i xs) v ++ Enters ListOf (record { part = Item i; non_null = non_null; place = place }) ∷ us) (sym (append-nil (puts non_null (f v x) R)))
+    ∙ ap (λ n. items_put non_null place R f (take i xs) v ++ all_puts ListOf (places non_null place n (f v x ∷ [])) R) number
+    ∙ ap (λ us. Begins ListOf ∷ us) (sym (puts-chained ListOf (places non_null place 0 ps) (places non_null place (0 + length ps) (f v x ∷ [])) R))
+    ∙ ap (λ us. Begins ListOf ∷ all_puts ListOf us R) (sym (places-append non_null place 0 ps (f v x)))
+    ∙ ap (λ qs. Begins ListOf ∷ all_puts ListOf (places non_null place 0 qs) R) (sym (ap (map (f v)) (take_more xs i x lt ∙ ap (λ y. take i xs ++ y ∷ []) (sym is)) ∙ map_push (f v) (take i xs) x))
 
 -- all of them
-pub items-whole : {A : Type 0} (strict to_be : Bool) (place there : Place) (R : Reader) (f : View → A → Program) (xs : List A) (i : ℕ) (v : View) → strict ≡ to_be → place ≡ there → length xs ≤ i
-    → items_put strict place R f (take i xs) v ++ Ends ListOf ∷ [] ≡ puts false (Under ListOf (places to_be there 0 (map (f v) xs))) R
-items-whole strict to_be place there R f xs i v e g le =
+pub items-whole : {A : Type 0} (non_null to_be : Bool) (place there : Place) (R : Reader) (f : View → A → Program) (xs : List A) (i : ℕ) (v : View) → non_null ≡ to_be → place ≡ there → length xs ≤ i
+    → items_put non_null place R f (take i xs) v ++ Ends ListOf ∷ [] ≡ puts false (Under ListOf (places to_be there 0 (map (f v) xs))) R
+items-whole non_null to_be place there R f xs i v e g le =
     let put = λ (s : Bool) (p : Place). puts false (Under ListOf (places s p 0 (map (f v) xs))) R in
-    ap (λ ys. items_put strict place R f ys v ++ Ends ListOf ∷ []) (take_all i xs le) ∙ ap (λ s. put s place) e ∙ ap (λ p. put to_be p) g
+    ap (λ ys. items_put non_null place R f ys v ++ Ends ListOf ∷ []) (take_all i xs le) ∙ ap (λ s. put s place) e ∙ ap (λ p. put to_be p) g
 
 -- ---- rows
 
 module _ (plan : PlanOf) (gs : List Group) (v : View) (onward : OnwardOf) (cov : Covers plan gs v) (lt : onward.group < length gs) where
   -- what later loaders come to, one after another
   abbrev pub joined_by : List StepOf → RowOf → Program
-  joined_by = joined_object plan.definitions (object_program plan onward.levels) (below_at gs onward.group)
+  joined_by = joined_object plan.definitions (object_program plan onward.levels) (children_at gs onward.group)
 
   -- what a view says of a later load, after which so many of these loaders come
   pub after-missing : (left : ℕ) (steps : List StepOf) → steps ≡ steps_in (then_at gs onward.group) → v.after (later_of left onward) ≡ first_of (joined_by (last_steps left steps))
@@ -207,43 +207,43 @@ module _ (plan : PlanOf) (gs : List Group) (v : View) (onward : OnwardOf) (cov :
   after-none = after-missing 0 _ refl ∙ ap (λ (ss : List StepOf). first_of (joined_by ss)) (drop_all (length (steps_in (then_at gs onward.group)) - 0) (steps_in (then_at gs onward.group)) (omega arith))
 
   -- an object over a row
-  pub after-row : (row : RowOf) → v.after (later_of 0 onward) (row ∷ []) ≡ row_object plan.definitions (object_program plan onward.levels) (below_at gs onward.group) row
+  pub after-row : (row : RowOf) → v.after (later_of 0 onward) (row ∷ []) ≡ row_object plan.definitions (object_program plan onward.levels) (children_at gs onward.group) row
   after-row row = ap (λ (f : List RowOf → Program). f (row ∷ [])) after-none
 
   -- what a group does with the rows of its own load
-  after-own : (lent : List Group) (next : Then) → onward.later ≡ None → lent ≡ gs → then_at lent onward.group ≡ next → v.after onward ≡ then_rows plan onward.levels next (below_at gs onward.group)
+  after-own : (lent : List Group) (next : Then) → onward.later ≡ None → lent ≡ gs → then_at lent onward.group ≡ next → v.after onward ≡ then_rows plan onward.levels next (children_at gs onward.group)
   after-own lent next own same is =
-      cov.tells onward lt ∙ ap (λ later. next_rows plan onward.levels later (then_at gs onward.group) (below_at gs onward.group)) own
-      ∙ ap (λ n. then_rows plan onward.levels n (below_at gs onward.group)) (ap (λ (xs : List Group). then_at xs onward.group) (sym same) ∙ is)
+      cov.tells onward lt ∙ ap (λ later. next_rows plan onward.levels later (then_at gs onward.group) (children_at gs onward.group)) own
+      ∙ ap (λ n. then_rows plan onward.levels n (children_at gs onward.group)) (ap (λ (xs : List Group). then_at xs onward.group) (sym same) ∙ is)
 
   pub after-first : (lent : List Group) → onward.later ≡ None → lent ≡ gs → then_at lent onward.group ≡ First → v.after onward ≡ v.after (later_of 0 onward)
   after-first lent own same is = after-own lent First own same is ∙ fun_ext first ∙ sym after-none
     where
-      first : (rows : List RowOf) → then_rows plan onward.levels First (below_at gs onward.group) rows ≡ first_of (joined_by []) rows
+      first : (rows : List RowOf) → then_rows plan onward.levels First (children_at gs onward.group) rows ≡ first_of (joined_by []) rows
       first [] = refl
       first (row ∷ rows) = refl
 
   pub after-all : (lent : List Group) (rows : List RowOf) → onward.later ≡ None → lent ≡ gs → then_at lent onward.group ≡ Each → v.after onward rows ≡ items_after v gs onward 0 rows
   after-all lent rows own same is =
       ap (λ (f : List RowOf → Program). f rows) (after-own lent Each own same is)
-      ∙ ap (λ (f : RowOf → Program). list_of (below_at gs onward.group) (map f rows)) (fun_ext (λ (row : RowOf). sym (after-row row)))
+      ∙ ap (λ (f : RowOf → Program). list_of (children_at gs onward.group) (map f rows)) (fun_ext (λ (row : RowOf). sym (after-row row)))
 
   -- all of the later loaders are left
   pub after-joined : (lent : List Group) (rows : List RowOf) (left : ℕ) (next : Then) → onward.later ≡ None → lent ≡ gs → then_at lent onward.group ≡ next → left ≡ length (steps_in next)
-      → ((below : BelowOf) → then_rows plan onward.levels next below rows ≡ joined_objects plan.definitions (object_program plan onward.levels) below (steps_in next) rows) → v.after onward rows ≡ items_after v gs onward left rows
+      → ((below : ChildrenOf) → then_rows plan onward.levels next below rows ≡ joined_objects plan.definitions (object_program plan onward.levels) below (steps_in next) rows) → v.after onward rows ≡ items_after v gs onward left rows
   after-joined lent rows left next own same is all joins =
       let does : then_at gs onward.group ≡ next = ap (λ (xs : List Group). then_at xs onward.group) (sym same) ∙ is in
       let none : length (steps_in next) - left ≡ 0 = omega (arith, all) in
       let steps : last_steps left (steps_in (then_at gs onward.group)) ≡ steps_in next = ap (λ n. last_steps left (steps_in n)) does ∙ ap (λ k. drop k (steps_in next)) none in
-      ap (λ (f : List RowOf → Program). f rows) (after-own lent next own same is) ∙ joins (below_at gs onward.group)
-      ∙ ap (λ (f : RowOf → Program). list_of (below_at gs onward.group) (map f rows))
+      ap (λ (f : List RowOf → Program). f rows) (after-own lent next own same is) ∙ joins (children_at gs onward.group)
+      ∙ ap (λ (f : RowOf → Program). list_of (children_at gs onward.group) (map f rows))
       (fun_ext (λ (row : RowOf). sym (ap (λ (f : List RowOf → Program). f (row ∷ [])) (after-missing left _ refl) ∙ ap (λ (ss : List StepOf). joined_by ss row) steps)))
 
   -- where so many later loaders came to from a row
-  pub after-followed : (left : ℕ) (strict : Bool) (R : Reader) (steps : List StepOf) (row : RowOf) (f : Followed) → steps ≡ steps_in (then_at gs onward.group) → FollowsTo R steps left row f
-      → puts strict (v.after (later_of left onward) (row ∷ [])) R ≡ followed_puts strict R joined_by steps f
-  after-followed left strict R steps row f same is =
-      ap (λ (f : List RowOf → Program). puts strict (f (row ∷ [])) R) (after-missing left steps same) ∙ is strict plan.definitions (object_program plan onward.levels) (below_at gs onward.group)
+  pub after-followed : (left : ℕ) (non_null : Bool) (R : Reader) (steps : List StepOf) (row : RowOf) (f : Followed) → steps ≡ steps_in (then_at gs onward.group) → FollowsTo R steps left row f
+      → puts non_null (v.after (later_of left onward) (row ∷ [])) R ≡ followed_puts non_null R joined_by steps f
+  after-followed left non_null R steps row f same is =
+      ap (λ (f : List RowOf → Program). puts non_null (f (row ∷ [])) R) (after-missing left steps same) ∙ is non_null plan.definitions (object_program plan onward.levels) (children_at gs onward.group)
 
   -- the first of some rows
   pub after-head : (left : ℕ) (rows : List RowOf) (row : RowOf) → 0 < length rows → row ≡ get_or rows 0 row → v.after (later_of left onward) (row ∷ []) ≡ v.after (later_of left onward) rows

@@ -3,7 +3,7 @@ use Rattle.std.specs.Prelude.{◌≡◌, ◌<◌, ◌≤◌, ◌+◌, ◌-◌, �
 use Rattle.std.proofs.Common.{sym, subst, ◌∙◌, ◌++◌}
 use Rattle.gq_lexer.specs.declared.place.Place.{Place}
 use Rattle.execution.specs.Loads.{Reader}
-use Rattle.execution.specs.Program.{Own, At, Program, tree, Kind, ListOf, ObjectOf, Part, Key, Item, Text, Int, Boolean}
+use Rattle.execution.specs.Program.{LeafValue, At, Program, tree, Kind, ListOf, ObjectOf, Part, Key, Item, Text, Int, Boolean}
 use Rattle.execution.specs.Completion.{ResponseOf, NullResponse, LeafResponse, Holding, ResponsesOf, NoResponses, Responding, ErrorOf, own_errors}
 use Rattle.execution.specs.Executed.{completed}
 use Rattle.gq_resolve.specs.Answered.{is_null_response, answered_of, answer_text}
@@ -77,10 +77,10 @@ AreFew most bytes = min bytes (2 ^ 64 - 1) ≤ most
 -- Of an object or a list so many bytes are sure. Its parts are kept, unless those, with what is open around it, are more than
 -- the limit.
 pub record KeepsLevel (most : ℕ) (around : List LevelOf) (all kept : LevelOf) (least : Least) (counts : List Least) : Type 0 where
-  pub spot : kept.spot ≡ all.spot
+  pub position : kept.position ≡ all.position
   pub kind : kept.kind ≡ all.kind
   pub pulled : kept.pulled ≡ all.pulled
-  pub key : least.key ≤ key_size around all.spot.part
+  pub key : least.key ≤ key_size around all.position.part
   pub parts : least.parts ≤ sizes_of all.kind all.parts
   pub fits : least.parts < 2 ^ 64
   pub inside : least.around ≤ bytes_in counts
@@ -96,7 +96,7 @@ KeepLevels most (l ∷ ls) (k ∷ ks) (n ∷ ns) = KeepsLevel most ls l k n ns �
 
 -- the same of what isn't begun: the response of the root, and the errors
 pub record KeepsRest (most : ℕ) (all kept : BuiltOf) (top errors : ℕ) : Type 0 where
-  pub spot : kept.spot ≡ all.spot
+  pub position : kept.position ≡ all.position
   pub top_least : top ≤ size_of all.top
   pub top_whole : top ≤ most → kept.top ≡ all.top
   pub errors_least : errors ≤ errors_size all.errors
@@ -137,15 +137,15 @@ pub record IsSure (most before : ℕ) (around : List LevelOf) (part : Part) (all
 
 -- what was put is counted, with its key
 abbrev pub CountsPut : ℕ → ℕ → BoundedBuilder → BoundedBuilder → Type 0
-CountsPut key size old new = (all : BuiltOf) (r got : ResponseOf) → HasPut all got old → IsSure old.most (bytes_in (reverse old.levels.items)) all.levels all.spot.part r got key size → Bounds (placed r all) new
+CountsPut key size old new = (all : BuiltOf) (r got : ResponseOf) → HasPut all got old → IsSure old.most (bytes_in (reverse old.levels.items)) all.levels all.position.part r got key size → Bounds (placed r all) new
 
 -- errors that were put are counted
 abbrev pub CountsErrors : ℕ → BoundedBuilder → BoundedBuilder → Type 0
 CountsErrors added old new = (all : BuiltOf) (es : List ErrorOf) (got : ResponseOf) → added ≤ errors_size es → HasGiven all es got old → HasPut (with_errors es all) got new
 
 -- the error of an own value has at least so many bytes, so deep in the answer
-abbrev pub AreErrorBytes : Own → Bool → ℕ → ℕ → Type 0
-AreErrorBytes own strict depth bytes = (place : Place) (path : List Part) → depth ≤ length path → bytes ≤ errors_size (own_errors strict place path (At own))
+abbrev pub AreErrorBytes : LeafValue → Bool → ℕ → ℕ → Type 0
+AreErrorBytes leaf_value non_null depth bytes = (place : Place) (path : List Part) → depth ≤ length path → bytes ≤ errors_size (own_errors non_null place path (At leaf_value))
 
 -- ---- what comes out of a builder
 

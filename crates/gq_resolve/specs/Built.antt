@@ -4,7 +4,7 @@ use Rattle.std.proofs.Common.{ap, sym, ◌∙◌}
 use Rattle.std.specs.declared.alloc.Global.{Global}
 use Rattle.answer_json.specs.declared.response.Response.{Response}
 use Rattle.execution.specs.Loads.{Reader}
-use Rattle.execution.specs.Program.{Own, Kind, ListOf, ObjectOf, Part, Key, Item, Spot, Program, Is, Read, Under, Programs, End, With, At, tree}
+use Rattle.execution.specs.Program.{LeafValue, Kind, ListOf, ObjectOf, Part, Key, Item, FieldPosition, Program, Is, Read, Under, Programs, End, With, At, tree}
 use Rattle.execution.specs.Completion.{ResponseOf, NullResponse, Holding, ResponsesOf, NoResponses, Responding, ErrorOf, own_errors, is_open}
 use Rattle.execution.specs.Executed.{response}
 use Rattle.load_memory.specs.Outcomes.{OutcomeOf}
@@ -18,7 +18,7 @@ use Rattle.gq_resolve.specs.declared.builder.Builder.{Builder}
 
 -- an object or a list that has begun: its position, what it has so far, and whether a null at a non-null type is among that
 pub record LevelOf : Type 0 where
-  pub spot : Spot
+  pub position : FieldPosition
   pub kind : Kind
   pub parts : ResponsesOf
   pub pulled : Bool
@@ -27,7 +27,7 @@ pub record LevelOf : Type 0 where
 -- root, once it is put; and the errors.
 pub record BuiltOf : Type 0 where
   pub levels : List LevelOf
-  pub spot : Spot
+  pub position : FieldPosition
   pub top : ResponseOf
   pub errors : List ErrorOf
 
@@ -36,7 +36,7 @@ pub record BuiltOf : Type 0 where
 -- the path of a position, by its last step and what is open around it; the root has no step
 abbrev pub path_in : List LevelOf → Part → List Part
 path_in [] part = []
-path_in (l ∷ ls) part = path_in ls l.spot.part ++ part ∷ []
+path_in (l ∷ ls) part = path_in ls l.position.part ++ part ∷ []
 
 abbrev pub count_of : ResponsesOf → ℕ
 count_of NoResponses = 0
@@ -53,55 +53,55 @@ abbrev pub put_part : ResponsesOf → Part → ResponseOf → ResponsesOf
 put_part NoResponses part r = Responding part r NoResponses
 put_part (Responding p q rs) part r = Responding p q (put_part rs part r)
 
-abbrev pub level_with : Spot → ResponseOf → LevelOf → LevelOf
-level_with spot r l = record {
-  spot = l.spot;
+abbrev pub level_with : FieldPosition → ResponseOf → LevelOf → LevelOf
+level_with position r l = record {
+  position = l.position;
   kind = l.kind;
-  parts = put_part l.parts (step_in l.kind (count_of l.parts) spot.part) r;
-  pulled = l.pulled || (spot.non_null && is_null_response r);
+  parts = put_part l.parts (step_in l.kind (count_of l.parts) position.part) r;
+  pulled = l.pulled || (position.non_null && is_null_response r);
 }
 
 -- The root, which no step leads to. It is nullable, and an error there has the place of a text's first character.
-abbrev pub root_spot : Spot
-root_spot = record { part = Item 0; non_null = false; place = record { line = 1; column = 1 } }
+abbrev pub root_position : FieldPosition
+root_position = record { part = Item 0; non_null = false; place = record { line = 1; column = 1 } }
 
 -- until a position is entered
 abbrev pub at_root : BuiltOf → BuiltOf
-at_root b = record b { spot = root_spot }
+at_root b = record b { position = root_position }
 
 -- a response is put in what was begun last, or is the root's
 abbrev pub placed_in : List LevelOf → ResponseOf → BuiltOf → BuiltOf
-placed_in [] r b = record { levels = []; spot = root_spot; top = r; errors = b.errors }
-placed_in (l ∷ ls) r b = record { levels = level_with b.spot r l ∷ ls; spot = root_spot; top = b.top; errors = b.errors }
+placed_in [] r b = record { levels = []; position = root_position; top = r; errors = b.errors }
+placed_in (l ∷ ls) r b = record { levels = level_with b.position r l ∷ ls; position = root_position; top = b.top; errors = b.errors }
 
 abbrev pub placed : ResponseOf → BuiltOf → BuiltOf
 placed r b = placed_in b.levels r b
 
 abbrev pub begun : Kind → BuiltOf → BuiltOf
-begun kind b = record { levels = record { spot = b.spot; kind = kind; parts = NoResponses; pulled = false } ∷ b.levels; spot = root_spot; top = b.top; errors = b.errors }
+begun kind b = record { levels = record { position = b.position; kind = kind; parts = NoResponses; pulled = false } ∷ b.levels; position = root_position; top = b.top; errors = b.errors }
 
 abbrev pub level_response : LevelOf → ResponseOf
 level_response l = if l.pulled then NullResponse else Holding l.kind l.parts
 
 abbrev pub ended_in : List LevelOf → BuiltOf → BuiltOf
 ended_in [] b = b
-ended_in (l ∷ ls) b = placed_in ls (level_response l) (record b { levels = ls; spot = l.spot })
+ended_in (l ∷ ls) b = placed_in ls (level_response l) (record b { levels = ls; position = l.position })
 
 abbrev pub with_errors : List ErrorOf → BuiltOf → BuiltOf
 with_errors es b = record b { errors = b.errors ++ es }
 
 abbrev pub with_error : List ℕ → BuiltOf → BuiltOf
-with_error message b = with_errors (record { message = message; place = b.spot.place; path = path_in b.levels b.spot.part } ∷ []) b
+with_error message b = with_errors (record { message = message; place = b.position.place; path = path_in b.levels b.position.part } ∷ []) b
 
 -- a position with nothing below it, at a type that is non-null or not
-abbrev pub given_own : Bool → Own → BuiltOf → BuiltOf
-given_own strict own b = placed (response (At own)) (with_errors (own_errors strict b.spot.place (path_in b.levels b.spot.part) (At own)) b)
+abbrev pub given_leaf_value : Bool → LeafValue → BuiltOf → BuiltOf
+given_leaf_value non_null leaf_value b = placed (response (At leaf_value)) (with_errors (own_errors non_null b.position.place (path_in b.levels b.position.part) (At leaf_value)) b)
 
 abbrev pub after_put : Put → BuiltOf → BuiltOf
 after_put (Begins kind) b = begun kind b
 after_put (Ends kind) b = ended_in b.levels b
-after_put (Enters kind spot) b = record b { spot = spot }
-after_put (Has strict own) b = given_own strict own b
+after_put (Enters kind position) b = record b { position = position }
+after_put (Has non_null leaf_value) b = given_leaf_value non_null leaf_value b
 after_put (Waits p) b = b
 
 -- ---- all puts
@@ -115,19 +115,19 @@ built-append [] qs b = refl
 built-append (p ∷ ps) qs b = built-append ps qs (after_put p b)
 
 abbrev pub nothing_built : BuiltOf
-nothing_built = record { levels = []; spot = root_spot; top = NullResponse; errors = [] }
+nothing_built = record { levels = []; position = root_position; top = NullResponse; errors = [] }
 
 -- ---- what fits a response: a list's items are numbered from 0, and an object's fields have keys
 
 abbrev mutual
   pub IsNumbered : Program → Type 0
-  IsNumbered (Is own) = Unit {0}
+  IsNumbered (Is leaf_value) = Unit {0}
   IsNumbered (Read load next) = (outcome : OutcomeOf) → IsNumbered (next outcome)
   IsNumbered (Under kind below) = AreNumbered kind 0 below
 
   pub AreNumbered : Kind → ℕ → Programs → Type 0
   AreNumbered kind n End = Unit {0}
-  AreNumbered kind n (With spot p rest) = (step_in kind n spot.part ≡ spot.part) × IsNumbered p × AreNumbered kind (suc n) rest
+  AreNumbered kind n (With position p rest) = (step_in kind n position.part ≡ position.part) × IsNumbered p × AreNumbered kind (suc n) rest
 
 -- what was put since the start is what a program, of which nothing waits, comes to
 pub record IsWhole (b : BuiltOf) (p : Program) (R : Reader) : Type 0 where
@@ -140,8 +140,8 @@ pub record IsWhole (b : BuiltOf) (p : Program) (R : Reader) : Type 0 where
 abbrev pub member_seen : (String Global × Response) → (String Global × ResponseOf)
 member_seen m = (m.0, response_of m.1)
 
-abbrev pub spot_held : Position → Spot
-spot_held p = record { part = part_of p.step; non_null = p.non_null; place = p.place }
+abbrev pub position_held : Position → FieldPosition
+position_held p = record { part = part_of p.step; non_null = p.non_null; place = p.place }
 
 abbrev pub kind_held : Parts → Kind
 kind_held (parts.Items rs) = ListOf
@@ -152,13 +152,13 @@ parts_held (parts.Items rs) = items_from 0 (map response_of rs.items)
 parts_held (parts.Fields ms) = members_of (map member_seen ms.items)
 
 abbrev pub level_seen : Level → LevelOf
-level_seen l = record { spot = spot_held l.position; kind = kind_held l.parts; parts = parts_held l.parts; pulled = l.pulled }
+level_seen l = record { position = position_held l.position; kind = kind_held l.parts; parts = parts_held l.parts; pulled = l.pulled }
 
 abbrev pub levels_seen : List Level → List LevelOf
 levels_seen ls = reverse (map level_seen ls)
 
 abbrev pub built_of : Builder → BuiltOf
-built_of b = record { levels = levels_seen b.levels.items; spot = spot_held b.position; top = response_of b.top; errors = errors_of b.errors.items }
+built_of b = record { levels = levels_seen b.levels.items; position = position_held b.position; top = response_of b.top; errors = errors_of b.errors.items }
 
 -- the puts of two calls, one after the other
 pub goes-append : (ps qs : List Put) (a b c : BuiltOf) → b ≡ built ps a → c ≡ built qs b → c ≡ built (ps ++ qs) a

@@ -4,18 +4,18 @@ use Rattle.gq_parser.specs.Tree.{type_of}
 use Rattle.gq_schema.specs.Types.{tree_of}
 use Rattle.load_memory.specs.Rows.{cell_of}
 use Rattle.execution.specs.Program as program
-use Rattle.execution.specs.Program.{Text, Int, Boolean, Own}
+use Rattle.execution.specs.Program.{Text, Int, Boolean, LeafValue}
 use Rattle.plan_program.specs.PlanPrograms.{TypeOf, object_type, type_fault, cell_value}
-use Rattle.gq_resolve.specs.declared.spot.Leaf.{Leaf}
-use Rattle.gq_resolve.specs.declared.cells.LeafValue.{LeafValue}
-use Rattle.gq_resolve.specs.declared.cells.LeafValue.TheVariants as value
+use Rattle.gq_resolve.specs.declared.positions.Leaf.{Leaf}
+use Rattle.gq_resolve.specs.declared.cells.CellValue.{CellValue}
+use Rattle.gq_resolve.specs.declared.cells.CellValue.TheVariants as value
 use Rattle.gq_resolve.specs.declared.cells.TypeOf as rust
 use Rattle.gq_resolve.specs.declared.cells.TypeOf.TheVariants as variant
 
-abbrev pub leaf_seen : Leaf → Own
+abbrev pub leaf_seen : Leaf → LeafValue
 leaf_seen leaf = cell_value (tree_of leaf.schema.now) leaf.column.now (type_of leaf.ty.now) (cell_of leaf.row.now leaf.column.now)
 
-abbrev pub value_seen : LeafValue → program.Leaf
+abbrev pub value_seen : CellValue → program.Leaf
 value_seen (value.Text t) = Text t.now
 value_seen (value.Int z) = Int z
 value_seen (value.Bool b) = Boolean b

@@ -13,7 +13,7 @@ use Rattle.execution.specs.Loads.{Load, Reader}
 use Rattle.execution.specs.Program.{Program}
 use Rattle.plan_program.specs.PlanPrograms.{read_key}
 use Rattle.gq_resolve.specs.Puts.{Put, OnwardOf, View}
-use Rattle.gq_resolve.specs.Spots.{onward_of}
+use Rattle.gq_resolve.specs.Positions.{onward_of}
 use Rattle.gq_resolve.specs.Written.{is_plain, put_tokens, asks, put_asks, thinned, with_load, left_of, all_asks, AreWithin, IsWithin, count_waiting, Puts}
 use Rattle.gq_resolve.specs.declared.output.Blocked.{Blocked}
 use Rattle.gq_resolve.specs.declared.output.Output.{Output}

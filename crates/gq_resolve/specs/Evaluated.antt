@@ -19,8 +19,8 @@ abbrev pub reader : MemoryOf → Reader
 reader m = read m.modes (look m.pairs)
 
 -- what the memory says of the loads of its loaders; nothing of others, which no plan has
-abbrev pub told : MemoryOf → Reader
-told m load = if nat_lt load.loader (length m.modes) then reader m load else None
+abbrev pub lookup : MemoryOf → Reader
+lookup m load = if nat_lt load.loader (length m.modes) then reader m load else None
 
 -- the loads that are needed and that the memory lacks
 abbrev pub front_over : MemoryOf → Program → List Load

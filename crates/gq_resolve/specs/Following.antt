@@ -7,8 +7,8 @@ use Rattle.load_memory.specs.Outcomes.{OutcomeOf}
 use Rattle.execution.specs.Loads.{Reader}
 use Rattle.execution.specs.Program.{Program}
 use Rattle.gq_schema.specs.BindingsTree.{StepOf}
-use Rattle.plan_program.specs.Asked.{BelowOf, of_column}
-use Rattle.plan_program.specs.Prepared.{own_seen}
+use Rattle.plan_program.specs.FieldValues.{ChildrenOf, of_column}
+use Rattle.plan_program.specs.Prepared.{leaf_value_seen}
 use Rattle.plan_program.specs.PlanPrograms.{Objects, with_rows, read_key, read_from, first_of, joined_object}
 use Rattle.gq_resolve.specs.Steps.{last_steps}
 use Rattle.gq_resolve.specs.Puts.{Put, Has, Waits, puts}
@@ -19,26 +19,26 @@ use Rattle.gq_resolve.specs.declared.following.Followed.TheVariants as followed
 
 -- where one loader came to, and what comes after its first row
 abbrev pub stepped_puts : Bool → Reader → ℕ → (RowOf → Program) → Stepped → List Put
-stepped_puts strict R loader next (stepped.Row row) = puts strict (next row.now) R
-stepped_puts strict R loader next (stepped.Own own) = Has strict (own_seen own) ∷ []
-stepped_puts strict R loader next (stepped.Missing key) = Waits (read_key loader (borrowed_of key) (first_of next)) ∷ []
+stepped_puts non_null R loader next (stepped.Row row) = puts non_null (next row.now) R
+stepped_puts non_null R loader next (stepped.LeafValue leaf_value) = Has non_null (leaf_value_seen leaf_value) ∷ []
+stepped_puts non_null R loader next (stepped.Missing key) = Waits (read_key loader (borrowed_of key) (first_of next)) ∷ []
 
 -- Where these steps came to, and what comes after some of them. Past a load that is missing come those that are left.
 abbrev pub followed_puts : Bool → Reader → (List StepOf → RowOf → Program) → List StepOf → Followed → List Put
-followed_puts strict R joined steps (followed.Row row) = puts strict (joined [] row.now) R
-followed_puts strict R joined steps (followed.Own own) = Has strict (own_seen own) ∷ []
-followed_puts strict R joined steps (followed.Missing left loader key) = Waits (read_key loader (borrowed_of key) (first_of (joined (last_steps left steps)))) ∷ []
+followed_puts non_null R joined steps (followed.Row row) = puts non_null (joined [] row.now) R
+followed_puts non_null R joined steps (followed.LeafValue leaf_value) = Has non_null (leaf_value_seen leaf_value) ∷ []
+followed_puts non_null R joined steps (followed.Missing left loader key) = Waits (read_key loader (borrowed_of key) (first_of (joined (last_steps left steps)))) ∷ []
 
 -- what one loader comes to from a row, whatever follows it
 abbrev pub StepsTo : Reader → StepOf → RowOf → Stepped → Type 0
-StepsTo R step row there = (strict : Bool) (next : RowOf → Program)
-    → puts strict (read_from step.loader (of_column step.column) row (first_of next)) R ≡ stepped_puts strict R step.loader next there
+StepsTo R step row there = (non_null : Bool) (next : RowOf → Program)
+    → puts non_null (read_from step.loader (of_column step.column) row (first_of next)) R ≡ stepped_puts non_null R step.loader next there
 
 -- the same of a load that has this outcome
 abbrev pub ComesTo : Reader → ℕ → OutcomeOf → Stepped → Type 0
-ComesTo R loader outcome there = (strict : Bool) (next : RowOf → Program) → puts strict (with_rows (first_of next) outcome) R ≡ stepped_puts strict R loader next there
+ComesTo R loader outcome there = (non_null : Bool) (next : RowOf → Program) → puts non_null (with_rows (first_of next) outcome) R ≡ stepped_puts non_null R loader next there
 
 -- what the last so many of these steps come to from a row, whatever the object is
 abbrev pub FollowsTo : Reader → List StepOf → ℕ → RowOf → Followed → Type 0
-FollowsTo R steps left row there = (strict : Bool) (defs : List Definition) (objects : Objects) (below : BelowOf)
-    → puts strict (joined_object defs objects below (last_steps left steps) row) R ≡ followed_puts strict R (joined_object defs objects below) steps there
+FollowsTo R steps left row there = (non_null : Bool) (defs : List Definition) (objects : Objects) (below : ChildrenOf)
+    → puts non_null (joined_object defs objects below (last_steps left steps) row) R ≡ followed_puts non_null R (joined_object defs objects below) steps there

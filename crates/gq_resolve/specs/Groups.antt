@@ -12,14 +12,14 @@ use Rattle.gq_schema.specs.BindingsSeen.{step_of}
 use Rattle.load_memory.specs.Rows.{RowOf, cell_of}
 use Rattle.execution.specs.Program.{Program, Is, Under, Programs, End, With, ListOf}
 use Rattle.gq_check.specs.Plans.{PlanOf}
-use Rattle.plan_program.specs.Groups.{nothing_collected, collect_below}
-use Rattle.plan_program.specs.Asked.{BelowOf, ValueFrom, PreparedOf, all_prepared}
-use Rattle.plan_program.specs.Prepared.{own_seen, key_from_seen, keys_seen, below_seen}
+use Rattle.plan_program.specs.Groups.{nothing_collected, collect_subfields}
+use Rattle.plan_program.specs.FieldValues.{ChildrenOf, ValueFrom, PreparedOf, all_prepared}
+use Rattle.plan_program.specs.Prepared.{leaf_value_seen, key_from_seen, keys_seen, children_seen}
 use Rattle.plan_program.specs.PlanPrograms.{cell_value, places, fields_of, read_from, read_if, first_object, all_objects, first_of, joined_object, joined_objects, asked_program, object_program}
-use Rattle.plan_program.specs.declared.prepared.Below.{Below}
+use Rattle.plan_program.specs.declared.prepared.Children.{Children}
 use Rattle.gq_resolve.specs.Steps.{last_steps}
 use Rattle.gq_resolve.specs.Puts.{OnwardOf, View}
-use Rattle.gq_resolve.specs.Spots.{spot_seen}
+use Rattle.gq_resolve.specs.Positions.{position_seen}
 use Rattle.gq_resolve.specs.declared.groups.Asks.{Asks}
 use Rattle.gq_resolve.specs.declared.groups.Asks.TheVariants as asks
 use Rattle.gq_resolve.specs.declared.groups.Member.{Member}
@@ -28,16 +28,16 @@ use Rattle.gq_resolve.specs.declared.groups.Group.{Group}
 use Rattle.gq_resolve.specs.declared.groups.Then.{Then}
 use Rattle.gq_resolve.specs.declared.groups.Then.TheVariants.{First, All as Each, Joined}
 
-abbrev pub below_in : Arc Below Global → BelowOf
-below_in below = below_seen (arc_value below)
+abbrev pub children_in : Arc Children Global → ChildrenOf
+children_in children = children_seen (arc_value children)
 
 -- ---- what a group does with the rows of its load
 
 -- the rows have so many levels of objects below them
-abbrev pub then_rows : PlanOf → ℕ → Then → BelowOf → List RowOf → Program
-then_rows plan levels First below rows = first_object plan.definitions (object_program plan levels) below rows
-then_rows plan levels Each below rows = all_objects plan.definitions (object_program plan levels) below rows
-then_rows plan levels (Joined steps) below rows = joined_objects plan.definitions (object_program plan levels) below (map step_of steps.now) rows
+abbrev pub then_rows : PlanOf → ℕ → Then → ChildrenOf → List RowOf → Program
+then_rows plan levels First children rows = first_object plan.definitions (object_program plan levels) children rows
+then_rows plan levels Each children rows = all_objects plan.definitions (object_program plan levels) children rows
+then_rows plan levels (Joined steps) children rows = joined_objects plan.definitions (object_program plan levels) children (map step_of steps.now) rows
 
 -- the later loaders of its `via`
 abbrev pub steps_in : Then → List StepOf
@@ -46,22 +46,22 @@ steps_in Each = []
 steps_in (Joined steps) = map step_of steps.now
 
 -- after a later load the first row is taken, and so many of these loaders are left
-abbrev pub next_rows : PlanOf → ℕ → Option ℕ → Then → BelowOf → List RowOf → Program
-next_rows plan levels None next below rows = then_rows plan levels next below rows
-next_rows plan levels (Some left) next below rows = first_of (joined_object plan.definitions (object_program plan levels) below (last_steps left (steps_in next))) rows
+abbrev pub next_rows : PlanOf → ℕ → Option ℕ → Then → ChildrenOf → List RowOf → Program
+next_rows plan levels None next children rows = then_rows plan levels next children rows
+next_rows plan levels (Some left) next children rows = first_of (joined_object plan.definitions (object_program plan levels) children (last_steps left (steps_in next))) rows
 
 -- what the group of a number stands for; past the last of them nothing
-abbrev pub nowhere : BelowOf
+abbrev pub nowhere : ChildrenOf
 nowhere = record { type_name = []; item_non_null = false; place = record { line = 1; column = 1 }; fields = [] }
 
-abbrev pub below_at : List Group → ℕ → BelowOf
-below_at gs i = option_map_or (λ (g : Group). below_in g.below) (slice_get gs i) nowhere
+abbrev pub children_at : List Group → ℕ → ChildrenOf
+children_at gs i = option_map_or (λ (g : Group). children_in g.children) (slice_get gs i) nowhere
 
 abbrev pub then_at : List Group → ℕ → Then
 then_at gs i = option_map_or (λ (g : Group). g.then) (slice_get gs i) First
 
 abbrev pub after_at : PlanOf → List Group → OnwardOf → List RowOf → Program
-after_at plan gs onward = next_rows plan onward.levels onward.later (then_at gs onward.group) (below_at gs onward.group)
+after_at plan gs onward = next_rows plan onward.levels onward.later (then_at gs onward.group) (children_at gs onward.group)
 
 -- the view tells of each of these groups what it does
 pub record Covers (plan : PlanOf) (gs : List Group) (v : View) : Type 0 where
@@ -71,7 +71,7 @@ pub record Covers (plan : PlanOf) (gs : List Group) (v : View) : Type 0 where
 -- ---- what a member asks for over a row
 
 abbrev pub asks_seen : List Definition → View → ℕ → RowOf → Asks → Program
-asks_seen defs v levels row (asks.Known own) = Is (own_seen own)
+asks_seen defs v levels row (asks.Known leaf_value) = Is (leaf_value_seen leaf_value)
 asks_seen defs v levels row (asks.Cell column ty) = Is (cell_value defs column.now (type_of ty.now) (cell_of row column.now))
 asks_seen defs v levels row (asks.Load loader key group) = read_from loader (key_from_seen key) row (v.after (record { group = group; later = None; levels = levels }))
 asks_seen defs v levels row (asks.Each loader keys items group) =
@@ -79,11 +79,11 @@ asks_seen defs v levels row (asks.Each loader keys items group) =
 
 abbrev pub members_seen : List Definition → View → ℕ → RowOf → List Member → Programs
 members_seen defs v levels row [] = End
-members_seen defs v levels row (m ∷ ms) = With (spot_seen m.spot) (asks_seen defs v levels row m.asks) (members_seen defs v levels row ms)
+members_seen defs v levels row (m ∷ ms) = With (position_seen m.position) (asks_seen defs v levels row m.asks) (members_seen defs v levels row ms)
 
 -- its group is one of so many
 abbrev pub IsAsked : ℕ → Asks → Type 0
-IsAsked count (asks.Known own) = Unit {0}
+IsAsked count (asks.Known leaf_value) = Unit {0}
 IsAsked count (asks.Cell column ty) = Unit {0}
 IsAsked count (asks.Load loader key group) = group < count
 IsAsked count (asks.Each loader keys items group) = group < count
@@ -94,8 +94,8 @@ AreKnown count ms = All (λ (m : Member). IsAsked count m.asks) ms
 -- ---- shapes
 
 -- what the plan asks of an object of this type below a group
-abbrev pub type_prepared : PlanOf → BelowOf → List ℕ → List PreparedOf
-type_prepared plan below ty = all_prepared plan ty (collect_below plan ty nothing_collected below.fields).groups
+abbrev pub type_prepared : PlanOf → ChildrenOf → List ℕ → List PreparedOf
+type_prepared plan children ty = all_prepared plan ty (collect_subfields plan ty nothing_collected children.fields).groups
 
 -- over each row the members are these groups, however many levels of objects there are below
 abbrev pub AreMembers : PlanOf → View → List Member → List PreparedOf → Type 0
@@ -107,11 +107,11 @@ pub record Makes (plan : PlanOf) (gs : List Group) (ms : List Member) (ps : List
   pub known : AreKnown (length gs) ms
   pub members : (v : View) → Covers plan gs v → AreMembers plan v ms ps
 
-abbrev pub IsShape : PlanOf → List Group → BelowOf → Shape → Type 0
-IsShape plan gs below s = Makes plan gs s.members.value.items (type_prepared plan below (string_bytes s.ty))
+abbrev pub IsShape : PlanOf → List Group → ChildrenOf → Shape → Type 0
+IsShape plan gs children s = Makes plan gs s.members.value.items (type_prepared plan children (string_bytes s.ty))
 
 abbrev pub IsRight : PlanOf → List Group → Group → Type 0
-IsRight plan gs g = All (IsShape plan gs (below_in g.below)) g.shapes.items
+IsRight plan gs g = All (IsShape plan gs (children_in g.children)) g.shapes.items
 
 -- each shape of a group is what the plan asks of its objects
 abbrev pub AreRight : PlanOf → List Group → Type 0
@@ -120,19 +120,19 @@ AreRight plan gs = All (IsRight plan gs) gs
 -- there may be more groups and shapes, and each group does what it did
 pub record Grows (plan : PlanOf) (old new : List Group) : Type 0 where
   pub longer : length old ≤ length new
-  pub stand : (i : ℕ) → i < length old → below_at new i ≡ below_at old i
+  pub stand : (i : ℕ) → i < length old → children_at new i ≡ children_at old i
   pub covers : (v : View) → Covers plan new v → Covers plan old v
   pub right : AreRight plan old → AreRight plan new
 
 -- ---- what is made
 
 -- a group more, of this number
-pub record IsNew (old new : List Group) (next : Then) (below : BelowOf) (number : ℕ) : Type 0 where
+pub record IsNew (old new : List Group) (next : Then) (children : ChildrenOf) (number : ℕ) : Type 0 where
   pub grows : (plan : PlanOf) → Grows plan old new
   pub front : take (length old) new ≡ old
   pub within : number < length new
   pub does : then_at new number ≡ next
-  pub stands : below_at new number ≡ below
+  pub stands : children_at new number ≡ children
 
 -- with the groups that it needs it asks for this
 pub record IsAsking (old new : List Group) (asked : ValueFrom) (asks : Asks) : Type 0 where
@@ -149,10 +149,10 @@ pub record AreMade (old new : List Group) (ps : List PreparedOf) (ms : List Memb
 
 -- where the groups are right, these are the members of a type below a group
 abbrev pub AreKept : List Group → ℕ → List ℕ → List Member → Type 0
-AreKept gs group ty ms = (plan : PlanOf) → AreRight plan gs → Makes plan gs ms (type_prepared plan (below_at gs group) ty)
+AreKept gs group ty ms = (plan : PlanOf) → AreRight plan gs → Makes plan gs ms (type_prepared plan (children_at gs group) ty)
 
 -- The members of a type below a group. They are kept from then on, unless there are so many groups.
 pub record IsShaped (plan : PlanOf) (most : ℕ) (old new : List Group) (group : ℕ) (ty : List ℕ) (ms : List Member) : Type 0 where
   pub grows : Grows plan old new
   pub front : most ≤ length old → take (length old) new ≡ old
-  pub makes : AreRight plan old → Makes plan new ms (type_prepared plan (below_at old group) ty)
+  pub makes : AreRight plan old → Makes plan new ms (type_prepared plan (children_at old group) ty)

@@ -4,14 +4,14 @@ use Rattle.load_memory.specs.Keys.{borrowed_of}
 use Rattle.load_memory.specs.Rows.{RowOf}
 use Rattle.execution.specs.Program.{Program, Is, Null, Fault}
 use Rattle.plan_program.specs.Texts.{no_column_message}
-use Rattle.plan_program.specs.PlanPrograms.{PartOver, told, lacking, read_key}
+use Rattle.plan_program.specs.PlanPrograms.{PartOver, known_part, lacking, read_key}
 use Rattle.gq_resolve.specs.declared.keys.KeyOver.{KeyOver}
 use Rattle.gq_resolve.specs.declared.keys.KeyOver.TheVariants as key
 use Rattle.gq_resolve.specs.declared.keys.PartOver as rust-part
 use Rattle.gq_resolve.specs.declared.keys.PartOver.TheVariants as part
 
 abbrev pub part_seen : rust-part.PartOver → PartOver
-part_seen (part.Told text) = told (option_map (λ t. t.now) text)
+part_seen (part.Known text) = known_part (option_map (λ t. t.now) text)
 part_seen (part.Lacking column) = lacking column.now
 
 -- the load by a key over a row; no key is null, and a column that the row lacks is a fault

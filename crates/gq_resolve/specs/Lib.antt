@@ -5,7 +5,7 @@ pub mod Completing
 pub mod Keys
 pub mod Steps
 pub mod Puts
-pub mod Spots
+pub mod Positions
 pub mod Following
 pub mod Groups
 pub mod Walks

@@ -17,7 +17,7 @@ use Rattle.gq_resolve.specs.Suspended.{IsResponse, Advanced}
 use Rattle.gq_resolve.specs.declared.advance.Rooted.{Rooted}
 use Rattle.gq_resolve.specs.declared.answered.Answered.{Answered}
 use Rattle.gq_resolve.specs.declared.output.Output.{Output}
-use Rattle.gq_resolve.specs.Evaluated.{reader, front_over, told}
+use Rattle.gq_resolve.specs.Evaluated.{reader, front_over, lookup}
 
 -- the refusal of an answer that is too long
 abbrev pub too_long_text : List ℕ
@@ -40,7 +40,7 @@ IsLimited most old new p m Pending = (front_over m p ≢ []) × (new ≡ wanting
 -- the answer of a plan of which nothing is missing, or none where its text is longer
 abbrev pub RespondsWithin : ℕ → PlanOf → MemoryOf → Option Answered → Type 0
 RespondsWithin most plan m (Some a) = IsResponse plan m a
-RespondsWithin most plan m None = is_open (tree (plan_program plan) (told m)) ≡ false → most < length (answer_text (completed (tree (plan_program plan) (told m))))
+RespondsWithin most plan m None = is_open (tree (plan_program plan) (lookup m)) ≡ false → most < length (answer_text (completed (tree (plan_program plan) (lookup m))))
 
 -- the execution has come to its end
 abbrev pub IsDone : PlanOf → MemoryOf → Rooted → Output → Type 0
@@ -48,4 +48,4 @@ IsDone plan m rooted out = Advanced plan m (rooted, out) × (out.blocked.keys �
 
 -- the limited text of a plan's answer, of which nothing is missing
 abbrev pub IsLimitedAnswer : ℕ → PlanOf → MemoryOf → String Global → Type 0
-IsLimitedAnswer most plan m text = is_open (tree (plan_program plan) (told m)) ≡ false → string_bytes text ≡ limited_answer most (completed (tree (plan_program plan) (told m)))
+IsLimitedAnswer most plan m text = is_open (tree (plan_program plan) (lookup m)) ≡ false → string_bytes text ≡ limited_answer most (completed (tree (plan_program plan) (lookup m)))

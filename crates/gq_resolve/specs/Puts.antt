@@ -3,7 +3,7 @@ use Rattle.std.specs.Prelude.{ℕ, Bool, List, [], ◌∷◌, ◌++◌, Option}
 use Rattle.load_memory.specs.Rows.{RowOf}
 use Rattle.load_memory.specs.Keys.{KeyOf}
 use Rattle.execution.specs.Loads.{Reader}
-use Rattle.execution.specs.Program.{Own, Kind, Spot, Program, Is, Read, Under, Programs, End, With, given}
+use Rattle.execution.specs.Program.{LeafValue, Kind, FieldPosition, Program, Is, Read, Under, Programs, End, With, given}
 use Rattle.plan_program.specs.PlanPrograms.{read_key}
 
 pub data Put : Type 0 where
@@ -11,22 +11,22 @@ pub data Put : Type 0 where
   Begins : Kind → Put
   Ends : Kind → Put
   -- a position of an object or a list follows
-  Enters : Kind → Spot → Put
+  Enters : Kind → FieldPosition → Put
   -- a position with nothing below it, whose type is non-null or not
-  Has : Bool → Own → Put
+  Has : Bool → LeafValue → Put
   -- a position that waits for a load, and then goes on so
   Waits : Program → Put
 
 -- what is put of a position, whose type is non-null or not
 abbrev mutual
   pub puts : Bool → Program → Reader → List Put
-  puts strict (Is own) R = Has strict own ∷ []
-  puts strict (Read load next) R = given (R load) (Waits (Read load next) ∷ []) (λ outcome. puts strict (next outcome) R)
-  puts strict (Under kind below) R = Begins kind ∷ (all_puts kind below R ++ Ends kind ∷ [])
+  puts non_null (Is leaf_value) R = Has non_null leaf_value ∷ []
+  puts non_null (Read load next) R = given (R load) (Waits (Read load next) ∷ []) (λ outcome. puts non_null (next outcome) R)
+  puts non_null (Under kind below) R = Begins kind ∷ (all_puts kind below R ++ Ends kind ∷ [])
 
   pub all_puts : Kind → Programs → Reader → List Put
   all_puts kind End R = []
-  all_puts kind (With spot p rest) R = Enters kind spot ∷ (puts spot.non_null p R ++ all_puts kind rest R)
+  all_puts kind (With position p rest) R = Enters kind position ∷ (puts position.non_null p R ++ all_puts kind rest R)
 
 -- How a position goes on after a load: by what its group does with the rows, or, after a later load of a `via`, by the first of
 -- them and so many more loaders. Below it are so many levels of objects.

@@ -13,7 +13,7 @@ use Rattle.execution.specs.Front.{missing, wanting}
 use Rattle.gq_check.specs.Plans.{PlanOf, plan_of}
 use Rattle.plan_program.specs.PlanPrograms.{root_prepared, plan_program}
 use Rattle.gq_resolve.specs.Answered.{answered_of, answered_json}
-use Rattle.gq_resolve.specs.Evaluated.{reader, front_over, told}
+use Rattle.gq_resolve.specs.Evaluated.{reader, front_over, lookup}
 use Rattle.gq_resolve.specs.Groups.{after_at, Makes, AreRight}
 use Rattle.gq_resolve.specs.Puts.{Put, View, puts}
 use Rattle.gq_resolve.specs.Written.{asks, thinned, all_asks, AreWithin, IsWriting}
@@ -39,7 +39,7 @@ pub record IsRooted (plan : PlanOf) (r : Rooted) : Type 0 where
 pub record MayGoOn (plan : PlanOf) (m : MemoryOf) (r : Rooted) (bs : List Blocked) : Type 0 where
   pub rooted : IsRooted plan r
   pub within : AreWithin (length r.groups.items) bs
-  pub ask : (R : Reader) → AnswersMore (told m) R → thinned [] (all_asks (view_of plan r.groups.items) bs R) ≡ thinned [] (asks (plan_program plan) R)
+  pub ask : (R : Reader) → AnswersMore (lookup m) R → thinned [] (all_asks (view_of plan r.groups.items) bs R) ≡ thinned [] (asks (plan_program plan) R)
 
 -- an execution that begins at its root again fits every memory
 abbrev pub FitsWaiting : {S : Type 0} → PlanOf → MemoryOf → Rooted → Option (IndexSet Blocked S) → Type 0
@@ -75,14 +75,14 @@ loads_of bs = map load_of bs
 -- the whole plan was put, by what the groups do
 pub record GoesOver {S : Type 0} (goes : View → List Put → S → S → Type 0) (plan : PlanOf) (m : MemoryOf) (old : S) (r : Rooted × S) : Type 0 where
   pub rooted : IsRooted plan r.0
-  pub put : goes (view_of plan r.0.groups.items) (puts false (plan_program plan) (told m)) old r.1
+  pub put : goes (view_of plan r.0.groups.items) (puts false (plan_program plan) (lookup m)) old r.1
 
 -- What waits is what the plan still asks: now the loads that it lacks, and later what it then lacks. Where nothing waits and
 -- no error was met, the answer was written.
 pub record Advanced (plan : PlanOf) (m : MemoryOf) (r : Rooted × Output) : Type 0 where
   pub goes_on : MayGoOn plan m r.0 r.1.blocked.keys
-  pub lacks : thinned [] (loads_of r.1.blocked.keys) ≡ thinned [] (asks (plan_program plan) (told m))
-  pub written : IsWriting r.1 → r.1.writer.tokens ≡ json_tokens (answered_json (completed (tree (plan_program plan) (told m))))
+  pub lacks : thinned [] (loads_of r.1.blocked.keys) ≡ thinned [] (asks (plan_program plan) (lookup m))
+  pub written : IsWriting r.1 → r.1.writer.tokens ≡ json_tokens (answered_json (completed (tree (plan_program plan) (lookup m))))
 
 -- It came to the end, and the wants are as they were. Else something is missing, and the wants got it.
 abbrev pub IsAdvanced : List WantedOf → List WantedOf → PlanOf → MemoryOf → Option (Rooted × Output) → Type 0
@@ -95,4 +95,4 @@ lacking plan m = missing (reader m) (needs (plan_program plan) (reader m))
 
 -- the answer of a plan of which nothing is missing
 abbrev pub IsResponse : PlanOf → MemoryOf → Answered → Type 0
-IsResponse plan m a = is_open (tree (plan_program plan) (told m)) ≡ false → answered_of a ≡ completed (tree (plan_program plan) (told m))
+IsResponse plan m a = is_open (tree (plan_program plan) (lookup m)) ≡ false → answered_of a ≡ completed (tree (plan_program plan) (lookup m))

@@ -4,10 +4,10 @@ use Rattle.load_memory.specs.Rows.{RowOf}
 use Rattle.execution.specs.Program.{Program}
 use Rattle.gq_check.specs.Plans.{PlanOf, plan_of}
 use Rattle.plan_program.specs.PlanPrograms.{list_of}
-use Rattle.gq_resolve.specs.Groups.{below_at, Covers, AreRight, Grows}
+use Rattle.gq_resolve.specs.Groups.{children_at, Covers, AreRight, Grows}
 use Rattle.gq_resolve.specs.Puts.{Put, OnwardOf, View, puts}
-use Rattle.gq_resolve.specs.Spots.{later_of}
-use Rattle.gq_resolve.specs.Evaluated.{told}
+use Rattle.gq_resolve.specs.Positions.{later_of}
+use Rattle.gq_resolve.specs.Evaluated.{lookup}
 use Rattle.gq_resolve.specs.declared.groups.Group.{Group}
 use Rattle.gq_resolve.specs.declared.tour.Progress.{Progress}
 use Rattle.gq_resolve.specs.declared.tour.Tour.{Tour}
@@ -21,7 +21,7 @@ pub record Goes {S : Type 0} (goes : View → List Put → S → S → Type 0) (
 
 -- it puts a program over the memory
 abbrev pub Walks : {S : Type 0} (goes : View → List Put → S → S → Type 0) (below : ℕ → S → Type 0) → Tour → Type 0 → Bool → (View → Program) → Progress S → Progress S → Type 0
-Walks goes below tour known strict program old new = Goes goes below tour.most (plan_of tour.plan.now) known (λ v. puts strict (program v) (told tour.memory.now)) old new
+Walks goes below tour known non_null program old new = Goes goes below tour.most (plan_of tour.plan.now) known (λ v. puts non_null (program v) (lookup tour.memory.now)) old new
 
 -- Groups past the first so many were let go, where there were as many as are kept and no position more waits.
 pub record LetsGo {S : Type 0} (waits : S → ℕ) (most count held : ℕ) (old new : Progress S) : Type 0 where
@@ -30,4 +30,4 @@ pub record LetsGo {S : Type 0} (waits : S → ℕ) (most count held : ℕ) (old 
 
 -- a list with an item for each of the rows, from which so many later loaders go on
 abbrev pub items_after : View → List Group → OnwardOf → ℕ → List RowOf → Program
-items_after v gs onward left rows = list_of (below_at gs onward.group) (map (λ row. v.after (later_of left onward) (row ∷ [])) rows)
+items_after v gs onward left rows = list_of (children_at gs onward.group) (map (λ row. v.after (later_of left onward) (row ∷ [])) rows)

@@ -5,27 +5,27 @@ use Rattle.json.specs.Token.{Token, begin_object, end_object, begin_array, end_a
 use Rattle.json.specs.Tree.{json_tokens}
 use Rattle.load_memory.specs.Keys.{key_of, same_key}
 use Rattle.execution.specs.Loads.{Load, Reader}
-use Rattle.execution.specs.Program.{Leaf, Own, Value, Null, Fault, Kind, ListOf, ObjectOf, Part, Key, Item, Program, needs}
+use Rattle.execution.specs.Program.{Leaf, LeafValue, Value, Null, Fault, Kind, ListOf, ObjectOf, Part, Key, Item, Program, needs}
 use Rattle.execution.specs.Front.{missing}
 use Rattle.gq_resolve.specs.Answered.{leaf_json}
 use Rattle.gq_resolve.specs.Puts.{Put, Begins, Ends, Enters, Has, Waits, View, waiting}
-use Rattle.gq_resolve.specs.Spots.{onward_of}
+use Rattle.gq_resolve.specs.Positions.{onward_of}
 use Rattle.gq_resolve.specs.declared.output.Blocked.{Blocked}
 use Rattle.gq_resolve.specs.declared.output.Output.{Output}
 
 -- ---- text
 
 -- a leaf, or a null of nullable type; the others are errors
-abbrev pub own_plain : Bool → Own → Bool
-own_plain strict (Value leaf) = true
-own_plain strict Null = not strict
-own_plain strict (Fault text) = false
+abbrev pub leaf_value_plain : Bool → LeafValue → Bool
+leaf_value_plain non_null (Value leaf) = true
+leaf_value_plain non_null Null = not non_null
+leaf_value_plain non_null (Fault text) = false
 
 abbrev pub is_plain : Put → Bool
 is_plain (Begins kind) = true
 is_plain (Ends kind) = true
-is_plain (Enters kind spot) = true
-is_plain (Has strict own) = own_plain strict own
+is_plain (Enters kind position) = true
+is_plain (Has non_null leaf_value) = leaf_value_plain non_null leaf_value
 is_plain (Waits program) = false
 
 abbrev pub opening : Kind → Token
@@ -36,10 +36,10 @@ abbrev pub closing : Kind → Token
 closing ListOf = end_array
 closing ObjectOf = end_object
 
-abbrev pub own_tokens : Own → List Token
-own_tokens (Value leaf) = json_tokens (leaf_json leaf)
-own_tokens Null = null ∷ []
-own_tokens (Fault text) = []
+abbrev pub leaf_value_tokens : LeafValue → List Token
+leaf_value_tokens (Value leaf) = json_tokens (leaf_json leaf)
+leaf_value_tokens Null = null ∷ []
+leaf_value_tokens (Fault text) = []
 
 -- a field has its key before it, and an item nothing
 abbrev pub part_tokens : Kind → Part → List Token
@@ -50,8 +50,8 @@ part_tokens ObjectOf (Item n) = key (decimal n) ∷ []
 abbrev pub put_tokens : Put → List Token
 put_tokens (Begins kind) = opening kind ∷ []
 put_tokens (Ends kind) = closing kind ∷ []
-put_tokens (Enters kind spot) = part_tokens kind spot.part
-put_tokens (Has strict own) = own_tokens own
+put_tokens (Enters kind position) = part_tokens kind position.part
+put_tokens (Has non_null leaf_value) = leaf_value_tokens leaf_value
 put_tokens (Waits program) = []
 
 -- ---- loads
@@ -63,8 +63,8 @@ asks p R = missing R (needs p R)
 abbrev pub put_asks : Reader → Put → List Load
 put_asks R (Begins kind) = []
 put_asks R (Ends kind) = []
-put_asks R (Enters kind spot) = []
-put_asks R (Has strict own) = []
+put_asks R (Enters kind position) = []
+put_asks R (Has non_null leaf_value) = []
 put_asks R (Waits program) = asks program R
 
 -- both are of one loader and have exactly equal keys
@@ -118,8 +118,8 @@ pub record Adds (plain : Bool) (ts : List Token) (old new : Output) : Type 0 whe
   pub blocked : new.blocked.keys ≡ old.blocked.keys
   pub written : IsWriting new → IsWriting old × (plain ≡ true) × (new.writer.tokens ≡ old.writer.tokens ++ ts)
 
-abbrev pub AddsOwn : Bool → Own → Output → Output → Type 0
-AddsOwn strict own old new = Adds (own_plain strict own) (own_tokens own) old new
+abbrev pub AddsLeafValue : Bool → LeafValue → Output → Output → Type 0
+AddsLeafValue non_null leaf_value old new = Adds (leaf_value_plain non_null leaf_value) (leaf_value_tokens leaf_value) old new
 
 -- the value of a leaf, or that there is none
 abbrev pub leaf_tokens : Option Leaf → List Token

@@ -13,15 +13,15 @@ use crate::builder::Builder;
 use crate::groups::{Group, Member, members_of};
 use crate::no_memory::NoMemory;
 use crate::output::{Blocked, Output};
+use crate::positions::{FieldPosition, Kind};
 use crate::sink::Sink;
-use crate::spot::{Kind, Spot};
 use crate::tour::{Loading, Progress, Tour};
 use crate::wanting::wanted;
 use gq_lexer::Place;
 use indexmap::IndexSet;
 use load_memory::{CacheKey, Row};
 use load_queue::Wants;
-use plan_program::{collect, prepare};
+use plan_program::{collect, prepare_groups};
 
 /// How many levels of objects a plan has at most below its root.
 const MOST_LEVELS: u32 = 128;
@@ -48,7 +48,7 @@ fn begun<'p>(tour: &Tour<'_, 'p, '_>) -> Result<Rooted<'p>, NoMemory>
     let ty = tour.plan.schema().root();
     let selections = &tour.plan.operation().selection_set.selections;
     let collected = collect(tour.alloc, tour.plan, ty, selections)?;
-    let all = prepare(tour.alloc, tour.plan, ty, collected)?;
+    let all = prepare_groups(tour.alloc, tour.plan, ty, collected)?;
     let mut groups = Vec::new(tour.alloc);
     let members = members_of(tour.alloc, &mut groups, all)?;
     Ok(Rooted { members, groups })
@@ -85,7 +85,7 @@ fn written<'p>(
 {
     let mut out = Output::new(tour.alloc, most)?;
     out.begin(Kind::Object)?;
-    out.field(Spot {
+    out.field(FieldPosition {
         key: "data",
         non_null: false,
         place: Place { line: 1, column: 1 },
@@ -133,7 +133,7 @@ fn searched<'p>(
     for position in waiting {
         let to = Loading {
             onward: position.onward,
-            strict: false,
+            non_null: false,
         };
         tour.read(&mut at, to, position.loader, position.key.borrowed())?;
     }

@@ -3,18 +3,18 @@
 ghost use Rattle.std.specs.Prelude.{◌≡◌, ◌≤◌, OnOk, reverse};
 ghost use Rattle.execution.specs.Executed.{response};
 ghost use Rattle.execution.specs.Program.{At};
-ghost use Rattle.plan_program.specs.Prepared.{own_seen};
-ghost use Rattle.gq_resolve.specs.Built.{BuiltOf, given_own, nothing_built};
+ghost use Rattle.plan_program.specs.Prepared.{leaf_value_seen};
+ghost use Rattle.gq_resolve.specs.Built.{BuiltOf, given_leaf_value, nothing_built};
 ghost use Rattle.gq_resolve.specs.Bounded.{size_of, bytes_in, Bounds, CountsPut, CountsErrors, AreErrorBytes, FinishesWhole, FinishesOver};
 
 use crate::answered::Answered;
-use crate::builder::{Builder, copied_own};
+use crate::builder::{Builder, copied_leaf_value};
 use crate::cells::cell_value;
 use crate::no_memory::NoMemory;
+use crate::positions::{FieldPosition, Items, Kind, Leaf, Onward};
 use crate::sink::Sink;
-use crate::spot::{Items, Kind, Leaf, Onward, Spot};
 use load_memory::KeyRef;
-use plan_program::Own;
+use plan_program::LeafValue;
 use std::alloc::Global;
 
 /// How many bytes the text of an object or a list has at least.
@@ -46,22 +46,22 @@ pub struct BoundedBuilder {
 }
 
 // How many bytes the text of an own value has at least.
-fn own_size(own: &Own) -> usize
-    ensures { result ≤ size_of (response (At (own_seen own.now))) }
+fn leaf_value_size(leaf_value: &LeafValue) -> usize
+    ensures { result ≤ size_of (response (At (leaf_value_seen leaf_value.now))) }
 {
-    match own {
-        Own::Text(text) => text.len().saturating_add(1),
+    match leaf_value {
+        LeafValue::Text(text) => text.len().saturating_add(1),
         _ => 1,
     }
 }
 
 // How many bytes the error of an own value has at least, so deep in the answer.
-fn error_size(own: &Own, strict: bool, depth: usize) -> usize
-    ensures { AreErrorBytes (own_seen own.now) strict depth result }
+fn error_size(leaf_value: &LeafValue, non_null: bool, depth: usize) -> usize
+    ensures { AreErrorBytes (leaf_value_seen leaf_value.now) non_null depth result }
 {
-    match own {
-        Own::Null => { if strict { depth.saturating_add(1) } else { 0 } }
-        Own::Fault(message) => message.len().saturating_add(depth).saturating_add(1),
+    match leaf_value {
+        LeafValue::Null => { if non_null { depth.saturating_add(1) } else { 0 } }
+        LeafValue::Fault(message) => message.len().saturating_add(depth).saturating_add(1),
         _ => 0,
     }
 }
@@ -130,14 +130,14 @@ impl BoundedBuilder {
         }
     }
 
-    fn put_own(&mut self, own: Own, strict: bool) -> Result<(), NoMemory>
-        ensures bounds { OnOk result ((all : BuiltOf) → Bounds all self.old → Bounds (given_own strict (own_seen own) all) self.new) }
+    fn put_leaf_value(&mut self, leaf_value: LeafValue, non_null: bool) -> Result<(), NoMemory>
+        ensures bounds { OnOk result ((all : BuiltOf) → Bounds all self.old → Bounds (given_leaf_value non_null (leaf_value_seen leaf_value) all) self.new) }
         ensures most { OnOk result (self.new.most ≡ self.old.most) }
     {
-        let added = error_size(&own, strict, self.levels.len());
-        let size = own_size(&own);
+        let added = error_size(&leaf_value, non_null, self.levels.len());
+        let size = leaf_value_size(&leaf_value);
         let key = self.builder.key_size();
-        self.builder.put_own(own, strict)?;
+        self.builder.put_leaf_value(leaf_value, non_null)?;
         self.count_errors(added);
         self.count(key, size);
         Ok(())
@@ -187,22 +187,22 @@ impl Sink for BoundedBuilder {
         Ok(())
     }
 
-    fn field(&mut self, spot: Spot<'_>) -> Result<(), NoMemory> {
-        self.builder.field(spot)
+    fn field(&mut self, position: FieldPosition<'_>) -> Result<(), NoMemory> {
+        self.builder.field(position)
     }
 
     fn item(&mut self, items: Items, number: usize) -> Result<(), NoMemory> {
         self.builder.item(items, number)
     }
 
-    fn own(&mut self, own: &Own, strict: bool) -> Result<(), NoMemory> {
-        let own = copied_own(self.alloc, own)?;
-        self.put_own(own, strict)
+    fn leaf_value(&mut self, leaf_value: &LeafValue, non_null: bool) -> Result<(), NoMemory> {
+        let leaf_value = copied_leaf_value(self.alloc, leaf_value)?;
+        self.put_leaf_value(leaf_value, non_null)
     }
 
-    fn cell(&mut self, leaf: Leaf<'_>, strict: bool) -> Result<(), NoMemory> {
-        let own = cell_value(self.alloc, leaf.schema, leaf.column, leaf.ty, leaf.row)?;
-        self.put_own(own, strict)
+    fn cell(&mut self, leaf: Leaf<'_>, non_null: bool) -> Result<(), NoMemory> {
+        let leaf_value = cell_value(self.alloc, leaf.schema, leaf.column, leaf.ty, leaf.row)?;
+        self.put_leaf_value(leaf_value, non_null)
     }
 
     fn waiting(&self) -> usize {

@@ -4,20 +4,20 @@ ghost use Rattle.std.specs.Prelude.{◌≡◌, IfOk, OnOk, map, string_bytes, re
 ghost use Rattle.execution.specs.Loads.{Reader};
 ghost use Rattle.execution.specs.Program.{Null, Program, tree};
 ghost use Rattle.execution.specs.Executed.{completed};
-ghost use Rattle.plan_program.specs.Prepared.{own_seen};
+ghost use Rattle.plan_program.specs.Prepared.{leaf_value_seen};
 ghost use Rattle.gq_resolve.specs.Answered.{part_of, response_of, answered_of};
 ghost use Rattle.gq_resolve.specs.Bounded.{key_size, without_last_parts, without_errors, is_pulled};
-ghost use Rattle.gq_resolve.specs.Built.{path_in, placed, given_own, at_root, with_error, built, nothing_built, IsWhole, spot_held, built_of, goes-append};
+ghost use Rattle.gq_resolve.specs.Built.{path_in, placed, given_leaf_value, at_root, with_error, built, nothing_built, IsWhole, position_held, built_of, goes-append};
 
 use crate::answered::Answered;
 use crate::cells::cell_value;
 use crate::level::{Level, Parts, Position};
 use crate::no_memory::NoMemory;
+use crate::positions::{FieldPosition, Items, Kind, Leaf, Onward};
 use crate::sink::Sink;
-use crate::spot::{Items, Kind, Leaf, Onward, Spot};
 use answer_json::{FieldError, PathPart, Response};
 use load_memory::KeyRef;
-use plan_program::Own;
+use plan_program::LeafValue;
 use std::alloc::{AllocError, Global};
 use std::mem;
 
@@ -35,15 +35,15 @@ pub struct Builder {
 }
 
 /// A copy of an own value.
-pub fn copied_own(alloc: Global, own: &Own) -> Result<Own, AllocError>
-    ensures { IfOk result (λ copy. own_seen copy ≡ own_seen own.now) }
+pub fn copied_leaf_value(alloc: Global, leaf_value: &LeafValue) -> Result<LeafValue, AllocError>
+    ensures { IfOk result (λ copy. leaf_value_seen copy ≡ leaf_value_seen leaf_value.now) }
 {
-    match own {
-        Own::Text(text) => Ok(Own::Text(String::from_str(alloc, text.as_str())?)),
-        Own::Int(number) => Ok(Own::Int(*number)),
-        Own::Bool(value) => Ok(Own::Bool(*value)),
-        Own::Null => Ok(Own::Null),
-        Own::Fault(text) => Ok(Own::Fault(String::from_str(alloc, text.as_str())?)),
+    match leaf_value {
+        LeafValue::Text(text) => Ok(LeafValue::Text(String::from_str(alloc, text.as_str())?)),
+        LeafValue::Int(number) => Ok(LeafValue::Int(*number)),
+        LeafValue::Bool(value) => Ok(LeafValue::Bool(*value)),
+        LeafValue::Null => Ok(LeafValue::Null),
+        LeafValue::Fault(text) => Ok(LeafValue::Fault(String::from_str(alloc, text.as_str())?)),
     }
 }
 
@@ -73,7 +73,7 @@ impl Builder {
 
     /// How many bytes the key of what is put next has.
     pub fn key_size(&self) -> usize
-        ensures { result ≡ key_size (built_of self.now).levels (built_of self.now).spot.part }
+        ensures { result ≡ key_size (built_of self.now).levels (built_of self.now).position.part }
     {
         match self.levels.last() {
             Some(level) => level.key_size(&self.position),
@@ -109,7 +109,7 @@ impl Builder {
 
     // The position of what is put next, which is then the root's until another is entered.
     fn taken(&mut self) -> Position
-        ensures position { spot_held result ≡ (built_of self.old).spot }
+        ensures position { position_held result ≡ (built_of self.old).position }
         ensures left { built_of self.new ≡ at_root (built_of self.old) }
     {
         mem::replace(&mut self.position, Position::root())
@@ -117,7 +117,7 @@ impl Builder {
 
     // The path of the position of what is put next.
     fn path(&self) -> Result<Vec<PathPart>, AllocError>
-        ensures { IfOk result (λ path. map part_of path.items ≡ path_in (built_of self.now).levels (built_of self.now).spot.part) }
+        ensures { IfOk result (λ path. map part_of path.items ≡ path_in (built_of self.now).levels (built_of self.now).position.part) }
     {
         let mut path = Vec::new(self.alloc);
         let [_root, below @ ..] = self.levels.as_slice() else {
@@ -157,15 +157,15 @@ impl Builder {
     }
 
     /// Puts an own value, and its error.
-    pub fn put_own(&mut self, own: Own, strict: bool) -> Result<(), NoMemory>
-        ensures { OnOk result (built_of self.new ≡ given_own strict (own_seen own) (built_of self.old)) }
+    pub fn put_leaf_value(&mut self, leaf_value: LeafValue, non_null: bool) -> Result<(), NoMemory>
+        ensures { OnOk result (built_of self.new ≡ given_leaf_value non_null (leaf_value_seen leaf_value) (built_of self.old)) }
     {
-        match own {
-            Own::Text(text) => self.put(Response::Text(text)),
-            Own::Int(number) => self.put(Response::Int(number)),
-            Own::Bool(value) => self.put(Response::Bool(value)),
-            Own::Null => self.put_null(strict),
-            Own::Fault(message) => {
+        match leaf_value {
+            LeafValue::Text(text) => self.put(Response::Text(text)),
+            LeafValue::Int(number) => self.put(Response::Int(number)),
+            LeafValue::Bool(value) => self.put(Response::Bool(value)),
+            LeafValue::Null => self.put_null(non_null),
+            LeafValue::Fault(message) => {
                 self.put_error(message)?;
                 self.put(Response::Null)
             }
@@ -173,10 +173,10 @@ impl Builder {
     }
 
     // Puts a null, which is an error at a non-null type.
-    fn put_null(&mut self, strict: bool) -> Result<(), NoMemory>
-        ensures { OnOk result (built_of self.new ≡ given_own strict Null (built_of self.old)) }
+    fn put_null(&mut self, non_null: bool) -> Result<(), NoMemory>
+        ensures { OnOk result (built_of self.new ≡ given_leaf_value non_null Null (built_of self.old)) }
     {
-        if strict {
+        if non_null {
             let message = String::from_str(self.alloc, "null where the type is non-null")?;
             self.put_error(message)?;
         }
@@ -224,12 +224,12 @@ impl Sink for Builder {
         self.put(response)
     }
 
-    fn field(&mut self, spot: Spot<'_>) -> Result<(), NoMemory> {
-        let key = String::from_str(self.alloc, spot.key)?;
+    fn field(&mut self, position: FieldPosition<'_>) -> Result<(), NoMemory> {
+        let key = String::from_str(self.alloc, position.key)?;
         self.position = Position {
             step: PathPart::Key(key),
-            non_null: spot.non_null,
-            place: spot.place,
+            non_null: position.non_null,
+            place: position.place,
         };
         Ok(())
     }
@@ -243,14 +243,14 @@ impl Sink for Builder {
         Ok(())
     }
 
-    fn own(&mut self, own: &Own, strict: bool) -> Result<(), NoMemory> {
-        let own = copied_own(self.alloc, own)?;
-        self.put_own(own, strict)
+    fn leaf_value(&mut self, leaf_value: &LeafValue, non_null: bool) -> Result<(), NoMemory> {
+        let leaf_value = copied_leaf_value(self.alloc, leaf_value)?;
+        self.put_leaf_value(leaf_value, non_null)
     }
 
-    fn cell(&mut self, leaf: Leaf<'_>, strict: bool) -> Result<(), NoMemory> {
-        let own = cell_value(self.alloc, leaf.schema, leaf.column, leaf.ty, leaf.row)?;
-        self.put_own(own, strict)
+    fn cell(&mut self, leaf: Leaf<'_>, non_null: bool) -> Result<(), NoMemory> {
+        let leaf_value = cell_value(self.alloc, leaf.schema, leaf.column, leaf.ty, leaf.row)?;
+        self.put_leaf_value(leaf_value, non_null)
     }
 
     fn waiting(&self) -> usize {

@@ -9,18 +9,20 @@ ghost use Rattle.gq_schema.specs.Coercion.{int_of};
 ghost use Rattle.load_memory.specs.Rows.{cell_of};
 ghost use Rattle.plan_program.specs.Texts.{is_int_text, is_unsigned_text};
 ghost use Rattle.plan_program.specs.PlanPrograms.{boolean_of, int_leaf, named_leaf, leaf_of, cell_value, type_of_row};
-ghost use Rattle.plan_program.specs.Prepared.{own_seen};
+ghost use Rattle.plan_program.specs.Prepared.{leaf_value_seen};
 ghost use Rattle.gq_resolve.specs.Cells.{value_seen, type_seen};
 
 use gq_parser::TypeRef;
 use gq_schema::{Schema, TypeKind};
 use load_memory::{Cell, Row};
-use plan_program::{Own, bad_value_message, no_column_message, no_type_message, not_type_message};
+use plan_program::{
+    LeafValue, bad_value_message, no_column_message, no_type_message, not_type_message,
+};
 use std::alloc::{AllocError, Global};
 
 /// What a text is at a leaf's type, with no copy of it.
 #[derive(Clone, Copy, Drop)]
-pub enum LeafValue<'t> {
+pub enum CellValue<'t> {
     /// A text, an ID, or the name of an enum's value.
     Text(&'t str),
     Int(i32),
@@ -67,29 +69,29 @@ fn int_of(text: &str) -> Option<i32>
     text.parse::<i32>().ok()
 }
 
-fn int_leaf<'t>(text: &str) -> Option<LeafValue<'t>>
+fn int_leaf<'t>(text: &str) -> Option<CellValue<'t>>
     ensures { option_map value_seen result ≡ int_leaf text.now }
 {
     if !is_int_text(text.as_bytes()) {
         return None;
     }
-    Some(LeafValue::Int(int_of(text)?))
+    Some(CellValue::Int(int_of(text)?))
 }
 
-fn boolean_leaf<'t>(text: &str) -> Option<LeafValue<'t>>
+fn boolean_leaf<'t>(text: &str) -> Option<CellValue<'t>>
     ensures { option_map value_seen result ≡ boolean_of text.now }
 {
     if text == "true" {
-        return Some(LeafValue::Bool(true));
+        return Some(CellValue::Bool(true));
     }
     if text == "false" {
-        return Some(LeafValue::Bool(false));
+        return Some(CellValue::Bool(false));
     }
     None
 }
 
 // What a text is at the type of this name.
-fn named_leaf<'t>(schema: &Schema, name: &str, text: &'t str) -> Option<LeafValue<'t>>
+fn named_leaf<'t>(schema: &Schema, name: &str, text: &'t str) -> Option<CellValue<'t>>
     ensures { option_map value_seen result ≡ named_leaf (tree_of schema.now) name.now text.now }
 {
     if name == "Int" {
@@ -99,13 +101,13 @@ fn named_leaf<'t>(schema: &Schema, name: &str, text: &'t str) -> Option<LeafValu
         return boolean_leaf(text);
     }
     if name == "String" || name == "ID" || schema.has_value(name, text) {
-        return Some(LeafValue::Text(text));
+        return Some(CellValue::Text(text));
     }
     None
 }
 
 /// What a text is at a type, if it is right there (section 3.5, Result Coercion).
-pub fn leaf_of<'t>(schema: &Schema, ty: &TypeRef, text: &'t str) -> Option<LeafValue<'t>>
+pub fn leaf_of<'t>(schema: &Schema, ty: &TypeRef, text: &'t str) -> Option<CellValue<'t>>
     ensures { option_map value_seen result ≡ leaf_of (tree_of schema.now) (type_of ty.now) text.now }
 {
     match ty {
@@ -121,17 +123,17 @@ pub fn cell_value(
     column: &str,
     ty: &TypeRef,
     row: &Row,
-) -> Result<Own, AllocError>
-    ensures { IfOk result (λ own. own_seen own ≡ cell_value (tree_of schema.now) column.now (type_of ty.now) (cell_of row.now column.now)) }
+) -> Result<LeafValue, AllocError>
+    ensures { IfOk result (λ leaf_value. leaf_value_seen leaf_value ≡ cell_value (tree_of schema.now) column.now (type_of ty.now) (cell_of row.now column.now)) }
 {
     match row.get(column) {
-        Cell::NoColumn => Ok(Own::Fault(no_column_message(alloc, column)?)),
-        Cell::Null => Ok(Own::Null),
+        Cell::NoColumn => Ok(LeafValue::Fault(no_column_message(alloc, column)?)),
+        Cell::Null => Ok(LeafValue::Null),
         Cell::Text(text) => match leaf_of(schema, ty, text) {
-            Some(LeafValue::Text(text)) => Ok(Own::Text(String::from_str(alloc, text)?)),
-            Some(LeafValue::Int(number)) => Ok(Own::Int(number)),
-            Some(LeafValue::Bool(value)) => Ok(Own::Bool(value)),
-            None => Ok(Own::Fault(bad_value_message(alloc, column)?)),
+            Some(CellValue::Text(text)) => Ok(LeafValue::Text(String::from_str(alloc, text)?)),
+            Some(CellValue::Int(number)) => Ok(LeafValue::Int(number)),
+            Some(CellValue::Bool(value)) => Ok(LeafValue::Bool(value)),
+            None => Ok(LeafValue::Fault(bad_value_message(alloc, column)?)),
         },
     }
 }

@@ -4,15 +4,15 @@ ghost use Rattle.std.specs.Prelude.{ℕ, IfOk, map};
 ghost use Rattle.gq_schema.specs.BindingsSeen.{step_of};
 ghost use Rattle.load_memory.specs.Outcomes.{outcome_of};
 ghost use Rattle.execution.specs.Loads.{Reader};
-ghost use Rattle.gq_resolve.specs.Evaluated.{told};
+ghost use Rattle.gq_resolve.specs.Evaluated.{lookup};
 ghost use Rattle.gq_resolve.specs.Following.{StepsTo, ComesTo, FollowsTo};
 
 use crate::keys::{KeyOver, column_over};
 use crate::no_memory::NoMemory;
-use crate::reading::told_by;
+use crate::reading::look_up;
 use gq_schema::Step;
 use load_memory::{CacheKey, KeyRef, Memory, Outcome, Row};
-use plan_program::{Own, no_column_message};
+use plan_program::{LeafValue, no_column_message};
 use std::alloc::Global;
 
 /// Where one later loader comes to from a row.
@@ -20,7 +20,7 @@ use std::alloc::Global;
 pub enum Stepped<'r> {
     Row(&'r Row),
     /// Null, or a fault.
-    Own(Own),
+    LeafValue(LeafValue),
     /// The memory lacks the load of this key.
     Missing(KeyRef<'r>),
 }
@@ -30,7 +30,7 @@ pub enum Stepped<'r> {
 pub enum Followed<'r> {
     Row(&'r Row),
     /// Null, or a fault.
-    Own(Own),
+    LeafValue(LeafValue),
     /// The memory lacks a load, after which so many loaders come.
     Missing {
         left: usize,
@@ -47,33 +47,33 @@ fn step_from<'r>(
     step: &'r Step,
     row: &'r Row,
 ) -> Result<Stepped<'r>, NoMemory>
-    ensures { IfOk result (StepsTo (told memory.now) (step_of step.now) row.now) }
+    ensures { IfOk result (StepsTo (lookup memory.now) (step_of step.now) row.now) }
 {
     let key = match column_over(step.column.as_str(), row) {
         KeyOver::Known(key) => key,
-        KeyOver::Null => return Ok(Stepped::Own(Own::Null)),
+        KeyOver::Null => return Ok(Stepped::LeafValue(LeafValue::Null)),
         KeyOver::Lacking(column) => {
             let fault = no_column_message(alloc, column)?;
-            return Ok(Stepped::Own(Own::Fault(fault)));
+            return Ok(Stepped::LeafValue(LeafValue::Fault(fault)));
         }
     };
-    match told_by(alloc, memory, probe, step.loader, key)? {
-        Some(outcome) => first_told(outcome),
+    match look_up(alloc, memory, probe, step.loader, key)? {
+        Some(outcome) => first_row_of(outcome),
         None => Ok(Stepped::Missing(key)),
     }
 }
 
 // The first row of an outcome.
-fn first_told<'r>(outcome: &'r Outcome) -> Result<Stepped<'r>, NoMemory>
+fn first_row_of<'r>(outcome: &'r Outcome) -> Result<Stepped<'r>, NoMemory>
     ensures { IfOk result (λ there. (R : Reader) (loader : ℕ) → ComesTo R loader (outcome_of outcome.now) there) }
 {
     match outcome {
         Outcome::Rows(rows) => match rows.first() {
             Some(row) => Ok(Stepped::Row(row)),
-            None => Ok(Stepped::Own(Own::Null)),
+            None => Ok(Stepped::LeafValue(LeafValue::Null)),
         },
-        Outcome::KeyFault(text) => Ok(Stepped::Own(Own::Fault(text.clone()?))),
-        Outcome::BatchFault(text) => Ok(Stepped::Own(Own::Fault(text.clone()?))),
+        Outcome::KeyFault(text) => Ok(Stepped::LeafValue(LeafValue::Fault(text.clone()?))),
+        Outcome::BatchFault(text) => Ok(Stepped::LeafValue(LeafValue::Fault(text.clone()?))),
     }
 }
 
@@ -87,14 +87,14 @@ pub fn follow_steps<'r>(
     left: usize,
     from: &'r Row,
 ) -> Result<Followed<'r>, NoMemory>
-    ensures { IfOk result (FollowsTo (told memory.now) (map step_of steps.now) left from.now) }
+    ensures { IfOk result (FollowsTo (lookup memory.now) (map step_of steps.now) left from.now) }
 {
     let mut row = from;
     for number in steps.len().saturating_sub(left)..steps.len() {
         let step = &steps[number];
         match step_from(alloc, memory, probe, step, row)? {
             Stepped::Row(next) => row = next,
-            Stepped::Own(own) => return Ok(Followed::Own(own)),
+            Stepped::LeafValue(leaf_value) => return Ok(Followed::LeafValue(leaf_value)),
             Stepped::Missing(key) => {
                 return Ok(Followed::Missing {
                     left: steps.len() - number - 1,

@@ -3,17 +3,19 @@
 ghost use Rattle.std.specs.Prelude.{◌≡◌, ◌<◌, ◌≤◌, IfOk, IfSome, OnOk, map};
 ghost use Rattle.gq_schema.specs.BindingsSeen.{step_of};
 ghost use Rattle.gq_check.specs.Plans.{PlanOf, plan_of};
-ghost use Rattle.plan_program.specs.Prepared.{asked_seen, all_prepared_seen, below_seen};
-ghost use Rattle.gq_resolve.specs.Groups.{below_in, below_at, then_at, steps_in, type_prepared, IsShape, Grows, IsNew, IsAsking, AreMade, AreKept, IsShaped};
+ghost use Rattle.plan_program.specs.Prepared.{value_from_seen, all_prepared_seen, children_seen};
+ghost use Rattle.gq_resolve.specs.Groups.{children_in, children_at, then_at, steps_in, type_prepared, IsShape, Grows, IsNew, IsAsking, AreMade, AreKept, IsShaped};
 
 use crate::no_memory::NoMemory;
-use crate::spot::{Items, Onward, Spot};
+use crate::positions::{FieldPosition, Items, Onward};
 use crate::tour::Tour;
 use gq_lexer::Place;
 use gq_parser::{Field, Selection, TypeRef};
 use gq_schema::Step;
 use load_memory::Key;
-use plan_program::{Asked, Below, KeyFrom, Own, Prepared, collect_below, prepare};
+use plan_program::{
+    Children, KeyFrom, LeafValue, Prepared, ValueFrom, collect_subfields, prepare_groups,
+};
 use std::alloc::Global;
 use std::rc::Rc;
 use std::sync::Arc;
@@ -33,7 +35,7 @@ pub enum Then<'p> {
 #[derive(Drop)]
 pub enum Asks<'p> {
     /// The same for each row.
-    Known(Own),
+    Known(LeafValue),
     /// A column's field, at a type.
     Cell {
         column: &'p str,
@@ -57,7 +59,7 @@ pub enum Asks<'p> {
 /// A position of an object, and what it asks for.
 #[derive(Drop)]
 pub struct Member<'p> {
-    pub spot: Spot<'p>,
+    pub position: FieldPosition<'p>,
     pub asks: Asks<'p>,
 }
 
@@ -72,7 +74,7 @@ pub struct Shape<'p> {
 #[derive(Drop)]
 pub struct Group<'p> {
     pub then: Then<'p>,
-    pub below: Arc<Below<'p>>,
+    pub children: Arc<Children<'p>>,
     pub shapes: Vec<Shape<'p>>,
 }
 
@@ -99,31 +101,31 @@ pub fn steps_of<'p>(groups: &[Group<'p>], group: usize) -> &'p [Step]
 
 /// The name of the type of the objects below a group.
 pub fn type_name_of<'p>(groups: &[Group<'p>], group: usize) -> &'p str
-    ensures { result.now ≡ (below_at groups.now group).type_name }
+    ensures { result.now ≡ (children_at groups.now group).type_name }
 {
     match groups.get(group) {
-        Some(group) => group.below.type_name,
+        Some(group) => group.children.type_name,
         None => "",
     }
 }
 
-fn items_below(below: &Below<'_>) -> Items
-    ensures non_null { result.non_null ≡ (below_seen below.now).item_non_null }
-    ensures place { result.place ≡ (below_seen below.now).place }
+fn child_items(children: &Children<'_>) -> Items
+    ensures non_null { result.non_null ≡ (children_seen children.now).item_non_null }
+    ensures place { result.place ≡ (children_seen children.now).place }
 {
     Items {
-        non_null: below.item_non_null,
-        place: below.place,
+        non_null: children.item_non_null,
+        place: children.place,
     }
 }
 
 /// The items of the list of a group.
 pub fn items_of(groups: &[Group<'_>], group: usize) -> Items
-    ensures non_null { result.non_null ≡ (below_at groups.now group).item_non_null }
-    ensures place { result.place ≡ (below_at groups.now group).place }
+    ensures non_null { result.non_null ≡ (children_at groups.now group).item_non_null }
+    ensures place { result.place ≡ (children_at groups.now group).place }
 {
     match groups.get(group) {
-        Some(group) => items_below(&group.below),
+        Some(group) => child_items(&group.children),
         None => Items {
             non_null: false,
             place: Place { line: 1, column: 1 },
@@ -135,42 +137,50 @@ pub fn items_of(groups: &[Group<'_>], group: usize) -> Items
 fn new_group<'p>(
     groups: &mut Vec<Group<'p>>,
     then: Then<'p>,
-    below: Arc<Below<'p>>,
+    children: Arc<Children<'p>>,
 ) -> Result<usize, NoMemory>
-    ensures { IfOk result (IsNew groups.old.items groups.new.items then.entry (below_in below.entry)) }
+    ensures { IfOk result (IsNew groups.old.items groups.new.items then.entry (children_in children.entry)) }
 {
     let number = groups.len();
     let shapes = Vec::new(*groups.allocator());
     groups.push(Group {
         then,
-        below,
+        children,
         shapes,
     })?;
     Ok(number)
 }
 
 // What is asked for, with a group more where it loads.
-fn asks_of<'p>(groups: &mut Vec<Group<'p>>, asked: Asked<'p>) -> Result<Asks<'p>, NoMemory>
-    ensures { IfOk result (IsAsking groups.old.items groups.new.items (asked_seen asked.entry)) }
+fn asks_of<'p>(groups: &mut Vec<Group<'p>>, asked: ValueFrom<'p>) -> Result<Asks<'p>, NoMemory>
+    ensures { IfOk result (IsAsking groups.old.items groups.new.items (value_from_seen asked.entry)) }
 {
     match asked {
-        Asked::Known(own) => Ok(Asks::Known(own)),
-        Asked::Cell { column, ty } => Ok(Asks::Cell { column, ty }),
-        Asked::First { loader, key, below } => {
-            let group = new_group(groups, Then::First, below)?;
+        ValueFrom::Known(leaf_value) => Ok(Asks::Known(leaf_value)),
+        ValueFrom::Cell { column, ty } => Ok(Asks::Cell { column, ty }),
+        ValueFrom::First {
+            loader,
+            key,
+            children,
+        } => {
+            let group = new_group(groups, Then::First, children)?;
             Ok(Asks::Load { loader, key, group })
         }
-        Asked::All { loader, key, below } => {
-            let group = new_group(groups, Then::All, below)?;
+        ValueFrom::All {
+            loader,
+            key,
+            children,
+        } => {
+            let group = new_group(groups, Then::All, children)?;
             Ok(Asks::Load { loader, key, group })
         }
-        Asked::Each {
+        ValueFrom::Each {
             loader,
             keys,
-            below,
+            children,
         } => {
-            let items = items_below(&below);
-            let group = new_group(groups, Then::First, below)?;
+            let items = child_items(&children);
+            let group = new_group(groups, Then::First, children)?;
             Ok(Asks::Each {
                 loader,
                 keys,
@@ -178,13 +188,13 @@ fn asks_of<'p>(groups: &mut Vec<Group<'p>>, asked: Asked<'p>) -> Result<Asks<'p>
                 group,
             })
         }
-        Asked::Joined {
+        ValueFrom::Joined {
             loader,
             key,
             steps,
-            below,
+            children,
         } => {
-            let group = new_group(groups, Then::Joined { steps }, below)?;
+            let group = new_group(groups, Then::Joined { steps }, children)?;
             Ok(Asks::Load { loader, key, group })
         }
     }
@@ -200,13 +210,13 @@ pub fn members_of<'p>(
 {
     let mut members = Vec::with_capacity(alloc, all.len())?;
     for prepared in all {
-        let spot = Spot {
+        let position = FieldPosition {
             key: prepared.key,
             non_null: prepared.non_null,
             place: prepared.place,
         };
         let asks = asks_of(groups, prepared.asked)?;
-        members.push(Member { spot, asks })?;
+        members.push(Member { position, asks })?;
     }
     Ok(members)
 }
@@ -234,13 +244,13 @@ fn kept<'p>(
 fn meet<'p>(
     tour: &Tour<'_, 'p, '_>,
     groups: &mut Vec<Group<'p>>,
-    below: &Below<'p>,
+    children: &Children<'p>,
     ty: &str,
 ) -> Result<Rc<Vec<Member<'p>>>, NoMemory>
-    ensures { IfOk result (λ members. AreMade groups.old.items groups.new.items (type_prepared (plan_of tour.now.plan.now) (below_seen below.now) ty.now) members.value.items) }
+    ensures { IfOk result (λ members. AreMade groups.old.items groups.new.items (type_prepared (plan_of tour.now.plan.now) (children_seen children.now) ty.now) members.value.items) }
 {
-    let collected = collect_below(tour.alloc, tour.plan, ty, &below.fields)?;
-    let all = prepare(tour.alloc, tour.plan, ty, collected)?;
+    let collected = collect_subfields(tour.alloc, tour.plan, ty, &children.fields)?;
+    let all = prepare_groups(tour.alloc, tour.plan, ty, collected)?;
     let members = members_of(tour.alloc, groups, all)?;
     Ok(Rc::new(tour.alloc, members)?)
 }
@@ -253,7 +263,7 @@ fn keep<'p>(
     group: usize,
     shape: Shape<'p>,
 ) -> Result<(), NoMemory>
-    ensures grows { OnOk result ((plan : PlanOf) → (group < count → IsShape plan groups.old.items (below_at groups.old.items group) shape.entry) → Grows plan groups.old.items groups.new.items) }
+    ensures grows { OnOk result ((plan : PlanOf) → (group < count → IsShape plan groups.old.items (children_at groups.old.items group) shape.entry) → Grows plan groups.old.items groups.new.items) }
     ensures most { OnOk result (most ≤ count → groups.new.items ≡ groups.old.items) }
 {
     if group < count && count < most && group < groups.len() {
@@ -263,17 +273,17 @@ fn keep<'p>(
 }
 
 // What stands below a group.
-fn below_of<'p>(
+fn children_of<'p>(
     alloc: Global,
     groups: &[Group<'p>],
     group: usize,
-) -> Result<Arc<Below<'p>>, NoMemory>
-    ensures { IfOk result (λ below. below_in below ≡ below_at groups.now group) }
+) -> Result<Arc<Children<'p>>, NoMemory>
+    ensures { IfOk result (λ children. children_in children ≡ children_at groups.now group) }
 {
     if let Some(group) = groups.get(group) {
-        return Ok(Arc::try_clone(&group.below)?);
+        return Ok(Arc::try_clone(&group.children)?);
     }
-    let nowhere = Below {
+    let nowhere = Children {
         type_name: "",
         item_non_null: false,
         place: Place { line: 1, column: 1 },
@@ -295,8 +305,8 @@ pub fn shape_of<'p>(
         return Ok(members);
     }
     let count = groups.len();
-    let below = below_of(tour.alloc, groups, group)?;
-    let members = meet(tour, groups, &below, ty)?;
+    let children = children_of(tour.alloc, groups, group)?;
+    let members = meet(tour, groups, &children, ty)?;
     let shape = Shape {
         ty: String::from_str(tour.alloc, ty)?,
         members: members.clone()?,
@@ -309,7 +319,7 @@ pub fn shape_of<'p>(
 fn selects_objects(fields: &[&Field]) -> bool {
     fields.iter().any(|field| match &field.selection_set {
         Some(set) => set.selections.iter().any(|selection| match selection {
-            Selection::Field(below) => below.selection_set.is_some(),
+            Selection::Field(children) => children.selection_set.is_some(),
             Selection::Spread(_) | Selection::Inline(_) => true,
         }),
         None => false,
@@ -322,5 +332,5 @@ pub fn may_load(groups: &[Group<'_>], onward: Onward) -> bool {
         return false;
     };
     let loads_again = matches!(group.then, Then::Joined { .. }) && onward.later != Some(0);
-    loads_again || selects_objects(&group.below.fields)
+    loads_again || selects_objects(&group.children.fields)
 }

@@ -24,7 +24,7 @@ pub enum KeyOver<'k> {
 #[derive(Clone, Copy)]
 pub enum PartOver<'k> {
     /// Its text; none where it is null.
-    Told(Option<&'k str>),
+    Known(Option<&'k str>),
     /// The row has no such column.
     Lacking(&'k str),
 }
@@ -44,12 +44,12 @@ fn part_over<'k>(part: &'k PartFrom<'k>, row: &'k Row) -> PartOver<'k>
     ensures { part_seen result ≡ part_over (part_from_seen part.now) row.now }
 {
     match part {
-        PartFrom::Fixed(Some(text)) => PartOver::Told(Some(text.as_str())),
-        PartFrom::Fixed(None) => PartOver::Told(None),
+        PartFrom::Fixed(Some(text)) => PartOver::Known(Some(text.as_str())),
+        PartFrom::Fixed(None) => PartOver::Known(None),
         PartFrom::Column(column) => match row.get(column) {
             Cell::NoColumn => PartOver::Lacking(column),
-            Cell::Null => PartOver::Told(None),
-            Cell::Text(text) => PartOver::Told(Some(text)),
+            Cell::Null => PartOver::Known(None),
+            Cell::Text(text) => PartOver::Known(Some(text)),
         },
     }
 }
@@ -59,11 +59,11 @@ fn pair_over<'k>(one: PartOver<'k>, two: PartOver<'k>) -> KeyOver<'k>
     ensures { (loader : ℕ) (next : List RowOf → Program) → read_pair loader (part_seen one.entry) (part_seen two.entry) next ≡ read_over loader result next }
 {
     let one = match one {
-        PartOver::Told(text) => text,
+        PartOver::Known(text) => text,
         PartOver::Lacking(column) => return KeyOver::Lacking(column),
     };
     let two = match two {
-        PartOver::Told(text) => text,
+        PartOver::Known(text) => text,
         PartOver::Lacking(column) => return KeyOver::Lacking(column),
     };
     match (one, two) {

@@ -4,7 +4,7 @@ ghost use Rattle.std.specs.Prelude.{◌≡◌, IfOk, OnOk, string_bytes};
 ghost use Rattle.execution.specs.Program.{Key, ObjectOf};
 ghost use Rattle.gq_resolve.specs.Answered.{part_of, response_of};
 ghost use Rattle.gq_resolve.specs.Bounded.{part_size, without_parts};
-ghost use Rattle.gq_resolve.specs.Built.{root_spot, step_in, level_with, level_response, spot_held, level_seen};
+ghost use Rattle.gq_resolve.specs.Built.{root_position, step_in, level_with, level_response, position_held, level_seen};
 
 use crate::completing::is_null;
 use crate::no_memory::NoMemory;
@@ -39,7 +39,7 @@ pub struct Level {
 impl Position {
     /// The root, which no step leads to. An error there has the place of a text's first character.
     pub fn root() -> Position
-        ensures { spot_held result ≡ root_spot }
+        ensures { position_held result ≡ root_position }
     {
         Position {
             step: PathPart::Item(0),
@@ -50,7 +50,7 @@ impl Position {
 
     /// A copy of the last step of its path.
     pub fn copied_step(&self, alloc: Global) -> Result<PathPart, AllocError>
-        ensures { IfOk result (λ step. part_of step ≡ (spot_held self.now).part) }
+        ensures { IfOk result (λ step. part_of step ≡ (position_held self.now).part) }
     {
         match &self.step {
             PathPart::Key(key) => Ok(PathPart::Key(String::from_str(alloc, key.as_str())?)),
@@ -60,7 +60,7 @@ impl Position {
 
     // The key of a field. No item has one.
     fn into_key(self, alloc: Global) -> String
-        ensures { Key (string_bytes result) ≡ step_in ObjectOf 0 (spot_held self).part }
+        ensures { Key (string_bytes result) ≡ step_in ObjectOf 0 (position_held self).part }
     {
         match self.step {
             PathPart::Key(key) => key,
@@ -77,7 +77,7 @@ impl Level {
         position: Position,
         response: Response,
     ) -> Result<(), NoMemory>
-        ensures { OnOk result (level_seen self.new ≡ level_with (spot_held position) (response_of response) (level_seen self.old)) }
+        ensures { OnOk result (level_seen self.new ≡ level_with (position_held position) (response_of response) (level_seen self.old)) }
     {
         self.pulled = self.pulled || (position.non_null && is_null(&response));
         match &mut self.parts {
@@ -89,7 +89,7 @@ impl Level {
 
     /// How many bytes the key of one of its positions has.
     pub fn key_size(&self, position: &Position) -> usize
-        ensures { result ≡ part_size (level_seen self.now).kind (spot_held position.now).part }
+        ensures { result ≡ part_size (level_seen self.now).kind (position_held position.now).part }
     {
         match (&self.parts, &position.step) {
             (Parts::Fields(_), PathPart::Key(key)) => key.len(),
@@ -109,7 +109,7 @@ impl Level {
 
     /// Its position and its response, now that it ends.
     pub fn ended(self) -> (Position, Response)
-        ensures position { spot_held result.0 ≡ (level_seen self).spot }
+        ensures position { position_held result.0 ≡ (level_seen self).position }
         ensures response { response_of result.1 ≡ level_response (level_seen self) }
     {
         let position = self.position;

@@ -21,11 +21,11 @@ mod level;
 mod limited;
 mod no_memory;
 mod output;
+mod positions;
 mod reading;
 mod resolve;
 mod root_state;
 mod sink;
-mod spot;
 mod tour;
 mod wanting;
 

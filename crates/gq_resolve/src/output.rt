@@ -6,17 +6,17 @@ ghost use Rattle.json.specs.Print.{IsPrintable, print};
 ghost use Rattle.json.specs.Reads.{token_of};
 ghost use Rattle.json.specs.Token.{number};
 ghost use Rattle.execution.specs.Program.{Null};
-ghost use Rattle.plan_program.specs.Prepared.{own_seen};
+ghost use Rattle.plan_program.specs.Prepared.{leaf_value_seen};
 ghost use Rattle.gq_resolve.specs.Cells.{value_seen};
 
-use crate::cells::{LeafValue, leaf_of};
+use crate::cells::{CellValue, leaf_of};
 use crate::no_memory::NoMemory;
+use crate::positions::{FieldPosition, Items, Kind, Leaf, Onward};
 use crate::sink::Sink;
-use crate::spot::{Items, Kind, Leaf, Onward, Spot};
 use indexmap::IndexSet;
 use json::{Token, Writer};
 use load_memory::{Cell, Key, KeyRef};
-use plan_program::Own;
+use plan_program::LeafValue;
 use std::alloc::Global;
 
 /// The room that a text has from the start.
@@ -57,7 +57,7 @@ fn least_bytes(token: Token<'_>) -> usize {
 }
 
 impl Output {
-    ghost use Rattle.gq_resolve.specs.Written.{IsWriting, Adds, AddsOwn, AddsLeaf};
+    ghost use Rattle.gq_resolve.specs.Written.{IsWriting, Adds, AddsLeafValue, AddsLeaf};
 
     /// Nothing yet. It writes up to so many bytes, and one token more.
     pub fn new(alloc: Global, most: usize) -> Result<Output, NoMemory>
@@ -145,10 +145,10 @@ impl Output {
     }
 
     // Writes a null, which is an error at a non-null type.
-    fn put_null(&mut self, strict: bool) -> Result<(), NoMemory>
-        ensures { OnOk result (AddsOwn strict Null self.old self.new) }
+    fn put_null(&mut self, non_null: bool) -> Result<(), NoMemory>
+        ensures { OnOk result (AddsLeafValue non_null Null self.old self.new) }
     {
-        if strict {
+        if non_null {
             self.fault();
             return Ok(());
         }
@@ -156,13 +156,13 @@ impl Output {
     }
 
     // Writes the value of a leaf. None is an error.
-    fn put_leaf(&mut self, leaf: Option<LeafValue<'_>>) -> Result<(), NoMemory>
+    fn put_leaf(&mut self, leaf: Option<CellValue<'_>>) -> Result<(), NoMemory>
         ensures { OnOk result (AddsLeaf (option_map value_seen leaf.entry) self.old self.new) }
     {
         match leaf {
-            Some(LeafValue::Text(text)) => self.put(Token::String(text)),
-            Some(LeafValue::Int(number)) => self.put_number(number),
-            Some(LeafValue::Bool(value)) => self.put(Token::Bool(value)),
+            Some(CellValue::Text(text)) => self.put(Token::String(text)),
+            Some(CellValue::Int(number)) => self.put_number(number),
+            Some(CellValue::Bool(value)) => self.put(Token::Bool(value)),
             None => {
                 self.fault();
                 Ok(())
@@ -195,21 +195,21 @@ impl Sink for Output {
         }
     }
 
-    fn field(&mut self, spot: Spot<'_>) -> Result<(), NoMemory> {
-        self.put(Token::Key(spot.key))
+    fn field(&mut self, position: FieldPosition<'_>) -> Result<(), NoMemory> {
+        self.put(Token::Key(position.key))
     }
 
     fn item(&mut self, _items: Items, _number: usize) -> Result<(), NoMemory> {
         Ok(())
     }
 
-    fn own(&mut self, own: &Own, strict: bool) -> Result<(), NoMemory> {
-        match own {
-            Own::Text(text) => self.put(Token::String(text.as_str())),
-            Own::Int(number) => self.put_number(*number),
-            Own::Bool(value) => self.put(Token::Bool(*value)),
-            Own::Null => self.put_null(strict),
-            Own::Fault(_) => {
+    fn leaf_value(&mut self, leaf_value: &LeafValue, non_null: bool) -> Result<(), NoMemory> {
+        match leaf_value {
+            LeafValue::Text(text) => self.put(Token::String(text.as_str())),
+            LeafValue::Int(number) => self.put_number(*number),
+            LeafValue::Bool(value) => self.put(Token::Bool(*value)),
+            LeafValue::Null => self.put_null(non_null),
+            LeafValue::Fault(_) => {
                 self.fault();
                 Ok(())
             }
@@ -217,7 +217,7 @@ impl Sink for Output {
     }
 
     // It is written straight from its row.
-    fn cell(&mut self, leaf: Leaf<'_>, strict: bool) -> Result<(), NoMemory> {
+    fn cell(&mut self, leaf: Leaf<'_>, non_null: bool) -> Result<(), NoMemory> {
         if !self.is_writing() {
             return Ok(());
         }
@@ -226,7 +226,7 @@ impl Sink for Output {
                 self.fault();
                 Ok(())
             }
-            Cell::Null => self.put_null(strict),
+            Cell::Null => self.put_null(non_null),
             Cell::Text(text) => self.put_leaf(leaf_of(leaf.schema, leaf.ty, text)),
         }
     }

@@ -4,7 +4,7 @@ ghost use Rattle.std.specs.Prelude.{◌≡◌, IfOk, option_map};
 ghost use Rattle.std.specs.Option.{option_copied};
 ghost use Rattle.load_memory.specs.Keys.{borrowed_of};
 ghost use Rattle.load_memory.specs.Outcomes.{outcome_of};
-ghost use Rattle.gq_resolve.specs.Evaluated.{told};
+ghost use Rattle.gq_resolve.specs.Evaluated.{lookup};
 
 use crate::no_memory::NoMemory;
 use load_memory::{CacheKey, KeyRef, Memory, Outcome};
@@ -12,14 +12,14 @@ use std::alloc::Global;
 
 /// What the memory says of a key of a loader; nothing where there is no such loader. It is looked up by a cache key that is
 /// set to that of this key.
-pub fn told_by<'m>(
+pub fn look_up<'m>(
     alloc: Global,
     memory: &'m Memory,
     probe: &mut CacheKey,
     loader: usize,
     key: KeyRef<'_>,
 ) -> Result<Option<&'m Outcome>, NoMemory>
-    ensures { IfOk result (λ outcome. option_map outcome_of (option_copied outcome) ≡ told memory.now (record { loader = loader; key = borrowed_of key.entry })) }
+    ensures { IfOk result (λ outcome. option_map outcome_of (option_copied outcome) ≡ lookup memory.now (record { loader = loader; key = borrowed_of key.entry })) }
 {
     if loader >= memory.modes().len() {
         return Ok(None);

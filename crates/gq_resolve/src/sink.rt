@@ -3,15 +3,15 @@
 ghost use Rattle.std.specs.Prelude.{◌≡◌, ◌<◌, ◌≤◌, ◌++◌, ◌∷◌, [], ℕ, List, OnOk};
 ghost use Rattle.load_memory.specs.Keys.{borrowed_of};
 ghost use Rattle.execution.specs.Program.{ObjectOf, ListOf};
-ghost use Rattle.plan_program.specs.Prepared.{own_seen};
+ghost use Rattle.plan_program.specs.Prepared.{leaf_value_seen};
 ghost use Rattle.gq_resolve.specs.Cells.{leaf_seen};
 ghost use Rattle.gq_resolve.specs.Puts.{Put, Begins, Ends, Enters, Has, Waits, OnwardOf, View, waiting};
-ghost use Rattle.gq_resolve.specs.Spots.{kind_of, spot_seen, item_spot, onward_of};
+ghost use Rattle.gq_resolve.specs.Positions.{kind_of, position_seen, item_position, onward_of};
 
 use crate::no_memory::NoMemory;
-use crate::spot::{Items, Kind, Leaf, Onward, Spot};
+use crate::positions::{FieldPosition, Items, Kind, Leaf, Onward};
 use load_memory::KeyRef;
-use plan_program::Own;
+use plan_program::LeafValue;
 
 /// What a walk puts an answer into, depth first. After an error it is only dropped.
 pub trait Sink {
@@ -33,20 +33,20 @@ pub trait Sink {
         ensures { OnOk result ((v : View) → goes v (Ends (kind_of kind) ∷ []) self.old self.new) };
 
     /// A field of the object follows.
-    fn field(&mut self, spot: Spot<'_>) -> Result<(), NoMemory>
-        ensures { OnOk result ((v : View) → goes v (Enters ObjectOf (spot_seen spot.entry) ∷ []) self.old self.new) };
+    fn field(&mut self, position: FieldPosition<'_>) -> Result<(), NoMemory>
+        ensures { OnOk result ((v : View) → goes v (Enters ObjectOf (position_seen position.entry) ∷ []) self.old self.new) };
 
     /// The item of a number follows, from 0.
     fn item(&mut self, items: Items, number: usize) -> Result<(), NoMemory>
-        ensures { OnOk result ((v : View) → goes v (Enters ListOf (item_spot items number) ∷ []) self.old self.new) };
+        ensures { OnOk result ((v : View) → goes v (Enters ListOf (item_position items number) ∷ []) self.old self.new) };
 
     /// A position with nothing below it, at a type that is non-null or not.
-    fn own(&mut self, own: &Own, strict: bool) -> Result<(), NoMemory>
-        ensures { OnOk result ((v : View) → goes v (Has strict (own_seen own.now) ∷ []) self.old self.new) };
+    fn leaf_value(&mut self, leaf_value: &LeafValue, non_null: bool) -> Result<(), NoMemory>
+        ensures { OnOk result ((v : View) → goes v (Has non_null (leaf_value_seen leaf_value.now) ∷ []) self.old self.new) };
 
     /// A position that is bound to a column, at a type that is non-null or not.
-    fn cell(&mut self, leaf: Leaf<'_>, strict: bool) -> Result<(), NoMemory>
-        ensures { OnOk result ((v : View) → goes v (Has strict (leaf_seen leaf.entry) ∷ []) self.old self.new) };
+    fn cell(&mut self, leaf: Leaf<'_>, non_null: bool) -> Result<(), NoMemory>
+        ensures { OnOk result ((v : View) → goes v (Has non_null (leaf_seen leaf.entry) ∷ []) self.old self.new) };
 
     /// A position waits for a load, and then goes on so.
     fn wait(&mut self, onward: Onward, loader: usize, key: KeyRef<'_>) -> Result<(), NoMemory>

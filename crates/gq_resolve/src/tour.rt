@@ -7,8 +7,8 @@ ghost use Rattle.execution.specs.Program.{Under, ListOf, ObjectOf};
 ghost use Rattle.gq_check.specs.Plans.{plan_of};
 ghost use Rattle.plan_program.specs.Prepared.{key_from_seen, keys_seen};
 ghost use Rattle.plan_program.specs.PlanPrograms.{places, with_rows, read_from, read_key, read_if, object_program};
-ghost use Rattle.gq_resolve.specs.Groups.{below_at, asks_seen, members_seen, IsAsked, AreKnown};
-ghost use Rattle.gq_resolve.specs.Spots.{onward_of, later_of};
+ghost use Rattle.gq_resolve.specs.Groups.{children_at, asks_seen, members_seen, IsAsked, AreKnown};
+ghost use Rattle.gq_resolve.specs.Positions.{onward_of, later_of};
 ghost use Rattle.gq_resolve.specs.Walks.{Walks, LetsGo, items_after};
 
 use crate::cells::{TypeOf, type_of_row};
@@ -18,12 +18,12 @@ use crate::groups::{
 };
 use crate::keys::{KeyOver, key_over};
 use crate::no_memory::NoMemory;
-use crate::reading::told_by;
+use crate::positions::{Items, Kind, Leaf, Onward};
+use crate::reading::look_up;
 use crate::sink::Sink;
-use crate::spot::{Items, Kind, Leaf, Onward};
 use gq_check::Plan;
 use load_memory::{CacheKey, Key, KeyRef, Memory, Outcome, Row};
-use plan_program::{KeyFrom, Own, no_column_message};
+use plan_program::{KeyFrom, LeafValue, no_column_message};
 use std::alloc::Global;
 
 /// What a walk goes over.
@@ -50,7 +50,7 @@ pub struct Progress<'p, S> {
 #[derive(Clone, Copy, Drop)]
 pub struct Loading {
     pub onward: Onward,
-    pub strict: bool,
+    pub non_null: bool,
 }
 
 impl<'w, 'p, 'a> Tour<'w, 'p, 'a> {
@@ -67,9 +67,9 @@ impl<'w, 'p, 'a> Tour<'w, 'p, 'a> {
     {
         at.out.begin(Kind::Object)?;
         for member in members {
-            at.out.field(member.spot)?;
-            let strict = member.spot.non_null;
-            self.ask(at, levels, strict, &member.asks, row)?;
+            at.out.field(member.position)?;
+            let non_null = member.position.non_null;
+            self.ask(at, levels, non_null, &member.asks, row)?;
         }
         at.out.end(Kind::Object)
     }
@@ -80,14 +80,14 @@ impl<'w, 'p, 'a> Tour<'w, 'p, 'a> {
         &self,
         at: &mut Progress<'p, S>,
         levels: u32,
-        strict: bool,
+        non_null: bool,
         asks: &Asks<'p>,
         row: &Row,
     ) -> Result<(), NoMemory>
-        ensures { OnOk result (Walks S.goes S.below self.now (IsAsked (length at.old.groups.items) asks.now) strict (λ v. asks_seen (plan_of self.now.plan.now).definitions v levels row.now asks.now) at.old at.new) }
+        ensures { OnOk result (Walks S.goes S.below self.now (IsAsked (length at.old.groups.items) asks.now) non_null (λ v. asks_seen (plan_of self.now.plan.now).definitions v levels row.now asks.now) at.old at.new) }
     {
         match asks {
-            Asks::Known(own) => at.out.own(own, strict),
+            Asks::Known(leaf_value) => at.out.leaf_value(leaf_value, non_null),
             Asks::Cell { column, ty } => {
                 let schema = self.plan.schema();
                 at.out.cell(
@@ -97,7 +97,7 @@ impl<'w, 'p, 'a> Tour<'w, 'p, 'a> {
                         ty,
                         row,
                     },
-                    strict,
+                    non_null,
                 )
             }
             Asks::Load { loader, key, group } => {
@@ -106,7 +106,7 @@ impl<'w, 'p, 'a> Tour<'w, 'p, 'a> {
                     later: None,
                     levels,
                 };
-                self.read_from(at, Loading { onward, strict }, *loader, key, row)
+                self.read_from(at, Loading { onward, non_null }, *loader, key, row)
             }
             Asks::Each {
                 loader,
@@ -134,14 +134,14 @@ impl<'w, 'p, 'a> Tour<'w, 'p, 'a> {
         key: &KeyFrom<'p>,
         row: &Row,
     ) -> Result<(), NoMemory>
-        ensures { OnOk result (Walks S.goes S.below self.now (to.onward.group < length at.old.groups.items) to.strict (λ v. read_from loader (key_from_seen key.now) row.now (v.after (onward_of to.onward))) at.old at.new) }
+        ensures { OnOk result (Walks S.goes S.below self.now (to.onward.group < length at.old.groups.items) to.non_null (λ v. read_from loader (key_from_seen key.now) row.now (v.after (onward_of to.onward))) at.old at.new) }
     {
         match key_over(key, row) {
             KeyOver::Known(key) => self.read(at, to, loader, key),
-            KeyOver::Null => at.out.own(&Own::Null, to.strict),
+            KeyOver::Null => at.out.leaf_value(&LeafValue::Null, to.non_null),
             KeyOver::Lacking(column) => {
-                let fault = Own::Fault(no_column_message(self.alloc, column)?);
-                at.out.own(&fault, to.strict)
+                let fault = LeafValue::Fault(no_column_message(self.alloc, column)?);
+                at.out.leaf_value(&fault, to.non_null)
             }
         }
     }
@@ -155,9 +155,9 @@ impl<'w, 'p, 'a> Tour<'w, 'p, 'a> {
         loader: usize,
         key: KeyRef<'_>,
     ) -> Result<(), NoMemory>
-        ensures { OnOk result (Walks S.goes S.below self.now (to.onward.group < length at.old.groups.items) to.strict (λ v. read_key loader (borrowed_of key.entry) (v.after (onward_of to.onward))) at.old at.new) }
+        ensures { OnOk result (Walks S.goes S.below self.now (to.onward.group < length at.old.groups.items) to.non_null (λ v. read_key loader (borrowed_of key.entry) (v.after (onward_of to.onward))) at.old at.new) }
     {
-        match told_by(self.alloc, self.memory, &mut at.probe, loader, key)? {
+        match look_up(self.alloc, self.memory, &mut at.probe, loader, key)? {
             Some(outcome) => self.go_on(at, to, outcome),
             None => at.out.wait(to.onward, loader, key),
         }
@@ -171,12 +171,16 @@ impl<'w, 'p, 'a> Tour<'w, 'p, 'a> {
         to: Loading,
         outcome: &Outcome,
     ) -> Result<(), NoMemory>
-        ensures { OnOk result (Walks S.goes S.below self.now (to.onward.group < length at.old.groups.items) to.strict (λ v. with_rows (v.after (onward_of to.onward)) (outcome_of outcome.now)) at.old at.new) }
+        ensures { OnOk result (Walks S.goes S.below self.now (to.onward.group < length at.old.groups.items) to.non_null (λ v. with_rows (v.after (onward_of to.onward)) (outcome_of outcome.now)) at.old at.new) }
     {
         match outcome {
             Outcome::Rows(rows) => self.rows(at, to, rows),
-            Outcome::KeyFault(text) => at.out.own(&Own::Fault(text.clone()?), to.strict),
-            Outcome::BatchFault(text) => at.out.own(&Own::Fault(text.clone()?), to.strict),
+            Outcome::KeyFault(text) => at
+                .out
+                .leaf_value(&LeafValue::Fault(text.clone()?), to.non_null),
+            Outcome::BatchFault(text) => at
+                .out
+                .leaf_value(&LeafValue::Fault(text.clone()?), to.non_null),
         }
     }
 
@@ -188,7 +192,7 @@ impl<'w, 'p, 'a> Tour<'w, 'p, 'a> {
         to: Loading,
         rows: &[Row],
     ) -> Result<(), NoMemory>
-        ensures { OnOk result (Walks S.goes S.below self.now (to.onward.group < length at.old.groups.items) to.strict (λ v. v.after (onward_of to.onward) rows.now) at.old at.new) }
+        ensures { OnOk result (Walks S.goes S.below self.now (to.onward.group < length at.old.groups.items) to.non_null (λ v. v.after (onward_of to.onward) rows.now) at.old at.new) }
     {
         if let Some(left) = to.onward.later {
             return self.first(at, to, left, rows);
@@ -209,10 +213,10 @@ impl<'w, 'p, 'a> Tour<'w, 'p, 'a> {
         left: usize,
         rows: &[Row],
     ) -> Result<(), NoMemory>
-        ensures { OnOk result (Walks S.goes S.below self.now (to.onward.group < length at.old.groups.items) to.strict (λ v. v.after (later_of left (onward_of to.onward)) rows.now) at.old at.new) }
+        ensures { OnOk result (Walks S.goes S.below self.now (to.onward.group < length at.old.groups.items) to.non_null (λ v. v.after (later_of left (onward_of to.onward)) rows.now) at.old at.new) }
     {
         match rows {
-            [] => at.out.own(&Own::Null, to.strict),
+            [] => at.out.leaf_value(&LeafValue::Null, to.non_null),
             [row, ..] => self.follow(at, to, left, row),
         }
     }
@@ -231,7 +235,7 @@ impl<'w, 'p, 'a> Tour<'w, 'p, 'a> {
         let items = items_of(&at.groups, onward.group);
         let to = Loading {
             onward,
-            strict: items.non_null,
+            non_null: items.non_null,
         };
         at.out.begin(Kind::List)?;
         for (number, row) in rows.iter().enumerate() {
@@ -250,7 +254,7 @@ impl<'w, 'p, 'a> Tour<'w, 'p, 'a> {
         left: usize,
         row: &Row,
     ) -> Result<(), NoMemory>
-        ensures { OnOk result (Walks S.goes S.below self.now (to.onward.group < length at.old.groups.items) to.strict (λ v. v.after (later_of left (onward_of to.onward)) (row.now ∷ [])) at.old at.new) }
+        ensures { OnOk result (Walks S.goes S.below self.now (to.onward.group < length at.old.groups.items) to.non_null (λ v. v.after (later_of left (onward_of to.onward)) (row.now ∷ [])) at.old at.new) }
     {
         if left == 0 {
             return self.row_object(at, to, row);
@@ -258,7 +262,7 @@ impl<'w, 'p, 'a> Tour<'w, 'p, 'a> {
         let steps = steps_of(&at.groups, to.onward.group);
         match follow_steps(self.alloc, self.memory, &mut at.probe, steps, left, row)? {
             Followed::Row(row) => self.row_object(at, to, row),
-            Followed::Own(own) => at.out.own(&own, to.strict),
+            Followed::LeafValue(leaf_value) => at.out.leaf_value(&leaf_value, to.non_null),
             Followed::Missing { left, loader, key } => {
                 let onward = Onward {
                     group: to.onward.group,
@@ -284,7 +288,7 @@ impl<'w, 'p, 'a> Tour<'w, 'p, 'a> {
     {
         let to = Loading {
             onward,
-            strict: items.non_null,
+            non_null: items.non_null,
         };
         at.out.begin(Kind::List)?;
         for (number, key) in keys.iter().enumerate() {
@@ -303,11 +307,11 @@ impl<'w, 'p, 'a> Tour<'w, 'p, 'a> {
         loader: usize,
         key: &Option<Key>,
     ) -> Result<(), NoMemory>
-        ensures { OnOk result (Walks S.goes S.below self.now (to.onward.group < length at.old.groups.items) to.strict (λ v. read_if loader (v.after (onward_of to.onward)) (option_map key_of key.now)) at.old at.new) }
+        ensures { OnOk result (Walks S.goes S.below self.now (to.onward.group < length at.old.groups.items) to.non_null (λ v. read_if loader (v.after (onward_of to.onward)) (option_map key_of key.now)) at.old at.new) }
     {
         match key {
             Some(key) => self.read(at, to, loader, key.borrowed()),
-            None => at.out.own(&Own::Null, to.strict),
+            None => at.out.leaf_value(&LeafValue::Null, to.non_null),
         }
     }
 
@@ -319,12 +323,12 @@ impl<'w, 'p, 'a> Tour<'w, 'p, 'a> {
         to: Loading,
         row: &Row,
     ) -> Result<(), NoMemory>
-        ensures { OnOk result (Walks S.goes S.below self.now (to.onward.group < length at.old.groups.items) to.strict (λ v. v.after (later_of 0 (onward_of to.onward)) (row.now ∷ [])) at.old at.new) }
+        ensures { OnOk result (Walks S.goes S.below self.now (to.onward.group < length at.old.groups.items) to.non_null (λ v. v.after (later_of 0 (onward_of to.onward)) (row.now ∷ [])) at.old at.new) }
     {
         let name = type_name_of(&at.groups, to.onward.group);
         match type_of_row(self.alloc, self.plan.schema(), name, row)? {
             TypeOf::Object(ty) => self.typed_object(at, to, ty, row),
-            TypeOf::Fault(text) => at.out.own(&Own::Fault(text), to.strict),
+            TypeOf::Fault(text) => at.out.leaf_value(&LeafValue::Fault(text), to.non_null),
         }
     }
 
@@ -337,11 +341,11 @@ impl<'w, 'p, 'a> Tour<'w, 'p, 'a> {
         ty: &str,
         row: &Row,
     ) -> Result<(), NoMemory>
-        ensures { OnOk result (Walks S.goes S.below self.now (to.onward.group < length at.old.groups.items) to.strict (λ v. object_program (plan_of self.now.plan.now) to.onward.levels ty.now (below_at at.old.groups.items to.onward.group).fields row.now) at.old at.new) }
+        ensures { OnOk result (Walks S.goes S.below self.now (to.onward.group < length at.old.groups.items) to.non_null (λ v. object_program (plan_of self.now.plan.now) to.onward.levels ty.now (children_at at.old.groups.items to.onward.group).fields row.now) at.old at.new) }
     {
         let levels = to.onward.levels;
         if levels == 0 {
-            return at.out.own(&Own::Null, to.strict);
+            return at.out.leaf_value(&LeafValue::Null, to.non_null);
         }
         let count = at.groups.len();
         let held = at.out.waiting();

@@ -1,4 +1,4 @@
--- The order in which faults are told.
+-- The order in which faults are reported.
 use Rattle.std.proofs.Common.{◌≡◌, ◌∙◌, ap, List, Option, None}
 use Rattle.std.specs.Option.{option_map}
 use Rattle.gq_lexer.specs.declared.place.Place.{Place}

@@ -20,15 +20,15 @@ found text ds (Ok s) says same keeps = record {
 }
 found text ds (Err e) says same keeps = tt
 
--- a fault that is told of definitions without one is want of memory
-told : (e : SchemaFault) (fault : Option SchemaFault) → (e ≢ NoMemory → fault ≡ Some e) → fault ≡ None → e ≡ NoMemory
-told NoMemory fault h none = refl
-told e fault h none = let is : fault ≡ Some e = h (λ same. cc) in cc
+-- a fault that is reported of definitions without one is want of memory
+out_of_memory : (e : SchemaFault) (fault : Option SchemaFault) → (e ≢ NoMemory → fault ≡ Some e) → fault ≡ None → e ≡ NoMemory
+out_of_memory NoMemory fault h none = refl
+out_of_memory e fault h none = let is : fault ≡ Some e = h (λ same. cc) in cc
 
 pub only : (text : List ℕ) (ds : List rust.Definition) (r : Result (List rust.Definition) SchemaFault) (defs : List Definition) → tree_of ds ≡ defs → fault_of defs ≡ None
     → IfOk r (λ s. s ≡ ds) → IfErr r (λ e. e ≢ NoMemory → fault_of (tree_of ds) ≡ Some e) → Reads defs r
 only text ds (Ok s) defs is keeps same fault = ap tree_of same ∙ is
-only text ds (Err e) defs is keeps same fault = told e (fault_of (tree_of ds)) fault (ap fault_of is ∙ keeps)
+only text ds (Err e) defs is keeps same fault = out_of_memory e (fault_of (tree_of ds)) fault (ap fault_of is ∙ keeps)
 
 -- Where the syntax was not read for want of memory, nothing was.
 pub unread : (defs : List Definition) (r : Result (List rust.Definition) SchemaFault) (s : SyntaxFault) → IsErrAnd r (λ e. e ≡ schema_fault_of s) → s ≡ syntax.NoMemory → Reads defs r

@@ -15,26 +15,26 @@ is_root_type defs ty = bytes_eq ty (root_in defs)
 
 -- a scalar or an enum, non-null or not
 abbrev pub is_leaf_type : List Definition → TypeTree → Bool
-is_leaf_type defs (Named p n strict) = option_map_or is_leaf (kind_in defs n) false
-is_leaf_type defs (ListOf p t strict) = false
+is_leaf_type defs (Named p n non_null) = option_map_or is_leaf (kind_in defs n) false
+is_leaf_type defs (ListOf p t non_null) = false
 
 -- an object type, an interface or a union, non-null or not
 abbrev pub is_composite_type : List Definition → TypeTree → Bool
-is_composite_type defs (Named p n strict) = option_map_or (λ k. not (is_leaf k)) (kind_in defs n) false
-is_composite_type defs (ListOf p t strict) = false
+is_composite_type defs (Named p n non_null) = option_map_or (λ k. not (is_leaf k)) (kind_in defs n) false
+is_composite_type defs (ListOf p t non_null) = false
 
 abbrev pub is_composite_list : List Definition → TypeTree → Bool
-is_composite_list defs (Named p n strict) = false
-is_composite_list defs (ListOf p t strict) = is_composite_type defs t
+is_composite_list defs (Named p n non_null) = false
+is_composite_list defs (ListOf p t non_null) = is_composite_type defs t
 
 -- Int, ID or String, non-null or not
 abbrev pub is_key_type : TypeTree → Bool
-is_key_type (Named p n strict) = bytes_eq n (codes "Int") || (bytes_eq n (codes "ID") || bytes_eq n (codes "String"))
-is_key_type (ListOf p t strict) = false
+is_key_type (Named p n non_null) = bytes_eq n (codes "Int") || (bytes_eq n (codes "ID") || bytes_eq n (codes "String"))
+is_key_type (ListOf p t non_null) = false
 
 abbrev pub is_key_list : TypeTree → Bool
-is_key_list (Named p n strict) = false
-is_key_list (ListOf p t strict) = is_key_type t
+is_key_list (Named p n non_null) = false
+is_key_list (ListOf p t non_null) = is_key_type t
 
 -- the field has an argument of this name, and of such a type
 abbrev pub takes : (TypeTree → Bool) → Field → List ℕ → Bool

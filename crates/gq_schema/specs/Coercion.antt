@@ -49,15 +49,15 @@ from_enum defs name value = if has_value defs name value then Some (Text value) 
 
 -- what a value gives at the type of this name; variables give what is stated first
 abbrev pub named_value : Option Input → List Definition → List ℕ → Bool → Value → Option Input
-named_value variable defs name strict (literal.Null p) = if strict then None else Some Null
-named_value variable defs name strict (Variable p v) = variable
-named_value variable defs name strict (literal.Int p text) = from_int name text
-named_value variable defs name strict (Float p text) = None
-named_value variable defs name strict (literal.Text p text) = from_text name text
-named_value variable defs name strict (literal.Boolean p b) = from_boolean name b
-named_value variable defs name strict (Enum p v) = from_enum defs name v
-named_value variable defs name strict (Array p vs) = None
-named_value variable defs name strict (Object p ms) = None
+named_value variable defs name non_null (literal.Null p) = if non_null then None else Some Null
+named_value variable defs name non_null (Variable p v) = variable
+named_value variable defs name non_null (literal.Int p text) = from_int name text
+named_value variable defs name non_null (Float p text) = None
+named_value variable defs name non_null (literal.Text p text) = from_text name text
+named_value variable defs name non_null (literal.Boolean p b) = from_boolean name b
+named_value variable defs name non_null (Enum p v) = from_enum defs name v
+named_value variable defs name non_null (Array p vs) = None
+named_value variable defs name non_null (Object p ms) = None
 
 abbrev pub and_items : Option Input → Option Inputs → Option Inputs
 and_items (Some i) (Some is) = Some (and_input i is)
@@ -78,14 +78,14 @@ one_item None = None
 
 -- what a value gives at a list, where item says what a value gives at its items
 abbrev pub list_value : Option Input → (Value → Option Input) → Bool → Value → Option Input
-list_value variable item strict (literal.Null p) = if strict then None else Some Null
-list_value variable item strict (Variable p v) = variable
-list_value variable item strict (Array p vs) = list_input (all_items item vs)
-list_value variable item strict v = one_item (item v)
+list_value variable item non_null (literal.Null p) = if non_null then None else Some Null
+list_value variable item non_null (Variable p v) = variable
+list_value variable item non_null (Array p vs) = list_input (all_items item vs)
+list_value variable item non_null v = one_item (item v)
 
 abbrev pub value_with : Option Input → List Definition → TypeTree → Value → Option Input
-value_with variable defs (Named p n strict) v = named_value variable defs n strict v
-value_with variable defs (ListOf p t strict) v = list_value variable (value_with variable defs t) strict v
+value_with variable defs (Named p n non_null) v = named_value variable defs n non_null v
+value_with variable defs (ListOf p t non_null) v = list_value variable (value_with variable defs t) non_null v
 
 -- what a literal without variables gives, where it is right
 abbrev pub coerced : List Definition → TypeTree → Value → Option Input

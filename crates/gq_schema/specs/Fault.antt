@@ -17,7 +17,7 @@ use Rattle.gq_schema.specs.Defaults.{first_bad_default}
 abbrev pub missing_root : List Definition → Option SchemaFault
 missing_root defs = if is_some (declared_root defs) || is_some (type_in defs query) then None else Some NoQueryRoot
 
--- what is left to be told once no name is reserved and none is defined twice
+-- what is left to be reported once no name is reserved and none is defined twice
 abbrev pub fault_of_types : List Definition → Option SchemaFault
 fault_of_types defs =
     or_else (option_map UnknownType (first_broken defs IsDefined))
@@ -25,7 +25,7 @@ fault_of_types defs =
     (or_else (option_map BadImplements (first_bad_interface defs))
     (or_else (option_map BadDefault (first_bad_default defs)) (missing_root defs))))
 
--- The fault that is told of these definitions: the first of the rules in this order that is broken, at the first place in
+-- The fault that is reported of these definitions: the first of the rules in this order that is broken, at the first place in
 -- the text where it is.
 abbrev pub fault_of : List Definition → Option SchemaFault
 fault_of defs = or_else (option_map ReservedName (first_reserved defs)) (or_else (option_map Duplicate (first_repeated defs)) (fault_of_types defs))

@@ -14,7 +14,7 @@ pub record IsSchema (text : List ℕ) (defs : List Definition) : Type 0 where
   pub says : IsSchemaOf text defs
   pub keeps : fault_of defs ≡ None
 
--- The text says definitions of which this fault is told.
+-- The text says definitions of which this fault is reported.
 pub record IsBroken (text : List ℕ) (e : SchemaFault) : Type 0 where
   pub defs : List Definition
   pub says : IsSchemaOf text defs

@@ -135,8 +135,8 @@ can_be defs q name = list_any (λ d. defines name d && is_possible defs q d) def
 -- union that has it; a list for a list with covariant items; a non-null type for a type, or a non-null type, of which
 -- the unwrapped one is covariant.
 abbrev pub is_covariant : List Definition → TypeTree → TypeTree → Bool
-is_covariant defs (Named p n strict) (Named q m wanted) = (strict || not wanted) && (bytes_eq n m || can_be defs m n)
-is_covariant defs (ListOf p t strict) (ListOf q u wanted) = (strict || not wanted) && is_covariant defs t u
+is_covariant defs (Named p n non_null) (Named q m wanted) = (non_null || not wanted) && (bytes_eq n m || can_be defs m n)
+is_covariant defs (ListOf p t non_null) (ListOf q u wanted) = (non_null || not wanted) && is_covariant defs t u
 is_covariant defs _ _ = false
 
 abbrev pub is_same_flag : Bool → Bool → Bool
@@ -144,15 +144,15 @@ is_same_flag true b = b
 is_same_flag false b = not b
 
 abbrev pub is_same_type : TypeTree → TypeTree → Bool
-is_same_type (Named p n strict) (Named q m wanted) = is_same_flag strict wanted && bytes_eq n m
-is_same_type (ListOf p t strict) (ListOf q u wanted) = is_same_flag strict wanted && is_same_type t u
+is_same_type (Named p n non_null) (Named q m wanted) = is_same_flag non_null wanted && bytes_eq n m
+is_same_type (ListOf p t non_null) (ListOf q u wanted) = is_same_flag non_null wanted && is_same_type t u
 is_same_type _ _ = false
 
 -- the name at the core of a type, with its place
 abbrev pub core_of : TypeTree → Name
-core_of (Named p n strict) = record { text = n; place = p }
-core_of (ListOf p t strict) = core_of t
+core_of (Named p n non_null) = record { text = n; place = p }
+core_of (ListOf p t non_null) = core_of t
 
 abbrev pub is_non_null : TypeTree → Bool
-is_non_null (Named p n strict) = strict
-is_non_null (ListOf p t strict) = strict
+is_non_null (Named p n non_null) = non_null
+is_non_null (ListOf p t non_null) = non_null

@@ -38,11 +38,11 @@ fn accepts_int(name: &str, text: &str) -> bool
 }
 
 // Whether a literal is right at the type of this name. Variables are passed over.
-fn accepts_named(schema: &Schema, name: &str, strict: bool, literal: &Literal) -> bool
-    ensures { result ≡ is_some (named_value (Some Null) (tree_of schema.now) name.now strict (literal_of literal.now)) }
+fn accepts_named(schema: &Schema, name: &str, non_null: bool, literal: &Literal) -> bool
+    ensures { result ≡ is_some (named_value (Some Null) (tree_of schema.now) name.now non_null (literal_of literal.now)) }
 {
     match &literal.value {
-        Value::Null => !strict,
+        Value::Null => !non_null,
         Value::Variable(_) => true,
         Value::Int(text) => accepts_int(name, text.as_str()),
         Value::Float(_) => false,
@@ -126,13 +126,13 @@ fn coerce_enum(schema: &Schema, name: &str, value: &String) -> Result<Option<Inp
 fn coerce_named(
     schema: &Schema,
     name: &str,
-    strict: bool,
+    non_null: bool,
     literal: &Literal,
 ) -> Result<Option<Input>, AllocError>
-    ensures { IfOk result (λ input. option_map input_of input ≡ named_value None (tree_of schema.now) name.now strict (literal_of literal.now)) }
+    ensures { IfOk result (λ input. option_map input_of input ≡ named_value None (tree_of schema.now) name.now non_null (literal_of literal.now)) }
 {
     match &literal.value {
-        Value::Null => Ok((!strict).then_some(Input::Null)),
+        Value::Null => Ok((!non_null).then_some(Input::Null)),
         Value::Variable(_) => Ok(None),
         Value::Int(text) => Ok(coerce_int(name, text)?),
         Value::Float(_) => Ok(None),

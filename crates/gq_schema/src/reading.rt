@@ -38,7 +38,7 @@ impl Schema {
         // A schema is read, and there is no other in the text.
         ensures only { (defs : _) → IsSchema text.now defs → Reads defs result }
 
-        // Otherwise the first fault is told.
+        // Otherwise the first fault is reported.
         ensures fault { IfErr result (IsFaultOf text.now) }
     {
         let document = read(alloc, text)?;

@@ -6,6 +6,9 @@ use denote.Param.Members.{Shared}
 use denote.Ref.{Bor}
 use Rattle.std.specs.declared.alloc.Global.{Global}
 use Rattle.line_serving.specs.declared.fault.NoMemory.{NoMemory}
+use Rattle.std.specs.Global.{Vec}
+use Rattle.line_serving.specs.declared.device.Counted.{Counted}
+use Rattle.line_serving.specs.Devices.{device_of}
 use Rattle.line_serving.specs.Lines.{ended, input_lines}
 
 -- a call of f with this line may give this text
@@ -47,3 +50,20 @@ pub record Cuts (old new : Option (List ℕ)) (text out rest : List ℕ) : Type 
 
 abbrev pub IsCut : Option (List ℕ) → Option (List ℕ) → List ℕ → Type 0
 IsCut old new text = (out : List ℕ) × (rest : List ℕ) × Cuts old new text out rest
+
+-- ---- the same of a counted writer, whose contents a function says
+
+-- what was pending and the text were sent, or are pending later
+abbrev pub SendsBy : {D : Type 0} → (D → Option (List ℕ)) → Counted D → Vec ℕ → Counted D → Vec ℕ → List ℕ → Type 0
+SendsBy contents old pending new later text = Sends (contents (device_of old)) pending.items (contents (device_of new)) later.items text
+
+-- the same where nothing was pending
+abbrev pub SendsFirst : {D : Type 0} → (D → Option (List ℕ)) → Counted D → Counted D → Vec ℕ → List ℕ → Type 0
+SendsFirst contents old new later text = Sends (contents (device_of old)) [] (contents (device_of new)) later.items text
+
+abbrev pub AppendsBy : {D : Type 0} → (D → Option (List ℕ)) → Counted D → Counted D → List ℕ → Type 0
+AppendsBy contents old new text = Appends (contents (device_of old)) (contents (device_of new)) text
+
+-- a front of what was pending and the text went out
+abbrev pub CutsBy : {D : Type 0} → (D → Option (List ℕ)) → Counted D → Vec ℕ → Counted D → List ℕ → Type 0
+CutsBy contents old pending new text = IsCut (contents (device_of old)) (contents (device_of new)) (pending.items ++ text)

@@ -1,10 +1,10 @@
 //! Lines out of the blocks that are read.
 
-ghost use Rattle.std.specs.Prelude.{◌≡◌, ℕ, List, [], ◌++◌, ◌<◌, ◌≤◌, ◌+◌, ◌-◌, ◌^◌, length, OnOk, IfOk, IfErr};
-ghost use Rattle.line_serving.specs.Devices.{device_of, faults_of};
-ghost use Rattle.line_serving.specs.Lines.{limit, IsLine, Splits, last_of};
-ghost use Rattle.line_serving.specs.Output.{Gives, Sends, IsCut, WithAnswer, WithAnswers};
-ghost use Rattle.line_serving.specs.Serving.{block_size, AtFault, Stopped, faults_at};
+ghost use Rattle.std.specs.Prelude.{◌≡◌, ◌++◌, ◌<◌, ◌≤◌, ◌+◌, ◌-◌, ◌^◌, length, OnOk, IfOk, IfErr};
+ghost use Rattle.line_serving.specs.Devices.{faults_of};
+ghost use Rattle.line_serving.specs.Lines.{limit, IsLine, last_of};
+ghost use Rattle.line_serving.specs.Output.{Gives, SendsBy};
+ghost use Rattle.line_serving.specs.Serving.{block_size, Finishes, FailsLine, Feeds, StopsFeeding, Totals, FailsAnswers, faults_at};
 
 use crate::device::Counted;
 use crate::fault::{NoMemory, ServeFault};
@@ -25,16 +25,10 @@ fn finish_line<F: Fn(&[u8]) -> Result<String, NoMemory>, W: Write>(
 ) -> Result<(), ServeFault>
     requires callable { F.IsAlwaysCallable answer.now }
     requires held { length held.old.items ≤ limit }
-    ensures ok { OnOk result ((held.new.items ≡ []) × (length (held.old.items ++ line.now) ≤ limit)
-        × WithAnswer (Gives F.Fn answer.now) (held.old.items ++ line.now)
-        (Sends (W.contents (device_of writer.old)) pending.old.items (W.contents (device_of writer.new)) pending.new.items)) }
-    ensures err { IfErr result (λ fault. AtFault fault
-        (Sends (W.contents (device_of writer.old)) pending.old.items (W.contents (device_of writer.new)) pending.new.items []
-        × (limit < length (held.old.items ++ line.now)))
-        ⊥
-        ((length (held.old.items ++ line.now) ≤ limit) × WithAnswer (Gives F.Fn answer.now) (held.old.items ++ line.now)
-        (λ out. IsCut (W.contents (device_of writer.old)) (W.contents (device_of writer.new)) (pending.old.items ++ out)))
-        (Sends (W.contents (device_of writer.old)) pending.old.items (W.contents (device_of writer.new)) pending.new.items [])) }
+    ensures ok { OnOk result (Finishes (Gives F.Fn answer.now) held.old line.now held.new
+        (SendsBy W.contents writer.old pending.old writer.new pending.new)) }
+    ensures err { IfErr result (FailsLine (Gives F.Fn answer.now) (held.old.items ++ line.now)
+        W.contents writer.old pending.old writer.new pending.new) }
     ensures faults { faults_of writer.new ≡ faults_at result ServeFault.WriteFault (faults_of writer.old) }
 {
     if line.len() > LIMIT - held.len() {
@@ -69,16 +63,12 @@ pub fn feed<F: Fn(&[u8]) -> Result<String, NoMemory>, W: Write>(
     requires callable { F.IsAlwaysCallable answer.now }
     requires held { IsLine held.old.items }
     requires few { length block.now ≤ block_size }
-    ensures ok { IfOk result (λ n. (lines : List (List ℕ)) × Splits (held.old.items ++ block.now) lines held.new.items
-        × (n ≡ length lines)
-        × WithAnswers (Gives F.Fn answer.now) lines
-        (Sends (W.contents (device_of writer.old)) pending.old.items (W.contents (device_of writer.new)) pending.new.items)) }
+    ensures ok { IfOk result (Feeds (Gives F.Fn answer.now) held.old block.now held.new
+        (SendsBy W.contents writer.old pending.old writer.new pending.new)) }
     ensures held { OnOk result (IsLine held.new.items) }
     ensures count { IfOk result (λ n. n ≤ length block.now) }
-    ensures err { IfErr result (Stopped (Gives F.Fn answer.now) (held.old.items ++ block.now)
-        (Sends (W.contents (device_of writer.old)) pending.old.items (W.contents (device_of writer.new)) pending.new.items)
-        (λ out. IsCut (W.contents (device_of writer.old)) (W.contents (device_of writer.new)) (pending.old.items ++ out))
-        (λ _. ⊥)) }
+    ensures err { IfErr result (StopsFeeding (Gives F.Fn answer.now) (held.old.items ++ block.now)
+        W.contents writer.old pending.old writer.new pending.new) }
     ensures faults { faults_of writer.new ≡ faults_at result ServeFault.WriteFault (faults_of writer.old) }
 {
     let mut rest = block;
@@ -112,13 +102,10 @@ pub fn finish<F: Fn(&[u8]) -> Result<String, NoMemory>, W: Write>(
 ) -> Result<u64, ServeFault>
     requires callable { F.IsAlwaysCallable answer.now }
     requires count { count < 2 ^ 63 }
-    ensures ok { IfOk result (λ n. (n ≡ count + length (last_of held.now.items))
-        × WithAnswers (Gives F.Fn answer.now) (last_of held.now.items)
-        (Sends (W.contents (device_of writer.old)) pending.old.items (W.contents (device_of writer.new)) pending.new.items)) }
-    ensures err { IfErr result (λ fault. AtFault fault ⊥ ⊥
-        (WithAnswers (Gives F.Fn answer.now) (last_of held.now.items)
-        (λ out. IsCut (W.contents (device_of writer.old)) (W.contents (device_of writer.new)) (pending.old.items ++ out)))
-        (Sends (W.contents (device_of writer.old)) pending.old.items (W.contents (device_of writer.new)) pending.new.items [])) }
+    ensures ok { IfOk result (Totals (Gives F.Fn answer.now) (last_of held.now.items)
+        (SendsBy W.contents writer.old pending.old writer.new pending.new) count) }
+    ensures err { IfErr result (FailsAnswers (Gives F.Fn answer.now) (last_of held.now.items)
+        W.contents writer.old pending.old writer.new pending.new) }
     ensures faults { faults_of writer.new ≡ faults_at result ServeFault.WriteFault (faults_of writer.old) }
 {
     if held.is_empty() {

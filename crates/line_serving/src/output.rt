@@ -4,8 +4,8 @@ ghost use Rattle.std.specs.Prelude.{◌≡◌, ℕ, List, [], ◌∷◌, ◌++�
 ghost use Rattle.std.specs.Io.KnownBytes.{Appends};
 ghost use Rattle.line_serving.specs.Devices.{device_of, faults_of, faults_after};
 ghost use Rattle.line_serving.specs.Lines.{ended};
-ghost use Rattle.line_serving.specs.Output.{Gives, Sends, IsCut, WithAnswer};
-ghost use Rattle.line_serving.specs.Serving.{AtFault, faults_at};
+ghost use Rattle.line_serving.specs.Output.{Gives, Sends, SendsBy, IsCut, WithAnswer};
+ghost use Rattle.line_serving.specs.Serving.{FailsAnswer, faults_at};
 
 use crate::device::{Counted, DeviceFault};
 use crate::fault::{NoMemory, ServeFault};
@@ -85,10 +85,9 @@ pub fn answer_line<F: Fn(&[u8]) -> Result<String, NoMemory>, W: Write>(
 ) -> Result<(), ServeFault>
     requires { F.IsAlwaysCallable answer.now }
     ensures ok { OnOk result (WithAnswer (Gives F.Fn answer.now) line.now
-        (Sends (W.contents (device_of writer.old)) pending.old.items (W.contents (device_of writer.new)) pending.new.items)) }
-    ensures err { IfErr result (λ fault. AtFault fault ⊥ ⊥
-        (WithAnswer (Gives F.Fn answer.now) line.now (λ out. IsCut (W.contents (device_of writer.old)) (W.contents (device_of writer.new)) (pending.old.items ++ out)))
-        (Sends (W.contents (device_of writer.old)) pending.old.items (W.contents (device_of writer.new)) pending.new.items [])) }
+        (SendsBy W.contents writer.old pending.old writer.new pending.new)) }
+    ensures err { IfErr result (FailsAnswer (Gives F.Fn answer.now) line.now
+        W.contents writer.old pending.old writer.new pending.new) }
     ensures faults { faults_of writer.new ≡ faults_at result ServeFault.WriteFault (faults_of writer.old) }
 {
     match answer_whole(answer, line) {

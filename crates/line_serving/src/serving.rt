@@ -1,10 +1,9 @@
 //! Serving: each line is answered by a line.
 
-ghost use Rattle.std.specs.Prelude.{◌≡◌, ℕ, List, [], ◌++◌, ◌<◌, ◌≤◌, ◌+◌, ◌^◌, ⊤, length, OnOk, IfOk, IfErr, vec_len};
-ghost use Rattle.std.specs.Io.KnownBytes.{Appends, Consumes, IsAtEnd};
-ghost use Rattle.line_serving.specs.Devices.{bound, counted, device_of, faults_of, calls_of, given_of};
-ghost use Rattle.line_serving.specs.Output.{Gives, Sends, IsCut};
-ghost use Rattle.line_serving.specs.Serving.{AtFault, IsAnswered, Fails, faults_at};
+ghost use Rattle.std.specs.Prelude.{◌≡◌, [], ◌++◌, ◌<◌, ◌≤◌, ◌+◌, ◌^◌, length, OnOk, IfOk, IfErr, vec_len};
+ghost use Rattle.line_serving.specs.Devices.{bound, counted, faults_of, calls_of, given_of};
+ghost use Rattle.line_serving.specs.Output.{Gives, SendsFirst, AppendsBy};
+ghost use Rattle.line_serving.specs.Serving.{ServesAll, StopsLines, StopsServing, CountsReadFault, faults_at};
 
 use crate::device::Counted;
 use crate::fault::{NoMemory, ServeFault};
@@ -36,16 +35,10 @@ fn serve_lines<F: Fn(&[u8]) -> Result<String, NoMemory>, R: Read, W: Write>(
     requires callable { F.IsAlwaysCallable answer.now }
     requires nothing { pending.old.items ≡ [] }
     requires room { length block.old ≡ 65536 }
-    ensures ok { IfOk result (λ n. (text : List ℕ) × Consumes (R.remaining (device_of reader.old)) (R.remaining (device_of reader.new)) text
-        × IsAtEnd (R.remaining (device_of reader.new))
-        × IsAnswered (Gives F.Fn answer.now) text n
-        (Sends (W.contents (device_of writer.old)) [] (W.contents (device_of writer.new)) pending.new.items)) }
-    ensures err { IfErr result (λ fault. (text : List ℕ) × Consumes (R.remaining (device_of reader.old)) (R.remaining (device_of reader.new)) text
-        × Fails (Gives F.Fn answer.now) text
-        (Sends (W.contents (device_of writer.old)) [] (W.contents (device_of writer.new)) pending.new.items)
-        (IsCut (W.contents (device_of writer.old)) (W.contents (device_of writer.new)))
-        (R.remaining (device_of reader.new))
-        fault) }
+    ensures ok { IfOk result (ServesAll (Gives F.Fn answer.now) R.remaining reader.old reader.new
+        (SendsFirst W.contents writer.old writer.new pending.new)) }
+    ensures err { IfErr result (StopsLines (Gives F.Fn answer.now) R.remaining reader.old reader.new
+        W.contents writer.old writer.new pending.new) }
     ensures read { faults_of reader.new ≡ faults_at result ServeFault.ReadFault (faults_of reader.old) }
     ensures written { faults_of writer.new ≡ faults_at result ServeFault.WriteFault (faults_of writer.old) }
     ensures bounded { OnOk result ((calls_of reader.new ≤ bound) × (given_of reader.new < bound)) }
@@ -85,16 +78,10 @@ fn serve_blocks<F: Fn(&[u8]) -> Result<String, NoMemory>, R: Read, W: Write>(
 ) -> Result<u64, ServeFault>
     requires callable { F.IsAlwaysCallable answer.now }
     requires nothing { pending.old.items ≡ [] }
-    ensures ok { IfOk result (λ n. (text : List ℕ) × Consumes (R.remaining (device_of reader.old)) (R.remaining (device_of reader.new)) text
-        × IsAtEnd (R.remaining (device_of reader.new))
-        × IsAnswered (Gives F.Fn answer.now) text n
-        (Sends (W.contents (device_of writer.old)) [] (W.contents (device_of writer.new)) pending.new.items)) }
-    ensures err { IfErr result (λ fault. (text : List ℕ) × Consumes (R.remaining (device_of reader.old)) (R.remaining (device_of reader.new)) text
-        × Fails (Gives F.Fn answer.now) text
-        (Sends (W.contents (device_of writer.old)) [] (W.contents (device_of writer.new)) pending.new.items)
-        (IsCut (W.contents (device_of writer.old)) (W.contents (device_of writer.new)))
-        (R.remaining (device_of reader.new))
-        fault) }
+    ensures ok { IfOk result (ServesAll (Gives F.Fn answer.now) R.remaining reader.old reader.new
+        (SendsFirst W.contents writer.old writer.new pending.new)) }
+    ensures err { IfErr result (StopsLines (Gives F.Fn answer.now) R.remaining reader.old reader.new
+        W.contents writer.old writer.new pending.new) }
     ensures read { faults_of reader.new ≡ faults_at result ServeFault.ReadFault (faults_of reader.old) }
     ensures written { faults_of writer.new ≡ faults_at result ServeFault.WriteFault (faults_of writer.old) }
     ensures bounded { OnOk result ((calls_of reader.new ≤ bound) × (given_of reader.new < bound)) }
@@ -128,28 +115,19 @@ pub fn serve<F: Fn(&[u8]) -> Result<String, NoMemory>, R: Read, W: Write>(
     requires { F.IsAlwaysCallable answer }
 
     // All of the input was read, and what was written is the output of its lines.
-    ensures ok { IfOk result (λ n. (text : List ℕ) × Consumes (R.remaining (device_of reader.old)) (R.remaining (device_of reader.new)) text
-        × IsAtEnd (R.remaining (device_of reader.new))
-        × IsAnswered (Gives F.Fn answer) text n (Appends (W.contents (device_of writer.old)) (W.contents (device_of writer.new)))) }
+    ensures ok { IfOk result (ServesAll (Gives F.Fn answer) R.remaining reader.old reader.new
+        (AppendsBy W.contents writer.old writer.new)) }
 
     // After a fault the answers of the lines before it were written, or a front of them where the writer failed.
-    ensures err { IfErr result (λ fault. (text : List ℕ) × Consumes (R.remaining (device_of reader.old)) (R.remaining (device_of reader.new)) text
-        × Fails (Gives F.Fn answer) text
-        (Appends (W.contents (device_of writer.old)) (W.contents (device_of writer.new)))
-        (IsCut (W.contents (device_of writer.old)) (W.contents (device_of writer.new)))
-        (R.remaining (device_of reader.new))
-        fault) }
+    ensures err { IfErr result (StopsServing (Gives F.Fn answer) R.remaining reader.old reader.new
+        W.contents writer.old writer.new) }
 
     // The writer's fault comes exactly where the writer counted one.
     ensures written { faults_of writer.new ≡ faults_at result ServeFault.WriteFault (faults_of writer.old) }
 
     // The reader's fault comes only where the reader counted one, and it counts no other.
     ensures read { OnOk result (faults_of reader.new ≡ faults_of reader.old) }
-    ensures read_fault { IfErr result (λ fault. AtFault fault
-        (faults_of reader.new ≡ faults_of reader.old)
-        (faults_of reader.new ≡ counted (faults_of reader.old))
-        (⊤)
-        (faults_of reader.new ≡ faults_of reader.old)) }
+    ensures read_fault { IfErr result (CountsReadFault (faults_of reader.old) (faults_of reader.new)) }
 
     // Past a bound of the reader no input is served to its end.
     ensures bounded { OnOk result ((calls_of reader.new ≤ bound) × (given_of reader.new < bound)) }

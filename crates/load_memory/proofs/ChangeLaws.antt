@@ -119,8 +119,8 @@ look_in-items (e ∷ es) d q = go (look_in-items es d.1 q) (is_failed e.1) refl 
   go rest true item false at = rw (item, at) rest
 
 -- what a part's test of a key tells
-pub look_in-told : (es : EntriesOf) (k : CacheKey) (b : Bool) → b ≡ is_some (lookup ((cache_eq.eq-value).it k) es) → is_some (look_in es (cache_of k)) ≡ b
-look_in-told es k b e = ap is_some (sym (lookup-cache k es)) ∙ go (lookup ((cache_eq.eq-value).it k) es) ∙ sym e where
+pub look_in-found : (es : EntriesOf) (k : CacheKey) (b : Bool) → b ≡ is_some (lookup ((cache_eq.eq-value).it k) es) → is_some (look_in es (cache_of k)) ≡ b
+look_in-found es k b e = ap is_some (sym (lookup-cache k es)) ∙ go (lookup ((cache_eq.eq-value).it k) es) ∙ sym e where
   go : (o : Option Outcome) → is_some (option_map outcome_of o) ≡ is_some o
   go None = refl
   go (Some x) = refl

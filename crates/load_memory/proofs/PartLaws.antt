@@ -196,14 +196,14 @@ module _ (modes : List KeyMode) (parts : List PartOf) (count : ℕ) (failed : Bo
     unfailed = unfailed;
   }
 
-told : (o : Option Outcome) (b : Bool) → is_some o ≡ b → is_some (option_map outcome_of o) ≡ b
-told None b e = e
-told (Some x) b e = e
+found : (o : Option Outcome) (b : Bool) → is_some o ≡ b → is_some (option_map outcome_of o) ≡ b
+found None b e = e
+found (Some x) b e = e
 
 -- what a part's `contains_key` tells of the memory
-pub look-told : (ps : List PartOf) (i : ℕ) (d : PartOf) (k : CacheKey) (b : Bool) → i < length ps → d ≡ get_or ps i d → b ≡ is_some (lookup ((cache_eq.eq-value).it k) d.entries) → is_some (look (pairs_from 0 ps) i (cache_of k)) ≡ b
-look-told ps i d k b lt at e =
-    rw (look-part ps i (cache_of k), at_part-read ps i d (cache_of k) lt, ← at, ← lookup-cache k d.entries) (told (lookup ((cache_eq.eq-value).it k) d.entries) b (sym e))
+pub look-found : (ps : List PartOf) (i : ℕ) (d : PartOf) (k : CacheKey) (b : Bool) → i < length ps → d ≡ get_or ps i d → b ≡ is_some (lookup ((cache_eq.eq-value).it k) d.entries) → is_some (look (pairs_from 0 ps) i (cache_of k)) ≡ b
+look-found ps i d k b lt at e =
+    rw (look-part ps i (cache_of k), at_part-read ps i d (cache_of k) lt, ← at, ← lookup-cache k d.entries) (found (lookup ((cache_eq.eq-value).it k) d.entries) b (sym e))
 
 pub SomeIff-at : (o : Option ℕ) (P : Type 0) (v x : ℕ) → o ≡ Some x → SomeIff o P v → x ≡ v
 SomeIff-at None P v x e s = absurd (cc e)

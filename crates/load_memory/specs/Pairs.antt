@@ -57,6 +57,10 @@ unless_failed (Some (batch_fault text)) = None
 abbrev pub IsUnfailed : List PairOf → List PairOf → Type 0
 IsUnfailed old new = (loader : ℕ) (key : KeyOf) → look new loader key ≡ unless_failed (look old loader key)
 
+-- the same of one loader's pairs alone
+abbrev pub IsUnfailedAt : ℕ → List PairOf → List PairOf → Type 0
+IsUnfailedAt at old new = (loader : ℕ) (key : KeyOf) → look new loader key ≡ (if at == loader then unless_failed (look old loader key) else look old loader key)
+
 -- the last is the map of the first with those of some more pairs whose keys are absent, of equal keys the first
 abbrev pub IsWith : List PairOf → List PairOf → List PairOf → Type 0
 IsWith old more new = (loader : ℕ) (key : KeyOf) → look new loader key ≡ option_or (look old loader key) (look more loader key)

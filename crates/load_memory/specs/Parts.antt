@@ -1,16 +1,19 @@
 -- The pairs of a memory that keeps a hash map for each loader.
-use Rattle.std.specs.Prelude.{◌≡◌, ◌==◌, ◌≤◌, ℕ, zero, suc, Bool, false, List, [], ◌∷◌, ◌++◌, map, length, Option, option_map, if◌then◌else◌}
+use Rattle.std.specs.Prelude.{◌≡◌, ◌==◌, ◌≤◌, ℕ, zero, suc, Bool, false, List, [], ◌∷◌, ◌++◌, map, length, Option, Some, None, option_map, if◌then◌else◌}
 use Rattle.std.specs.HashMap.{HashMap, IsUnique, spare}
 use Rattle.std.specs.Map.{lookup}
+use Rattle.std.specs.Option.{option_or}
 use Rattle.std.specs.declared.hash.FoldHasher.{FoldHasher}
 use Rattle.std.specs.declared.hash.BuildHasherDefault.{BuildHasherDefault}
-use Rattle.load_memory.specs.Keys.{KeyOf, cache_of, same_key}
+use Rattle.load_memory.specs.Keys.{KeyOf, key_of, cache_of, same_key}
 use Rattle.load_memory.specs.Outcomes.{OutcomeOf, outcome_of}
 use Rattle.load_memory.specs.Pairs.{PairOf, look, unless_failed}
+use Rattle.load_memory.specs.Replies.{reply_pairs}
 use Rattle.load_memory.specs.declared.key.CacheKey.{CacheKey}
 use Rattle.load_memory.specs.declared.key.KeyMode.{KeyMode}
 use Rattle.load_memory.specs.declared.outcome.Outcome.{Outcome}
 use Rattle.load_memory.specs.declared.part.Staged.{Staged}
+use Rattle.load_memory.specs.declared.reply.Reply.{Reply}
 use Rattle.load_memory.specs.contracts.key.CacheKeyPartialEq.TheImpl as key_eq
 
 -- one loader's part of the memory
@@ -31,6 +34,14 @@ pairs_from n (p ∷ ps) = map (pair_at n) p.entries ++ pairs_from (suc n) ps
 -- what a part says of a key
 abbrev pub look_in : EntriesOf → KeyOf → Option OutcomeOf
 look_in es key = option_map outcome_of (lookup (λ x. same_key key (cache_of x)) es)
+
+-- the entries have this pair, and of each other key what the old ones have
+abbrev pub HasPut : KeyOf → OutcomeOf → EntriesOf → EntriesOf → Type 0
+HasPut key outcome old new = (q : KeyOf) → look_in new q ≡ (if same_key q key then Some outcome else look_in old q)
+
+-- the same, where the old ones have no pair of the key; else they have what they had
+abbrev pub HasPutIfAbsent : KeyOf → OutcomeOf → EntriesOf → EntriesOf → Type 0
+HasPutIfAbsent key outcome old new = (q : KeyOf) → look_in new q ≡ option_or (look_in old q) (if same_key q key then Some outcome else None)
 
 abbrev pub HasOwnKeys : PartOf → Type 0
 HasOwnKeys p = IsUnique (key_eq.eq-value).it p
@@ -54,6 +65,10 @@ pub record AreParts (modes : List KeyMode) (parts : List PartOf) (count : ℕ) (
 -- a pair that is to be stored
 abbrev pub staged_of : Staged → PairOf
 staged_of s = record { loader = s.loader; key = cache_of s.key; outcome = outcome_of s.outcome }
+
+-- the pairs of a reply were added to those that are to be stored
+abbrev pub AddsReply : KeyMode → Reply → List Staged → List Staged → Type 0
+AddsReply mode r old new = map staged_of new ≡ map staged_of old ++ reply_pairs mode r.loader (map key_of r.keys.items) (map outcome_of r.outcomes.items)
 
 -- how many of these are of the loader of a number
 abbrev pub count_at : ℕ → List Staged → ℕ

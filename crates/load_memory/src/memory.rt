@@ -1,8 +1,8 @@
 //! The memory: a finite map from a loader's number and a cache key to an outcome.
-ghost use Rattle.std.specs.Prelude.{IsTrue, ◌↔◌, ◌≡◌, ◌==◌, ◌<◌, [], All, map, length, Some, IfOk, OnOk, OnErr, is_some, is_none, option_map, option_copied, slice_get, if◌then◌else◌, ℕ};
-ghost use Rattle.load_memory.specs.Keys.{KeyOf, cache_of};
+ghost use Rattle.std.specs.Prelude.{IsTrue, ◌↔◌, ◌≡◌, ◌==◌, ◌<◌, [], All, map, length, Some, IfOk, OnOk, OnErr, is_some, is_none, option_map, option_copied, slice_get};
+ghost use Rattle.load_memory.specs.Keys.{cache_of};
 ghost use Rattle.load_memory.specs.Outcomes.{known, outcome_of, item_of};
-ghost use Rattle.load_memory.specs.Pairs.{pair_of, look, primed, IsSameMap, AreApart, IsWithout, is_key, unless_failed, IsUnfailed, IsWith};
+ghost use Rattle.load_memory.specs.Pairs.{pair_of, look, primed, IsSameMap, AreApart, IsWithout, is_key, IsUnfailed, IsUnfailedAt, IsWith};
 ghost use Rattle.load_memory.specs.Parts.{staged_of};
 ghost use Rattle.load_memory.specs.Replies.{reply_of, pairs_of};
 ghost use Rattle.load_memory.specs.Shelves.{IsOn, shown};
@@ -101,7 +101,7 @@ impl Memory {
     /// and nothing changes.
     pub fn prime(&mut self, loader: usize, key: CacheKey, item: Item) -> Result<bool, NoMemory>
         requires { loader < length self.old.modes }
-        ensures told { IfOk result (λ added. added ≡ is_none (look self.old.pairs loader (cache_of key))) }
+        ensures found { IfOk result (λ added. added ≡ is_none (look self.old.pairs loader (cache_of key))) }
         ensures pairs { OnOk result (IsSameMap self.new.pairs
             (primed self.old.pairs (pair_of loader (cache_of key) (known (item_of item))))) }
         ensures modes { self.new.modes ≡ self.old.modes }
@@ -119,7 +119,7 @@ impl Memory {
     /// Forgets a loader's key. Returns true if it was known.
     pub fn clear(&mut self, loader: usize, key: &CacheKey) -> bool
         requires { loader < length self.old.modes }
-        ensures told { result ≡ is_some (look self.old.pairs loader (cache_of key.now)) }
+        ensures found { result ≡ is_some (look self.old.pairs loader (cache_of key.now)) }
         ensures pairs { IsWithout (is_key loader (cache_of key.now)) self.old.pairs self.new.pairs }
         ensures modes { self.new.modes ≡ self.old.modes }
     {
@@ -157,8 +157,7 @@ impl Memory {
 
     fn drop_failed_at(&mut self, loader: usize)
         requires { loader < length self.old.modes }
-        ensures pairs { (l : ℕ) (key : KeyOf) → look self.new.pairs l key
-            ≡ (if loader == l then unless_failed (look self.old.pairs l key) else look self.old.pairs l key) }
+        ensures pairs { IsUnfailedAt loader self.old.pairs self.new.pairs }
         ensures modes { self.new.modes ≡ self.old.modes }
     {
         self.count -= drop_failed_of(&mut self.parts[loader]);

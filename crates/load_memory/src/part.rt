@@ -1,11 +1,10 @@
 //! One loader's part of the memory, and the pairs that are to be stored in it.
-ghost use Rattle.std.specs.Prelude.{◌≡◌, ◌<◌, ◌≤◌, ◌+◌, length, ℕ, None, Some, IfOk, OnOk, OnErr, IsOk, is_some, is_none, if◌then◌else◌};
-ghost use Rattle.std.specs.Option.{option_or};
+ghost use Rattle.std.specs.Prelude.{◌≡◌, ◌<◌, ◌≤◌, ◌+◌, length, ℕ, None, IfOk, OnOk, OnErr, IsOk, is_some, is_none, if◌then◌else◌};
 ghost use Rattle.std.specs.HashMap.{IsUnchanged, spare};
 ghost use Rattle.load_memory.specs.Keys.{KeyOf, cache_of, same_key};
 ghost use Rattle.load_memory.specs.Outcomes.{outcome_of};
 ghost use Rattle.load_memory.specs.Pairs.{unless_failed};
-ghost use Rattle.load_memory.specs.Parts.{look_in, HasOwnKeys};
+ghost use Rattle.load_memory.specs.Parts.{look_in, HasOwnKeys, HasPut, HasPutIfAbsent};
 
 use crate::key::CacheKey;
 use crate::no_memory::NoMemory;
@@ -26,9 +25,7 @@ pub(crate) struct Staged {
 /// Puts a pair whose key is absent.
 pub(crate) fn put_absent(part: &mut Part, key: CacheKey, outcome: Outcome) -> Result<(), NoMemory>
     requires { look_in part.old.entries (cache_of key) ≡ None }
-    ensures pairs { OnOk result ((q : KeyOf) → look_in part.new.entries q
-        ≡ (if same_key q (cache_of key) then Some (outcome_of outcome)
-        else look_in part.old.entries q)) }
+    ensures pairs { OnOk result (HasPut (cache_of key) (outcome_of outcome) part.old.entries part.new.entries) }
     ensures count { OnOk result (length part.new.entries ≡ length part.old.entries + 1) }
     ensures own_keys { OnOk result (HasOwnKeys part.new) }
     ensures kept { OnErr result (IsUnchanged part.old part.new) }
@@ -43,9 +40,8 @@ pub(crate) fn put_absent(part: &mut Part, key: CacheKey, outcome: Outcome) -> Re
 pub(crate) fn put(part: &mut Part, key: CacheKey, outcome: Outcome) -> bool
     requires room { 0 < spare part.old }
     requires own_keys { HasOwnKeys part.old }
-    ensures told { result ≡ is_none (look_in part.old.entries (cache_of key)) }
-    ensures pairs { (q : KeyOf) → look_in part.new.entries q ≡ option_or (look_in part.old.entries q)
-        (if same_key q (cache_of key) then Some (outcome_of outcome) else None) }
+    ensures found { result ≡ is_none (look_in part.old.entries (cache_of key)) }
+    ensures pairs { HasPutIfAbsent (cache_of key) (outcome_of outcome) part.old.entries part.new.entries }
     ensures count { length part.new.entries ≡ length part.old.entries + (if result then 1 else 0) }
     ensures own_keys { HasOwnKeys part.new }
     ensures room { spare part.old ≤ spare part.new + 1 }
@@ -61,7 +57,7 @@ pub(crate) fn put(part: &mut Part, key: CacheKey, outcome: Outcome) -> bool
 
 /// Takes a pair out, where its key is there.
 pub(crate) fn take_out(part: &mut Part, key: &CacheKey) -> bool
-    ensures told { result ≡ is_some (look_in part.old.entries (cache_of key.now)) }
+    ensures found { result ≡ is_some (look_in part.old.entries (cache_of key.now)) }
     ensures pairs { (q : KeyOf) → look_in part.new.entries q
         ≡ (if same_key (cache_of key.now) q then None else look_in part.old.entries q) }
     ensures count { length part.new.entries + (if result then 1 else 0) ≡ length part.old.entries }

@@ -1,10 +1,7 @@
 //! Storing many pairs, all or none.
-ghost use Rattle.std.specs.Prelude.{◌≡◌, ◌<◌, ◌≤◌, ◌+◌, ◌++◌, false, ℕ, All, map, length, IfOk, OnOk, slice_index};
-ghost use Rattle.load_memory.specs.Keys.{key_of};
-ghost use Rattle.load_memory.specs.Outcomes.{outcome_of};
+ghost use Rattle.std.specs.Prelude.{◌≡◌, ◌<◌, ◌≤◌, ◌+◌, false, ℕ, All, map, length, IfOk, OnOk, slice_index};
 ghost use Rattle.load_memory.specs.Pairs.{IsSameMap, IsWith};
-ghost use Rattle.load_memory.specs.Parts.{HaveOwnKeys, HaveRoom, room_at, count_at, pairs_from, staged_of, AreUnfailed};
-ghost use Rattle.load_memory.specs.Replies.{reply_pairs};
+ghost use Rattle.load_memory.specs.Parts.{HaveOwnKeys, HaveRoom, room_at, count_at, pairs_from, staged_of, AreUnfailed, AddsReply};
 
 use crate::key::{CacheKey, KeyMode, cache_key};
 use crate::no_memory::NoMemory;
@@ -14,9 +11,7 @@ use std::alloc::Global;
 
 /// Adds the pairs of a reply, place by place, to those that are to be stored.
 pub(crate) fn stage(pairs: &mut Vec<Staged>, mode: KeyMode, reply: &Reply) -> Result<(), NoMemory>
-    ensures { OnOk result (map staged_of pairs.new.items ≡ map staged_of pairs.old.items
-        ++ reply_pairs mode reply.now.loader (map key_of reply.now.keys.items)
-        (map outcome_of reply.now.outcomes.items)) }
+    ensures { OnOk result (AddsReply mode reply.now pairs.old.items pairs.new.items) }
 {
     let alloc = *pairs.allocator();
     let mut outcomes = reply.outcomes.iter();
@@ -39,9 +34,7 @@ pub(crate) fn stage_owned(
     mode: KeyMode,
     reply: Reply,
 ) -> Result<(), NoMemory>
-    ensures { OnOk result (map staged_of pairs.new.items ≡ map staged_of pairs.old.items
-        ++ reply_pairs mode reply.loader (map key_of reply.keys.items)
-        (map outcome_of reply.outcomes.items)) }
+    ensures { OnOk result (AddsReply mode reply pairs.old.items pairs.new.items) }
 {
     let Reply {
         loader,

@@ -1,5 +1,5 @@
 -- The pieces of keys that are cut off the front, one after another.
-use Rattle.std.proofs.Common.{◌≡◌, ℕ, zero, suc, ◌<◌, ◌≤◌, min, List, [], ◌∷◌, ◌++◌, map, length, take, drop, refl, ap, arith, length-drop, append_assoc, None, ◌∙◌, Option, Some, inl, inr}
+use Rattle.std.proofs.Common.{◌≡◌, ℕ, zero, suc, ◌<◌, ◌≤◌, min, List, [], ◌∷◌, ◌++◌, map, length, take, drop, refl, ap, arith, length-drop, append_assoc, sym, None, ◌∙◌, Option, Some, inl, inr}
 use Rattle.std.proofs.Math.ListN.{drop_of_length-le}
 use Rattle.std.proofs.Math.Nat.{le_refl}
 use Rattle.std.proofs.lemmas.List.{append-nil, take-append-drop, length-append, length-take, take-map, drop-map, length-map}
@@ -122,3 +122,7 @@ are-batches (Some n) (k ∷ keys) positive =
 pub keys-of-orders : (loader : ℕ) (cut : List (List KeyOf)) → map (λ (o : OrderOf). o.keys) (map (order_of loader) cut) ≡ cut
 keys-of-orders loader [] = refl
 keys-of-orders loader (p ∷ ps) = ap (λ qs. p ∷ qs) (keys-of-orders loader ps)
+
+-- Keys that fit into one piece are one.
+pub all-fit : {X K : Type 0} (v : X → K) (n : ℕ) → 0 < n → (keys : List X) → 0 < length keys → length keys ≤ n → left v n keys ≡ map v keys ∷ []
+all-fit v n positive keys some le = left-step v n positive keys keys [] (sym (append-nil keys)) (omega (arith, le)) some

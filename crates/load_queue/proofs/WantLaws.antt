@@ -15,14 +15,13 @@ any-map f g h same [] = refl
 any-map f g h same (x ∷ xs) = rw (same x, any-map f g h same xs) refl
 
 -- the set has a cache key where a key with an equal cache key is in the list
-pub seen-wanted : (mode : KeyMode) (seen : List CacheKey) (keys : List Key) (cached : CacheKey) (key : Key) → map cache_of seen ≡ map (λ k. folded mode (key_of k)) keys → cache_of cached ≡ folded mode (key_of key)
+pub seen-wanted : (mode : KeyMode) (seen : List CacheKey) (keys : List Key) (cached : CacheKey) (key : Key) → map cache_of seen ≡ map (folded mode) (map key_of keys) → cache_of cached ≡ folded mode (key_of key)
     → list_any ((cache_eq.eq-value).it cached) seen ≡ is_wanted (record { mode = mode; keys = map key_of keys }) (key_of key)
 seen-wanted mode seen keys cached key lined is =
     let test : KeyOf → Bool = same_key (folded mode (key_of key)) in
     any-map ((cache_eq.eq-value).it cached) test cache_of (λ x. cache-eq cached x ∙ ap (λ k. same_key k (cache_of x)) is) seen
     ∙ ap (list_any test) lined
-    ∙ sym (any-map (λ (k : Key). test (folded mode (key_of k))) test (λ k. folded mode (key_of k)) (λ x. refl) keys)
-    ∙ any-map (λ (k : Key). test (folded mode (key_of k))) (λ k. test (folded mode k)) key_of (λ x. refl) keys
+    ∙ sym (any-map (λ (k : KeyOf). test (folded mode k)) test (folded mode) (λ x. refl) (map key_of keys))
 
 pub with-new : (w : WantedOf) (key : KeyOf) → is_wanted w key ≡ false → with_key w key ≡ record { mode = w.mode; keys = w.keys ++ key ∷ [] }
 with-new w key e = rw e refl

@@ -1,5 +1,5 @@
 -- What contracts see of a loader and of the entries of its log.
-use Rattle.std.specs.Prelude.{◌≡◌, ◌==◌, ◌<◌, ◌⊎◌, ◌++◌, ℕ, Bool, true, false, List, Option, Some, None, map, if◌then◌else◌}
+use Rattle.std.specs.Prelude.{◌≡◌, ◌==◌, ◌<◌, ◌⊎◌, ◌++◌, ℕ, Bool, true, false, List, [], Option, Some, None, map, if◌then◌else◌}
 use Rattle.load_memory.specs.Keys.{KeyOf}
 use Rattle.load_memory.specs.declared.key.KeyMode.{KeyMode}
 use Rattle.load_queue.specs.Batches.{batches}
@@ -32,6 +32,10 @@ marked round entry = if entry.round == round then record entry { stored = true }
 -- the loader once the outcomes of this round are stored
 abbrev pub stored_in : {S : Type 0} → LoaderOf S → ℕ → LoaderOf S
 stored_in l round = record l { log = map (marked round) l.log }
+
+-- the loader with nothing in its log
+abbrev pub unasked : {S : Type 0} → LoaderOf S → LoaderOf S
+unasked l = record l { log = [] }
 
 -- a limit that no loader may have
 abbrev pub IsBadLimit : Option ℕ → Type 0

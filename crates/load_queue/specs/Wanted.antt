@@ -1,5 +1,5 @@
 -- The keys that are wanted of each loader: in order, of equal cache keys only the first.
-use Rattle.std.specs.Prelude.{ℕ, zero, suc, Bool, false, List, [], ◌∷◌, ◌++◌, if◌then◌else◌}
+use Rattle.std.specs.Prelude.{◌≡◌, ◌⊎◌, map, length, ℕ, zero, suc, Bool, false, List, [], ◌∷◌, ◌++◌, if◌then◌else◌}
 use Rattle.std.specs.List.{list_any}
 use Rattle.load_memory.specs.Keys.{KeyOf, folded, same_key}
 use Rattle.load_memory.specs.declared.key.KeyMode.{KeyMode}
@@ -11,6 +11,10 @@ pub record WantedOf : Type 0 where
 
 abbrev pub nothing_wanted : KeyMode → WantedOf
 nothing_wanted mode = record { mode = mode; keys = [] }
+
+-- the cache keys that were seen are those of the keys, or none was seen and there is one key
+abbrev pub HaveSeen : KeyMode → List KeyOf → List KeyOf → Type 0
+HaveSeen mode seen keys = (seen ≡ map (folded mode) keys) ⊎ ((seen ≡ []) × (length keys ≡ 1))
 
 -- whether a key with an equal cache key is wanted
 abbrev pub is_wanted : WantedOf → KeyOf → Bool

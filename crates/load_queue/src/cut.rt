@@ -1,5 +1,5 @@
 //! The pieces of a loader's keys, as orders and as entries of its log.
-ghost use Rattle.std.specs.Prelude.{◌≡◌, ◌<◌, ℕ, Some, IfOk, map, length};
+ghost use Rattle.std.specs.Prelude.{◌≡◌, ◌<◌, ◌≤◌, ℕ, Some, IfOk, map, length};
 ghost use Rattle.load_memory.specs.Keys.{key_of};
 ghost use Rattle.load_queue.specs.Batches.{pieces, batches};
 ghost use Rattle.load_queue.specs.Orders.{order_of};
@@ -47,6 +47,44 @@ pub(crate) fn log_entries(
 
 /// An order of each piece, which has the keys themselves.
 pub(crate) fn cut_orders(
+    alloc: Global,
+    loader: usize,
+    keys: Vec<Key>,
+    most: usize,
+) -> Result<Vec<Order>, NoMemory>
+    requires { 0 < most }
+    ensures { IfOk result (λ orders. orders.items
+        ≡ map (order_of loader) (pieces (length keys.items) most (map key_of keys.items))) }
+{
+    if keys.len() <= most {
+        one_order(alloc, loader, keys, most)
+    } else {
+        cut_pieces(alloc, loader, keys, most)
+    }
+}
+
+// The order of all keys, whose list it takes over. No keys make no order.
+fn one_order(
+    alloc: Global,
+    loader: usize,
+    keys: Vec<Key>,
+    most: usize,
+) -> Result<Vec<Order>, NoMemory>
+    requires positive { 0 < most }
+    requires fits { length keys.items ≤ most }
+    ensures { IfOk result (λ orders. orders.items
+        ≡ map (order_of loader) (pieces (length keys.items) most (map key_of keys.items))) }
+{
+    if keys.is_empty() {
+        return Ok(Vec::new(alloc));
+    }
+    let mut orders = Vec::with_capacity(alloc, 1)?;
+    orders.push(Order::new(loader, keys))?;
+    Ok(orders)
+}
+
+// An order of each piece. The keys move into lists of their own.
+fn cut_pieces(
     alloc: Global,
     loader: usize,
     keys: Vec<Key>,

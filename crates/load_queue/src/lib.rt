@@ -15,7 +15,7 @@ pub mod per_key;
 pub mod source;
 pub mod wants;
 
-pub use loader::{Asked, Loader, QueueFault};
+pub use loader::{Asked, Loader, MAX_LIMIT, QueueFault};
 pub use order::Order;
 pub use per_key::PerKey;
 pub use source::{Asks, FetchFault, Source};

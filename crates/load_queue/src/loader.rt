@@ -36,7 +36,10 @@ impl From<AllocError> for QueueFault {
 }
 
 /// The largest batch limit.
-const LARGEST_LIMIT: u32 = 65_535;
+pub const MAX_LIMIT: u32 = 65_535;
+
+/// How many entries a log may have for its memory to be kept when the loader starts again.
+const KEPT_ENTRIES: usize = 64;
 
 /// What was asked of a loader's source in one batch.
 #[derive(Debug, Drop)]
@@ -97,7 +100,7 @@ fn mark(log: &mut Vec<Asked>, first: usize, round: u32)
 
 impl<S> Loader<S> {
     ghost use Rattle.load_queue.specs.Logs.{asked_of};
-    ghost use Rattle.load_queue.specs.Loaders.{asked_in, stored_in};
+    ghost use Rattle.load_queue.specs.Loaders.{asked_in, stored_in, unasked};
 
     /// The name that it was made with.
     pub fn name(&self) -> &str
@@ -183,6 +186,19 @@ impl<S> Loader<S> {
         };
         mark(&mut self.log, first, round);
     }
+
+    /// Forgets what was asked: the loader is as it was made. A short log keeps its memory for what is asked next.
+    pub fn restart(&mut self)
+        ensures { self.new ≡ unasked self.old }
+    {
+        if self.log.len() > KEPT_ENTRIES {
+            self.log = Vec::new(*self.log.allocator());
+        } else {
+            self.log.clear();
+        }
+        self.latest = 0;
+        self.earlier = 0;
+    }
 }
 
 impl<S: Drop> Loader<S> {
@@ -202,7 +218,7 @@ impl<S: Drop> Loader<S> {
         ensures refused { IsErrOf result QueueFault.BadLimit ↔ IsBadLimit max }
     {
         if let Some(limit) = max
-            && (limit == 0 || limit > LARGEST_LIMIT)
+            && (limit == 0 || limit > MAX_LIMIT)
         {
             return Err(QueueFault::BadLimit);
         }

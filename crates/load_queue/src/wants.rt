@@ -1,7 +1,7 @@
 //! The keys that are wanted of each loader, in order, of equal cache keys only the first.
 ghost use Rattle.std.specs.Prelude.{◌≡◌, ◌<◌, IfOk, OnOk, OnErr, length, map, not};
-ghost use Rattle.load_memory.specs.Keys.{key_of};
-ghost use Rattle.load_queue.specs.Wanted.{nothing_wanted, is_wanted, with_key, keys_wanted, is_key_wanted, with_wanted, taken_from};
+ghost use Rattle.load_memory.specs.Keys.{key_of, cache_of, folded};
+ghost use Rattle.load_queue.specs.Wanted.{nothing_wanted, HaveSeen, is_wanted, with_key, keys_wanted, is_key_wanted, with_wanted, taken_from};
 
 use indexmap::IndexSet;
 use load_memory::{CacheKey, Key, KeyMode, Memory, NoMemory, cache_key};
@@ -14,20 +14,39 @@ use std::mem;
 struct Wanted {
     mode: KeyMode,
     keys: Vec<Key>,
-    // the keys' cache keys, in the same order
+    // the keys' cache keys, in the same order; none of a first key that is the only one so far
     seen: IndexSet<CacheKey>,
 }
 
 impl Model for Wanted {
-    ghost use Rattle.std.specs.Prelude.{map, ◌≡◌};
-    ghost use Rattle.load_memory.specs.Keys.{key_of, cache_of, folded};
-    ghost use Rattle.load_queue.specs.Wanted.{WantedOf};
+    ghost use Rattle.std.specs.Prelude.{map};
+    ghost use Rattle.load_memory.specs.Keys.{key_of, cache_of};
+    ghost use Rattle.load_queue.specs.Wanted.{WantedOf, HaveSeen};
 
     ghost Value = { WantedOf };
 
     ghost view = { λ w. record { mode = w.mode; keys = map key_of w.keys.items } };
 
-    ghost invariant = { λ w. map cache_of w.seen.keys ≡ map (λ k. folded w.mode (key_of k)) w.keys.items };
+    ghost invariant = { λ w. HaveSeen w.mode (map cache_of w.seen.keys) (map key_of w.keys.items) };
+}
+
+// Sees the first key, if it is the only one and wasn't seen.
+fn see_first(
+    alloc: Global,
+    mode: KeyMode,
+    keys: &[Key],
+    seen: &mut IndexSet<CacheKey>,
+) -> Result<(), NoMemory>
+    requires some { 0 < length keys.now }
+    requires seen { HaveSeen mode (map cache_of seen.old.keys) (map key_of keys.now) }
+    ensures all { OnOk result (map cache_of seen.new.keys ≡ map (folded mode) (map key_of keys.now)) }
+    ensures kept { OnErr result (HaveSeen mode (map cache_of seen.new.keys) (map key_of keys.now)) }
+{
+    if seen.is_empty() {
+        let first = cache_key(alloc, &keys[0], mode)?;
+        seen.insert(first)?;
+    }
+    Ok(())
 }
 
 impl Wanted {
@@ -59,11 +78,17 @@ impl Wanted {
     }
 
     fn add(&mut self, key: Key) -> Result<bool, NoMemory>
-        ensures told { IfOk result (λ added. added ≡ not (is_wanted self.old (key_of key))) }
+        ensures added { IfOk result (λ added. added ≡ not (is_wanted self.old (key_of key))) }
         ensures after { OnOk result (self.new ≡ with_key self.old (key_of key)) }
         ensures kept { OnErr result (self.new ≡ self.old) }
     {
-        let cached = cache_key(*self.keys.allocator(), &key, self.mode)?;
+        if self.keys.is_empty() {
+            self.keys.push(key)?;
+            return Ok(true);
+        }
+        let alloc = *self.keys.allocator();
+        see_first(alloc, self.mode, &self.keys, &mut self.seen)?;
+        let cached = cache_key(alloc, &key, self.mode)?;
         self.keys.reserve(1)?;
         let added = self.seen.insert(cached)?;
         if !added {
@@ -124,7 +149,7 @@ impl Wants {
     /// were.
     pub fn add(&mut self, loader: usize, key: Key) -> Result<bool, NoMemory>
         requires { loader < length self.old }
-        ensures told { IfOk result (λ added. added ≡ not (is_key_wanted self.old loader (key_of key))) }
+        ensures added { IfOk result (λ added. added ≡ not (is_key_wanted self.old loader (key_of key))) }
         ensures after { OnOk result (self.new ≡ with_wanted self.old loader (key_of key)) }
         ensures loaders { length self.new ≡ length self.old }
         ensures kept { OnErr result (self.new ≡ self.old) }

@@ -15,7 +15,7 @@ use Rattle.execution.specs.Program.{Program, needs}
 use Rattle.execution.specs.Completion.{AnsweredOf}
 use Rattle.execution.specs.Front.{front, missing, wanting, modes_wanted, keys_for}
 use Rattle.execution.specs.Rounds.{RuleOf, rule_of, modes_of, round_orders, may_at, AreReplies, AreRounds, AreLimited, HasLoaders, after_round, without_failed}
-use Rattle.execution.specs.Sessions.{Forgot, Asked}
+use Rattle.execution.specs.Sessions.{Forgot, AskedLoads}
 use Rattle.execution.proofs.OnceLaws.{asked-once, answered-in}
 use Rattle.execution.proofs.RoundLaws.{rounds-chain, rounds-sparing, rounds-more}
 use Rattle.execution.proofs.Wanting.{wanting-front, wanting-firsts}
@@ -71,9 +71,9 @@ module _ {S : Type 0} (may : S → List KeyOf → AnswerOf → Type 0) where
   }
 
   steps-more : (others : ℕ → List KeyOf → AnswerOf → Type 0) (rules : List RuleOf) (p : Program) (M mid : Memory) (log : List (List ReplyOf)) (r : List ReplyOf) (s : StateOf S) → AreRounds others rules p M log mid
-      → after_steps s (asked_steps rules p M (log ++ r ∷ [])) ≡ after_step (after_steps s (asked_steps rules p M log)) (Asked (front (modes_of rules) p mid) r)
-  steps-more others rules p M mid [] r s k = let same : M ≡ mid = fun_ext (λ l. fun_ext (λ q. sym (k l q))) in ap (λ (N : Memory). after_step s (Asked (front (modes_of rules) p N) r)) same
-  steps-more others rules p M mid (first ∷ log) r s k = steps-more others rules p (after_round rules M first) mid log r (after_step s (Asked (front (modes_of rules) p M) first)) k.2
+      → after_steps s (asked_steps rules p M (log ++ r ∷ [])) ≡ after_step (after_steps s (asked_steps rules p M log)) (AskedLoads (front (modes_of rules) p mid) r)
+  steps-more others rules p M mid [] r s k = let same : M ≡ mid = fun_ext (λ l. fun_ext (λ q. sym (k l q))) in ap (λ (N : Memory). after_step s (AskedLoads (front (modes_of rules) p N) r)) same
+  steps-more others rules p M mid (first ∷ log) r s k = steps-more others rules p (after_round rules M first) mid log r (after_step s (AskedLoads (front (modes_of rules) p M) first)) k.2
 
   -- one round more
   pub in-more : (old cur new : StateOf S) (p : Program) (rounds next : ℕ) → InRounds old cur p rounds → next ≡ rounds + 1 → front (session_modes cur) p cur.memory ≢ [] → RoundRan may cur new (front (session_modes cur) p cur.memory) → InRounds old new p next
@@ -84,13 +84,13 @@ module _ {S : Type 0} (may : S → List KeyOf → AnswerOf → Type 0) where
       let r : List ReplyOf = ran.replies in
       let same : session_modes cur ≡ session_modes old = ap modes_of is.rules in
       let asked : AreReplies (may_at may old.loaders) (round_orders (rules_of cur) loads) r = replies-over old.loaders cur.loaders is.sources (round_orders (rules_of cur) loads) r ran.answered in
-      let told : AreReplies (may_at may old.loaders) (round_orders rules (front (modes_of rules) p cur.memory)) r = rw is.rules at asked in
+      let report : AreReplies (may_at may old.loaders) (round_orders rules (front (modes_of rules) p cur.memory)) r = rw is.rules at asked in
       let lacks : front (modes_of rules) p cur.memory ≢ [] = λ e. some (ap (λ ms. front ms p cur.memory) same ∙ e) in
       let memory : new.memory ≡ after_round rules cur.memory r = ap (λ (s : StateOf S). s.memory) ran.after ∙ ap (λ rs. after_round rs cur.memory r) is.rules in
-      let grown : AreRounds (may_at may old.loaders) rules p M0 (is.log ++ r ∷ []) (after_round rules cur.memory r) = rounds-more (may_at may old.loaders) rules p M0 cur.memory is.log r is.made.rounds lacks told in
+      let grown : AreRounds (may_at may old.loaders) rules p M0 (is.log ++ r ∷ []) (after_round rules cur.memory r) = rounds-more (may_at may old.loaders) rules p M0 cur.memory is.log r is.made.rounds lacks report in
       let front-same : loads ≡ front (modes_of rules) p cur.memory = ap (λ ms. front ms p cur.memory) same in
       let after : new ≡ after_steps (after_step old Forgot) (asked_steps rules p M0 (is.log ++ r ∷ [])) =
-      ran.after ∙ ap (λ (s : StateOf S). after_step s (Asked loads r)) is.made.after ∙ ap (λ ls. after_step (after_steps (after_step old Forgot) (asked_steps rules p M0 is.log)) (Asked ls r)) front-same
+      ran.after ∙ ap (λ (s : StateOf S). after_step s (AskedLoads loads r)) is.made.after ∙ ap (λ ls. after_step (after_steps (after_step old Forgot) (asked_steps rules p M0 is.log)) (AskedLoads ls r)) front-same
       ∙ sym (steps-more (may_at may old.loaders) rules p M0 cur.memory is.log r (after_step old Forgot) is.made.rounds) in
       record {
         log = is.log ++ r ∷ [];

@@ -14,7 +14,7 @@ use Rattle.load_queue.proofs.PieceLaws.{are-batches}
 use Rattle.execution.specs.Loads.{Load, Memory, read, IsOneOf}
 use Rattle.execution.specs.Front.{keys_for, missing}
 use Rattle.execution.specs.Rounds.{rule_of, orders_from, round_orders, AreLimited}
-use Rattle.execution.specs.Sessions.{Cell, key_cell, cell_of, AreApart, order_cells, Step, Forgot, Asked, Lost, Primed, Cleared, ClearedAll, AreMissing}
+use Rattle.execution.specs.Sessions.{Cell, key_cell, cell_of, AreApart, order_cells, Step, Forgot, AskedLoads, Lost, Primed, Cleared, ClearedAll, AreMissing}
 use Rattle.execution.proofs.Same.{one-left, one-right, one-either}
 use Rattle.execution.proofs.ReplyLaws.{firsts-apart}
 use Rattle.load_rounds.specs.Sessions.{StateOf, rules_of, entry, logged_from, after_step, after_steps}
@@ -84,7 +84,7 @@ module _ {S : Type 0} where
   new_entries (Some l) stored round keys = map (entry stored round) (batches l.limit keys)
 
   abbrev step_entries : StateOf S → ℕ → Step → List AskedOf
-  step_entries s n (Asked loads replies) = new_entries (slice_get s.loaders n) true (s.rounds + 1) (keys_for n loads)
+  step_entries s n (AskedLoads loads replies) = new_entries (slice_get s.loaders n) true (s.rounds + 1) (keys_for n loads)
   step_entries s n (Lost loads) = new_entries (slice_get s.loaders n) false (s.rounds + 1) (keys_for n loads)
   step_entries s n Forgot = []
   step_entries s n (Primed pair) = []
@@ -103,7 +103,7 @@ module _ {S : Type 0} where
 
   step-log : (s : StateOf S) (n : ℕ) (step : Step) → log_of (after_step s step) n ≡ log_of s n ++ step_entries s n step
   step-log s n Forgot = sym (append-nil (log_of s n))
-  step-log s n (Asked loads replies) = logged-at 0 n n true (s.rounds + 1) (λ m. keys_for m loads) s.loaders (omega arith)
+  step-log s n (AskedLoads loads replies) = logged-at 0 n n true (s.rounds + 1) (λ m. keys_for m loads) s.loaders (omega arith)
   step-log s n (Lost loads) = logged-at 0 n n false (s.rounds + 1) (λ m. keys_for m loads) s.loaders (omega arith)
   step-log s n (Primed pair) = sym (append-nil (log_of s n))
   step-log s n (Cleared cell) = sym (append-nil (log_of s n))
@@ -148,7 +148,7 @@ module _ {S : Type 0} (modes : List KeyMode) (n : ℕ) where
   loader_cells None loads = []
   loader_cells (Some l) loads = map (key_cell modes n) (keys_for n loads)
 
-  asked-cells : (s : StateOf S) (loads : List Load) (replies : List ReplyOf) → AreLimited (rules_of s) → step_cells s (Asked loads replies) ≡ loader_cells (slice_get s.loaders n) loads
+  asked-cells : (s : StateOf S) (loads : List Load) (replies : List ReplyOf) → AreLimited (rules_of s) → step_cells s (AskedLoads loads replies) ≡ loader_cells (slice_get s.loaders n) loads
   asked-cells s loads replies limited = go (slice_get s.loaders n) refl where
     go : (x : Option (LoaderOf S)) → slice_get s.loaders n ≡ x → entered_cells modes n (of_stored (new_entries x true (s.rounds + 1) (keys_for n loads))) ≡ loader_cells x loads
     go None e = refl
@@ -163,7 +163,7 @@ module _ {S : Type 0} (modes : List KeyMode) (n : ℕ) where
     go (Some l) = ap (entered_cells modes n) (none-stored (s.rounds + 1) (batches l.limit (keys_for n loads)))
 
   -- what one round asks of a loader is apart
-  pub asked-apart : (s : StateOf S) (loads : List Load) (replies : List ReplyOf) (M : Memory) → AreLimited (rules_of s) → AreMissing modes M loads → AreApart (step_cells s (Asked loads replies))
+  pub asked-apart : (s : StateOf S) (loads : List Load) (replies : List ReplyOf) (M : Memory) → AreLimited (rules_of s) → AreMissing modes M loads → AreApart (step_cells s (AskedLoads loads replies))
   asked-apart s loads replies M limited lacks = rw (asked-cells s loads replies limited) (go (slice_get s.loaders n)) where
     go : (x : Option (LoaderOf S)) → AreApart (loader_cells x loads)
     go None = tt
@@ -183,7 +183,7 @@ module _ {S : Type 0} (modes : List KeyMode) (n : ℕ) where
       let later = in-orders (suc m) i xs l loads c limited.1 (omega (arith, e)) at one in
       rw (order-append modes (map (order_of m) ps) (orders_from (suc m) (map rule_of xs) loads)) (one-right c (order_cells modes (map (order_of m) ps)) (order_cells modes (orders_from (suc m) (map rule_of xs) loads)) later)
 
-  pub asked-orders : (s : StateOf S) (loads : List Load) (replies : List ReplyOf) (c : Cell) → AreLimited (rules_of s) → IsOneOf c (step_cells s (Asked loads replies)) → IsOneOf c (order_cells modes (round_orders (rules_of s) loads))
+  pub asked-orders : (s : StateOf S) (loads : List Load) (replies : List ReplyOf) (c : Cell) → AreLimited (rules_of s) → IsOneOf c (step_cells s (AskedLoads loads replies)) → IsOneOf c (order_cells modes (round_orders (rules_of s) loads))
   asked-orders s loads replies c limited one = go (slice_get s.loaders n) refl (rw (asked-cells s loads replies limited) at one) where
     go : (x : Option (LoaderOf S)) → slice_get s.loaders n ≡ x → IsOneOf c (loader_cells x loads) → IsOneOf c (order_cells modes (round_orders (rules_of s) loads))
     go None e h = absurd h
@@ -198,7 +198,7 @@ module _ {S : Type 0} (modes : List KeyMode) (n : ℕ) where
     pub loads : List Load
     pub replies : List ReplyOf
     pub rest : List Step
-    pub is : steps ≡ before ++ Asked loads replies ∷ rest
+    pub is : steps ≡ before ++ AskedLoads loads replies ∷ rest
     pub ordered : IsOneOf c (order_cells modes (round_orders (rules_of s) loads))
 
   pub asked-in : (s : StateOf S) (steps : List Step) (c : Cell) → AreLimited (rules_of s) → IsOneOf c (all_cells s steps) → AskedIn s steps c
@@ -212,7 +212,7 @@ module _ {S : Type 0} (modes : List KeyMode) (n : ℕ) where
 
       go : (step : Step) → IsOneOf c (step_cells s step) ⊎ IsOneOf c (all_cells (after_step s step) steps) → (IsOneOf c (all_cells (after_step s step) steps) → AskedIn (after_step s step) steps c) → rules_of (after_step s step) ≡ rules_of s → AskedIn s (step ∷ steps) c
       go step (inr i) more same = later step (more i) same
-      go (Asked loads replies) (inl i) more same = record { before = []; loads = loads; replies = replies; rest = steps; is = refl; ordered = asked-orders s loads replies c limited i }
+      go (AskedLoads loads replies) (inl i) more same = record { before = []; loads = loads; replies = replies; rest = steps; is = refl; ordered = asked-orders s loads replies c limited i }
       go (Lost loads) (inl i) more same = absurd (lost-none s loads c i)
       go Forgot (inl i) more same = absurd i
       go (Primed pair) (inl i) more same = absurd i

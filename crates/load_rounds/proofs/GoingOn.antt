@@ -19,8 +19,8 @@ use Rattle.execution.proofs.Wanting.{wanting-firsts, with-modes}
 use Rattle.gq_resolve.specs.Evaluated.{GrowsTo}
 use Rattle.load_rounds.specs.Sessions.{StateOf, session_modes}
 use Rattle.load_rounds.specs.Headline.{IsTextOf}
-use Rattle.load_rounds.specs.SharedRounds.{RequestOf, ToldOf, request_of, told_of, requests, needs_of_all, front_of_all, items_from, together}
-use Rattle.load_rounds.specs.Together.{PartOf, IsDone, TellsAt, FindsAll, fronts, plans_in, told_in, given_to, some_untold, FitsPart, FitParts, GoesOn, GoOn}
+use Rattle.load_rounds.specs.SharedRounds.{RequestOf, ReportOf, request_of, report_of, requests, needs_of_all, front_of_all, items_from, together}
+use Rattle.load_rounds.specs.Together.{PartOf, IsDone, TellsAt, FindsAll, fronts, plans_in, reports_in, given_to, some_unreported, FitsPart, FitParts, GoesOn, GoOn}
 use Rattle.load_rounds.specs.declared.answer.Answer.{Answer}
 use Rattle.load_rounds.proofs.Following.{nothing-modes, rules-size, wants-are}
 use Rattle.load_rounds.proofs.Lacking.{missing-append, wanting-append, length-wanting}
@@ -89,11 +89,11 @@ module _ {P E : Type 0} (program : P → Program) (text_of : P → AnsweredOf �
   go-on-length (suc n) rounds m (x ∷ xs) (y ∷ ys) h = ap suc (go-on-length n rounds m xs ys h.1)
 
   -- the next of them is as it was
-  pub next-fits : (n rounds : ℕ) (m : MemoryOf) (xs ys : List (PartOf P E)) (d : PartOf P E) → n < length ys → d ≡ get_or ys n d → FirstGoOn n rounds m xs ys → FitParts program text_of loaders fits xs m → FitsPart program text_of loaders fits d.plan d.progress d.told m
+  pub next-fits : (n rounds : ℕ) (m : MemoryOf) (xs ys : List (PartOf P E)) (d : PartOf P E) → n < length ys → d ≡ get_or ys n d → FirstGoOn n rounds m xs ys → FitParts program text_of loaders fits xs m → FitsPart program text_of loaders fits d.plan d.progress d.report m
   next-fits n rounds m [] [] d lt at h fit = absurd (omega (arith, lt))
   next-fits n rounds m [] (y ∷ ys) d lt at h fit = absurd h
   next-fits n rounds m (x ∷ xs) [] d lt at h fit = absurd h
-  next-fits zero rounds m (x ∷ xs) (y ∷ ys) d lt at h fit = subst (λ (z : PartOf P E). FitsPart program text_of loaders fits z.plan z.progress z.told m) (h.0 ∙ sym at) fit.0
+  next-fits zero rounds m (x ∷ xs) (y ∷ ys) d lt at h fit = subst (λ (z : PartOf P E). FitsPart program text_of loaders fits z.plan z.progress z.report m) (h.0 ∙ sym at) fit.0
   next-fits (suc n) rounds m (x ∷ xs) (y ∷ ys) d lt at h fit = next-fits n rounds m xs ys d (omega (arith, lt)) at h.1 fit.1
 
   pub next-enough : (n rounds count : ℕ) (m : MemoryOf) (xs ys : List (PartOf P E)) (d : PartOf P E) → n < length ys → d ≡ get_or ys n d → FirstGoOn n rounds m xs ys → All (λ plan. loaders plan ≤ count) (plans_in xs) → loaders d.plan ≤ count
@@ -165,47 +165,47 @@ module _ {P E : Type 0} (program : P → Program) (text_of : P → AnsweredOf �
       ]
 
   -- where each has its answer, nothing is missing
-  told-none : (rounds : ℕ) (loads : List Load) (old new : Option ToldOf) → TellsAt rounds loads old new → is_none new ≡ false → loads ≡ []
-  told-none rounds loads old None h e = absurd (cc e)
-  told-none rounds loads old (Some t) h e = h.0
+  report-none : (rounds : ℕ) (loads : List Load) (old new : Option ReportOf) → TellsAt rounds loads old new → is_none new ≡ false → loads ≡ []
+  report-none rounds loads old None h e = absurd (cc e)
+  report-none rounds loads old (Some t) h e = h.0
 
-  told-some : (rounds : ℕ) (loads : List Load) (old new : Option ToldOf) → TellsAt rounds loads old new → is_none new ≡ true → loads ≢ []
-  told-some rounds loads old None h e = h.0
-  told-some rounds loads old (Some t) h e = absurd (cc e)
+  report-some : (rounds : ℕ) (loads : List Load) (old new : Option ReportOf) → TellsAt rounds loads old new → is_none new ≡ true → loads ≢ []
+  report-some rounds loads old None h e = h.0
+  report-some rounds loads old (Some t) h e = absurd (cc e)
 
-  gone-closed : (n rounds : ℕ) (m : MemoryOf) (xs ys : List (PartOf P E)) → GoOn program text_of loaders fits rounds m xs ys → some_untold ys ≡ false → any_open (trees (items_from n (requests program text_of (plans_in xs))) (read m.modes (look m.pairs))) ≡ false
+  gone-closed : (n rounds : ℕ) (m : MemoryOf) (xs ys : List (PartOf P E)) → GoOn program text_of loaders fits rounds m xs ys → some_unreported ys ≡ false → any_open (trees (items_from n (requests program text_of (plans_in xs))) (read m.modes (look m.pairs))) ≡ false
   gone-closed n rounds m [] [] h e = refl
   gone-closed n rounds m [] (y ∷ ys) h e = absurd h
   gone-closed n rounds m (x ∷ xs) [] h e = absurd h
   gone-closed n rounds m (x ∷ xs) (y ∷ ys) h e =
-      let parts = or-left (is_none y.told) (some_untold ys) e in
-      let own : is_open (tree (program x.plan) (read m.modes (look m.pairs))) ≡ false = (front-open m.modes (program x.plan) (look m.pairs)).0 (told-none rounds (front m.modes (program x.plan) (look m.pairs)) x.told y.told h.0.told parts.0) in
+      let parts = or-left (is_none y.report) (some_unreported ys) e in
+      let own : is_open (tree (program x.plan) (read m.modes (look m.pairs))) ≡ false = (front-open m.modes (program x.plan) (look m.pairs)).0 (report-none rounds (front m.modes (program x.plan) (look m.pairs)) x.report y.report h.0.report parts.0) in
       rw (own, gone-closed (suc n) rounds m xs ys h.1 parts.1) refl
 
-  pub gone-lacks-none : (rounds : ℕ) (m : MemoryOf) (xs ys : List (PartOf P E)) → GoOn program text_of loaders fits rounds m xs ys → some_untold ys ≡ false → front m.modes (together (requests program text_of (plans_in xs))) (look m.pairs) ≡ []
+  pub gone-lacks-none : (rounds : ℕ) (m : MemoryOf) (xs ys : List (PartOf P E)) → GoOn program text_of loaders fits rounds m xs ys → some_unreported ys ≡ false → front m.modes (together (requests program text_of (plans_in xs))) (look m.pairs) ≡ []
   gone-lacks-none rounds m xs ys h e = (front-open m.modes (together (requests program text_of (plans_in xs))) (look m.pairs)).1 (gone-closed 0 rounds m xs ys h e)
 
   -- where one has no answer, something is missing for it
-  pub front-below : (n rounds : ℕ) (m : MemoryOf) (xs ys : List (PartOf P E)) → GoOn program text_of loaders fits rounds m xs ys → some_untold ys ≡ true
+  pub front-below : (n rounds : ℕ) (m : MemoryOf) (xs ys : List (PartOf P E)) → GoOn program text_of loaders fits rounds m xs ys → some_unreported ys ≡ true
       → (p : Program) × IsBelow p (items_from n (requests program text_of (plans_in xs))) × (front m.modes p (look m.pairs) ≢ [])
   front-below n rounds m [] [] h e = absurd (cc e)
   front-below n rounds m [] (y ∷ ys) h e = absurd h
   front-below n rounds m (x ∷ xs) [] h e = absurd h
-  front-below n rounds m (x ∷ xs) (y ∷ ys) h e = go (is_none y.told) refl e (front-below (suc n) rounds m xs ys h.1)
+  front-below n rounds m (x ∷ xs) (y ∷ ys) h e = go (is_none y.report) refl e (front-below (suc n) rounds m xs ys h.1)
     where
-      go : (b : Bool) → is_none y.told ≡ b → (b || some_untold ys) ≡ true → (some_untold ys ≡ true → (p : Program) × IsBelow p (items_from (suc n) (requests program text_of (plans_in xs))) × (front m.modes p (look m.pairs) ≢ []))
+      go : (b : Bool) → is_none y.report ≡ b → (b || some_unreported ys) ≡ true → (some_unreported ys ≡ true → (p : Program) × IsBelow p (items_from (suc n) (requests program text_of (plans_in xs))) × (front m.modes p (look m.pairs) ≢ []))
           → (p : Program) × IsBelow p (items_from n (requests program text_of (plans_in (x ∷ xs)))) × (front m.modes p (look m.pairs) ≢ [])
-      go true is e later = (program x.plan, inl refl, told-some rounds (front m.modes (program x.plan) (look m.pairs)) x.told y.told h.0.told is)
+      go true is e later = (program x.plan, inl refl, report-some rounds (front m.modes (program x.plan) (look m.pairs)) x.report y.report h.0.report is)
       go false is e later = let rest = later e in (rest.0, inr rest.1, rest.2)
 
-  pub gone-lacks : (rounds : ℕ) (m : MemoryOf) (xs ys : List (PartOf P E)) → GoOn program text_of loaders fits rounds m xs ys → some_untold ys ≡ true → front m.modes (together (requests program text_of (plans_in xs))) (look m.pairs) ≢ []
+  pub gone-lacks : (rounds : ℕ) (m : MemoryOf) (xs ys : List (PartOf P E)) → GoOn program text_of loaders fits rounds m xs ys → some_unreported ys ≡ true → front m.modes (together (requests program text_of (plans_in xs))) (look m.pairs) ≢ []
   gone-lacks rounds m xs ys h e =
       let one = front-below 0 rounds m xs ys h e in
       λ none. one.2 (below-front m.modes ListOf (items_from 0 (requests program text_of (plans_in xs))) one.0 (look m.pairs) one.1 none)
 
 -- what was known stays known
-done-later : (loaders : ℕ) (r : RequestOf) (m later : MemoryOf) (told : ToldOf) → IsDone loaders r m told → GrowsTo m later → IsDone loaders r later told
-done-later loaders r m later told done grown =
+done-later : (loaders : ℕ) (r : RequestOf) (m later : MemoryOf) (report : ReportOf) → IsDone loaders r m report → GrowsTo m later → IsDone loaders r later report
+done-later loaders r m later report done grown =
     let more = reads-more m.modes (look m.pairs) (look later.pairs) grown.pairs in
     let closed = (front-open m.modes r.program (look m.pairs)).0 done.complete in
     record {
@@ -213,53 +213,53 @@ done-later loaders r m later told done grown =
       answered = record {
         answered = done.answered.answered;
         executed = rw grown.modes (exec-stays r.program (read m.modes (look m.pairs)) (read m.modes (look later.pairs)) more closed ∙ done.answered.executed);
-        told = done.answered.told;
+        report = done.answered.report;
       };
       within = done.within;
     }
 
-pub told-is : (o : Option Answer) (b : Bool) → b ≡ is_some o → b ≡ true → is_some (option_map told_of o) ≡ true
-told-is None b e t = sym e ∙ t
-told-is (Some a) b e t = refl
+pub report-is : (o : Option Answer) (b : Bool) → b ≡ is_some o → b ≡ true → is_some (option_map report_of o) ≡ true
+report-is None b e t = sym e ∙ t
+report-is (Some a) b e t = refl
 
-pub untold-is : (o : Option Answer) (b : Bool) → b ≡ is_some o → b ≡ false → option_map told_of o ≡ None
-untold-is None b e f = refl
-untold-is (Some a) b e f = absurd (cc (sym e ∙ f))
+pub unreported-is : (o : Option Answer) (b : Bool) → b ≡ is_some o → b ≡ false → option_map report_of o ≡ None
+unreported-is None b e f = refl
+unreported-is (Some a) b e f = absurd (cc (sym e ∙ f))
 
 module _ {P E : Type 0} (program : P → Program) (text_of : P → AnsweredOf → List ℕ) (loaders : P → ℕ) (fits : P → E → MemoryOf → Type 0) (rounds : ℕ) (m : MemoryOf) (plan : P) where
   -- an answer stays
-  pub part-kept : (progress : E) (told : Option ToldOf) → is_some told ≡ true → FitsPart program text_of loaders fits plan progress told m
-      → GoesOn program text_of loaders fits rounds m (record { plan = plan; progress = progress; told = told }) (record { plan = plan; progress = progress; told = told })
+  pub part-kept : (progress : E) (report : Option ReportOf) → is_some report ≡ true → FitsPart program text_of loaders fits plan progress report m
+      → GoesOn program text_of loaders fits rounds m (record { plan = plan; progress = progress; report = report }) (record { plan = plan; progress = progress; report = report })
   part-kept progress None there fit = absurd (cc there)
-  part-kept progress (Some told) there fit = record {
+  part-kept progress (Some report) there fit = record {
     same = refl;
-    told = (fit.complete, inl refl);
-    fitting = λ later grown. done-later (loaders plan) (request_of (program plan) (text_of plan)) m later told fit grown;
+    report = (fit.complete, inl refl);
+    fitting = λ later grown. done-later (loaders plan) (request_of (program plan) (text_of plan)) m later report fit grown;
     within = fit.within;
   }
 
-  pub part-front : (progress : E) (told : Option ToldOf) → is_some told ≡ true → FitsPart program text_of loaders fits plan progress told m → front m.modes (program plan) (look m.pairs) ≡ []
+  pub part-front : (progress : E) (report : Option ReportOf) → is_some report ≡ true → FitsPart program text_of loaders fits plan progress report m → front m.modes (program plan) (look m.pairs) ≡ []
   part-front progress None there fit = absurd (cc there)
-  part-front progress (Some told) there fit = fit.complete
+  part-front progress (Some report) there fit = fit.complete
 
   -- nothing is missing for it any more
-  pub part-ready : (before progress : E) (old : Option ToldOf) (told : ToldOf) → old ≡ None → told.rounds ≡ rounds → front m.modes (program plan) (look m.pairs) ≡ [] → IsTextOf (text_of plan) (program plan) (read m.modes (look m.pairs)) told.text → HasLoaders (loaders plan) (program plan)
-      → GoesOn program text_of loaders fits rounds m (record { plan = plan; progress = before; told = old }) (record { plan = plan; progress = progress; told = Some told })
-  part-ready before progress old told none counted complete answered within = record {
+  pub part-ready : (before progress : E) (old : Option ReportOf) (report : ReportOf) → old ≡ None → report.rounds ≡ rounds → front m.modes (program plan) (look m.pairs) ≡ [] → IsTextOf (text_of plan) (program plan) (read m.modes (look m.pairs)) report.text → HasLoaders (loaders plan) (program plan)
+      → GoesOn program text_of loaders fits rounds m (record { plan = plan; progress = before; report = old }) (record { plan = plan; progress = progress; report = Some report })
+  part-ready before progress old report none counted complete answered within = record {
     same = refl;
-    told = (complete, inr (none, counted));
-    fitting = λ later grown. done-later (loaders plan) (request_of (program plan) (text_of plan)) m later told (record { complete = complete; answered = answered; within = within }) grown;
+    report = (complete, inr (none, counted));
+    fitting = λ later grown. done-later (loaders plan) (request_of (program plan) (text_of plan)) m later report (record { complete = complete; answered = answered; within = within }) grown;
     within = within;
   }
 
   -- something is missing for it
-  pub part-waits : (before progress : E) (old : Option ToldOf) → old ≡ None → front m.modes (program plan) (look m.pairs) ≢ [] → ((later : MemoryOf) → GrowsTo m later → fits plan progress later) → HasLoaders (loaders plan) (program plan)
-      → GoesOn program text_of loaders fits rounds m (record { plan = plan; progress = before; told = old }) (record { plan = plan; progress = progress; told = old })
-  part-waits before progress old none lacks fitting within = rw none (record { same = refl; told = (lacks, refl); fitting = fitting; within = within })
+  pub part-waits : (before progress : E) (old : Option ReportOf) → old ≡ None → front m.modes (program plan) (look m.pairs) ≢ [] → ((later : MemoryOf) → GrowsTo m later → fits plan progress later) → HasLoaders (loaders plan) (program plan)
+      → GoesOn program text_of loaders fits rounds m (record { plan = plan; progress = before; report = old }) (record { plan = plan; progress = progress; report = old })
+  part-waits before progress old none lacks fitting within = rw none (record { same = refl; report = (lacks, refl); fitting = fitting; within = within })
 
-  pub part-fits : (progress : E) (told : Option ToldOf) → told ≡ None → FitsPart program text_of loaders fits plan progress told m → fits plan progress m
+  pub part-fits : (progress : E) (report : Option ReportOf) → report ≡ None → FitsPart program text_of loaders fits plan progress report m → fits plan progress m
   part-fits progress None none fit = fit
-  part-fits progress (Some told) none fit = absurd (cc none)
+  part-fits progress (Some report) none fit = absurd (cc none)
 
 -- the wants of all are those of the front
 pub found-wants : {S P : Type 0} (program : P → Program) (text_of : P → AnsweredOf → List ℕ) (m : MemoryOf) (s : StateOf S) (plans : List P) (none wants : List WantedOf) → m.modes ≡ session_modes s → look m.pairs ≡ s.memory → none ≡ map nothing_wanted m.modes
@@ -282,23 +282,23 @@ found-none p s (Some w) other found = absurd (other w refl)
 
 -- one more has begun, of which nothing is done
 pub fit-more : {P E : Type 0} (program : P → Program) (text_of : P → AnsweredOf → List ℕ) (loaders : P → ℕ) (fits : P → E → MemoryOf → Type 0) (m : MemoryOf) (xs : List (PartOf P E)) (plan : P) (progress : E) → FitParts program text_of loaders fits xs m → fits plan progress m
-    → FitParts program text_of loaders fits (xs ++ record { plan = plan; progress = progress; told = None } ∷ []) m
+    → FitParts program text_of loaders fits (xs ++ record { plan = plan; progress = progress; report = None } ∷ []) m
 fit-more program text_of loaders fits m [] plan progress fit own = (own, tt)
 fit-more program text_of loaders fits m (x ∷ xs) plan progress fit own = (fit.0, fit-more program text_of loaders fits m xs plan progress fit.1 own)
 
-pub untold-begun : {P E : Type 0} (xs : List (PartOf P E)) (plan : P) (progress : E) → told_in (xs ++ record { plan = plan; progress = progress; told = None } ∷ []) ≡ told_in xs
-untold-begun [] plan progress = refl
-untold-begun (x ∷ xs) plan progress = ap (λ ts. given_to x.told ++ ts) (untold-begun xs plan progress)
+pub unreported-begun : {P E : Type 0} (xs : List (PartOf P E)) (plan : P) (progress : E) → reports_in (xs ++ record { plan = plan; progress = progress; report = None } ∷ []) ≡ reports_in xs
+unreported-begun [] plan progress = refl
+unreported-begun (x ∷ xs) plan progress = ap (λ ts. given_to x.report ++ ts) (unreported-begun xs plan progress)
 
 -- whether one of the first so many has no answer
-pub untold-more : {X : Type 0} (f : X → Bool) (n next : ℕ) (xs : List X) (y : X) (b : Bool) → next ≡ suc n → n < length xs → b ≡ list_any f (take n xs) → (b || f y) ≡ list_any f (take next (slice_set xs n y))
-untold-more f n next [] y b is lt e = absurd (omega (arith, lt))
-untold-more f zero next (x ∷ xs) y b is lt e = rw (is, e) (or-none (f y))
+pub unreported-more : {X : Type 0} (f : X → Bool) (n next : ℕ) (xs : List X) (y : X) (b : Bool) → next ≡ suc n → n < length xs → b ≡ list_any f (take n xs) → (b || f y) ≡ list_any f (take next (slice_set xs n y))
+unreported-more f n next [] y b is lt e = absurd (omega (arith, lt))
+unreported-more f zero next (x ∷ xs) y b is lt e = rw (is, e) (or-none (f y))
   where
     or-none : (c : Bool) → c ≡ (c || false)
     or-none true = refl
     or-none false = refl
-untold-more f (suc n) next (x ∷ xs) y b is lt e = rw (is, e) (or-assoc (f x) (list_any f (take n xs)) (f y) ∙ ap (λ c. f x || c) (untold-more f n (suc n) xs y (list_any f (take n xs)) refl (omega (arith, lt)) refl))
+unreported-more f (suc n) next (x ∷ xs) y b is lt e = rw (is, e) (or-assoc (f x) (list_any f (take n xs)) (f y) ∙ ap (λ c. f x || c) (unreported-more f n (suc n) xs y (list_any f (take n xs)) refl (omega (arith, lt)) refl))
   where
     or-assoc : (a c d : Bool) → ((a || c) || d) ≡ (a || (c || d))
     or-assoc true c d = refl

@@ -11,7 +11,7 @@ use Rattle.execution.specs.Loads.{Load, Memory, read, same}
 use Rattle.execution.specs.Program.{Program, needs}
 use Rattle.execution.specs.Front.{missing, firsts, front}
 use Rattle.execution.specs.Rounds.{RuleOf, modes_of, round_orders, may_at, AreRounds, after_round, without_failed}
-use Rattle.execution.specs.Sessions.{Step, Forgot, Asked, Lost, Primed, Cleared, ClearedAll, after, AreMissing, IsStep, AreSteps}
+use Rattle.execution.specs.Sessions.{Step, Forgot, AskedLoads, Lost, Primed, Cleared, ClearedAll, after, AreMissing, IsStep, AreSteps}
 use Rattle.execution.proofs.Same.{same-is}
 use Rattle.load_rounds.specs.Sessions.{StateOf, rules_of, session_modes, after_step, after_steps, of_first}
 use Rattle.load_rounds.specs.Calls.{load_of, asked_for, AsksOnce, RoundLost, IsStopped}
@@ -51,7 +51,7 @@ asking-rounds rules p M (r ∷ rs) = asking-rounds rules p (after_round rules M 
 
 asking-append : (xs ys : List Step) → AreAsking xs → AreAsking ys → AreAsking (xs ++ ys)
 asking-append [] ys h k = k
-asking-append (Asked loads replies ∷ xs) ys h k = asking-append xs ys h k
+asking-append (AskedLoads loads replies ∷ xs) ys h k = asking-append xs ys h k
 asking-append (Lost loads ∷ xs) ys h k = asking-append xs ys h k
 asking-append (Forgot ∷ xs) ys h k = absurd h
 asking-append (Primed pair ∷ xs) ys h k = absurd h
@@ -110,7 +110,7 @@ module _ {S : Type 0} where
     where
       one : (s : StateOf S) (step : Step) → (after_step s step).memory ≡ after (rules_of s) s.memory step
       one s Forgot = refl
-      one s (Asked loads replies) = refl
+      one s (AskedLoads loads replies) = refl
       one s (Lost loads) = refl
       one s (Primed pair) = refl
       one s (Cleared cell) = refl
@@ -124,7 +124,7 @@ module _ {S : Type 0} where
     -- what may be over the loaders as they are may be over them as they were
     over-step : (old cur : List (LoaderOf S)) → SameSources old cur → (rules : List RuleOf) (M : Memory) (step : Step) → IsStep (may_at may cur) rules M step → IsStep (may_at may old) rules M step
     over-step old cur from rules M Forgot h = tt
-    over-step old cur from rules M (Asked loads replies) h = (h.0, replies-over may old cur from (round_orders rules loads) replies h.1)
+    over-step old cur from rules M (AskedLoads loads replies) h = (h.0, replies-over may old cur from (round_orders rules loads) replies h.1)
     over-step old cur from rules M (Lost loads) h = h
     over-step old cur from rules M (Primed pair) h = tt
     over-step old cur from rules M (Cleared cell) h = tt
@@ -157,7 +157,7 @@ module _ {S : Type 0} where
 
     asks-leads : (old new : StateOf S) (loads : List Load) → AreMissing (session_modes old) old.memory loads → AsksOnce may old new loads → (steps : List Step) × Leads may old steps new × AreAsking steps
     asks-leads old new [] lacks h = ([], record { after = h; may_be = tt }, tt)
-    asks-leads old new (l ∷ ls) lacks h = (Asked (l ∷ ls) h.replies ∷ [], record { after = h.after; may_be = ((lacks, h.answered), tt) }, tt)
+    asks-leads old new (l ∷ ls) lacks h = (AskedLoads (l ∷ ls) h.replies ∷ [], record { after = h.after; may_be = ((lacks, h.answered), tt) }, tt)
 
     lost-leads : (old new : StateOf S) (loads : List Load) → AreMissing (session_modes old) old.memory loads → RoundLost old new loads → (steps : List Step) × Leads may old steps new × AreAsking steps
     lost-leads old new loads lacks h =
@@ -205,7 +205,7 @@ module _ {S : Type 0} where
     call-leads Forgetting old new h = ([], record { after = h; may_be = (tt, tt) }, refl)
     call-leads (Executing p text_of text rounds) old new h = made-leads old new p h.log h.made
     call-leads (StoppedExecuting p) old new h = stops-leads old new p h
-    call-leads (ExecutingTogether rs told) old new h = made-leads old new (together rs) h.log h.made
+    call-leads (ExecutingTogether rs reports) old new h = made-leads old new (together rs) h.log h.made
     call-leads (Running p rounds stage) old new h = stops-leads old new p (run-stops may p old new rounds stage h)
 
     pub calls-lead : (calls : List Call) (old new : StateOf S) → AreCalls may calls old new → (steps : List Step) × Leads may old steps new × AreMadeOf calls steps

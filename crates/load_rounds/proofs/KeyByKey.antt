@@ -42,17 +42,17 @@ some-same a b e = cc e
 none-some : {X : Type 0} (a : X) → None ≡ Some a → ⊥
 none-some a e = cc e
 
-module _ {S : Type 0} (may : S → List KeyOf → AnswerOf → Type 0) (item : S → KeyOf → ItemOf) (told : (s : S) (keys : List KeyOf) (answer : AnswerOf) → may s keys answer → answer ≡ given (map (item s) keys)) where
+module _ {S : Type 0} (may : S → List KeyOf → AnswerOf → Type 0) (item : S → KeyOf → ItemOf) (by_key : (s : S) (keys : List KeyOf) (answer : AnswerOf) → may s keys answer → answer ≡ given (map (item s) keys)) where
   -- what the source of a number may answer is what its items are, key by key
-  pub may-told : (loaders : List (LoaderOf S)) (loader : ℕ) (keys : List KeyOf) (answer : AnswerOf) → may_at may loaders loader keys answer → key_by_key (item_over item loaders) loader keys answer
-  may-told loaders loader keys answer h =
-      told h.0.source keys answer h.2 ∙ ap (λ (o : Option (LoaderOf S)). given (map (item_of_loader item o) keys)) (sym h.1)
+  pub may-report : (loaders : List (LoaderOf S)) (loader : ℕ) (keys : List KeyOf) (answer : AnswerOf) → may_at may loaders loader keys answer → key_by_key (item_over item loaders) loader keys answer
+  may-report loaders loader keys answer h =
+      by_key h.0.source keys answer h.2 ∙ ap (λ (o : Option (LoaderOf S)). given (map (item_of_loader item o) keys)) (sym h.1)
 
   -- the log of an answer is lawful over sources that answer key by key
-  pub lawful-told : (old new : StateOf S) (p : Program) (text_of : AnsweredOf → List ℕ) (text : List ℕ) (rounds : ℕ) (h : Headline may old new p text_of text rounds)
+  pub lawful-report : (old new : StateOf S) (p : Program) (text_of : AnsweredOf → List ℕ) (text : List ℕ) (rounds : ℕ) (h : Headline may old new p text_of text rounds)
       → IsLawful (key_by_key (item_over item old.loaders)) (rules_of old) p (without_failed old.memory) h.log new.memory
-  lawful-told old new p text_of text rounds h = (
-    rounds-weaker (may_at may old.loaders) (key_by_key (item_over item old.loaders)) (may-told old.loaders) (rules_of old) p (without_failed old.memory) h.log new.memory h.made.rounds,
+  lawful-report old new p text_of text rounds h = (
+    rounds-weaker (may_at may old.loaders) (key_by_key (item_over item old.loaders)) (may-report old.loaders) (rules_of old) p (without_failed old.memory) h.log new.memory h.made.rounds,
     h.complete,
   )
 
@@ -60,7 +60,7 @@ module _ {S : Type 0} (may : S → List KeyOf → AnswerOf → Type 0) (item : S
   module _ (old new other : StateOf S) (p : Program) (text_of : AnsweredOf → List ℕ) (text more : List ℕ) (rounds count : ℕ) (h : Headline may old new p text_of text rounds) (k : Headline may old other p text_of more count) where
     same-log : h.log ≡ k.log
     same-log =
-        (one-log (item_over item old.loaders) (rules_of old) p (without_failed old.memory) h.log k.log new.memory other.memory (lawful-told old new p text_of text rounds h) (lawful-told old other p text_of more count k)).0
+        (one-log (item_over item old.loaders) (rules_of old) p (without_failed old.memory) h.log k.log new.memory other.memory (lawful-report old new p text_of text rounds h) (lawful-report old other p text_of more count k)).0
 
     pub one-state : new ≡ other
     one-state = h.made.after ∙ ap (λ log. after_steps old (Forgot ∷ asked_steps (rules_of old) p (without_failed old.memory) log)) same-log ∙ sym k.made.after
@@ -71,7 +71,7 @@ module _ {S : Type 0} (may : S → List KeyOf → AnswerOf → Type 0) (item : S
     pub one-text : text ≡ more
     one-text =
         let same : Some (h.answered).answered ≡ Some (k.answered).answered = sym (h.answered).executed ∙ ap (λ (s : StateOf S). exec p (read (session_modes old) s.memory)) one-state ∙ (k.answered).executed in
-        (h.answered).told ∙ ap text_of (some-same (h.answered).answered (k.answered).answered same) ∙ sym (k.answered).told
+        (h.answered).report ∙ ap text_of (some-same (h.answered).answered (k.answered).answered same) ∙ sym (k.answered).report
 
   -- keys that are one for their loader have one item
   module _ (mode_of : S → KeyMode) (respects : (s : S) (j k : KeyOf) → folded (mode_of s) j ≡ folded (mode_of s) k → item s j ≡ item s k) where
@@ -94,5 +94,5 @@ module _ {S : Type 0} (may : S → List KeyOf → AnswerOf → Type 0) (item : S
     pub text-direct : (old new : StateOf S) (p : Program) (text_of : AnsweredOf → List ℕ) (text : List ℕ) (rounds : ℕ) → CompareAlike mode_of old.loaders → HoldsItems (session_modes old) (item_over item old.loaders) (without_failed old.memory)
         → Headline may old new p text_of text rounds → IsTextOf text_of p (direct (item_over item old.loaders)) text
     text-direct old new p text_of text rounds alike first h =
-        let same = log-direct (item_over item old.loaders) (rules_of old) p (respects-alike old.loaders alike) (without_failed old.memory) h.log new.memory first (lawful-told old new p text_of text rounds h) in
-        record { answered = (h.answered).answered; executed = sym same ∙ (h.answered).executed; told = (h.answered).told }
+        let same = log-direct (item_over item old.loaders) (rules_of old) p (respects-alike old.loaders alike) (without_failed old.memory) h.log new.memory first (lawful-report old new p text_of text rounds h) in
+        record { answered = (h.answered).answered; executed = sym same ∙ (h.answered).executed; report = (h.answered).report }

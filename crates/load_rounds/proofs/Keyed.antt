@@ -8,14 +8,14 @@ use Rattle.load_memory.specs.Replies.{ReplyOf}
 use Rattle.load_memory.specs.declared.key.KeyMode.{KeyMode}
 use Rattle.load_queue.specs.Answers.{AnswerOf}
 use Rattle.execution.specs.Loads.{Load, Memory, Reader, read, IsOneOf}
-use Rattle.execution.specs.Program.{Program, Programs, Is, Read, Under, End, With, Null, ListOf, Item, Spot, given, all_needs}
+use Rattle.execution.specs.Program.{Program, Programs, Is, Read, Under, End, With, Null, ListOf, Item, FieldPosition, given, all_needs}
 use Rattle.execution.specs.Front.{missing, firsts, front, front_of_keys}
 use Rattle.execution.specs.Rounds.{RuleOf, modes_of, round_orders, AreReplies, AreLimited, HasLoaders, after_round, pairs_of}
 use Rattle.execution.proofs.ChainLaws.{covered}
 use Rattle.execution.proofs.RoundLaws.{round-fills, stored-extends}
 use Rattle.load_rounds.specs.Calls.{load_of}
 
-place : Spot
+place : FieldPosition
 place = record { part = Item 0; non_null = false; place = record { line = 1; column = 1 } }
 
 reading : ℕ → List KeyOf → Programs

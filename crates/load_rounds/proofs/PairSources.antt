@@ -6,7 +6,7 @@ use Rattle.load_memory.specs.Outcomes.{OutcomeOf, known, batch_fault}
 use Rattle.load_memory.specs.Pairs.{PairOf, look}
 use Rattle.execution.specs.Loads.{Memory, IsOneOf}
 use Rattle.execution.specs.Rounds.{RuleOf, modes_of, unless_failed, pairs_of}
-use Rattle.execution.specs.Sessions.{Step, Forgot, Asked, Lost, Primed, Cleared, ClearedAll, is_cell, after, IsAnsweredIn}
+use Rattle.execution.specs.Sessions.{Step, Forgot, AskedLoads, Lost, Primed, Cleared, ClearedAll, is_cell, after, IsAnsweredIn}
 use Rattle.execution.proofs.Same.{one-either}
 use Rattle.execution.proofs.ReplyLaws.{make, look-member, pairs-from}
 use Rattle.load_rounds.specs.Histories.{Call, Loading, StoppedLoading, Priming, Clearing, ClearingAll, Forgetting, Executing, StoppedExecuting, ExecutingTogether, Running, AreAsking, IsMadeOf, AreMadeOf, replies_of}
@@ -27,8 +27,8 @@ module _ (rules : List RuleOf) (loader : ℕ) (key : KeyOf) (o : OutcomeOf) wher
 
   step-from : (M : Memory) (step : Step) → after rules M step loader key ≡ Some o → IsFrom M (step ∷ [])
   step-from M Forgot e = inl (unfailed (M loader key) e)
-  step-from M (Asked loads replies) e = now (M loader key) refl e where
-    now : (x : Option OutcomeOf) → M loader key ≡ x → option_or x (look (pairs_of (modes_of rules) replies) loader key) ≡ Some o → IsFrom M (Asked loads replies ∷ [])
+  step-from M (AskedLoads loads replies) e = now (M loader key) refl e where
+    now : (x : Option OutcomeOf) → M loader key ≡ x → option_or x (look (pairs_of (modes_of rules) replies) loader key) ≡ Some o → IsFrom M (AskedLoads loads replies ∷ [])
     now None f a =
         let from = pairs-from (modes_of rules) (make loader key o) replies (look-member loader key o (pairs_of (modes_of rules) replies) a) in
         inr (inr (replies, inl refl, from.0, from.1, from.2))
@@ -46,7 +46,7 @@ module _ (rules : List RuleOf) (loader : ℕ) (key : KeyOf) (o : OutcomeOf) wher
   step-from M (ClearedAll n) e = inl (left-in (n == loader) (M loader key) e)
 
   more-replies : (step : Step) (steps : List Step) → IsAnsweredIn (modes_of rules) (make loader key o) (replies_of steps) → IsAnsweredIn (modes_of rules) (make loader key o) (replies_of (step ∷ steps))
-  more-replies (Asked loads replies) steps h = (h.0, inr h.1, h.2, h.3, h.4)
+  more-replies (AskedLoads loads replies) steps h = (h.0, inr h.1, h.2, h.3, h.4)
   more-replies (Lost loads) steps h = h
   more-replies Forgot steps h = h
   more-replies (Primed pair) steps h = h
@@ -54,7 +54,7 @@ module _ (rules : List RuleOf) (loader : ℕ) (key : KeyOf) (o : OutcomeOf) wher
   more-replies (ClearedAll n) steps h = h
 
   first-reply : (step : Step) (steps : List Step) → IsAnsweredIn (modes_of rules) (make loader key o) (replies_of (step ∷ [])) → IsAnsweredIn (modes_of rules) (make loader key o) (replies_of (step ∷ steps))
-  first-reply (Asked loads replies) steps h = go h.1 where
+  first-reply (AskedLoads loads replies) steps h = go h.1 where
     go : IsOneOf h.0 (replies ∷ []) → IsAnsweredIn (modes_of rules) (make loader key o) (replies ∷ replies_of steps)
     go (inl e) = (h.0, inl e, h.2, h.3, h.4)
     go (inr i) = absurd i
@@ -84,8 +84,8 @@ module _ (rules : List RuleOf) (loader : ℕ) (key : KeyOf) (o : OutcomeOf) wher
 -- what was primed was primed by a call
 asking-primes : (pair : PairOf) (steps : List Step) → AreAsking steps → IsOneOf (Primed pair) steps → ⊥
 asking-primes pair [] h i = i
-asking-primes pair (Asked loads replies ∷ steps) h (inl e) = cc e
-asking-primes pair (Asked loads replies ∷ steps) h (inr i) = asking-primes pair steps h i
+asking-primes pair (AskedLoads loads replies ∷ steps) h (inl e) = cc e
+asking-primes pair (AskedLoads loads replies ∷ steps) h (inr i) = asking-primes pair steps h i
 asking-primes pair (Lost loads ∷ steps) h (inl e) = cc e
 asking-primes pair (Lost loads ∷ steps) h (inr i) = asking-primes pair steps h i
 asking-primes pair (Forgot ∷ steps) h i = h
@@ -114,7 +114,7 @@ call-primes pair (ClearingAll n) own h i = go (rw h at i) where
 call-primes pair Forgetting own h i = let none = rw h at i in absurd none
 call-primes pair (Executing p text_of text rounds) own h i = absurd (asking-primes pair own h i)
 call-primes pair (StoppedExecuting p) own h i = absurd (asking-primes pair own h i)
-call-primes pair (ExecutingTogether rs told) own h i = absurd (asking-primes pair own h i)
+call-primes pair (ExecutingTogether rs reports) own h i = absurd (asking-primes pair own h i)
 call-primes pair (Running p rounds stage) own h i = absurd (asking-primes pair own h i)
 
 pub calls-prime : (pair : PairOf) (calls : List Call) (steps : List Step) → AreMadeOf calls steps → IsOneOf (Primed pair) steps → IsOneOf (Priming pair) calls

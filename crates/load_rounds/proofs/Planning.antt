@@ -12,9 +12,9 @@ use Rattle.gq_resolve.specs.Limited.{limited_answer, IsLimited}
 use Rattle.load_rounds.specs.Executes.{IsExecuted}
 
 pub executed : (old new : List WantedOf) (p : Program) (m : MemoryOf) (polled : Poll (String Global)) → IsWritten old new p m polled → IsExecuted answer_text old new p m polled
-executed old new p m (Ready text) h = (h.0, record { answered = h.1; executed = h.2; told = h.3 }, h.4)
+executed old new p m (Ready text) h = (h.0, record { answered = h.1; executed = h.2; report = h.3 }, h.4)
 executed old new p m Pending h = h
 
 pub executed-within : (most : ℕ) (old new : List WantedOf) (p : Program) (m : MemoryOf) (polled : Poll (String Global)) → IsLimited most old new p m polled → IsExecuted (limited_answer most) old new p m polled
-executed-within most old new p m (Ready text) h = (h.0, record { answered = h.1; executed = h.2; told = h.3 }, h.4)
+executed-within most old new p m (Ready text) h = (h.0, record { answered = h.1; executed = h.2; report = h.3 }, h.4)
 executed-within most old new p m Pending h = h

@@ -12,7 +12,7 @@ use Rattle.execution.specs.Rounds.{RuleOf, modes_of, may_at, round_orders, AreRe
 use Rattle.execution.specs.Sessions.{Step, Forgot, AreApart, asked_cells}
 use Rattle.load_rounds.specs.Sessions.{StateOf, rules_of, session_modes, after_steps}
 use Rattle.load_rounds.specs.Headline.{asked_steps, Headline}
-use Rattle.load_rounds.specs.SharedRounds.{RequestOf, ToldOf, items_from, together, greatest, AreShared, SharedHeadline}
+use Rattle.load_rounds.specs.SharedRounds.{RequestOf, ReportOf, items_from, together, greatest, AreShared, SharedHeadline}
 
 front-one : (modes : List KeyMode) (r : RequestOf) (M : Memory) → front modes (together (r ∷ [])) M ≡ front modes r.program M
 front-one modes r M = ap (λ ls. firsts modes (missing (read modes M) ls)) (append-nil (needs r.program (read modes M)))
@@ -45,8 +45,8 @@ own-all may rules p M [] end h = refl
 own-all may rules p M (r ∷ log) end h = omega (arith, one-some (front (modes_of rules) p M) h.0, own-all may rules p (after_round rules M r) log end h.2)
 
 module _ {S : Type 0} (may : S → List KeyOf → AnswerOf → Type 0) (old new : StateOf S) where
-  pub headline-one : (r : RequestOf) (told : ToldOf) → SharedHeadline may old new (r ∷ []) (told ∷ []) → Headline may old new r.program r.text_of told.text told.rounds
-  headline-one r told h =
+  pub headline-one : (r : RequestOf) (report : ReportOf) → SharedHeadline may old new (r ∷ []) (report ∷ []) → Headline may old new r.program r.text_of report.text report.rounds
+  headline-one r report h =
       let rules : List RuleOf = rules_of old in
       let M0 : Memory = without_failed old.memory in
       let same = λ (M : Memory). front-one (modes_of rules) r M in
@@ -66,8 +66,8 @@ module _ {S : Type 0} (may : S → List KeyOf → AnswerOf → Type 0) (old new 
         fewest = h.answers.0.fewest;
       }
 
-  pub headline-alone : (r : RequestOf) (told : ToldOf) → Headline may old new r.program r.text_of told.text told.rounds → SharedHeadline may old new (r ∷ []) (told ∷ [])
-  headline-alone r told h =
+  pub headline-alone : (r : RequestOf) (report : ReportOf) → Headline may old new r.program r.text_of report.text report.rounds → SharedHeadline may old new (r ∷ []) (report ∷ [])
+  headline-alone r report h =
       let rules : List RuleOf = rules_of old in
       let M0 : Memory = without_failed old.memory in
       let same = λ (M : Memory). sym (front-one (modes_of rules) r M) in
@@ -85,11 +85,11 @@ module _ {S : Type 0} (may : S → List KeyOf → AnswerOf → Type 0) (old new 
         longest = omega (arith, counted);
       }
 
-  greatest-chain : (log : List (List ReplyOf)) (n : ℕ) (rs : List RequestOf) (told : List ToldOf) → AreShared old new log rs told → greatest told ≤ all_chain (items_from n rs) (read (session_modes old) new.memory)
+  greatest-chain : (log : List (List ReplyOf)) (n : ℕ) (rs : List RequestOf) (reports : List ReportOf) → AreShared old new log rs reports → greatest reports ≤ all_chain (items_from n rs) (read (session_modes old) new.memory)
   greatest-chain log n [] [] h = omega arith
   greatest-chain log n [] (t ∷ ts) h = absurd h
   greatest-chain log n (r ∷ rs) [] h = absurd h
   greatest-chain log n (r ∷ rs) (t ∷ ts) h = let own = h.0.chained in omega (arith, own, greatest-chain log (suc n) rs ts h.1)
 
-  pub shared-chain : (rs : List RequestOf) (told : List ToldOf) (h : SharedHeadline may old new rs told) → length h.log ≤ chain (together rs) (read (session_modes old) new.memory)
-  shared-chain rs told h = let longest = h.longest in omega (arith, longest, greatest-chain h.log 0 rs told h.answers)
+  pub shared-chain : (rs : List RequestOf) (reports : List ReportOf) (h : SharedHeadline may old new rs reports) → length h.log ≤ chain (together rs) (read (session_modes old) new.memory)
+  shared-chain rs reports h = let longest = h.longest in omega (arith, longest, greatest-chain h.log 0 rs reports h.answers)

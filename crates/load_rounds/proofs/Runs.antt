@@ -17,7 +17,7 @@ use Rattle.execution.specs.Program.{Program}
 use Rattle.execution.specs.Completion.{AnsweredOf}
 use Rattle.execution.specs.Front.{front, keys_for}
 use Rattle.execution.specs.Rounds.{RuleOf, rule_of, modes_of, orders_from, round_orders, may_at, AreReplies, AreLimited, HasLoaders, after_round, without_failed}
-use Rattle.execution.specs.Sessions.{Forgot, Asked, Lost}
+use Rattle.execution.specs.Sessions.{Forgot, AskedLoads, Lost}
 use Rattle.execution.proofs.ChainLaws.{front-needs}
 use Rattle.execution.proofs.ReplyLaws.{reply-order}
 use Rattle.load_rounds.specs.Sessions.{StateOf, rules_of, session_modes, logged_from, made, of_first, after_step, after_steps, AreNumbered, IsSession}
@@ -53,12 +53,12 @@ module _ {S : Type 0} (rules : List RuleOf) (p : Program) where
   pub steps-rules : (s : StateOf S) (M : Memory) (log : List (List ReplyOf)) → rules_of (after_steps s (asked_steps rules p M log)) ≡ rules_of s
   steps-rules s M [] = refl
   steps-rules s M (r ∷ log) =
-      steps-rules (after_step s (Asked (front (modes_of rules) p M) r)) (after_round rules M r) log ∙ rules-logged true (s.rounds + 1) 0 (λ n. keys_for n (front (modes_of rules) p M)) s.loaders
+      steps-rules (after_step s (AskedLoads (front (modes_of rules) p M) r)) (after_round rules M r) log ∙ rules-logged true (s.rounds + 1) 0 (λ n. keys_for n (front (modes_of rules) p M)) s.loaders
 
   steps-sources : (s : StateOf S) (M : Memory) (log : List (List ReplyOf)) → SameSources s.loaders (after_steps s (asked_steps rules p M log)).loaders
   steps-sources s M [] i x at = (x, at, refl)
   steps-sources s M (r ∷ log) i x at =
-      let there = steps-sources (after_step s (Asked (front (modes_of rules) p M) r)) (after_round rules M r) log i x at in
+      let there = steps-sources (after_step s (AskedLoads (front (modes_of rules) p M) r)) (after_round rules M r) log i x at in
       let first = source-at true (s.rounds + 1) (λ n. keys_for n (front (modes_of rules) p M)) 0 s.loaders i there.0 there.1 in
       (first.0, first.1, there.2 ∙ first.2)
 
@@ -182,7 +182,7 @@ module _ {S : Type 0} where
 
   -- a round whose batches were entered, and then its replies stored, was run
   pub received-is : (b s : StateOf S) (loads : List Load) (shown replies : List ReplyOf) → s ≡ after_step b (Lost loads) → s.rounds ≡ b.rounds + 1 → AreNumbered b.rounds b.loaders → after_round (rules_of s) s.memory shown ≡ after_round (rules_of b) b.memory replies
-      → received s shown ≡ after_step b (Asked loads replies)
+      → received s shown ≡ after_step b (AskedLoads loads replies)
   received-is b s loads shown replies is counted numbered memory =
       let keys = λ (n : ℕ). keys_for n loads in
       let logs = ap (λ r. map (λ l. stored_in l r) s.loaders) counted ∙ ap (λ (t : StateOf S). map (λ l. stored_in l (b.rounds + 1)) t.loaders) is ∙ marked-round (b.rounds + 1) b.rounds 0 keys b.loaders (omega arith) numbered in
@@ -266,10 +266,10 @@ module _ {S : Type 0} where
           let moved = received-moved (may_at may s.loaders) s p h.replies shown limited h.fit h.moved in
           let memory = ap (λ (t : StateOf S). t.memory) moved ∙ ap (λ rs. after_round rs s.memory h.replies) out-rules ∙ ap (λ (M : Memory). after_round (rules_of b) M h.replies) out-memory in
           let fit : AreReplies (may_at may s.loaders) (round_orders (rules_of b) loads) h.replies = rw out-orders at h.fit in
-          let told : AreReplies (may_at may (after_step b (Lost loads)).loaders) (round_orders (rules_of b) loads) h.replies = rw is.entered at fit in
+          let report : AreReplies (may_at may (after_step b (Lost loads)).loaders) (round_orders (rules_of b) loads) h.replies = rw is.entered at fit in
           record {
             replies = h.replies;
-            answered = replies-before false (b.rounds + 1) (λ n. keys_for n loads) may b.loaders (round_orders (rules_of b) loads) h.replies told;
+            answered = replies-before false (b.rounds + 1) (λ n. keys_for n loads) may b.loaders (round_orders (rules_of b) loads) h.replies report;
             after = received-is b s loads shown h.replies is.entered is.counted is.numbered memory;
           }
 

@@ -19,28 +19,28 @@ use Rattle.execution.proofs.OneLog.{one-log}
 use Rattle.load_rounds.specs.Sessions.{StateOf, rules_of, session_modes, after_steps}
 use Rattle.load_rounds.specs.Headline.{asked_steps}
 use Rattle.load_rounds.specs.KeyByKey.{item_over}
-use Rattle.load_rounds.specs.SharedRounds.{RequestOf, ToldOf, items_from, together, IsShared, AreShared, AreTexts, SharedHeadline}
-use Rattle.load_rounds.specs.SharedKeyByKey.{AreAnsweredAlike, AreToldDirectly}
+use Rattle.load_rounds.specs.SharedRounds.{RequestOf, ReportOf, items_from, together, IsShared, AreShared, AreTexts, SharedHeadline}
+use Rattle.load_rounds.specs.SharedKeyByKey.{AreAnsweredAlike, AreAnsweredDirectly}
 use Rattle.load_rounds.proofs.GoingOn.{or-left}
-use Rattle.load_rounds.proofs.KeyByKey.{rounds-weaker, some-same, may-told, respects-alike}
+use Rattle.load_rounds.proofs.KeyByKey.{rounds-weaker, some-same, may-report, respects-alike}
 
 module _ (item : ℕ → KeyOf → ItemOf) where
-  outcomes-told : (loader : ℕ) (keys : List KeyOf) (a : AnswerOf) → a ≡ given (map (item loader) keys) → outcomes_of (length keys) a ≡ map known (map (item loader) keys)
-  outcomes-told loader keys a e =
+  outcomes-report : (loader : ℕ) (keys : List KeyOf) (a : AnswerOf) → a ≡ given (map (item loader) keys) → outcomes_of (length keys) a ≡ map known (map (item loader) keys)
+  outcomes-report loader keys a e =
       ap (outcomes_of (length keys)) e ∙ (rw (eq-eqb (length (map (item loader) keys)) (length keys) (length-map keys (item loader))) refl)
 
   -- a pair of a reply is of one of its keys
-  pair-told : (mode : KeyMode) (n : ℕ) (keys : List KeyOf) (p : PairOf) → IsOneOf p (reply_pairs mode n keys (map known (map (item n) keys)))
+  pair-report : (mode : KeyMode) (n : ℕ) (keys : List KeyOf) (p : PairOf) → IsOneOf p (reply_pairs mode n keys (map known (map (item n) keys)))
       → (n ≡ p.loader) × (k : KeyOf) × (folded mode k ≡ p.key) × (p.outcome ≡ known (item n k))
-  pair-told mode n [] p one = absurd one
-  pair-told mode n (k ∷ ks) p (inl e) = (sym (ap (λ (q : PairOf). q.loader) e), k, sym (ap (λ (q : PairOf). q.key) e), ap (λ (q : PairOf). q.outcome) e)
-  pair-told mode n (k ∷ ks) p (inr rest) = pair-told mode n ks p rest
+  pair-report mode n [] p one = absurd one
+  pair-report mode n (k ∷ ks) p (inl e) = (sym (ap (λ (q : PairOf). q.loader) e), k, sym (ap (λ (q : PairOf). q.key) e), ap (λ (q : PairOf). q.outcome) e)
+  pair-report mode n (k ∷ ks) p (inr rest) = pair-report mode n ks p rest
 
   reply-pair : (modes : List KeyMode) (o : OrderOf) (r : ReplyOf) (p : PairOf) → IsReply (key_by_key item) o r → IsOneOf p (reply_pairs (mode_at modes r.loader) r.loader r.keys r.outcomes)
       → (k : KeyOf) × (folded (mode_at modes p.loader) k ≡ p.key) × (p.outcome ≡ known (item p.loader k))
   reply-pair modes o r p h one =
-      let outcomes : r.outcomes ≡ map known (map (item r.loader) r.keys) = rw (h.loader, h.keys) (h.outcomes ∙ outcomes-told o.loader o.keys h.answer h.may_be) in
-      let t = pair-told (mode_at modes r.loader) r.loader r.keys p (subst (λ os. IsOneOf p (reply_pairs (mode_at modes r.loader) r.loader r.keys os)) outcomes one) in
+      let outcomes : r.outcomes ≡ map known (map (item r.loader) r.keys) = rw (h.loader, h.keys) (h.outcomes ∙ outcomes-report o.loader o.keys h.answer h.may_be) in
+      let t = pair-report (mode_at modes r.loader) r.loader r.keys p (subst (λ os. IsOneOf p (reply_pairs (mode_at modes r.loader) r.loader r.keys os)) outcomes one) in
       (t.1, ap (λ n. folded (mode_at modes n) t.1) (sym t.0) ∙ t.2, t.3 ∙ ap (λ n. known (item n t.1)) t.0)
 
   replies-pair : (modes : List KeyMode) (os : List OrderOf) (rs : List ReplyOf) (r : ReplyOf) (p : PairOf) → AreReplies (key_by_key item) os rs → IsOneOf r rs → IsOneOf p (reply_pairs (mode_at modes r.loader) r.loader r.keys r.outcomes)
@@ -71,8 +71,8 @@ module _ (item : ℕ → KeyOf → ItemOf) where
 
 module _ {S : Type 0} (old new : StateOf S) where
   -- the texts by a reader that answers at least as much as the memory
-  texts-by : (log : List (List ReplyOf)) (Q : Reader) (n : ℕ) (rs : List RequestOf) (told : List ToldOf) → AnswersMore (read (session_modes old) new.memory) Q → any_open (trees (items_from n rs) (read (session_modes old) new.memory)) ≡ false
-      → AreShared old new log rs told → AreTexts rs Q told
+  texts-by : (log : List (List ReplyOf)) (Q : Reader) (n : ℕ) (rs : List RequestOf) (reports : List ReportOf) → AnswersMore (read (session_modes old) new.memory) Q → any_open (trees (items_from n rs) (read (session_modes old) new.memory)) ≡ false
+      → AreShared old new log rs reports → AreTexts rs Q reports
   texts-by log Q n [] [] more closed h = tt
   texts-by log Q n [] (t ∷ ts) more closed h = absurd h
   texts-by log Q n (r ∷ rs) [] more closed h = absurd h
@@ -80,28 +80,28 @@ module _ {S : Type 0} (old new : StateOf S) where
       let R : Reader = read (session_modes old) new.memory in
       let own = or-left (is_open (tree r.program R)) (any_open (trees (items_from (suc n) rs) R)) closed in
       let text = h.0.answered in
-      (record { answered = text.answered; executed = exec-stays r.program R Q more own.0 ∙ text.executed; told = text.told }, texts-by log Q (suc n) rs ts more own.1 h.1)
+      (record { answered = text.answered; executed = exec-stays r.program R Q more own.0 ∙ text.executed; report = text.report }, texts-by log Q (suc n) rs ts more own.1 h.1)
 
   -- two answers to one request with one log and one memory
-  one-told : (log : List (List ReplyOf)) (r : RequestOf) (t u : ToldOf) → IsShared old new log r t → IsShared old new log r u → t ≡ u
-  one-told log r t u h k =
+  one-report : (log : List (List ReplyOf)) (r : RequestOf) (t u : ReportOf) → IsShared old new log r t → IsShared old new log r u → t ≡ u
+  one-report log r t u h k =
       let same : Some (h.answered).answered ≡ Some (k.answered).answered = sym (h.answered).executed ∙ (k.answered).executed in
-      let text : t.text ≡ u.text = (h.answered).told ∙ ap r.text_of (some-same (h.answered).answered (k.answered).answered same) ∙ sym (k.answered).told in
-      let make : List ℕ → ℕ → ToldOf = λ x n. record { text = x; rounds = n } in
+      let text : t.text ≡ u.text = (h.answered).report ∙ ap r.text_of (some-same (h.answered).answered (k.answered).answered same) ∙ sym (k.answered).report in
+      let make : List ℕ → ℕ → ReportOf = λ x n. record { text = x; rounds = n } in
       ap (λ x. make x t.rounds) text ∙ ap (make u.text) (sym h.counted ∙ k.counted)
 
-  all-one-told : (log : List (List ReplyOf)) (rs : List RequestOf) (ts us : List ToldOf) → AreShared old new log rs ts → AreShared old new log rs us → ts ≡ us
-  all-one-told log [] [] [] h k = refl
-  all-one-told log [] [] (u ∷ us) h k = absurd k
-  all-one-told log [] (t ∷ ts) us h k = absurd h
-  all-one-told log (r ∷ rs) [] us h k = absurd h
-  all-one-told log (r ∷ rs) (t ∷ ts) [] h k = absurd k
-  all-one-told log (r ∷ rs) (t ∷ ts) (u ∷ us) h k = rw (one-told log r t u h.0 k.0, all-one-told log rs ts us h.1 k.1) refl
+  all-one-report : (log : List (List ReplyOf)) (rs : List RequestOf) (ts us : List ReportOf) → AreShared old new log rs ts → AreShared old new log rs us → ts ≡ us
+  all-one-report log [] [] [] h k = refl
+  all-one-report log [] [] (u ∷ us) h k = absurd k
+  all-one-report log [] (t ∷ ts) us h k = absurd h
+  all-one-report log (r ∷ rs) [] us h k = absurd h
+  all-one-report log (r ∷ rs) (t ∷ ts) [] h k = absurd k
+  all-one-report log (r ∷ rs) (t ∷ ts) (u ∷ us) h k = rw (one-report log r t u h.0 k.0, all-one-report log rs ts us h.1 k.1) refl
 
-module _ {S : Type 0} (may : S → List KeyOf → AnswerOf → Type 0) (item : S → KeyOf → ItemOf) (told : (s : S) (keys : List KeyOf) (answer : AnswerOf) → may s keys answer → answer ≡ given (map (item s) keys)) where
-  shared-rounds : (old new : StateOf S) (rs : List RequestOf) (ts : List ToldOf) (h : SharedHeadline may old new rs ts) → AreRounds (key_by_key (item_over item old.loaders)) (rules_of old) (together rs) (without_failed old.memory) h.log new.memory
+module _ {S : Type 0} (may : S → List KeyOf → AnswerOf → Type 0) (item : S → KeyOf → ItemOf) (by_key : (s : S) (keys : List KeyOf) (answer : AnswerOf) → may s keys answer → answer ≡ given (map (item s) keys)) where
+  shared-rounds : (old new : StateOf S) (rs : List RequestOf) (ts : List ReportOf) (h : SharedHeadline may old new rs ts) → AreRounds (key_by_key (item_over item old.loaders)) (rules_of old) (together rs) (without_failed old.memory) h.log new.memory
   shared-rounds old new rs ts h =
-      rounds-weaker (may_at may old.loaders) (key_by_key (item_over item old.loaders)) (may-told may item told old.loaders) (rules_of old) (together rs) (without_failed old.memory) h.log new.memory h.made.rounds
+      rounds-weaker (may_at may old.loaders) (key_by_key (item_over item old.loaders)) (may-report may item by_key old.loaders) (rules_of old) (together rs) (without_failed old.memory) h.log new.memory h.made.rounds
 
   pub answered-alike : AreAnsweredAlike may
   answered-alike = λ old new other rs ts us h k.
@@ -110,13 +110,13 @@ module _ {S : Type 0} (may : S → List KeyOf → AnswerOf → Type 0) (item : S
       let log = (one-log (item_over item old.loaders) (rules_of old) (together rs) (without_failed old.memory) h.log k.log new.memory other.memory lawful also).0 in
       let state : new ≡ other = h.made.after ∙ ap (λ l. after_steps old (Forgot ∷ asked_steps (rules_of old) (together rs) (without_failed old.memory) l)) log ∙ sym k.made.after in
       let there = subst (λ l. AreShared old other l rs us) (sym log) k.answers in
-      (state, all-one-told old new h.log rs ts us h.answers (subst (λ (s : StateOf S). AreShared old s h.log rs us) (sym state) there))
+      (state, all-one-report old new h.log rs ts us h.answers (subst (λ (s : StateOf S). AreShared old s h.log rs us) (sym state) there))
 
-  pub told-directly : (mode_of : S → KeyMode) → ((s : S) (j k : KeyOf) → folded (mode_of s) j ≡ folded (mode_of s) k → item s j ≡ item s k) → AreToldDirectly may item mode_of
-  told-directly mode_of respects = λ old new rs ts alike first h.
+  pub report-directly : (mode_of : S → KeyMode) → ((s : S) (j k : KeyOf) → folded (mode_of s) j ≡ folded (mode_of s) k → item s j ≡ item s k) → AreAnsweredDirectly may item mode_of
+  report-directly mode_of respects = λ old new rs ts alike first h.
       let items : ℕ → KeyOf → ItemOf = item_over item old.loaders in
       let R : Reader = read (session_modes old) new.memory in
       let held : HoldsItems (session_modes old) items new.memory =
-      holds-items items (rules_of old) (together rs) (without_failed old.memory) h.log new.memory (respects-alike may item told mode_of respects old.loaders alike) first (shared-rounds old new rs ts h) h.pairs in
+      holds-items items (rules_of old) (together rs) (without_failed old.memory) h.log new.memory (respects-alike may item by_key mode_of respects old.loaders alike) first (shared-rounds old new rs ts h) h.pairs in
       let more : AnswersMore R (direct items) = λ load o e. ap (λ x. Some x) (sym (held load.loader load.key o e)) in
       texts-by old new h.log (direct items) 0 rs ts more ((front-open (session_modes old) (together rs) new.memory).0 h.complete) h.answers

@@ -12,8 +12,8 @@ use Rattle.execution.specs.Rounds.{modes_of, may_at, AreLimited, HasLoaders, wit
 use Rattle.execution.specs.Sessions.{Forgot, Lost}
 use Rattle.load_rounds.specs.Sessions.{SessionOf, StateOf, state_of, rules_of, memory_of, after_step, AreNumbered}
 use Rattle.load_rounds.specs.Calls.{RoundLost}
-use Rattle.load_rounds.specs.SharedRounds.{ToldOf, requests, together, AreTexts, SharedHeadline}
-use Rattle.load_rounds.specs.Together.{PartOf, TogetherOf, plans_in, told_in, given_to, some_untold, CountRounds, FitsPart, FitParts, GoOn, AreBegun}
+use Rattle.load_rounds.specs.SharedRounds.{ReportOf, requests, together, AreTexts, SharedHeadline}
+use Rattle.load_rounds.specs.Together.{PartOf, TogetherOf, plans_in, reports_in, given_to, some_unreported, CountRounds, FitsPart, FitParts, GoOn, AreBegun}
 use Rattle.load_rounds.specs.Runs.{front_in, orders_in, received, AreReceived}
 use Rattle.load_rounds.specs.SharedRuns.{IsRunAll}
 use Rattle.load_rounds.specs.declared.run.Stage.TheVariants.{Ready, Out, Finished, Failed}
@@ -24,12 +24,12 @@ use Rattle.load_rounds.proofs.Sharing.{begun-counted, all-counted, all-round-cou
 
 module _ {P E : Type 0} (program : P → Program) (text_of : P → AnsweredOf → List ℕ) (loaders : P → ℕ) (fits : P → E → MemoryOf → Type 0) where
   -- what each tells once nothing is missing
-  pub all-texts : (m : MemoryOf) (ys : List (PartOf P E)) → some_untold ys ≡ false → FitParts program text_of loaders fits ys m → AreTexts (requests program text_of (plans_in ys)) (read m.modes (look m.pairs)) (told_in ys)
+  pub all-texts : (m : MemoryOf) (ys : List (PartOf P E)) → some_unreported ys ≡ false → FitParts program text_of loaders fits ys m → AreTexts (requests program text_of (plans_in ys)) (read m.modes (look m.pairs)) (reports_in ys)
   all-texts m [] all fit = tt
-  all-texts m (y ∷ ys) all fit = go y.told (or-left (is_none y.told) (some_untold ys) all).0 fit.0 (all-texts m ys (or-left (is_none y.told) (some_untold ys) all).1 fit.1)
+  all-texts m (y ∷ ys) all fit = go y.report (or-left (is_none y.report) (some_unreported ys) all).0 fit.0 (all-texts m ys (or-left (is_none y.report) (some_unreported ys) all).1 fit.1)
     where
-      go : (t : Option ToldOf) → is_none t ≡ false → FitsPart program text_of loaders fits y.plan y.progress t m → AreTexts (requests program text_of (plans_in ys)) (read m.modes (look m.pairs)) (told_in ys)
-          → AreTexts (requests program text_of (plans_in (y ∷ ys))) (read m.modes (look m.pairs)) (given_to t ++ told_in ys)
+      go : (t : Option ReportOf) → is_none t ≡ false → FitsPart program text_of loaders fits y.plan y.progress t m → AreTexts (requests program text_of (plans_in ys)) (read m.modes (look m.pairs)) (reports_in ys)
+          → AreTexts (requests program text_of (plans_in (y ∷ ys))) (read m.modes (look m.pairs)) (given_to t ++ reports_in ys)
       go None known own later = absurd (cc known)
       go (Some t) known own later = (own.answered, later)
 
@@ -41,7 +41,7 @@ module _ {P E : Type 0} (program : P → Program) (text_of : P → AnsweredOf �
     pub run-begun : (now : StateOf S) (t : TogetherOf P E) → now ≡ after_step begun Forgot → AreBegun program text_of loaders fits plans t → IsRunAll program text_of may begun now (record { plans = plans; executions = t; stage = Ready })
     run-begun now t is h = record {
       is = record { log = []; made = record { rounds = λ l k. ap (λ (s : StateOf S). s.memory l k) is; after = is }; counted = sym h.rounds };
-      counts = begun-counted program (rules_of begun) (without_failed begun.memory) t.parts h.untold;
+      counts = begun-counted program (rules_of begun) (without_failed begun.memory) t.parts h.unreported;
     }
 
     pub ready-shared : (now : StateOf S) (t : TogetherOf P E) → IsRunAll program text_of may begun now (record { plans = plans; executions = t; stage = Ready }) → InShared program text_of loaders fits may plans begun now t.parts t.rounds
@@ -58,8 +58,8 @@ module _ {P E : Type 0} (program : P → Program) (text_of : P → AnsweredOf �
     run-finished now t later h same none = record { is = (record { log = h.is.log; made = h.is.made; counted = h.is.counted ∙ sym same }, none); counts = tt }
 
     pub run-answers : (s : SessionOf S) (xs ys : List (PartOf P E)) (rounds : ℕ) → InShared program text_of loaders fits may plans begun (state_of s) ys rounds → GoOn program text_of loaders fits rounds (memory_of s) xs ys → plans_in xs ≡ plans
-        → All (λ plan. loaders plan ≤ length s.loaders) plans → AreLimited (rules_of (state_of s)) → plans_in ys ≡ plans → some_untold ys ≡ false → FitParts program text_of loaders fits ys (memory_of s) → front_in (state_of s) p ≡ []
-        → SharedHeadline may begun (state_of s) (requests program text_of plans) (told_in ys)
+        → All (λ plan. loaders plan ≤ length s.loaders) plans → AreLimited (rules_of (state_of s)) → plans_in ys ≡ plans → some_unreported ys ≡ false → FitParts program text_of loaders fits ys (memory_of s) → front_in (state_of s) p ≡ []
+        → SharedHeadline may begun (state_of s) (requests program text_of plans) (reports_in ys)
     run-answers s xs ys rounds h gone from enough limited are all kept none =
         let size : length s.loaders ≡ length begun.loaders = in-loaders may begun (state_of s) p rounds h.is in
         let reach = subst (λ n. All (λ plan. loaders plan ≤ n) plans) size enough in
@@ -74,7 +74,7 @@ module _ {P E : Type 0} (program : P → Program) (text_of : P → AnsweredOf �
         → IsRunAll program text_of may begun new (record { plans = plans; executions = later; stage = Out })
     run-out s new t later h one gone numbered lacks entered counted =
         let shared = ready-shared (state_of s) t h in
-        let told = shared-gone program text_of loaders fits may plans begun (state_of s) t.parts later.parts t.rounds (memory_of s) shared gone in
+        let report = shared-gone program text_of loaders fits may plans begun (state_of s) t.parts later.parts t.rounds (memory_of s) shared gone in
         record {
           is = record { before = state_of s; made = t.rounds; between = h.is; one_more = one; numbered = numbered; lacks = lacks; entered = entered; counted = counted };
           counts = λ round. all-round-counted program text_of loaders fits (may_at may begun.loaders) (rules_of begun) p (without_failed begun.memory) (look s.pairs) h.is.log round t.rounds (memory_of s) t.parts later.parts h.is.made.rounds (ap modes_of shared.is.rules) refl gone

@@ -17,8 +17,8 @@ use Rattle.execution.proofs.OnceLaws.{asked-once, answered-in}
 use Rattle.execution.proofs.SharedLaws.{own-chain, own-sparing}
 use Rattle.load_rounds.specs.Sessions.{SessionOf, StateOf, state_of, rules_of, session_modes, memory_of, after_step}
 use Rattle.load_rounds.specs.Calls.{RoundRan}
-use Rattle.load_rounds.specs.SharedRounds.{ToldOf, requests, items_from, together, greatest, AreShared, SharedHeadline}
-use Rattle.load_rounds.specs.Together.{PartOf, TellsAt, CountsRounds, CountRounds, plans_in, told_in, given_to, some_untold, FitsPart, FitParts, GoOn}
+use Rattle.load_rounds.specs.SharedRounds.{ReportOf, requests, items_from, together, greatest, AreShared, SharedHeadline}
+use Rattle.load_rounds.specs.Together.{PartOf, TellsAt, CountsRounds, CountRounds, plans_in, reports_in, given_to, some_unreported, FitsPart, FitParts, GoOn}
 use Rattle.load_rounds.proofs.Following.{InRounds, in-none, in-more, in-more-log}
 use Rattle.load_rounds.proofs.GoingOn.{or-left, gone-lacks}
 
@@ -43,31 +43,31 @@ own-most rules p M [] = omega arith
 own-most rules p M (r ∷ log) = omega (arith, one-most (front (modes_of rules) p M), own-most rules p (after_round rules M r) log)
 
 -- one that went on has counted the rounds so far
-tells-counted : (rules : List RuleOf) (M : Memory) (log : List (List ReplyOf)) (p : Program) (rounds : ℕ) (loads : List Load) (old new : Option ToldOf) → rounds ≡ length log → TellsAt rounds loads old new → CountsRounds rules M log p old → CountsRounds rules M log p new
+tells-counted : (rules : List RuleOf) (M : Memory) (log : List (List ReplyOf)) (p : Program) (rounds : ℕ) (loads : List Load) (old new : Option ReportOf) → rounds ≡ length log → TellsAt rounds loads old new → CountsRounds rules M log p old → CountsRounds rules M log p new
 tells-counted rules M log p rounds loads old None is tells counts = subst (λ o. CountsRounds rules M log p o) tells.1 counts
-tells-counted rules M log p rounds loads old (Some told) is tells counts = go tells.1
+tells-counted rules M log p rounds loads old (Some report) is tells counts = go tells.1
   where
-    go : (old ≡ Some told) ⊎ ((old ≡ None) × (told.rounds ≡ rounds)) → CountsRounds rules M log p (Some told)
+    go : (old ≡ Some report) ⊎ ((old ≡ None) × (report.rounds ≡ rounds)) → CountsRounds rules M log p (Some report)
     go (inl e) = subst (λ o. CountsRounds rules M log p o) e counts
     go (inr e) = let own : CountsRounds rules M log p None = subst (λ o. CountsRounds rules M log p o) e.0 counts in own ∙ sym (e.1 ∙ is)
 
 -- and then the next round
-round-counted : (others : ℕ → List KeyOf → AnswerOf → Type 0) (rules : List RuleOf) (q p : Program) (M mid : Memory) (log : List (List ReplyOf)) (r : List ReplyOf) (rounds : ℕ) (old told : Option ToldOf) → AreRounds others rules q M log mid
-    → TellsAt rounds (front (modes_of rules) p mid) old told → CountsRounds rules M log p told → CountsRounds rules M (log ++ r ∷ []) p told
+round-counted : (others : ℕ → List KeyOf → AnswerOf → Type 0) (rules : List RuleOf) (q p : Program) (M mid : Memory) (log : List (List ReplyOf)) (r : List ReplyOf) (rounds : ℕ) (old report : Option ReportOf) → AreRounds others rules q M log mid
+    → TellsAt rounds (front (modes_of rules) p mid) old report → CountsRounds rules M log p report → CountsRounds rules M (log ++ r ∷ []) p report
 round-counted others rules q p M mid log r rounds old None k tells counts =
     omega (arith, own-one others rules q p M mid log r k, one-some (front (modes_of rules) p mid) tells.0, counts, length-append log (r ∷ []))
 round-counted others rules q p M mid log r rounds old (Some t) k tells counts =
     omega (arith, own-one others rules q p M mid log r k, ap one_unless_empty tells.0, counts)
 
-given-none : (t : Option ToldOf) (rest : List ToldOf) → given_to t ++ rest ≡ [] → (t ≡ None) × (rest ≡ [])
+given-none : (t : Option ReportOf) (rest : List ReportOf) → given_to t ++ rest ≡ [] → (t ≡ None) × (rest ≡ [])
 given-none None rest e = (refl, e)
 given-none (Some t) rest e = absurd (cc e)
 
 module _ {P E : Type 0} (program : P → Program) where
-  pub begun-counted : (rules : List RuleOf) (M : Memory) (parts : List (PartOf P E)) → told_in parts ≡ [] → CountRounds program rules M [] parts
+  pub begun-counted : (rules : List RuleOf) (M : Memory) (parts : List (PartOf P E)) → reports_in parts ≡ [] → CountRounds program rules M [] parts
   begun-counted rules M [] none = tt
   begun-counted rules M (x ∷ xs) none =
-      let own = given-none x.told (told_in xs) none in
+      let own = given-none x.report (reports_in xs) none in
       (subst (λ o. CountsRounds rules M [] (program x.plan) o) (sym own.0) refl, begun-counted rules M xs own.1)
 
   module _ (text_of : P → AnsweredOf → List ℕ) (loaders : P → ℕ) (fits : P → E → MemoryOf → Type 0) where
@@ -76,8 +76,8 @@ module _ {P E : Type 0} (program : P → Program) where
     all-counted rules M log rounds m [] (y ∷ ys) is h counts = absurd h
     all-counted rules M log rounds m (x ∷ xs) [] is h counts = absurd h
     all-counted rules M log rounds m (x ∷ xs) (y ∷ ys) is h counts =
-        let own = tells-counted rules M log (program x.plan) rounds (front m.modes (program x.plan) (look m.pairs)) x.told y.told is h.0.told counts.0 in
-        (subst (λ plan. CountsRounds rules M log (program plan) y.told) (sym h.0.same) own, all-counted rules M log rounds m xs ys is h.1 counts.1)
+        let own = tells-counted rules M log (program x.plan) rounds (front m.modes (program x.plan) (look m.pairs)) x.report y.report is h.0.report counts.0 in
+        (subst (λ plan. CountsRounds rules M log (program plan) y.report) (sym h.0.same) own, all-counted rules M log rounds m xs ys is h.1 counts.1)
 
     pub all-round-counted : (others : ℕ → List KeyOf → AnswerOf → Type 0) (rules : List RuleOf) (q : Program) (M mid : Memory) (log : List (List ReplyOf)) (r : List ReplyOf) (rounds : ℕ) (m : MemoryOf) (xs ys : List (PartOf P E))
         → AreRounds others rules q M log mid → m.modes ≡ modes_of rules → look m.pairs ≡ mid → GoOn program text_of loaders fits rounds m xs ys → CountRounds program rules M log ys → CountRounds program rules M (log ++ r ∷ []) ys
@@ -87,35 +87,35 @@ module _ {P E : Type 0} (program : P → Program) where
     all-round-counted others rules q M mid log r rounds m (x ∷ xs) (y ∷ ys) k modes same h counts =
         let loads : front m.modes (program x.plan) (look m.pairs) ≡ front (modes_of rules) (program y.plan) mid =
         ap (λ ms. front ms (program x.plan) (look m.pairs)) modes ∙ ap (λ (N : Memory). front (modes_of rules) (program x.plan) N) same ∙ ap (λ plan. front (modes_of rules) (program plan) mid) (sym h.0.same) in
-        let tells : TellsAt rounds (front (modes_of rules) (program y.plan) mid) x.told y.told = subst (λ ls. TellsAt rounds ls x.told y.told) loads h.0.told in
-        (round-counted others rules q (program y.plan) M mid log r rounds x.told y.told k tells counts.0, all-round-counted others rules q M mid log r rounds m xs ys k modes same h.1 counts.1)
+        let tells : TellsAt rounds (front (modes_of rules) (program y.plan) mid) x.report y.report = subst (λ ls. TellsAt rounds ls x.report y.report) loads h.0.report in
+        (round-counted others rules q (program y.plan) M mid log r rounds x.report y.report k tells counts.0, all-round-counted others rules q M mid log r rounds m xs ys k modes same h.1 counts.1)
 
     -- the answer with the most rounds
-    greatest-most : (rules : List RuleOf) (M : Memory) (log : List (List ReplyOf)) (ys : List (PartOf P E)) → CountRounds program rules M log ys → greatest (told_in ys) ≤ length log
+    greatest-most : (rules : List RuleOf) (M : Memory) (log : List (List ReplyOf)) (ys : List (PartOf P E)) → CountRounds program rules M log ys → greatest (reports_in ys) ≤ length log
     greatest-most rules M log [] counts = omega arith
-    greatest-most rules M log (y ∷ ys) counts = go y.told counts.0 (greatest-most rules M log ys counts.1)
+    greatest-most rules M log (y ∷ ys) counts = go y.report counts.0 (greatest-most rules M log ys counts.1)
       where
-        go : (t : Option ToldOf) → CountsRounds rules M log (program y.plan) t → greatest (told_in ys) ≤ length log → greatest (given_to t ++ told_in ys) ≤ length log
+        go : (t : Option ReportOf) → CountsRounds rules M log (program y.plan) t → greatest (reports_in ys) ≤ length log → greatest (given_to t ++ reports_in ys) ≤ length log
         go None own rest = rest
         go (Some t) own rest = omega (arith, own, own-most rules (program y.plan) M log, rest)
 
-    greatest-has : (rules : List RuleOf) (M : Memory) (log : List (List ReplyOf)) (n : ℕ) (p : Program) (ys : List (PartOf P E)) → some_untold ys ≡ false → CountRounds program rules M log ys → IsBelow p (items_from n (requests program text_of (plans_in ys)))
-        → own_rounds rules p M log ≤ greatest (told_in ys)
+    greatest-has : (rules : List RuleOf) (M : Memory) (log : List (List ReplyOf)) (n : ℕ) (p : Program) (ys : List (PartOf P E)) → some_unreported ys ≡ false → CountRounds program rules M log ys → IsBelow p (items_from n (requests program text_of (plans_in ys)))
+        → own_rounds rules p M log ≤ greatest (reports_in ys)
     greatest-has rules M log n p [] all counts below = absurd below
     greatest-has rules M log n p (y ∷ ys) all counts below =
-        go y.told (or-left (is_none y.told) (some_untold ys) all).0 counts.0 below (greatest-has rules M log (suc n) p ys (or-left (is_none y.told) (some_untold ys) all).1 counts.1)
+        go y.report (or-left (is_none y.report) (some_unreported ys) all).0 counts.0 below (greatest-has rules M log (suc n) p ys (or-left (is_none y.report) (some_unreported ys) all).1 counts.1)
       where
-        go : (t : Option ToldOf) → is_none t ≡ false → CountsRounds rules M log (program y.plan) t → (p ≡ program y.plan) ⊎ IsBelow p (items_from (suc n) (requests program text_of (plans_in ys)))
-            → (IsBelow p (items_from (suc n) (requests program text_of (plans_in ys))) → own_rounds rules p M log ≤ greatest (told_in ys)) → own_rounds rules p M log ≤ greatest (given_to t ++ told_in ys)
+        go : (t : Option ReportOf) → is_none t ≡ false → CountsRounds rules M log (program y.plan) t → (p ≡ program y.plan) ⊎ IsBelow p (items_from (suc n) (requests program text_of (plans_in ys)))
+            → (IsBelow p (items_from (suc n) (requests program text_of (plans_in ys))) → own_rounds rules p M log ≤ greatest (reports_in ys)) → own_rounds rules p M log ≤ greatest (given_to t ++ reports_in ys)
         go None known own b later = absurd (cc known)
         go (Some t) known own (inl e) later = omega (arith, ap (λ q. own_rounds rules q M log) e, own)
         go (Some t) known own (inr rest) later = omega (arith, later rest)
 
     -- where nothing is missing for all of them, each has its answer
-    pub all-told : (rounds : ℕ) (m : MemoryOf) (xs ys : List (PartOf P E)) → GoOn program text_of loaders fits rounds m xs ys → front m.modes (together (requests program text_of (plans_in xs))) (look m.pairs) ≡ [] → some_untold ys ≡ false
-    all-told rounds m xs ys h none = go (some_untold ys) refl
+    pub all-report : (rounds : ℕ) (m : MemoryOf) (xs ys : List (PartOf P E)) → GoOn program text_of loaders fits rounds m xs ys → front m.modes (together (requests program text_of (plans_in xs))) (look m.pairs) ≡ [] → some_unreported ys ≡ false
+    all-report rounds m xs ys h none = go (some_unreported ys) refl
       where
-        go : (b : Bool) → some_untold ys ≡ b → some_untold ys ≡ false
+        go : (b : Bool) → some_unreported ys ≡ b → some_unreported ys ≡ false
         go true e = absurd (gone-lacks program text_of loaders fits rounds m xs ys h e none)
         go false e = e
 
@@ -125,7 +125,7 @@ module _ {P E : Type 0} (program : P → Program) where
         pub is : InRounds may old cur (together (requests program text_of plans)) rounds
         pub counts : CountRounds program (rules_of old) (without_failed old.memory) is.log parts
 
-      pub shared-none : (plans : List P) (old cur : StateOf S) (parts : List (PartOf P E)) → cur ≡ after_step old Forgot → told_in parts ≡ [] → InShared plans old cur parts 0
+      pub shared-none : (plans : List P) (old cur : StateOf S) (parts : List (PartOf P E)) → cur ≡ after_step old Forgot → reports_in parts ≡ [] → InShared plans old cur parts 0
       shared-none plans old cur parts is none =
           let begun = in-none may old cur (together (requests program text_of plans)) is in
           record {
@@ -157,9 +157,9 @@ module _ {P E : Type 0} (program : P → Program) where
         within-rules : HasLoaders (length (rules_of old)) (together (requests program text_of plans))
         within-rules R l one = let below = within R l one in omega (arith, below, length-map old.loaders rule_of)
 
-        shared-one : (r : P) (progress : E) (told : ToldOf) → IsBelow (program r) (items_from 0 (requests program text_of plans)) → CountsRounds (rules_of old) (without_failed old.memory) log (program r) (Some told) → FitsPart program text_of loaders fits r progress (Some told) (memory_of s)
-            → AreShared old (state_of s) log (requests program text_of (r ∷ [])) (told ∷ [])
-        shared-one r progress told among counts done =
+        shared-one : (r : P) (progress : E) (report : ReportOf) → IsBelow (program r) (items_from 0 (requests program text_of plans)) → CountsRounds (rules_of old) (without_failed old.memory) log (program r) (Some report) → FitsPart program text_of loaders fits r progress (Some report) (memory_of s)
+            → AreShared old (state_of s) log (requests program text_of (r ∷ [])) (report ∷ [])
+        shared-one r progress report among counts done =
             let rules : List RuleOf = rules_of old in
             let M0 : Memory = without_failed old.memory in
             let same : session_modes (state_of s) ≡ session_modes old = ap modes_of h.is.rules in
@@ -173,19 +173,19 @@ module _ {P E : Type 0} (program : P → Program) where
               tt,
             )
 
-        shared-answers : (n : ℕ) (rest : List (PartOf P E)) → ((p : Program) → IsBelow p (items_from n (requests program text_of (plans_in rest))) → IsBelow p (items_from 0 (requests program text_of plans))) → some_untold rest ≡ false
-            → CountRounds program (rules_of old) (without_failed old.memory) log rest → FitParts program text_of loaders fits rest (memory_of s) → AreShared old (state_of s) log (requests program text_of (plans_in rest)) (told_in rest)
+        shared-answers : (n : ℕ) (rest : List (PartOf P E)) → ((p : Program) → IsBelow p (items_from n (requests program text_of (plans_in rest))) → IsBelow p (items_from 0 (requests program text_of plans))) → some_unreported rest ≡ false
+            → CountRounds program (rules_of old) (without_failed old.memory) log rest → FitParts program text_of loaders fits rest (memory_of s) → AreShared old (state_of s) log (requests program text_of (plans_in rest)) (reports_in rest)
         shared-answers n [] among all counts done = tt
-        shared-answers n (y ∷ ys) among all counts done = go y.told (or-left (is_none y.told) (some_untold ys) all).0 counts.0 done.0 (shared-answers (suc n) ys (λ p b. among p (inr b)) (or-left (is_none y.told) (some_untold ys) all).1 counts.1 done.1)
+        shared-answers n (y ∷ ys) among all counts done = go y.report (or-left (is_none y.report) (some_unreported ys) all).0 counts.0 done.0 (shared-answers (suc n) ys (λ p b. among p (inr b)) (or-left (is_none y.report) (some_unreported ys) all).1 counts.1 done.1)
           where
-            go : (t : Option ToldOf) → is_none t ≡ false → CountsRounds (rules_of old) (without_failed old.memory) log (program y.plan) t → FitsPart program text_of loaders fits y.plan y.progress t (memory_of s) → AreShared old (state_of s) log (requests program text_of (plans_in ys)) (told_in ys)
-                → AreShared old (state_of s) log (requests program text_of (plans_in (y ∷ ys))) (given_to t ++ told_in ys)
+            go : (t : Option ReportOf) → is_none t ≡ false → CountsRounds (rules_of old) (without_failed old.memory) log (program y.plan) t → FitsPart program text_of loaders fits y.plan y.progress t (memory_of s) → AreShared old (state_of s) log (requests program text_of (plans_in ys)) (reports_in ys)
+                → AreShared old (state_of s) log (requests program text_of (plans_in (y ∷ ys))) (given_to t ++ reports_in ys)
             go None known own fit later = absurd (cc known)
             go (Some t) known own fit later = ((shared-one y.plan y.progress t (among (program y.plan) (inl refl)) own fit).0, later)
 
         -- nothing is missing any more
-        pub shared-all : plans_in ys ≡ plans → some_untold ys ≡ false → FitParts program text_of loaders fits ys (memory_of s) → front (session_modes (state_of s)) (together (requests program text_of plans)) (look s.pairs) ≡ []
-            → SharedHeadline may old (state_of s) (requests program text_of plans) (told_in ys)
+        pub shared-all : plans_in ys ≡ plans → some_unreported ys ≡ false → FitParts program text_of loaders fits ys (memory_of s) → front (session_modes (state_of s)) (together (requests program text_of plans)) (look s.pairs) ≡ []
+            → SharedHeadline may old (state_of s) (requests program text_of plans) (reports_in ys)
         shared-all are all done none =
             let p : Program = together (requests program text_of plans) in
             let rules : List RuleOf = rules_of old in
@@ -197,16 +197,16 @@ module _ {P E : Type 0} (program : P → Program) where
               log = log;
               made = h.is.made;
               complete = rw same at none;
-              answers = subst (λ ps. AreShared old (state_of s) log (requests program text_of ps) (told_in ys)) are answers;
+              answers = subst (λ ps. AreShared old (state_of s) log (requests program text_of ps) (reports_in ys)) are answers;
               pairs = λ pair there. answered-in (may_at may old.loaders) rules p M0 log (look s.pairs) pair.loader pair.key pair.outcome h.is.made.rounds there;
               once = asked-once (may_at may old.loaders) rules p limited M0 log (look s.pairs) h.is.made.rounds;
               longest = longest (length log) refl;
             }
           where
-            most : greatest (told_in ys) ≤ length log
+            most : greatest (reports_in ys) ≤ length log
             most = greatest-most (rules_of old) (without_failed old.memory) log ys h.counts
 
-            longest : (n : ℕ) → length log ≡ n → length log ≡ greatest (told_in ys)
+            longest : (n : ℕ) → length log ≡ n → length log ≡ greatest (reports_in ys)
             longest zero e = omega (arith, e, most)
             longest (suc n) e =
                 let one = all-rounds (may_at may old.loaders) (rules_of old) ListOf (items_from 0 (requests program text_of plans)) (without_failed old.memory) log (look s.pairs) h.is.made.rounds (omega (arith, e)) in

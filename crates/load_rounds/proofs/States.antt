@@ -12,7 +12,7 @@ use Rattle.load_queue.specs.Loaders.{LoaderOf, stored_in}
 use Rattle.execution.specs.Loads.{Load, Memory}
 use Rattle.execution.specs.Front.{keys_for}
 use Rattle.execution.specs.Rounds.{rule_of, modes_of, round_orders, after_round, stored}
-use Rattle.execution.specs.Sessions.{Asked, Lost}
+use Rattle.execution.specs.Sessions.{AskedLoads, Lost}
 use Rattle.load_rounds.specs.Sessions.{StateOf, logged_from, made, after_step, of_first, IsSession}
 use Rattle.load_rounds.specs.Rounds.{orders_by, first_keys, Enters}
 use Rattle.load_rounds.proofs.Cutting.{rules-logged, logged-same, logged-past, orders-same, orders-past, first-some}
@@ -72,7 +72,7 @@ module _ {S : Type 0} where
 
     -- the round ran
     pub state-ran : (round before after : ℕ) (cut new : List (LoaderOf S)) (memory later : MemoryOf) (replies : List ReplyOf) → round ≡ before + 1 → IsSession old memory before → Enters round keys old cut before after → new ≡ map (λ l. stored_in l round) cut
-        → IsWith memory.pairs (pairs_of memory.modes replies) later.pairs → state new (look later.pairs) after ≡ after_step (state old (look memory.pairs) before) (Asked loads replies)
+        → IsWith memory.pairs (pairs_of memory.modes replies) later.pairs → state new (look later.pairs) after ≡ after_step (state old (look memory.pairs) before) (AskedLoads loads replies)
     state-ran round before after cut new memory later replies next is h marks kept =
         state-is new (logged_from 0 true (before + 1) (λ m. keys_for m loads) old) (look later.pairs) (after_round (map rule_of old) (look memory.pairs) replies) after (before + made (round_orders (map rule_of old) loads))
         (marked-loaders round before after keys old cut new memory later next is h marks ∙ wanted-logged true round ∙ ap (λ n. logged_from 0 true n (λ m. keys_for m loads) old) next)

@@ -3,7 +3,7 @@ use Rattle.std.proofs.Common.{true, false, ◌≡◌, ◌+◌, ℕ, List, [], �
 use Rattle.std.specs.Prelude.{slice_get}
 use Rattle.load_queue.specs.Loaders.{LoaderOf}
 use Rattle.execution.specs.Front.{keys_for}
-use Rattle.execution.specs.Sessions.{Step, Forgot, Asked, Lost, Primed, Cleared, ClearedAll}
+use Rattle.execution.specs.Sessions.{Step, Forgot, AskedLoads, Lost, Primed, Cleared, ClearedAll}
 use Rattle.load_rounds.specs.Sessions.{StateOf, rules_of, after_step, after_steps}
 use Rattle.load_rounds.proofs.Cutting.{rules-logged}
 use Rattle.load_rounds.proofs.Numbering.{source-at}
@@ -15,7 +15,7 @@ SameSources {S} old cur = (i : ℕ) (x : LoaderOf S) → slice_get cur i ≡ Som
 module _ {S : Type 0} where
   step-rules : (s : StateOf S) (step : Step) → rules_of (after_step s step) ≡ rules_of s
   step-rules s Forgot = refl
-  step-rules s (Asked loads replies) = rules-logged true (s.rounds + 1) 0 (λ n. keys_for n loads) s.loaders
+  step-rules s (AskedLoads loads replies) = rules-logged true (s.rounds + 1) 0 (λ n. keys_for n loads) s.loaders
   step-rules s (Lost loads) = rules-logged false (s.rounds + 1) 0 (λ n. keys_for n loads) s.loaders
   step-rules s (Primed pair) = refl
   step-rules s (Cleared cell) = refl
@@ -27,7 +27,7 @@ module _ {S : Type 0} where
 
   step-sources : (s : StateOf S) (step : Step) → SameSources s.loaders (after_step s step).loaders
   step-sources s Forgot i x at = (x, at, refl)
-  step-sources s (Asked loads replies) i x at = source-at true (s.rounds + 1) (λ n. keys_for n loads) 0 s.loaders i x at
+  step-sources s (AskedLoads loads replies) i x at = source-at true (s.rounds + 1) (λ n. keys_for n loads) 0 s.loaders i x at
   step-sources s (Lost loads) i x at = source-at false (s.rounds + 1) (λ n. keys_for n loads) 0 s.loaders i x at
   step-sources s (Primed pair) i x at = (x, at, refl)
   step-sources s (Cleared cell) i x at = (x, at, refl)

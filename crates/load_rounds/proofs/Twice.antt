@@ -7,7 +7,7 @@ use Rattle.load_memory.specs.Replies.{ReplyOf}
 use Rattle.load_queue.specs.Answers.{AnswerOf}
 use Rattle.execution.specs.Loads.{Load, Memory, IsOneOf}
 use Rattle.execution.specs.Rounds.{RuleOf, modes_of, round_orders, may_at, unless_failed, AreLimited}
-use Rattle.execution.specs.Sessions.{Cell, AreApart, order_cells, Step, Forgot, Asked, Lost, Primed, Cleared, ClearedAll, after, IsStep, AreSteps, clears}
+use Rattle.execution.specs.Sessions.{Cell, AreApart, order_cells, Step, Forgot, AskedLoads, Lost, Primed, Cleared, ClearedAll, after, IsStep, AreSteps, clears}
 use Rattle.execution.proofs.Same.{one-either}
 use Rattle.execution.proofs.ReplyLaws.{append-apart}
 use Rattle.execution.proofs.TwiceLaws.{absent, asked-outcome}
@@ -28,7 +28,7 @@ none-append c (x ∷ xs) ys h k = let b = either-false (clears c x) (list_any (c
 
 asking-clears : (c : Cell) (steps : List Step) → AreAsking steps → list_any (clears c) steps ≡ false
 asking-clears c [] h = refl
-asking-clears c (Asked loads replies ∷ steps) h = asking-clears c steps h
+asking-clears c (AskedLoads loads replies ∷ steps) h = asking-clears c steps h
 asking-clears c (Lost loads ∷ steps) h = asking-clears c steps h
 asking-clears c (Forgot ∷ steps) h = absurd h
 asking-clears c (Primed pair ∷ steps) h = absurd h
@@ -44,7 +44,7 @@ call-clears c (ClearingAll loader) own h k = rw (h, k) refl
 call-clears c Forgetting own h k = rw h refl
 call-clears c (Executing p text_of text rounds) own h k = asking-clears c own h
 call-clears c (StoppedExecuting p) own h k = asking-clears c own h
-call-clears c (ExecutingTogether rs told) own h k = asking-clears c own h
+call-clears c (ExecutingTogether rs reports) own h k = asking-clears c own h
 call-clears c (Running p rounds stage) own h k = asking-clears c own h
 
 calls-clear : (c : Cell) (calls : List Call) (steps : List Step) → AreMadeOf calls steps → list_any (clears_at c) calls ≡ false → list_any (clears c) steps ≡ false
@@ -57,7 +57,7 @@ calls-clear c (call ∷ calls) steps h k =
 module _ (rules : List RuleOf) (c : Cell) where
   kept-step : (item : ItemOf) (M : Memory) (step : Step) → M c.0 c.1 ≡ Some (known item) → clears c step ≡ false → after rules M step c.0 c.1 ≡ Some (known item)
   kept-step item M Forgot e h = ap unless_failed e
-  kept-step item M (Asked loads replies) e h = rw e refl
+  kept-step item M (AskedLoads loads replies) e h = rw e refl
   kept-step item M (Lost loads) e h = e
   kept-step item M (Primed pair) e h = rw e refl
   kept-step item M (Cleared d) e h = rw h e
@@ -73,7 +73,7 @@ module _ (rules : List RuleOf) (c : Cell) where
   -- anything while keys are asked
   asking-keeps : (o : OutcomeOf) (M : Memory) (steps : List Step) → AreAsking steps → M c.0 c.1 ≡ Some o → memory_after rules M steps c.0 c.1 ≡ Some o
   asking-keeps o M [] h e = e
-  asking-keeps o M (Asked loads replies ∷ steps) h e = asking-keeps o (after rules M (Asked loads replies)) steps h (rw e refl)
+  asking-keeps o M (AskedLoads loads replies ∷ steps) h e = asking-keeps o (after rules M (AskedLoads loads replies)) steps h (rw e refl)
   asking-keeps o M (Lost loads ∷ steps) h e = asking-keeps o M steps h e
   asking-keeps o M (Forgot ∷ steps) h e = absurd h
   asking-keeps o M (Primed pair ∷ steps) h e = absurd h
@@ -82,24 +82,24 @@ module _ (rules : List RuleOf) (c : Cell) where
 
 asking-parts : (xs ys : List Step) → AreAsking (xs ++ ys) → AreAsking xs × AreAsking ys
 asking-parts [] ys h = (tt, h)
-asking-parts (Asked loads replies ∷ xs) ys h = asking-parts xs ys h
+asking-parts (AskedLoads loads replies ∷ xs) ys h = asking-parts xs ys h
 asking-parts (Lost loads ∷ xs) ys h = asking-parts xs ys h
 asking-parts (Forgot ∷ xs) ys h = absurd h
 asking-parts (Primed pair ∷ xs) ys h = absurd h
 asking-parts (Cleared cell ∷ xs) ys h = absurd h
 asking-parts (ClearedAll loader ∷ xs) ys h = absurd h
 
-not-one : (step : Step) (before rest : List Step) (loads : List Load) (replies : List ReplyOf) → (Asked loads replies ≡ step → ⊥) → step ∷ [] ≡ before ++ Asked loads replies ∷ rest → ⊥
+not-one : (step : Step) (before rest : List Step) (loads : List Load) (replies : List ReplyOf) → (AskedLoads loads replies ≡ step → ⊥) → step ∷ [] ≡ before ++ AskedLoads loads replies ∷ rest → ⊥
 not-one step [] rest loads replies ne e = ne (cc e)
 not-one step (b ∷ []) rest loads replies ne e = cc e
 not-one step (b ∷ c ∷ bs) rest loads replies ne e = cc e
 
-not-none : (before rest : List Step) (loads : List Load) (replies : List ReplyOf) → [] ≡ before ++ Asked loads replies ∷ rest → ⊥
+not-none : (before rest : List Step) (loads : List Load) (replies : List ReplyOf) → [] ≡ before ++ AskedLoads loads replies ∷ rest → ⊥
 not-none [] rest loads replies e = cc e
 not-none (b ∷ bs) rest loads replies e = cc e
 
 -- a call that asks makes rounds alone
-asks-alone : (call : Call) (own before rest : List Step) (loads : List Load) (replies : List ReplyOf) → IsMadeOf call own → own ≡ before ++ Asked loads replies ∷ rest → AreAsking own
+asks-alone : (call : Call) (own before rest : List Step) (loads : List Load) (replies : List ReplyOf) → IsMadeOf call own → own ≡ before ++ AskedLoads loads replies ∷ rest → AreAsking own
 asks-alone (Loading loader keys outcomes) own before rest loads replies h e = h
 asks-alone (StoppedLoading loader keys) own before rest loads replies h e = h
 asks-alone (Priming pair) own before rest loads replies h e = absurd (not-one (Primed pair) before rest loads replies (λ s. cc s) (sym h ∙ e))
@@ -108,7 +108,7 @@ asks-alone (ClearingAll loader) own before rest loads replies h e = absurd (not-
 asks-alone Forgetting own before rest loads replies h e = absurd (not-none before rest loads replies (sym h ∙ e))
 asks-alone (Executing p text_of text rounds) own before rest loads replies h e = h
 asks-alone (StoppedExecuting p) own before rest loads replies h e = h
-asks-alone (ExecutingTogether rs told) own before rest loads replies h e = h
+asks-alone (ExecutingTogether rs reports) own before rest loads replies h e = h
 asks-alone (Running p rounds stage) own before rest loads replies h e = h
 
 -- the round of a call that asks a cell: what came before it in the call, and after it
@@ -117,7 +117,7 @@ record Found {S : Type 0} (may : S → List KeyOf → AnswerOf → Type 0) (old 
   pub loads : List Load
   pub replies : List ReplyOf
   pub rest : List Step
-  pub leads : Leads may old (Forgot ∷ (before ++ Asked loads replies ∷ rest)) new
+  pub leads : Leads may old (Forgot ∷ (before ++ AskedLoads loads replies ∷ rest)) new
   pub first : AreAsking before
   pub last : AreAsking rest
   pub ordered : IsOneOf c (order_cells (session_modes old) (round_orders (rules_of old) loads))
@@ -129,13 +129,13 @@ module _ {S : Type 0} (may : S → List KeyOf → AnswerOf → Type 0) where
       let cells = gained-cells (session_modes old) c.0 may old new (Forgot ∷ made.0) made.1 in
       go made.0 made.1 made.2 (asked-in (session_modes old) c.0 old (Forgot ∷ made.0) c limited (rw cells at one))
     where
-      split : (own before rest : List Step) (loads : List Load) (replies : List ReplyOf) → Leads may old (Forgot ∷ own) new → IsMadeOf call own → Forgot ∷ own ≡ before ++ Asked loads replies ∷ rest
+      split : (own before rest : List Step) (loads : List Load) (replies : List ReplyOf) → Leads may old (Forgot ∷ own) new → IsMadeOf call own → Forgot ∷ own ≡ before ++ AskedLoads loads replies ∷ rest
           → IsOneOf c (order_cells (session_modes old) (round_orders (rules_of old) loads)) → Found may old new c
       split own [] rest loads replies leads made e ordered = absurd (cc e)
       split own (b ∷ bs) rest loads replies leads made e ordered =
-          let same : own ≡ bs ++ Asked loads replies ∷ rest = cc e in
-          let alone : AreAsking (bs ++ Asked loads replies ∷ rest) = rw same at (asks-alone call own bs rest loads replies made same) in
-          let parts = asking-parts bs (Asked loads replies ∷ rest) alone in
+          let same : own ≡ bs ++ AskedLoads loads replies ∷ rest = cc e in
+          let alone : AreAsking (bs ++ AskedLoads loads replies ∷ rest) = rw same at (asks-alone call own bs rest loads replies made same) in
+          let parts = asking-parts bs (AskedLoads loads replies ∷ rest) alone in
           record { before = bs; loads = loads; replies = replies; rest = rest; leads = rw same at leads; first = parts.0; last = parts.1; ordered = ordered }
 
       go : (own : List Step) → Leads may old (Forgot ∷ own) new → IsMadeOf call own → AskedIn (session_modes old) c.0 old (Forgot ∷ own) c → Found may old new c
@@ -145,8 +145,8 @@ module _ {S : Type 0} (may : S → List KeyOf → AnswerOf → Type 0) where
   abbrev before_round : (old new : StateOf S) (c : Cell) → Found may old new c → Memory
   before_round old new c f = memory_after (rules_of old) old.memory (Forgot ∷ f.before)
 
-  round-step : (old new : StateOf S) (c : Cell) (f : Found may old new c) → IsStep (may_at may old.loaders) (rules_of old) (before_round old new c f) (Asked f.loads f.replies)
-  round-step old new c f = (are-after (may_at may old.loaders) (rules_of old) old.memory (Forgot ∷ f.before) (Asked f.loads f.replies ∷ f.rest) f.leads.may_be).0
+  round-step : (old new : StateOf S) (c : Cell) (f : Found may old new c) → IsStep (may_at may old.loaders) (rules_of old) (before_round old new c f) (AskedLoads f.loads f.replies)
+  round-step old new c f = (are-after (may_at may old.loaders) (rules_of old) old.memory (Forgot ∷ f.before) (AskedLoads f.loads f.replies ∷ f.rest) f.leads.may_be).0
 
   -- what was asked is known at the end of the call
   known-after : (old new : StateOf S) (c : Cell) → AreLimited (rules_of old) → Found may old new c → (o : OutcomeOf) × (new.memory c.0 c.1 ≡ Some o)
@@ -154,8 +154,8 @@ module _ {S : Type 0} (may : S → List KeyOf → AnswerOf → Type 0) where
       let rules = rules_of old in
       let M = before_round old new c f in
       let got = asked-outcome (may_at may old.loaders) rules M f.loads f.replies c limited (round-step old new c f) f.ordered in
-      let end = asking-keeps rules c got.0 (after rules M (Asked f.loads f.replies)) f.rest f.last got.2 in
-      let memory = leads-memory may old new (Forgot ∷ (f.before ++ Asked f.loads f.replies ∷ f.rest)) f.leads ∙ memory-append rules old.memory (Forgot ∷ f.before) (Asked f.loads f.replies ∷ f.rest) in
+      let end = asking-keeps rules c got.0 (after rules M (AskedLoads f.loads f.replies)) f.rest f.last got.2 in
+      let memory = leads-memory may old new (Forgot ∷ (f.before ++ AskedLoads f.loads f.replies ∷ f.rest)) f.leads ∙ memory-append rules old.memory (Forgot ∷ f.before) (AskedLoads f.loads f.replies ∷ f.rest) in
       (got.0, ap (λ (N : Memory). N c.0 c.1) memory ∙ end)
 
   -- what is known isn't asked
@@ -200,12 +200,12 @@ module _ {S : Type 0} (may : ℕ → List KeyOf → AnswerOf → Type 0) (rules 
   abbrev AreFresh : StateOf S → List Step → Type 0
   AreFresh s steps = AreApart (all_cells (modes_of rules) n s steps) × ((c : Cell) → IsOneOf c (all_cells (modes_of rules) n s steps) → s.memory c.0 c.1 ≡ None)
 
-  round-fresh : (s : StateOf S) (loads : List Load) (replies : List ReplyOf) (steps : List Step) → rules_of s ≡ rules → IsStep may rules s.memory (Asked loads replies)
-      → AreFresh (after_step s (Asked loads replies)) steps → AreFresh s (Asked loads replies ∷ steps)
+  round-fresh : (s : StateOf S) (loads : List Load) (replies : List ReplyOf) (steps : List Step) → rules_of s ≡ rules → IsStep may rules s.memory (AskedLoads loads replies)
+      → AreFresh (after_step s (AskedLoads loads replies)) steps → AreFresh s (AskedLoads loads replies ∷ steps)
   round-fresh s loads replies steps same h later = (
-    append-apart (step_cells (modes_of rules) n s (Asked loads replies)) (all_cells (modes_of rules) n (after_step s (Asked loads replies)) steps)
+    append-apart (step_cells (modes_of rules) n s (AskedLoads loads replies)) (all_cells (modes_of rules) n (after_step s (AskedLoads loads replies)) steps)
         (asked-apart (modes_of rules) n s loads replies s.memory own h.0) later.0 (λ c i j. clash c (there c i) (later.1 c j)),
-    λ c i. elim (one-either c (step_cells (modes_of rules) n s (Asked loads replies)) (all_cells (modes_of rules) n (after_step s (Asked loads replies)) steps) i) [
+    λ c i. elim (one-either c (step_cells (modes_of rules) n s (AskedLoads loads replies)) (all_cells (modes_of rules) n (after_step s (AskedLoads loads replies)) steps) i) [
       | inl a ↦ absent rules s.memory loads c limited h.0 (ordered c a)
       | inr b ↦ before c (s.memory c.0 c.1) refl (later.1 c b)
     ],
@@ -214,23 +214,23 @@ module _ {S : Type 0} (may : ℕ → List KeyOf → AnswerOf → Type 0) (rules 
       own : AreLimited (rules_of s)
       own = rw same limited
 
-      ordered : (c : Cell) → IsOneOf c (step_cells (modes_of rules) n s (Asked loads replies)) → IsOneOf c (order_cells (modes_of rules) (round_orders rules loads))
+      ordered : (c : Cell) → IsOneOf c (step_cells (modes_of rules) n s (AskedLoads loads replies)) → IsOneOf c (order_cells (modes_of rules) (round_orders rules loads))
       ordered c i = rw same at (asked-orders (modes_of rules) n s loads replies c own i)
 
-      there : (c : Cell) → IsOneOf c (step_cells (modes_of rules) n s (Asked loads replies)) → (o : OutcomeOf) × (after (rules_of s) s.memory (Asked loads replies) c.0 c.1 ≡ Some o)
+      there : (c : Cell) → IsOneOf c (step_cells (modes_of rules) n s (AskedLoads loads replies)) → (o : OutcomeOf) × (after (rules_of s) s.memory (AskedLoads loads replies) c.0 c.1 ≡ Some o)
       there c i = let got = asked-outcome may rules s.memory loads replies c limited h (ordered c i) in (got.0, rw same got.2)
 
-      clash : (c : Cell) → ((o : OutcomeOf) × (after (rules_of s) s.memory (Asked loads replies) c.0 c.1 ≡ Some o)) → after (rules_of s) s.memory (Asked loads replies) c.0 c.1 ≡ None → ⊥
+      clash : (c : Cell) → ((o : OutcomeOf) × (after (rules_of s) s.memory (AskedLoads loads replies) c.0 c.1 ≡ Some o)) → after (rules_of s) s.memory (AskedLoads loads replies) c.0 c.1 ≡ None → ⊥
       clash c got none = cc (sym none ∙ got.1)
 
-      before : (c : Cell) (x : Option OutcomeOf) → s.memory c.0 c.1 ≡ x → after (rules_of s) s.memory (Asked loads replies) c.0 c.1 ≡ None → s.memory c.0 c.1 ≡ None
+      before : (c : Cell) (x : Option OutcomeOf) → s.memory c.0 c.1 ≡ x → after (rules_of s) s.memory (AskedLoads loads replies) c.0 c.1 ≡ None → s.memory c.0 c.1 ≡ None
       before c None e none = e
-      before c (Some o) e none = let kept : after (rules_of s) s.memory (Asked loads replies) c.0 c.1 ≡ Some o = rw e refl in absurd (cc (sym none ∙ kept))
+      before c (Some o) e none = let kept : after (rules_of s) s.memory (AskedLoads loads replies) c.0 c.1 ≡ Some o = rw e refl in absurd (cc (sym none ∙ kept))
 
   pub asking-fresh : (s : StateOf S) (steps : List Step) → AreAsking steps → rules_of s ≡ rules → AreSteps may rules s.memory steps → AreFresh s steps
   asking-fresh s [] asking same h = (tt, λ c i. absurd i)
-  asking-fresh s (Asked loads replies ∷ steps) asking same h =
-      round-fresh s loads replies steps same h.0 (asking-fresh (after_step s (Asked loads replies)) steps asking (steps-rules s (Asked loads replies ∷ []) ∙ same) (rw same h.1))
+  asking-fresh s (AskedLoads loads replies ∷ steps) asking same h =
+      round-fresh s loads replies steps same h.0 (asking-fresh (after_step s (AskedLoads loads replies)) steps asking (steps-rules s (AskedLoads loads replies ∷ []) ∙ same) (rw same h.1))
   asking-fresh s (Lost loads ∷ steps) asking same h =
       let later = asking-fresh (after_step s (Lost loads)) steps asking (steps-rules s (Lost loads ∷ []) ∙ same) h.1 in
       lost-fresh s loads steps later
@@ -256,7 +256,7 @@ module _ {S : Type 0} (may : S → List KeyOf → AnswerOf → Type 0) where
       go (StoppedLoading loader keys) own made h = fresh own made h
       go (Executing p text_of text rounds) own made h = fresh own made h
       go (StoppedExecuting p) own made h = fresh own made h
-      go (ExecutingTogether rs told) own made h = fresh own made h
+      go (ExecutingTogether rs reports) own made h = fresh own made h
       go (Running p rounds stage) own made h = fresh own made h
       go (Priming pair) own made h = rw made tt
       go (Clearing cell) own made h = rw made tt

@@ -7,7 +7,7 @@ use Rattle.load_queue.specs.Answers.{AnswerOf}
 use Rattle.execution.specs.Loads.{Load, read}
 use Rattle.execution.specs.Front.{front_of_keys}
 use Rattle.execution.specs.Rounds.{round_orders, may_at, AreReplies, without_failed}
-use Rattle.execution.specs.Sessions.{Forgot, Asked, Lost, Cell, key_cell}
+use Rattle.execution.specs.Sessions.{Forgot, AskedLoads, Lost, Cell, key_cell}
 use Rattle.load_rounds.specs.Sessions.{StateOf, rules_of, session_modes, after_step, of_first}
 
 abbrev pub load_of : ℕ → KeyOf → Load
@@ -31,7 +31,7 @@ module _ {S : Type 0} where
     pub record RoundRan (old new : StateOf S) (loads : List Load) : Type 0 where
       pub replies : List ReplyOf
       pub answered : AreReplies (may_at may old.loaders) (round_orders (rules_of old) loads) replies
-      pub after : new ≡ after_step old (Asked loads replies)
+      pub after : new ≡ after_step old (AskedLoads loads replies)
 
     -- the loads were asked in one round, where there are some
     abbrev pub AsksOnce : StateOf S → StateOf S → List Load → Type 0

@@ -11,7 +11,7 @@ use Rattle.execution.specs.Completion.{AnsweredOf}
 use Rattle.execution.specs.Executed.{exec}
 use Rattle.execution.specs.Front.{front}
 use Rattle.execution.specs.Rounds.{RuleOf, modes_of, may_at, AreRounds, IsSparing, after_round, without_failed}
-use Rattle.execution.specs.Sessions.{Step, Forgot, Asked, AreApart, asked_cells, IsAnsweredIn}
+use Rattle.execution.specs.Sessions.{Step, Forgot, AskedLoads, AreApart, asked_cells, IsAnsweredIn}
 use Rattle.gq_check.specs.Plans.{PlanOf}
 use Rattle.gq_check.specs.Planned.{IsPlan}
 use Rattle.plan_program.specs.PlanPrograms.{plan_program}
@@ -24,12 +24,12 @@ use Rattle.load_rounds.specs.declared.answer.Answer.{Answer}
 pub record IsTextOf (text_of : AnsweredOf → List ℕ) (p : Program) (R : Reader) (text : List ℕ) : Type 0 where
   pub answered : AnsweredOf
   pub executed : exec p R ≡ Some answered
-  pub told : text ≡ text_of answered
+  pub report : text ≡ text_of answered
 
 -- the rounds of a log, as steps of a session: each asks exactly the front
 abbrev pub asked_steps : List RuleOf → Program → Memory → List (List ReplyOf) → List Step
 asked_steps rules p M [] = []
-asked_steps rules p M (round ∷ rounds) = Asked (front (modes_of rules) p M) round ∷ asked_steps rules p (after_round rules M round) rounds
+asked_steps rules p M (round ∷ rounds) = AskedLoads (front (modes_of rules) p M) round ∷ asked_steps rules p (after_round rules M round) rounds
 
 module _ {S : Type 0} (may : S → List KeyOf → AnswerOf → Type 0) where
   -- Failed batches were forgotten. Then these rounds were made and nothing else: each asked exactly the batches of the front,

@@ -11,11 +11,11 @@ use Rattle.load_queue.specs.Loaders.{LoaderOf, AskedOf}
 use Rattle.execution.specs.Loads.{IsOneOf}
 use Rattle.execution.specs.Program.{Program}
 use Rattle.execution.specs.Completion.{AnsweredOf}
-use Rattle.execution.specs.Sessions.{Step, Forgot, Asked, Lost, Primed, Cleared, ClearedAll, Cell, key_cell, is_cell}
+use Rattle.execution.specs.Sessions.{Step, Forgot, AskedLoads, Lost, Primed, Cleared, ClearedAll, Cell, key_cell, is_cell}
 use Rattle.load_rounds.specs.Sessions.{StateOf, session_modes, after_steps, MayBe}
 use Rattle.load_rounds.specs.Calls.{asked_for, IsLoaded, IsStopped}
 use Rattle.load_rounds.specs.Headline.{Headline, StopsAnswering}
-use Rattle.load_rounds.specs.SharedRounds.{RequestOf, ToldOf, SharedHeadline}
+use Rattle.load_rounds.specs.SharedRounds.{RequestOf, ReportOf, SharedHeadline}
 use Rattle.load_rounds.specs.Runs.{IsRun}
 use Rattle.load_rounds.specs.declared.run.Stage.{Stage}
 
@@ -35,8 +35,8 @@ pub data Call : Type 0 where
   Executing : Program → (AnsweredOf → List ℕ) → List ℕ → ℕ → Call
   -- the same, at which memory was wanted
   StoppedExecuting : Program → Call
-  -- `answer_all` of several requests, with what it told each; where memory was wanted, and in a run by hand, they are one program
-  ExecutingTogether : List RequestOf → List ToldOf → Call
+  -- `answer_all` of several requests, with its report of each; where memory was wanted, and in a run by hand, they are one program
+  ExecutingTogether : List RequestOf → List ReportOf → Call
   -- a run of a program by hand from `begin` on, which after so many rounds was finished, failed or was dropped at this stage
   Running : Program → ℕ → Stage → Call
 
@@ -50,13 +50,13 @@ clears_at cell (ClearingAll loader) = loader == cell.0
 clears_at cell Forgetting = false
 clears_at cell (Executing p text_of text rounds) = false
 clears_at cell (StoppedExecuting p) = false
-clears_at cell (ExecutingTogether rs told) = false
+clears_at cell (ExecutingTogether rs reports) = false
 clears_at cell (Running p rounds stage) = false
 
 -- rounds alone, stored or lost
 abbrev pub AreAsking : List Step → Type 0
 AreAsking [] = Unit {0}
-AreAsking (Asked loads replies ∷ steps) = AreAsking steps
+AreAsking (AskedLoads loads replies ∷ steps) = AreAsking steps
 AreAsking (Lost loads ∷ steps) = AreAsking steps
 AreAsking (Forgot ∷ steps) = ⊥
 AreAsking (Primed pair ∷ steps) = ⊥
@@ -73,7 +73,7 @@ IsMadeOf (ClearingAll loader) steps = steps ≡ ClearedAll loader ∷ []
 IsMadeOf Forgetting steps = steps ≡ []
 IsMadeOf (Executing p text_of text rounds) steps = AreAsking steps
 IsMadeOf (StoppedExecuting p) steps = AreAsking steps
-IsMadeOf (ExecutingTogether rs told) steps = AreAsking steps
+IsMadeOf (ExecutingTogether rs reports) steps = AreAsking steps
 IsMadeOf (Running p rounds stage) steps = AreAsking steps
 
 -- the steps of calls, one after another
@@ -84,7 +84,7 @@ AreMadeOf (call ∷ calls) steps = (own : List Step) × (more : List Step) × (s
 -- the replies of each round that was stored
 abbrev pub replies_of : List Step → List (List ReplyOf)
 replies_of [] = []
-replies_of (Asked loads replies ∷ steps) = replies ∷ replies_of steps
+replies_of (AskedLoads loads replies ∷ steps) = replies ∷ replies_of steps
 replies_of (Lost loads ∷ steps) = replies_of steps
 replies_of (Forgot ∷ steps) = replies_of steps
 replies_of (Primed pair ∷ steps) = replies_of steps
@@ -139,7 +139,7 @@ module _ {S : Type 0} where
     IsCall Forgetting old new = new ≡ after_steps old (Forgot ∷ [])
     IsCall (Executing p text_of text rounds) old new = Headline may old new p text_of text rounds
     IsCall (StoppedExecuting p) old new = StopsAnswering may old new p
-    IsCall (ExecutingTogether rs told) old new = SharedHeadline may old new rs told
+    IsCall (ExecutingTogether rs reports) old new = SharedHeadline may old new rs reports
     IsCall (Running p rounds stage) old new = IsRun may p old new rounds stage
 
     -- calls one after another

@@ -13,3 +13,4 @@ pub mod SharedKeyByKey
 pub mod SharedRounds
 pub mod SharedRuns
 pub mod Together
+pub mod Within

@@ -13,13 +13,13 @@ use Rattle.load_memory.specs.Keys.{KeyOf, text, pair}
 use Rattle.load_memory.specs.Rows.{RowOf, cell_of}
 use Rattle.load_memory.specs.Outcomes.{OutcomeOf, known, batch_fault, rows, key_fault}
 use Rattle.execution.specs.Loads.{Load, Reader, IsOneOf}
-use Rattle.execution.specs.Program.{Own, Null, Value, Text, Program, Is, Read, Under, Programs, End, With, Kind, Spot, Item, given, needs, all_needs}
+use Rattle.execution.specs.Program.{LeafValue, Null, Value, Text, Program, Is, Read, Under, Programs, End, With, Kind, FieldPosition, Item, given, needs, all_needs}
 use Rattle.execution.specs.Rounds.{HasLoaders}
 use Rattle.gq_check.specs.Plans.{PlanOf}
-use Rattle.plan_program.specs.Groups.{FieldOf, GroupOf, selections_in, nothing_collected, collect, collect_below}
+use Rattle.plan_program.specs.Groups.{FieldOf, GroupOf, selections_in, nothing_collected, collect, collect_subfields}
 use Rattle.plan_program.specs.Arguments.{ArgumentsOf, ValueOf, all_values, null_argument, arguments_of}
-use Rattle.plan_program.specs.Asked.{KeyFrom, fixed, of_column, of_pair, BelowOf, ValueFrom, known as settled, cell, first_row, all_rows, each_row, joined_rows, PreparedOf, with_loader, have_loaders, with_steps, with_key, key_from, each_asked, input_named, bound_asked, below_of, with_arguments, defined_asked, field_asked, first_asked, spot_of, all_prepared}
-use Rattle.plan_program.specs.PlanPrograms.{TypeOf, object_type, type_fault, type_of_row, places, list_of, fields_of, Objects, typed_object, row_object, with_rows, read_key, read_cell, PartOver, told, lacking, part_over, read_pair, read_from, read_if, first_of, first_object, all_objects, joined_object, joined_objects, asked_program, object_program, most_levels, root_prepared, plan_program}
+use Rattle.plan_program.specs.FieldValues.{KeyFrom, fixed, of_column, of_pair, ChildrenOf, ValueFrom, known as settled, cell, first_row, all_rows, each_row, joined_rows, PreparedOf, with_loader, have_loaders, with_steps, with_key, key_from, each_asked, input_named, bound_asked, children_of, with_arguments, defined_asked, field_asked, first_asked, position_of, all_prepared}
+use Rattle.plan_program.specs.PlanPrograms.{TypeOf, object_type, type_fault, type_of_row, places, list_of, fields_of, Objects, typed_object, row_object, with_rows, read_key, read_cell, PartOver, known_part, lacking, part_over, read_pair, read_from, read_if, first_of, first_object, all_objects, joined_object, joined_objects, asked_program, object_program, most_levels, root_prepared, plan_program}
 
 split : (l : Load) (xs ys : List Load) → IsOneOf l (xs ++ ys) → IsOneOf l xs ⊎ IsOneOf l ys
 split l [] ys h = inr h
@@ -33,8 +33,8 @@ module _ (n : ℕ) where
   abbrev AreWithin : Programs → Type 0
   AreWithin ps = (R : Reader) (l : Load) → IsOneOf l (all_needs ps R) → l.loader < n
 
-  within-is : (own : Own) → HasLoaders n (Is own)
-  within-is own R l h = absurd h
+  within-is : (leaf_value : LeafValue) → HasLoaders n (Is leaf_value)
+  within-is leaf_value R l h = absurd h
 
   within-read : (load : Load) (next : OutcomeOf → Program) → load.loader < n → ((o : OutcomeOf) → HasLoaders n (next o)) → HasLoaders n (Read load next)
   within-read load next lt h R l (inl e) = rw e lt
@@ -49,8 +49,8 @@ module _ (n : ℕ) where
   within-end : AreWithin End
   within-end R l h = absurd h
 
-  within-with : (spot : Spot) (p : Program) (ps : Programs) → HasLoaders n p → AreWithin ps → AreWithin (With spot p ps)
-  within-with spot p ps h k R l i = go (split l (needs p R) (all_needs ps R) i) where
+  within-with : (position : FieldPosition) (p : Program) (ps : Programs) → HasLoaders n p → AreWithin ps → AreWithin (With position p ps)
+  within-with position p ps h k R l i = go (split l (needs p R) (all_needs ps R) i) where
     go : IsOneOf l (needs p R) ⊎ IsOneOf l (all_needs ps R) → l.loader < n
     go (inl a) = h R l a
     go (inr b) = k R l b
@@ -71,10 +71,10 @@ module _ (n : ℕ) where
 
   within-pair : (loader : ℕ) (one two : PartOver) (next : List RowOf → Program) → loader < n → ((rs : List RowOf) → HasLoaders n (next rs)) → HasLoaders n (read_pair loader one two next)
   within-pair loader (lacking column) two next lt h = λ R l h. absurd h
-  within-pair loader (told one) (lacking column) next lt h = λ R l h. absurd h
-  within-pair loader (told None) (told two) next lt h = λ R l h. absurd h
-  within-pair loader (told (Some s)) (told None) next lt h = λ R l h. absurd h
-  within-pair loader (told (Some s)) (told (Some t)) next lt h = within-key loader (pair s t) next lt h
+  within-pair loader (known_part one) (lacking column) next lt h = λ R l h. absurd h
+  within-pair loader (known_part None) (known_part two) next lt h = λ R l h. absurd h
+  within-pair loader (known_part (Some s)) (known_part None) next lt h = λ R l h. absurd h
+  within-pair loader (known_part (Some s)) (known_part (Some t)) next lt h = within-key loader (pair s t) next lt h
 
   within-from : (loader : ℕ) (from : KeyFrom) (row : RowOf) (next : List RowOf → Program) → loader < n → ((rs : List RowOf) → HasLoaders n (next rs)) → HasLoaders n (read_from loader from row next)
   within-from loader (fixed key) row next lt h = within-key loader key next lt h
@@ -86,11 +86,11 @@ module _ (n : ℕ) where
   within-if loader next lt h (Some key) = within-key loader key next lt h
 
   -- lists
-  within-places : {A : Type 0} (strict : Bool) (place : Place) (i : ℕ) (f : A → Program) (xs : List A) → ((x : A) → HasLoaders n (f x)) → AreWithin (places strict place i (map f xs))
-  within-places strict place i f [] h = within-end
-  within-places strict place i f (x ∷ xs) h = within-with (record { part = Item i; non_null = strict; place = place }) (f x) (places strict place (suc i) (map f xs)) (h x) (within-places strict place (suc i) f xs h)
+  within-places : {A : Type 0} (non_null : Bool) (place : Place) (i : ℕ) (f : A → Program) (xs : List A) → ((x : A) → HasLoaders n (f x)) → AreWithin (places non_null place i (map f xs))
+  within-places non_null place i f [] h = within-end
+  within-places non_null place i f (x ∷ xs) h = within-with (record { part = Item i; non_null = non_null; place = place }) (f x) (places non_null place (suc i) (map f xs)) (h x) (within-places non_null place (suc i) f xs h)
 
-  within-list : {A : Type 0} (below : BelowOf) (f : A → Program) (xs : List A) → ((x : A) → HasLoaders n (f x)) → HasLoaders n (list_of below (map f xs))
+  within-list : {A : Type 0} (below : ChildrenOf) (f : A → Program) (xs : List A) → ((x : A) → HasLoaders n (f x)) → HasLoaders n (list_of below (map f xs))
   within-list below f xs h = within-places below.item_non_null below.place 0 f xs h
 
   abbrev StepsWithin : List StepOf → Type 0
@@ -103,7 +103,7 @@ module _ (n : ℕ) where
 
   -- what is asked, of loaders that are there
   abbrev IsAskedWithin : ValueFrom → Type 0
-  IsAskedWithin (settled own) = Unit {0}
+  IsAskedWithin (settled leaf_value) = Unit {0}
   IsAskedWithin (cell column t) = Unit {0}
   IsAskedWithin (first_row loader key below) = loader < n
   IsAskedWithin (all_rows loader key below) = loader < n
@@ -115,23 +115,23 @@ module _ (n : ℕ) where
   AreAskedWithin (p ∷ ps) = IsAskedWithin p.asked × AreAskedWithin ps
 
   module _ (defs : List Definition) (objects : Objects) (h : (ty : List ℕ) (fields : List FieldOf) (row : RowOf) → HasLoaders n (objects ty fields row)) where
-    within-typed : (below : BelowOf) (row : RowOf) (t : TypeOf) → HasLoaders n (typed_object objects below row t)
+    within-typed : (below : ChildrenOf) (row : RowOf) (t : TypeOf) → HasLoaders n (typed_object objects below row t)
     within-typed below row (type_fault fault) = λ R l h. absurd h
     within-typed below row (object_type ty) = h ty below.fields row
 
-    within-row : (below : BelowOf) (row : RowOf) → HasLoaders n (row_object defs objects below row)
+    within-row : (below : ChildrenOf) (row : RowOf) → HasLoaders n (row_object defs objects below row)
     within-row below row = within-typed below row (type_of_row defs below.type_name row)
 
-    within-first : (below : BelowOf) (rs : List RowOf) → HasLoaders n (first_object defs objects below rs)
+    within-first : (below : ChildrenOf) (rs : List RowOf) → HasLoaders n (first_object defs objects below rs)
     within-first below [] = λ R l h. absurd h
     within-first below (r ∷ rs) = within-row below r
 
-    within-joined : (below : BelowOf) (steps : List StepOf) → StepsWithin steps → (row : RowOf) → HasLoaders n (joined_object defs objects below steps row)
+    within-joined : (below : ChildrenOf) (steps : List StepOf) → StepsWithin steps → (row : RowOf) → HasLoaders n (joined_object defs objects below steps row)
     within-joined below [] k row = within-row below row
     within-joined below (s ∷ ss) k row = within-from s.loader (of_column s.column) row (first_of (joined_object defs objects below ss)) k.0 (first-within (joined_object defs objects below ss) (within-joined below ss k.1))
 
     within-asked : (row : RowOf) (a : ValueFrom) → IsAskedWithin a → HasLoaders n (asked_program defs objects row a)
-    within-asked row (settled own) lt = within-is own
+    within-asked row (settled leaf_value) lt = within-is leaf_value
     within-asked row (cell column t) lt = λ R l h. absurd h
     within-asked row (first_row loader key below) lt = within-from loader key row (first_object defs objects below) lt (within-first below)
     within-asked row (all_rows loader key below) lt = within-from loader key row (all_objects defs objects below) lt (λ rs. within-list below (row_object defs objects below) rs (within-row below))
@@ -141,10 +141,10 @@ module _ (n : ℕ) where
 
     within-fields : (row : RowOf) (ps : List PreparedOf) → AreAskedWithin ps → AreWithin (fields_of (asked_program defs objects row) ps)
     within-fields row [] k = within-end
-    within-fields row (p ∷ ps) k = within-with p.spot (asked_program defs objects row p.asked) (fields_of (asked_program defs objects row) ps) (within-asked row p.asked k.0) (within-fields row ps k.1)
+    within-fields row (p ∷ ps) k = within-with p.position (asked_program defs objects row p.asked) (fields_of (asked_program defs objects row) ps) (within-asked row p.asked k.0) (within-fields row ps k.1)
 
 abbrev typename_asked : List ℕ → FieldOf → GroupOf → PreparedOf
-typename_asked ty f g = record { spot = spot_of g.key f.place true; asked = settled (Value (Text ty)) }
+typename_asked ty f g = record { position = position_of g.key f.place true; asked = settled (Value (Text ty)) }
 
 -- what a plan's groups ask
 module _ (plan : PlanOf) where
@@ -170,7 +170,7 @@ module _ (plan : PlanOf) where
   asked-key None f h = tt
   asked-key (Some k) f h = h k
 
-  asked-each : (loader : ℕ) (below : BelowOf) (i : Option Input) → loader < length plan.bindings.loaders → IsAskedWithin (length plan.bindings.loaders) (each_asked loader below i)
+  asked-each : (loader : ℕ) (below : ChildrenOf) (i : Option Input) → loader < length plan.bindings.loaders → IsAskedWithin (length plan.bindings.loaders) (each_asked loader below i)
   asked-each loader below None lt = tt
   asked-each loader below (Some (input.Items is)) lt = lt
   asked-each loader below (Some input.Null) lt = tt
@@ -178,7 +178,7 @@ module _ (plan : PlanOf) where
   asked-each loader below (Some (input.Text t)) lt = tt
   asked-each loader below (Some (input.Boolean b)) lt = tt
 
-  asked-bound : (t : TypeTree) (below : BelowOf) (values : List ValueOf) (b : Option BindingOf) → IsAskedWithin (length plan.bindings.loaders) (bound_asked plan t below values b)
+  asked-bound : (t : TypeTree) (below : ChildrenOf) (values : List ValueOf) (b : Option BindingOf) → IsAskedWithin (length plan.bindings.loaders) (bound_asked plan t below values b)
   asked-bound t below values None = tt
   asked-bound t below values (Some (by_column column)) = tt
   asked-bound t below values (Some (by_one loader key)) =
@@ -197,7 +197,7 @@ module _ (plan : PlanOf) where
   asked-defined : (ty : List ℕ) (f : FieldOf) (g : GroupOf) (d : Option Field) → IsAskedWithin (length plan.bindings.loaders) (defined_asked plan ty f g d).asked
   asked-defined ty f g None = tt
   asked-defined ty f g (Some d) =
-      asked-with (arguments_of plan ty g) (λ values. bound_asked plan d.of_type (below_of d.of_type f.place g.fields) values (binding_in plan.bindings.fields ty f.name)) (λ values. asked-bound d.of_type (below_of d.of_type f.place g.fields) values (binding_in plan.bindings.fields ty f.name))
+      asked-with (arguments_of plan ty g) (λ values. bound_asked plan d.of_type (children_of d.of_type f.place g.fields) values (binding_in plan.bindings.fields ty f.name)) (λ values. asked-bound d.of_type (children_of d.of_type f.place g.fields) values (binding_in plan.bindings.fields ty f.name))
 
   asked-field : (ty : List ℕ) (f : FieldOf) (g : GroupOf) → IsAskedWithin (length plan.bindings.loaders) (field_asked plan ty f g).asked
   asked-field ty f g = go (bytes_eq f.name (codes "__typename")) where
@@ -216,7 +216,7 @@ module _ (plan : PlanOf) where
   within-object : (levels : ℕ) (ty : List ℕ) (fields : List FieldOf) (row : RowOf) → HasLoaders (length plan.bindings.loaders) (object_program plan levels ty fields row)
   within-object zero ty fields row = λ R l h. absurd h
   within-object (suc levels) ty fields row =
-      within-fields (length plan.bindings.loaders) plan.definitions (object_program plan levels) (within-object levels) row (all_prepared plan ty (collect_below plan ty nothing_collected fields).groups) (asked-all ty (collect_below plan ty nothing_collected fields).groups)
+      within-fields (length plan.bindings.loaders) plan.definitions (object_program plan levels) (within-object levels) row (all_prepared plan ty (collect_subfields plan ty nothing_collected fields).groups) (asked-all ty (collect_subfields plan ty nothing_collected fields).groups)
 
   -- a plan's program asks no loader but those that its bindings define
   pub plan-loads : HasLoaders (length plan.bindings.loaders) (plan_program plan)

@@ -11,7 +11,7 @@ use Rattle.load_queue.specs.Orders.{OrderOf}
 use Rattle.execution.specs.Loads.{Load, Memory}
 use Rattle.execution.specs.Front.{keys_for}
 use Rattle.execution.specs.Rounds.{RuleOf, rule_of, modes_of, round_orders, may_at, AreLimited}
-use Rattle.execution.specs.Sessions.{Step, Forgot, Asked, Lost, Primed, Cleared, ClearedAll, AreSteps, after}
+use Rattle.execution.specs.Sessions.{Step, Forgot, AskedLoads, Lost, Primed, Cleared, ClearedAll, AreSteps, after}
 
 -- the loaders with their logs, the pairs that are known in no order that means anything, and how many rounds were made
 pub record SessionOf (S : Type 0) : Type 0 where
@@ -67,7 +67,7 @@ module _ {S : Type 0} where
 
   -- the state after a step: the logs gain the batches of a round, which are stored unless the round was lost
   abbrev pub after_step : StateOf S → Step → StateOf S
-  after_step s (Asked loads replies) = asked true loads (after (rules_of s) s.memory (Asked loads replies)) s
+  after_step s (AskedLoads loads replies) = asked true loads (after (rules_of s) s.memory (AskedLoads loads replies)) s
   after_step s (Lost loads) = asked false loads (after (rules_of s) s.memory (Lost loads)) s
   after_step s Forgot = record s { memory = after (rules_of s) s.memory Forgot }
   after_step s (Primed pair) = record s { memory = after (rules_of s) s.memory (Primed pair) }

@@ -22,7 +22,7 @@ pub record RequestOf : Type 0 where
   pub text_of : AnsweredOf → List ℕ
 
 -- the text of an answer, and the rounds that were made for it
-pub record ToldOf : Type 0 where
+pub record ReportOf : Type 0 where
   pub text : List ℕ
   pub rounds : ℕ
 
@@ -32,8 +32,8 @@ request_of program text_of = record { program = program; text_of = text_of }
 abbrev pub requests : {P : Type 0} → (P → Program) → (P → AnsweredOf → List ℕ) → List P → List RequestOf
 requests program text_of plans = map (λ plan. request_of (program plan) (text_of plan)) plans
 
-abbrev pub told_of : Answer → ToldOf
-told_of a = record { text = string_bytes a.text; rounds = a.rounds }
+abbrev pub report_of : Answer → ReportOf
+report_of a = record { text = string_bytes a.text; rounds = a.rounds }
 
 -- all loads that several programs need, in order of the programs
 abbrev pub needs_of_all : List Program → Reader → List Load
@@ -57,28 +57,28 @@ abbrev pub joint : {P : Type 0} → (P → Program) → (P → AnsweredOf → Li
 joint program text_of plans = together (requests program text_of plans)
 
 -- each text is that of the execution by a reader
-abbrev pub AreTexts : List RequestOf → Reader → List ToldOf → Type 0
+abbrev pub AreTexts : List RequestOf → Reader → List ReportOf → Type 0
 AreTexts [] R [] = Unit {0}
 AreTexts [] R (t ∷ ts) = ⊥
 AreTexts (r ∷ rs) R [] = ⊥
 AreTexts (r ∷ rs) R (t ∷ ts) = IsTextOf r.text_of r.program R t.text × AreTexts rs R ts
 
 -- the greatest of the answers' rounds
-abbrev pub greatest : List ToldOf → ℕ
+abbrev pub greatest : List ReportOf → ℕ
 greatest [] = 0
 greatest (t ∷ ts) = max t.rounds (greatest ts)
 
 module _ {S : Type 0} where
   -- One of the answers: its text is that of the execution over the memory at the return. Its rounds are those of the log in which
   -- something that it needed was missing: at most its own load chain, and no more than the steps of any sparing run of it alone.
-  pub record IsShared (old new : StateOf S) (log : List (List ReplyOf)) (r : RequestOf) (told : ToldOf) : Type 0 where
-    pub answered : IsTextOf r.text_of r.program (read (session_modes old) new.memory) told.text
-    pub counted : own_rounds (rules_of old) r.program (without_failed old.memory) log ≡ told.rounds
-    pub chained : told.rounds ≤ chain r.program (read (session_modes old) new.memory)
-    pub fewest : (Ns : List Memory) → IsSparing (session_modes old) r.program new.memory (without_failed old.memory) Ns → told.rounds ≤ length Ns
+  pub record IsShared (old new : StateOf S) (log : List (List ReplyOf)) (r : RequestOf) (report : ReportOf) : Type 0 where
+    pub answered : IsTextOf r.text_of r.program (read (session_modes old) new.memory) report.text
+    pub counted : own_rounds (rules_of old) r.program (without_failed old.memory) log ≡ report.rounds
+    pub chained : report.rounds ≤ chain r.program (read (session_modes old) new.memory)
+    pub fewest : (Ns : List Memory) → IsSparing (session_modes old) r.program new.memory (without_failed old.memory) Ns → report.rounds ≤ length Ns
 
   -- one answer to each request, in order
-  abbrev pub AreShared : StateOf S → StateOf S → List (List ReplyOf) → List RequestOf → List ToldOf → Type 0
+  abbrev pub AreShared : StateOf S → StateOf S → List (List ReplyOf) → List RequestOf → List ReportOf → Type 0
   AreShared old new log [] [] = Unit {0}
   AreShared old new log [] (t ∷ ts) = ⊥
   AreShared old new log (r ∷ rs) [] = ⊥
@@ -86,23 +86,23 @@ module _ {S : Type 0} where
 
   -- The headline, of several requests: one lawful log for all of them, in which no key is asked twice, and as many rounds as the
   -- answer with the most.
-  pub record SharedHeadline (may : S → List KeyOf → AnswerOf → Type 0) (old new : StateOf S) (rs : List RequestOf) (told : List ToldOf) : Type 0 where
+  pub record SharedHeadline (may : S → List KeyOf → AnswerOf → Type 0) (old new : StateOf S) (rs : List RequestOf) (reports : List ReportOf) : Type 0 where
     pub log : List (List ReplyOf)
     pub made : MakesRounds may old new (together rs) log
     pub complete : front (session_modes old) (together rs) new.memory ≡ []
-    pub answers : AreShared old new log rs told
+    pub answers : AreShared old new log rs reports
     pub pairs : (pair : PairOf) → new.memory pair.loader pair.key ≡ Some pair.outcome
         → (without_failed old.memory pair.loader pair.key ≡ Some pair.outcome) ⊎ IsAnsweredIn (session_modes old) pair log
     pub once : AreApart (asked_cells (rules_of old) (together rs) (without_failed old.memory) log)
-    pub longest : length log ≡ greatest told
+    pub longest : length log ≡ greatest reports
 
   -- what an answering call says of its answers
   abbrev pub AreAnswers : (S → List KeyOf → AnswerOf → Type 0) → StateOf S → StateOf S → List RequestOf → Vec Answer → Type 0
-  AreAnswers may old new rs answers = SharedHeadline may old new rs (map told_of answers.items)
+  AreAnswers may old new rs answers = SharedHeadline may old new rs (map report_of answers.items)
 
   -- the headline of one request alone
-  abbrev pub IsToldAlone : (S → List KeyOf → AnswerOf → Type 0) → StateOf S → StateOf S → RequestOf → ToldOf → Type 0
-  IsToldAlone may old new r told = Headline may old new r.program r.text_of told.text told.rounds
+  abbrev pub IsAnsweredAlone : (S → List KeyOf → AnswerOf → Type 0) → StateOf S → StateOf S → RequestOf → ReportOf → Type 0
+  IsAnsweredAlone may old new r report = Headline may old new r.program r.text_of report.text report.rounds
 
   -- the longest load chain of all requests, over the memory of a state
   abbrev pub longest_chain : List KeyMode → List RequestOf → StateOf S → ℕ

@@ -10,7 +10,7 @@ use Rattle.execution.specs.Completion.{AnsweredOf}
 use Rattle.execution.specs.Rounds.{without_failed}
 use Rattle.load_rounds.specs.Sessions.{StateOf, rules_of, session_modes}
 use Rattle.load_rounds.specs.Executes.{FitsFrom}
-use Rattle.load_rounds.specs.SharedRounds.{RequestOf, ToldOf, requests, told_of, together, joint, AreTexts, AreAnswers}
+use Rattle.load_rounds.specs.SharedRounds.{RequestOf, ReportOf, requests, report_of, together, joint, AreTexts, AreAnswers}
 use Rattle.load_rounds.specs.Together.{PartOf, TogetherOf, plans_in, CountRounds, FitParts}
 use Rattle.load_rounds.specs.Runs.{front_in, IsRound, IsRun}
 use Rattle.load_rounds.specs.declared.run.Stage.{Stage}
@@ -26,15 +26,15 @@ pub record RunAllOf (P E : Type 0) : Type 0 where
 
 module _ {S : Type 0} where
   -- Nothing is missing for any of them: there is an answer for each, and nothing changes.
-  pub record AreLast (rs : List RequestOf) (old new : StateOf S) (told : List ToldOf) : Type 0 where
+  pub record AreLast (rs : List RequestOf) (old new : StateOf S) (reports : List ReportOf) : Type 0 where
     pub complete : front_in old (together rs) ≡ []
-    pub answered : AreTexts rs (read (session_modes old) old.memory) told
+    pub answered : AreTexts rs (read (session_modes old) old.memory) reports
     pub same : new ≡ old
 
   module _ {P E : Type 0} (program : P → Program) (text_of : P → AnsweredOf → List ℕ) where
     -- what comes next, by what is missing
     abbrev pub IsNextAll : RunAllOf P E → RunAllOf P E → StateOf S → StateOf S → NextAll → Type 0
-    IsNextAll run later old new (next.Finished answers) = AreLast (requests program text_of run.plans) old new (map told_of answers.items) × (later.stage ≡ Finished)
+    IsNextAll run later old new (next.Finished answers) = AreLast (requests program text_of run.plans) old new (map report_of answers.items) × (later.stage ≡ Finished)
     IsNextAll run later old new (next.Round orders) =
         IsRound (joint program text_of run.plans) old new orders.items × (later.executions.rounds ≡ run.executions.rounds + 1) × (later.stage ≡ Out)
 

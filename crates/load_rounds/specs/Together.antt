@@ -13,13 +13,13 @@ use Rattle.gq_resolve.specs.Evaluated.{GrowsTo}
 use Rattle.load_rounds.specs.Sessions.{StateOf, session_modes}
 use Rattle.load_rounds.specs.Rounds.{AreWanted}
 use Rattle.load_rounds.specs.Headline.{IsTextOf}
-use Rattle.load_rounds.specs.SharedRounds.{RequestOf, ToldOf, request_of}
+use Rattle.load_rounds.specs.SharedRounds.{RequestOf, ReportOf, request_of}
 
 -- one of several: what is executed, its execution, and its answer once nothing that it needs is missing
 pub record PartOf (P E : Type 0) : Type 0 where
   pub plan : P
   pub progress : E
-  pub told : Option ToldOf
+  pub report : Option ReportOf
 
 -- several, and the rounds that were asked for them
 pub record TogetherOf (P E : Type 0) : Type 0 where
@@ -27,20 +27,20 @@ pub record TogetherOf (P E : Type 0) : Type 0 where
   pub rounds : ℕ
 
 -- an answer over a memory that has everything that is needed
-pub record IsDone (loaders : ℕ) (r : RequestOf) (m : MemoryOf) (told : ToldOf) : Type 0 where
+pub record IsDone (loaders : ℕ) (r : RequestOf) (m : MemoryOf) (report : ReportOf) : Type 0 where
   pub complete : front m.modes r.program (look m.pairs) ≡ []
-  pub answered : IsTextOf r.text_of r.program (read m.modes (look m.pairs)) told.text
+  pub answered : IsTextOf r.text_of r.program (read m.modes (look m.pairs)) report.text
   pub within : HasLoaders loaders r.program
 
 -- By what is missing: no answer yet, or, once nothing is, the answer that was there or one after so many rounds.
-abbrev pub TellsAt : ℕ → List Load → Option ToldOf → Option ToldOf → Type 0
+abbrev pub TellsAt : ℕ → List Load → Option ReportOf → Option ReportOf → Type 0
 TellsAt rounds loads old None = (loads ≢ []) × (old ≡ None)
-TellsAt rounds loads old (Some told) = (loads ≡ []) × ((old ≡ Some told) ⊎ ((old ≡ None) × (told.rounds ≡ rounds)))
+TellsAt rounds loads old (Some report) = (loads ≡ []) × ((old ≡ Some report) ⊎ ((old ≡ None) × (report.rounds ≡ rounds)))
 
 -- of the rounds of a log, those of a program that has no answer yet are all; else they are those that its answer tells
-abbrev pub CountsRounds : List RuleOf → Memory → List (List ReplyOf) → Program → Option ToldOf → Type 0
+abbrev pub CountsRounds : List RuleOf → Memory → List (List ReplyOf) → Program → Option ReportOf → Type 0
 CountsRounds rules M log p None = own_rounds rules p M log ≡ length log
-CountsRounds rules M log p (Some told) = own_rounds rules p M log ≡ told.rounds
+CountsRounds rules M log p (Some report) = own_rounds rules p M log ≡ report.rounds
 
 -- no key is missing for any of them, or these are wanted
 abbrev pub FindsAll : {S : Type 0} → Program → StateOf S → Option (List WantedOf) → Type 0
@@ -57,43 +57,43 @@ abbrev pub fronts : {P : Type 0} → (P → Program) → MemoryOf → List P →
 fronts program m [] = []
 fronts program m (p ∷ ps) = front m.modes (program p) (look m.pairs) ++ fronts program m ps
 
-abbrev pub given_to : Option ToldOf → List ToldOf
+abbrev pub given_to : Option ReportOf → List ReportOf
 given_to None = []
-given_to (Some told) = told ∷ []
+given_to (Some report) = report ∷ []
 
 module _ {P E : Type 0} where
   abbrev pub plans_in : List (PartOf P E) → List P
   plans_in parts = map (λ part. part.plan) parts
 
   -- the answers so far, in order
-  abbrev pub told_in : List (PartOf P E) → List ToldOf
-  told_in [] = []
-  told_in (x ∷ xs) = given_to x.told ++ told_in xs
+  abbrev pub reports_in : List (PartOf P E) → List ReportOf
+  reports_in [] = []
+  reports_in (x ∷ xs) = given_to x.report ++ reports_in xs
 
   -- some has no answer yet
-  abbrev pub some_untold : List (PartOf P E) → Bool
-  some_untold parts = list_any (λ part. is_none part.told) parts
+  abbrev pub some_unreported : List (PartOf P E) → Bool
+  some_unreported parts = list_any (λ part. is_none part.report) parts
 
   -- each has counted the rounds of a log
   abbrev pub CountRounds : (P → Program) → List RuleOf → Memory → List (List ReplyOf) → List (PartOf P E) → Type 0
   CountRounds program rules M log [] = Unit {0}
-  CountRounds program rules M log (x ∷ xs) = CountsRounds rules M log (program x.plan) x.told × CountRounds program rules M log xs
+  CountRounds program rules M log (x ∷ xs) = CountsRounds rules M log (program x.plan) x.report × CountRounds program rules M log xs
 
   module _ (program : P → Program) (text_of : P → AnsweredOf → List ℕ) (loaders : P → ℕ) (fits : P → E → MemoryOf → Type 0) where
-    abbrev pub FitsPart : P → E → Option ToldOf → MemoryOf → Type 0
+    abbrev pub FitsPart : P → E → Option ReportOf → MemoryOf → Type 0
     FitsPart plan progress None m = fits plan progress m
-    FitsPart plan progress (Some told) m = IsDone (loaders plan) (request_of (program plan) (text_of plan)) m told
+    FitsPart plan progress (Some report) m = IsDone (loaders plan) (request_of (program plan) (text_of plan)) m report
 
     -- each is of an execution, and holds nothing as done that isn't so over the memory
     abbrev pub FitParts : List (PartOf P E) → MemoryOf → Type 0
     FitParts [] m = Unit {0}
-    FitParts (x ∷ xs) m = FitsPart x.plan x.progress x.told m × FitParts xs m
+    FitParts (x ∷ xs) m = FitsPart x.plan x.progress x.report m × FitParts xs m
 
     -- one of them went on over a memory, after so many rounds
     pub record GoesOn (rounds : ℕ) (m : MemoryOf) (old new : PartOf P E) : Type 0 where
       pub same : new.plan ≡ old.plan
-      pub told : TellsAt rounds (front m.modes (program old.plan) (look m.pairs)) old.told new.told
-      pub fitting : (later : MemoryOf) → GrowsTo m later → FitsPart new.plan new.progress new.told later
+      pub report : TellsAt rounds (front m.modes (program old.plan) (look m.pairs)) old.report new.report
+      pub fitting : (later : MemoryOf) → GrowsTo m later → FitsPart new.plan new.progress new.report later
       pub within : HasLoaders (loaders new.plan) (program new.plan)
 
     -- all of them
@@ -107,5 +107,5 @@ module _ {P E : Type 0} where
     pub record AreBegun (plans : List P) (t : TogetherOf P E) : Type 0 where
       pub same : plans_in t.parts ≡ plans
       pub rounds : t.rounds ≡ 0
-      pub untold : told_in t.parts ≡ []
+      pub unreported : reports_in t.parts ≡ []
       pub fitting : (m : MemoryOf) → FitParts t.parts m

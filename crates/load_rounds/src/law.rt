@@ -14,12 +14,12 @@ ghost use Rattle.gq_resolve.specs.Answered.{answer_text};
 ghost use Rattle.plan_program.specs.PlanPrograms.{plan_program};
 ghost use Rattle.load_rounds.specs.Sessions.{StateOf, rules_of, session_modes};
 ghost use Rattle.load_rounds.specs.Headline.{Headline, AnswersPlan, IsTextOf};
-ghost use Rattle.load_rounds.specs.SharedRounds.{RequestOf, ToldOf, front_of_all, together, SharedHeadline, IsToldAlone, longest_chain};
+ghost use Rattle.load_rounds.specs.SharedRounds.{RequestOf, ReportOf, front_of_all, together, SharedHeadline, IsAnsweredAlone, longest_chain};
 ghost use Rattle.load_memory.specs.Keys.{KeyOf};
 ghost use Rattle.load_memory.specs.Outcomes.{ItemOf};
 ghost use Rattle.load_memory.specs.declared.key.KeyMode.{KeyMode};
 ghost use Rattle.load_rounds.specs.KeyByKey.{AnswerKeyByKey, RespectModes, CompareAlike, item_over};
-ghost use Rattle.load_rounds.specs.SharedKeyByKey.{AreAnsweredAlike, AreToldDirectly};
+ghost use Rattle.load_rounds.specs.SharedKeyByKey.{AreAnsweredAlike, AreAnsweredDirectly};
 ghost use Rattle.load_rounds.specs.Histories.{Call, Priming, IsMadeOf, AreMadeOf, Leads, IsCall, AreCalls, clears_at, replies_of, entered_cells, stored_gained, IsEntered, IsFailedAt};
 
 use gq_check::Plan;
@@ -59,12 +59,12 @@ pub fn no_key_twice<S: Asks>()
 pub fn requests_share_rounds<S: Asks>()
     ensures front { (modes : List KeyMode) (rs : List RequestOf) (M : Memory)
         → front modes (together rs) M ≡ front_of_all modes (map (λ r. r.program) rs) M }
-    ensures chain { (old new : StateOf S) (rs : List RequestOf) (told : List ToldOf) → (h : SharedHeadline S.may_tell old new rs told)
+    ensures chain { (old new : StateOf S) (rs : List RequestOf) (reports : List ReportOf) → (h : SharedHeadline S.may_tell old new rs reports)
         → length h.log ≤ longest_chain (session_modes old) rs new }
-    ensures one { (old new : StateOf S) (r : RequestOf) (told : ToldOf) → SharedHeadline S.may_tell old new (r ∷ []) (told ∷ [])
-        → IsToldAlone S.may_tell old new r told }
-    ensures alone { (old new : StateOf S) (r : RequestOf) (told : ToldOf) → IsToldAlone S.may_tell old new r told
-        → SharedHeadline S.may_tell old new (r ∷ []) (told ∷ []) }
+    ensures one { (old new : StateOf S) (r : RequestOf) (report : ReportOf) → SharedHeadline S.may_tell old new (r ∷ []) (report ∷ [])
+        → IsAnsweredAlone S.may_tell old new r report }
+    ensures alone { (old new : StateOf S) (r : RequestOf) (report : ReportOf) → IsAnsweredAlone S.may_tell old new r report
+        → SharedHeadline S.may_tell old new (r ∷ []) (report ∷ []) }
 {}
 
 /// *One lawful log*, of answers. Over sources that answer key by key, as each `PerKey` source does by its laws, every reply in
@@ -90,7 +90,7 @@ pub fn answers_key_by_key<S: Asks>()
 pub fn requests_key_by_key<S: Asks>()
     ensures one { (item : S → KeyOf → ItemOf) → AnswerKeyByKey S.may_tell item → AreAnsweredAlike S.may_tell }
     ensures direct { (item : S → KeyOf → ItemOf) (mode_of : S → KeyMode) → AnswerKeyByKey S.may_tell item → RespectModes mode_of item
-        → AreToldDirectly S.may_tell item mode_of }
+        → AreAnsweredDirectly S.may_tell item mode_of }
 {}
 
 /// The headline for a plan. Each plan is of a document that keeps every rule, so the whole sentence holds of its answer.

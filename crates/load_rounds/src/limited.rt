@@ -1,9 +1,9 @@
 //! Plans whose answers may have so many bytes and no more.
 ghost use Rattle.std.specs.Prelude.{◌≡◌, length};
 ghost use Rattle.gq_check.specs.Plans.{plan_of};
-ghost use Rattle.gq_resolve.specs.Limited.{limited_answer};
 ghost use Rattle.gq_resolve.specs.Suspended.{plan_in, FitsMemory};
 ghost use Rattle.plan_program.specs.PlanPrograms.{plan_program};
+ghost use Rattle.load_rounds.specs.Within.{text_within};
 
 use crate::execute::Execute;
 use futures::task::Poll;
@@ -18,8 +18,8 @@ use std::alloc::Global;
 #[derive(Drop)]
 pub struct Limited<'p, 'a> {
     pub plan: &'p Plan<'a>,
-    /// How many bytes the text of an answer has at most.
-    pub most: usize,
+    /// How many bytes the text of an answer has at most. Without a limit it is executed just as the plan is.
+    pub most: Option<usize>,
 }
 
 impl<'p, 'a: 'p> Execute<'p> for Limited<'p, 'a> {
@@ -27,7 +27,7 @@ impl<'p, 'a: 'p> Execute<'p> for Limited<'p, 'a> {
 
     ghost program = { λ limited. plan_program (plan_of limited.plan.now) };
 
-    ghost text_of = { λ limited. limited_answer limited.most };
+    ghost text_of = { λ limited. text_within limited.most };
 
     ghost loaders = { λ limited. length (plan_of limited.plan.now).bindings.loaders };
 
@@ -44,9 +44,15 @@ impl<'p, 'a: 'p> Execute<'p> for Limited<'p, 'a> {
         memory: &Memory,
         wants: &mut Wants,
     ) -> Result<Poll<String>, NoMemory> {
-        match progress.poll_text_within(alloc, memory, wants, self.most) {
-            Ok(polled) => Ok(polled),
-            Err(_) => Err(NoMemory),
+        match self.most {
+            Some(most) => match progress.poll_text_within(alloc, memory, wants, most) {
+                Ok(polled) => Ok(polled),
+                Err(_) => Err(NoMemory),
+            },
+            None => match progress.poll_text(alloc, memory, wants) {
+                Ok(polled) => Ok(polled),
+                Err(_) => Err(NoMemory),
+            },
         }
     }
 }

@@ -8,7 +8,7 @@ ghost use Rattle.load_queue.specs.Logs.{asked_of};
 ghost use Rattle.execution.specs.Loads.{Load, read};
 ghost use Rattle.execution.specs.Front.{front_of_keys};
 ghost use Rattle.execution.specs.Rounds.{AreLimited, round_orders, without_failed};
-ghost use Rattle.execution.specs.Sessions.{Forgot, Lost, Asked};
+ghost use Rattle.execution.specs.Sessions.{Forgot, Lost, AskedLoads};
 ghost use Rattle.load_rounds.specs.Rounds.{AreWanted};
 
 use crate::fault::SessionFault;
@@ -126,7 +126,7 @@ impl<S> Session<S> {
         ensures no_loader { IsErrOf result SessionFault.NoSuchLoader ↔ (length self.old.loaders ≤ loader) }
         ensures refused { IsErrOf result SessionFault.NoSuchLoader → self.new ≡ self.old }
         ensures no_memory { IsErrOf result SessionFault.NoMemory → IsCall any_tell Forgetting (state_of self.old) (state_of self.new) }
-        ensures told { IfOk result (λ added. added
+        ensures report { IfOk result (λ added. added
             ≡ is_none (without_failed (look self.old.pairs) loader (cell_at (state_of self.old) loader (key_of key.now)).1)) }
         ensures after { OnOk result (IsCall any_tell (Priming (pair_of loader (cell_at (state_of self.old) loader (key_of key.now)).1
             (known (item_of item)))) (state_of self.old) (state_of self.new)) }
@@ -145,7 +145,7 @@ impl<S> Session<S> {
         ensures no_loader { IsErrOf result SessionFault.NoSuchLoader ↔ (length self.old.loaders ≤ loader) }
         ensures refused { IsErrOf result SessionFault.NoSuchLoader → self.new ≡ self.old }
         ensures no_memory { IsErrOf result SessionFault.NoMemory → IsCall any_tell Forgetting (state_of self.old) (state_of self.new) }
-        ensures told { IfOk result (λ there. there
+        ensures report { IfOk result (λ there. there
             ≡ is_some (without_failed (look self.old.pairs) loader (cell_at (state_of self.old) loader (key_of key.now)).1)) }
         ensures after { OnOk result (IsCall any_tell (Clearing (cell_at (state_of self.old) loader (key_of key.now)))
             (state_of self.old) (state_of self.new)) }

@@ -4,8 +4,8 @@ ghost use Rattle.execution.specs.Front.{front, wanting, modes_wanted};
 ghost use Rattle.execution.specs.Rounds.{AreLimited};
 ghost use Rattle.load_memory.specs.Pairs.{look};
 ghost use Rattle.load_rounds.specs.Executes.{CanExecute};
-ghost use Rattle.load_rounds.specs.SharedRounds.{told_of};
-ghost use Rattle.load_rounds.specs.Together.{FitParts, GoOn, plans_in, fronts, some_untold};
+ghost use Rattle.load_rounds.specs.SharedRounds.{report_of};
+ghost use Rattle.load_rounds.specs.Together.{FitParts, GoOn, plans_in, fronts, some_unreported};
 
 use crate::answer::Answer;
 use crate::execute::Execute;
@@ -27,12 +27,12 @@ struct Part<'p, P, E> {
 
 impl<'p, P, E> Model for Part<'p, P, E> {
     ghost use Rattle.std.specs.Prelude.{option_map};
-    ghost use Rattle.load_rounds.specs.SharedRounds.{told_of};
+    ghost use Rattle.load_rounds.specs.SharedRounds.{report_of};
     ghost use Rattle.load_rounds.specs.Together.{PartOf};
 
     ghost Value = { PartOf P E };
 
-    ghost view = { λ p. record { plan = p.plan.now; progress = p.progress; told = option_map told_of p.answer } };
+    ghost view = { λ p. record { plan = p.plan.now; progress = p.progress; report = option_map report_of p.answer } };
 }
 
 /// The executions of several plans, in order, and how many rounds were asked for them.
@@ -66,10 +66,10 @@ impl<'p, E: Drop, P: Execute<'p, Progress = E>> Part<'p, P, E> {
         wants: &mut Wants,
     ) -> Result<bool, NoMemory>
         requires can { CanExecute (P.loaders self.old.plan) memory.now wants.old }
-        requires fits { FitsPart P.program P.text_of P.loaders P.fits self.old.plan self.old.progress self.old.told memory.now }
+        requires fits { FitsPart P.program P.text_of P.loaders P.fits self.old.plan self.old.progress self.old.report memory.now }
         ensures went { OnOk result (GoesOn P.program P.text_of P.loaders P.fits rounds memory.now self.old self.new) }
         ensures wanted { OnOk result (wants.new ≡ wanting wants.old (front memory.now.modes (P.program self.old.plan) (look memory.now.pairs))) }
-        ensures missing { IfOk result (λ missing. missing ≡ is_none self.new.told) }
+        ensures missing { IfOk result (λ missing. missing ≡ is_none self.new.report) }
     {
         if self.answer.is_some() {
             return Ok(false);
@@ -97,7 +97,7 @@ fn go_on_all<'p, E: Drop, P: Execute<'p, Progress = E>>(
     requires fits { FitParts P.program P.text_of P.loaders P.fits parts.old.items memory.now }
     ensures went { OnOk result (GoOn P.program P.text_of P.loaders P.fits rounds memory.now parts.old.items parts.new.items) }
     ensures wanted { OnOk result (wants.new ≡ wanting wants.old (fronts P.program memory.now (plans_in parts.old.items))) }
-    ensures missing { IfOk result (λ missing. missing ≡ some_untold parts.new.items) }
+    ensures missing { IfOk result (λ missing. missing ≡ some_unreported parts.new.items) }
 {
     let mut is_missing = false;
     for at in 0..parts.len() {
@@ -110,7 +110,7 @@ fn go_on_all<'p, E: Drop, P: Execute<'p, Progress = E>>(
 impl<'p, E: Drop, P: Execute<'p, Progress = E>> Together<'p, P, E> {
     ghost use Rattle.load_rounds.specs.Sessions.{state_of, rules_of, memory_of};
     ghost use Rattle.load_rounds.specs.SharedRounds.{joint};
-    ghost use Rattle.load_rounds.specs.Together.{AreBegun, FindsAll, asked_in, told_in};
+    ghost use Rattle.load_rounds.specs.Together.{AreBegun, FindsAll, asked_in, reports_in};
 
     /// Executions of the plans of which nothing is done.
     pub(crate) fn begin(alloc: Global, plans: &'p [P]) -> Result<Together<'p, P, E>, NoMemory>
@@ -152,7 +152,7 @@ impl<'p, E: Drop, P: Execute<'p, Progress = E>> Together<'p, P, E> {
 
     /// Takes the answers out, in order. No plan is left.
     pub(crate) fn take_answers(&mut self, alloc: Global) -> Result<Vec<Answer>, NoMemory>
-        ensures answers { IfOk result (λ answers. map told_of answers.items ≡ told_in self.old.parts) }
+        ensures answers { IfOk result (λ answers. map report_of answers.items ≡ reports_in self.old.parts) }
         ensures counted { self.new.rounds ≡ self.old.rounds }
     {
         let mut answers = Vec::with_capacity(alloc, self.parts.len())?;

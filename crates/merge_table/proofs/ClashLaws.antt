@@ -43,7 +43,7 @@ not-found test (x ∷ xs) c e m p = go (test x) refl e (λ f s. not-found test x
       | inr s ↦ rest f s
     ]
 
-module _ (D : Fields ℕ) (n : ℕ) (clash : ℕ → ℕ → Bool) (reflexive : (a : ℕ) → a < n → D.one_key a a ≡ true) (told : (a b : ℕ) → a < n → b < n → Tells (Merges D) D a b (clash a b)) (ms : List ℕ) (below : (c : ℕ) → is_in ms c ≡ true → c < n) where
+module _ (D : Fields ℕ) (n : ℕ) (clash : ℕ → ℕ → Bool) (reflexive : (a : ℕ) → a < n → D.one_key a a ≡ true) (decided : (a b : ℕ) → a < n → b < n → Tells (Merges D) D a b (clash a b)) (ms : List ℕ) (below : (c : ℕ) → is_in ms c ≡ true → c < n) where
   clashes : ℕ → Bool
   clashes = key_clashes D.one_key clash ms
 
@@ -54,7 +54,7 @@ module _ (D : Fields ℕ) (n : ℕ) (clash : ℕ → ℕ → Bool) (reflexive : 
   key-merges : (f : ℕ) → clashes f ≡ false → KeyMerges D (is_in ms) f
   key-merges f e a b p k = elim (cases_Bool (clash a b)) [
     | inl h ↦ absurd (both_ways (clashes f) e (key-clashes a b f p.first p.second k h))
-    | inr h ↦ (told a b (below a p.first) (below b p.second)).keeps h p.apart p.one_key
+    | inr h ↦ (decided a b (below a p.first) (below b p.second)).keeps h p.apart p.one_key
   ]
 
   key-breaks : (f : ℕ) → clashes f ≡ true → Breaks D (is_in ms) f
@@ -63,7 +63,7 @@ module _ (D : Fields ℕ) (n : ℕ) (clash : ℕ → ℕ → Bool) (reflexive : 
     where
       more : (a : ℕ) → is_in ms a ≡ true → D.one_key a f ≡ true → Passing (clash a) ms → Breaks D (is_in ms) f
       more a ha k p =
-          let t = told a p.one (below a ha) (below p.one p.member) in
+          let t = decided a p.one (below a ha) (below p.one p.member) in
           record { one = a; other = p.one; pair = record { first = ha; second = p.member; apart = t.apart p.passes; one_key = t.one_key p.passes }; key = k; breaks = t.breaks p.passes }
 
       go : Passing (λ x. D.one_key x f && list_any (clash x) ms) ms → Breaks D (is_in ms) f
@@ -75,7 +75,7 @@ module _ (D : Fields ℕ) (n : ℕ) (clash : ℕ → ℕ → Bool) (reflexive : 
   unfolding clashes
   none-merges e = can-from D (is_in ms) (λ a b p. elim (cases_Bool (clash a b)) [
     | inl h ↦ absurd (not-found clashes ms a e p.first (key-clashes a b a p.first p.second (reflexive a (below a p.first)) h))
-    | inr h ↦ (told a b (below a p.first) (below b p.second)).keeps h p.apart p.one_key
+    | inr h ↦ (decided a b (below a p.first) (below b p.second)).keeps h p.apart p.one_key
   ])
 
   first-of : (xs : List ℕ) (f : ℕ) → find clashes xs ≡ Some f → IsFirst D (is_in ms) f xs × Breaks D (is_in ms) f

@@ -62,12 +62,12 @@ module _ (D : Fields ℕ) (symmetric : IsSymmetric D) (n : ℕ) where
     swap = shape-swap D symmetric;
   }
 
-  module _ (shapes : List (List ℕ)) (told : TellsAll (SameShape D) D n shapes) where
+  module _ (shapes : List (List ℕ)) (decided : TellsAll (SameShape D) D n shapes) where
     making : (a b : ℕ) → a < n → b < n → a ≢ b → D.one_key a b ≡ true → fails_itself Merge D shapes a b ≡ false → (asks_members Merge D a b ≡ true → (c d : ℕ) → IsPair D (joined D a b) c d → Merges D c d) → Merges D a b
     making a b ha hb ne k e within =
         let parts : (fail shapes a b ≡ false) × ((D.meet a b && not (D.agree a b)) ≡ false) = or_parts (fail shapes a b) (D.meet a b && not (D.agree a b)) e in
         record {
-          shape = (told a b ha hb).keeps (parts.0) ne k;
+          shape = (decided a b ha hb).keeps (parts.0) ne k;
           agree = λ m. elim (and_cases (D.meet a b) (not (D.agree a b)) (parts.1)) [ inl h ↦ absurd (both_ways (D.meet a b) h m) | inr h ↦ not-false (D.agree a b) h ];
           deeper = λ m. can-from D (joined D a b) (within m);
         }
@@ -75,7 +75,7 @@ module _ (D : Fields ℕ) (symmetric : IsSymmetric D) (n : ℕ) where
     breaking : (a b : ℕ) → a < n → b < n → fails_itself Merge D shapes a b ≡ true → Merges D a b → ⊥
     breaking a b ha hb e m =
         elim (or_cases (fail shapes a b) (D.meet a b && not (D.agree a b)) e) [
-          | inl h ↦ (told a b ha hb).breaks h m.shape
+          | inl h ↦ (decided a b ha hb).breaks h m.shape
           | inr h ↦
               let both : (D.meet a b ≡ true) × (not (D.agree a b) ≡ true) = and_parts (D.meet a b) (not (D.agree a b)) h in
               both_ways (D.agree a b) (not-true (D.agree a b) (both.1)) (m.agree (both.0))

@@ -53,10 +53,10 @@ pub members-joined : (ms ns : List ℕ) (old other new : List ℕ) → ((i : ℕ
 members-joined ms ns old other new is a b c = is c ∙ (rw (a c, b c) (sym (in-append ms ns c)))
 
 pub refuses : (D : Fields ℕ) (n : ℕ) (rows : List (List ℕ)) (ms : List ℕ) (members marks : List ℕ) (t : Bool) → TellsAll (Merges D) D n rows → ((c : ℕ) → is_in ms c ≡ true → c < n) → ((c : ℕ) → has members c ≡ is_in ms c) → AreMarks rows (is_in ms) marks → Meets marks members t → Refuses D (is_in ms) t
-refuses D n rows ms members marks t told below same marked met = record { merges = merges; breaks = breaks }
+refuses D n rows ms members marks t decided below same marked met = record { merges = merges; breaks = breaks }
   where
     tell : (a b : ℕ) → is_in ms a ≡ true → is_in ms b ≡ true → Tells (Merges D) D a b (fail rows a b)
-    tell a b ha hb = told a b (below a ha) (below b hb)
+    tell a b ha hb = decided a b (below a ha) (below b hb)
 
     merges : t ≡ false → CanMerge D (is_in ms)
     merges e = can-from D (is_in ms) (λ a b p. elim (cases_Bool (fail rows a b)) [

@@ -47,9 +47,9 @@ marks-same rows ms ns marks same marked = record {
 
 -- ---- the first field
 
-module _ (D : Fields ℕ) (n : ℕ) (rows : List (List ℕ)) (marks : List ℕ) (all : List ℕ) (reflexive : (a : ℕ) → a < n → D.one_key a a ≡ true) (told : TellsAll (Merges D) D n rows) (below : AreBelow all n) (marked : AreMarks rows (is_in all) marks) where
+module _ (D : Fields ℕ) (n : ℕ) (rows : List (List ℕ)) (marks : List ℕ) (all : List ℕ) (reflexive : (a : ℕ) → a < n → D.one_key a a ≡ true) (decided : TellsAll (Merges D) D n rows) (below : AreBelow all n) (marked : AreMarks rows (is_in all) marks) where
   tell : (a b : ℕ) → is_in all a ≡ true → is_in all b ≡ true → Tells (Merges D) D a b (fail rows a b)
-  tell a b ha hb = told a b (below-in all n a below ha) (below-in all n b below hb)
+  tell a b ha hb = decided a b (below-in all n a below ha) (below-in all n b below hb)
 
   -- a marked member of the key
   has-marked : (f c : ℕ) (ms : List ℕ) → is_in ms c ≡ true → D.one_key c f ≡ true → has marks c ≡ true → has_marked D.one_key marks f ms ≡ true

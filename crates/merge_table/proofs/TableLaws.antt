@@ -71,11 +71,11 @@ fail-pushed rows new n a len below lt =
 
 -- the two fields of a pair may stand in either order
 tells-swap : (P : ℕ → ℕ → Type 0) (D : Fields ℕ) (a b : ℕ) (s t : Bool) → ((c d : ℕ) → D.one_key c d ≡ D.one_key d c) → ((c d : ℕ) → P c d → P d c) → s ≡ t → Tells P D a b s → Tells P D b a t
-tells-swap P D a b s t keys swap e told = rw (← e) (record {
-  apart = λ f same. told.apart f (sym same);
-  one_key = λ f. keys b a ∙ told.one_key f;
-  breaks = λ f p. told.breaks f (swap b a p);
-  keeps = λ f ne k. swap a b (told.keeps f (λ same. ne (sym same)) (keys a b ∙ k));
+tells-swap P D a b s t keys swap e decided = rw (← e) (record {
+  apart = λ f same. decided.apart f (sym same);
+  one_key = λ f. keys b a ∙ decided.one_key f;
+  breaks = λ f p. decided.breaks f (swap b a p);
+  keeps = λ f ne k. swap a b (decided.keeps f (λ same. ne (sym same)) (keys a b ∙ k));
 })
 
 fail-comm : (rows : List (List ℕ)) (c d : ℕ) → fail rows c d ≡ fail rows d c
@@ -128,7 +128,7 @@ module _ (rule : Rule) (D : Fields ℕ) (n : ℕ) (shapes rows : List (List ℕ)
         go (inr p) (inl q) = crossed d c q p (fail-swap rows c d fails)
 
     module _ (laws : Laws (Holds rule D) D n (fails_itself rule D shapes) (asks_members rule D)) (ha : a < n) (hb : b < n)
-        (below-a : (c : ℕ) → D.enters a c ≡ true → c < b) (below-b : (c : ℕ) → D.enters b c ≡ true → c < b) (told : TellsAll (Holds rule D) D b rows) where
+        (below-a : (c : ℕ) → D.enters a c ≡ true → c < b) (below-b : (c : ℕ) → D.enters b c ≡ true → c < b) (decided : TellsAll (Holds rule D) D b rows) where
       inside : (c : ℕ) → joined D a b c ≡ true → c < b
       inside c h = elim (or_cases (D.enters a c) (D.enters b c) h) [ inl p ↦ below-a c p | inr p ↦ below-b c p ]
 
@@ -143,7 +143,7 @@ module _ (rule : Rule) (D : Fields ℕ) (n : ℕ) (shapes rows : List (List ℕ)
             deep j joins h =
                 let both : (asks_members rule D a b ≡ true) × (j ≡ true) = and_parts (asks_members rule D a b) j h in
                 let f : Found rows (joined D a b) (joined D a b) = joined-found j joins (both.1) in
-                let s : Tells (Holds rule D) D f.one f.other (fail rows f.one f.other) = told f.one f.other (inside f.one f.first) (inside f.other f.second) in
+                let s : Tells (Holds rule D) D f.one f.other (fail rows f.one f.other) = decided f.one f.other (inside f.one f.first) (inside f.other f.second) in
                 s.breaks f.fails (laws.deep_gives a b (both.0) p f.one f.other (record { first = f.first; second = f.second; apart = s.apart f.fails; one_key = s.one_key f.fails }))
 
             go : ((j : Bool) × TestsJoined marks inner members-a a b j × (t ≡ fails_with rule D shapes j a b)) → ⊥
@@ -161,7 +161,7 @@ module _ (rule : Rule) (D : Fields ℕ) (n : ℕ) (shapes rows : List (List ℕ)
                 elim (and_cases (asks_members rule D a b) j h) [
                   | inl idle ↦ absurd (both_ways (asks_members rule D a b) idle asked)
                   | inr unmet ↦
-                      let s : Tells (Holds rule D) D c d (fail rows c d) = told c d (inside c p.first) (inside d p.second) in
+                      let s : Tells (Holds rule D) D c d (fail rows c d) = decided c d (inside c p.first) (inside d p.second) in
                       s.keeps (elim (cases_Bool (fail rows c d)) [ inl f ↦ absurd (joined-none j joins unmet c d p.first p.second f) | inr f ↦ f ]) p.apart p.one_key
                 ]
 
@@ -181,7 +181,7 @@ module _ (rule : Rule) (D : Fields ℕ) (n : ℕ) (shapes rows : List (List ℕ)
 -- the table with a row more tells of a field more
 pub tells-push : (P : ℕ → ℕ → Type 0) (D : Fields ℕ) (rows : List (List ℕ)) (new : List ℕ) (b : ℕ) → IsSymmetric D → ((c d : ℕ) → P c d → P d c) → length rows ≡ b → IsBelow rows → ((a : ℕ) → has new a ≡ true → a < b)
     → TellsAll P D b rows → ((a : ℕ) → a < b → Tells P D a b (has new a)) → TellsAll P D (b + 1) (rows ++ new ∷ [])
-tells-push P D rows new b symmetric swap len below last told each c d hc hd = go (cases_lt c b) (cases_lt d b)
+tells-push P D rows new b symmetric swap len below last decided each c d hc hd = go (cases_lt c b) (cases_lt d b)
   where
     all : List (List ℕ)
     all = rows ++ new ∷ []
@@ -195,7 +195,7 @@ tells-push P D rows new b symmetric swap len below last told each c d hc hd = go
         ]
 
     go : (c < b) ⊎ (b ≤ c) → (d < b) ⊎ (b ≤ d) → Tells P D c d (fail (rows ++ new ∷ []) c d)
-    go (inl lc) (inl ld) = rw (fail-push rows new c d (omega arith) (omega arith)) (told c d lc ld)
+    go (inl lc) (inl ld) = rw (fail-push rows new c d (omega arith) (omega arith)) (decided c d lc ld)
     go (inl lc) (inr ld) = let e : d ≡ b = omega arith in rw e (rw (fail-pushed rows new b c len below lc) (each c lc))
     go (inr lc) (inl ld) =
         let e : c ≡ b = omega arith in

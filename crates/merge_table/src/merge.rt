@@ -84,7 +84,7 @@ pub fn first_failing(fields: &[Field], rows: &[Row], members: &[usize]) -> Optio
     requires most { length fields.now ≤ 1024 }
     requires len { length rows.now ≡ length fields.now }
     requires below { IsBelow rows.now }
-    requires told { TellsAll (Merges (fields_of fields.now)) (fields_of fields.now) (length fields.now) rows.now }
+    requires decided { TellsAll (Merges (fields_of fields.now)) (fields_of fields.now) (length fields.now) rows.now }
     requires members { AreBelow members.now (length fields.now) }
     ensures { SaysOf (fields_of fields.now) (is_in members.now) members.now result }
 {

@@ -68,7 +68,7 @@ impl Reached {
 
     /// Whether the set can't be merged.
     pub fn is_failing(&self, fields: &[Field], rows: &[Row]) -> bool
-        requires told { TellsAll (Merges (fields_of fields.now)) (fields_of fields.now) (length fields.now) rows.now }
+        requires decided { TellsAll (Merges (fields_of fields.now)) (fields_of fields.now) (length fields.now) rows.now }
         ensures { (ms : List ℕ) → ((c : ℕ) → is_in ms c ≡ true → c < length fields.now) → IsReached rows.now ms self.now → Refuses (fields_of fields.now) (is_in ms) result }
     {
         self.marks.meets(&self.members)

@@ -10,7 +10,7 @@ use Rattle.gq_schema.specs.BindingsTree.{StepOf, BindingOf, by_column, by_one, b
 use Rattle.gq_check.specs.Plans.{PlanOf}
 use Rattle.plan_program.specs.Groups.{FieldOf, GroupOf}
 use Rattle.plan_program.specs.Arguments.{ValueOf, arguments_of}
-use Rattle.plan_program.specs.Asked.{BelowOf, ValueFrom, PreparedOf, have_loaders, bound_asked, below_of, with_arguments, defined_asked, field_asked, first_asked, prepared}
+use Rattle.plan_program.specs.FieldValues.{ChildrenOf, ValueFrom, PreparedOf, have_loaders, bound_asked, children_of, with_arguments, defined_asked, field_asked, first_asked, prepared}
 use Rattle.plan_laws.specs.Met.{IsAskedBy, StepsThere, AreThere, IsBound, asked_by_binding}
 
 steps-have : (n : ℕ) (steps : List StepOf) → StepsThere n steps → have_loaders steps n ≡ true
@@ -18,7 +18,7 @@ steps-have n [] h = refl
 steps-have n (s ∷ ss) h = let there : nat_lt s.loader n ≡ true = lt-ltb s.loader n h.0 in rw (there, steps-have n ss h.1) refl
 
 module _ (plan : PlanOf) where
-  bound-asks : (t : TypeTree) (b : BelowOf) (values : List ValueOf) (binding : BindingOf) → AreThere (length plan.bindings.loaders) binding → bound_asked plan t b values (Some binding) ≡ asked_by_binding t b values binding
+  bound-asks : (t : TypeTree) (b : ChildrenOf) (values : List ValueOf) (binding : BindingOf) → AreThere (length plan.bindings.loaders) binding → bound_asked plan t b values (Some binding) ≡ asked_by_binding t b values binding
   bound-asks t b values (by_column column) h = refl
   bound-asks t b values (by_one loader key) h = let there : nat_lt loader (length plan.bindings.loaders) ≡ true = lt-ltb loader (length plan.bindings.loaders) h in rw there refl
   bound-asks t b values (by_many loader key) h = let there : nat_lt loader (length plan.bindings.loaders) ≡ true = lt-ltb loader (length plan.bindings.loaders) h in rw there refl
@@ -32,13 +32,13 @@ module _ (plan : PlanOf) where
   asked p = p.asked
 
   pub group-asks : (ty : List ℕ) (g : GroupOf) (f : FieldOf) (d : Field) → IsAskedBy g f → field_in plan.definitions ty f.name ≡ Some d → (bound : IsBound plan.bindings ty f.name)
-      → (prepared plan ty g).asked ≡ with_arguments (arguments_of plan ty g) (λ values. asked_by_binding d.of_type (below_of d.of_type f.place g.fields) values bound.binding)
+      → (prepared plan ty g).asked ≡ with_arguments (arguments_of plan ty g) (λ values. asked_by_binding d.of_type (children_of d.of_type f.place g.fields) values bound.binding)
   group-asks ty g f d by field bound =
       let plain : bytes_eq f.name (codes "__typename") ≡ false = by.plain in
       let one : (first_asked plan ty g g.fields).asked ≡ (field_asked plan ty f g).asked = ap (λ (fs : List FieldOf). (first_asked plan ty g fs).asked) by.first in
       let two : (field_asked plan ty f g).asked ≡ (defined_asked plan ty f g (field_in plan.definitions ty f.name)).asked = rw plain refl in
       let three : (defined_asked plan ty f g (field_in plan.definitions ty f.name)).asked ≡ (defined_asked plan ty f g (Some d)).asked = ap (λ (o : Option Field). (defined_asked plan ty f g o).asked) field in
-      let inner : (λ (values : List ValueOf). bound_asked plan d.of_type (below_of d.of_type f.place g.fields) values (binding_in plan.bindings.fields ty f.name))
-      ≡ (λ (values : List ValueOf). asked_by_binding d.of_type (below_of d.of_type f.place g.fields) values bound.binding) =
-      fun_ext (λ values. ap (bound_asked plan d.of_type (below_of d.of_type f.place g.fields) values) bound.bound ∙ bound-asks d.of_type (below_of d.of_type f.place g.fields) values bound.binding bound.there) in
+      let inner : (λ (values : List ValueOf). bound_asked plan d.of_type (children_of d.of_type f.place g.fields) values (binding_in plan.bindings.fields ty f.name))
+      ≡ (λ (values : List ValueOf). asked_by_binding d.of_type (children_of d.of_type f.place g.fields) values bound.binding) =
+      fun_ext (λ values. ap (bound_asked plan d.of_type (children_of d.of_type f.place g.fields) values) bound.bound ∙ bound-asks d.of_type (children_of d.of_type f.place g.fields) values bound.binding bound.there) in
       one ∙ (two ∙ (three ∙ ap (with_arguments (arguments_of plan ty g)) inner))

@@ -99,25 +99,25 @@ place-below test n (g ∷ fs) k h = go (test g) (λ e. place-below test (n + 1) 
 -- ---- what a fragment's selections tell the graph
 
 module _ (fragments : List Fragment) (j : ℕ) where
-  abbrev told : List SelectionPart → List ℕ
-  told parts = targets_of (length fragments) fragment_number (filter_map (spread_part fragments) parts) j
+  abbrev targets : List SelectionPart → List ℕ
+  targets parts = targets_of (length fragments) fragment_number (filter_map (spread_part fragments) parts) j
 
-  told-append : (xs ys : List SelectionPart) → told (xs ++ ys) ≡ told xs ++ told ys
-  told-append xs ys =
+  targets-append : (xs ys : List SelectionPart) → targets (xs ++ ys) ≡ targets xs ++ targets ys
+  targets-append xs ys =
       ap (λ (ss : List SpreadPart). filter_map (target_of (length fragments) fragment_number j) ss) (filter_map-append (spread_part fragments) xs ys)
       ∙ filter_map-append (target_of (length fragments) fragment_number j) (filter_map (spread_part fragments) xs) (filter_map (spread_part fragments) ys)
 
   abbrev Has : ℕ → List SelectionPart → Type 0
-  Has k parts = is_among k (told parts) ≡ true
+  Has k parts = is_among k (targets parts) ≡ true
 
-  has-either : (k : ℕ) (xs ys : List SelectionPart) → is_among k (told (xs ++ ys)) ≡ (is_among k (told xs) || is_among k (told ys))
-  has-either k xs ys = ap (is_among k) (told-append xs ys) ∙ list_any-append (λ m. m == k) (told xs) (told ys)
+  has-either : (k : ℕ) (xs ys : List SelectionPart) → is_among k (targets (xs ++ ys)) ≡ (is_among k (targets xs) || is_among k (targets ys))
+  has-either k xs ys = ap (is_among k) (targets-append xs ys) ∙ list_any-append (λ m. m == k) (targets xs) (targets ys)
 
   has-left : (k : ℕ) (xs ys : List SelectionPart) → Has k xs → Has k (xs ++ ys)
-  has-left k xs ys h = has-either k xs ys ∙ ap (λ b. b || is_among k (told ys)) h
+  has-left k xs ys h = has-either k xs ys ∙ ap (λ b. b || is_among k (targets ys)) h
 
   has-right : (k : ℕ) (xs ys : List SelectionPart) → Has k ys → Has k (xs ++ ys)
-  has-right k xs ys h = has-either k xs ys ∙ ap (λ b. is_among k (told xs) || b) h ∙ go (is_among k (told xs))
+  has-right k xs ys h = has-either k xs ys ∙ ap (λ b. is_among k (targets xs) || b) h ∙ go (is_among k (targets xs))
     where
       go : (b : Bool) → (b || true) ≡ true
       go true = refl

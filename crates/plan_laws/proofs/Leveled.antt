@@ -12,9 +12,9 @@ use Rattle.execution.specs.Program.{Value, Null, Text as LeafText, Program, Prog
 use Rattle.gq_check.specs.Plans.{PlanOf, fragment_in}
 use Rattle.spread_graph.specs.Levels.{levels_in, levels_among, levels_from, levels_below}
 use Rattle.plan_program.specs.Chosen.{is_left_out, applies}
-use Rattle.plan_program.specs.Groups.{FieldOf, GroupOf, Collected, Entering, nothing_collected, with_field, chosen_field, has_entered, collect_one, collect_set, collect_all, enter_fragment, entering, collect_from, collect, collect_below, selections_in, selections_below}
+use Rattle.plan_program.specs.Groups.{FieldOf, GroupOf, Collected, Entering, nothing_collected, with_field, chosen_field, has_entered, collect_one, collect_set, collect_all, enter_fragment, entering, collect_from, collect, collect_subfields, selections_in, selections_below}
 use Rattle.plan_program.specs.Arguments.{ArgumentsOf, ValueOf, all_values, null_argument, arguments_of}
-use Rattle.plan_program.specs.Asked.{KeyFrom, of_column, BelowOf, ValueFrom, known as settled, cell, first_row, all_rows, each_row, joined_rows, PreparedOf, key_from, with_loader, have_loaders, with_steps, with_key, each_asked, input_named, bound_asked, below_of, with_arguments, defined_asked, field_asked, first_asked, prepared, all_prepared, spot_of}
+use Rattle.plan_program.specs.FieldValues.{KeyFrom, of_column, ChildrenOf, ValueFrom, known as settled, cell, first_row, all_rows, each_row, joined_rows, PreparedOf, key_from, with_loader, have_loaders, with_steps, with_key, each_asked, input_named, bound_asked, children_of, with_arguments, defined_asked, field_asked, first_asked, prepared, all_prepared, position_of}
 use Rattle.plan_program.specs.PlanPrograms.{TypeOf, object_type, type_fault, type_of_row, list_of, fields_of, Objects, typed_object, row_object, read_from, read_if, first_of, first_object, all_objects, joined_object, joined_objects, asked_program, prepared_program, object_program, most_levels, plan_program}
 use Rattle.plan_laws.specs.Levels.{program_with}
 
@@ -58,7 +58,7 @@ module _ (plan : PlanOf) (P : List FieldOf → Type 0) where
   key-over None asked h = tt
   key-over (Some k) asked h = h k
 
-  each-over : (loader : ℕ) (b : BelowOf) (input : Option Input) → P b.fields → OverFields P (each_asked loader b input)
+  each-over : (loader : ℕ) (b : ChildrenOf) (input : Option Input) → P b.fields → OverFields P (each_asked loader b input)
   each-over loader b None h = tt
   each-over loader b (Some (Items is)) h = h
   each-over loader b (Some (Int z)) h = tt
@@ -66,7 +66,7 @@ module _ (plan : PlanOf) (P : List FieldOf → Type 0) where
   each-over loader b (Some (Boolean x)) h = tt
   each-over loader b (Some NullInput) h = tt
 
-  bound-over : (t : TypeTree) (b : BelowOf) (values : List ValueOf) (binding : Option BindingOf) → P b.fields → OverFields P (bound_asked plan t b values binding)
+  bound-over : (t : TypeTree) (b : ChildrenOf) (values : List ValueOf) (binding : Option BindingOf) → P b.fields → OverFields P (bound_asked plan t b values binding)
   bound-over t b values None h = tt
   bound-over t b values (Some (by_column column)) h = tt
   bound-over t b values (Some (by_one loader key)) h = loader-over loader _ (key-over (key_from values key) _ (λ k. h))
@@ -80,12 +80,12 @@ module _ (plan : PlanOf) (P : List FieldOf → Type 0) where
 
   defined-over : (ty : List ℕ) (f : FieldOf) (g : GroupOf) (d : Option DefinedField) → P g.fields → OverFields P (defined_asked plan ty f g d).asked
   defined-over ty f g None h = tt
-  defined-over ty f g (Some d) h = arguments-over (arguments_of plan ty g) _ (λ vs. bound-over d.of_type (below_of d.of_type f.place g.fields) vs (binding_in plan.bindings.fields ty f.name) h)
+  defined-over ty f g (Some d) h = arguments-over (arguments_of plan ty g) _ (λ vs. bound-over d.of_type (children_of d.of_type f.place g.fields) vs (binding_in plan.bindings.fields ty f.name) h)
 
   field-over : (ty : List ℕ) (f : FieldOf) (g : GroupOf) → P g.fields → OverFields P (field_asked plan ty f g).asked
   field-over ty f g h = go (bytes_eq f.name (codes "__typename"))
     where
-      go : (b : Bool) → OverFields P (if b then record { spot = spot_of g.key f.place true; asked = settled (Value (LeafText ty)) } else defined_asked plan ty f g (field_in plan.definitions ty f.name)).asked
+      go : (b : Bool) → OverFields P (if b then record { position = position_of g.key f.place true; asked = settled (Value (LeafText ty)) } else defined_asked plan ty f g (field_in plan.definitions ty f.name)).asked
       go true = tt
       go false = defined-over ty f g (field_in plan.definitions ty f.name) h
 
@@ -99,28 +99,28 @@ abbrev AlikeOver : Objects → Objects → List FieldOf → Type 0
 AlikeOver objects other fields = (ty : List ℕ) (row : RowOf) → objects ty fields row ≡ other ty fields row
 
 module _ (defs : List Definition) (objects other : Objects) where
-  typed-alike : (b : BelowOf) (row : RowOf) (t : TypeOf) → AlikeOver objects other b.fields → typed_object objects b row t ≡ typed_object other b row t
+  typed-alike : (b : ChildrenOf) (row : RowOf) (t : TypeOf) → AlikeOver objects other b.fields → typed_object objects b row t ≡ typed_object other b row t
   typed-alike b row (type_fault fault) h = refl
   typed-alike b row (object_type ty) h = h ty row
 
-  rows-alike : (b : BelowOf) → AlikeOver objects other b.fields → row_object defs objects b ≡ row_object defs other b
+  rows-alike : (b : ChildrenOf) → AlikeOver objects other b.fields → row_object defs objects b ≡ row_object defs other b
   rows-alike b h = fun_ext (λ row. typed-alike b row (type_of_row defs b.type_name row) h)
 
-  first-alike : (b : BelowOf) (rs : List RowOf) → AlikeOver objects other b.fields → first_object defs objects b rs ≡ first_object defs other b rs
+  first-alike : (b : ChildrenOf) (rs : List RowOf) → AlikeOver objects other b.fields → first_object defs objects b rs ≡ first_object defs other b rs
   first-alike b [] h = refl
   first-alike b (r ∷ rs) h = typed-alike b r (type_of_row defs b.type_name r) h
 
-  firsts-alike : (b : BelowOf) → AlikeOver objects other b.fields → first_object defs objects b ≡ first_object defs other b
+  firsts-alike : (b : ChildrenOf) → AlikeOver objects other b.fields → first_object defs objects b ≡ first_object defs other b
   firsts-alike b h = fun_ext (λ rs. first-alike b rs h)
 
-  alls-alike : (b : BelowOf) → AlikeOver objects other b.fields → all_objects defs objects b ≡ all_objects defs other b
+  alls-alike : (b : ChildrenOf) → AlikeOver objects other b.fields → all_objects defs objects b ≡ all_objects defs other b
   alls-alike b h = fun_ext (λ rs. ap (λ (f : RowOf → Program). list_of b (map f rs)) (rows-alike b h))
 
-  object-alike : (b : BelowOf) (steps : List StepOf) → AlikeOver objects other b.fields → joined_object defs objects b steps ≡ joined_object defs other b steps
+  object-alike : (b : ChildrenOf) (steps : List StepOf) → AlikeOver objects other b.fields → joined_object defs objects b steps ≡ joined_object defs other b steps
   object-alike b [] h = rows-alike b h
   object-alike b (s ∷ ss) h = fun_ext (λ row. ap (λ (next : RowOf → Program). read_from s.loader (of_column s.column) row (first_of next)) (object-alike b ss h))
 
-  joined-alike : (b : BelowOf) (steps : List StepOf) → AlikeOver objects other b.fields → joined_objects defs objects b steps ≡ joined_objects defs other b steps
+  joined-alike : (b : ChildrenOf) (steps : List StepOf) → AlikeOver objects other b.fields → joined_objects defs objects b steps ≡ joined_objects defs other b steps
   joined-alike b steps h = fun_ext (λ rs. ap (λ (f : RowOf → Program). list_of b (map f rs)) (object-alike b steps h))
 
   asked-alike : (row : RowOf) (a : ValueFrom) → OverFields (AlikeOver objects other) a → asked_program defs objects row a ≡ asked_program defs other row a
@@ -143,8 +143,8 @@ fields-alike plan objects other ty row (g ∷ gs) h =
     let p : PreparedOf = prepared plan ty g in
     let rest = fields-alike plan objects other ty row gs h.1 in
     let own = asked-alike plan.definitions objects other row (prepared plan ty g).asked (first-over plan (AlikeOver objects other) ty g g.fields h.0) in
-    ap (λ (q : Program). With (prepared plan ty g).spot q (fields_of (asked_program plan.definitions objects row) (all_prepared plan ty gs))) own
-    ∙ ap (λ (qs : Programs). With (prepared plan ty g).spot (asked_program plan.definitions other row (prepared plan ty g).asked) qs) rest
+    ap (λ (q : Program). With (prepared plan ty g).position q (fields_of (asked_program plan.definitions objects row) (all_prepared plan ty gs))) own
+    ∙ ap (λ (qs : Programs). With (prepared plan ty g).position (asked_program plan.definitions other row (prepared plan ty g).asked) qs) rest
 
 program-alike : (plan : PlanOf) (objects other : Objects) (ty : List ℕ) (row : RowOf) (gs : List GroupOf) → GroupsAlike objects other gs
     → prepared_program plan.definitions objects (all_prepared plan ty gs) row ≡ prepared_program plan.definitions other (all_prepared plan ty gs) row
@@ -219,7 +219,7 @@ module _ (plan : PlanOf) (spread : List ℕ → ℕ) where
     from-within most ty so_far nothing_below le h = h
     from-within most ty so_far (below (set_at place ss)) le h = within-all most ty (entering plan ty (length plan.fragments)) (stays most ty (length plan.fragments)) so_far ss le h
 
-    below-within : (most : ℕ) (ty : List ℕ) (so_far : Collected) (fs : List FieldOf) → AreWithin (suc most) fs → GroupsWithin most so_far.groups → GroupsWithin most (collect_below plan ty so_far fs).groups
+    below-within : (most : ℕ) (ty : List ℕ) (so_far : Collected) (fs : List FieldOf) → AreWithin (suc most) fs → GroupsWithin most so_far.groups → GroupsWithin most (collect_subfields plan ty so_far fs).groups
     below-within most ty so_far [] w h = h
     below-within most ty so_far (f ∷ fs) w h = below-within most ty (collect_from plan ty so_far (selections_below f.below)) fs w.1 (from-within most ty so_far f.below (let l = w.0 in omega (arith, l)) h)
 
@@ -243,12 +243,12 @@ module _ (plan : PlanOf) (spread : List ℕ → ℕ) where
 
     objects-alike : (most more : ℕ) → most ≤ more → (fs : List FieldOf) → AreWithin (suc most) fs → AlikeOver (object_program plan (suc most)) (object_program plan (suc more)) fs
     objects-alike zero more le fs w ty row =
-        program-alike plan (object_program plan 0) (object_program plan more) ty row (collect_below plan ty nothing_collected fs).groups
-        (no-groups (object_program plan 0) (object_program plan more) (collect_below plan ty nothing_collected fs).groups (below-within 0 ty nothing_collected fs w tt))
+        program-alike plan (object_program plan 0) (object_program plan more) ty row (collect_subfields plan ty nothing_collected fs).groups
+        (no-groups (object_program plan 0) (object_program plan more) (collect_subfields plan ty nothing_collected fs).groups (below-within 0 ty nothing_collected fs w tt))
     objects-alike (suc most) zero le fs w ty row = absurd (omega (arith, le))
     objects-alike (suc most) (suc more) le fs w ty row =
-        program-alike plan (object_program plan (suc most)) (object_program plan (suc more)) ty row (collect_below plan ty nothing_collected fs).groups
-        (groups-alike (suc most) (object_program plan (suc most)) (object_program plan (suc more)) (λ gs v. objects-alike most more (omega (arith, le)) gs v) (collect_below plan ty nothing_collected fs).groups (below-within (suc most) ty nothing_collected fs w tt))
+        program-alike plan (object_program plan (suc most)) (object_program plan (suc more)) ty row (collect_subfields plan ty nothing_collected fs).groups
+        (groups-alike (suc most) (object_program plan (suc most)) (object_program plan (suc more)) (λ gs v. objects-alike most more (omega (arith, le)) gs v) (collect_subfields plan ty nothing_collected fs).groups (below-within (suc most) ty nothing_collected fs w tt))
 
     root-within : (most : ℕ) (ty : List ℕ) (s : SelectionSet) → levels_in spread s ≤ most → GroupsWithin most (collect plan ty (selections_in s))
     root-within most ty (set_at place ss) le = within-all most ty (entering plan ty (length plan.fragments)) (stays most ty (length plan.fragments)) nothing_collected ss le tt

@@ -17,7 +17,7 @@ use Rattle.document_parts.specs.Parts.{FieldPart, ArgumentPart, PartsOf}
 use Rattle.document_parts.specs.Listing.{parts_of, field_arguments, directive_arguments, argument_with, listed_arguments}
 use Rattle.typed_rules.specs.Words.{named_if}
 use Rattle.typed_rules.specs.ArgumentNames.{unknown_argument, type_name_arguments}
-use Rattle.typed_rules.specs.CorrectValues.{wrong_argument, wrong_variable}
+use Rattle.typed_rules.specs.ValuesOfCorrectType.{wrong_argument, wrong_variable}
 use Rattle.variable_values.specs.Variables.{value_in}
 use Rattle.execution.specs.Loads.{IsOneOf}
 use Rattle.gq_check.specs.Plans.{PlanOf}
@@ -36,13 +36,13 @@ use Rattle.plan_laws.proofs.Meeting.{met-good, served}
 -- ---- what a literal gives
 
 module _ (plan : PlanOf) where
-  set-value : (strict : Bool) (o : Option Input) → is_unset o ≡ false → is_some (variable_value strict o) ≡ true
-  set-value strict None e = absurd (both_ways true e refl)
-  set-value strict (Some Null) e = absurd (both_ways true e refl)
-  set-value strict (Some (Int z)) e = refl
-  set-value strict (Some (Text t)) e = refl
-  set-value strict (Some (Boolean b)) e = refl
-  set-value strict (Some (Items is)) e = refl
+  set-value : (non_null : Bool) (o : Option Input) → is_unset o ≡ false → is_some (variable_value non_null o) ≡ true
+  set-value non_null None e = absurd (both_ways true e refl)
+  set-value non_null (Some Null) e = absurd (both_ways true e refl)
+  set-value non_null (Some (Int z)) e = refl
+  set-value non_null (Some (Text t)) e = refl
+  set-value non_null (Some (Boolean b)) e = refl
+  set-value non_null (Some (Items is)) e = refl
 
   -- the literal gives a value at a type whose variables have values, where it is right whatever they are
   abbrev IsRight : (Value → Option Input) → (Value → Option Input) → Type 0
@@ -73,31 +73,31 @@ module _ (plan : PlanOf) where
   one-some None = refl
   one-some (Some i) = refl
 
-  name-right : (name : List ℕ) (strict : Bool) (p : _) → IsRight (value_with (Some Null) plan.definitions (Named p name strict)) (literal_value plan (Named p name strict))
-  name-right name strict p (Variable q v) e u = set-value strict (value_in plan.variables v) u
-  name-right name strict p (literal.Int q t) e u = e
-  name-right name strict p (Float q t) e u = e
-  name-right name strict p (literal.Text q t) e u = e
-  name-right name strict p (literal.Boolean q b) e u = e
-  name-right name strict p (literal.Null q) e u = e
-  name-right name strict p (Enum q v) e u = e
-  name-right name strict p (Array q vs) e u = e
-  name-right name strict p (Object q ms) e u = e
+  name-right : (name : List ℕ) (non_null : Bool) (p : _) → IsRight (value_with (Some Null) plan.definitions (Named p name non_null)) (literal_value plan (Named p name non_null))
+  name-right name non_null p (Variable q v) e u = set-value non_null (value_in plan.variables v) u
+  name-right name non_null p (literal.Int q t) e u = e
+  name-right name non_null p (Float q t) e u = e
+  name-right name non_null p (literal.Text q t) e u = e
+  name-right name non_null p (literal.Boolean q b) e u = e
+  name-right name non_null p (literal.Null q) e u = e
+  name-right name non_null p (Enum q v) e u = e
+  name-right name non_null p (Array q vs) e u = e
+  name-right name non_null p (Object q ms) e u = e
 
-  list-right : (any own : Value → Option Input) (strict : Bool) → IsRight any own → IsRight (list_value (Some Null) any strict) (with_variables plan own strict)
-  list-right any own strict right (literal.Null q) e u = e
-  list-right any own strict right (Variable q v) e u = set-value strict (value_in plan.variables v) u
-  list-right any own strict right (Array q vs) e u = list-some (all_items own vs) ∙ items-right any own right vs (sym (list-some (all_items any vs)) ∙ e) u
-  list-right any own strict right (literal.Int q t) e u = one-some (own (literal.Int q t)) ∙ right (literal.Int q t) (sym (one-some (any (literal.Int q t))) ∙ e) u
-  list-right any own strict right (Float q t) e u = one-some (own (Float q t)) ∙ right (Float q t) (sym (one-some (any (Float q t))) ∙ e) u
-  list-right any own strict right (literal.Text q t) e u = one-some (own (literal.Text q t)) ∙ right (literal.Text q t) (sym (one-some (any (literal.Text q t))) ∙ e) u
-  list-right any own strict right (literal.Boolean q b) e u = one-some (own (literal.Boolean q b)) ∙ right (literal.Boolean q b) (sym (one-some (any (literal.Boolean q b))) ∙ e) u
-  list-right any own strict right (Enum q v) e u = one-some (own (Enum q v)) ∙ right (Enum q v) (sym (one-some (any (Enum q v))) ∙ e) u
-  list-right any own strict right (Object q ms) e u = one-some (own (Object q ms)) ∙ right (Object q ms) (sym (one-some (any (Object q ms))) ∙ e) u
+  list-right : (any own : Value → Option Input) (non_null : Bool) → IsRight any own → IsRight (list_value (Some Null) any non_null) (with_variables plan own non_null)
+  list-right any own non_null right (literal.Null q) e u = e
+  list-right any own non_null right (Variable q v) e u = set-value non_null (value_in plan.variables v) u
+  list-right any own non_null right (Array q vs) e u = list-some (all_items own vs) ∙ items-right any own right vs (sym (list-some (all_items any vs)) ∙ e) u
+  list-right any own non_null right (literal.Int q t) e u = one-some (own (literal.Int q t)) ∙ right (literal.Int q t) (sym (one-some (any (literal.Int q t))) ∙ e) u
+  list-right any own non_null right (Float q t) e u = one-some (own (Float q t)) ∙ right (Float q t) (sym (one-some (any (Float q t))) ∙ e) u
+  list-right any own non_null right (literal.Text q t) e u = one-some (own (literal.Text q t)) ∙ right (literal.Text q t) (sym (one-some (any (literal.Text q t))) ∙ e) u
+  list-right any own non_null right (literal.Boolean q b) e u = one-some (own (literal.Boolean q b)) ∙ right (literal.Boolean q b) (sym (one-some (any (literal.Boolean q b))) ∙ e) u
+  list-right any own non_null right (Enum q v) e u = one-some (own (Enum q v)) ∙ right (Enum q v) (sym (one-some (any (Enum q v))) ∙ e) u
+  list-right any own non_null right (Object q ms) e u = one-some (own (Object q ms)) ∙ right (Object q ms) (sym (one-some (any (Object q ms))) ∙ e) u
 
   right-at : (t : TypeTree) → IsRight (value_with (Some Null) plan.definitions t) (literal_value plan t)
-  right-at (Named p name strict) = name-right name strict p
-  right-at (ListOf p t strict) = list-right (value_with (Some Null) plan.definitions t) (literal_value plan t) strict (right-at t)
+  right-at (Named p name non_null) = name-right name non_null p
+  right-at (ListOf p t non_null) = list-right (value_with (Some Null) plan.definitions t) (literal_value plan t) non_null (right-at t)
 
 -- ---- types that differ in their places alone
 
@@ -106,18 +106,18 @@ same-flag true b e = sym e
 same-flag false b e = sym (not-true b e)
 
 same-value : (i : Option Input) (defs : List Definition) (t u : TypeTree) → is_same_type t u ≡ true → value_with i defs t ≡ value_with i defs u
-same-value i defs (Named p n strict) (Named q m wanted) e =
-    let both = and_parts (is_same_flag strict wanted) (bytes_eq n m) e in
-    let flag = same-flag strict wanted both.0 in
+same-value i defs (Named p n non_null) (Named q m wanted) e =
+    let both = and_parts (is_same_flag non_null wanted) (bytes_eq n m) e in
+    let flag = same-flag non_null wanted both.0 in
     let name = (bytes_eq-Decides n m).0 both.1 in
     fun_ext (λ v. rw (flag, name) refl)
-same-value i defs (ListOf p t strict) (ListOf q u wanted) e =
-    let both = and_parts (is_same_flag strict wanted) (is_same_type t u) e in
-    let flag = same-flag strict wanted both.0 in
+same-value i defs (ListOf p t non_null) (ListOf q u wanted) e =
+    let both = and_parts (is_same_flag non_null wanted) (is_same_type t u) e in
+    let flag = same-flag non_null wanted both.0 in
     let item : value_with i defs t ≡ value_with i defs u = same-value i defs t u both.1 in
     fun_ext (λ v. ap (λ (b : Bool). list_value i (value_with i defs t) b v) flag ∙ ap (λ (f : Value → Option Input). list_value i f wanted v) item)
-same-value i defs (Named p n strict) (ListOf q u wanted) e = absurd (both_ways false refl e)
-same-value i defs (ListOf p t strict) (Named q m wanted) e = absurd (both_ways false refl e)
+same-value i defs (Named p n non_null) (ListOf q u wanted) e = absurd (both_ways false refl e)
+same-value i defs (ListOf p t non_null) (Named q m wanted) e = absurd (both_ways false refl e)
 
 -- ---- the arguments of a field of a document
 

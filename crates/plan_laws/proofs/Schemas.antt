@@ -29,7 +29,7 @@ use Rattle.gq_schema.specs.Fault.{missing_root, fault_of_types, fault_of}
 use Rattle.load_memory.specs.Rows.{cell_of}
 use Rattle.execution.specs.Loads.{IsOneOf}
 use Rattle.plan_program.specs.Texts.{not_type_message}
-use Rattle.plan_program.specs.PlanPrograms.{object_type, type_fault, typename, told_type, type_of_row}
+use Rattle.plan_program.specs.PlanPrograms.{object_type, type_fault, typename, resolved_type, type_of_row}
 use Rattle.document_parts.specs.Parents.{composite_in}
 use Rattle.plan_laws.specs.Met.{MayStand}
 use Rattle.plan_laws.proofs.Options.{some-of, none-else, none-map, found-one, none-first}
@@ -289,18 +289,18 @@ module _ (defs : List Definition) (kept : fault_of defs ≡ None) where
 
   object-stands : (q object : List ℕ) → is_object_type defs q ≡ true → MayStand defs q object → q ≡ object
   object-stands q object e may =
-      let told : type_of_row defs q may.0 ≡ object_type q = rw e refl in
-      let same : object_type q ≡ object_type object = sym told ∙ may.1 in
+      let resolved : type_of_row defs q may.0 ≡ object_type q = rw e refl in
+      let same : object_type q ≡ object_type object = sym resolved ∙ may.1 in
       cc
 
-  told-can : (q : List ℕ) (cell : Option (List ℕ)) (object : List ℕ) → told_type defs q cell ≡ object_type object → can_be defs q object ≡ true
-  told-can q None object h = absurd (cc h)
-  told-can q (Some []) object h = absurd (cc h)
-  told-can q (Some (c ∷ cs)) object h = go (can_be defs q (c ∷ cs)) refl h
+  resolved-can : (q : List ℕ) (cell : Option (List ℕ)) (object : List ℕ) → resolved_type defs q cell ≡ object_type object → can_be defs q object ≡ true
+  resolved-can q None object h = absurd (cc h)
+  resolved-can q (Some []) object h = absurd (cc h)
+  resolved-can q (Some (c ∷ cs)) object h = go (can_be defs q (c ∷ cs)) refl h
     where
-      go : (b : Bool) → can_be defs q (c ∷ cs) ≡ b → told_type defs q (Some (c ∷ cs)) ≡ object_type object → can_be defs q object ≡ true
-      go true e k = let told : told_type defs q (Some (c ∷ cs)) ≡ object_type (c ∷ cs) = rw e refl in let same : object_type (c ∷ cs) ≡ object_type object = sym told ∙ k in let it : c ∷ cs ≡ object = cc in ap (can_be defs q) (sym it) ∙ e
-      go false e k = let told : told_type defs q (Some (c ∷ cs)) ≡ type_fault (not_type_message (c ∷ cs)) = rw e refl in let same : type_fault (not_type_message (c ∷ cs)) ≡ object_type object = sym told ∙ k in absurd (cc same)
+      go : (b : Bool) → can_be defs q (c ∷ cs) ≡ b → resolved_type defs q (Some (c ∷ cs)) ≡ object_type object → can_be defs q object ≡ true
+      go true e k = let resolved : resolved_type defs q (Some (c ∷ cs)) ≡ object_type (c ∷ cs) = rw e refl in let same : object_type (c ∷ cs) ≡ object_type object = sym resolved ∙ k in let it : c ∷ cs ≡ object = cc in ap (can_be defs q) (sym it) ∙ e
+      go false e k = let resolved : resolved_type defs q (Some (c ∷ cs)) ≡ type_fault (not_type_message (c ∷ cs)) = rw e refl in let same : type_fault (not_type_message (c ∷ cs)) ≡ object_type object = sym resolved ∙ k in absurd (cc same)
 
   stands-for : (q object : List ℕ) → MayStand defs q object → (is_object_type defs object ≡ true) × IsFor defs q object
   stands-for q object may = go (is_object_type defs q) refl
@@ -308,8 +308,8 @@ module _ (defs : List Definition) (kept : fault_of defs ≡ None) where
       go : (b : Bool) → is_object_type defs q ≡ b → (is_object_type defs object ≡ true) × IsFor defs q object
       go true e = let same = object-stands q object e may in (ap (is_object_type defs) (sym same) ∙ e, inl same)
       go false e =
-          let told : type_of_row defs q may.0 ≡ told_type defs q (cell_of may.0 typename) = rw e refl in
-          let can = told-can q (cell_of may.0 typename) object (sym told ∙ may.1) in
+          let resolved : type_of_row defs q may.0 ≡ resolved_type defs q (cell_of may.0 typename) = rw e refl in
+          let can = resolved-can q (cell_of may.0 typename) object (sym resolved ∙ may.1) in
           ((can-why q object can).object, inr can)
 
   pub may-object : (q object : List ℕ) → MayStand defs q object → is_object_type defs object ≡ true
@@ -325,13 +325,13 @@ module _ (defs : List Definition) (kept : fault_of defs ≡ None) where
 
   -- what stands for a type stands for each that it is covariant to
   pub may-for : (t u : TypeTree) (object : List ℕ) → is_covariant defs t u ≡ true → MayStand defs (core_of t).text object → IsFor defs (core_of u).text object
-  may-for (Named p n strict) (Named q m wanted) object e may = elim (or_cases (bytes_eq n m) (can_be defs m n) (and_parts (strict || not wanted) (bytes_eq n m || can_be defs m n) e).1) [
+  may-for (Named p n non_null) (Named q m wanted) object e may = elim (or_cases (bytes_eq n m) (can_be defs m n) (and_parts (non_null || not wanted) (bytes_eq n m || can_be defs m n) e).1) [
     | inl h ↦ subst (λ (x : List ℕ). IsFor defs x object) (same-text n m h) (stands-for n object may).1
     | inr h ↦ subst (IsFor defs m) (object-stands n object (can-why m n h).object may) (inr h)
   ]
-  may-for (ListOf p t strict) (ListOf q u wanted) object e may = may-for t u object (and_parts (strict || not wanted) (is_covariant defs t u) e).1 may
-  may-for (Named p n strict) (ListOf q u wanted) object e may = absurd (cc e)
-  may-for (ListOf p t strict) (Named q m wanted) object e may = absurd (cc e)
+  may-for (ListOf p t non_null) (ListOf q u wanted) object e may = may-for t u object (and_parts (non_null || not wanted) (is_covariant defs t u) e).1 may
+  may-for (Named p n non_null) (ListOf q u wanted) object e may = absurd (cc e)
+  may-for (ListOf p t non_null) (Named q m wanted) object e may = absurd (cc e)
 
   pub may-itself : (t : TypeTree) (object : List ℕ) → MayStand defs (core_of t).text object → IsFor defs (core_of t).text object
   may-itself t object may = (stands-for (core_of t).text object may).1

@@ -74,13 +74,13 @@ prepared-among defs os name given p h = go (chosen_operation os name) refl h
 
 -- ---- and has no more levels than there may be
 
-abbrev told_deep : Operation → BrokenOf
-told_deep o = record { name = []; place = o.place }
+abbrev too_deep_at : Operation → BrokenOf
+too_deep_at o = record { name = []; place = o.place }
 
 shallow-one : (fs : List Fragment) (o : Operation) → deep_operation fs o ≡ None → levels_of fs o ≤ most_levels
 shallow-one fs o h = go (nat_lt most_levels (levels_of fs o)) refl h
   where
-    go : (b : Bool) → nat_lt most_levels (levels_of fs o) ≡ b → (if b then Some (told_deep o) else None) ≡ None → levels_of fs o ≤ most_levels
+    go : (b : Bool) → nat_lt most_levels (levels_of fs o) ≡ b → (if b then Some (too_deep_at o) else None) ≡ None → levels_of fs o ≤ most_levels
     go true e k = absurd (cc k)
     go false e k = grind arith
 

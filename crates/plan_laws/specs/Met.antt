@@ -12,9 +12,9 @@ use Rattle.execution.specs.Loads.{IsOneOf}
 use Rattle.gq_check.specs.Plans.{PlanOf}
 use Rattle.gq_check.specs.Planned.{IsPlan}
 use Rattle.plan_program.specs.Chosen.{given_to}
-use Rattle.plan_program.specs.Groups.{FieldOf, GroupOf, selections_in, nothing_collected, collect, collect_below}
+use Rattle.plan_program.specs.Groups.{FieldOf, GroupOf, selections_in, nothing_collected, collect, collect_subfields}
 use Rattle.plan_program.specs.Arguments.{ValueOf, arguments_of}
-use Rattle.plan_program.specs.Asked.{BelowOf, ValueFrom, cell, first_row, all_rows, joined_rows, input_named, key_from, with_key, each_asked, with_arguments, below_of, prepared}
+use Rattle.plan_program.specs.FieldValues.{ChildrenOf, ValueFrom, cell, first_row, all_rows, joined_rows, input_named, key_from, with_key, each_asked, with_arguments, children_of, prepared}
 use Rattle.plan_program.specs.PlanPrograms.{object_type, type_of_row}
 
 -- an object of this type can stand where a type of this name is wanted: some row tells so
@@ -36,7 +36,7 @@ pub data CanBeMet (plan : PlanOf) : List ℕ → GroupOf → Type 0 where
   of_root : {g : GroupOf} → IsOneOf g (collect plan (root_in plan.definitions) (selections_in plan.operation.selection_set)) → CanBeMet plan (root_in plan.definitions) g
   inside : {ty object : List ℕ} {g h : GroupOf} {f : FieldOf} {d : Field}
       → CanBeMet plan ty g → IsAskedBy g f → field_in plan.definitions ty f.name ≡ Some d → MayStand plan.definitions (core_of d.of_type).text object
-      → IsOneOf h (collect_below plan object nothing_collected g.fields).groups
+      → IsOneOf h (collect_subfields plan object nothing_collected g.fields).groups
       → CanBeMet plan object h
 
 -- execution can meet the group, which this field answers
@@ -79,7 +79,7 @@ pub record IsBound (b : BindingsOf) (ty name : List ℕ) : Type 0 where
   pub there : AreThere (length b.loaders) binding
 
 -- what a binding asks, with its loaders there
-abbrev pub asked_by_binding : TypeTree → BelowOf → List ValueOf → BindingOf → ValueFrom
+abbrev pub asked_by_binding : TypeTree → ChildrenOf → List ValueOf → BindingOf → ValueFrom
 asked_by_binding t below values (by_column column) = cell column t
 asked_by_binding t below values (by_one loader key) = with_key (key_from values key) (λ k. first_row loader k below)
 asked_by_binding t below values (by_many loader key) = with_key (key_from values key) (λ k. all_rows loader k below)
@@ -93,7 +93,7 @@ pub record AsksItsBinding (plan : PlanOf) (ty : List ℕ) (g : GroupOf) (f : Fie
   pub defined : field_in plan.definitions ty f.name ≡ Some definition
   pub bound : IsBound plan.bindings ty f.name
   pub asks : (prepared plan ty g).asked ≡ with_arguments (arguments_of plan ty g)
-      (λ values. asked_by_binding definition.of_type (below_of definition.of_type f.place g.fields) values bound.binding)
+      (λ values. asked_by_binding definition.of_type (children_of definition.of_type f.place g.fields) values bound.binding)
 
 -- ---- plans over one schema
 

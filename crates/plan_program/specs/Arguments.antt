@@ -13,29 +13,29 @@ use Rattle.plan_program.specs.Groups.{FieldOf, GroupOf}
 
 -- null, where a type may be null
 abbrev pub null_input : Bool → Option Input
-null_input strict = if strict then None else Some Null
+null_input non_null = if non_null then None else Some Null
 
 -- The value of a variable, which is of its own type. Null isn't right at a non-null type, and an absent variable is null.
 abbrev pub variable_value : Bool → Option Input → Option Input
-variable_value strict None = null_input strict
-variable_value strict (Some Null) = null_input strict
-variable_value strict (Some i) = Some i
+variable_value non_null None = null_input non_null
+variable_value non_null (Some Null) = null_input non_null
+variable_value non_null (Some i) = Some i
 
 -- what a literal with its variables gives at the type of this name, where it is right
 abbrev pub name_value : PlanOf → List ℕ → Bool → Value → Option Input
-name_value plan name strict (Variable p v) = variable_value strict (value_in plan.variables v)
-name_value plan name strict v = named_value None plan.definitions name strict v
+name_value plan name non_null (Variable p v) = variable_value non_null (value_in plan.variables v)
+name_value plan name non_null v = named_value None plan.definitions name non_null v
 
 -- the same at a list, where item says what a literal gives at its items
 abbrev pub list_value : PlanOf → (Value → Option Input) → Bool → Value → Option Input
-list_value plan item strict (literal.Null p) = null_input strict
-list_value plan item strict (Variable p v) = variable_value strict (value_in plan.variables v)
-list_value plan item strict (Array p vs) = list_input (all_items item vs)
-list_value plan item strict v = one_item (item v)
+list_value plan item non_null (literal.Null p) = null_input non_null
+list_value plan item non_null (Variable p v) = variable_value non_null (value_in plan.variables v)
+list_value plan item non_null (Array p vs) = list_input (all_items item vs)
+list_value plan item non_null v = one_item (item v)
 
 abbrev pub literal_value : PlanOf → TypeTree → Value → Option Input
-literal_value plan (Named p name strict) v = name_value plan name strict v
-literal_value plan (ListOf p t strict) v = list_value plan (literal_value plan t) strict v
+literal_value plan (Named p name non_null) v = name_value plan name non_null v
+literal_value plan (ListOf p t non_null) v = list_value plan (literal_value plan t) non_null v
 
 -- an argument's value, that it has none, or that it has the field error
 pub data Coerced : Type 0 where

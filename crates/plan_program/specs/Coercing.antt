@@ -12,7 +12,7 @@ coerced_seen variant.Absent = absent
 coerced_seen (variant.Present i) = present (input_of i)
 coerced_seen variant.Refused = refused
 
--- the fault that is told where arguments are wanted; of memory this says nothing
+-- the fault that is reported where arguments are wanted; of memory this says nothing
 abbrev pub Refuses : ArgFault → ArgumentsOf → Type 0
 Refuses (NullArgument name) want = want ≡ null_argument (string_bytes name)
 Refuses NoMemory want = Unit {0}

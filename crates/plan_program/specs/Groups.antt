@@ -88,6 +88,6 @@ selections_below nothing_below = no_selection
 selections_below (below set) = selections_in set
 
 -- the same for what several fields select, joined in order (MergeSelectionSets)
-abbrev pub collect_below : PlanOf → List ℕ → Collected → List FieldOf → Collected
-collect_below plan ty so_far [] = so_far
-collect_below plan ty so_far (f ∷ fs) = collect_below plan ty (collect_from plan ty so_far (selections_below f.below)) fs
+abbrev pub collect_subfields : PlanOf → List ℕ → Collected → List FieldOf → Collected
+collect_subfields plan ty so_far [] = so_far
+collect_subfields plan ty so_far (f ∷ fs) = collect_subfields plan ty (collect_from plan ty so_far (selections_below f.below)) fs

@@ -6,6 +6,6 @@ pub mod Seen
 pub mod Collecting
 pub mod Steps
 pub mod Coercing
-pub mod Asked
+pub mod FieldValues
 pub mod Prepared
 pub mod PlanPrograms

@@ -95,18 +95,18 @@ fn all_copied(inputs: &Vec<Input>) -> Result<Vec<Input>, AllocError>
     Ok(copies)
 }
 
-fn null_input(strict: bool) -> Option<Input>
-    ensures { option_map input_of result ≡ null_input strict }
+fn null_input(non_null: bool) -> Option<Input>
+    ensures { option_map input_of result ≡ null_input non_null }
 {
-    (!strict).then_some(Input::Null)
+    (!non_null).then_some(Input::Null)
 }
 
 // The value of a variable that has one.
-fn value_of_variable(strict: bool, value: &Input) -> Result<Option<Input>, AllocError>
-    ensures { IfOk result (λ input. option_map input_of input ≡ variable_value strict (Some (input_of value.now))) }
+fn value_of_variable(non_null: bool, value: &Input) -> Result<Option<Input>, AllocError>
+    ensures { IfOk result (λ input. option_map input_of input ≡ variable_value non_null (Some (input_of value.now))) }
 {
     match value {
-        Input::Null => Ok(null_input(strict)),
+        Input::Null => Ok(null_input(non_null)),
         Input::Int(number) => Ok(Some(Input::Int(*number))),
         Input::Text(text) => Ok(Some(Input::Text(text.clone()?))),
         Input::Bool(value) => Ok(Some(Input::Bool(*value))),
@@ -115,12 +115,12 @@ fn value_of_variable(strict: bool, value: &Input) -> Result<Option<Input>, Alloc
 }
 
 // The value of a variable; an absent one is null.
-fn variable_value(plan: &Plan<'_>, strict: bool, name: &str) -> Result<Option<Input>, AllocError>
-    ensures { IfOk result (λ input. option_map input_of input ≡ variable_value strict (value_in (plan_of plan.now).variables name.now)) }
+fn variable_value(plan: &Plan<'_>, non_null: bool, name: &str) -> Result<Option<Input>, AllocError>
+    ensures { IfOk result (λ input. option_map input_of input ≡ variable_value non_null (value_in (plan_of plan.now).variables name.now)) }
 {
     match plan.variable(name) {
-        Some(value) => value_of_variable(strict, value),
-        None => Ok(null_input(strict)),
+        Some(value) => value_of_variable(non_null, value),
+        None => Ok(null_input(non_null)),
     }
 }
 
@@ -143,14 +143,14 @@ fn name_value(
     alloc: Global,
     plan: &Plan<'_>,
     ty: &TypeRef,
-    strict: bool,
+    non_null: bool,
     literal: &Literal,
 ) -> Result<Option<Input>, AllocError>
-    ensures { IfOk result (λ input. (p : Place) (name : List ℕ) → type_of ty.now ≡ Named p name strict
-        → option_map input_of input ≡ name_value (plan_of plan.now) name strict (literal_of literal.now)) }
+    ensures { IfOk result (λ input. (p : Place) (name : List ℕ) → type_of ty.now ≡ Named p name non_null
+        → option_map input_of input ≡ name_value (plan_of plan.now) name non_null (literal_of literal.now)) }
 {
     match &literal.value {
-        Value::Variable(name) => Ok(variable_value(plan, strict, name.as_str())?),
+        Value::Variable(name) => Ok(variable_value(plan, non_null, name.as_str())?),
         Value::Null => Ok(coerce(alloc, plan.schema(), ty, literal)?),
         Value::Int(_) => Ok(coerce(alloc, plan.schema(), ty, literal)?),
         Value::Float(_) => Ok(coerce(alloc, plan.schema(), ty, literal)?),
@@ -261,8 +261,8 @@ fn by_variable(
 {
     match plan.variable(name) {
         Some(value) => {
-            let strict = is_non_null(&argument.of_type);
-            Ok(or_refused(value_of_variable(strict, value)?))
+            let non_null = is_non_null(&argument.of_type);
+            Ok(or_refused(value_of_variable(non_null, value)?))
         }
         None => default_value(alloc, plan, argument),
     }

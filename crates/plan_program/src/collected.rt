@@ -63,7 +63,7 @@ impl<'p> Collected<'p> {
 
     /// Notes that a fragment is entered; false where it was before.
     pub fn enter(&mut self, name: &'p str) -> Result<bool, AllocError>
-        ensures told { IfOk result (λ entered. entered ≡ not (has_entered (collected_of self.old) name.now)) }
+        ensures is_new { IfOk result (λ entered. entered ≡ not (has_entered (collected_of self.old) name.now)) }
         ensures after { IfOk result (λ entered. collected_of self.new ≡ (if entered then record { groups = (collected_of self.old).groups; entered = (collected_of self.old).entered ++ name.now ∷ [] } else collected_of self.old)) }
     {
         Ok(self.entered.insert(name)?)

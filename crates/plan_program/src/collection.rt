@@ -4,7 +4,7 @@ ghost use Rattle.std.specs.Prelude.{◌≡◌, ◌<◌, ◌≤◌, ◌+◌, IfOk
 ghost use Rattle.gq_parser.specs.Tree.{map_selections, selection_of};
 ghost use Rattle.gq_check.specs.Plans.{plan_of};
 ghost use Rattle.plan_program.specs.Groups as groups;
-ghost use Rattle.plan_program.specs.Groups.{collect_one, collect_from, entering, collect, collect_below, selections_below, nothing_collected};
+ghost use Rattle.plan_program.specs.Groups.{collect_one, collect_from, entering, collect, collect_subfields, selections_below, nothing_collected};
 ghost use Rattle.plan_program.specs.Seen.{groups_of, field_seen, fields_seen};
 ghost use Rattle.plan_program.specs.Collecting.{collected_of, collect_rest, collect_rest_if, collect_rests};
 ghost use Rattle.plan_program.specs.Steps.{steps_inside, steps_one, steps_rest, steps_if, all_steps};
@@ -180,13 +180,13 @@ pub fn collect<'p>(
 /// # Errors
 ///
 /// Only when out of memory.
-pub fn collect_below<'p>(
+pub fn collect_subfields<'p>(
     alloc: Global,
     plan: &'p Plan<'_>,
     ty: &str,
     fields: &[&'p Field],
 ) -> Result<Vec<Group<'p>>, NoMemory>
-    ensures { IfOk result (λ groups. groups_of groups.items ≡ (collect_below (plan_of plan.now) ty.now nothing_collected (fields_seen fields.now)).groups) }
+    ensures { IfOk result (λ groups. groups_of groups.items ≡ (collect_subfields (plan_of plan.now) ty.now nothing_collected (fields_seen fields.now)).groups) }
 {
     let mut collected = Collected::new(alloc);
     for field in fields {

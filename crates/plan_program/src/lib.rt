@@ -2,7 +2,7 @@
 //! bindings (sections 6.3 and 6.4.1 of the GraphQL specification of October 2021).
 //!
 //! `specs/PlanPrograms.antt` gives each plan its program in the words of `execution`. The layer above executes it, and may
-//! rely on this: [`collect`], [`arguments_of`] and [`prepare`] give exactly the parts of that definition.
+//! rely on this: [`collect`], [`arguments_of`] and [`prepare_groups`] give exactly the parts of that definition.
 #![tactic(auto)]
 
 mod arguments;
@@ -18,9 +18,9 @@ mod texts;
 mod type_refs;
 
 pub use arguments::{ArgFault, Args, arguments_of};
-pub use collection::{collect, collect_below};
+pub use collection::{collect, collect_subfields};
 pub use group::Group;
 pub use no_memory::NoMemory;
-pub use preparation::prepare;
-pub use prepared::{Asked, Below, KeyFrom, Own, PartFrom, Prepared};
+pub use preparation::prepare_groups;
+pub use prepared::{Children, KeyFrom, LeafValue, PartFrom, Prepared, ValueFrom};
 pub use texts::{bad_value_message, no_column_message, no_type_message, not_type_message};

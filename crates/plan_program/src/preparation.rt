@@ -11,15 +11,15 @@ ghost use Rattle.gq_schema.specs.BindingsTree.{binding_in};
 ghost use Rattle.load_memory.specs.Keys.{key_of};
 ghost use Rattle.gq_check.specs.Plans.{plan_of};
 ghost use Rattle.plan_program.specs.Arguments.{arguments_of};
-ghost use Rattle.plan_program.specs.Asked.{text_of_input, key_of_input, input_named, key_if, part_from, key_from, keys_of, have_loaders, IsLoadedBy, each_asked, bound_asked, below_of, with_arguments, spot_of, known, prepared, all_prepared};
+ghost use Rattle.plan_program.specs.FieldValues.{text_of_input, key_of_input, input_named, key_if, part_from, key_from, keys_of, have_loaders, IsLoadedBy, each_asked, bound_asked, children_of, with_arguments, position_of, known, prepared, all_prepared};
 ghost use Rattle.execution.specs.Program.{Null};
 ghost use Rattle.plan_program.specs.Seen.{field_seen, fields_seen, group_of, groups_of, values_of};
-ghost use Rattle.plan_program.specs.Prepared.{part_from_seen, key_from_seen, keys_seen, below_seen, asked_seen, prepared_seen, all_prepared_seen};
+ghost use Rattle.plan_program.specs.Prepared.{part_from_seen, key_from_seen, keys_seen, children_seen, value_from_seen, prepared_seen, all_prepared_seen};
 
 use crate::arguments::{ArgFault, Args, arguments_of};
 use crate::group::Group;
 use crate::no_memory::NoMemory;
-use crate::prepared::{Asked, Below, KeyFrom, Own, PartFrom, Prepared};
+use crate::prepared::{Children, KeyFrom, LeafValue, PartFrom, Prepared, ValueFrom};
 use crate::texts::null_argument_message;
 use crate::type_refs::{core_name, is_item_non_null, is_non_null};
 use gq_check::Plan;
@@ -132,25 +132,25 @@ fn keys_of(alloc: Global, inputs: &Vec<Input>) -> Result<Vec<Option<Key>>, Alloc
 fn each_asked<'p>(
     alloc: Global,
     loader: usize,
-    below: Arc<Below<'p>>,
+    children: Arc<Children<'p>>,
     input: Option<&Input>,
-) -> Result<Asked<'p>, AllocError>
-    ensures { IfOk result (λ asked. asked_seen asked ≡ each_asked loader (below_seen (arc_value below.entry)) (option_map input_of (option_copied input.entry))) }
+) -> Result<ValueFrom<'p>, AllocError>
+    ensures { IfOk result (λ asked. value_from_seen asked ≡ each_asked loader (children_seen (arc_value children.entry)) (option_map input_of (option_copied input.entry))) }
 {
     match input {
         Some(Input::List(inputs)) => {
             let keys = keys_of(alloc, inputs)?;
-            Ok(Asked::Each {
+            Ok(ValueFrom::Each {
                 loader,
                 keys,
-                below,
+                children,
             })
         }
-        Some(Input::Null) => Ok(Asked::Known(Own::Null)),
-        Some(Input::Int(_)) => Ok(Asked::Known(Own::Null)),
-        Some(Input::Text(_)) => Ok(Asked::Known(Own::Null)),
-        Some(Input::Bool(_)) => Ok(Asked::Known(Own::Null)),
-        None => Ok(Asked::Known(Own::Null)),
+        Some(Input::Null) => Ok(ValueFrom::Known(LeafValue::Null)),
+        Some(Input::Int(_)) => Ok(ValueFrom::Known(LeafValue::Null)),
+        Some(Input::Text(_)) => Ok(ValueFrom::Known(LeafValue::Null)),
+        Some(Input::Bool(_)) => Ok(ValueFrom::Known(LeafValue::Null)),
+        None => Ok(ValueFrom::Known(LeafValue::Null)),
     }
 }
 
@@ -183,31 +183,31 @@ fn bound_asked<'p>(
     alloc: Global,
     plan: &Plan<'_>,
     ty: &'p TypeRef,
-    below: Arc<Below<'p>>,
+    children: Arc<Children<'p>>,
     args: &Args,
     binding: &'p Binding,
-) -> Result<Asked<'p>, AllocError>
-    ensures { IfOk result (λ asked. asked_seen asked ≡ bound_asked (plan_of plan.now) (type_of ty.now) (below_seen (arc_value below.entry)) (values_of args.now) (Some (binding_of binding.now))) }
+) -> Result<ValueFrom<'p>, AllocError>
+    ensures { IfOk result (λ asked. value_from_seen asked ≡ bound_asked (plan_of plan.now) (type_of ty.now) (children_seen (arc_value children.entry)) (values_of args.now) (Some (binding_of binding.now))) }
 {
-    let null = Asked::Known(Own::Null);
+    let null = ValueFrom::Known(LeafValue::Null);
     Ok(match binding {
-        Binding::Column(column) => Asked::Cell {
+        Binding::Column(column) => ValueFrom::Cell {
             column: column.as_str(),
             ty,
         },
         Binding::One { loader, key } => match key_of_load(alloc, plan, args, *loader, key)? {
-            Some(key) => Asked::First {
+            Some(key) => ValueFrom::First {
                 loader: *loader,
                 key,
-                below,
+                children,
             },
             None => null,
         },
         Binding::Many { loader, key } => match key_of_load(alloc, plan, args, *loader, key)? {
-            Some(key) => Asked::All {
+            Some(key) => ValueFrom::All {
                 loader: *loader,
                 key,
-                below,
+                children,
             },
             None => null,
         },
@@ -215,18 +215,23 @@ fn bound_asked<'p>(
             if *loader >= plan.loaders() {
                 return Ok(null);
             }
-            each_asked(alloc, *loader, below, input_named(args, argument.as_str()))?
+            each_asked(
+                alloc,
+                *loader,
+                children,
+                input_named(args, argument.as_str()),
+            )?
         }
         Binding::Via { loader, key, steps } => {
             if !have_loaders(steps, plan.loaders()) {
                 return Ok(null);
             }
             match key_of_load(alloc, plan, args, *loader, key)? {
-                Some(key) => Asked::Joined {
+                Some(key) => ValueFrom::Joined {
                     loader: *loader,
                     key,
                     steps: steps.as_slice(),
-                    below,
+                    children,
                 },
                 None => null,
             }
@@ -234,10 +239,10 @@ fn bound_asked<'p>(
     })
 }
 
-fn below_of<'p>(ty: &'p TypeRef, place: Place, fields: Vec<&'p Field>) -> Below<'p>
-    ensures { below_seen result ≡ below_of (type_of ty.now) place (fields_seen fields.entry.items) }
+fn children_of<'p>(ty: &'p TypeRef, place: Place, fields: Vec<&'p Field>) -> Children<'p>
+    ensures { children_seen result ≡ children_of (type_of ty.now) place (fields_seen fields.entry.items) }
 {
-    Below {
+    Children {
         type_name: core_name(ty),
         item_non_null: is_item_non_null(ty),
         place,
@@ -253,34 +258,34 @@ fn defined_asked<'p>(
     definition: &'p FieldDef,
     first: &'p Field,
     group: Group<'p>,
-) -> Result<Asked<'p>, AllocError>
-    ensures { IfOk result (λ asked. asked_seen asked ≡ with_arguments (arguments_of (plan_of plan.now) ty.now (group_of group.entry)) (λ values. bound_asked (plan_of plan.now) (field_of definition.now).of_type (below_of (field_of definition.now).of_type (field_seen first.now).place (group_of group.entry).fields) values (binding_in (plan_of plan.now).bindings.fields ty.now (field_seen first.now).name))) }
+) -> Result<ValueFrom<'p>, AllocError>
+    ensures { IfOk result (λ asked. value_from_seen asked ≡ with_arguments (arguments_of (plan_of plan.now) ty.now (group_of group.entry)) (λ values. bound_asked (plan_of plan.now) (field_of definition.now).of_type (children_of (field_of definition.now).of_type (field_seen first.now).place (group_of group.entry).fields) values (binding_in (plan_of plan.now).bindings.fields ty.now (field_seen first.now).name))) }
 {
     let args = match arguments_of(alloc, plan, ty, &group) {
         Ok(args) => args,
         Err(ArgFault::NullArgument(name)) => {
             let message = null_argument_message(alloc, name.as_str())?;
-            return Ok(Asked::Known(Own::Fault(message)));
+            return Ok(ValueFrom::Known(LeafValue::Fault(message)));
         }
         Err(ArgFault::NoMemory) => return Err(AllocError),
     };
     let Some(binding) = plan.bindings().binding_of(ty, first.name.as_str()) else {
-        return Ok(Asked::Known(Own::Null));
+        return Ok(ValueFrom::Known(LeafValue::Null));
     };
-    let below = below_of(&definition.of_type, first.place, group.fields);
-    let below = Arc::new(alloc, below)?;
-    bound_asked(alloc, plan, &definition.of_type, below, &args, binding)
+    let children = children_of(&definition.of_type, first.place, group.fields);
+    let children = Arc::new(alloc, children)?;
+    bound_asked(alloc, plan, &definition.of_type, children, &args, binding)
 }
 
 // A position that is null.
 fn null_at<'p>(key: &'p str, place: Place) -> Prepared<'p>
-    ensures { prepared_seen result ≡ record { spot = spot_of key.now place false; asked = known Null } }
+    ensures { prepared_seen result ≡ record { position = position_of key.now place false; asked = known Null } }
 {
     Prepared {
         key,
         place,
         non_null: false,
-        asked: Asked::Known(Own::Null),
+        asked: ValueFrom::Known(LeafValue::Null),
     }
 }
 
@@ -303,7 +308,7 @@ fn prepare_one<'p>(
             key,
             place: first.place,
             non_null: true,
-            asked: Asked::Known(Own::Text(name)),
+            asked: ValueFrom::Known(LeafValue::Text(name)),
         });
     }
     let Some(definition) = plan.schema().field(ty, first.name.as_str()) else {
@@ -323,7 +328,7 @@ fn prepare_one<'p>(
 /// # Errors
 ///
 /// Only when out of memory.
-pub fn prepare<'p>(
+pub fn prepare_groups<'p>(
     alloc: Global,
     plan: &'p Plan<'_>,
     ty: &str,

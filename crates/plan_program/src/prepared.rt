@@ -8,7 +8,7 @@ use std::sync::Arc;
 
 /// The own value of a position with nothing below it.
 #[derive(Debug, Drop)]
-pub enum Own {
+pub enum LeafValue {
     /// A text, an ID, or the name of an enum's value.
     Text(String),
     Int(i32),
@@ -39,7 +39,7 @@ pub enum KeyFrom<'p> {
 
 /// What the objects below a field are made from.
 #[derive(Drop)]
-pub struct Below<'p> {
+pub struct Children<'p> {
     /// An object type, an interface or a union.
     pub type_name: &'p str,
     /// Whether the items of the field's list are of non-null type.
@@ -52,9 +52,9 @@ pub struct Below<'p> {
 
 /// What a group asks for.
 #[derive(Drop)]
-pub enum Asked<'p> {
+pub enum ValueFrom<'p> {
     /// The same for each row.
-    Known(Own),
+    Known(LeafValue),
     /// A column's field, at a type.
     Cell {
         column: &'p str,
@@ -64,26 +64,26 @@ pub enum Asked<'p> {
     First {
         loader: usize,
         key: KeyFrom<'p>,
-        below: Arc<Below<'p>>,
+        children: Arc<Children<'p>>,
     },
     /// All rows of the key.
     All {
         loader: usize,
         key: KeyFrom<'p>,
-        below: Arc<Below<'p>>,
+        children: Arc<Children<'p>>,
     },
     /// For each key its first row; no key is null.
     Each {
         loader: usize,
         keys: Vec<Option<Key>>,
-        below: Arc<Below<'p>>,
+        children: Arc<Children<'p>>,
     },
     /// The key's rows, and for each the first row of each later loader in turn, by a column of the row before.
     Joined {
         loader: usize,
         key: KeyFrom<'p>,
         steps: &'p [Step],
-        below: Arc<Below<'p>>,
+        children: Arc<Children<'p>>,
     },
 }
 
@@ -93,5 +93,5 @@ pub struct Prepared<'p> {
     pub key: &'p str,
     pub place: Place,
     pub non_null: bool,
-    pub asked: Asked<'p>,
+    pub asked: ValueFrom<'p>,
 }

@@ -3,7 +3,7 @@
 ghost use Rattle.std.specs.Prelude.{◌≡◌};
 ghost use Rattle.gq_parser.specs.Tree.{type_of};
 ghost use Rattle.gq_schema.specs.Types.{core_of, is_non_null};
-ghost use Rattle.plan_program.specs.Asked.{item_type};
+ghost use Rattle.plan_program.specs.FieldValues.{item_type};
 
 use gq_parser::TypeRef;
 

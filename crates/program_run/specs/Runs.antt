@@ -1,10 +1,9 @@
 -- What a run of the program writes, and how it ends.
 use Rattle.std.specs.Prelude.{◌≡◌, ◌⊎◌, ℕ, List, [], ◌∷◌, ◌++◌, Option, Some, None, codes, string_bytes}
-use Rattle.std.specs.Io.KnownBytes.{Appends, Keeps, Consumes, IsAtEnd}
+use Rattle.std.specs.Io.KnownBytes.{Appends, Keeps}
 use Rattle.line_serving.specs.declared.fault.ServeFault.TheVariants as serve
 use Rattle.line_serving.specs.Lines.{line_feed}
 use Rattle.line_serving.specs.Output.{IsCut}
-use Rattle.line_serving.specs.Serving.{IsAnswered, Fails}
 use Rattle.command_line.specs.declared.stop.Stop.{Stop}
 use Rattle.command_line.specs.declared.stop.Stop.TheVariants as stop
 use Rattle.command_line.specs.declared.words.Words.{Words}
@@ -14,33 +13,32 @@ use Rattle.command_line.specs.Origins.{Explains}
 use Rattle.world.specs.Sources.{TableOf}
 use Rattle.world.specs.Worlds.{WorldOf, IsWorld}
 use Rattle.world_files.specs.Opening.{IsUnmade, IsPlaced}
-use Rattle.world_answers.specs.Lines.{IsAnswer}
+use Rattle.world_answers.specs.Services.{ServiceOf, within}
+use Rattle.world_answers.specs.Serving.{DevicesOf, ServesAll, StopsServing}
 use Rattle.batch_workers.specs.Workers.{IsBadCount}
 
--- The lines of a reader were served over a world. All of the input was read, and what was written is the output of its lines; or
--- serving stopped at a fault.
-abbrev pub IsServed : WorldOf → Option (List ℕ) → Option (List ℕ) → Option (List ℕ) → Option (List ℕ) → Stop → Type 0
-IsServed world unread rest old new stop.Served = (text : List ℕ) × (lines : ℕ) × Consumes unread rest text × IsAtEnd rest
-    × IsAnswered (IsAnswer world) text lines (Appends old new)
-IsServed world unread rest old new (stop.Serve fault) = (text : List ℕ) × Consumes unread rest text
-    × Fails (IsAnswer world) text (Appends old new) (IsCut old new) rest fault
-IsServed world unread rest old new (stop.Help text) = ⊥
-IsServed world unread rest old new (stop.Command text) = ⊥
-IsServed world unread rest old new (stop.World fault) = ⊥
-IsServed world unread rest old new (stop.Table fault) = ⊥
-IsServed world unread rest old new stop.File = ⊥
+-- The lines of a reader were served. All of the input was read, and what was written is the output of its lines; or serving
+-- stopped at a fault.
+abbrev pub IsServed : ServiceOf → DevicesOf → Stop → Type 0
+IsServed service devices stop.Served = (lines : ℕ) × ServesAll service devices lines
+IsServed service devices (stop.Serve fault) = StopsServing service devices fault
+IsServed service devices (stop.Help text) = ⊥
+IsServed service devices (stop.Command text) = ⊥
+IsServed service devices (stop.World fault) = ⊥
+IsServed service devices (stop.Table fault) = ⊥
+IsServed service devices stop.File = ⊥
 
 -- the number of workers isn't 1 to 16: that is said, and nothing was read or written
-pub record IsMiscounted (unread rest old new : Option (List ℕ)) (end : Stop) : Type 0 where
-  pub told : end ≡ stop.Serve serve.BadCount
-  pub unasked : Keeps unread rest
-  pub kept : Keeps old new
+pub record IsMiscounted (devices : DevicesOf) (end : Stop) : Type 0 where
+  pub reported : end ≡ stop.Serve serve.BadCount
+  pub unasked : Keeps devices.unread devices.rest
+  pub kept : Keeps devices.old devices.new
 
 -- with workers lines are served alike, if there may be so many
-abbrev pub IsServedBy : Option ℕ → WorldOf → Option (List ℕ) → Option (List ℕ) → Option (List ℕ) → Option (List ℕ) → Stop → Type 0
-IsServedBy None world unread rest old new end = IsServed world unread rest old new end
-IsServedBy (Some workers) world unread rest old new end = (¬ (IsBadCount workers) → IsServed world unread rest old new end)
-    × (IsBadCount workers → IsMiscounted unread rest old new end)
+abbrev pub IsServedBy : Option ℕ → ServiceOf → DevicesOf → Stop → Type 0
+IsServedBy None service devices end = IsServed service devices end
+IsServedBy (Some workers) service devices end = (¬ (IsBadCount workers) → IsServed service devices end)
+    × (IsBadCount workers → IsMiscounted devices end)
 
 -- the world of texts and tables that were read
 abbrev pub IsWorldOfSome : Option ℕ → WorldOf → Type 0
@@ -51,16 +49,19 @@ pub record IsUnserved (max : Option ℕ) (old new : Option (List ℕ)) (end : St
   pub unmade : IsUnmade max end
   pub kept : Keeps old new
 
--- the lines of the reader were served over a world without a limit, or there was no world and nothing was read
-abbrev pub IsSampleRun : Option (List ℕ) → Option (List ℕ) → Option (List ℕ) → Option (List ℕ) → Stop → Type 0
-IsSampleRun unread rest old new end = ((world : WorldOf) × IsWorldOfSome None world × IsServed world unread rest old new end)
-    ⊎ (Keeps unread rest × IsUnserved None old new end)
+-- the lines of the reader were served over a world, without any limit, or there was no world and nothing was read
+abbrev pub IsSampleRun : DevicesOf → Stop → Type 0
+IsSampleRun devices end = ((world : WorldOf) × IsWorldOfSome None world × IsServed (within None world) devices end)
+    ⊎ (Keeps devices.unread devices.rest × IsUnserved None devices.old devices.new end)
+
+-- the request lines of a file were served over a world, with the limits of the words
+abbrev pub AreFilesServed : Words → Option (List ℕ) → Option (List ℕ) → Stop → Type 0
+AreFilesServed words old new end = (world : WorldOf) × (unread : Option (List ℕ)) × (rest : Option (List ℕ)) × IsWorldOfSome words.max_batch world
+    × IsServedBy words.workers (within words.max_answer world) (record { unread = unread; rest = rest; old = old; new = new }) end
 
 -- the request lines of a file were served over the world of the other files; what the files hold isn't known
 abbrev pub IsFilesRun : Words → Option (List ℕ) → Option (List ℕ) → Stop → Type 0
-IsFilesRun words old new end = ((world : WorldOf) × (unread : Option (List ℕ)) × (rest : Option (List ℕ)) × IsWorldOfSome words.max_batch world
-    × IsServedBy words.workers world unread rest old new end)
-    ⊎ IsUnserved words.max_batch old new end
+IsFilesRun words old new end = AreFilesServed words old new end ⊎ IsUnserved words.max_batch old new end
 
 -- the help was written with a line feed, or a front of it went out
 abbrev pub IsShown : List ℕ → Option (List ℕ) → Option (List ℕ) → Stop → Type 0
@@ -83,9 +84,9 @@ IsWordsRun texts old new end = ((words : Words) × IsRead texts words × IsFiles
     ⊎ ((refusal : Stop) × IsRefused texts refusal × EndsAsRefused refusal old new end)
 
 -- Without words the sample world is served from the reader. Else nothing is read of it.
-abbrev pub IsProgramRun : List (List ℕ) → Option (List ℕ) → Option (List ℕ) → Option (List ℕ) → Option (List ℕ) → Stop → Type 0
-IsProgramRun [] unread rest old new end = IsSampleRun unread rest old new end
-IsProgramRun (word ∷ words) unread rest old new end = Keeps unread rest × IsWordsRun (word ∷ words) old new end
+abbrev pub IsProgramRun : List (List ℕ) → DevicesOf → Stop → Type 0
+IsProgramRun [] devices end = IsSampleRun devices end
+IsProgramRun (word ∷ words) devices end = Keeps devices.unread devices.rest × IsWordsRun (word ∷ words) devices.old devices.new end
 
 -- what is said besides: the words asked for it, and it names the file of the fault and where in it that is, as far as that is known
 abbrev pub SaysWhere : List (List ℕ) → Stop → List ℕ → Type 0

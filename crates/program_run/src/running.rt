@@ -1,12 +1,14 @@
 //! A run of the program.
 
-ghost use Rattle.std.specs.Prelude.{[], ◌∷◌, ◌++◌, map, IfSome, IfErr, OnOk, OnErr, string_bytes};
+ghost use Rattle.std.specs.Prelude.{◌≡◌, [], ◌∷◌, ◌++◌, map, IfSome, IfErr, OnOk, OnErr, string_bytes};
 ghost use Rattle.std.specs.Io.KnownBytes.{Appends};
 ghost use Rattle.line_serving.specs.Devices.{device_of};
 ghost use Rattle.line_serving.specs.Lines.{line_feed};
 ghost use Rattle.line_serving.specs.Output.{IsCut};
 ghost use Rattle.batch_workers.specs.Workers.{IsBadCount};
 ghost use Rattle.program_run.specs.Runs.{IsServed, IsMiscounted, IsServedBy, IsShown, EndsAsRefused, IsSampleRun, IsFilesRun, IsProgramRun, SaysWhere, IsWordless};
+ghost use Rattle.world_answers.specs.Services.{service_of};
+ghost use Rattle.world_answers.specs.Serving.{devices};
 ghost use Rattle.world_files.specs.Opening.{IsPlaced};
 
 use command_line::{End, LocatedStop, Stop, Words};
@@ -17,10 +19,9 @@ use std::io::{ErrorKind, Read, Write};
 use std::rt::{Env, Files};
 use std::sync::Wait;
 use std::thread::Threads;
-use world::World;
-use world_answers::serve;
+use world_answers::{Service, serve_limited};
 use world_files::{open_requests, open_world, sample_world};
-use world_workers::{NoGate, serve_with};
+use world_workers::{NoGate, serve_limited_with};
 
 /// What `clap` says of words that are no text.
 const NOT_TEXT: &str = "error: invalid UTF-8 was detected in one or more arguments";
@@ -43,55 +44,54 @@ pub fn program_words<R: Env + AllocGlobal>(rt: &R) -> Result<Vec<String>, Stop>
     Ok(words.skip(1).collect(rt.alloc())?)
 }
 
-/// Serves the lines of a reader over a world.
-fn serve_world<R: Read, W: Write>(
+/// Serves the lines of a reader.
+fn serve_in_turn<R: Read, W: Write>(
     alloc: Global,
-    world: &World,
+    service: &Service<'_>,
     reader: &mut Counted<R>,
     writer: &mut Counted<W>,
 ) -> Stop
-    ensures { IsServed world.now (R.remaining (device_of reader.old)) (R.remaining (device_of reader.new))
-        (W.contents (device_of writer.old)) (W.contents (device_of writer.new)) result }
+    ensures { IsServed (service_of service.now) (devices R.remaining W.contents reader.old reader.new writer.old writer.new) result }
 {
-    match serve(alloc, world, reader, writer) {
+    match serve_limited(alloc, service, reader, writer) {
         Ok(_) => Stop::Served,
         Err(fault) => Stop::Serve(fault),
     }
 }
 
-/// Serves the lines of a reader over a world with so many workers.
+/// Serves the lines of a reader with so many workers.
 fn serve_counted<R: Threads + Wait + AllocGlobal + Sync, I: Read, W: Write>(
     rt: &R,
     workers: usize,
-    world: &World,
+    service: &Service<'_>,
     reader: &mut Counted<I>,
     writer: &mut Counted<W>,
 ) -> Stop
-    ensures served { ¬ (IsBadCount workers) → IsServed world.now (I.remaining (device_of reader.old)) (I.remaining (device_of reader.new))
-        (W.contents (device_of writer.old)) (W.contents (device_of writer.new)) result }
-    ensures miscounted { IsBadCount workers → IsMiscounted (I.remaining (device_of reader.old)) (I.remaining (device_of reader.new))
-        (W.contents (device_of writer.old)) (W.contents (device_of writer.new)) result }
+    ensures run { ¬ (IsBadCount workers) → IsServed (service_of service.now)
+        (devices I.remaining W.contents reader.old reader.new writer.old writer.new) result }
+    ensures miscounted { IsBadCount workers
+        → IsMiscounted (devices I.remaining W.contents reader.old reader.new writer.old writer.new) result }
 {
-    match serve_with(rt, world, &NoGate, reader, writer, workers) {
+    match serve_limited_with(rt, service, &NoGate, reader, writer, workers) {
         Ok(_) => Stop::Served,
         Err(fault) => Stop::Serve(fault),
     }
 }
 
-/// Serves the lines of a reader over a world, with workers where their number is given.
+/// Serves the lines of a reader, with workers where their number is given.
 fn serve_words<R: Threads + Wait + AllocGlobal + Sync, I: Read, W: Write>(
     rt: &R,
     workers: Option<u32>,
-    world: &World,
+    service: &Service<'_>,
     reader: &mut Counted<I>,
     writer: &mut Counted<W>,
 ) -> Stop
-    ensures { IsServedBy workers world.now (I.remaining (device_of reader.old)) (I.remaining (device_of reader.new))
-        (W.contents (device_of writer.old)) (W.contents (device_of writer.new)) result }
+    ensures { IsServedBy workers (service_of service.now)
+        (devices I.remaining W.contents reader.old reader.new writer.old writer.new) result }
 {
     match workers {
-        Some(workers) => serve_counted(rt, workers as usize, world, reader, writer),
-        None => serve_world(rt.alloc(), world, reader, writer),
+        Some(workers) => serve_counted(rt, workers as usize, service, reader, writer),
+        None => serve_in_turn(rt.alloc(), service, reader, writer),
     }
 }
 
@@ -101,16 +101,31 @@ fn run_sample<R: Read, W: Write>(
     reader: &mut Counted<R>,
     writer: &mut Counted<W>,
 ) -> Stop
-    ensures { IsSampleRun (R.remaining (device_of reader.old)) (R.remaining (device_of reader.new))
-        (W.contents (device_of writer.old)) (W.contents (device_of writer.new)) result }
+    ensures { IsSampleRun (devices R.remaining W.contents reader.old reader.new writer.old writer.new) result }
 {
     match sample_world(alloc) {
-        Ok(world) => serve_world(alloc, &world, reader, writer),
+        Ok(world) => {
+            let service = Service {
+                world: &world,
+                max_answer: None,
+            };
+            serve_in_turn(alloc, &service, reader, writer)
+        }
         Err(stop) => stop,
     }
 }
 
-/// Serves the request lines of a file over the world of the other files, with the workers that the words give.
+/// How many bytes an answer has at most, where the words say so.
+fn max_answer(words: &Words) -> Option<usize>
+    ensures { result ≡ words.now.max_answer }
+{
+    match words.max_answer {
+        Some(most) => Some(most as usize),
+        None => None,
+    }
+}
+
+/// Serves the request lines of a file over the world of the other files, with the limits and the workers that the words give.
 fn run_files<R: Files + Threads + Wait + AllocGlobal + Sync, W: Write>(
     rt: &R,
     words: &Words,
@@ -123,11 +138,15 @@ fn run_files<R: Files + Threads + Wait + AllocGlobal + Sync, W: Write>(
         Ok(world) => world,
         Err(stop) => return stop,
     };
+    let service = Service {
+        world: &world,
+        max_answer: max_answer(words),
+    };
     match open_requests(rt, words) {
         Ok(file) => LocatedStop::from(serve_words(
             rt,
             words.workers,
-            &world,
+            &service,
             &mut Counted::new(file),
             writer,
         )),
@@ -187,8 +206,8 @@ pub fn run<R: Files + Threads + Wait + AllocGlobal + Sync, I: Read, W: Write>(
     reader: &mut Counted<I>,
     writer: &mut Counted<W>,
 ) -> End
-    ensures run { IsProgramRun (map string_bytes words.now) (I.remaining (device_of reader.old)) (I.remaining (device_of reader.new))
-        (W.contents (device_of writer.old)) (W.contents (device_of writer.new)) result.stop }
+    ensures run { IsProgramRun (map string_bytes words.now)
+        (devices I.remaining W.contents reader.old reader.new writer.old writer.new) result.stop }
     ensures explained { IfSome result.explanation (λ text. SaysWhere (map string_bytes words.now) result.stop (string_bytes text)) }
 {
     if words.is_empty() {

@@ -170,21 +170,21 @@ fn tell(alloc: Global, world: &World, session: &mut Asking<'_>, line: &str) -> R
 }
 
 /// What each call of a new session tells, on a line of its own. At last each source has to have been asked once for each batch.
-pub fn told(alloc: Global, world: &World, manner: &Manner<'_>, text: &str) -> Result<String> {
+pub fn report(alloc: Global, world: &World, manner: &Manner<'_>, text: &str) -> Result<String> {
     let counters = counters(alloc, world)?;
     let mut session = session(alloc, world, &counters, manner)?;
-    let mut told = String::new(alloc);
+    let mut report = String::new(alloc);
     for line in text.lines() {
-        told.push_str(if told.is_empty() { "" } else { "\n" })?;
-        let line_told = if line == "calls" {
+        report.push_str(if report.is_empty() { "" } else { "\n" })?;
+        let line_report = if line == "calls" {
             counted(alloc, &session, &counters, manner.has_memory())?
         } else {
             tell(alloc, world, &mut session, line)?
         };
-        told.push_str(&line_told)?;
+        report.push_str(&line_report)?;
     }
     counted(alloc, &session, &counters, manner.has_memory())?;
-    Ok(told)
+    Ok(report)
 }
 
 /// How the faults of a session are printed.

@@ -57,7 +57,7 @@ fn collected(alloc: Global, plan: &Plan<'_>, ty: &str, selections: &[Selection])
 }
 
 /// The same of what the root selects if the type is `Query`, and otherwise of what its first field selects.
-pub fn fields_told(alloc: Global, plan: &Plan<'_>, ty: &str) -> Result<String> {
+pub fn fields_report(alloc: Global, plan: &Plan<'_>, ty: &str) -> Result<String> {
     let root = plan.operation().selection_set.selections.as_slice();
     if ty == "Query" {
         return collected(alloc, plan, ty, root);
@@ -71,7 +71,7 @@ pub fn fields_told(alloc: Global, plan: &Plan<'_>, ty: &str) -> Result<String> {
 }
 
 /// What completion makes of a number or of null, as of `ID! null with a fault`.
-pub fn completion_told(alloc: Global, text: &str) -> Result<String> {
+pub fn completion_report(alloc: Global, text: &str) -> Result<String> {
     let (ty, rest) = text.split_once(' ').context("no value")?;
     let (value, is_faulted) = match rest.strip_suffix(" with a fault") {
         Some(value) => (value, true),

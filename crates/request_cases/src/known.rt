@@ -1,4 +1,4 @@
-//! What is told of a plan over what is known: its answer, or what it waits for.
+//! What is reported of a plan over what is known: its answer, or what it waits for.
 
 ghost use Rattle.std.specs.Prelude.{◌≤◌, length};
 ghost use Rattle.gq_check.specs.Plans.{plan_of};
@@ -55,7 +55,7 @@ fn written(alloc: Global, world: &World, plan: &Plan<'_>, memory: &Memory) -> Re
 }
 
 /// What both give, which has to be the same.
-pub fn told(alloc: Global, world: &World, plan: &Plan<'_>, memory: &Memory) -> Result<String> {
+pub fn report(alloc: Global, world: &World, plan: &Plan<'_>, memory: &Memory) -> Result<String> {
     if plan.loaders() > memory.modes().len() {
         bail!("too few loaders");
     }

@@ -12,7 +12,7 @@ use std::sync::atomic::{AtomicU64, Ordering};
 use world::World;
 
 /// The text of the answer of a line, which is a query, in a session of its own, and how often each source was asked.
-fn line_told(alloc: Global, world: &World, line: &[u8]) -> Result<String> {
+fn line_report(alloc: Global, world: &World, line: &[u8]) -> Result<String> {
     let counters = counters(alloc, world)?;
     let manner = Manner::plain(alloc);
     let mut session = session(alloc, world, &counters, &manner)?;
@@ -33,14 +33,14 @@ fn counted_line(
     line: &[u8],
 ) -> Result<String, NoMemory> {
     calls.fetch_add(1, Ordering::SeqCst);
-    match line_told(alloc, world, line) {
+    match line_report(alloc, world, line) {
         Ok(text) => Ok(text),
         Err(error) => Ok(format!(in alloc; "an error: {error}")?),
     }
 }
 
 /// What is written for lines, and then how many lines there were and how often one was answered.
-pub fn told(alloc: Global, world: &World, text: &str) -> Result<String> {
+pub fn report(alloc: Global, world: &World, text: &str) -> Result<String> {
     let calls = AtomicU64::new(0);
     let mut reader = Counted::new(text.as_bytes());
     let mut written = Vec::new(alloc);

@@ -9,15 +9,15 @@ mod known;
 mod lines;
 mod logs;
 mod manner;
+mod questions;
 mod resumed;
 mod sources;
 mod together;
-mod told;
 mod ways;
 mod worlds;
 
+use questions::Requests;
 use std::process::ExitCode;
-use told::Requests;
 
 fn main(rt: HostRuntime) -> ExitCode {
     case_files::run(&rt, &Requests { rt: &rt })

@@ -76,7 +76,7 @@ pub fn answered<S: Asks, R: Wait + AllocGlobal>(
     let mut written = plan.start();
     let mut built = RootState::new(plan);
     loop {
-        let anew = known::told(alloc, world, plan, session.memory())?;
+        let anew = known::report(alloc, world, plan, session.memory())?;
         let kept = polled(alloc, world, &mut built, session.memory())?;
         if kept != anew {
             bail!("anew {anew}, going on {kept}");

@@ -84,7 +84,7 @@ fn answer_by_hand<S: Asks, R: Wait + AllocGlobal>(
 }
 
 /// The rounds and the text of each answer, on a line of its own, and then what was asked.
-fn answers_told(
+fn answers_report(
     alloc: Global,
     answers: &[Answer],
     session: &Session<CountingSource<'_>>,
@@ -99,8 +99,8 @@ fn answers_told(
     Ok(text)
 }
 
-/// What is told of the answers to queries, each on a line, which has to be the same in turn and by hand.
-pub fn told<R: Wait + AllocGlobal>(
+/// What is reported of the answers to queries, each on a line, which has to be the same in turn and by hand.
+pub fn report<R: Wait + AllocGlobal>(
     rt: &R,
     world: &World,
     manner: &Manner<'_>,
@@ -111,11 +111,11 @@ pub fn told<R: Wait + AllocGlobal>(
     let sources = counters(alloc, world)?;
     let mut first = session(alloc, world, &sources, manner)?;
     let answers = answer_in_turn(&mut first, &plans)?;
-    let in_turn = answers_told(alloc, &answers, &first, &sources)?;
+    let in_turn = answers_report(alloc, &answers, &first, &sources)?;
     let sources = counters(alloc, world)?;
     let mut second = session(alloc, world, &sources, manner)?;
     let answers = answer_by_hand(rt, &mut second, &plans)?;
-    let by_hand = answers_told(alloc, &answers, &second, &sources)?;
+    let by_hand = answers_report(alloc, &answers, &second, &sources)?;
     if by_hand != in_turn {
         bail!("by hand {by_hand}");
     }

@@ -34,7 +34,7 @@ pub fn answer_in_turn<S: Asks>(
 }
 
 /// The text of an answer, its rounds with what was asked, and how often each source was asked, each on a line.
-fn told(
+fn report(
     alloc: Global,
     answer: Result<Answer, NoMemory>,
     session: &Session<CountingSource<'_>>,
@@ -53,21 +53,21 @@ fn told(
     }
 }
 
-/// What is told of an answer in turn. Over what is known then, both ways of execution have to give its text.
+/// What is reported of an answer in turn. Over what is known then, both ways of execution have to give its text.
 fn in_turn(alloc: Global, world: &World, plan: &Plan<'_>, manner: &Manner<'_>) -> Result<String> {
     let counters = counters(alloc, world)?;
     let mut session = session(alloc, world, &counters, manner)?;
     let answer = answer_in_turn(&mut session, plan)?;
     if let Ok(answer) = &answer {
-        let text = known::told(alloc, world, plan, session.memory())?;
+        let text = known::report(alloc, world, plan, session.memory())?;
         if text != answer.text {
             bail!("over what is known {text}");
         }
     }
-    told(alloc, answer, &session, &counters)
+    report(alloc, answer, &session, &counters)
 }
 
-/// What is told of an answer in rounds by hand, whose orders have to be the batches of the log.
+/// What is reported of an answer in rounds by hand, whose orders have to be the batches of the log.
 fn by_hand<R: Wait + AllocGlobal>(
     rt: &R,
     world: &World,
@@ -90,10 +90,10 @@ fn by_hand<R: Wait + AllocGlobal>(
     if noted.rounds != 0 && noted.text != asked {
         bail!("orders by hand {}", noted.text);
     }
-    told(alloc, Ok(answer), &session, &counters)
+    report(alloc, Ok(answer), &session, &counters)
 }
 
-/// What is told of an answer in rounds over executions that go on.
+/// What is reported of an answer in rounds over executions that go on.
 fn resumed<R: Wait + AllocGlobal>(
     rt: &R,
     world: &World,
@@ -107,7 +107,7 @@ fn resumed<R: Wait + AllocGlobal>(
         bail!("too few loaders");
     }
     let answer = resumed::answered(rt, world, plan, &mut session)?;
-    told(alloc, Ok(answer), &session, &counters)
+    report(alloc, Ok(answer), &session, &counters)
 }
 
 /// An executor gives what the contract of `answer` says.
@@ -122,7 +122,7 @@ fn blocked_on<'p, S: Asks + Drop, P: Execute<'p> + Drop, R: Wait + RandomSource 
     block_on(rt, session.into_answering(plan))
 }
 
-/// What is told of an answer by an executor.
+/// What is reported of an answer by an executor.
 fn by_executor<R: Wait + RandomSource + AllocGlobal>(
     rt: &R,
     world: &World,
@@ -135,31 +135,31 @@ fn by_executor<R: Wait + RandomSource + AllocGlobal>(
         bail!("too few loaders");
     }
     let (session, answer) = blocked_on(rt, session, plan)?;
-    told(rt.alloc(), answer, &session, &counters)
+    report(rt.alloc(), answer, &session, &counters)
 }
 
-/// What is told of an answer in each way, which has to be the same. By hand it is not answered where memory is wanting.
-pub fn answer_told<R: Wait + RandomSource + AllocGlobal>(
+/// What is reported of an answer in each way, which has to be the same. By hand it is not answered where memory is wanting.
+pub fn answer_report<R: Wait + RandomSource + AllocGlobal>(
     rt: &R,
     world: &World,
     plan: &Plan<'_>,
     manner: &Manner<'_>,
 ) -> Result<String> {
-    let told = in_turn(rt.alloc(), world, plan, manner)?;
+    let report = in_turn(rt.alloc(), world, plan, manner)?;
     let other = by_executor(rt, world, plan, manner)?;
-    if other != told {
+    if other != report {
         bail!("by an executor {other}");
     }
-    if told.starts_with("out of memory") {
-        return Ok(told);
+    if report.starts_with("out of memory") {
+        return Ok(report);
     }
     let other = by_hand(rt, world, plan, manner)?;
-    if other != told {
+    if other != report {
         bail!("by hand {other}");
     }
     let other = resumed(rt, world, plan, manner)?;
-    if other != told {
+    if other != report {
         bail!("going on {other}");
     }
-    Ok(told)
+    Ok(report)
 }

@@ -2,7 +2,7 @@
 
 use answer_json::write_refusal;
 use anyhow::{Result, bail};
-use case_files::{Asked, plain};
+use case_files::{Question, plain};
 use csv_source::Table;
 use gq_check::Plan;
 use serde_json::Value;
@@ -39,7 +39,7 @@ fn tables_of(alloc: Global, bindings: &str) -> Result<Vec<&str>, AllocError> {
 }
 
 /// The world of a schema, of bindings, and of tables in the order in which the bindings first name them.
-pub fn world_of(alloc: Global, asked: &Asked, limit: Option<u32>) -> Result<World> {
+pub fn world_of(alloc: Global, asked: &Question, limit: Option<u32>) -> Result<World> {
     let bindings = asked.file(1)?;
     let mut tables = Vec::new(alloc);
     let mut number = 2_usize;

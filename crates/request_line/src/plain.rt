@@ -1,13 +1,12 @@
 //! Requests of objects whose members are strings, booleans and nulls, read without a value of their own.
 
-ghost use Rattle.std.specs.Prelude.{◌≡◌, ◌≢◌, ◌<◌, ◌∷◌, length, IfSome, IfOk, Some, None, MatchOption, codes, option_map};
-ghost use Rattle.json.specs.Json.{no_members as no_more, read_key};
+ghost use Rattle.std.specs.Prelude.{◌≡◌, ◌≢◌, ◌<◌, length, IfSome, IfOk, Some, None, codes, option_map};
 ghost use Rattle.json.specs.Reads.{token_of};
 ghost use Rattle.serde_json.specs.Data.{Members, no_members, object, put};
 ghost use Rattle.serde_json.specs.Find.{as_str};
 ghost use Rattle.request_line.specs.Requests.{asked, name_of};
 ghost use Rattle.request_line.specs.Seen.{request_of, IsReading};
-ghost use Rattle.request_line.specs.Plain.{token_seen, data_seen, other_members, object_with, Says};
+ghost use Rattle.request_line.specs.Plain.{token_seen, data_seen, IsNextMember, ReadsMembers, Says};
 
 use crate::line::Line;
 use crate::request::Request;
@@ -109,8 +108,7 @@ struct Member<'l> {
 // The next member of an object, and `Some(None)` at its end. `None` where the member is no plain value or is named `variables`,
 // and where the text is no JSON.
 fn next_member<'l>(reader: &mut Reader<'l>) -> Option<Option<Member<'l>>>
-    ensures value { IfSome result (λ next. MatchOption next (read_key reader.old ≡ Some (None, reader.new))
-        (λ m. (m.name.now ≢ codes "variables") × (read_key reader.old ≡ Some (Some m.name.now, token_seen m.value ∷ reader.new)))) }
+    ensures value { IfSome result (IsNextMember reader.old reader.new) }
     ensures shorter { IfSome result (λ _. length reader.new < length reader.old) }
 {
     match reader.next_key() {
@@ -128,8 +126,7 @@ fn next_member<'l>(reader: &mut Reader<'l>) -> Option<Option<Member<'l>>>
 
 // What the members of an object say, from the token after its brace on, and `None` as in [`next_member`].
 fn read_members<'l>(reader: &mut Reader<'l>) -> Option<Parts<'l>>
-    ensures { IfSome result (λ parts. (found : Members) × Says found parts
-        × (object_with no_members (other_members reader.old) ≡ object_with found (Some (no_more, reader.new)))) }
+    ensures { IfSome result (ReadsMembers reader.old reader.new) }
 {
     let mut parts = Parts::new();
     while let Some(member) = next_member(reader)? {

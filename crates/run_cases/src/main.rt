@@ -4,16 +4,16 @@
 #![tactic(auto)]
 
 mod given;
+mod report;
 mod runs;
 mod serving;
 mod shelf;
 mod stops;
-mod told;
 mod words;
 mod worlds;
 
+use report::Runs;
 use std::process::ExitCode;
-use told::Runs;
 
 fn main(rt: HostRuntime) -> ExitCode {
     case_files::run(&rt, &Runs { rt: &rt })

@@ -11,8 +11,7 @@ use line_serving::{Counted, DeviceFault, ServeFault};
 use std::alloc::{AllocGlobal, Global};
 use std::io::{Read, Write};
 use std::rt::Files;
-use world::World;
-use world_answers::serve;
+use world_answers::{Service, serve_limited};
 use world_files::{open_requests, open_world};
 
 /// Standard input: the file of a case that has this name, or else one without bytes.
@@ -31,17 +30,31 @@ pub fn room_of(words: &str) -> Result<usize> {
     }
 }
 
-/// Serves the lines of a reader over a world.
+/// Serves the lines of a reader.
 fn served<R: Read, W: Write>(
     alloc: Global,
-    world: &World,
+    service: &Service<'_>,
     reader: &mut Counted<R>,
     writer: &mut Counted<W>,
 ) -> Stop {
-    match serve(alloc, world, reader, writer) {
+    match serve_limited(alloc, service, reader, writer) {
         Ok(_) => Stop::Served,
         Err(fault) => Stop::Serve(fault),
     }
+}
+
+/// Serves the lines of a reader over the built-in world.
+fn sample_served<R: Read, W: Write>(
+    alloc: Global,
+    reader: &mut Counted<R>,
+    writer: &mut Counted<W>,
+) -> Result<Stop> {
+    let world = built_in(alloc)?;
+    let service = Service {
+        world: &world,
+        max_answer: None,
+    };
+    Ok(served(alloc, &service, reader, writer))
 }
 
 /// Serves the request lines of a file over the world of the other files.
@@ -51,8 +64,16 @@ fn files_served<R: Files + AllocGlobal, W: Write>(
     writer: &mut Counted<W>,
 ) -> Result<Stop, LocatedStop> {
     let world = open_world(rt, words)?;
+    let max_answer = match words.max_answer {
+        Some(most) => Some(most as usize),
+        None => None,
+    };
+    let service = Service {
+        world: &world,
+        max_answer,
+    };
     let mut requests = Counted::new(open_requests(rt, words)?);
-    Ok(served(rt.alloc(), &world, &mut requests, writer))
+    Ok(served(rt.alloc(), &service, &mut requests, writer))
 }
 
 /// How a run of files ends.
@@ -91,7 +112,7 @@ fn end_of_words<R: Files + AllocGlobal, W: Write>(
 }
 
 /// What a run of the words of a line writes to standard output, which has so much room, and behind it how it ends.
-pub fn told<R: Files + AllocGlobal>(
+pub fn report<R: Files + AllocGlobal>(
     rt: &R,
     line: &str,
     input: Device,
@@ -103,16 +124,16 @@ pub fn told<R: Files + AllocGlobal>(
     let mut reader = Counted::new(input);
     let mut writer = Counted::new(&mut narrow);
     let end = if words.is_empty() {
-        End::from(served(rt.alloc(), &built_in(rt.alloc())?, &mut reader, &mut writer))
+        End::from(sample_served(rt.alloc(), &mut reader, &mut writer)?)
     } else {
         end_of_words(rt, words.as_slice(), &mut writer)
     };
     drop(writer);
     let written = str::from_utf8(narrow.bytes.as_slice())?;
     let End { stop, explanation } = end;
-    let told = end_of(rt.alloc(), &stop)?;
+    let report = end_of(rt.alloc(), &stop)?;
     match explanation {
-        Some(more) => Ok(format!(in rt.alloc(); "{written}{told}\n{more}")?),
-        None => Ok(format!(in rt.alloc(); "{written}{told}")?),
+        Some(more) => Ok(format!(in rt.alloc(); "{written}{report}\n{more}")?),
+        None => Ok(format!(in rt.alloc(); "{written}{report}")?),
     }
 }

@@ -5,12 +5,12 @@ use crate::shelf::Device;
 use crate::stops::end_of;
 use crate::worlds::built_in;
 use anyhow::{Context, Result};
-use case_files::Asked;
+use case_files::Question;
 use command_line::Stop;
 use line_serving::Counted;
 use std::alloc::Global;
 use std::io::{self, Error, ErrorKind, Write};
-use world_answers::serve;
+use world_answers::{Service, serve, serve_limited};
 
 /// Takes a byte a call, and fails once it has no room.
 #[derive(Drop)]
@@ -53,10 +53,32 @@ fn served(alloc: Global, input: Device, room: usize) -> Result<(Stop, Vec<u8>)> 
     Ok((stop, narrow.bytes))
 }
 
-/// What is written when lines are served, and behind it how that ended where they weren't all.
-pub fn told(alloc: Global, text: &str) -> Result<String> {
+/// Serves what a reader gives, where an answer may have so many bytes: how that ends a run, and what is written.
+fn served_within(alloc: Global, input: Device, most: usize) -> Result<(Stop, Vec<u8>)> {
+    let world = built_in(alloc)?;
+    let service = Service {
+        world: &world,
+        max_answer: Some(most),
+    };
+    let mut written = Vec::new(alloc);
+    let mut reader = Counted::new(input);
+    let mut writer = Counted::new(&mut written);
+    let stop = match serve_limited(alloc, &service, &mut reader, &mut writer) {
+        Ok(_) => Stop::Served,
+        Err(fault) => Stop::Serve(fault),
+    };
+    drop(writer);
+    Ok((stop, written))
+}
+
+/// What is written when lines are served, and behind it how that ended where they weren't all. Words may say how many bytes an
+/// answer has at most.
+pub fn report(alloc: Global, words: &str, text: &str) -> Result<String> {
     let input = Device::new(bytes_of(alloc, text)?, false);
-    let (stop, bytes) = served(alloc, input, usize::MAX)?;
+    let (stop, bytes) = match words.strip_prefix(" within ") {
+        Some(most) => served_within(alloc, input, most.parse()?)?,
+        None => served(alloc, input, usize::MAX)?,
+    };
     let written = str::from_utf8(bytes.as_slice())?;
     if let Stop::Served = stop {
         return Ok(String::from_str(alloc, written)?);
@@ -67,7 +89,7 @@ pub fn told(alloc: Global, text: &str) -> Result<String> {
 
 /// How many bytes of the answers in the second file are written where the lines of the first are served, and how that ended. The
 /// text is the room of the writer, with `, the reader fails` behind it where it does so after the lines.
-pub fn told_of_devices(alloc: Global, asked: &Asked, text: &str) -> Result<String> {
+pub fn report_of_devices(alloc: Global, asked: &Question, text: &str) -> Result<String> {
     let (room, fails) = match text.strip_suffix(", the reader fails") {
         Some(room) => (room, true),
         None => (text, false),

@@ -86,7 +86,7 @@ fn stop_of(part: &str, name: &str) -> Result<Stop> {
 }
 
 /// How a run ends, as `table BadRecord`.
-pub fn told(alloc: Global, text: &str) -> Result<String> {
+pub fn report(alloc: Global, text: &str) -> Result<String> {
     let (part, name) = text.split_once(' ').context("no fault")?;
     let stop = stop_of(part, name)?;
     Ok(end_of(alloc, &stop)?)

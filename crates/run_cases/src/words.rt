@@ -22,27 +22,30 @@ pub fn words_of(alloc: Global, line: &str) -> Result<Words, Stop> {
 
 /// The parts of words.
 fn parts(alloc: Global, words: &Words) -> Result<String, AllocError> {
-    let mut told = format!(in alloc;
+    let mut report = format!(in alloc;
         "schema {}, bindings {}, requests {}",
         words.schema, words.bindings, words.requests
     )?;
     if let Some(most) = words.max_batch {
-        write!(told, ", at most {most} keys")?;
+        write!(report, ", at most {most} keys")?;
+    }
+    if let Some(most) = words.max_answer {
+        write!(report, ", at most {most} bytes")?;
     }
     if let Some(workers) = words.workers {
-        write!(told, ", {workers} workers")?;
+        write!(report, ", {workers} workers")?;
     }
     if words.explain {
-        told.push_str(", explained")?;
+        report.push_str(", explained")?;
     }
     for table in &words.tables {
-        write!(told, ", table {:?} in {:?}", table.name, table.file)?;
+        write!(report, ", table {:?} in {:?}", table.name, table.file)?;
     }
-    Ok(told)
+    Ok(report)
 }
 
 /// The parts of the words of a line, or how they end a run.
-pub fn told(alloc: Global, line: &str) -> Result<String> {
+pub fn report(alloc: Global, line: &str) -> Result<String> {
     match words_of(alloc, line) {
         Ok(words) => Ok(parts(alloc, &words)?),
         Err(stop) => Ok(end_of(alloc, &stop)?),

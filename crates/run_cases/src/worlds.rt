@@ -33,7 +33,7 @@ fn made<R: Files + AllocGlobal>(rt: &R, line: &str) -> Result<Result<World, Worl
 }
 
 /// The limit, the root, and how many loaders the bindings and the sources have.
-fn told_of(alloc: Global, world: &World) -> Result<String, AllocError> {
+fn report_of(alloc: Global, world: &World) -> Result<String, AllocError> {
     let root = world.schema().root();
     let lines = world.bindings().loaders().len();
     let sources = world.loaders();
@@ -62,24 +62,24 @@ fn place_of(fault: &SchemaFault) -> Option<Place> {
 
 /// A refusal, with its place or its line, and the status of a run that it ends.
 fn refusal(alloc: Global, fault: WorldFault) -> Result<String, AllocError> {
-    let mut told = format!(in alloc; "{fault}")?;
+    let mut report = format!(in alloc; "{fault}")?;
     if let WorldFault::Schema(fault) = &fault {
         if let Some(Place { line, column }) = place_of(fault) {
-            write!(told, " at {line}:{column}")?;
+            write!(report, " at {line}:{column}")?;
         }
         if let SchemaFault::BadBinding(line) = fault {
-            write!(told, " in line {line}")?;
+            write!(report, " in line {line}")?;
         }
     }
     let status = Stop::World(fault).status();
-    write!(told, ", status {status}")?;
-    Ok(told)
+    write!(report, ", status {status}")?;
+    Ok(report)
 }
 
-/// What is told of the world of a line, or why there is none.
-pub fn told<R: Files + AllocGlobal>(rt: &R, line: &str) -> Result<String> {
+/// What is reported of the world of a line, or why there is none.
+pub fn report<R: Files + AllocGlobal>(rt: &R, line: &str) -> Result<String> {
     match made(rt, line)? {
-        Ok(world) => Ok(told_of(rt.alloc(), &world)?),
+        Ok(world) => Ok(report_of(rt.alloc(), &world)?),
         Err(fault) => Ok(refusal(rt.alloc(), fault)?),
     }
 }
@@ -154,11 +154,11 @@ pub fn built_in(alloc: Global) -> Result<World> {
     }
 }
 
-/// What is loaded in the built-in world, or of `world` what is told of it.
+/// What is loaded in the built-in world, or of `world` what is reported of it.
 pub fn loaded_in_built_in(alloc: Global, text: &str) -> Result<String> {
     let world = built_in(alloc)?;
     if text == "world" {
-        return Ok(told_of(alloc, &world)?);
+        return Ok(report_of(alloc, &world)?);
     }
     load(alloc, &world, text)
 }
@@ -175,14 +175,14 @@ fn part_of(alloc: Global, stop: &Stop) -> Result<String, AllocError> {
     format!(in alloc; "{part}: {end}")
 }
 
-/// What is told of the world of a command line's files, or how a run ends without it.
+/// What is reported of the world of a command line's files, or how a run ends without it.
 pub fn opened<R: Files + AllocGlobal>(rt: &R, line: &str) -> Result<String> {
     let words = match words_of(rt.alloc(), line) {
         Ok(words) => words,
         Err(stop) => return Ok(part_of(rt.alloc(), &stop)?),
     };
     match open_world(rt, &words) {
-        Ok(world) => Ok(told_of(rt.alloc(), &world)?),
+        Ok(world) => Ok(report_of(rt.alloc(), &world)?),
         Err(end) => Ok(part_of(rt.alloc(), &end.stop)?),
     }
 }

@@ -3,12 +3,12 @@
 use crate::schema::displayed;
 use crate::shown;
 use anyhow::{Context, Result};
-use case_files::{Asked, plain};
+use case_files::{Question, plain};
 use gq_schema::{Bindings, Schema};
 use std::alloc::{AllocError, Global};
 
 /// The loader of a number.
-pub fn loader(alloc: Global, asked: &Asked, text: &str) -> Result<String> {
+pub fn loader(alloc: Global, asked: &Question, text: &str) -> Result<String> {
     let schema = Schema::read(alloc, asked.file(0)?)?;
     let bindings = Bindings::read(alloc, &schema, asked.file(1)?)?;
     let number: usize = text.parse()?;
@@ -16,7 +16,7 @@ pub fn loader(alloc: Global, asked: &Asked, text: &str) -> Result<String> {
 }
 
 /// The binding of a type's field.
-pub fn binding(alloc: Global, asked: &Asked, text: &str) -> Result<String> {
+pub fn binding(alloc: Global, asked: &Question, text: &str) -> Result<String> {
     let schema = Schema::read(alloc, asked.file(0)?)?;
     let bindings = Bindings::read(alloc, &schema, asked.file(1)?)?;
     let (of, field) = text.split_once('.').context("no field")?;
@@ -39,7 +39,7 @@ fn text_with(alloc: Global, lines: &str, number: u64, line: &str) -> Result<Stri
 
 /// The fault of the bindings of a file with another line in place of one, or that they are accepted. The text is the number of
 /// that line, and what stands in its place.
-pub fn with_another_line(alloc: Global, asked: &Asked, text: &str) -> Result<String> {
+pub fn with_another_line(alloc: Global, asked: &Question, text: &str) -> Result<String> {
     let schema = Schema::read(alloc, asked.file(0)?)?;
     let lines = plain(alloc, asked.file(1)?)?;
     let (number, line) = text.split_once(": ").context("no line")?;

@@ -19,23 +19,23 @@ fn displayed(alloc: Global, read: &BindingsText) -> Result<String> {
 }
 
 /// What a text says.
-pub fn told(alloc: Global, text: &str) -> Result<String> {
+pub fn report(alloc: Global, text: &str) -> Result<String> {
     displayed(alloc, &read(alloc, text)?)
 }
 
 /// Whether a line is no statement in a text of a version: as the third of four lines it is the first bad one, and the first
 /// two say what they say alone. Else what the four say.
-pub fn told_as_third(alloc: Global, version: u32, line: &str) -> Result<String> {
+pub fn report_as_third(alloc: Global, version: u32, line: &str) -> Result<String> {
     let text = format!(in alloc; "bindings {version}\nloader a b\n{line}\nloader c d\n")?;
     let mut found = read(alloc, &text)?;
-    let front = told(alloc, "bindings 1\nloader a b\n")?;
+    let front = report(alloc, "bindings 1\nloader a b\n")?;
     if found.bad_line == Some(3) {
         found.bad_line = None;
         if displayed(alloc, &found)? == front {
             return Ok(String::from_str(alloc, "no statement")?);
         }
     }
-    told(alloc, &text)
+    report(alloc, &text)
 }
 
 /// The loader that the words of a line say, if they say one without a column.
@@ -92,7 +92,7 @@ fn small_text(alloc: Global, parts: &[&str], number: usize) -> Result<String, Al
 
 /// How many texts of up to six of the parts, which a bar parts, say the same by the real reader and by a plain one; or the first of
 /// them that doesn't.
-pub fn told_by_both(alloc: Global, text: &str) -> Result<String> {
+pub fn report_by_both(alloc: Global, text: &str) -> Result<String> {
     let parts: Vec<&str> = text.split('|').collect(alloc)?;
     let mut count = 1_usize;
     for _ in 0..PARTS {
@@ -100,7 +100,7 @@ pub fn told_by_both(alloc: Global, text: &str) -> Result<String> {
     }
     for number in 0..count {
         let text = small_text(alloc, &parts, number)?;
-        let found = told(alloc, &text)?;
+        let found = report(alloc, &text)?;
         let plain = displayed(alloc, &plainly_read(alloc, &text)?)?;
         if found != plain {
             return Ok(format!(in alloc; "{text:?}: {found}, and plainly {plain}")?);

@@ -8,32 +8,32 @@ mod schema;
 mod values;
 
 use anyhow::{Result, bail};
-use case_files::{Asked, Teller};
+use case_files::{Question, Reporter};
 use std::alloc::Global;
 use std::fmt::Debug;
 use std::process::ExitCode;
 
-/// The teller of this crate.
+/// The reporter of this crate.
 struct Schemas;
 
-impl Teller for Schemas {
-    fn told(&self, alloc: Global, asked: &Asked, text: &str) -> Result<String> {
+impl Reporter for Schemas {
+    fn report(&self, alloc: Global, asked: &Question, text: &str) -> Result<String> {
         match asked.words.as_str() {
             "schema" => schema::fault(alloc, text),
             "names" => schema::names(alloc, asked.file(0)?, text),
             "loader" => bindings::loader(alloc, asked, text),
             "binding" => bindings::binding(alloc, asked, text),
             "bindings with another line" => bindings::with_another_line(alloc, asked, text),
-            "lines" => lines::told(alloc, text),
-            "third line" => lines::told_as_third(alloc, 1, text),
-            "third line of version 2" => lines::told_as_third(alloc, 2, text),
-            "lines by both readers" => lines::told_by_both(alloc, text),
-            words => told_of_values(alloc, words, asked.file(0)?, text),
+            "lines" => lines::report(alloc, text),
+            "third line" => lines::report_as_third(alloc, 1, text),
+            "third line of version 2" => lines::report_as_third(alloc, 2, text),
+            "lines by both readers" => lines::report_by_both(alloc, text),
+            words => report_of_values(alloc, words, asked.file(0)?, text),
         }
     }
 }
 
-fn told_of_values(alloc: Global, words: &str, schema: &str, text: &str) -> Result<String> {
+fn report_of_values(alloc: Global, words: &str, schema: &str, text: &str) -> Result<String> {
     match words {
         "literal" => values::literal(alloc, schema, text),
         "variables" => values::variables(alloc, schema, text),

@@ -23,7 +23,7 @@ pub enum SyntaxFault {
 /// Where the tokens end to be read, and why.
 #[derive(Clone, Copy, Debug, PartialEq, Eq)]
 pub(crate) enum Stop {
-    /// What stands here can't come, or where no place is told the end.
+    /// What stands here can't come, or, where no place is given, the end.
     Unexpected(Option<Place>),
     /// What begins here is part of the language, and isn't served.
     NotServed(Place),

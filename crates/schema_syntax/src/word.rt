@@ -7,7 +7,7 @@ ghost use Rattle.schema_syntax.specs.Word.{word_of, IsServedName, operation_of};
 ghost use Rattle.schema_syntax.specs.declared.word.SchemaWord.TheVariants as words;
 
 use crate::fault::Stop;
-use gq_parser::{Keyword, Value};
+use gq_parser::{Keyword, Value, keyword_of};
 use std::alloc::Global;
 
 /// What a name is where a word is wanted. Elsewhere each of them is a plain name.
@@ -58,24 +58,6 @@ pub(crate) fn is_served_name(name: &str) -> bool
     match word_of(name) {
         SchemaWord::Float => false,
         _ => true,
-    }
-}
-
-/// What a name is in the documents' language.
-#[tactic(auto, unfolding(gq_parser::specs::Keywords::keyword_of))]
-fn keyword_of(name: &str) -> Keyword
-    ensures { result ≡ keyword_of name.now }
-{
-    match name {
-        "query" => Keyword::Query,
-        "mutation" => Keyword::Mutation,
-        "subscription" => Keyword::Subscription,
-        "fragment" => Keyword::Fragment,
-        "on" => Keyword::On,
-        "true" => Keyword::True,
-        "false" => Keyword::False,
-        "null" => Keyword::Null,
-        _ => Keyword::Other,
     }
 }
 

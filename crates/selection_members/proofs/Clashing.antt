@@ -22,11 +22,11 @@ clashing-same rows numbers ms =
     any-map (to numbers) (λ a. list_any (fail rows a) (map (to numbers) ms)) ms
     ∙ any-same (λ a. list_any (fail rows (to numbers a)) (map (to numbers) ms)) (λ a. list_any (clash rows numbers a) ms) ms (λ a. any-map (to numbers) (fail rows (to numbers a)) ms)
 
--- a set as it is told
-abbrev pub told_set : (List ℕ → List ℕ) → ℕ → SelectionSet → SetOf
-told_set spread n s = record { place = place_of s; members = members_in spread n s }
+-- a set as it is reported
+abbrev pub set_with_members : (List ℕ → List ℕ) → ℕ → SelectionSet → SetOf
+set_with_members spread n s = record { place = place_of s; members = members_in spread n s }
 
-own-is : (spread : List ℕ → List ℕ) (n : ℕ) (s : SelectionSet) → own_set spread n s ≡ told_set spread n s ∷ []
+own-is : (spread : List ℕ → List ℕ) (n : ℕ) (s : SelectionSet) → own_set spread n s ≡ set_with_members spread n s ∷ []
 own-is spread n (set_at p ss) = refl
 
 one-kept : (test : SetOf → Bool) (s : SetOf) → test s ≡ true → filter test (s ∷ []) ≡ s ∷ []
@@ -35,11 +35,11 @@ one-kept test s e = rw e refl
 one-dropped : (test : SetOf → Bool) (s : SetOf) → test s ≡ false → filter test (s ∷ []) ≡ []
 one-dropped test s e = rw e refl
 
-pub own-kept : (test : SetOf → Bool) (spread : List ℕ → List ℕ) (n : ℕ) (s : SelectionSet) → test (told_set spread n s) ≡ true → filter test (own_set spread n s) ≡ told_set spread n s ∷ []
-own-kept test spread n s e = rw (own-is spread n s) (one-kept test (told_set spread n s) e)
+pub own-kept : (test : SetOf → Bool) (spread : List ℕ → List ℕ) (n : ℕ) (s : SelectionSet) → test (set_with_members spread n s) ≡ true → filter test (own_set spread n s) ≡ set_with_members spread n s ∷ []
+own-kept test spread n s e = rw (own-is spread n s) (one-kept test (set_with_members spread n s) e)
 
-pub own-dropped : (test : SetOf → Bool) (spread : List ℕ → List ℕ) (n : ℕ) (s : SelectionSet) → test (told_set spread n s) ≡ false → filter test (own_set spread n s) ≡ []
-own-dropped test spread n s e = rw (own-is spread n s) (one-dropped test (told_set spread n s) e)
+pub own-dropped : (test : SetOf → Bool) (spread : List ℕ → List ℕ) (n : ℕ) (s : SelectionSet) → test (set_with_members spread n s) ≡ false → filter test (own_set spread n s) ≡ []
+own-dropped test spread n s e = rw (own-is spread n s) (one-dropped test (set_with_members spread n s) e)
 
 -- the sets inside a set, and then the set itself
 pub with-own : (test : SetOf → Bool) (spread : List ℕ → List ℕ) (n : ℕ) (s : SelectionSet) (ss : Selections) (old mid new : List SetOf)

@@ -211,14 +211,14 @@ there (x ∷ xs) (suc a) h = there xs a (omega (arith, h))
 
 -- where the second list tells the places of the first, it is as long
 module _ (xs ys : List ℕ) (tells : (k a : ℕ) → slice_get xs k ≡ Some a → slice_get ys a ≡ Some k) where
-  told : (bound : ℕ) → bound ≤ length xs → bound ≤ tally (length ys) (under ys bound)
+  at_least : (bound : ℕ) → bound ≤ length xs → bound ≤ tally (length ys) (under ys bound)
   unfolding under
-  told zero le = omega arith
-  told (suc bound) le =
+  at_least zero le = omega arith
+  at_least (suc bound) le =
       let here = there xs bound (omega (arith, le)) in
       let place = tells bound here.0 here.1 in
       let inside = got-below ys here.0 bound place in
-      let rest = told bound (omega (arith, le)) in
+      let rest = at_least bound (omega (arith, le)) in
       let not : nat_lt bound bound ≡ false = grind arith in
       let out : under ys bound here.0 ≡ false = ap (λ (o : Option ℕ). option_map_or (λ k. nat_lt k bound) o false) place ∙ not in
       let into : under ys (suc bound) here.0 ≡ true = ap (λ (o : Option ℕ). option_map_or (λ k. nat_lt k (suc bound)) o false) place ∙ lt-ltb bound (suc bound) (omega arith) in
@@ -226,7 +226,7 @@ module _ (xs ys : List ℕ) (tells : (k a : ℕ) → slice_get xs k ≡ Some a �
       omega (arith, rest, less)
 
   pub no-longer : length xs ≤ length ys
-  no-longer = let few = told (length xs) (omega arith) in let most = tally-most (length ys) (under ys (length xs)) in omega (arith, few, most)
+  no-longer = let few = at_least (length xs) (omega arith) in let most = tally-most (length ys) (under ys (length xs)) in omega (arith, few, most)
 
 index-of : (ys : List ℕ) (i y : ℕ) → slice_get ys i ≡ Some y → to ys i ≡ y
 index-of [] i y e = cc

@@ -111,9 +111,13 @@ fn push_known(
     Ok(())
 }
 
-/// What is told of an answer: its text and rounds, the batches of the logs with what is known of their keys, and how many keys are
+/// What is reported of an answer: its text and rounds, the batches of the logs with what is known of their keys, and how many keys are
 /// known.
-fn told(alloc: Global, answer: &Answer, session: &Session<CsvSource<'_>>) -> Result<String, Fail> {
+fn report(
+    alloc: Global,
+    answer: &Answer,
+    session: &Session<CsvSource<'_>>,
+) -> Result<String, Fail> {
     let mut text = format!(in alloc; "{} {} rounds;", answer.text, answer.rounds)?;
     for (number, loader) in session.loaders().iter().enumerate() {
         for batch in loader.log() {
@@ -143,8 +147,8 @@ fn session<'w>(
     Ok(Session::new(alloc, loaders)?)
 }
 
-/// What is told of the answer of a new session with so many workers, or in turn.
-fn answer_told<R: Threads + Wait + AllocGlobal + Sync>(
+/// What is reported of the answer of a new session with so many workers, or in turn.
+fn answer_report<R: Threads + Wait + AllocGlobal + Sync>(
     rt: &R,
     world: &World,
     plan: &Plan<'_>,
@@ -159,10 +163,10 @@ fn answer_told<R: Threads + Wait + AllocGlobal + Sync>(
         Some(workers) => answer_with(rt, &mut session, plan, workers)?,
         None => session.answer(plan)?,
     };
-    told(rt.alloc(), &answer, &session)
+    report(rt.alloc(), &answer, &session)
 }
 
-/// What is told of the answer of a line with any number of workers is what is told of it in turn.
+/// What is reported of the answer of a line with any number of workers is what is reported of it in turn.
 fn expect_alike<R: Threads + Wait + AllocGlobal + Abort + Sync>(
     rt: &R,
     world: &World,
@@ -173,9 +177,9 @@ fn expect_alike<R: Threads + Wait + AllocGlobal + Abort + Sync>(
         return Err(Fail::from("no plan"));
     };
     for limit in [None, Some(1), Some(2)] {
-        let in_turn = answer_told(rt, world, &plan, limit, None)?;
+        let in_turn = answer_report(rt, world, &plan, limit, None)?;
         for workers in [1, 2, 4, 16] {
-            let found = answer_told(rt, world, &plan, limit, Some(workers))?;
+            let found = answer_report(rt, world, &plan, limit, Some(workers))?;
             expect(rt, &found, &in_turn, line);
         }
     }

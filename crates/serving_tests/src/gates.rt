@@ -2,14 +2,15 @@
 
 use crate::expect;
 use crate::sample::world;
-use line_serving::Counted;
-use std::alloc::AllocGlobal;
+use line_serving::{Counted, ServeFault};
+use std::alloc::{AllocGlobal, Global};
 use std::sync::Wait;
 use std::sync::atomic::{AtomicBool, AtomicU64, Ordering};
 use std::test::Fail;
 use std::thread::Threads;
 use world::World;
-use world_workers::{Gate, NoGate, serve_with};
+use world_answers::Service;
+use world_workers::{Gate, NoGate, serve_limited_with, serve_with};
 
 /// How often a batch looks for the other one before it goes on alone. One that is asked at the same time has long been seen then.
 const TURNS: u32 = 100_000_000;
@@ -68,10 +69,15 @@ fn served<R: Threads + Wait + AllocGlobal + Sync, G: Gate>(
     let mut writer = Counted::new(&mut written);
     let result = serve_with(rt, world, gate, &mut reader, &mut writer, workers);
     drop(writer);
-    let text = str::from_utf8(written.as_slice())?;
-    match result {
-        Ok(lines) => Ok(format!(in rt.alloc(); "{text}{lines} lines")?),
-        Err(fault) => Ok(format!(in rt.alloc(); "{text}{fault}")?),
+    report(rt.alloc(), &written, result)
+}
+
+/// What was written, and what serving tells.
+fn report(alloc: Global, written: &[u8], count: Result<u64, ServeFault>) -> Result<String, Fail> {
+    let text = str::from_utf8(written)?;
+    match count {
+        Ok(lines) => Ok(format!(in alloc; "{text}{lines} lines")?),
+        Err(fault) => Ok(format!(in alloc; "{text}{fault}")?),
     }
 }
 
@@ -87,7 +93,7 @@ const ARRAYS: &str =
 const ARRAYS_ANSWERED: &str =
     "[{\"data\":{\"a\":{\"best\":{\"name\":\"Bob\"}}}},{\"data\":{\"user\":{\"name\":\"Bob\"}}}]\n[{\"data\":{\"users\":[{\"posts\":[{\"author\":{\"name\":\"Ada\"}},{\"author\":{\"name\":\"Ada\"}}]},{\"posts\":[{\"author\":{\"name\":\"Bob\"}}]},{\"posts\":[]},{\"posts\":[]}]}},{\"data\":{\"user\":null}},{\"errors\":[{\"message\":\"not a request\"}]},{\"errors\":[{\"message\":\"5.4.2.1 Required Arguments: id\",\"locations\":[{\"line\":1,\"column\":2}]}]}]\n[{\"errors\":[{\"message\":\"not a request\"}]}]\n3 lines";
 
-/// Numbers of workers, lines, and what is told of them.
+/// Numbers of workers, lines, and what is reported of them.
 const RUNS: &[(usize, &str, &str)] = &[
     (2, LINES, ANSWERS),
     (2, ARRAYS, ARRAYS_ANSWERED),
@@ -103,6 +109,31 @@ fn workers_serve_lines_in_order(rt: HostRuntime) -> Result<(), Fail> {
         let found = served(&rt, &world, &NoGate, lines, *workers)?;
         expect(&rt, &found, want, lines);
     }
+    Ok(())
+}
+
+/// Lines of which one has an answer of 33 bytes, one of 32, and one is an array of two such and one of 134 with errors.
+const LONG_AND_SHORT: &str =
+    "{\"query\":\"{user(id:1){names:name}}\"}\n{\"query\":\"{user(id:1){name}}\"}\n[{\"query\":\"{user(id:1){names:name}}\"},{\"query\":\"{user(id:2){name}}\"},{\"query\":\"query($i:ID=\\\"1\\\"){user(id:$i){name}}\",\"variables\":{\"i\":null}}]\n{\"query\":\"{user(id:3){name}}\"}";
+
+const WITHIN_32_BYTES: &str =
+    "{\"errors\":[{\"message\":\"answer too long\"}]}\n{\"data\":{\"user\":{\"name\":\"Ada\"}}}\n[{\"errors\":[{\"message\":\"answer too long\"}]},{\"data\":{\"user\":{\"name\":\"Bob\"}}},{\"errors\":[{\"message\":\"answer too long\"}]}]\n{\"data\":{\"user\":{\"name\":\"Cy\"}}}\n4 lines";
+
+/// Too long an answer is refused, that of each value of an array by itself, and the next lines are answered.
+#[test]
+fn workers_refuse_what_is_too_long(rt: HostRuntime) -> Result<(), Fail> {
+    let world = world(rt.alloc())?;
+    let service = Service {
+        world: &world,
+        max_answer: Some(32),
+    };
+    let mut written = Vec::new(rt.alloc());
+    let mut reader = Counted::new(LONG_AND_SHORT.as_bytes());
+    let mut writer = Counted::new(&mut written);
+    let result = serve_limited_with(&rt, &service, &NoGate, &mut reader, &mut writer, 2);
+    drop(writer);
+    let found = report(rt.alloc(), &written, result)?;
+    expect(&rt, &found, WITHIN_32_BYTES, LONG_AND_SHORT);
     Ok(())
 }
 

@@ -24,7 +24,7 @@ fragment_cycles p = cycles_among (graph_of p) 0 p.document.fragments
 abbrev pub most_levels : ℕ
 most_levels = 128
 
--- an operation with too many levels; no name is told
+-- an operation with too many levels; no name is reported
 abbrev pub deep_operation : List Fragment → Operation → Option BrokenOf
 deep_operation fragments o = if nat_lt most_levels (levels_of fragments o) then Some (record { name = []; place = o.place }) else None
 

@@ -116,7 +116,7 @@ fn push_fragment(lines: &mut String, fragment: &Fragment) -> Result<(), AllocErr
 }
 
 /// The parts of a document with their places, a line each: operations first, then fragments.
-pub fn told(alloc: Global, text: &str) -> Result<String> {
+pub fn report(alloc: Global, text: &str) -> Result<String> {
     let document = parse(alloc, text)?;
     let mut lines = String::new(alloc);
     for operation in &document.operations {

@@ -1,7 +1,7 @@
 //! A plain slow recogniser: every way to read each production. Sets of at most 63 tokens are bits.
 
 use crate::grammar::{Grammar, Symbol};
-use crate::told::message_of;
+use crate::report::message_of;
 use anyhow::{Context, Result};
 use std::alloc::Global;
 
@@ -55,7 +55,7 @@ pub fn is_whole(ends: u64, tokens: usize) -> bool {
     ends.leading_zeros() as usize == 63_usize.saturating_sub(tokens)
 }
 
-/// What is told of the words of a grammar: of a text of it, of an unexpected word and of an unexpected end, or no more than a
+/// What is reported of the words of a grammar: of a text of it, of an unexpected word and of an unexpected end, or no more than a
 /// part of that.
 pub struct Messages {
     pub accepted: &'static str,
@@ -75,7 +75,7 @@ fn joined(alloc: Global, words: &[&str]) -> Result<String> {
 
 /// What the slow recogniser says of words. Their fault is the first word that can't stand, or if that is a name behind an `@`,
 /// the `@`.
-fn slowly_told(
+fn slow_report(
     alloc: Global,
     grammar: &Grammar,
     messages: &Messages,
@@ -110,7 +110,7 @@ fn difference(
 ) -> Result<Option<String>> {
     let text = joined(alloc, words)?;
     let found = message_of(alloc, messages.accepted, &text)?;
-    let wanted = slowly_told(alloc, grammar, messages, words)?;
+    let wanted = slow_report(alloc, grammar, messages, words)?;
     if found.ends_with(wanted.as_str()) {
         return Ok(None);
     }
@@ -144,9 +144,9 @@ fn difference_at<'t>(
     Ok(None)
 }
 
-/// What is told of words that are parted by spaces, or how the readers differ on them, on a front of them, or on them with one
+/// What is reported of words that are parted by spaces, or how the readers differ on them, on a front of them, or on them with one
 /// word replaced.
-pub fn told<'t>(
+pub fn report<'t>(
     alloc: Global,
     grammar: &'t Grammar,
     messages: &Messages,

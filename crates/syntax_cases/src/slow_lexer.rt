@@ -111,7 +111,7 @@ fn real_tokens(alloc: Global, text: &str) -> Result<Option<(usize, String)>> {
 }
 
 /// How many tokens both lexers find, or how they differ.
-pub fn told(alloc: Global, grammar: &Grammar, text: &str) -> Result<String> {
+pub fn report(alloc: Global, grammar: &Grammar, text: &str) -> Result<String> {
     let slow = slow_tokens(alloc, grammar, text)?;
     let real = real_tokens(alloc, text)?;
     if real != slow {

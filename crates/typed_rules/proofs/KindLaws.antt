@@ -21,7 +21,7 @@ use Rattle.document_parts.specs.Parts.{Location, VariableUse, use_of}
 use Rattle.typed_rules.specs.CompatibleTypes.{are_compatible, nullable}
 use Rattle.gq_schema.specs.Types.{is_non_null}
 use Rattle.spread_graph.proofs.ReacherLaws.{same_tests}
-use Rattle.typed_rules.specs.AllowedUsages.{is_variable, is_forbidden_at, forbids_at, forbids}
+use Rattle.typed_rules.specs.AllVariableUsagesAreAllowed.{is_variable, is_forbidden_at, forbids_at, forbids}
 use Rattle.typed_rules.specs.UseKinds.{same_location, is_forbidden_use, listed, is_listed, use_at, StandsFor}
 
 -- ---- types that are compatible with each other

@@ -9,7 +9,7 @@ use Rattle.spread_graph.specs.Batches.{has, set_at}
 use Rattle.typed_rules.specs.declared.allowed_uses.Allowance.{Allowance}
 use Rattle.typed_rules.specs.declared.allowed_uses.Allowance.TheVariants.{Allowed, Forbidden}
 use Rattle.typed_rules.specs.declared.use_kinds.UseKinds.{UseKinds}
-use Rattle.typed_rules.specs.AllowedUsages.{forbids}
+use Rattle.typed_rules.specs.AllVariableUsagesAreAllowed.{forbids}
 use Rattle.typed_rules.specs.UseKinds.{use_at, IsKind, is_forbidden_use}
 
 abbrev pub allows : Allowance → Bool

@@ -6,14 +6,14 @@ use Rattle.gq_schema.specs.Types.{is_non_null}
 -- The type of a variable, which stands first, fits that of a location (AreTypesCompatible): a non-null location needs a
 -- non-null variable, a location that may be null takes either; list goes with list, and items likewise; else the names are equal.
 abbrev pub are_compatible : TypeTree → TypeTree → Bool
-are_compatible (Named p n strict) (Named q m wanted) = (strict || not wanted) && bytes_eq n m
-are_compatible (ListOf p t strict) (ListOf q u wanted) = (strict || not wanted) && are_compatible t u
+are_compatible (Named p n non_null) (Named q m wanted) = (non_null || not wanted) && bytes_eq n m
+are_compatible (ListOf p t non_null) (ListOf q u wanted) = (non_null || not wanted) && are_compatible t u
 are_compatible _ _ = false
 
 -- the type without the `!` at its end
 abbrev pub nullable : TypeTree → TypeTree
-nullable (Named p n strict) = Named p n false
-nullable (ListOf p t strict) = ListOf p t false
+nullable (Named p n non_null) = Named p n false
+nullable (ListOf p t non_null) = ListOf p t false
 
 -- there is a default, and it isn't `null`
 abbrev pub is_non_null_default : Option Value → Bool

@@ -5,8 +5,8 @@ use Rattle.document_parts.specs.declared.parts.Parts.{Parts}
 use Rattle.document_parts.specs.Parts.{VariableUse, use_of}
 use Rattle.spread_graph.specs.Graphs.{GraphOf}
 use Rattle.spread_graph.specs.Batches.{AreReachers}
-use Rattle.typed_rules.specs.declared.forbidden_usages.Batch.{Batch}
-use Rattle.typed_rules.specs.AllowedUsages.{is_forbidden}
+use Rattle.typed_rules.specs.declared.all_variable_usages_are_allowed.Batch.{Batch}
+use Rattle.typed_rules.specs.AllVariableUsagesAreAllowed.{is_forbidden}
 use Rattle.typed_rules.specs.UseKinds.{use_at}
 
 abbrev pub uses_in : Parts → List VariableUse

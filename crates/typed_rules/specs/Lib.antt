@@ -2,17 +2,17 @@
 -- the list of all that breaks it.
 pub mod Words
 pub mod FieldSelections
-pub mod LeafSelections
+pub mod LeafFieldSelections
 pub mod ArgumentNames
 pub mod RequiredArguments
 pub mod TypeConditions
-pub mod TypeExistence
-pub mod CompositeTypes
-pub mod PossibleSpreads
-pub mod InputVariables
-pub mod CorrectValues
+pub mod FragmentSpreadTypeExistence
+pub mod FragmentsOnCompositeTypes
+pub mod FragmentSpreadIsPossible
+pub mod VariablesAreInputTypes
+pub mod ValuesOfCorrectType
 pub mod CompatibleTypes
-pub mod AllowedUsages
+pub mod AllVariableUsagesAreAllowed
 -- What the search for forbidden uses keeps.
 pub mod Allowances
 pub mod UsePlaces

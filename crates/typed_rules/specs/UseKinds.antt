@@ -9,7 +9,7 @@ use Rattle.document_parts.specs.declared.part.Owner.TheVariants as owner
 use Rattle.document_parts.specs.Parts.{Location, VariableUse}
 use Rattle.typed_rules.specs.declared.use_kinds.UseKinds.{UseKinds}
 use Rattle.gq_parser.specs.Tree.{VariableDefinition}
-use Rattle.typed_rules.specs.AllowedUsages.{is_forbidden_at}
+use Rattle.typed_rules.specs.AllVariableUsagesAreAllowed.{is_forbidden_at}
 use Rattle.typed_rules.specs.CompatibleTypes.{are_compatible}
 
 -- both have a default, or neither, and the types are alike: each is compatible with the other

@@ -5,7 +5,7 @@ ghost use Rattle.gq_parser.specs.Tree.{variable_of, variables_of};
 ghost use Rattle.document_parts.specs.Parts.{use_of};
 ghost use Rattle.spread_graph.specs.Batches.{has, set_at};
 ghost use Rattle.typed_rules.specs.Allowances.{allows, AllowsWhere, KeepsOthers, AreAllowed};
-ghost use Rattle.typed_rules.specs.AllowedUsages.{forbids};
+ghost use Rattle.typed_rules.specs.AllVariableUsagesAreAllowed.{forbids};
 ghost use Rattle.typed_rules.specs.UseKinds.{is_listed, use_at, IsKind, is_forbidden_use};
 
 use crate::compatible_types::is_allowed;
@@ -23,7 +23,7 @@ enum Allowance {
 }
 
 // Whether a variable may stand where a use stands, or that isn't known.
-fn allowance(variable: &VariableDefinition, part: &VariableUse) -> Allowance
+fn allowance_of(variable: &VariableDefinition, part: &VariableUse) -> Allowance
     ensures { allows result ≡ not (is_forbidden_use (variable_of variable.now) (use_of part.now)) }
 {
     match part.location {
@@ -66,7 +66,7 @@ fn allow_use(
     ensures { OnOk result (AllowsWhere (λ r m. m == number && r == place) (variable_of variable.now) uses.now sets.old.items sets.new.items) }
 {
     if let Some(part) = uses.get(place) {
-        let set = noted(set_of(sets, place), number, allowance(variable, part));
+        let set = noted(set_of(sets, place), number, allowance_of(variable, part));
         put(sets, BatchSet::new(), place, set)?;
     }
     Ok(())

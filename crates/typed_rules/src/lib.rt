@@ -5,29 +5,29 @@
 //! its definition in `specs/` gives. No rule needs another one to be kept: one that needs something unknown skips it.
 #![tactic(auto)]
 
+mod all_variable_usages_are_allowed;
 mod allowed_uses;
 mod compatible_types;
-mod forbidden_usages;
-mod impossible_spreads;
-mod leaf_types;
-mod misfit_fields;
-mod missing_arguments;
-mod non_input_variables;
+mod fields_on_correct_type;
+mod fragment_spread_is_possible;
+mod fragment_spread_type_existence;
+mod fragments_on_composite_types;
+mod known_argument_names;
+mod leaf_field_selections;
+mod provided_required_arguments;
 mod references;
-mod unknown_arguments;
-mod unknown_fields;
-mod unknown_types;
 mod use_kinds;
 mod use_places;
-mod wrong_values;
+mod values_of_correct_type;
+mod variables_are_input_types;
 
-pub use forbidden_usages::variable_usages;
-pub use impossible_spreads::possible_spreads;
-pub use leaf_types::composite_types;
-pub use misfit_fields::leaf_selections;
-pub use missing_arguments::required_arguments;
-pub use non_input_variables::input_variables;
-pub use unknown_arguments::argument_names;
-pub use unknown_fields::field_selections;
-pub use unknown_types::type_existence;
-pub use wrong_values::correct_values;
+pub use all_variable_usages_are_allowed::variable_usages;
+pub use fields_on_correct_type::field_selections;
+pub use fragment_spread_is_possible::possible_spreads;
+pub use fragment_spread_type_existence::type_existence;
+pub use fragments_on_composite_types::composite_types;
+pub use known_argument_names::argument_names;
+pub use leaf_field_selections::leaf_selections;
+pub use provided_required_arguments::required_arguments;
+pub use values_of_correct_type::correct_values;
+pub use variables_are_input_types::input_variables;

@@ -38,12 +38,12 @@ from_string defs name s = if bytes_eq name (codes "ID") || (bytes_eq name (codes
 
 -- what a value gives at the type of this name
 abbrev pub named_data : List Definition → List ℕ → Bool → Data → Option Input
-named_data defs name strict null = if strict then None else Some Null
-named_data defs name strict (boolean b) = from_boolean name b
-named_data defs name strict (number n) = from_number name n
-named_data defs name strict (string s) = from_string defs name s
-named_data defs name strict (array ds) = None
-named_data defs name strict (object ms) = None
+named_data defs name non_null null = if non_null then None else Some Null
+named_data defs name non_null (boolean b) = from_boolean name b
+named_data defs name non_null (number n) = from_number name n
+named_data defs name non_null (string s) = from_string defs name s
+named_data defs name non_null (array ds) = None
+named_data defs name non_null (object ms) = None
 
 -- each item, where each gives a value
 abbrev pub all_data : (Data → Option Input) → Items → Option Inputs
@@ -52,14 +52,14 @@ all_data each (item d ds) = and_items (each d) (all_data each ds)
 
 -- what a value gives at a list, where each says what a value gives at its items
 abbrev pub list_data : (Data → Option Input) → Bool → Data → Option Input
-list_data each strict null = if strict then None else Some Null
-list_data each strict (boolean b) = one_item (each (boolean b))
-list_data each strict (number n) = one_item (each (number n))
-list_data each strict (string s) = one_item (each (string s))
-list_data each strict (array ds) = list_input (all_data each ds)
-list_data each strict (object ms) = one_item (each (object ms))
+list_data each non_null null = if non_null then None else Some Null
+list_data each non_null (boolean b) = one_item (each (boolean b))
+list_data each non_null (number n) = one_item (each (number n))
+list_data each non_null (string s) = one_item (each (string s))
+list_data each non_null (array ds) = list_input (all_data each ds)
+list_data each non_null (object ms) = one_item (each (object ms))
 
 -- what a JSON value gives at a type, where it is right
 abbrev pub data_input : List Definition → TypeTree → Data → Option Input
-data_input defs (Named p n strict) d = named_data defs n strict d
-data_input defs (ListOf p t strict) d = list_data (data_input defs t) strict d
+data_input defs (Named p n non_null) d = named_data defs n non_null d
+data_input defs (ListOf p t non_null) d = list_data (data_input defs t) non_null d

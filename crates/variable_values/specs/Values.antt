@@ -70,7 +70,7 @@ gives_values d = is_some (as_null d) || is_some (as_object d)
 abbrev pub coerced_variables : List Definition → List VariableDefinition → Data → Result (List VariableOf) FaultOf
 coerced_variables defs vs given = if gives_values given then values_of defs given vs else Err not_object
 
--- the fault that is told where values are wanted; of memory this says nothing
+-- the fault that is reported where values are wanted; of memory this says nothing
 abbrev pub IsVariableFault : Result (List VariableOf) FaultOf → VariableFault → Type 0
 IsVariableFault want fault.NotObject = want ≡ Err not_object
 IsVariableFault want (fault.Bad name) = want ≡ Err (bad_variable (string_bytes name))

@@ -63,13 +63,13 @@ fn coerce_named(
     alloc: Global,
     schema: &Schema,
     name: &str,
-    strict: bool,
+    non_null: bool,
     value: &Value,
 ) -> Result<Option<Input>, AllocError>
-    ensures { IfOk result (λ input. option_map input_of input ≡ named_data (tree_of schema.now) name.now strict (view value.now)) }
+    ensures { IfOk result (λ input. option_map input_of input ≡ named_data (tree_of schema.now) name.now non_null (view value.now)) }
 {
     match value {
-        Value::Null => Ok((!strict).then_some(Input::Null)),
+        Value::Null => Ok((!non_null).then_some(Input::Null)),
         Value::Bool(b) => Ok((name == "Boolean").then_some(Input::Bool(*b))),
         Value::Number(number) => Ok(coerce_number(alloc, name, number)?),
         Value::String(text) => Ok(coerce_string(schema, name, text)?),

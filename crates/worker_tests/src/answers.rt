@@ -14,7 +14,7 @@ use std::sync::Wait;
 use std::test::Fail;
 use std::thread::Threads;
 
-/// A query over sources of this manner, at most so many keys in a batch. What is told of its answers by a new session is the
+/// A query over sources of this manner, at most so many keys in a batch. What is reported of its answers by a new session is the
 /// same with each of these numbers of workers.
 struct Case {
     manner: Manner,
@@ -28,7 +28,7 @@ struct Case {
     asked: &'static str,
 }
 
-/// Every number of workers that the cases try, but for those of which something is told.
+/// Every number of workers that the cases try, but for those of which something is reported.
 const ANY: &[usize] = &[1, 2, 4, 16];
 
 const TWO: &[usize] = &[2];
@@ -221,8 +221,8 @@ fn answer<R: Threads + Wait + Sync>(
     Ok(answer_with(rt, session, plan, workers))
 }
 
-/// What is told of an answer, and whether a source was still being asked when it was there.
-fn answer_told(
+/// What is reported of an answer, and whether a source was still being asked when it was there.
+fn answer_report(
     alloc: Global,
     answered: Result<Answer, WorkFault>,
     board: &Board,
@@ -267,7 +267,7 @@ pub fn asked(
     Ok(text)
 }
 
-/// What is told of the answers of a new session is what is wanted.
+/// What is reported of the answers of a new session is what is wanted.
 fn expect_case<R: Threads + Wait + AllocGlobal + Abort + Sync>(
     rt: &R,
     schema: &Schema,
@@ -280,7 +280,7 @@ fn expect_case<R: Threads + Wait + AllocGlobal + Abort + Sync>(
     let mut session = session(rt.alloc(), &board, case.manner, case.limit)?;
     for wanted in case.answers {
         let answered = answer(rt, &mut session, &plan, workers)?;
-        let found = answer_told(rt.alloc(), answered, &board)?;
+        let found = answer_report(rt.alloc(), answered, &board)?;
         expect(rt, &found, wanted, case.query);
     }
     let found = asked(rt.alloc(), &session, &board)?;
@@ -288,7 +288,7 @@ fn expect_case<R: Threads + Wait + AllocGlobal + Abort + Sync>(
     Ok(())
 }
 
-/// Of each case what is wanted is told, with each of its numbers of workers.
+/// Of each case what is wanted is reported, with each of its numbers of workers.
 fn expect_cases<R: Threads + Wait + AllocGlobal + Abort + Sync>(
     rt: &R,
     cases: &[Case],
@@ -308,7 +308,7 @@ fn batches_are_run_at_the_same_time(rt: HostRuntime) -> Result<(), Fail> {
 }
 
 #[test]
-fn broken_sources_are_told_as_in_turn(rt: HostRuntime) -> Result<(), Fail> {
+fn broken_sources_are_reported_as_in_turn(rt: HostRuntime) -> Result<(), Fail> {
     expect_cases(&rt, BREAKDOWNS)
 }
 
@@ -331,8 +331,8 @@ fn load_two(alloc: Global, session: &mut Session<Probe<'_>>) -> Result<(), Fail>
     Ok(())
 }
 
-/// What is told of an answer by two workers after two users were loaded, and what was asked.
-fn told_after_two<R: Threads + Wait + AllocGlobal + Sync>(
+/// What is reported of an answer by two workers after two users were loaded, and what was asked.
+fn report_after_two<R: Threads + Wait + AllocGlobal + Sync>(
     rt: &R,
     board: &Board,
     query: &str,
@@ -342,7 +342,7 @@ fn told_after_two<R: Threads + Wait + AllocGlobal + Sync>(
     load_two(rt.alloc(), &mut session)?;
     let plan = plan_of(rt.alloc(), &schema, &bindings, query)?;
     let answered = answer(rt, &mut session, &plan, 2)?;
-    let found = answer_told(rt.alloc(), answered, board)?;
+    let found = answer_report(rt.alloc(), answered, board)?;
     let batches = asked(rt.alloc(), &session, board)?;
     Ok((found, batches))
 }
@@ -351,7 +351,7 @@ fn told_after_two<R: Threads + Wait + AllocGlobal + Sync>(
 #[test]
 fn workers_ask_what_is_missing(rt: HostRuntime) -> Result<(), Fail> {
     let board = Board::new();
-    let (found, batches) = told_after_two(&rt, &board, MISSING)?;
+    let (found, batches) = report_after_two(&rt, &board, MISSING)?;
     expect(&rt, &found, MISSING_TOLD, MISSING);
     expect(&rt, &batches, ASKED_ONCE, MISSING);
     Ok(())

@@ -77,9 +77,9 @@ fn first_round<'p, S: Source, P: Execute<'p>, R: Threads + Wait + AllocGlobal + 
     };
     let shelf = Shelf::new(rt.alloc())?;
     let receipts = run_round(rt, rt.alloc(), session.loaders(), &shelf, orders, workers)?;
-    let told = all_shown(rt.alloc(), &shelf, receipts.as_slice())?;
+    let report = all_shown(rt.alloc(), &shelf, receipts.as_slice())?;
     run.take(session, &shelf, receipts.as_slice())?;
-    Ok(told)
+    Ok(report)
 }
 
 /// What [`first_round`] tells of a plan, over whatever sources.
@@ -95,9 +95,9 @@ fn plan_round<S: Source, R: Threads + Wait + AllocGlobal + Sync>(
     first_round(rt, session, plan, workers)
 }
 
-/// What is told of the first round of a query by two workers, by sixteen, and how many keys are known then, and how many calls were
+/// What is reported of the first round of a query by two workers, by sixteen, and how many keys are known then, and how many calls were
 /// made of the sources.
-fn round_told<R: Threads + Wait + AllocGlobal + Sync>(
+fn round_report<R: Threads + Wait + AllocGlobal + Sync>(
     rt: &R,
     manner: Manner,
     limit: Option<u32>,
@@ -113,9 +113,9 @@ fn round_told<R: Threads + Wait + AllocGlobal + Sync>(
     if session.loaders().len() < plan.loaders() {
         return Err(Fail::from("too few loaders"));
     }
-    let told = plan_round(rt, &mut session, &plan, workers)?;
+    let report = plan_round(rt, &mut session, &plan, workers)?;
     Ok(format!(in rt.alloc();
-        "{told} {} known, {} calls",
+        "{report} {} known, {} calls",
         session.memory().len(),
         board.calls()
     )?)
@@ -123,7 +123,7 @@ fn round_told<R: Threads + Wait + AllocGlobal + Sync>(
 
 #[test]
 fn receipts_show_the_replies(rt: HostRuntime) -> Result<(), Fail> {
-    let both = round_told(
+    let both = round_report(
         &rt,
         Manner::Meeting,
         None,
@@ -137,7 +137,7 @@ fn receipts_show_the_replies(rt: HostRuntime) -> Result<(), Fail> {
         "sources that meet",
     );
     let query = "{usersByIds(ids:[1,2,3]){name}}";
-    let pieces = round_told(&rt, Manner::Prompt, Some(2), query, 2)?;
+    let pieces = round_report(&rt, Manner::Prompt, Some(2), query, 2)?;
     expect(
         &rt,
         &pieces,
@@ -168,7 +168,7 @@ fn thousand(alloc: Global) -> Result<(String, String), AllocError> {
 #[test]
 fn a_thousand_batches_on_sixteen_workers(rt: HostRuntime) -> Result<(), Fail> {
     let (query, wanted) = thousand(rt.alloc())?;
-    let found = round_told(&rt, Manner::Prompt, Some(1), &query, 16)?;
+    let found = round_report(&rt, Manner::Prompt, Some(1), &query, 16)?;
     expect(&rt, &found, &wanted, "a thousand batches");
     Ok(())
 }

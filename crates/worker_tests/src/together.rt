@@ -60,8 +60,8 @@ fn answers<R: Threads + Wait + Sync>(
     Ok(answer_all_with(rt, session, plans, workers))
 }
 
-/// What is told of the answers, or of the fault.
-fn told(alloc: Global, answered: Result<Vec<Answer>, WorkFault>) -> Result<String, AllocError> {
+/// What is reported of the answers, or of the fault.
+fn report(alloc: Global, answered: Result<Vec<Answer>, WorkFault>) -> Result<String, AllocError> {
     let mut text = String::new(alloc);
     match answered {
         Ok(answers) => {
@@ -74,8 +74,8 @@ fn told(alloc: Global, answered: Result<Vec<Answer>, WorkFault>) -> Result<Strin
     Ok(text)
 }
 
-/// What is told of the answers of a new session over sources of this manner, with so many workers, and what was asked.
-fn answers_told<R: Threads + Wait + AllocGlobal + Sync>(
+/// What is reported of the answers of a new session over sources of this manner, with so many workers, and what was asked.
+fn answers_report<R: Threads + Wait + AllocGlobal + Sync>(
     rt: &R,
     queries: &[&str],
     manner: Manner,
@@ -89,14 +89,14 @@ fn answers_told<R: Threads + Wait + AllocGlobal + Sync>(
     let board = Board::new();
     let mut session = session(rt.alloc(), &board, manner, None)?;
     let answered = answers(rt, &mut session, &plans, workers)?;
-    let found = told(rt.alloc(), answered)?;
+    let found = report(rt.alloc(), answered)?;
     let batches = asked(rt.alloc(), &session, &board)?;
     Ok((found, batches))
 }
 
 #[test]
 fn queries_share_the_rounds_of_two_workers(rt: HostRuntime) -> Result<(), Fail> {
-    let (found, batches) = answers_told(&rt, &QUERIES, Manner::Prompt, 2)?;
+    let (found, batches) = answers_report(&rt, &QUERIES, Manner::Prompt, 2)?;
     expect(&rt, &found, ANSWERS, "two queries");
     expect(&rt, &batches, ASKED, "two queries");
     Ok(())
@@ -104,7 +104,7 @@ fn queries_share_the_rounds_of_two_workers(rt: HostRuntime) -> Result<(), Fail> 
 
 #[test]
 fn no_worker_answers_no_query(rt: HostRuntime) -> Result<(), Fail> {
-    let (found, batches) = answers_told(&rt, &QUERIES, Manner::Prompt, 0)?;
+    let (found, batches) = answers_report(&rt, &QUERIES, Manner::Prompt, 0)?;
     expect(&rt, &found, "bad number of workers", "no worker");
     expect(&rt, &batches, "0 calls, 0 known", "no worker");
     Ok(())
@@ -113,10 +113,10 @@ fn no_worker_answers_no_query(rt: HostRuntime) -> Result<(), Fail> {
 /// The two batches of the one round are run at the same time by two workers, and one after the other by one.
 #[test]
 fn batches_of_shared_rounds_are_run_at_the_same_time(rt: HostRuntime) -> Result<(), Fail> {
-    let (found, batches) = answers_told(&rt, &BOTH, Manner::Meeting, 2)?;
+    let (found, batches) = answers_report(&rt, &BOTH, Manner::Meeting, 2)?;
     expect(&rt, &found, BOTH_MET, "two workers");
     expect(&rt, &batches, BOTH_ASKED, "two workers");
-    let (found, batches) = answers_told(&rt, &BOTH, Manner::Meeting, 1)?;
+    let (found, batches) = answers_report(&rt, &BOTH, Manner::Meeting, 1)?;
     expect(&rt, &found, NONE_MET, "one worker");
     expect(&rt, &batches, BOTH_ASKED, "one worker");
     Ok(())

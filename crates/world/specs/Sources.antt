@@ -79,7 +79,7 @@ abbrev pub sources_for : (List ℕ → Option SheetOf) → List LoaderOf → Res
 sources_for sheets [] = Ok []
 sources_for sheets (l ∷ ls) = with_rest (source_for sheets l) (sources_for sheets ls)
 
--- the refusal that is told where sources are wanted; of memory this says nothing
+-- the refusal that is reported where sources are wanted; of memory this says nothing
 abbrev pub IsRefused : {A : Type 0} → Result A WorldFault → WorldFault → Type 0
 IsRefused want BadLimit = ⊥
 IsRefused want (Schema fault) = ⊥

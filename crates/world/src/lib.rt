@@ -15,5 +15,6 @@ mod world;
 
 pub use fault::WorldFault;
 pub use keeping::KeptDocuments;
+pub use load_queue::MAX_LIMIT;
 pub use request::RequestFault;
-pub use world::{MAX_LIMIT, World};
+pub use world::World;

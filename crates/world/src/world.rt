@@ -11,11 +11,9 @@ use crate::sources::{SourceParts, all_source_parts};
 use crate::tables::by_name;
 use csv_source::{CsvSource, Table};
 use gq_schema::{Bindings, Schema};
+use load_queue::MAX_LIMIT;
 use std::alloc::Global;
 use std::marker::Model;
-
-/// The greatest limit on the keys of one batch.
-pub const MAX_LIMIT: u32 = 65_535;
 
 /// A schema, its bindings, the batch limit, and for each loader of the bindings the table or the index
 /// that its source uses.
@@ -89,7 +87,7 @@ impl World {
         // Where they say a world, it is made.
         ensures only { (w : WorldOf) → IsWorld schema.now bindings.now (map table_of tables.items) max w → MakesWorld w result }
 
-        // Otherwise the first refusal is told.
+        // Otherwise the first refusal is reported.
         ensures fault { IfErr result (IsRefusal schema.now bindings.now (map table_of tables.items) max) }
     {
         let limit = limited(max)?;

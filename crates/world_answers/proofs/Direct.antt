@@ -14,13 +14,13 @@ use Rattle.gq_schema.specs.BindingsTree as bindings
 use Rattle.gq_check.specs.Plans.{PlanOf}
 use Rattle.gq_check.specs.Planned.{IsPlan}
 use Rattle.plan_program.specs.PlanPrograms.{plan_program}
-use Rattle.gq_resolve.specs.Answered.{answer_text}
 use Rattle.load_rounds.specs.Headline.{IsTextOf, Headline}
 use Rattle.load_rounds.specs.KeyByKey.{CompareAlike, item_over}
 use Rattle.load_rounds.specs.Sessions.{SessionOf, StateOf, state_of, session_modes}
+use Rattle.load_rounds.specs.Within.{text_within}
 use Rattle.load_rounds.proofs.KeyByKey.{text-direct}
-use Rattle.world.specs.Worlds.{WorldOf}
 use Rattle.world_answers.specs.Answers.{item_at, may_tell, AnswersAnew, IsAnsweredAnew}
+use Rattle.world_answers.specs.Services.{ServiceOf}
 use Rattle.world_answers.specs.Sessions.{loader_over, loaders_over, session_over}
 
 -- ---- the loaders of a world
@@ -44,27 +44,29 @@ module _ (limit : Option ℕ) where
   items-over (line ∷ lines) (source ∷ sources) zero key e = refl
   items-over (line ∷ lines) (source ∷ sources) (suc loader) key e = items-over lines sources loader key (cc e)
 
-  pub nothing-told : (modes : List KeyMode) (item : ℕ → KeyOf → ItemOf) → HoldsItems modes item (without_failed (look []))
-  nothing-told modes item = λ loader key outcome h. absurd (none-some outcome h)
+  pub nothing-held : (modes : List KeyMode) (item : ℕ → KeyOf → ItemOf) → HoldsItems modes item (without_failed (look []))
+  nothing-held modes item = λ loader key outcome h. absurd (none-some outcome h)
 
 -- an answer in the session of a world is the text of direct execution
-pub answer-direct : (w : WorldOf) (after : StateOf SourceOf) (plan : PlanOf) (text : List ℕ) (rounds : ℕ) → length w.sources ≡ length w.bindings.loaders → AnswersAnew w plan after text rounds → IsAnsweredAnew w plan text
-answer-direct w after plan text rounds each h =
+pub answer-direct : (s : ServiceOf) (after : StateOf SourceOf) (plan : PlanOf) (text : List ℕ) (rounds : ℕ) → length s.world.sources ≡ length s.world.bindings.loaders → AnswersAnew s plan after text rounds → IsAnsweredAnew s plan text
+answer-direct s after plan text rounds each h =
+    let w = s.world in
+    let text_of = text_within s.most in
     let old : StateOf SourceOf = state_of (session_over w) in
     let loaders : List (LoaderOf SourceOf) = loaders_over w.limit w.bindings.loaders w.sources in
-    let text-is : IsTextOf answer_text (plan_program plan) (direct (item_over item_of_key loaders)) text =
-    text-direct may_tell item_of_key (λ s keys answer is. is) (λ (s : SourceOf). s.mode) item_of_key-folded old after (plan_program plan) answer_text text rounds
-    (compare-alike w.limit w.bindings.loaders w.sources) (nothing-told w.limit (session_modes old) (item_over item_of_key loaders)) h.headline in
+    let text-is : IsTextOf text_of (plan_program plan) (direct (item_over item_of_key loaders)) text =
+    text-direct may_tell item_of_key (λ s keys answer is. is) (λ (s : SourceOf). s.mode) item_of_key-folded old after (plan_program plan) text_of text rounds
+    (compare-alike w.limit w.bindings.loaders w.sources) (nothing-held w.limit (session_modes old) (item_over item_of_key loaders)) h.headline in
     let same : item_over item_of_key loaders ≡ item_at w.sources = fun_ext (λ loader. fun_ext (λ key. items-over w.limit w.bindings.loaders w.sources loader key each)) in
     record {
-      direct = subst (λ (item : ℕ → KeyOf → ItemOf). IsTextOf answer_text (plan_program plan) (direct item) text) same text-is;
+      direct = subst (λ (item : ℕ → KeyOf → ItemOf). IsTextOf text_of (plan_program plan) (direct item) text) same text-is;
       after = after;
       rounds = rounds;
       answers = h;
     }
 
 -- an answer over what was opened as the session of a world
-pub answer-anew : (w : WorldOf) (session : SessionOf SourceOf) (after : StateOf SourceOf) (plan : PlanOf) (text : List ℕ) (rounds : ℕ) → session ≡ session_over w → IsPlan plan
-    → Headline may_tell (state_of session) after (plan_program plan) answer_text text rounds → AnswersAnew w plan after text rounds
-answer-anew w session after plan text rounds is valid h =
-    record { valid = valid; headline = subst (λ z. Headline may_tell (state_of z) after (plan_program plan) answer_text text rounds) is h }
+pub answer-anew : (s : ServiceOf) (session : SessionOf SourceOf) (after : StateOf SourceOf) (plan : PlanOf) (text : List ℕ) (rounds : ℕ) → session ≡ session_over s.world → IsPlan plan
+    → Headline may_tell (state_of session) after (plan_program plan) (text_within s.most) text rounds → AnswersAnew s plan after text rounds
+answer-anew s session after plan text rounds is valid h =
+    record { valid = valid; headline = subst (λ z. Headline may_tell (state_of z) after (plan_program plan) (text_within s.most) text rounds) is h }

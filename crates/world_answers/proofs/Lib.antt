@@ -1,5 +1,6 @@
 pub mod Values
 pub mod Direct
+pub mod Limits
 pub mod Loading
 pub mod OneFault
 pub mod OneAnswer

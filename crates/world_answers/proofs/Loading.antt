@@ -4,11 +4,14 @@ use Rattle.std.proofs.lemmas.List.{length-map, get_or-map, take_all}
 use Rattle.std.proofs.lemmas.List.Elements.{All-nil, All-cons, All-weaker}
 use Rattle.csv_source.specs.Tables.{SourceOf}
 use Rattle.gq_schema.specs.BindingsTree as bindings
-use Rattle.gq_check.specs.Plans.{PlanParts, plan_of}
+use Rattle.gq_check.specs.Plans.{PlanOf, plan_of}
 use Rattle.load_queue.specs.Loaders.{LoaderOf}
 use Rattle.load_rounds.specs.Sessions.{SessionOf}
+use Rattle.load_rounds.specs.declared.limited.Limited.{Limited}
 use Rattle.world.specs.Worlds.{WorldOf}
+use Rattle.world_answers.specs.Planning.{AreLimited}
 use Rattle.world_answers.specs.Sessions.{loader_over, loaders_over, session_over}
+use Rattle.world_answers.proofs.Limits.{all-limited}
 
 module _ (limit : Option ℕ) where
   pub take-over : (lines : List bindings.LoaderOf) (sources : List SourceOf) (n : ℕ) (d : bindings.LoaderOf) (e : SourceOf) → length sources ≡ length lines → n < length lines
@@ -55,7 +58,8 @@ enough w session b same each is =
     let own : length b.loaders ≡ length w.bindings.loaders = ap (λ (x : bindings.BindingsOf). length x.loaders) same in
     omega (arith, most, own)
 
-pub enough-each : (w : WorldOf) (session : SessionOf SourceOf) (plans : List PlanParts) → All (λ (p : PlanParts). (plan_of p).bindings ≡ w.bindings) plans → length w.sources ≡ length w.bindings.loaders → session ≡ session_over w
-    → All (λ (p : PlanParts). length (plan_of p).bindings.loaders ≤ length session.loaders) plans
-enough-each w session plans same each is =
-    All-weaker (λ (p : PlanParts). (plan_of p).bindings ≡ w.bindings) (λ (p : PlanParts). length (plan_of p).bindings.loaders ≤ length session.loaders) (λ p e. enough w session (plan_of p).bindings e each is) plans same
+pub enough-each : (w : WorldOf) (session : SessionOf SourceOf) (most : Option ℕ) (plans : List PlanOf) (limited : List Limited) → All (λ (p : PlanOf). p.bindings ≡ w.bindings) plans → AreLimited most plans limited → length w.sources ≡ length w.bindings.loaders → session ≡ session_over w
+    → All (λ (l : Limited). length (plan_of l.plan.now).bindings.loaders ≤ length session.loaders) limited
+enough-each w session most plans limited same are each is =
+    all-limited most (λ (p : PlanOf). length p.bindings.loaders ≤ length session.loaders) plans limited are
+    (All-weaker (λ (p : PlanOf). p.bindings ≡ w.bindings) (λ (p : PlanOf). length p.bindings.loaders ≤ length session.loaders) (λ p e. enough w session p.bindings e each is) plans same)

@@ -25,7 +25,7 @@ use Rattle.gq_check.specs.Texts.{section_of, title_of, check_message, check_plac
 use Rattle.gq_check.specs.Verdict.{FaultOf, Breaks, TooComplex, TooDeep, NotServed, IsVerdict, IsCheckFault, fault_of}
 use Rattle.execution.specs.Completion.{AnsweredOf}
 use Rattle.request_line.specs.Requests.{RequestOf, IsRequest, AreRequests, asked, asked_each}
-use Rattle.gq_resolve.specs.Answered.{answer_text}
+use Rattle.load_rounds.specs.Within.{text_within}
 use Rattle.world.specs.declared.request.RequestFault.{RequestFault}
 use Rattle.world.specs.declared.request.RequestFault.TheVariants as fault
 use Rattle.world.specs.Requests.{parse_message, request_message, request_place, is_want_of_memory}
@@ -33,6 +33,7 @@ use Rattle.world.specs.Worlds.{WorldOf}
 use Rattle.world_answers.specs.Answers.{values_of, IsPlanned, IsFaulty, IsRefusal, IsDirectText, refusal_text, AnswersRequest, faulty, planned}
 use Rattle.world_answers.specs.Arrays.{IsRefused, HasPlan, PlaceOf, refused, answered, IsInPlace, text_in, array_text, AnswersArray}
 use Rattle.world_answers.specs.Lines.{IsAnswer, no_request, request, several}
+use Rattle.world_answers.specs.Services.{ServiceOf}
 use Rattle.world_answers.proofs.OneFault.{one_fault, document_or_fault, one_document}
 
 same_value : {X : Type 0} (x y : X) → Some x ≡ Some y → x ≡ y
@@ -80,7 +81,7 @@ check-place (check.TooDeep p) = refl
 check-place (check.NotServed name p) = refl
 check-place check.NoMemory = refl
 
--- the verdict that is told
+-- the verdict that is reported
 check-verdict : (defs : List Definition) (d : Document) (e : CheckFault) → is_want_of_memory (fault.Check e) ≡ false → IsCheckFault (IsVerdict defs d) e → (v : FaultOf) × (fault_of e ≡ Some v) × IsVerdict defs d (Some v)
 check-verdict defs d (check.Rule r name p) some h = (Breaks r (string_bytes name) p, refl, h)
 check-verdict defs d check.TooComplex some h = (TooComplex, refl, h)
@@ -94,13 +95,13 @@ prepared_message prepared.operation_needed = codes "operation name needed"
 prepared_message prepared.variables_not_object = codes "variables must be an object"
 prepared_message (prepared.bad_variable name) = codes "bad value for variable $" ++ name
 
--- what is told where a plan is wanted
-prepare-told : (want : Wanted) (e : PrepareFault) → is_want_of_memory (fault.Prepare e) ≡ false → prepared.IsPrepareFault want e → (f : prepared.FaultOf) × (want ≡ Err f) × (prepare_message e ≡ prepared_message f)
-prepare-told want (prepare.NoSuchOperation name) some h = (prepared.no_such_operation (string_bytes name), h, refl)
-prepare-told want prepare.OperationNeeded some h = (prepared.operation_needed, h, refl)
-prepare-told want prepare.VariablesNotObject some h = (prepared.variables_not_object, h, refl)
-prepare-told want (prepare.BadVariable name) some h = (prepared.bad_variable (string_bytes name), h, refl)
-prepare-told want prepare.NoMemory some h = absurd (cc some)
+-- what is reported where a plan is wanted
+prepare-report : (want : Wanted) (e : PrepareFault) → is_want_of_memory (fault.Prepare e) ≡ false → prepared.IsPrepareFault want e → (f : prepared.FaultOf) × (want ≡ Err f) × (prepare_message e ≡ prepared_message f)
+prepare-report want (prepare.NoSuchOperation name) some h = (prepared.no_such_operation (string_bytes name), h, refl)
+prepare-report want prepare.OperationNeeded some h = (prepared.operation_needed, h, refl)
+prepare-report want prepare.VariablesNotObject some h = (prepared.variables_not_object, h, refl)
+prepare-report want (prepare.BadVariable name) some h = (prepared.bad_variable (string_bytes name), h, refl)
+prepare-report want prepare.NoMemory some h = absurd (cc some)
 
 parse-some : (e : ParseFault) → is_want_of_memory (fault.Parse e) ≡ false → e ≢ parse.NoMemory
 parse-some (parse.Lex f) some h = cc h
@@ -111,7 +112,7 @@ parse-some parse.NoMemory some h = absurd (cc some)
 
 -- ---- one fault
 
--- two faults are told alike
+-- two faults are reported alike
 pub record Alike (f g : RequestFault) : Type 0 where
   pub message : request_message f ≡ request_message g
   pub place : request_place f ≡ request_place g
@@ -129,8 +130,8 @@ module _ (verdict : OneVerdict) (w : WorldOf) (r : RequestOf) where
 
   -- a query that is a document has no fault of another document's verdict
   valid-or-check : (d e : Document) (f : CheckFault) → IsDocumentOf r.query d → IsDocumentOf r.query e → IsVerdict defs d None → is_want_of_memory (fault.Check f) ≡ false → IsCheckFault (IsVerdict defs e) f → ⊥
-  valid-or-check d e f h k valid some told =
-      let v = check-verdict defs e f some told in
+  valid-or-check d e f h k valid some report =
+      let v = check-verdict defs e f some report in
       let first : IsVerdict defs d (Some v.0) = subst (λ z. IsVerdict defs z (Some v.0)) (one_document r.query e d k h) v.2 in
       none-some v.0 (verdict defs d None (Some v.0) valid first)
     where
@@ -139,36 +140,36 @@ module _ (verdict : OneVerdict) (w : WorldOf) (r : RequestOf) where
 
   faults-alike : (f g : RequestFault) → IsFaulty w r f → IsFaulty w r g → Alike f g
   faults-alike (fault.Parse e) (fault.Parse d) h k =
-      let same : e ≡ d = one_fault r.query e d (parse-some e h.told) (parse-some d k.told) h.faulty k.faulty in
+      let same : e ≡ d = one_fault r.query e d (parse-some e h.reported) (parse-some d k.reported) h.faulty k.faulty in
       record { message = ap parse_message same; place = ap place_of_parse_fault same }
-  faults-alike (fault.Parse e) (fault.Check d) h k = absurd (document_or_fault r.query k.faulty.document e (parse-some e h.told) k.faulty.says h.faulty)
-  faults-alike (fault.Parse e) (fault.Prepare d) h k = absurd (document_or_fault r.query k.faulty.document e (parse-some e h.told) k.faulty.says h.faulty)
-  faults-alike (fault.Check e) (fault.Parse d) h k = absurd (document_or_fault r.query h.faulty.document d (parse-some d k.told) h.faulty.says k.faulty)
+  faults-alike (fault.Parse e) (fault.Check d) h k = absurd (document_or_fault r.query k.faulty.document e (parse-some e h.reported) k.faulty.says h.faulty)
+  faults-alike (fault.Parse e) (fault.Prepare d) h k = absurd (document_or_fault r.query k.faulty.document e (parse-some e h.reported) k.faulty.says h.faulty)
+  faults-alike (fault.Check e) (fault.Parse d) h k = absurd (document_or_fault r.query h.faulty.document d (parse-some d k.reported) h.faulty.says k.faulty)
   faults-alike (fault.Check e) (fault.Check d) h k =
-      let v = check-verdict defs h.faulty.document e h.told h.faulty.fault in
-      let u = check-verdict defs k.faulty.document d k.told k.faulty.fault in
+      let v = check-verdict defs h.faulty.document e h.reported h.faulty.fault in
+      let u = check-verdict defs k.faulty.document d k.reported k.faulty.fault in
       let other : IsVerdict defs h.faulty.document (Some u.0) = subst (λ z. IsVerdict defs z (Some u.0)) (one_document r.query k.faulty.document h.faulty.document k.faulty.says h.faulty.says) u.2 in
       let same : fault_of e ≡ fault_of d = v.1 ∙ verdict defs h.faulty.document (Some v.0) (Some u.0) v.2 other ∙ sym u.1 in
       record {
         message = check-message e ∙ ap verdict_message same ∙ sym (check-message d);
         place = check-place e ∙ ap verdict_place same ∙ sym (check-place d);
       }
-  faults-alike (fault.Check e) (fault.Prepare d) h k = absurd (valid-or-check k.faulty.document h.faulty.document e k.faulty.says h.faulty.says k.faulty.valid h.told h.faulty.fault)
-  faults-alike (fault.Prepare e) (fault.Parse d) h k = absurd (document_or_fault r.query h.faulty.document d (parse-some d k.told) h.faulty.says k.faulty)
-  faults-alike (fault.Prepare e) (fault.Check d) h k = absurd (valid-or-check h.faulty.document k.faulty.document d h.faulty.says k.faulty.says h.faulty.valid k.told k.faulty.fault)
+  faults-alike (fault.Check e) (fault.Prepare d) h k = absurd (valid-or-check k.faulty.document h.faulty.document e k.faulty.says h.faulty.says k.faulty.valid h.reported h.faulty.fault)
+  faults-alike (fault.Prepare e) (fault.Parse d) h k = absurd (document_or_fault r.query h.faulty.document d (parse-some d k.reported) h.faulty.says k.faulty)
+  faults-alike (fault.Prepare e) (fault.Check d) h k = absurd (valid-or-check h.faulty.document k.faulty.document d h.faulty.says k.faulty.says h.faulty.valid k.reported k.faulty.fault)
   faults-alike (fault.Prepare e) (fault.Prepare d) h k =
-      let v = prepare-told (wanted h.faulty.document) e h.told h.faulty.fault in
-      let u = prepare-told (wanted k.faulty.document) d k.told k.faulty.fault in
+      let v = prepare-report (wanted h.faulty.document) e h.reported h.faulty.fault in
+      let u = prepare-report (wanted k.faulty.document) d k.reported k.faulty.fault in
       let other : wanted h.faulty.document ≡ Err u.0 = ap wanted (one_document r.query h.faulty.document k.faulty.document h.faulty.says k.faulty.says) ∙ u.1 in
       record { message = v.2 ∙ ap prepared_message (same_err v.0 u.0 (sym v.1 ∙ other)) ∙ sym u.2; place = refl }
 
   -- ---- one plan
 
   faulty-or-planned : (f : RequestFault) (plan : PlanOf) → IsFaulty w r f → IsPlanned w r plan → ⊥
-  faulty-or-planned (fault.Parse e) plan h k = document_or_fault r.query k.planned.document e (parse-some e h.told) k.planned.says h.faulty
-  faulty-or-planned (fault.Check e) plan h k = valid-or-check k.planned.document h.faulty.document e k.planned.says h.faulty.says k.planned.valid h.told h.faulty.fault
+  faulty-or-planned (fault.Parse e) plan h k = document_or_fault r.query k.planned.document e (parse-some e h.reported) k.planned.says h.faulty
+  faulty-or-planned (fault.Check e) plan h k = valid-or-check k.planned.document h.faulty.document e k.planned.says h.faulty.says k.planned.valid h.reported h.faulty.fault
   faulty-or-planned (fault.Prepare e) plan h k =
-      let v = prepare-told (wanted h.faulty.document) e h.told h.faulty.fault in
+      let v = prepare-report (wanted h.faulty.document) e h.reported h.faulty.fault in
       ok_or_err (record { operation = plan.operation; variables = plan.variables }) v.0 (sym k.planned.prepared ∙ ap wanted (one_document r.query k.planned.document h.faulty.document k.planned.says h.faulty.says) ∙ v.1)
 
   one-plan : (p q : PlanOf) → IsPlanned w r p → IsPlanned w r q → p ≡ q
@@ -185,26 +186,30 @@ module _ (verdict : OneVerdict) (w : WorldOf) (r : RequestOf) where
 
   -- ---- one text
 
-  executed-one : (p : PlanOf) (text other : List ℕ) → IsDirectText w p text → IsDirectText w p other → text ≡ other
-  executed-one p text other h k = h.told ∙ ap answer_text (same_value h.answered k.answered (sym h.executed ∙ k.executed)) ∙ sym k.told
-
   refusals-one : (text other : List ℕ) → IsRefusal w r text → IsRefusal w r other → text ≡ other
   refusals-one text other h k =
       let same = faults-alike h.fault k.fault h.faulty k.faulty in
-      h.told ∙ ap (λ m. refusal_text m (request_place h.fault)) same.message ∙ ap (refusal_text (request_message k.fault)) same.place ∙ sym k.told
+      h.report ∙ ap (λ m. refusal_text m (request_place h.fault)) same.message ∙ ap (refusal_text (request_message k.fault)) same.place ∙ sym k.report
 
-  planned-one : (p q : PlanOf) (text other : List ℕ) → IsPlanned w r p → IsPlanned w r q → IsDirectText w p text → IsDirectText w q other → text ≡ other
-  planned-one p q text other h k e d = executed-one p text other e (subst (λ z. IsDirectText w z other) (one-plan q p k h) d)
+module _ (verdict : OneVerdict) (s : ServiceOf) (r : RequestOf) where
+  executed-one : (p : PlanOf) (text other : List ℕ) → IsDirectText s p text → IsDirectText s p other → text ≡ other
+  executed-one p text other h k = h.report ∙ ap (text_within s.most) (same_value h.answered k.answered (sym h.executed ∙ k.executed)) ∙ sym k.report
 
-  answers-one : (text other : List ℕ) → AnswersRequest w r text → AnswersRequest w r other → text ≡ other
-  answers-one text other (faulty {fault = f} h e) (faulty {fault = g} k d) = refusals-one text other (record { fault = f; faulty = h; told = e }) (record { fault = g; faulty = k; told = d })
-  answers-one text other (faulty {fault = f} h e) (planned {plan = q} k d) = absurd (faulty-or-planned f q h k)
-  answers-one text other (planned {plan = p} h e) (faulty {fault = g} k d) = absurd (faulty-or-planned g p k h)
+  planned-one : (p q : PlanOf) (text other : List ℕ) → IsPlanned s.world r p → IsPlanned s.world r q → IsDirectText s p text → IsDirectText s q other → text ≡ other
+  planned-one p q text other h k e d = executed-one p text other e (subst (λ z. IsDirectText s z other) (one-plan verdict s.world r q p k h) d)
+
+  answers-one : (text other : List ℕ) → AnswersRequest s r text → AnswersRequest s r other → text ≡ other
+  answers-one text other (faulty {fault = f} h e) (faulty {fault = g} k d) = refusals-one verdict s.world r text other (record { fault = f; faulty = h; report = e }) (record { fault = g; faulty = k; report = d })
+  answers-one text other (faulty {fault = f} h e) (planned {plan = q} k d) = absurd (faulty-or-planned verdict s.world r f q h k)
+  answers-one text other (planned {plan = p} h e) (faulty {fault = g} k d) = absurd (faulty-or-planned verdict s.world r g p k h)
   answers-one text other (planned {plan = p} h e) (planned {plan = q} k d) = planned-one p q text other h k e.direct d.direct
 
 -- ---- the values of an array
 
-module _ (verdict : OneVerdict) (w : WorldOf) where
+module _ (verdict : OneVerdict) (s : ServiceOf) where
+  abbrev w : WorldOf
+  w = s.world
+
   refused-one : (value : Option RequestOf) (text other : List ℕ) → IsRefused w value text → IsRefused w value other → text ≡ other
   refused-one None text other h k = h ∙ sym k
   refused-one (Some r) text other h k = refusals-one verdict w r text other h k
@@ -213,17 +218,17 @@ module _ (verdict : OneVerdict) (w : WorldOf) where
   refused-or-planned None text p h k = absurd k
   refused-or-planned (Some r) text p h k = faulty-or-planned verdict w r h.fault p h.faulty k
 
-  plans-one : (value : Option RequestOf) (p q : PlanOf) (text other : List ℕ) → HasPlan w value p → HasPlan w value q → IsDirectText w p text → IsDirectText w q other → text ≡ other
+  plans-one : (value : Option RequestOf) (p q : PlanOf) (text other : List ℕ) → HasPlan w value p → HasPlan w value q → IsDirectText s p text → IsDirectText s q other → text ≡ other
   plans-one None p q text other h k e d = absurd h
-  plans-one (Some r) p q text other h k e d = planned-one verdict w r p q text other h k e d
+  plans-one (Some r) p q text other h k e d = planned-one verdict s r p q text other h k e d
 
-  place-one : (value : Option RequestOf) (a b : PlaceOf) → IsInPlace w value a → IsInPlace w value b → text_in a ≡ text_in b
+  place-one : (value : Option RequestOf) (a b : PlaceOf) → IsInPlace s value a → IsInPlace s value b → text_in a ≡ text_in b
   place-one value (refused text) (refused other) h k = refused-one value text other h k
   place-one value (refused text) (answered q u) h k = absurd (refused-or-planned value text q h k.0)
   place-one value (answered p t) (refused other) h k = absurd (refused-or-planned value other p k h.0)
   place-one value (answered p t) (answered q u) h k = plans-one value p q t.text u.text h.0 k.0 h.1 k.1
 
-  places-one : (values : List (Option RequestOf)) (as' bs : List PlaceOf) → AllZip (IsInPlace w) values as' → AllZip (IsInPlace w) values bs → map text_in as' ≡ map text_in bs
+  places-one : (values : List (Option RequestOf)) (as' bs : List PlaceOf) → AllZip (IsInPlace s) values as' → AllZip (IsInPlace s) values bs → map text_in as' ≡ map text_in bs
   places-one [] [] [] h k = refl
   places-one [] [] (b ∷ bs) h k = absurd k
   places-one [] (a ∷ as') bs h k = absurd h
@@ -231,8 +236,8 @@ module _ (verdict : OneVerdict) (w : WorldOf) where
   places-one (v ∷ vs) (a ∷ as') [] h k = absurd k
   places-one (v ∷ vs) (a ∷ as') (b ∷ bs) h k = ap (λ text. text ∷ map text_in as') (place-one v a b h.0 k.0) ∙ ap (λ texts. text_in b ∷ texts) (places-one vs as' bs h.1 k.1)
 
-  arrays-one : (values : List (Option RequestOf)) (text other : List ℕ) → AnswersArray w values text → AnswersArray w values other → text ≡ other
-  arrays-one values text other h k = h.told ∙ ap array_text (places-one values h.places k.places h.each k.each) ∙ sym k.told
+  arrays-one : (values : List (Option RequestOf)) (text other : List ℕ) → AnswersArray s values text → AnswersArray s values other → text ≡ other
+  arrays-one values text other h k = h.report ∙ ap array_text (places-one values h.places k.places h.each k.each) ∙ sym k.report
 
 -- ---- a line
 
@@ -258,13 +263,13 @@ request-or-array (Some (object ms)) r vs e d = none_some vs d
 not-both : (line : List ℕ) (r : RequestOf) (vs : List (Option RequestOf)) → IsRequest line r → AreRequests line vs → ⊥
 not-both line r vs h k = request-or-array (read line) r vs h.members k.values
 
-pub one_answer : OneVerdict → (w : WorldOf) (line text other : List ℕ) → IsAnswer w line text → IsAnswer w line other → text ≡ other
-one_answer verdict w line text other (no_request h e) (no_request k d) = e ∙ sym d
-one_answer verdict w line text other (no_request h e) (request {r = q} k d) = absurd (h.not_one q k)
-one_answer verdict w line text other (no_request h e) (several {values = us} k d) = absurd (h.not_several us k)
-one_answer verdict w line text other (request {r = p} h e) (no_request k d) = absurd (k.not_one p h)
-one_answer verdict w line text other (request {r = p} h e) (request {r = q} k d) = answers-one verdict w p text other e (subst (λ z. AnswersRequest w z other) (one-request line q p k h) d)
-one_answer verdict w line text other (request {r = p} h e) (several {values = us} k d) = absurd (not-both line p us h k)
-one_answer verdict w line text other (several {values = vs} h e) (no_request k d) = absurd (k.not_several vs h)
-one_answer verdict w line text other (several {values = vs} h e) (request {r = q} k d) = absurd (not-both line q vs k h)
-one_answer verdict w line text other (several {values = vs} h e) (several {values = us} k d) = arrays-one verdict w vs text other e (subst (λ z. AnswersArray w z other) (one-array line us vs k h) d)
+pub one_answer : OneVerdict → (s : ServiceOf) (line text other : List ℕ) → IsAnswer s line text → IsAnswer s line other → text ≡ other
+one_answer verdict s line text other (no_request h e) (no_request k d) = e ∙ sym d
+one_answer verdict s line text other (no_request h e) (request {r = q} k d) = absurd (h.not_one q k)
+one_answer verdict s line text other (no_request h e) (several {values = us} k d) = absurd (h.not_several us k)
+one_answer verdict s line text other (request {r = p} h e) (no_request k d) = absurd (k.not_one p h)
+one_answer verdict s line text other (request {r = p} h e) (request {r = q} k d) = answers-one verdict s p text other e (subst (λ z. AnswersRequest s z other) (one-request line q p k h) d)
+one_answer verdict s line text other (request {r = p} h e) (several {values = us} k d) = absurd (not-both line p us h k)
+one_answer verdict s line text other (several {values = vs} h e) (no_request k d) = absurd (k.not_several vs h)
+one_answer verdict s line text other (several {values = vs} h e) (request {r = q} k d) = absurd (not-both line q vs k h)
+one_answer verdict s line text other (several {values = vs} h e) (several {values = us} k d) = arrays-one verdict s vs text other e (subst (λ z. AnswersArray s z other) (one-array line us vs k h) d)

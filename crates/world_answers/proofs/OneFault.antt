@@ -190,51 +190,51 @@ abbrev unexpected_at : List ℕ → Option Place → ParseFault
 unexpected_at text (Some p) = fault.Unexpected p
 unexpected_at text None = fault.UnexpectedEnd (place_of text (length text))
 
-pub data Told (text : List ℕ) (f : ParseFault) : Type 0 where
-  of_lex : (l : LexFault) → Lexed text l → f ≡ fault.Lex l → Told text f
-  of_place : (place : Option Place) → OfTokens text (λ tokens. IsUnexpectedAt tokens place) → f ≡ unexpected_at text place → Told text f
-  of_depth : (p : Place) → OfTokens text (λ tokens. IsTooDeepAt tokens p) → f ≡ fault.TooDeep p → Told text f
+pub data FaultCase (text : List ℕ) (f : ParseFault) : Type 0 where
+  of_lex : (l : LexFault) → Lexed text l → f ≡ fault.Lex l → FaultCase text f
+  of_place : (place : Option Place) → OfTokens text (λ tokens. IsUnexpectedAt tokens place) → f ≡ unexpected_at text place → FaultCase text f
+  of_depth : (p : Place) → OfTokens text (λ tokens. IsTooDeepAt tokens p) → f ≡ fault.TooDeep p → FaultCase text f
 
-told : (text : List ℕ) (f : ParseFault) → f ≢ fault.NoMemory → IsParseFault text f → Told text f
-told text (fault.Lex l) some h = of_lex l (lexed text l h) refl
-told text (fault.Unexpected p) some h = of_place (Some p) h refl
-told text (fault.UnexpectedEnd p) some h = of_place None h.0 (ap fault.UnexpectedEnd h.1)
-told text (fault.TooDeep p) some h = of_depth p h refl
-told text fault.NoMemory some h = absurd (some refl)
+fault_case : (text : List ℕ) (f : ParseFault) → f ≢ fault.NoMemory → IsParseFault text f → FaultCase text f
+fault_case text (fault.Lex l) some h = of_lex l (lexed text l h) refl
+fault_case text (fault.Unexpected p) some h = of_place (Some p) h refl
+fault_case text (fault.UnexpectedEnd p) some h = of_place None h.0 (ap fault.UnexpectedEnd h.1)
+fault_case text (fault.TooDeep p) some h = of_depth p h refl
+fault_case text fault.NoMemory some h = absurd (some refl)
 
 -- the same tokens, and so what holds of them
 on_same : (text : List ℕ) (P : List Token → Type 0) (ts us : List lexer.Token) → AreTokens text ts → AreTokens text us → P (tokens_of text us) → P (tokens_of text ts)
 on_same text P ts us h k holds = subst (λ l. P (tokens_of text l)) (same_tokens text us ts k h) holds
 
-told_one : (text : List ℕ) (f g : ParseFault) → Told text f → Told text g → f ≡ g
-told_one text f g (of_lex l h e) (of_lex m k d) = e ∙ ap fault.Lex (lexed_one text l m h k) ∙ sym d
-told_one text f g (of_lex l h e) (of_place q k d) = absurd (lexed_or_tokens text l k.tokens h k.short k.reads)
-told_one text f g (of_lex l h e) (of_depth q k d) = absurd (lexed_or_tokens text l k.tokens h k.short k.reads)
-told_one text f g (of_place p h e) (of_lex m k d) = absurd (lexed_or_tokens text m h.tokens k h.short h.reads)
-told_one text f g (of_place p h e) (of_place q k d) =
+one_fault_case : (text : List ℕ) (f g : ParseFault) → FaultCase text f → FaultCase text g → f ≡ g
+one_fault_case text f g (of_lex l h e) (of_lex m k d) = e ∙ ap fault.Lex (lexed_one text l m h k) ∙ sym d
+one_fault_case text f g (of_lex l h e) (of_place q k d) = absurd (lexed_or_tokens text l k.tokens h k.short k.reads)
+one_fault_case text f g (of_lex l h e) (of_depth q k d) = absurd (lexed_or_tokens text l k.tokens h k.short k.reads)
+one_fault_case text f g (of_place p h e) (of_lex m k d) = absurd (lexed_or_tokens text m h.tokens k h.short h.reads)
+one_fault_case text f g (of_place p h e) (of_place q k d) =
     e ∙ ap (unexpected_at text) (unexpected_one (tokens_of text h.tokens) p q (spelled_tokens text h.tokens) h.holds (on_same text (λ l. IsUnexpectedAt l q) h.tokens k.tokens h.reads k.reads k.holds)) ∙ sym d
-told_one text f g (of_place p h e) (of_depth q k d) =
+one_fault_case text f g (of_place p h e) (of_depth q k d) =
     absurd (unexpected_or_deep (tokens_of text h.tokens) p q (spelled_tokens text h.tokens) h.holds (on_same text (λ l. IsTooDeepAt l q) h.tokens k.tokens h.reads k.reads k.holds))
-told_one text f g (of_depth p h e) (of_lex m k d) = absurd (lexed_or_tokens text m h.tokens k h.short h.reads)
-told_one text f g (of_depth p h e) (of_place q k d) =
+one_fault_case text f g (of_depth p h e) (of_lex m k d) = absurd (lexed_or_tokens text m h.tokens k h.short h.reads)
+one_fault_case text f g (of_depth p h e) (of_place q k d) =
     absurd (unexpected_or_deep (tokens_of text k.tokens) q p (spelled_tokens text k.tokens) k.holds (on_same text (λ l. IsTooDeepAt l p) k.tokens h.tokens k.reads h.reads h.holds))
-told_one text f g (of_depth p h e) (of_depth q k d) =
+one_fault_case text f g (of_depth p h e) (of_depth q k d) =
     e ∙ ap fault.TooDeep (deep_one (tokens_of text h.tokens) p q h.holds (on_same text (λ l. IsTooDeepAt l q) h.tokens k.tokens h.reads k.reads k.holds)) ∙ sym d
 
-document_or_told : (text : List ℕ) (d : Document) (f : ParseFault) → IsDocumentOf text d → Told text f → ⊥
-document_or_told text d f h (of_lex l k e) = lexed_or_tokens text l h.tokens k h.short h.reads
-document_or_told text d f h (of_place p k e) =
+document_or_fault_case : (text : List ℕ) (d : Document) (f : ParseFault) → IsDocumentOf text d → FaultCase text f → ⊥
+document_or_fault_case text d f h (of_lex l k e) = lexed_or_tokens text l h.tokens k h.short h.reads
+document_or_fault_case text d f h (of_place p k e) =
     document_or_unexpected (tokens_of text h.tokens) d p (spelled_tokens text h.tokens) h.is (on_same text (λ l. IsUnexpectedAt l p) h.tokens k.tokens h.reads k.reads k.holds)
-document_or_told text d f h (of_depth p k e) =
+document_or_fault_case text d f h (of_depth p k e) =
     shallow_or_deep (tokens_of text h.tokens) p h.shallow (on_same text (λ l. IsTooDeepAt l p) h.tokens k.tokens h.reads k.reads k.holds)
 
 -- ---- one document or one fault
 
 pub one_fault : (text : List ℕ) (f g : ParseFault) → f ≢ fault.NoMemory → g ≢ fault.NoMemory → IsParseFault text f → IsParseFault text g → f ≡ g
-one_fault text f g some some' h k = told_one text f g (told text f some h) (told text g some' k)
+one_fault text f g some some' h k = one_fault_case text f g (fault_case text f some h) (fault_case text g some' k)
 
 pub document_or_fault : (text : List ℕ) (d : Document) (f : ParseFault) → f ≢ fault.NoMemory → IsDocumentOf text d → IsParseFault text f → ⊥
-document_or_fault text d f some h k = document_or_told text d f h (told text f some k)
+document_or_fault text d f some h k = document_or_fault_case text d f h (fault_case text f some k)
 
 pub one_document : (text : List ℕ) (d e : Document) → IsDocumentOf text d → IsDocumentOf text e → d ≡ e
 one_document text d e h k = document_one h.is (on_same text (IsDocument e) h.tokens k.tokens h.reads k.reads k.is)

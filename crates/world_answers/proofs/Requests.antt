@@ -33,13 +33,13 @@ is-planned w r plan given v d b is =
 
 pub is-refusal : (w : WorldOf) (r : RequestOf) (fault : RequestFault) (given : Data) (text : List ℕ) → given ≡ values_of r.variables → IsRequestFault (tree_of w.definitions) r.query r.operation_name given fault
     → is_want_of_memory fault ≡ false → text ≡ refusal_text (request_message fault) (request_place fault) → IsRefusal w r text
-is-refusal w r fault given text v is some told = record {
+is-refusal w r fault given text v is some report = record {
   fault = fault;
-  faulty = record { told = some; faulty = subst (λ z. IsRequestFault (tree_of w.definitions) r.query r.operation_name z fault) v is };
-  told = told;
+  faulty = record { reported = some; faulty = subst (λ z. IsRequestFault (tree_of w.definitions) r.query r.operation_name z fault) v is };
+  report = report;
 }
 
 -- what a line that is this request asks
 pub line-planned : (w : WorldOf) (bytes : List ℕ) (r : RequestOf) (p : RequestPlan) → IsRequest bytes r → PlansRequest w r p → PlansOne w bytes p
-line-planned w bytes r (plan.Refused text) is h = request is (faulty h.faulty h.told)
+line-planned w bytes r (plan.Refused text) is h = λ most. request is (faulty h.faulty h.report)
 line-planned w bytes r (plan.Planned p) is h = (r, is, h)

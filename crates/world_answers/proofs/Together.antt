@@ -24,18 +24,22 @@ use Rattle.execution.specs.Front.{front}
 use Rattle.execution.specs.Rounds.{RuleOf, rule_of, modes_of, may_at, key_by_key, round_orders, IsReply, AreReplies, reply_pairs, pairs_of, after_round, AreRounds, without_failed, direct, RespectsCacheKeys, HoldsItems}
 use Rattle.execution.proofs.Monotone.{exec-stays}
 use Rattle.execution.proofs.OneLog.{at-pair}
-use Rattle.gq_check.specs.Plans.{PlanParts, PlanOf, plan_of}
+use Rattle.gq_check.specs.Plans.{PlanOf, plan_of}
 use Rattle.plan_program.specs.PlanPrograms.{plan_program}
-use Rattle.gq_resolve.specs.Answered.{answer_text}
 use Rattle.load_rounds.specs.Headline.{IsTextOf}
 use Rattle.load_rounds.specs.KeyByKey.{CompareAlike, item_of_loader, item_over}
 use Rattle.load_rounds.specs.Sessions.{SessionOf, StateOf, state_of, rules_of, session_modes}
-use Rattle.load_rounds.specs.SharedRounds.{ToldOf, request_of, requests, together, AreShared, SharedHeadline}
+use Rattle.load_rounds.specs.SharedRounds.{ReportOf, requests, together, AreShared, SharedHeadline}
+use Rattle.load_rounds.specs.Within.{text_within}
+use Rattle.load_rounds.specs.declared.limited.Limited.{Limited}
 use Rattle.world.specs.Worlds.{WorldOf}
 use Rattle.world_answers.specs.Answers.{item_at, may_tell, IsDirectText}
 use Rattle.world_answers.specs.Arrays.{AnswersTogether}
+use Rattle.world_answers.specs.Planning.{AreLimited}
+use Rattle.world_answers.specs.Services.{ServiceOf}
 use Rattle.world_answers.specs.Sessions.{loaders_over, session_over}
-use Rattle.world_answers.proofs.Direct.{compare-alike, items-over, nothing-told}
+use Rattle.world_answers.proofs.Direct.{compare-alike, items-over, nothing-held}
+use Rattle.world_answers.proofs.Limits.{limited-asks}
 
 none-some : {X : Type 0} (x : X) → None ≡ Some x → ⊥
 none-some x e = cc e
@@ -47,24 +51,24 @@ some-same x y e = cc e
 
 module _ (item : ℕ → KeyOf → ItemOf) where
   -- the outcomes of keys
-  abbrev told : ℕ → List KeyOf → List OutcomeOf
-  told loader keys = map known (map (item loader) keys)
+  abbrev known_items : ℕ → List KeyOf → List OutcomeOf
+  known_items loader keys = map known (map (item loader) keys)
 
-  outcomes-told : (loader : ℕ) (keys : List KeyOf) (a : AnswerOf) → a ≡ given (map (item loader) keys) → outcomes_of (length keys) a ≡ told loader keys
-  outcomes-told loader keys a e =
+  outcomes-known : (loader : ℕ) (keys : List KeyOf) (a : AnswerOf) → a ≡ given (map (item loader) keys) → outcomes_of (length keys) a ≡ known_items loader keys
+  outcomes-known loader keys a e =
       ap (outcomes_of (length keys)) e ∙ (rw (eq-eqb (length (map (item loader) keys)) (length keys) (length-map keys (item loader))) refl)
 
-  reply-told : (o : OrderOf) (r : ReplyOf) → IsReply (key_by_key item) o r → r.outcomes ≡ told o.loader o.keys
-  reply-told o r h = h.outcomes ∙ outcomes-told o.loader o.keys h.answer h.may_be
+  reply-known : (o : OrderOf) (r : ReplyOf) → IsReply (key_by_key item) o r → r.outcomes ≡ known_items o.loader o.keys
+  reply-known o r h = h.outcomes ∙ outcomes-known o.loader o.keys h.answer h.may_be
 
   -- a reply's pairs say what asking key by key gives
-  pairs-told : (mode : KeyMode) (n : ℕ) (keys : List KeyOf) (loader : ℕ) (key : KeyOf) (o : OutcomeOf) → look (reply_pairs mode n keys (told n keys)) loader key ≡ Some o
+  pairs-known : (mode : KeyMode) (n : ℕ) (keys : List KeyOf) (loader : ℕ) (key : KeyOf) (o : OutcomeOf) → look (reply_pairs mode n keys (known_items n keys)) loader key ≡ Some o
       → (n ≡ loader) × (k : KeyOf) × (folded mode k ≡ key) × (o ≡ known (item n k))
-  pairs-told mode n [] loader key o h = absurd (cc h)
-  pairs-told mode n (k ∷ ks) loader key o h = go (is_at loader key (record { loader = n; key = folded mode k; outcome = known (item n k) })) refl h (pairs-told mode n ks loader key o)
+  pairs-known mode n [] loader key o h = absurd (cc h)
+  pairs-known mode n (k ∷ ks) loader key o h = go (is_at loader key (record { loader = n; key = folded mode k; outcome = known (item n k) })) refl h (pairs-known mode n ks loader key o)
     where
-      go : (b : Bool) → is_at loader key (record { loader = n; key = folded mode k; outcome = known (item n k) }) ≡ b → (if b then Some (known (item n k)) else look (reply_pairs mode n ks (told n ks)) loader key) ≡ Some o
-          → (look (reply_pairs mode n ks (told n ks)) loader key ≡ Some o → (n ≡ loader) × (k : KeyOf) × (folded mode k ≡ key) × (o ≡ known (item n k)))
+      go : (b : Bool) → is_at loader key (record { loader = n; key = folded mode k; outcome = known (item n k) }) ≡ b → (if b then Some (known (item n k)) else look (reply_pairs mode n ks (known_items n ks)) loader key) ≡ Some o
+          → (look (reply_pairs mode n ks (known_items n ks)) loader key ≡ Some o → (n ≡ loader) × (k : KeyOf) × (folded mode k ≡ key) × (o ≡ known (item n k)))
           → (n ≡ loader) × (k : KeyOf) × (folded mode k ≡ key) × (o ≡ known (item n k))
       go true e h ih =
           let at = at-pair loader key (record { loader = n; key = folded mode k; outcome = known (item n k) }) e in
@@ -80,34 +84,34 @@ module _ (item : ℕ → KeyOf → ItemOf) where
       go true h ih = inl h
       go false h ih = ih h
 
-  replies-told : (modes : List KeyMode) (os : List OrderOf) (rs : List ReplyOf) (loader : ℕ) (key : KeyOf) (o : OutcomeOf) → AreReplies (key_by_key item) os rs → look (pairs_of modes rs) loader key ≡ Some o
+  replies-known : (modes : List KeyMode) (os : List OrderOf) (rs : List ReplyOf) (loader : ℕ) (key : KeyOf) (o : OutcomeOf) → AreReplies (key_by_key item) os rs → look (pairs_of modes rs) loader key ≡ Some o
       → (k : KeyOf) × (folded (mode_at modes loader) k ≡ key) × (o ≡ known (item loader k))
-  replies-told modes [] [] loader key o h e = absurd (cc e)
-  replies-told modes [] (r ∷ rs) loader key o h e = absurd h
-  replies-told modes (w ∷ ws) [] loader key o h e = absurd h
-  replies-told modes (w ∷ ws) (r ∷ rs) loader key o h e = elim (either-look loader key o (reply_pairs (mode_at modes r.loader) r.loader r.keys r.outcomes) (pairs_of modes rs) e) [
+  replies-known modes [] [] loader key o h e = absurd (cc e)
+  replies-known modes [] (r ∷ rs) loader key o h e = absurd h
+  replies-known modes (w ∷ ws) [] loader key o h e = absurd h
+  replies-known modes (w ∷ ws) (r ∷ rs) loader key o h e = elim (either-look loader key o (reply_pairs (mode_at modes r.loader) r.loader r.keys r.outcomes) (pairs_of modes rs) e) [
     | inl a ↦
-        let is : r.outcomes ≡ told r.loader r.keys = rw (h.0.loader, h.0.keys) (reply-told w r h.0) in
-        let f : look (reply_pairs (mode_at modes r.loader) r.loader r.keys (told r.loader r.keys)) loader key ≡ Some o = ap (λ os. look (reply_pairs (mode_at modes r.loader) r.loader r.keys os) loader key) (sym is) ∙ a in
-        let t = pairs-told (mode_at modes r.loader) r.loader r.keys loader key o f in
+        let is : r.outcomes ≡ known_items r.loader r.keys = rw (h.0.loader, h.0.keys) (reply-known w r h.0) in
+        let f : look (reply_pairs (mode_at modes r.loader) r.loader r.keys (known_items r.loader r.keys)) loader key ≡ Some o = ap (λ os. look (reply_pairs (mode_at modes r.loader) r.loader r.keys os) loader key) (sym is) ∙ a in
+        let t = pairs-known (mode_at modes r.loader) r.loader r.keys loader key o f in
         (t.1, ap (λ n. folded (mode_at modes n) t.1) (sym t.0) ∙ t.2, t.3 ∙ ap (λ n. known (item n t.1)) t.0)
-    | inr b ↦ replies-told modes ws rs loader key o h.1 b
+    | inr b ↦ replies-known modes ws rs loader key o h.1 b
   ]
 
   module _ (rules : List RuleOf) (p : Program) (alike : RespectsCacheKeys (modes_of rules) item) where
-    round-told : (M : Memory) (os : List OrderOf) (round : List ReplyOf) → HoldsItems (modes_of rules) item M → AreReplies (key_by_key item) os round → HoldsItems (modes_of rules) item (after_round rules M round)
-    round-told M os round told h = λ loader key o e. go loader key o (M loader (folded (mode_at (modes_of rules) loader) key)) refl e
+    round-held : (M : Memory) (os : List OrderOf) (round : List ReplyOf) → HoldsItems (modes_of rules) item M → AreReplies (key_by_key item) os round → HoldsItems (modes_of rules) item (after_round rules M round)
+    round-held M os round held h = λ loader key o e. go loader key o (M loader (folded (mode_at (modes_of rules) loader) key)) refl e
       where
         go : (loader : ℕ) (key : KeyOf) (o : OutcomeOf) (r : Option OutcomeOf) → M loader (folded (mode_at (modes_of rules) loader) key) ≡ r
             → option_or r (look (pairs_of (modes_of rules) round) loader (folded (mode_at (modes_of rules) loader) key)) ≡ Some o → o ≡ known (item loader key)
         go loader key o None f e =
-            let t = replies-told (modes_of rules) os round loader (folded (mode_at (modes_of rules) loader) key) o h e in
+            let t = replies-known (modes_of rules) os round loader (folded (mode_at (modes_of rules) loader) key) o h e in
             t.2 ∙ ap known (alike loader t.0 key t.1)
-        go loader key o (Some x) f e = told loader key o (f ∙ e)
+        go loader key o (Some x) f e = held loader key o (f ∙ e)
 
-    pub rounds-told : (M : Memory) (rs : List (List ReplyOf)) (end : Memory) → HoldsItems (modes_of rules) item M → AreRounds (key_by_key item) rules p M rs end → HoldsItems (modes_of rules) item end
-    rounds-told M [] end told h = λ loader key o e. told loader key o (sym (h loader (folded (mode_at (modes_of rules) loader) key)) ∙ e)
-    rounds-told M (r ∷ rs) end told h = rounds-told (after_round rules M r) rs end (round-told M (round_orders rules (front (modes_of rules) p M)) r told h.1) h.2
+    pub rounds-held : (M : Memory) (rs : List (List ReplyOf)) (end : Memory) → HoldsItems (modes_of rules) item M → AreRounds (key_by_key item) rules p M rs end → HoldsItems (modes_of rules) item end
+    rounds-held M [] end held h = λ loader key o e. held loader key o (sym (h loader (folded (mode_at (modes_of rules) loader) key)) ∙ e)
+    rounds-held M (r ∷ rs) end held h = rounds-held (after_round rules M r) rs end (round-held M (round_orders rules (front (modes_of rules) p M)) r held h.1) h.2
 
 -- ---- the loaders of a world
 
@@ -158,7 +162,13 @@ exec-closed p R a h = go (is_open (tree p R)) refl
     go true e = let none : None ≡ Some a = rw e at h in absurd (none-some a none)
     go false e = e
 
-module _ (w : WorldOf) (after : StateOf SourceOf) where
+module _ (s : ServiceOf) (after : StateOf SourceOf) where
+  abbrev w : WorldOf
+  w = s.world
+
+  abbrev text_of : AnsweredOf → List ℕ
+  text_of = text_within s.most
+
   abbrev ls : List (LoaderOf SourceOf)
   ls = loaders_over w.limit w.bindings.loaders w.sources
 
@@ -171,39 +181,34 @@ module _ (w : WorldOf) (after : StateOf SourceOf) where
   -- what is known is what the tables say
   holds : (p : Program) (log : List (List ReplyOf)) → AreRounds (may_at may_tell ls) (rules_of old) p (without_failed old.memory) log after.memory → HoldsItems (session_modes old) item after.memory
   holds p log made =
-      rounds-told item (rules_of old) p (respects-over ls (compare-alike w.limit w.bindings.loaders w.sources)) (without_failed old.memory) log after.memory (nothing-told w.limit (session_modes old) item)
+      rounds-held item (rules_of old) p (respects-over ls (compare-alike w.limit w.bindings.loaders w.sources)) (without_failed old.memory) log after.memory (nothing-held w.limit (session_modes old) item)
       (rounds-by-key ls (rules_of old) p (without_failed old.memory) log after.memory made)
 
-  direct-one : length w.sources ≡ length w.bindings.loaders → HoldsItems (session_modes old) item after.memory → (p : PlanOf) (text : List ℕ) → IsTextOf answer_text (plan_program p) (read (session_modes old) after.memory) text → IsDirectText w p text
+  direct-one : length w.sources ≡ length w.bindings.loaders → HoldsItems (session_modes old) item after.memory → (p : PlanOf) (text : List ℕ) → IsTextOf text_of (plan_program p) (read (session_modes old) after.memory) text → IsDirectText s p text
   direct-one sources held p text h =
       let R : Reader = read (session_modes old) after.memory in
       let more : AnswersMore R (direct item) = λ load o e. ap (λ (x : OutcomeOf). Some x) (sym (held load.loader load.key o e)) in
       let same : item ≡ item_at w.sources = fun_ext (λ loader. fun_ext (λ key. items-over w.limit w.bindings.loaders w.sources loader key sources)) in
-      let over : IsTextOf answer_text (plan_program p) (direct item) text = record {
+      let over : IsTextOf text_of (plan_program p) (direct item) text = record {
         answered = h.answered;
         executed = exec-stays (plan_program p) R (direct item) more (exec-closed (plan_program p) R h.answered h.executed) ∙ h.executed;
-        told = h.told;
+        report = h.report;
       } in
-      subst (λ (it : ℕ → KeyOf → ItemOf). IsTextOf answer_text (plan_program p) (direct it) text) same over
+      subst (λ (it : ℕ → KeyOf → ItemOf). IsTextOf text_of (plan_program p) (direct it) text) same over
 
-  direct-all : length w.sources ≡ length w.bindings.loaders → HoldsItems (session_modes old) item after.memory → (log : List (List ReplyOf)) (plans : List PlanOf) (told : List ToldOf)
-      → AreShared old after log (requests plan_program (λ plan. answer_text) plans) told → AllZip (λ (p : PlanOf) (t : ToldOf). IsDirectText w p t.text) plans told
+  direct-all : length w.sources ≡ length w.bindings.loaders → HoldsItems (session_modes old) item after.memory → (log : List (List ReplyOf)) (plans : List PlanOf) (reports : List ReportOf)
+      → AreShared old after log (requests plan_program (λ plan. text_of) plans) reports → AllZip (λ (p : PlanOf) (t : ReportOf). IsDirectText s p t.text) plans reports
   direct-all sources held log [] [] h = tt
   direct-all sources held log [] (t ∷ ts) h = absurd h
   direct-all sources held log (p ∷ ps) [] h = absurd h
   direct-all sources held log (p ∷ ps) (t ∷ ts) h = (direct-one sources held p t.text h.0.answered, direct-all sources held log ps ts h.1)
 
-  pub direct-each : (plans : List PlanOf) (told : List ToldOf) → length w.sources ≡ length w.bindings.loaders → AnswersTogether w plans after told → AllZip (λ (p : PlanOf) (t : ToldOf). IsDirectText w p t.text) plans told
-  direct-each plans told sources h = direct-all sources (holds (together (requests plan_program (λ plan. answer_text) plans)) h.log h.made.rounds) h.log plans told h.answers
-
--- what plans ask, as the program holds them
-requests-seen : (plans : List PlanParts) → requests (λ (p : PlanParts). plan_program (plan_of p)) (λ p. answer_text) plans ≡ requests plan_program (λ plan. answer_text) (map plan_of plans)
-requests-seen [] = refl
-requests-seen (p ∷ ps) = ap (λ rs. request_of (plan_program (plan_of p)) answer_text ∷ rs) (requests-seen ps)
+  pub direct-each : (plans : List PlanOf) (reports : List ReportOf) → length w.sources ≡ length w.bindings.loaders → AnswersTogether s plans after reports → AllZip (λ (p : PlanOf) (t : ReportOf). IsDirectText s p t.text) plans reports
+  direct-each plans reports sources h = direct-all sources (holds (together (requests plan_program (λ plan. text_of) plans)) h.log h.made.rounds) h.log plans reports h.answers
 
 -- answers over what was opened as the session of a world
-pub together-anew : (w : WorldOf) (session : SessionOf SourceOf) (after : StateOf SourceOf) (plans : List PlanParts) (told : List ToldOf) → session ≡ session_over w
-    → SharedHeadline may_tell (state_of session) after (requests (λ (p : PlanParts). plan_program (plan_of p)) (λ p. answer_text) plans) told → AnswersTogether w (map plan_of plans) after told
-together-anew w session after plans told is h =
-    subst (λ s. SharedHeadline may_tell (state_of s) after (requests plan_program (λ plan. answer_text) (map plan_of plans)) told) is
-    (subst (λ rs. SharedHeadline may_tell (state_of session) after rs told) (requests-seen plans) h)
+pub together-anew : (s : ServiceOf) (session : SessionOf SourceOf) (after : StateOf SourceOf) (plans : List PlanOf) (limited : List Limited) (reports : List ReportOf) → session ≡ session_over s.world → AreLimited s.most plans limited
+    → SharedHeadline may_tell (state_of session) after (requests (λ (l : Limited). plan_program (plan_of l.plan.now)) (λ l. text_within l.most) limited) reports → AnswersTogether s plans after reports
+together-anew s session after plans limited reports is are h =
+    subst (λ z. SharedHeadline may_tell (state_of z) after (requests plan_program (λ plan. text_within s.most) plans) reports) is
+    (subst (λ rs. SharedHeadline may_tell (state_of session) after rs reports) (limited-asks s.most plans limited are) h)

@@ -5,19 +5,20 @@ use Rattle.std.specs.Option.{option_map}
 use Rattle.std.proofs.lemmas.List.Elements.{All-nil, All-cons, All-head, All-tail}
 use Rattle.schema_syntax.specs.Tree.{Definition}
 use Rattle.gq_check.specs.Planned.{IsPlan}
-use Rattle.gq_check.specs.Plans.{PlanParts, PlanOf, plan_of}
+use Rattle.gq_check.specs.Plans.{PlanOf, plan_of}
 use Rattle.gq_check.specs.Prepared.{prepared}
 use Rattle.gq_check.specs.Verdict.{IsValid}
 use Rattle.gq_schema.specs.BindingsTree.{BindingsOf}
 use Rattle.csv_source.specs.Tables.{SourceOf}
 use Rattle.load_rounds.specs.Sessions.{StateOf}
-use Rattle.load_rounds.specs.SharedRounds.{ToldOf, told_of}
+use Rattle.load_rounds.specs.SharedRounds.{ReportOf, report_of}
 use Rattle.load_rounds.specs.declared.answer.Answer.{Answer}
 use Rattle.request_line.specs.Requests.{RequestOf}
 use Rattle.world.specs.Worlds.{WorldOf}
 use Rattle.world_answers.specs.Answers.{values_of, IsDirectText, IsPlanned}
-use Rattle.world_answers.specs.Arrays.{IsRefused, HasPlan, PlaceOf, refused, answered, IsInPlace, text_in, plans_in, told_in, AnswersTogether, array_text, AnswersArray}
+use Rattle.world_answers.specs.Arrays.{IsRefused, HasPlan, PlaceOf, refused, answered, IsInPlace, text_in, plans_in, reports_in, AnswersTogether, array_text, AnswersArray}
 use Rattle.world_answers.specs.Planning.{refusals_of, plans_of, PlanValues, PlansArray, in_places}
+use Rattle.world_answers.specs.Services.{ServiceOf}
 use Rattle.world_answers.specs.declared.arrays.ArrayPlan.{ArrayPlan}
 use Rattle.world_answers.proofs.Together.{direct-each}
 
@@ -87,32 +88,30 @@ module _ (w : WorldOf) where
   pub plans-valid : (values : List (Option RequestOf)) (refusals : List (Option (List ℕ))) (plans : List PlanOf) → PlanValues w values refusals plans → All IsPlan plans
   plans-valid values refusals plans h = plans-all IsPlan plan-valid values refusals plans h
 
--- what holds of each of the seen holds of each
-all-unmapped : {X Y : Type 0} (P : Y → Type 0) (f : X → Y) (xs : List X) → All P (map f xs) → All (λ x. P (f x)) xs
-all-unmapped P f [] h = All-nil (λ x. P (f x))
-all-unmapped P f (x ∷ xs) h = All-cons (λ x. P (f x)) x xs (All-head P (f x) (map f xs) h) (all-unmapped P f xs (All-tail P (f x) (map f xs) h))
-
 -- ---- the answer
 
-module _ (w : WorldOf) where
-  -- each value in its place
-  record Filled (values : List (Option RequestOf)) (refusals : List (Option (List ℕ))) (plans : List PlanOf) (told : List ToldOf) : Type 0 where
-    places : List PlaceOf
-    each : AllZip (IsInPlace w) values places
-    plans_are : plans_in places ≡ plans
-    told_are : told_in places ≡ told
-    texts_are : map text_in places ≡ in_places refusals (map (λ (t : ToldOf). t.text) told)
+module _ (s : ServiceOf) where
+  abbrev w : WorldOf
+  w = s.world
 
-  filled : (values : List (Option RequestOf)) (refusals : List (Option (List ℕ))) (plans : List PlanOf) (told : List ToldOf) → PlanValues w values refusals plans
-      → AllZip (λ (p : PlanOf) (t : ToldOf). IsDirectText w p t.text) plans told → Filled values refusals plans told
-  filled [] [] [] [] h d = record { places = []; each = tt; plans_are = refl; told_are = refl; texts_are = refl }
+  -- each value in its place
+  record Filled (values : List (Option RequestOf)) (refusals : List (Option (List ℕ))) (plans : List PlanOf) (reports : List ReportOf) : Type 0 where
+    places : List PlaceOf
+    each : AllZip (IsInPlace s) values places
+    plans_are : plans_in places ≡ plans
+    reports_are : reports_in places ≡ reports
+    texts_are : map text_in places ≡ in_places refusals (map (λ (t : ReportOf). t.text) reports)
+
+  filled : (values : List (Option RequestOf)) (refusals : List (Option (List ℕ))) (plans : List PlanOf) (reports : List ReportOf) → PlanValues w values refusals plans
+      → AllZip (λ (p : PlanOf) (t : ReportOf). IsDirectText s p t.text) plans reports → Filled values refusals plans reports
+  filled [] [] [] [] h d = record { places = []; each = tt; plans_are = refl; reports_are = refl; texts_are = refl }
   filled [] [] [] (t ∷ ts) h d = absurd d
   filled [] [] (p ∷ ps) ts h d = absurd h
   filled [] (r ∷ rs) ps ts h d = absurd h
   filled (v ∷ vs) [] ps ts h d = absurd h
   filled (v ∷ vs) (Some text ∷ rs) ps ts h d =
       let f = filled vs rs ps ts h.1 d in
-      record { places = refused text ∷ f.places; each = (h.0, f.each); plans_are = f.plans_are; told_are = f.told_are; texts_are = ap (λ l. text ∷ l) f.texts_are }
+      record { places = refused text ∷ f.places; each = (h.0, f.each); plans_are = f.plans_are; reports_are = f.reports_are; texts_are = ap (λ l. text ∷ l) f.texts_are }
   filled (v ∷ vs) (None ∷ rs) [] ts h d = absurd h
   filled (v ∷ vs) (None ∷ rs) (p ∷ ps) [] h d = absurd d
   filled (v ∷ vs) (None ∷ rs) (p ∷ ps) (t ∷ ts) h d =
@@ -121,37 +120,36 @@ module _ (w : WorldOf) where
         places = answered p t ∷ f.places;
         each = ((h.0, d.0), f.each);
         plans_are = ap (λ l. p ∷ l) f.plans_are;
-        told_are = ap (λ l. t ∷ l) f.told_are;
+        reports_are = ap (λ l. t ∷ l) f.reports_are;
         texts_are = ap (λ l. t.text ∷ l) f.texts_are;
       }
 
   -- the plans were answered over a session of the world, and their texts stand in their places
-  pub array-answered : (values : List (Option RequestOf)) (refusals : List (Option (List ℕ))) (plans : List PlanOf) (told : List ToldOf) (after : StateOf SourceOf) (text : List ℕ) → length w.sources ≡ length w.bindings.loaders
-      → PlanValues w values refusals plans → AnswersTogether w plans after told → text ≡ array_text (in_places refusals (map (λ (t : ToldOf). t.text) told)) → AnswersArray w values text
-  array-answered values refusals plans told after text sources h shared e =
-      let f = filled values refusals plans told h (direct-each w after plans told sources shared) in
+  pub array-answered : (values : List (Option RequestOf)) (refusals : List (Option (List ℕ))) (plans : List PlanOf) (reports : List ReportOf) (after : StateOf SourceOf) (text : List ℕ) → length w.sources ≡ length w.bindings.loaders
+      → PlanValues w values refusals plans → AnswersTogether s plans after reports → text ≡ array_text (in_places refusals (map (λ (t : ReportOf). t.text) reports)) → AnswersArray s values text
+  array-answered values refusals plans reports after text sources h shared e =
+      let f = filled values refusals plans reports h (direct-each s after plans reports sources shared) in
       record {
         places = f.places;
         each = f.each;
-        told = e ∙ ap array_text (sym f.texts_are);
+        report = e ∙ ap array_text (sym f.texts_are);
         valid = subst (All IsPlan) (sym f.plans_are) (plans-valid w values refusals plans h);
         after = after;
-        together = subst (λ ps. AnswersTogether w ps after (told_in f.places)) (sym f.plans_are) (subst (AnswersTogether w plans after) (sym f.told_are) shared);
+        together = subst (λ ps. AnswersTogether s ps after (reports_in f.places)) (sym f.plans_are) (subst (AnswersTogether s plans after) (sym f.reports_are) shared);
       }
 
 -- the same of what the program holds
-texts-told : (answers : List Answer) → map (λ (t : ToldOf). t.text) (map told_of answers) ≡ map (λ (a : Answer). string_bytes a.text) answers
-texts-told [] = refl
-texts-told (a ∷ as') = ap (λ ts. string_bytes a.text ∷ ts) (texts-told as')
+texts-report : (answers : List Answer) → map (λ (t : ReportOf). t.text) (map report_of answers) ≡ map (λ (a : Answer). string_bytes a.text) answers
+texts-report [] = refl
+texts-report (a ∷ as') = ap (λ ts. string_bytes a.text ∷ ts) (texts-report as')
 
-pub array-told : (w : WorldOf) (values : List (Option RequestOf)) (array : ArrayPlan) (plans : List PlanParts) (answers : List Answer) (after : StateOf SourceOf) (text : List ℕ) → length w.sources ≡ length w.bindings.loaders → PlansArray w values array
-    → plans ≡ array.plans.items → AnswersTogether w (map plan_of plans) after (map told_of answers) → text ≡ array_text (in_places (refusals_of array) (map (λ (a : Answer). string_bytes a.text) answers)) → AnswersArray w values text
-array-told w values array plans answers after text sources h are shared e =
-    array-answered w values (refusals_of array) (plans_of array) (map told_of answers) after text sources h (subst (λ ps. AnswersTogether w (map plan_of ps) after (map told_of answers)) are shared)
-    (e ∙ ap (λ ts. array_text (in_places (refusals_of array) ts)) (sym (texts-told answers)))
+pub array-report : (s : ServiceOf) (values : List (Option RequestOf)) (array : ArrayPlan) (answers : List Answer) (after : StateOf SourceOf) (text : List ℕ) → length s.world.sources ≡ length s.world.bindings.loaders → PlansArray s.world values array
+    → AnswersTogether s (plans_of array) after (map report_of answers) → text ≡ array_text (in_places (refusals_of array) (map (λ (a : Answer). string_bytes a.text) answers)) → AnswersArray s values text
+array-report s values array answers after text sources h shared e =
+    array-answered s values (refusals_of array) (plans_of array) (map report_of answers) after text sources h shared (e ∙ ap (λ ts. array_text (in_places (refusals_of array) ts)) (sym (texts-report answers)))
 
-pub array-bound : (w : WorldOf) (values : List (Option RequestOf)) (array : ArrayPlan) → PlansArray w values array → All (λ (p : PlanParts). (plan_of p).bindings ≡ w.bindings) array.plans.items
-array-bound w values array h = all-unmapped (λ (p : PlanOf). p.bindings ≡ w.bindings) plan_of array.plans.items (plans-bound w values (refusals_of array) (plans_of array) h)
+pub array-bound : (w : WorldOf) (values : List (Option RequestOf)) (array : ArrayPlan) → PlansArray w values array → All (λ (p : PlanOf). p.bindings ≡ w.bindings) (plans_of array)
+array-bound w values array h = plans-bound w values (refusals_of array) (plans_of array) h
 
 -- ---- the texts in their places, one more
 

@@ -4,6 +4,7 @@ use Rattle.gq_lexer.specs.declared.place.Place.{Place}
 use Rattle.serde_json.specs.Data.{Data, null}
 use Rattle.gq_schema.specs.Types.{tree_of}
 use Rattle.gq_check.specs.Plans.{PlanOf}
+use Rattle.gq_check.specs.Planned.{IsPlan}
 use Rattle.load_memory.specs.Keys.{KeyOf}
 use Rattle.load_memory.specs.Outcomes.{ItemOf, rows}
 use Rattle.csv_source.specs.Tables.{SourceOf, item_of_key}
@@ -11,13 +12,14 @@ use Rattle.load_queue.specs.Answers.{AnswerOf, given}
 use Rattle.execution.specs.Rounds.{direct}
 use Rattle.plan_program.specs.PlanPrograms.{plan_program}
 use Rattle.answer_json.specs.Answer.{json_text, refusal_json}
-use Rattle.gq_resolve.specs.Answered.{answer_text}
-use Rattle.load_rounds.specs.Headline.{IsTextOf, AnswersPlan}
+use Rattle.load_rounds.specs.Headline.{IsTextOf, Headline}
 use Rattle.load_rounds.specs.Sessions.{StateOf, state_of}
+use Rattle.load_rounds.specs.Within.{text_within}
 use Rattle.request_line.specs.Requests.{RequestOf}
 use Rattle.world.specs.declared.request.RequestFault.{RequestFault}
 use Rattle.world.specs.Requests.{IsPlanOf, IsRequestFault, is_want_of_memory, request_message, request_place}
 use Rattle.world.specs.Worlds.{WorldOf}
+use Rattle.world_answers.specs.Services.{ServiceOf}
 use Rattle.world_answers.specs.Sessions.{session_over}
 
 -- ---- *Direct execution*
@@ -31,10 +33,10 @@ item_from (Some source) key = item_of_key source key
 abbrev pub item_at : List SourceOf → ℕ → KeyOf → ItemOf
 item_at sources loader key = item_from (slice_get sources loader) key
 
--- the text of *Execution tree* and *Completion* with each load answered at once, by the rows of its key. No memory, batch or round
--- is in it.
-abbrev pub IsDirectText : WorldOf → PlanOf → List ℕ → Type 0
-IsDirectText w plan text = IsTextOf answer_text (plan_program plan) (direct (item_at w.sources)) text
+-- the text of *Execution tree* and *Completion* with each load answered at once, by the rows of its key; where that is longer than
+-- the service's limit, the text of its refusal. No memory, batch or round is in it.
+abbrev pub IsDirectText : ServiceOf → PlanOf → List ℕ → Type 0
+IsDirectText s plan text = IsTextOf (text_within s.most) (plan_program plan) (direct (item_at s.world.sources)) text
 
 -- ---- the session of a request
 
@@ -42,10 +44,11 @@ IsDirectText w plan text = IsTextOf answer_text (plan_program plan) (direct (ite
 abbrev pub may_tell : SourceOf → List KeyOf → AnswerOf → Type 0
 may_tell source keys answer = answer ≡ given (map (item_of_key source) keys)
 
--- The plan was answered by this text in the session of the world, which was new and is in this state after so many rounds: its
--- log holds all that was asked, in batches of at most the world's limit.
-abbrev pub AnswersAnew : WorldOf → PlanOf → StateOf SourceOf → List ℕ → ℕ → Type 0
-AnswersAnew w plan after text rounds = AnswersPlan may_tell (state_of (session_over w)) after plan text rounds
+-- The plan, which is of a valid document, was answered by this text in the session of the world, which was new and is in this
+-- state after so many rounds: its log holds all that was asked, in batches of at most the world's limit.
+pub record AnswersAnew (s : ServiceOf) (plan : PlanOf) (after : StateOf SourceOf) (text : List ℕ) (rounds : ℕ) : Type 0 where
+  pub valid : IsPlan plan
+  pub headline : Headline may_tell (state_of (session_over s.world)) after (plan_program plan) (text_within s.most) text rounds
 
 -- ---- *Program output*, of one request
 
@@ -62,11 +65,15 @@ pub record IsPlanned (w : WorldOf) (request : RequestOf) (plan : PlanOf) : Type 
 
 -- the first fault of a request over a world; want of memory is none
 pub record IsFaulty (w : WorldOf) (request : RequestOf) (fault : RequestFault) : Type 0 where
-  pub told : is_want_of_memory fault ≡ false
+  pub reported : is_want_of_memory fault ≡ false
   pub faulty : IsRequestFault (tree_of w.definitions) request.query request.operation_name (values_of request.variables) fault
 
 abbrev pub refusal_text : List ℕ → Option Place → List ℕ
 refusal_text message place = json_text (refusal_json message place)
+
+-- the text refuses a request that has this fault; want of memory is none
+abbrev pub RefusesFault : RequestFault → List ℕ → Type 0
+RefusesFault fault text = (is_want_of_memory fault ≡ false) × (text ≡ refusal_text (request_message fault) (request_place fault))
 
 -- what is answered where there is no request
 abbrev pub not_a_request : List ℕ
@@ -76,17 +83,17 @@ not_a_request = refusal_text (codes "not a request") None
 pub record IsRefusal (w : WorldOf) (request : RequestOf) (text : List ℕ) : Type 0 where
   pub fault : RequestFault
   pub faulty : IsFaulty w request fault
-  pub told : text ≡ refusal_text (request_message fault) (request_place fault)
+  pub report : text ≡ refusal_text (request_message fault) (request_place fault)
 
 -- The text answers a plan: it is that of direct execution, and was answered in a session that was new, with the headline.
-pub record IsAnsweredAnew (w : WorldOf) (plan : PlanOf) (text : List ℕ) : Type 0 where
-  pub direct : IsDirectText w plan text
+pub record IsAnsweredAnew (s : ServiceOf) (plan : PlanOf) (text : List ℕ) : Type 0 where
+  pub direct : IsDirectText s plan text
   pub after : StateOf SourceOf
   pub rounds : ℕ
-  pub answers : AnswersAnew w plan after text rounds
+  pub answers : AnswersAnew s plan after text rounds
 
--- The text answers a request over a world: the refusal of its first fault, with its message and its place, or the answer of
+-- The text answers a request by a service: the refusal of its first fault, with its message and its place, or the answer of
 -- its plan, in a session of its own.
-pub data AnswersRequest (w : WorldOf) (request : RequestOf) (text : List ℕ) : Type 0 where
-  faulty : {fault : RequestFault} → IsFaulty w request fault → text ≡ refusal_text (request_message fault) (request_place fault) → AnswersRequest w request text
-  planned : {plan : PlanOf} → IsPlanned w request plan → IsAnsweredAnew w plan text → AnswersRequest w request text
+pub data AnswersRequest (s : ServiceOf) (request : RequestOf) (text : List ℕ) : Type 0 where
+  faulty : {fault : RequestFault} → IsFaulty s.world request fault → text ≡ refusal_text (request_message fault) (request_place fault) → AnswersRequest s request text
+  planned : {plan : PlanOf} → IsPlanned s.world request plan → IsAnsweredAnew s plan text → AnswersRequest s request text

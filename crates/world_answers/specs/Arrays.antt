@@ -1,24 +1,25 @@
--- What answers an array over a world: its answers in brackets, of which those of plans are given over one session.
+-- What answers an array: its answers in brackets, of which those of plans are given over one session.
 use Rattle.std.specs.Prelude.{◌≡◌, ℕ, List, [], ◌∷◌, ◌++◌, map, Option, Some, None, codes}
 use Rattle.std.specs.List.{All, AllZip, join_by}
 use Rattle.csv_source.specs.Tables.{SourceOf}
 use Rattle.gq_check.specs.Plans.{PlanOf}
 use Rattle.gq_check.specs.Planned.{IsPlan}
 use Rattle.plan_program.specs.PlanPrograms.{plan_program}
-use Rattle.gq_resolve.specs.Answered.{answer_text}
 use Rattle.load_rounds.specs.Sessions.{StateOf, state_of}
-use Rattle.load_rounds.specs.SharedRounds.{ToldOf, requests, SharedHeadline}
+use Rattle.load_rounds.specs.SharedRounds.{ReportOf, requests, SharedHeadline}
+use Rattle.load_rounds.specs.Within.{text_within}
 use Rattle.request_line.specs.Requests.{RequestOf}
 use Rattle.world.specs.Worlds.{WorldOf}
 use Rattle.world_answers.specs.Answers.{IsDirectText, may_tell, IsPlanned, not_a_request, IsRefusal}
+use Rattle.world_answers.specs.Services.{ServiceOf}
 use Rattle.world_answers.specs.Sessions.{session_over}
 
 -- ---- the session of an array
 
 -- The plans were answered by these texts over one session of the world, which was new and is in this state after all of them: its log holds
 -- what was asked, in batches of at most the world's limit.
-abbrev pub AnswersTogether : WorldOf → List PlanOf → StateOf SourceOf → List ToldOf → Type 0
-AnswersTogether w plans after told = SharedHeadline may_tell (state_of (session_over w)) after (requests plan_program (λ plan. answer_text) plans) told
+abbrev pub AnswersTogether : ServiceOf → List PlanOf → StateOf SourceOf → List ReportOf → Type 0
+AnswersTogether s plans after reports = SharedHeadline may_tell (state_of (session_over s.world)) after (requests plan_program (λ plan. text_within s.most) plans) reports
 
 -- ---- the values of an array
 
@@ -35,28 +36,28 @@ HasPlan w (Some request) plan = IsPlanned w request plan
 -- what stands in the place of a value: its refusal, or what its plan was answered
 pub data PlaceOf : Type 0 where
   refused : List ℕ → PlaceOf
-  answered : PlanOf → ToldOf → PlaceOf
+  answered : PlanOf → ReportOf → PlaceOf
 
 -- the text of an answer is that of direct execution
-abbrev pub IsInPlace : WorldOf → Option RequestOf → PlaceOf → Type 0
-IsInPlace w value (refused text) = IsRefused w value text
-IsInPlace w value (answered plan told) = HasPlan w value plan × IsDirectText w plan told.text
+abbrev pub IsInPlace : ServiceOf → Option RequestOf → PlaceOf → Type 0
+IsInPlace s value (refused text) = IsRefused s.world value text
+IsInPlace s value (answered plan report) = HasPlan s.world value plan × IsDirectText s plan report.text
 
 abbrev pub text_in : PlaceOf → List ℕ
 text_in (refused text) = text
-text_in (answered plan told) = told.text
+text_in (answered plan report) = report.text
 
 -- the plans that were answered, in order
 abbrev pub plans_in : List PlaceOf → List PlanOf
 plans_in [] = []
 plans_in (refused text ∷ places) = plans_in places
-plans_in (answered plan told ∷ places) = plan ∷ plans_in places
+plans_in (answered plan report ∷ places) = plan ∷ plans_in places
 
 -- and their answers
-abbrev pub told_in : List PlaceOf → List ToldOf
-told_in [] = []
-told_in (refused text ∷ places) = told_in places
-told_in (answered plan told ∷ places) = told ∷ told_in places
+abbrev pub reports_in : List PlaceOf → List ReportOf
+reports_in [] = []
+reports_in (refused text ∷ places) = reports_in places
+reports_in (answered plan report ∷ places) = report ∷ reports_in places
 
 -- ---- *Program output*, of one array
 
@@ -64,12 +65,12 @@ told_in (answered plan told ∷ places) = told ∷ told_in places
 abbrev pub array_text : List (List ℕ) → List ℕ
 array_text texts = codes "[" ++ join_by (λ text. text) (codes ",") texts ++ codes "]"
 
--- The text answers an array of these values over a world. Each value is answered in its place. The plans are of valid documents, and were
+-- The text answers an array of these values by a service. Each value is answered in its place. The plans are of valid documents, and were
 -- all answered over one session, with the headline.
-pub record AnswersArray (w : WorldOf) (values : List (Option RequestOf)) (text : List ℕ) : Type 0 where
+pub record AnswersArray (s : ServiceOf) (values : List (Option RequestOf)) (text : List ℕ) : Type 0 where
   pub places : List PlaceOf
-  pub each : AllZip (IsInPlace w) values places
-  pub told : text ≡ array_text (map text_in places)
+  pub each : AllZip (IsInPlace s) values places
+  pub report : text ≡ array_text (map text_in places)
   pub valid : All IsPlan (plans_in places)
   pub after : StateOf SourceOf
-  pub together : AnswersTogether w (plans_in places) after (told_in places)
+  pub together : AnswersTogether s (plans_in places) after (reports_in places)

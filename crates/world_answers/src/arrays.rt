@@ -1,22 +1,21 @@
-//! Arrays of requests over a world: what their values ask, and their answers, of which those of plans are given over one session.
+//! Arrays of requests: what their values ask over a world, and their answers, of which those of plans are given over one session.
 
-ghost use Rattle.std.specs.Prelude.{◌≡◌, ℕ, List, [], ◌∷◌, ◌++◌, All, map, length, IfOk, OnOk, Option, string_bytes};
-ghost use Rattle.gq_check.specs.Plans.{plan_of};
+ghost use Rattle.std.specs.Prelude.{◌≡◌, [], All, map, length, IfOk, OnOk, string_bytes};
 ghost use Rattle.load_rounds.specs.Sessions.{state_of};
-ghost use Rattle.load_rounds.specs.SharedRounds.{told_of};
-ghost use Rattle.request_line.specs.Requests.{RequestOf};
+ghost use Rattle.load_rounds.specs.SharedRounds.{report_of};
 ghost use Rattle.world.specs.Worlds.{WorldOf};
-ghost use Rattle.world_answers.specs.Arrays.{AnswersTogether, AnswersArray, array_text};
-ghost use Rattle.world_answers.specs.Planning.{PlansValue, PlansArray, refusals_of, in_places};
+ghost use Rattle.world_answers.specs.Arrays.{AnswersTogether, array_text};
+ghost use Rattle.world_answers.specs.Planning.{PlansArray, AddsPlan, AnswersArrayPlan, AreLimited, refusals_of, plans_of, in_places};
+ghost use Rattle.world_answers.specs.Services.{service_of};
 
 use crate::planning::RequestPlan;
+use crate::service::Service;
 use crate::sessions::Sessions;
 use csv_source::CsvSource;
 use gq_check::Plan;
 use line_serving::NoMemory;
-use load_rounds::{Answer, Session};
+use load_rounds::{Answer, Limited, Session};
 use std::alloc::{AllocError, Global};
-use world::World;
 
 /// What the values of an array ask.
 #[derive(Drop)]
@@ -40,8 +39,7 @@ impl<'w> ArrayPlan<'w> {
 
     /// Adds what one more value asks.
     pub(crate) fn push(&mut self, plan: RequestPlan<'w>) -> Result<(), AllocError>
-        ensures { (w : WorldOf) (values : List (Option RequestOf)) (value : Option RequestOf) → PlansArray w values self.old → PlansValue w value plan.entry
-            → OnOk result (PlansArray w (values ++ value ∷ []) self.new) }
+        ensures { OnOk result (AddsPlan self.old plan.entry self.new) }
     {
         match plan {
             RequestPlan::Refused(text) => self.refusals.push(Some(text))?,
@@ -53,16 +51,28 @@ impl<'w> ArrayPlan<'w> {
         Ok(())
     }
 
-    /// The plans, in order.
-    pub fn plans(&self) -> &[Plan<'w>]
-        ensures { result.now ≡ self.now.plans.items }
+    /// The plans in order, each with this limit.
+    ///
+    /// # Errors
+    ///
+    /// Only when out of memory.
+    pub fn limited(
+        &self,
+        alloc: Global,
+        most: Option<usize>,
+    ) -> Result<Vec<Limited<'_, 'w>>, AllocError>
+        ensures { IfOk result (λ limited. AreLimited most (plans_of self.now) limited.items) }
     {
-        &self.plans
+        let mut limited = Vec::with_capacity(alloc, self.plans.len())?;
+        for plan in &self.plans {
+            limited.push(Limited { plan, most })?;
+        }
+        Ok(limited)
     }
 
     // The text of each value: its refusal, or the next of these answers.
     fn texts<'t>(&'t self, alloc: Global, answers: &'t [Answer]) -> Result<Vec<&'t str>, AllocError>
-        ensures { IfOk result (λ texts. map (λ text. text.now) texts.items ≡ in_places (refusals_of self.entry.now) (map (λ a. string_bytes a.text) answers.entry.now)) }
+        ensures { IfOk result (λ texts. map (λ t. t.now) texts.items ≡ in_places (refusals_of self.entry.now) (map (λ a. string_bytes a.text) answers.entry.now)) }
     {
         let mut texts = Vec::with_capacity(alloc, self.refusals.len())?;
         let mut left = answers;
@@ -91,36 +101,38 @@ impl<'w> ArrayPlan<'w> {
     }
 }
 
-// The answers of plans over a world, and the session that they share.
+// The answers of an array's plans by a service, and the session that they share.
 fn answer_plans<'w>(
     alloc: Global,
-    world: &'w World,
-    plans: &[Plan<'_>],
+    service: &Service<'w>,
+    array: &ArrayPlan<'_>,
 ) -> Result<(Session<CsvSource<'w>>, Vec<Answer>), NoMemory>
-    requires { All (λ plan. (plan_of plan).bindings ≡ world.now.bindings) plans.now }
-    ensures anew { IfOk result (λ given. AnswersTogether world.now (map plan_of plans.now) (state_of given.0) (map told_of given.1.items)) }
+    requires { All (λ plan. plan.bindings ≡ service.now.world.now.bindings) (plans_of array.now) }
+    ensures anew { IfOk result (λ given. AnswersTogether (service_of service.now) (plans_of array.now) (state_of given.0)
+        (map report_of given.1.items)) }
     // Each loader of the bindings has a source.
-    ensures each { OnOk result (length world.now.sources ≡ length world.now.bindings.loaders) }
+    ensures each { OnOk result (length service.now.world.now.sources ≡ length service.now.world.now.bindings.loaders) }
 {
-    let Ok(mut session) = world.session(alloc) else {
+    let plans = array.limited(alloc, service.max_answer)?;
+    let Ok(mut session) = service.world.session(alloc) else {
         return Err(NoMemory);
     };
-    match session.answer_all(plans) {
+    match session.answer_all(&plans) {
         Ok(answers) => Ok((session, answers)),
         Err(_) => Err(NoMemory),
     }
 }
 
-/// The text of the answer of an array over a world.
+/// The text of the answer of an array by a service.
 pub(crate) fn array_answer(
     alloc: Global,
-    world: &World,
+    service: &Service<'_>,
     array: &ArrayPlan<'_>,
 ) -> Result<String, NoMemory>
-    requires { All (λ plan. (plan_of plan).bindings ≡ world.now.bindings) array.now.plans.items }
-    ensures { (values : List (Option RequestOf)) → PlansArray world.now values array.now → IfOk result (λ text. AnswersArray world.now values (string_bytes text)) }
+    requires { All (λ plan. plan.bindings ≡ service.now.world.now.bindings) (plans_of array.now) }
+    ensures { IfOk result (λ text. AnswersArrayPlan (service_of service.now) array.now (string_bytes text)) }
 {
-    match answer_plans(alloc, world, array.plans()) {
+    match answer_plans(alloc, service, array) {
         Ok((_, answers)) => Ok(array.text(alloc, &answers)?),
         Err(want) => Err(want),
     }

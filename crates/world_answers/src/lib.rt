@@ -2,7 +2,8 @@
 //!
 //! The layer above may rely on this: [`serve`] writes to each line of its input the one text that answers it over a
 //! [`World`](world::World) (`specs/Lines.antt`). The text is a refusal, or that of direct execution, where each load is answered
-//! at once by the rows of its key (`specs/Answers.antt`): no memory, round, batch or limit changes it. And it was answered with
+//! at once by the rows of its key (`specs/Answers.antt`): no memory, round, batch or limit of a batch changes it. With
+//! [`serve_limited`] an answer may have as many bytes as a [`Service`] says; a longer one is refused. And it was answered with
 //! the headline (`load_rounds`, `specs/Headline.antt`) in the session of the world, which [`Sessions`] gives and of which each line
 //! has its own: a new one, over the world's sources, with its limit. A line that is an array has such a text for each of its
 //! values; its plans were answered with the headline of several requests, in one session (`specs/Arrays.antt`). A crate that
@@ -15,6 +16,7 @@ mod arrays;
 mod law;
 mod planning;
 mod run;
+mod service;
 mod serving;
 mod sessions;
 
@@ -23,5 +25,6 @@ pub use arrays::ArrayPlan;
 pub use law::one_answer;
 pub use planning::{LinePlan, RequestPlan, plan_line};
 pub use run::{RunDocuments, Served};
-pub use serving::serve;
+pub use service::Service;
+pub use serving::{serve, serve_limited};
 pub use sessions::Sessions;

@@ -1,9 +1,8 @@
 //! What request lines ask over a world.
 
-ghost use Rattle.std.specs.Prelude.{◌≡◌, IfOk, false, option_map, string_bytes};
+ghost use Rattle.std.specs.Prelude.{◌≡◌, IfOk, option_map, string_bytes};
 ghost use Rattle.request_line.specs.Seen.{request_of, requests_of};
-ghost use Rattle.world.specs.Requests.{is_want_of_memory, request_message, request_place};
-ghost use Rattle.world_answers.specs.Answers.{refusal_text, not_a_request};
+ghost use Rattle.world_answers.specs.Answers.{RefusesFault, not_a_request};
 ghost use Rattle.world_answers.specs.Planning.{PlansRequest, PlansValue, PlansArray, PlansLine};
 
 use crate::arrays::ArrayPlan;
@@ -35,8 +34,7 @@ pub enum LinePlan<'w> {
 
 // The refusal of a request that has no plan.
 pub(crate) fn refusal(alloc: Global, fault: &RequestFault) -> Result<String, NoMemory>
-    ensures { IfOk result (λ text. (is_want_of_memory fault.now ≡ false)
-        × (string_bytes text ≡ refusal_text (request_message fault.now) (request_place fault.now))) }
+    ensures { IfOk result (λ text. RefusesFault fault.now (string_bytes text)) }
 {
     if fault.is_want_of_memory() {
         return Err(NoMemory);

@@ -5,7 +5,7 @@ use Rattle.command_line.specs.declared.stop.Stop.{Stop}
 use Rattle.command_line.specs.declared.stop.Stop.TheVariants as stop
 use Rattle.command_line.specs.declared.origin.LocatedStop.{LocatedStop}
 use Rattle.command_line.specs.declared.origin.Origin.{Origin}
-use Rattle.command_line.specs.declared.origin.Spot.TheVariants as spot
+use Rattle.command_line.specs.declared.origin.Location.TheVariants as location
 use Rattle.command_line.specs.declared.origin.Subject.{Subject}
 use Rattle.command_line.specs.declared.origin.Subject.TheVariants as subject
 use Rattle.command_line.specs.declared.words.Words.{Words}
@@ -35,7 +35,7 @@ IsUnopened other = IsUnread other
 -- it is about this file, and says what the system says
 abbrev pub IsReasonOf : Subject → Option Origin → Type 0
 IsReasonOf subject None = ⊥
-IsReasonOf subject (Some origin) = (origin.subject ≡ subject) × ((error : _) × (origin.spot ≡ spot.Reason error))
+IsReasonOf subject (Some origin) = (origin.subject ≡ subject) × ((error : _) × (origin.location ≡ location.Reason error))
 
 -- a file that can't be opened or read has a reason, a table is named, and want of memory is in no file
 abbrev pub IsIn : Subject → Stop → Option Origin → Type 0

@@ -6,7 +6,7 @@ ghost use Rattle.world.specs.Sources.{TableOf};
 ghost use Rattle.world.specs.Worlds.{IsWorld};
 ghost use Rattle.world_files.specs.Opening.{IsUnreadIn, IsUnopenedIn, IsUnopenedOf, IsUnmade, IsLocated, IsWholeOrLong};
 
-use command_line::{LocatedStop, Origin, Spot, Stop, Subject, Words};
+use command_line::{LocatedStop, Location, Origin, Stop, Subject, Words};
 use csv_source::{Table, TableFault};
 use gq_lexer::MAX_BYTES;
 use line_serving::ServeFault;
@@ -40,7 +40,7 @@ fn stopped_at(subject: Subject, error: &io::Error) -> LocatedStop
         stop: Stop::File,
         origin: Some(Origin {
             subject,
-            spot: Spot::Reason(*error),
+            location: Location::Reason(*error),
         }),
     }
 }
@@ -145,13 +145,13 @@ impl<R: Read> Read for Keeping<R> {
 fn refused(subject: Subject, fault: TableFault, kept: Option<io::Error>) -> LocatedStop
     ensures { IsUnopenedIn subject result }
 {
-    let spot = match (fault, kept) {
-        (TableFault::ReadFault, Some(error)) => Spot::Reason(error),
-        _ => Spot::Whole,
+    let location = match (fault, kept) {
+        (TableFault::ReadFault, Some(error)) => Location::Reason(error),
+        _ => Location::Whole,
     };
     LocatedStop {
         stop: Stop::Table(fault),
-        origin: Some(Origin { subject, spot }),
+        origin: Some(Origin { subject, location }),
     }
 }
 

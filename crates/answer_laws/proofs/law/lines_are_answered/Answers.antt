@@ -2,4 +2,4 @@ use Rattle.answer_laws.proofs.Lines.{line-there}
 use Rattle.answer_laws.proofs.law.lines_are_answered.Goals as goal
 
 pub returns : goal.returns
-returns c = λ w line has short. line-there w has line short
+returns c = λ s line has short. line-there s has line short

@@ -2,4 +2,4 @@ use Rattle.answer_laws.proofs.Answered.{plan-answered}
 use Rattle.answer_laws.proofs.law.plans_are_answered.Goals as goal
 
 pub returns : goal.returns
-returns c = λ w plan has bound valid. plan-answered w plan has bound valid
+returns c = λ s plan has bound valid. plan-answered s plan has bound valid

@@ -3,7 +3,7 @@ use Rattle.std.specs.Prelude.{All}
 use Rattle.execution.specs.Program.{Program}
 use Rattle.load_rounds.specs.Sessions.{state_of}
 use Rattle.load_rounds.specs.Headline.{StopsAnswering}
-use Rattle.load_rounds.specs.SharedRounds.{requests, together, told_of, SharedHeadline}
+use Rattle.load_rounds.specs.SharedRounds.{requests, together, report_of, SharedHeadline}
 use Rattle.load_rounds.specs.Runs.{IsRun}
 use Rattle.load_rounds.specs.declared.run.Stage.{Stage}
 use Rattle.load_rounds.specs.declared.run.Stage.TheVariants.{Ready}
@@ -52,7 +52,7 @@ returns-in-Finished-clause-answers g c =
     let old = state_of c.args.session.now in
     let new = state_of c.next_round.new.session in
     let done = rw c.in-Finished.is at c.in_ok-answers.ensures.answers in
-    subst (λ ps. SharedHeadline g.S.Source.may_answer old new (requests g.P.Execute.program g.P.Execute.text_of ps) (map told_of c.in-Finished.answers.items)) c.loop-run.invariant.plans (done old c.loop-run.invariant.begun)
+    subst (λ ps. SharedHeadline g.S.Source.may_answer old new (requests g.P.Execute.program g.P.Execute.text_of ps) (map report_of c.in-Finished.answers.items)) c.loop-run.invariant.plans (done old c.loop-run.invariant.begun)
 
 pub make_round-requires : goal.make_round-requires
 make_round-requires g c =

@@ -7,13 +7,13 @@ pub returns-clause-one : goal.returns-clause-one
 returns-clause-one g c = λ old turned worked p text_of turn work t w.
     let may = g.S.Source.may_answer in
     let item = g.S.PerKey.item_at in
-    let told = (g.met.S.PerKey g.world.𝓛 g.world.𝓜 g.world.𝓡 ((λ s x. x), (λ x. x), (λ x. x), (λ x. x))).key_by_key in (
-      one-text may item told old worked turned p text_of (string_bytes work.text) (string_bytes turn.text) work.rounds turn.rounds w t,
-      one-count may item told old worked turned p text_of (string_bytes work.text) (string_bytes turn.text) work.rounds turn.rounds w t,
-      one-state may item told old worked turned p text_of (string_bytes work.text) (string_bytes turn.text) work.rounds turn.rounds w t,
+    let by_key = (g.met.S.PerKey g.world.𝓛 g.world.𝓜 g.world.𝓡 ((λ s x. x), (λ x. x), (λ x. x), (λ x. x))).key_by_key in (
+      one-text may item by_key old worked turned p text_of (string_bytes work.text) (string_bytes turn.text) work.rounds turn.rounds w t,
+      one-count may item by_key old worked turned p text_of (string_bytes work.text) (string_bytes turn.text) work.rounds turn.rounds w t,
+      one-state may item by_key old worked turned p text_of (string_bytes work.text) (string_bytes turn.text) work.rounds turn.rounds w t,
     )
 
 pub returns-clause-several : goal.returns-clause-several
 returns-clause-several g c =
-    let told = (g.met.S.PerKey g.world.𝓛 g.world.𝓜 g.world.𝓡 ((λ s x. x), (λ x. x), (λ x. x), (λ x. x))).key_by_key in
-    answered-alike g.S.Source.may_answer g.S.PerKey.item_at told
+    let by_key = (g.met.S.PerKey g.world.𝓛 g.world.𝓜 g.world.𝓡 ((λ s x. x), (λ x. x), (λ x. x), (λ x. x))).key_by_key in
+    answered-alike g.S.Source.may_answer g.S.PerKey.item_at by_key

@@ -3,7 +3,7 @@ use Rattle.std.specs.List.{filter}
 use Rattle.gq_parser.specs.Tree.{Directive, directive_of}
 use Rattle.document_rules.specs.Scans.{with_all}
 use Rattle.document_rules.specs.Named.{named_directive}
-use Rattle.document_rules.specs.DirectivesDefined.{is_defined}
+use Rattle.document_rules.specs.DirectivesAreDefined.{is_defined}
 use Rattle.document_rules.proofs.directives.add_undefined.Given as goal
 
 abbrev pub invariant-loop-directive : goal.invariant-loop-directive

@@ -3,7 +3,7 @@ use Rattle.std.specs.List.{flat_map}
 use Rattle.document_parts.specs.Parts.{directive_list_of}
 use Rattle.document_parts.specs.Broken.{earliest}
 use Rattle.document_rules.specs.Scans.{with_all}
-use Rattle.document_rules.specs.DirectiveLocations.{misplaced_directives}
+use Rattle.document_rules.specs.DirectivesAreInValidLocations.{misplaced_directives}
 use Rattle.document_rules.proofs.directives.directives_are_in_valid_locations.Given as goal
 
 abbrev pub invariant-loop-list : goal.invariant-loop-list

@@ -7,8 +7,8 @@ use Rattle.document_parts.specs.Broken.{BrokenOf}
 use Rattle.document_rules.specs.Named.{named_directive}
 use Rattle.document_rules.specs.Repeated.{repeated}
 use Rattle.document_rules.specs.Scans.{with_all}
-use Rattle.document_rules.specs.DirectivesUnique.{repeated_directives}
-use Rattle.document_rules.proofs.ScanLaws.{drop-next, told-more}
+use Rattle.document_rules.specs.DirectivesAreUniquePerLocation.{repeated_directives}
+use Rattle.document_rules.proofs.ScanLaws.{drop-next, report-more}
 use Rattle.document_rules.proofs.directives.directives_are_unique_per_location.Goals as goal
 
 pub loop-list-preserved : goal.loop-list-preserved
@@ -19,5 +19,5 @@ loop-list-preserved c =
     let own = item.directives.now in
     let old = c.loop-list.earliest in
     let tells = c.in_ok-add_repeated.ensures ∙ ap (λ (bs : List BrokenOf). with_all old (repeated bs)) (sym (map-map named_directive directive_of own)) in
-    told-more old c.add_repeated.new.earliest (repeated (map named_directive (map directive_of own))) (flat_map repeated_directives (map directive_list_of (drop (i + 1) all))) tells
+    report-more old c.add_repeated.new.earliest (repeated (map named_directive (map directive_of own))) (flat_map repeated_directives (map directive_list_of (drop (i + 1) all))) tells
     ∙ rw (drop-next all i item c.loop-list-test.true c.list-item.is) at c.loop-list.invariant

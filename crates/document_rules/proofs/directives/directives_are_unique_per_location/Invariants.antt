@@ -3,7 +3,7 @@ use Rattle.std.specs.List.{flat_map}
 use Rattle.document_parts.specs.Parts.{directive_list_of}
 use Rattle.document_parts.specs.Broken.{earliest}
 use Rattle.document_rules.specs.Scans.{with_all}
-use Rattle.document_rules.specs.DirectivesUnique.{repeated_directives}
+use Rattle.document_rules.specs.DirectivesAreUniquePerLocation.{repeated_directives}
 use Rattle.document_rules.proofs.directives.directives_are_unique_per_location.Given as goal
 
 abbrev pub invariant-loop-list : goal.invariant-loop-list

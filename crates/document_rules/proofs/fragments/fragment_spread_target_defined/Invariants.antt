@@ -3,7 +3,7 @@ use Rattle.std.specs.List.{filter}
 use Rattle.document_parts.specs.Parts.{spread_part_of}
 use Rattle.document_parts.specs.Broken.{earliest}
 use Rattle.document_rules.specs.Scans.{with_all}
-use Rattle.document_rules.specs.SpreadTargets.{is_undefined, named_spread}
+use Rattle.document_rules.specs.FragmentSpreadTargetDefined.{is_undefined, named_spread}
 use Rattle.document_rules.proofs.fragments.fragment_spread_target_defined.Given as goal
 
 abbrev pub invariant-loop-part : goal.invariant-loop-part

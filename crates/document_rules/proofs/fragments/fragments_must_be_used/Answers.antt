@@ -2,7 +2,7 @@ use Rattle.std.proofs.Common.{◌≡◌, ◌∙◌, arith, string_bytes}
 use Rattle.std.proofs.lemmas.Grind.{common_steps}
 use Rattle.std.specs.List.{list_any}
 use Rattle.document_parts.specs.Parts.{parts_in}
-use Rattle.document_rules.specs.FragmentsUsed.{spreads}
+use Rattle.document_rules.specs.FragmentsMustBeUsed.{spreads}
 use Rattle.document_rules.proofs.fragments.fragments_must_be_used.Goals as goal
 
 pub loop-fragment-preserved : goal.loop-fragment-preserved

@@ -5,7 +5,7 @@ use Rattle.document_parts.specs.Parts.{spread_part_of}
 use Rattle.document_parts.specs.Broken.{earliest}
 use Rattle.document_rules.specs.Scans.{with_all}
 use Rattle.document_rules.specs.Named.{named_fragment}
-use Rattle.document_rules.specs.FragmentsUsed.{is_unused}
+use Rattle.document_rules.specs.FragmentsMustBeUsed.{is_unused}
 use Rattle.document_rules.proofs.fragments.fragments_must_be_used.Given as goal
 
 abbrev pub invariant-loop-fragment : goal.invariant-loop-fragment

@@ -2,7 +2,7 @@ use Rattle.std.proofs.Common.{map, drop, string_bytes, ◌+◌}
 use Rattle.std.specs.List.{list_any}
 use Rattle.document_parts.specs.Parts.{spread_part_of}
 use Rattle.document_rules.specs.Scans.{has_text}
-use Rattle.document_rules.specs.FragmentsUsed.{spreads}
+use Rattle.document_rules.specs.FragmentsMustBeUsed.{spreads}
 use Rattle.document_rules.proofs.ScanLaws.{drop-next, noted-name, or-more}
 use Rattle.document_rules.proofs.fragments.spread_names.Goals as goal
 

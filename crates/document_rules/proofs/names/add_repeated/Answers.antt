@@ -2,7 +2,7 @@ use Rattle.std.proofs.Common.{◌≡◌, ◌∙◌, ◌+◌, ap, ◌∷◌, map,
 use Rattle.std.proofs.lemmas.List.{length-map}
 use Rattle.document_parts.specs.Broken.{BrokenOf}
 use Rattle.document_rules.specs.Named.{named}
-use Rattle.document_rules.specs.Scans.{told, has_text, left}
+use Rattle.document_rules.specs.Scans.{report, has_text, left}
 use Rattle.document_rules.proofs.ScanLaws.{drop-next, left-all, repeated-short}
 use Rattle.document_rules.proofs.names.add_repeated.Goals as goal
 
@@ -12,7 +12,7 @@ returns-then-parts-lt2 g c =
 
 pub loop-part-init : goal.loop-part-init
 loop-part-init g c =
-    left-all (has_text c.new-names.result) (told c.args.earliest.now) (map g.T.Named.part c.args.parts.now) (λ q. rw c.new-names.ensures.empty)
+    left-all (has_text c.new-names.result) (report c.args.earliest.now) (map g.T.Named.part c.args.parts.now) (λ q. rw c.new-names.ensures.empty)
 
 pub loop-part-preserved : goal.loop-part-preserved
 loop-part-preserved g c =

@@ -3,7 +3,7 @@ use Rattle.std.specs.List.{filter}
 use Rattle.gq_parser.specs.Tree.{operation_of}
 use Rattle.document_parts.specs.Broken.{earliest}
 use Rattle.document_rules.specs.Scans.{with_all}
-use Rattle.document_rules.specs.LoneAnonymous.{is_anonymous, anonymous}
+use Rattle.document_rules.specs.LoneAnonymousOperation.{is_anonymous, anonymous}
 use Rattle.document_rules.proofs.operations.lone_anonymous_operation.Given as goal
 
 abbrev pub invariant-loop-operation : goal.invariant-loop-operation

@@ -2,7 +2,7 @@ use Rattle.std.proofs.Common.{map, None}
 use Rattle.std.specs.List.{filter_map}
 use Rattle.gq_parser.specs.Tree.{operation_of}
 use Rattle.document_rules.specs.Scans.{has_text}
-use Rattle.document_rules.specs.OperationNames.{named_operation}
+use Rattle.document_rules.specs.OperationNameUniqueness.{named_operation}
 use Rattle.document_rules.proofs.ScanLaws.{left-all}
 use Rattle.document_rules.proofs.operations.operation_name_uniqueness.Goals as goal
 

@@ -4,7 +4,7 @@ use Rattle.gq_parser.specs.Tree.{operation_of}
 use Rattle.document_parts.specs.Broken.{earliest}
 use Rattle.document_rules.specs.Scans.{left}
 use Rattle.document_rules.specs.Repeated.{repeated}
-use Rattle.document_rules.specs.OperationNames.{named_operation}
+use Rattle.document_rules.specs.OperationNameUniqueness.{named_operation}
 use Rattle.document_rules.proofs.operations.operation_name_uniqueness.Given as goal
 
 abbrev pub invariant-loop-operation : goal.invariant-loop-operation

@@ -6,9 +6,9 @@ use Rattle.std.proofs.lemmas.List.Elements.{filter_agree}
 use Rattle.gq_parser.specs.Tree.{VariableDefinition, operation_of}
 use Rattle.document_rules.specs.Named.{named_variable}
 use Rattle.document_rules.specs.Scans.{with_all}
-use Rattle.document_rules.specs.VariablesUsed.{is_unused, unused_variables}
+use Rattle.document_rules.specs.AllVariablesUsed.{is_unused, unused_variables}
 use Rattle.document_rules.specs.UseTable.{has_if}
-use Rattle.document_rules.proofs.ScanLaws.{told-more}
+use Rattle.document_rules.proofs.ScanLaws.{report-more}
 use Rattle.document_rules.proofs.SetLaws.{drop-seen}
 use Rattle.document_rules.proofs.UsedLaws.{used_by}
 use Rattle.document_rules.proofs.variables.add_unused_of_batch.Goals as goal
@@ -35,4 +35,4 @@ loop-number-preserved c = λ g uses holds are.
     let next : first + (n + 1) ≡ suc (first + n) = omega arith in
     let here : with_all old (unused_variables g uses (first + n) (o ∷ drop (suc (first + n)) (map operation_of all))) ≡ with_all c.args.earliest.now (unused_variables g uses first (drop first (map operation_of all))) =
     rw (drop-seen operation_of all (first + n) item within at) at (c.loop-number.invariant g uses holds are) in
-    rw next (told-more old new (map named_variable (filter (is_unused g uses (first + n)) o.variables)) rest unused ∙ rw add-one at here)
+    rw next (report-more old new (map named_variable (filter (is_unused g uses (first + n)) o.variables)) rest unused ∙ rw add-one at here)

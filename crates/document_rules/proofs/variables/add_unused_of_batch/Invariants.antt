@@ -2,7 +2,7 @@ use Rattle.std.proofs.Common.{◌≡◌, ◌+◌, List, drop}
 use Rattle.document_parts.specs.Parts.{VariableUse}
 use Rattle.spread_graph.specs.Graphs.{GraphOf}
 use Rattle.document_rules.specs.Scans.{with_all}
-use Rattle.document_rules.specs.VariablesUsed.{unused_variables}
+use Rattle.document_rules.specs.AllVariablesUsed.{unused_variables}
 use Rattle.document_rules.specs.UseRows.{IsUseTable}
 use Rattle.document_rules.specs.BatchSteps.{operations_in, IsReached}
 use Rattle.document_rules.proofs.variables.add_unused_of_batch.Given as goal

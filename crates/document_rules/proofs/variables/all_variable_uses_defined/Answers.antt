@@ -3,7 +3,7 @@ use Rattle.std.proofs.lemmas.Grind.{common_steps}
 use Rattle.std.proofs.lemmas.List.{length-map}
 use Rattle.gq_parser.specs.Tree.{document_of}
 use Rattle.document_parts.specs.Parts.{use_of}
-use Rattle.document_rules.specs.UsesDefined.{one_lacks}
+use Rattle.document_rules.specs.AllVariableUsesDefined.{one_lacks}
 use Rattle.document_rules.proofs.UseLaws.{use_at-map}
 use Rattle.std.proofs.lemmas.List.{drop_all}
 use Rattle.document_rules.proofs.variables.all_variable_uses_defined.Goals as goal

@@ -5,7 +5,7 @@ use Rattle.document_parts.specs.Broken.{earliest}
 use Rattle.document_parts.specs.Parts.{use_of}
 use Rattle.document_rules.specs.Scans.{with_all}
 use Rattle.document_rules.specs.VariableReach.{named_use}
-use Rattle.document_rules.specs.UsesDefined.{one_lacks}
+use Rattle.document_rules.specs.AllVariableUsesDefined.{one_lacks}
 use Rattle.document_rules.proofs.variables.all_variable_uses_defined.Given as goal
 
 abbrev pub invariant-loop-place : goal.invariant-loop-place

@@ -3,7 +3,7 @@ use Rattle.gq_parser.specs.Tree.{operation_of}
 use Rattle.document_parts.specs.Broken.{earliest}
 use Rattle.document_parts.specs.Parts.{use_of}
 use Rattle.document_rules.specs.Scans.{with_all}
-use Rattle.document_rules.specs.VariablesUsed.{unused_variables}
+use Rattle.document_rules.specs.AllVariablesUsed.{unused_variables}
 use Rattle.document_rules.proofs.variables.all_variables_used.Given as goal
 
 abbrev pub invariant-loop-first : goal.invariant-loop-first

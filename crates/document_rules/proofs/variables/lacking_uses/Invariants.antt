@@ -1,7 +1,7 @@
 use Rattle.std.proofs.Common.{◌≡◌, ◌-◌, ◌<◌, ℕ, List, length, map}
 use Rattle.gq_parser.specs.Tree.{operation_of}
 use Rattle.document_parts.specs.Parts.{VariableUse}
-use Rattle.document_rules.specs.UsesDefined.{one_lacks}
+use Rattle.document_rules.specs.AllVariableUsesDefined.{one_lacks}
 use Rattle.document_rules.specs.UseRows.{use_at, IsUseTable}
 use Rattle.document_rules.specs.BatchSteps.{is_noted_or_lacks}
 use Rattle.document_rules.proofs.variables.lacking_uses.Given as goal

@@ -6,8 +6,8 @@ use Rattle.document_parts.specs.Broken.{BrokenOf}
 use Rattle.document_rules.specs.Named.{named_variable}
 use Rattle.document_rules.specs.Repeated.{repeated}
 use Rattle.document_rules.specs.Scans.{with_all}
-use Rattle.document_rules.specs.VariableNames.{repeated_variables}
-use Rattle.document_rules.proofs.ScanLaws.{drop-next, told-more}
+use Rattle.document_rules.specs.VariableUniqueness.{repeated_variables}
+use Rattle.document_rules.proofs.ScanLaws.{drop-next, report-more}
 use Rattle.document_rules.proofs.variables.variable_uniqueness.Goals as goal
 
 pub loop-operation-preserved : goal.loop-operation-preserved
@@ -18,5 +18,5 @@ loop-operation-preserved c =
     let own = item.variables.items in
     let old = c.loop-operation.earliest in
     let tells = rw c.deref.ensures.value at (c.in_ok-add_repeated.ensures ∙ ap (λ (bs : List BrokenOf). with_all old (repeated bs)) (sym (map-map named_variable variable_of c.deref.result.now))) in
-    told-more old c.add_repeated.new.earliest (repeated (map named_variable (map variable_of own))) (flat_map repeated_variables (map operation_of (drop (i + 1) all))) tells
+    report-more old c.add_repeated.new.earliest (repeated (map named_variable (map variable_of own))) (flat_map repeated_variables (map operation_of (drop (i + 1) all))) tells
     ∙ rw (drop-next all i item c.loop-operation-test.true c.operation-item.is) at c.loop-operation.invariant

@@ -3,7 +3,7 @@ use Rattle.std.specs.List.{flat_map}
 use Rattle.gq_parser.specs.Tree.{operation_of}
 use Rattle.document_parts.specs.Broken.{earliest}
 use Rattle.document_rules.specs.Scans.{with_all}
-use Rattle.document_rules.specs.VariableNames.{repeated_variables}
+use Rattle.document_rules.specs.VariableUniqueness.{repeated_variables}
 use Rattle.document_rules.proofs.variables.variable_uniqueness.Given as goal
 
 abbrev pub invariant-loop-operation : goal.invariant-loop-operation

@@ -15,4 +15,4 @@ pub returns-clause-together : goal.returns-clause-together
 returns-clause-together c = λ rules M loads positive lacking. together rules M loads positive lacking
 
 pub returns-clause-again : goal.returns-clause-again
-returns-clause-again c = λ rules M first later replies others between cell positive steps one two. again any_answer rules M first later replies others between cell positive steps one two
+returns-clause-again c = λ rules M t positive h. again any_answer rules M t.first t.later t.replies t.others t.between t.cell positive h.steps h.first h.later

@@ -3,4 +3,4 @@ use Rattle.execution.proofs.RoundLaws.{rounds-chain}
 use Rattle.execution.proofs.law.rounds_within_the_chain.Goals as goal
 
 pub returns : goal.returns
-returns c = λ rules p M rounds end positive within log. rounds-chain any_answer rules p M rounds end positive within log.0
+returns c = λ log is. rounds-chain any_answer log.rules log.program log.start log.rounds log.end is.limited is.within is.lawful.0

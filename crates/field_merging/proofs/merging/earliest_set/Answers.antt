@@ -4,7 +4,7 @@ use Rattle.std.specs.Option.{option_map}
 use Rattle.selection_members.specs.declared.visiting.ClashingSet.{ClashingSet}
 use Rattle.selection_members.specs.Members.{SetOf}
 use Rattle.selection_members.specs.Walks.{clashing_of, IsInside}
-use Rattle.field_merging.specs.Told.{with_set, earliest_set}
+use Rattle.field_merging.specs.Reports.{with_set, earliest_set}
 use Rattle.field_merging.proofs.Joining.{next-of}
 use Rattle.field_merging.proofs.merging.earliest_set.Goals as goal
 use Rattle.field_merging.proofs.merging.earliest_set.Goals.{in-Some, in-None}
@@ -17,13 +17,13 @@ loop-set-preserved c =
     let before = c.loop-set.invariant in
     record {
       set = λ spread.
-          let told = clashing_of spread in
-          let rest = map told (drop (i + 1) xs) in
-          let left : map told (drop i xs) ≡ told x ∷ rest = next-of told xs i x c.loop-set-test.true c.set-item.is in
-          let so_far : fold with_set (option_map told c.loop-set.earliest) (told x ∷ rest) ≡ earliest_set (map told xs) = ap (fold with_set (option_map told c.loop-set.earliest)) (sym left) ∙ before.set spread in
+          let as_set = clashing_of spread in
+          let rest = map as_set (drop (i + 1) xs) in
+          let left : map as_set (drop i xs) ≡ as_set x ∷ rest = next-of as_set xs i x c.loop-set-test.true c.set-item.is in
+          let so_far : fold with_set (option_map as_set c.loop-set.earliest) (as_set x ∷ rest) ≡ earliest_set (map as_set xs) = ap (fold with_set (option_map as_set c.loop-set.earliest)) (sym left) ∙ before.set spread in
           elim c.match-earliest.branch [
-            | in-Some w ↦ rw w.earliest-is (ap (λ (s : SetOf). fold with_set (Some s) rest) (w.earlier.ensures.set spread) ∙ (ap (λ (o : Option ClashingSet). fold with_set (option_map told o) (told x ∷ rest)) (sym w.in-Some.is) ∙ so_far))
-            | in-None w ↦ rw w.earliest-is (ap (λ (o : Option ClashingSet). fold with_set (option_map told o) (told x ∷ rest)) (sym w.in-None.is) ∙ so_far)
+            | in-Some w ↦ rw w.earliest-is (ap (λ (s : SetOf). fold with_set (Some s) rest) (w.earlier.ensures.set spread) ∙ (ap (λ (o : Option ClashingSet). fold with_set (option_map as_set o) (as_set x ∷ rest)) (sym w.in-Some.is) ∙ so_far))
+            | in-None w ↦ rw w.earliest-is (ap (λ (o : Option ClashingSet). fold with_set (option_map as_set o) (as_set x ∷ rest)) (sym w.in-None.is) ∙ so_far)
           ];
       inside = λ many all.
           let here : IsInside many x = subst (IsInside many) (sym c.set-item.is) (all i x c.loop-set-test.true) in

@@ -2,7 +2,7 @@ use Rattle.std.proofs.Common.{◌≡◌, ℕ, List, drop, map}
 use Rattle.std.specs.Prelude.{fold, All, IfSome}
 use Rattle.std.specs.Option.{option_map}
 use Rattle.selection_members.specs.Walks.{clashing_of, IsInside}
-use Rattle.field_merging.specs.Told.{with_set, earliest_set}
+use Rattle.field_merging.specs.Reports.{with_set, earliest_set}
 use Rattle.field_merging.proofs.merging.earliest_set.Given as goal
 
 abbrev pub invariant-loop-set : goal.invariant-loop-set

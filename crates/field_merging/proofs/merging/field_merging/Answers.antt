@@ -109,4 +109,4 @@ compare-requires-clause-ranked c =
 
 pub returns : goal.returns
 returns c =
-    subst (λ (p : rust.Parts). IfOk c.compare.result (λ told. IsMerging (parts_in p) (option_map broken_of told))) c.grounds_of-grounds.ensures c.compare.ensures
+    subst (λ (p : rust.Parts). IfOk c.compare.result (λ report. IsMerging (parts_in p) (option_map broken_of report))) c.grounds_of-grounds.ensures c.compare.ensures

@@ -68,7 +68,7 @@ returns-clause-first c =
     let reached = c.reached_in-reached.ensures spread (λ _. true) (λ q e. knows q) (all-in (λ _. true) (λ _. refl) (set_of c.args.set.set.now)) in
     let keys = c.failing_keys-keys.ensures rows (renumbered numbers ms) (numbered-below numbers order ms (length p.fields) (length compared.fields.now) grounds.inverse grounds.all compared.all c.requires.under) reached in
     let same : find (is_key c.failing_keys-keys.result numbers) ms ≡ first_clash (fields_of p).one_key (clash rows numbers) ms =
-    first-same p numbers order compared.fields.now rows c.requires.compared.numbered grounds.inverse grounds.all grounds.inside grounds.counted compared.all c.requires.compared.told ms c.failing_keys-keys.result c.requires.under keys in
+    first-same p numbers order compared.fields.now rows c.requires.compared.numbered grounds.inverse grounds.all grounds.inside grounds.counted compared.all c.requires.compared.decided ms c.failing_keys-keys.result c.requires.under keys in
     c.first_member.ensures spread c.requires.compared.known grounds.fixed ∙ same
 
 pub returns-clause-there : goal.returns-clause-there

@@ -4,5 +4,5 @@ use Rattle.gq_check.proofs.rules.merging_fault.Goals as goal
 
 pub field_merging-requires : goal.field_merging-requires
 field_merging-requires c =
-    let rests = before-merging (parts_in c.args.parts.now) c.requires.untold in
+    let rests = before-merging (parts_in c.args.parts.now) c.requires.unreported in
     record { listed = c.requires.listed; graph = c.requires.graph; cycles = rests.0; few = rests.1 }

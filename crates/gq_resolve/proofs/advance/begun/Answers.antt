@@ -6,7 +6,7 @@ use Rattle.gq_parser.proofs.Views.{of_set}
 use Rattle.schema_syntax.specs.declared.tree.Definition.{Definition}
 use Rattle.gq_schema.specs.Types.{tree_of, root_in}
 use Rattle.gq_check.specs.Plans.{PlanOf, plan_of}
-use Rattle.plan_program.specs.Asked.{PreparedOf, all_prepared}
+use Rattle.plan_program.specs.FieldValues.{PreparedOf, all_prepared}
 use Rattle.plan_program.specs.Groups.{selections_in, collect}
 use Rattle.plan_program.specs.Prepared.{all_prepared_seen}
 use Rattle.plan_program.specs.PlanPrograms.{root_prepared}

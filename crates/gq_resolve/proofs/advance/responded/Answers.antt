@@ -4,7 +4,7 @@ use Rattle.load_memory.specs.Pairs.{MemoryOf}
 use Rattle.plan_program.specs.PlanPrograms.{plan_program}
 use Rattle.gq_resolve.specs.Built.{built}
 use Rattle.gq_resolve.specs.Puts.{puts}
-use Rattle.gq_resolve.specs.Evaluated.{told}
+use Rattle.gq_resolve.specs.Evaluated.{lookup}
 use Rattle.gq_resolve.proofs.Loaders.{numbered-plan}
 use Rattle.gq_resolve.proofs.advance.responded.Goals as goal
 
@@ -12,5 +12,5 @@ pub returns : goal.returns
 returns c = λ rooted closed.
     let plan : PlanOf = plan_of c.args.tour.now.plan.now in
     let m : MemoryOf = c.args.tour.now.memory.now in
-    c.finish.ensures (plan_program plan) (told m)
-    (record { numbered = numbered-plan plan; closed = closed; put = (c.in_ok-out.ensures rooted tt).put ∙ ap (built (puts false (plan_program plan) (told m))) c.new.ensures })
+    c.finish.ensures (plan_program plan) (lookup m)
+    (record { numbered = numbered-plan plan; closed = closed; put = (c.in_ok-out.ensures rooted tt).put ∙ ap (built (puts false (plan_program plan) (lookup m))) c.new.ensures })

@@ -7,7 +7,7 @@ use Rattle.plan_program.specs.PlanPrograms.{plan_program}
 use Rattle.gq_resolve.specs.Answered.{answer_text}
 use Rattle.gq_resolve.specs.Built.{BuiltOf, built, nothing_built}
 use Rattle.gq_resolve.specs.Puts.{puts}
-use Rattle.gq_resolve.specs.Evaluated.{told}
+use Rattle.gq_resolve.specs.Evaluated.{lookup}
 use Rattle.gq_resolve.proofs.Loaders.{numbered-plan}
 use Rattle.gq_resolve.proofs.Limiting.{responds}
 use Rattle.gq_resolve.proofs.advance.responded_within.Goals as goal
@@ -17,10 +17,10 @@ returns c = λ rooted.
     let plan : PlanOf = plan_of c.args.tour.now.plan.now in
     let m : MemoryOf = c.args.tour.now.memory.now in
     let p : Program = plan_program plan in
-    let all : BuiltOf = built (puts false p (told m)) nothing_built in
+    let all : BuiltOf = built (puts false p (lookup m)) nothing_built in
     let over = c.in_ok-builder.ensures rooted tt in
     let held = over.put.1 nothing_built c.new-builder.ensures.bounds in
     let same = over.put.0 ∙ c.new-builder.ensures.most in
     responds c.args.most plan m _
-    (λ closed. c.finish.ensures.whole all p (told m) held (record { numbered = numbered-plan plan; closed = closed; put = refl }))
-    (λ closed. subst (λ (n : ℕ). IfNone c.finish.result (n < length (answer_text (completed (tree p (told m)))))) same (c.finish.ensures.too_long all p (told m) held (record { numbered = numbered-plan plan; closed = closed; put = refl })))
+    (λ closed. c.finish.ensures.whole all p (lookup m) held (record { numbered = numbered-plan plan; closed = closed; put = refl }))
+    (λ closed. subst (λ (n : ℕ). IfNone c.finish.result (n < length (answer_text (completed (tree p (lookup m)))))) same (c.finish.ensures.too_long all p (lookup m) held (record { numbered = numbered-plan plan; closed = closed; put = refl })))

@@ -7,39 +7,39 @@ use Rattle.execution.specs.Loads.{Reader}
 use Rattle.plan_program.specs.PlanPrograms.{read_key, first_of, joined_object}
 use Rattle.gq_resolve.specs.Following.{stepped_puts}
 use Rattle.gq_resolve.specs.Puts.{Waits}
-use Rattle.gq_resolve.specs.Evaluated.{told}
+use Rattle.gq_resolve.specs.Evaluated.{lookup}
 use Rattle.gq_resolve.specs.Steps.{last_steps}
 use Rattle.gq_resolve.specs.declared.following.Stepped.{Stepped}
 use Rattle.gq_resolve.proofs.Stepping.{reach-step, left-after}
 use Rattle.gq_resolve.proofs.following.follow_steps.Goals as goal
 
-pub returns-in-Own : goal.returns-in-Own
-returns-in-Own c = λ strict defs objects below.
-    let R : Reader = told c.args.memory.now in
+pub returns-in-LeafValue : goal.returns-in-LeafValue
+returns-in-LeafValue c = λ non_null defs objects below.
+    let R : Reader = lookup c.args.memory.now in
     let steps : List Step = c.args.steps.now in
     let i : ℕ = c.loop-number.number in
     let s : Step = c.index-steps-number.result in
     let lt : i < length steps = omega (arith, c.loop-number-test.true) in
-    reach-step R (last_steps c.args.left (map step_of steps)) c.args.from.now steps i s c.loop-number.row.now c.in_ok-next.field-0 c.loop-number.invariant lt c.index-steps-number.is c.in_ok-next.ensures strict defs objects below
-    ∙ ap (λ (there : Stepped). stepped_puts strict R s.loader (joined_object defs objects below (drop (i + 1) (map step_of steps))) there) c.in-Own.is
+    reach-step R (last_steps c.args.left (map step_of steps)) c.args.from.now steps i s c.loop-number.row.now c.in_ok-next.field-0 c.loop-number.invariant lt c.index-steps-number.is c.in_ok-next.ensures non_null defs objects below
+    ∙ ap (λ (there : Stepped). stepped_puts non_null R s.loader (joined_object defs objects below (drop (i + 1) (map step_of steps))) there) c.in-LeafValue.is
 
 pub returns-in-Missing : goal.returns-in-Missing
-returns-in-Missing c = λ strict defs objects below.
-    let R : Reader = told c.args.memory.now in
+returns-in-Missing c = λ non_null defs objects below.
+    let R : Reader = lookup c.args.memory.now in
     let steps : List Step = c.args.steps.now in
     let i : ℕ = c.loop-number.number in
     let s : Step = c.index-steps-number.result in
     let lt : i < length steps = omega (arith, c.loop-number-test.true) in
-    reach-step R (last_steps c.args.left (map step_of steps)) c.args.from.now steps i s c.loop-number.row.now c.in_ok-next.field-0 c.loop-number.invariant lt c.index-steps-number.is c.in_ok-next.ensures strict defs objects below
-    ∙ ap (λ (there : Stepped). stepped_puts strict R s.loader (joined_object defs objects below (drop (i + 1) (map step_of steps))) there) c.in-Missing.is
+    reach-step R (last_steps c.args.left (map step_of steps)) c.args.from.now steps i s c.loop-number.row.now c.in_ok-next.field-0 c.loop-number.invariant lt c.index-steps-number.is c.in_ok-next.ensures non_null defs objects below
+    ∙ ap (λ (there : Stepped). stepped_puts non_null R s.loader (joined_object defs objects below (drop (i + 1) (map step_of steps))) there) c.in-Missing.is
     ∙ ap (λ (ss : List StepOf). Waits (read_key s.loader (borrowed_of c.in-Missing.key) (first_of (joined_object defs objects below ss))) ∷ []) (left-after steps i (length steps - i - 1) lt refl)
 
 pub loop-number-preserved : goal.loop-number-preserved
-loop-number-preserved c = λ strict defs objects below.
-    let R : Reader = told c.args.memory.now in
+loop-number-preserved c = λ non_null defs objects below.
+    let R : Reader = lookup c.args.memory.now in
     let steps : List Step = c.args.steps.now in
     let i : ℕ = c.loop-number.number in
     let s : Step = c.index-steps-number.result in
     let lt : i < length steps = omega (arith, c.loop-number-test.true) in
-    reach-step R (last_steps c.args.left (map step_of steps)) c.args.from.now steps i s c.loop-number.row.now c.in_ok-next.field-0 c.loop-number.invariant lt c.index-steps-number.is c.in_ok-next.ensures strict defs objects below
-    ∙ ap (λ (there : Stepped). stepped_puts strict R s.loader (joined_object defs objects below (drop (i + 1) (map step_of steps))) there) c.in-Row.is
+    reach-step R (last_steps c.args.left (map step_of steps)) c.args.from.now steps i s c.loop-number.row.now c.in_ok-next.field-0 c.loop-number.invariant lt c.index-steps-number.is c.in_ok-next.ensures non_null defs objects below
+    ∙ ap (λ (there : Stepped). stepped_puts non_null R s.loader (joined_object defs objects below (drop (i + 1) (map step_of steps))) there) c.in-Row.is

@@ -1,9 +1,9 @@
 use Rattle.std.proofs.Common.{map, drop}
 use Rattle.gq_schema.specs.BindingsSeen.{step_of}
-use Rattle.gq_resolve.specs.Evaluated.{told}
+use Rattle.gq_resolve.specs.Evaluated.{lookup}
 use Rattle.gq_resolve.specs.Steps.{last_steps}
 use Rattle.gq_resolve.proofs.Stepping.{Reaches}
 use Rattle.gq_resolve.proofs.following.follow_steps.Given as goal
 
 abbrev pub invariant-loop-number : goal.invariant-loop-number
-invariant-loop-number l = Reaches (told l.memory) (last_steps l.left (map step_of l.steps)) l.from (drop l.number (map step_of l.steps)) l.row
+invariant-loop-number l = Reaches (lookup l.memory) (last_steps l.left (map step_of l.steps)) l.from (drop l.number (map step_of l.steps)) l.row

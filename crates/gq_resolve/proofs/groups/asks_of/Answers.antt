@@ -1,6 +1,6 @@
 use Rattle.std.proofs.Common.{refl}
-use Rattle.plan_program.specs.Prepared.{asked_seen}
-use Rattle.gq_resolve.specs.Groups.{below_in}
+use Rattle.plan_program.specs.Prepared.{value_from_seen}
+use Rattle.gq_resolve.specs.Groups.{children_in}
 use Rattle.gq_resolve.specs.declared.groups.Then.TheVariants.{Joined}
 use Rattle.gq_resolve.proofs.Grouping.{load-asking}
 use Rattle.gq_resolve.proofs.groups.asks_of.Goals as goal
@@ -8,4 +8,4 @@ use Rattle.gq_resolve.proofs.groups.asks_of.Goals as goal
 pub returns-in_ok-group-in-Joined : goal.returns-in_ok-group-in-Joined
 returns-in_ok-group-in-Joined c =
     rw c.in-Joined.is
-    (load-asking c.args.groups.now.items c.new_group-in-Joined.new.groups.items (Joined c.in-Joined.steps) (below_in c.in-Joined.below) c.in-Joined.loader c.in-Joined.key c.in_ok-group-in-Joined.group _ c.in_ok-group-in-Joined.ensures (λ plan levels row. refl))
+    (load-asking c.args.groups.now.items c.new_group-in-Joined.new.groups.items (Joined c.in-Joined.steps) (children_in c.in-Joined.children) c.in-Joined.loader c.in-Joined.key c.in_ok-group-in-Joined.group _ c.in_ok-group-in-Joined.ensures (λ plan levels row. refl))

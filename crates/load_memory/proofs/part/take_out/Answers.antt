@@ -2,7 +2,7 @@ use Rattle.std.proofs.Common.{None, ◌∙◌, sym, ap}
 use Rattle.std.specs.Prelude.{is_some}
 use Rattle.load_memory.specs.Keys.{cache_of}
 use Rattle.load_memory.proofs.Looks.{same_key-sym}
-use Rattle.load_memory.proofs.ChangeLaws.{look_in-told}
+use Rattle.load_memory.proofs.ChangeLaws.{look_in-found}
 use Rattle.load_memory.proofs.PartLaws.{look_in-put}
 use Rattle.load_memory.proofs.part.take_out.Goals as goal
 
@@ -11,5 +11,5 @@ returns-clause-pairs c = λ q.
     let u = c.remove.ensures.updates in
     rw (same_key-sym (cache_of c.args.key.now) q) (look_in-put c.args.key.now None c.args.part.now.entries c.remove.new.self.entries u.1 u.3 q)
 
-pub returns-clause-told : goal.returns-clause-told
-returns-clause-told c = sym (look_in-told c.args.part.now.entries c.args.key.now c.is_some.result (c.is_some.ensures ∙ ap is_some c.remove.ensures.value))
+pub returns-clause-found : goal.returns-clause-found
+returns-clause-found c = sym (look_in-found c.args.part.now.entries c.args.key.now c.is_some.result (c.is_some.ensures ∙ ap is_some c.remove.ensures.value))

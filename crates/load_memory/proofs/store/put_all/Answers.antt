@@ -40,8 +40,8 @@ loop-pair-preserved-then-put c =
     let room : HaveRoom parts (s ∷ rest) = rw is at was.room in
     let below = All-tail (λ (s : Staged). s.loader < length parts) s rest (rw is at was.loaders) in
     let size = length-set parts s.loader x in
-    let told = c.if-put.true in
-    let more = counted-step parts s rest x d lt c.index_mut.ensures.value 1 (rw told at c.put.ensures.count) in
+    let found = c.if-put.true in
+    let more = counted-step parts s rest x d lt c.index_mut.ensures.value 1 (rw found at c.put.ensures.count) in
     record {
       lined_up = size ∙ was.lined_up;
       own_keys = HaveOwnKeys-set parts s.loader x was.own_keys c.put.ensures.own_keys;
@@ -65,8 +65,8 @@ loop-pair-preserved c =
     let room : HaveRoom parts (s ∷ rest) = rw is at was.room in
     let below = All-tail (λ (s : Staged). s.loader < length parts) s rest (rw is at was.loaders) in
     let size = length-set parts s.loader x in
-    let told = c.if-put.false in
-    let more = counted-step parts s rest x d lt c.index_mut.ensures.value 0 (rw told at c.put.ensures.count) in
+    let found = c.if-put.false in
+    let more = counted-step parts s rest x d lt c.index_mut.ensures.value 0 (rw found at c.put.ensures.count) in
     record {
       lined_up = size ∙ was.lined_up;
       own_keys = HaveOwnKeys-set parts s.loader x was.own_keys c.put.ensures.own_keys;

@@ -2,7 +2,7 @@ use Rattle.std.proofs.Common.{◌≡◌, ◌<◌, ◌+◌, suc, length, is_none,
 use Rattle.load_memory.specs.Pairs.{look}
 use Rattle.execution.specs.Front.{front, wanting, modes_wanted}
 use Rattle.load_rounds.specs.Together.{plans_in, fronts}
-use Rattle.load_rounds.proofs.GoingOn.{none-go-on, all-go-on, go-on-length, next-fits, next-enough, one-goes-on, one-front, wanting-modes, untold-more}
+use Rattle.load_rounds.proofs.GoingOn.{none-go-on, all-go-on, go-on-length, next-fits, next-enough, one-goes-on, one-front, wanting-modes, unreported-more}
 use Rattle.load_rounds.proofs.Lacking.{wanting-append}
 use Rattle.load_rounds.proofs.together.go_on_all.Goals as goal
 
@@ -51,7 +51,7 @@ loop-at-preserved g c =
       gone = one-goes-on g.P.Execute.program g.P.Execute.text_of g.P.Execute.loaders g.P.Execute.fits i (i + 1) c.args.rounds m xs cur d c.go_on.new.self next lt c.index_mut.ensures.value was.gone c.in_ok-is_next_missing.ensures.went;
       wanted = c.in_ok-is_next_missing.ensures.wanted ∙ ap (λ ws. wanting ws own) was.wanted ∙ sym (wanting-append c.args.wants.now before own)
           ∙ ap (wanting c.args.wants.now) (sym (one-front g.P.Execute.program g.P.Execute.text_of g.P.Execute.loaders g.P.Execute.fits i (i + 1) c.args.rounds m xs cur d next lt c.index_mut.ensures.value was.gone));
-      missing = rw c.in_ok-is_next_missing.ensures.missing (untold-more (λ part. is_none part.told) i (i + 1) cur c.go_on.new.self c.loop-at.is_missing next lt was.missing);
+      missing = rw c.in_ok-is_next_missing.ensures.missing (unreported-more (λ part. is_none part.report) i (i + 1) cur c.go_on.new.self c.loop-at.is_missing next lt was.missing);
     }
 
 pub returns-clause-went : goal.returns-clause-went

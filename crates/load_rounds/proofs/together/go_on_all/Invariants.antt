@@ -9,5 +9,5 @@ abbrev pub invariant-loop-at : goal.invariant-loop-at
 invariant-loop-at g l = record {
   gone : FirstGoOn g.P.Execute.program g.P.Execute.text_of g.P.Execute.loaders g.P.Execute.fits l.at l.rounds l.memory l.fn.parts.items l.parts.items;
   wanted : l.wants ≡ wanting l.fn.wants (fronts g.P.Execute.program l.memory (take l.at (plans_in l.fn.parts.items)));
-  missing : l.is_missing ≡ list_any (λ part. is_none part.told) (take l.at l.parts.items);
+  missing : l.is_missing ≡ list_any (λ part. is_none part.report) (take l.at l.parts.items);
 }

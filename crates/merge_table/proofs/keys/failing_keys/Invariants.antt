@@ -6,6 +6,6 @@ use Rattle.merge_table.proofs.keys.failing_keys.Given as goal
 
 abbrev pub invariant-loop-f : goal.invariant-loop-f
 invariant-loop-f l = record {
-  told : (c : ℕ) → c < l.f → TestsKey (fields_of l.fields).one_key l.reached.members l.reached.marks (length l.fields) c (has l.keys c);
+  tested : (c : ℕ) → c < l.f → TestsKey (fields_of l.fields).one_key l.reached.members l.reached.marks (length l.fields) c (has l.keys c);
   later : (c : ℕ) → l.f ≤ c → has l.keys c ≡ false;
 }

@@ -14,4 +14,4 @@ marks_of-marks-requires-clause-members c = λ k e. omega (arith, below-in c.args
 pub returns : goal.returns
 returns c =
     let marked = marks-same c.args.rows.now (has c.row_of.result) (is_in c.args.members.now) c.marks_of-marks.result c.row_of.ensures c.marks_of-marks.ensures in
-    rw c.first_marked.ensures (says-first (fields_of c.args.fields.now) (length c.args.fields.now) c.args.rows.now c.marks_of-marks.result c.args.members.now (fields-reflexive c.args.fields.now) c.requires.told c.requires.members marked)
+    rw c.first_marked.ensures (says-first (fields_of c.args.fields.now) (length c.args.fields.now) c.args.rows.now c.marks_of-marks.result c.args.members.now (fields-reflexive c.args.fields.now) c.requires.decided c.requires.members marked)

@@ -5,7 +5,7 @@ use Rattle.std.proofs.lemmas.Iterator.{YieldsList-from_slice}
 use Rattle.std.proofs.lemmas.Iterator.Search.{all_from_yields_List}
 use Rattle.gq_schema.specs.declared.bindings.binding.Step.{Step}
 use Rattle.gq_schema.specs.BindingsSeen.{step_of}
-use Rattle.plan_program.specs.Asked.{have_loaders}
+use Rattle.plan_program.specs.FieldValues.{have_loaders}
 use Rattle.plan_program.proofs.preparation.have_loaders.Goals as goal
 
 of-steps : (n : ℕ) (steps : List Step) → list_all (λ (s : Step). nat_lt s.loader n) steps ≡ have_loaders (map step_of steps) n

@@ -1,5 +1,5 @@
 use Rattle.std.proofs.Common.{◌≡◌, drop, map}
-use Rattle.plan_program.specs.Asked.{input_named}
+use Rattle.plan_program.specs.FieldValues.{input_named}
 use Rattle.plan_program.specs.Seen.{value_of}
 use Rattle.plan_program.proofs.preparation.input_named.Given as goal
 

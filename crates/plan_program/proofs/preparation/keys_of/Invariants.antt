@@ -1,6 +1,6 @@
 use Rattle.std.proofs.Common.{◌≡◌, ◌++◌, drop, map}
 use Rattle.gq_schema.specs.Inputs.{input_of, inputs_of}
-use Rattle.plan_program.specs.Asked.{keys_of}
+use Rattle.plan_program.specs.FieldValues.{keys_of}
 use Rattle.plan_program.specs.Prepared.{keys_seen}
 use Rattle.plan_program.proofs.preparation.keys_of.Given as goal
 

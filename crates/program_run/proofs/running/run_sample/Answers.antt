@@ -2,4 +2,4 @@ use Rattle.std.proofs.Common.{inl}
 use Rattle.program_run.proofs.running.run_sample.Goals as goal
 
 pub returns-in-Ok : goal.returns-in-Ok
-returns-in-Ok g c = inl (c.in-Ok.world, (_, _, c.in-Ok.ensures.ok.0, c.in-Ok.ensures.ok.1), c.serve_world.ensures)
+returns-in-Ok g c = inl (c.in-Ok.world, (_, _, c.in-Ok.ensures.ok.0, c.in-Ok.ensures.ok.1), c.serve_in_turn.ensures)

@@ -2,7 +2,7 @@ use Rattle.std.proofs.Common.{◌≡◌, ◌<◌, ◌≤◌, ℕ, true, false, n
 use Rattle.gq_parser.specs.Tree.{variable_of}
 use Rattle.document_parts.specs.Parts.{use_of}
 use Rattle.spread_graph.specs.Batches.{has, set_at}
-use Rattle.typed_rules.specs.AllowedUsages.{forbids}
+use Rattle.typed_rules.specs.AllVariableUsagesAreAllowed.{forbids}
 use Rattle.typed_rules.specs.UseKinds.{use_at, IsKind}
 use Rattle.typed_rules.proofs.allowed_uses.allow_by_operation.Given as goal
 

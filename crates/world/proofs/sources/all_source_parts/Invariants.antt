@@ -9,5 +9,5 @@ use Rattle.world.proofs.sources.all_source_parts.Given as goal
 abbrev pub invariant-loop-line : goal.invariant-loop-line
 invariant-loop-line l = record {
   same : (q : List ℕ) → get_by_text l.tables q ≡ get_by_text l.initial.tables q;
-  told : sources_for (get_by_text l.initial.tables) (map loader_of l.loaders) ≡ joined (map source_of l.all.items) (sources_for (get_by_text l.initial.tables) (map loader_of (drop l.line-index l.loaders)));
+  so_far : sources_for (get_by_text l.initial.tables) (map loader_of l.loaders) ≡ joined (map source_of l.all.items) (sources_for (get_by_text l.initial.tables) (map loader_of (drop l.line-index l.loaders)));
 }

@@ -3,7 +3,8 @@ use Rattle.load_rounds.specs.Sessions.{state_of}
 use Rattle.load_rounds.specs.declared.answer.Answer.{Answer}
 use Rattle.world_answers.specs.Arrays.{array_text}
 use Rattle.world_answers.specs.Planning.{refusals_of, in_places}
-use Rattle.world_answers.proofs.Values.{array-told}
+use Rattle.world_answers.specs.Services.{service_of}
+use Rattle.world_answers.proofs.Values.{array-report}
 use Rattle.world_workers.proofs.arrays.array_answer.Goals as goal
 
 pub returns-in-Ok : goal.returns-in-Ok
@@ -11,5 +12,5 @@ returns-in-Ok g c = λ values are.
     let array = c.args.array.now in
     let text = string_bytes c.in_ok-text-in-Ok.field-0 in
     let text_of = λ (a : Answer). string_bytes a.text in
-    let told : text ≡ array_text (in_places (refusals_of array) (map text_of c.in-Ok.answers.items)) = c.in_ok-text-in-Ok.ensures ∙ ap (λ answers. array_text (in_places (refusals_of array) (map text_of answers))) c.deref.ensures.value in
-    array-told c.args.world.now values array c.plans.result.now c.in-Ok.answers.items (state_of c.in-Ok.field-0-0) text c.in-Ok.ensures.each are c.plans.ensures c.in-Ok.ensures.anew told
+    let report : text ≡ array_text (in_places (refusals_of array) (map text_of c.in-Ok.answers.items)) = c.in_ok-text-in-Ok.ensures ∙ ap (λ answers. array_text (in_places (refusals_of array) (map text_of answers))) c.deref.ensures.value in
+    array-report (service_of c.args.service.now) values array c.in-Ok.answers.items (state_of c.in-Ok.field-0-0) text c.in-Ok.ensures.each are c.in-Ok.ensures.anew report

@@ -1,7 +1,7 @@
 use Rattle.std.proofs.Common.{◌≡◌, ◌-◌, ◌+◌, ℕ, List, length, arith, refl}
 use Rattle.std.proofs.lemmas.Result.{on_ok_weaker}
 use Rattle.gq_resolve.specs.Answered.{response_of}
-use Rattle.gq_resolve.specs.Built.{built_of, spot_held}
+use Rattle.gq_resolve.specs.Built.{built_of, position_held}
 use Rattle.gq_resolve.specs.declared.level.Level.{Level}
 use Rattle.gq_resolve.proofs.BuildingLevels.{placed-last}
 use Rattle.gq_resolve.proofs.builder.Builder.put.Goals as goal
@@ -12,4 +12,4 @@ returns-in-Some c =
     let levels : List Level = now.levels.items in
     let n : ℕ = now.levels.len - 1 in
     let last : n + 1 ≡ length levels = omega (arith, now.levels.ok.0, c.in-Some.ensures.variant.0 refl) in
-    on_ok_weaker c.put.result (placed-last (built_of c.args.self.now) (built_of now) (spot_held c.taken-position.result) (response_of c.args.response) levels n c.in-Some.level.now c.put.new.self c.taken-position.ensures.left refl c.taken-position.ensures.position last c.in-Some.ensures.value) c.put.ensures
+    on_ok_weaker c.put.result (placed-last (built_of c.args.self.now) (built_of now) (position_held c.taken-position.result) (response_of c.args.response) levels n c.in-Some.level.now c.put.new.self c.taken-position.ensures.left refl c.taken-position.ensures.position last c.in-Some.ensures.value) c.put.ensures

@@ -7,7 +7,7 @@ use Rattle.execution.specs.Program.{tree}
 use Rattle.gq_check.specs.Plans.{PlanOf, plan_of}
 use Rattle.plan_program.specs.PlanPrograms.{plan_program}
 use Rattle.gq_resolve.specs.Answered.{answered_of}
-use Rattle.gq_resolve.specs.Evaluated.{told}
+use Rattle.gq_resolve.specs.Evaluated.{lookup}
 use Rattle.gq_resolve.proofs.Polling.{answer-done}
 use Rattle.gq_resolve.proofs.root_state.RootState.poll_text.Goals as goal
 
@@ -16,7 +16,7 @@ returns-then-out-clause-ok c = λ fits.
     let plan : PlanOf = plan_of c.args.self.now.plan.now in
     let m : MemoryOf = c.args.memory.now in
     let far = rw c.in-Some.is at (c.in_ok-rooted.ensures.ok fits) in
-    let answer : AnsweredOf = completed (tree (plan_program plan) (told m)) in
+    let answer : AnsweredOf = completed (tree (plan_program plan) (lookup m)) in
     let done = answer-done plan m c.args.wants.now _ c.requires far.0 answer far.1 (λ shut. refl) in
     (done.0, answer, done.1, c.into_text.ensures ∙ ap print (far.0.written (record { plain = c.if-out.true; whole = far.1 })), far.2)
 

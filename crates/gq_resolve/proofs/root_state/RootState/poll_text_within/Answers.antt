@@ -5,7 +5,7 @@ use Rattle.execution.specs.Executed.{completed}
 use Rattle.execution.specs.Program.{tree}
 use Rattle.gq_check.specs.Plans.{PlanOf, plan_of}
 use Rattle.plan_program.specs.PlanPrograms.{plan_program}
-use Rattle.gq_resolve.specs.Evaluated.{told}
+use Rattle.gq_resolve.specs.Evaluated.{lookup}
 use Rattle.gq_resolve.proofs.Polling.{answer-done, answer-shut}
 use Rattle.gq_resolve.proofs.root_state.RootState.poll_text_within.Goals as goal
 
@@ -14,6 +14,6 @@ returns-in_ok-limited_answer-in-Some-clause-ok c = λ fits.
     let plan : PlanOf = plan_of c.args.self.now.plan.now in
     let m : MemoryOf = c.args.memory.now in
     let far = rw c.in-Some.is at (c.in_ok-rooted.ensures.ok fits) in
-    let answer : AnsweredOf = completed (tree (plan_program plan) (told m)) in
+    let answer : AnsweredOf = completed (tree (plan_program plan) (lookup m)) in
     let done = answer-done plan m c.args.wants.now _ c.requires far.0 answer far.1 (λ shut. refl) in
     (done.0, answer, done.1, c.in_ok-limited_answer-in-Some.ensures (far.0, far.1) (answer-shut plan m c.args.wants.now _ c.requires far.0 far.1), far.2)

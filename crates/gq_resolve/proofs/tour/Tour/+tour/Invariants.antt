@@ -6,9 +6,9 @@ use Rattle.load_memory.specs.declared.key.Key.{Key}
 use Rattle.gq_check.specs.Plans.{plan_of}
 use Rattle.plan_program.specs.PlanPrograms.{read_if}
 use Rattle.gq_resolve.specs.Puts.{View}
-use Rattle.gq_resolve.specs.Spots.{onward_of, later_of}
+use Rattle.gq_resolve.specs.Positions.{onward_of, later_of}
 use Rattle.gq_resolve.specs.Groups.{AreKnown}
-use Rattle.gq_resolve.specs.Evaluated.{told}
+use Rattle.gq_resolve.specs.Evaluated.{lookup}
 use Rattle.gq_resolve.specs.Walks.{Goes}
 use Rattle.gq_resolve.proofs.Touring.{fields_put, items_put}
 use Rattle.gq_resolve.proofs.tour.Tour.+tour.Given as goal
@@ -55,14 +55,14 @@ decreases-object g l = 30 * l.levels + 25
 abbrev pub invariant-object-loop-member : goal.invariant-object-loop-member
 invariant-object-loop-member g l =
     Goes g.S.Sink.goes g.S.Sink.below l.self.most (plan_of l.self.plan.now) (AreKnown (length l.fn.at.groups.items) l.members)
-    (fields_put (plan_of l.self.plan.now).definitions l.levels l.row (told l.self.memory.now) (take l.member-index l.members)) l.fn.at l.at
+    (fields_put (plan_of l.self.plan.now).definitions l.levels l.row (lookup l.self.memory.now) (take l.member-index l.members)) l.fn.at l.at
 
 abbrev pub invariant-all-loop-number : goal.invariant-all-loop-number
 invariant-all-loop-number g l =
     Goes g.S.Sink.goes g.S.Sink.below l.self.most (plan_of l.self.plan.now) (l.fn.onward.group < length l.fn.at.groups.items)
-    (items_put l.items.non_null l.items.place (told l.self.memory.now) (λ (v : View) (row : RowOf). v.after (later_of l.left (onward_of l.fn.onward)) (row ∷ [])) (take l.number l.rows)) l.fn.at l.at
+    (items_put l.items.non_null l.items.place (lookup l.self.memory.now) (λ (v : View) (row : RowOf). v.after (later_of l.left (onward_of l.fn.onward)) (row ∷ [])) (take l.number l.rows)) l.fn.at l.at
 
 abbrev pub invariant-each-loop-number : goal.invariant-each-loop-number
 invariant-each-loop-number g l =
     Goes g.S.Sink.goes g.S.Sink.below l.self.most (plan_of l.self.plan.now) (l.fn.onward.group < length l.fn.at.groups.items)
-    (items_put l.items.non_null l.items.place (told l.self.memory.now) (λ (v : View) (k : Option Key). read_if l.loader (v.after (onward_of l.fn.onward)) (option_map key_of k)) (take l.number l.keys)) l.fn.at l.at
+    (items_put l.items.non_null l.items.place (lookup l.self.memory.now) (λ (v : View) (k : Option Key). read_if l.loader (v.after (onward_of l.fn.onward)) (option_map key_of k)) (take l.number l.keys)) l.fn.at l.at

@@ -43,15 +43,15 @@ invariant_of-self-else-removed c =
     (omega (arith, rw c.if-removed.false at c.take_out-removed.ensures.count, part-within 0 parts i d lt, c.self.invariant.counted, ap (λ (p : PartOf). length p.entries) at))
     (λ none. AreUnfailed-without _ (pairs_from 0 parts) (pairs_from 0 (slice_set parts i x)) (c.self.invariant.unfailed none) taken)
 
-pub returns-then-removed-clause-told : goal.returns-then-removed-clause-told
-returns-then-removed-clause-told c =
+pub returns-then-removed-clause-found : goal.returns-then-removed-clause-found
+returns-then-removed-clause-found c =
     let parts = c.self.inside.parts.items in
     let i = c.args.loader in
     let lt : i < length parts = rw (c.self.invariant.lined_up, ap (λ (m : MemoryOf). m.modes) c.self.view_is) c.requires in
     let x : PartOf = c.take_out-removed.new.part in
     let d : PartOf = c.index_mut.result.now in
     let at = c.index_mut.ensures.value in
-    rw (← c.self.view_is) (c.take_out-removed.ensures.told ∙ ap is_some (sym (look-one parts i d (cache_of c.args.key.now) lt at)))
+    rw (← c.self.view_is) (c.take_out-removed.ensures.found ∙ ap is_some (sym (look-one parts i d (cache_of c.args.key.now) lt at)))
 
 pub returns-then-removed-clause-pairs : goal.returns-then-removed-clause-pairs
 returns-then-removed-clause-pairs c = λ l q.
@@ -63,15 +63,15 @@ returns-then-removed-clause-pairs c = λ l q.
     let at = c.index_mut.ensures.value in
     rw (← c.self.view_is) (look-taken parts i x d (cache_of c.args.key.now) lt at c.take_out-removed.ensures.pairs l q)
 
-pub returns-else-removed-clause-told : goal.returns-else-removed-clause-told
-returns-else-removed-clause-told c =
+pub returns-else-removed-clause-found : goal.returns-else-removed-clause-found
+returns-else-removed-clause-found c =
     let parts = c.self.inside.parts.items in
     let i = c.args.loader in
     let lt : i < length parts = rw (c.self.invariant.lined_up, ap (λ (m : MemoryOf). m.modes) c.self.view_is) c.requires in
     let x : PartOf = c.take_out-removed.new.part in
     let d : PartOf = c.index_mut.result.now in
     let at = c.index_mut.ensures.value in
-    rw (← c.self.view_is) (c.take_out-removed.ensures.told ∙ ap is_some (sym (look-one parts i d (cache_of c.args.key.now) lt at)))
+    rw (← c.self.view_is) (c.take_out-removed.ensures.found ∙ ap is_some (sym (look-one parts i d (cache_of c.args.key.now) lt at)))
 
 pub returns-else-removed-clause-pairs : goal.returns-else-removed-clause-pairs
 returns-else-removed-clause-pairs c = λ l q.

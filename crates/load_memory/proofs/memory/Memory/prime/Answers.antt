@@ -6,20 +6,20 @@ use Rattle.load_memory.specs.Outcomes.{known, item_of}
 use Rattle.load_memory.specs.Pairs.{MemoryOf, PairOf, look}
 use Rattle.load_memory.specs.Parts.{PartOf, pairs_from}
 use Rattle.load_memory.proofs.Looks.{primed-present}
-use Rattle.load_memory.proofs.PartLaws.{look-told, pairs-kept, pairs-put, AreParts-kept, AreParts-changed, SomeIff-at}
+use Rattle.load_memory.proofs.PartLaws.{look-found, pairs-kept, pairs-put, AreParts-kept, AreParts-changed, SomeIff-at}
 use Rattle.load_memory.proofs.ChangeLaws.{AreUnfailed-put}
 use Rattle.load_memory.proofs.memory.Memory.prime.Goals as goal
 
-pub returns-then-contains_key-clause-told : goal.returns-then-contains_key-clause-told
-returns-then-contains_key-clause-told c =
+pub returns-then-contains_key-clause-found : goal.returns-then-contains_key-clause-found
+returns-then-contains_key-clause-found c =
     let lt : c.args.loader < length c.self.inside.parts.items = rw (c.self.invariant.lined_up, ap (λ (m : MemoryOf). m.modes) c.self.view_is) c.requires in
-    let here = look-told c.self.inside.parts.items c.args.loader c.index.result.now c.args.key true lt c.index.ensures (sym c.if-contains_key.true ∙ c.contains_key.ensures) in
+    let here = look-found c.self.inside.parts.items c.args.loader c.index.result.now c.args.key true lt c.index.ensures (sym c.if-contains_key.true ∙ c.contains_key.ensures) in
     rw (← c.self.view_is) (sym (ap not here))
 
 pub returns-then-contains_key-clause-pairs : goal.returns-then-contains_key-clause-pairs
 returns-then-contains_key-clause-pairs c = λ l q.
     let lt : c.args.loader < length c.self.inside.parts.items = rw (c.self.invariant.lined_up, ap (λ (m : MemoryOf). m.modes) c.self.view_is) c.requires in
-    let here = look-told c.self.inside.parts.items c.args.loader c.index.result.now c.args.key true lt c.index.ensures (sym c.if-contains_key.true ∙ c.contains_key.ensures) in
+    let here = look-found c.self.inside.parts.items c.args.loader c.index.result.now c.args.key true lt c.index.ensures (sym c.if-contains_key.true ∙ c.contains_key.ensures) in
     let p : PairOf = record { loader = c.args.loader; key = cache_of c.args.key; outcome = known (item_of c.args.item) } in
     rw (← c.self.view_is) (sym (ap (λ ps. look ps l q) (primed-present (pairs_from 0 c.self.inside.parts.items) p here)))
 
@@ -43,16 +43,16 @@ invariant_of-self-2 c =
     let x : PartOf = c.put_absent.new.part in
     let d : PartOf = c.index_mut.result.now in
     let p : PairOf = record { loader = c.args.loader; key = cache_of c.args.key; outcome = known (item_of c.args.item) } in
-    let absent = look-told parts c.args.loader c.index.result.now c.args.key false lt c.index.ensures (sym c.if-contains_key.false ∙ c.contains_key.ensures) in
+    let absent = look-found parts c.args.loader c.index.result.now c.args.key false lt c.index.ensures (sym c.if-contains_key.false ∙ c.contains_key.ensures) in
     let put = pairs-put parts c.args.loader x d (cache_of c.args.key) (known (item_of c.args.item)) lt c.index_mut.ensures.value absent (rw c.from.ensures at e.pairs) in
     AreParts-changed c.self.inside.modes.items parts c.self.inside.count c.self.inside.failed c.args.loader x d c.in_ok-count.count c.self.inside.failed c.self.invariant lt e.own_keys
     (omega (arith, more, e.count, ap (λ (p : PartOf). length p.entries) c.index_mut.ensures.value))
     (λ none. AreUnfailed-put (pairs_from 0 parts) p (item_of c.args.item) (pairs_from 0 (slice_set parts c.args.loader x)) (c.self.invariant.unfailed none) absent refl put)
 
-pub returns-clause-told : goal.returns-clause-told
-returns-clause-told c =
+pub returns-clause-found : goal.returns-clause-found
+returns-clause-found c =
     let lt : c.args.loader < length c.self.inside.parts.items = rw (c.self.invariant.lined_up, ap (λ (m : MemoryOf). m.modes) c.self.view_is) c.requires in
-    let absent = look-told c.self.inside.parts.items c.args.loader c.index.result.now c.args.key false lt c.index.ensures (sym c.if-contains_key.false ∙ c.contains_key.ensures) in
+    let absent = look-found c.self.inside.parts.items c.args.loader c.index.result.now c.args.key false lt c.index.ensures (sym c.if-contains_key.false ∙ c.contains_key.ensures) in
     rw (← c.self.view_is) (sym (ap not absent))
 
 pub returns-clause-pairs : goal.returns-clause-pairs
@@ -60,5 +60,5 @@ returns-clause-pairs c = λ l q.
     let parts = c.self.inside.parts.items in
     let key = cache_of c.args.key in
     let lt : c.args.loader < length parts = rw (c.self.invariant.lined_up, ap (λ (m : MemoryOf). m.modes) c.self.view_is) c.requires in
-    let absent = look-told parts c.args.loader c.index.result.now c.args.key false lt c.index.ensures (sym c.if-contains_key.false ∙ c.contains_key.ensures) in
+    let absent = look-found parts c.args.loader c.index.result.now c.args.key false lt c.index.ensures (sym c.if-contains_key.false ∙ c.contains_key.ensures) in
     rw (← c.self.view_is) (pairs-put parts c.args.loader c.put_absent.new.part c.index_mut.result.now key (known (item_of c.args.item)) lt c.index_mut.ensures.value absent (rw c.from.ensures at c.in_ok-put_absent.ensures.pairs) l q)

@@ -6,10 +6,10 @@ use Rattle.load_queue.specs.Wanted.{WantedOf}
 use Rattle.load_queue.proofs.WantLaws.{wanted-at, with-at}
 use Rattle.load_queue.proofs.wants.Wants.add.Goals as goal
 
-pub returns-clause-told : goal.returns-clause-told
-returns-clause-told c =
+pub returns-clause-added : goal.returns-clause-added
+returns-clause-added c =
     let lt : c.args.loader < length c.self.inside.parts.items = rw c.self.view_is c.requires in
-    rw (← c.self.view_is, wanted-at c.self.inside.parts.items c.args.loader c.index_mut.result.now (key_of c.args.key) lt c.index_mut.ensures.value) c.add.ensures.told
+    rw (← c.self.view_is, wanted-at c.self.inside.parts.items c.args.loader c.index_mut.result.now (key_of c.args.key) lt c.index_mut.ensures.value) c.add.ensures.added
 
 pub returns-clause-after : goal.returns-clause-after
 returns-clause-after c =

@@ -6,14 +6,14 @@ use Rattle.execution.specs.Program.{Program}
 use Rattle.execution.specs.Front.{front}
 use Rattle.execution.specs.Rounds.{HasLoaders}
 use Rattle.load_rounds.specs.Sessions.{state_of, session_modes, memory_of}
-use Rattle.load_rounds.specs.SharedRounds.{requests, together, told_of, SharedHeadline, AreTexts}
-use Rattle.load_rounds.specs.Together.{told_in, FindsAll}
+use Rattle.load_rounds.specs.SharedRounds.{requests, together, report_of, SharedHeadline, AreTexts}
+use Rattle.load_rounds.specs.Together.{reports_in, FindsAll}
 use Rattle.load_rounds.specs.Runs.{front_in, IsRound}
 use Rattle.load_rounds.specs.SharedRuns.{AreLast}
 use Rattle.load_rounds.proofs.GoingOn.{gone-fit, gone-plans, gone-within}
 use Rattle.load_rounds.proofs.Growing.{same-grows, lost-grows, grows-trans}
 use Rattle.load_rounds.proofs.Runs.{round-counted}
-use Rattle.load_rounds.proofs.Sharing.{all-told, shared-gone}
+use Rattle.load_rounds.proofs.Sharing.{all-report, shared-gone}
 use Rattle.load_rounds.proofs.SharedRunning.{all-texts, ready-shared, run-finished, run-answers, run-out, run-failed}
 use Rattle.load_rounds.proofs.States.{on-err}
 use Rattle.load_rounds.proofs.run_all.RunAll.next_round.Goals as goal
@@ -50,11 +50,11 @@ returns-in_ok-answers-in-None-clause-next g c =
     let found = rw c.in-None.is at c.in_ok-go_on.ensures.found in
     let gone = c.in_ok-go_on.ensures.went in
     let none = subst (λ ps. front (session_modes s) (together (requests g.P.Execute.program g.P.Execute.text_of ps)) s.memory ≡ []) fit.plans found in
-    let all = all-told g.P.Execute.program g.P.Execute.text_of g.P.Execute.loaders g.P.Execute.fits t.rounds m t.parts ys gone found in
+    let all = all-report g.P.Execute.program g.P.Execute.text_of g.P.Execute.loaders g.P.Execute.fits t.rounds m t.parts ys gone found in
     let kept = gone-fit g.P.Execute.program g.P.Execute.text_of g.P.Execute.loaders g.P.Execute.fits t.rounds m m t.parts ys gone (same-grows c.args.session.now c.args.session.now refl) in
     let are = gone-plans g.P.Execute.program g.P.Execute.text_of g.P.Execute.loaders g.P.Execute.fits t.rounds m t.parts ys gone ∙ fit.plans in
-    let texts = subst (λ ps. AreTexts (requests g.P.Execute.program g.P.Execute.text_of ps) (read m.modes (look m.pairs)) (told_in ys)) are (all-texts g.P.Execute.program g.P.Execute.text_of g.P.Execute.loaders g.P.Execute.fits m ys all kept) in
-    let last : AreLast (requests g.P.Execute.program g.P.Execute.text_of plans) s s (map told_of c.in_ok-answers-in-None.answers.items) = record {
+    let texts = subst (λ ps. AreTexts (requests g.P.Execute.program g.P.Execute.text_of ps) (read m.modes (look m.pairs)) (reports_in ys)) are (all-texts g.P.Execute.program g.P.Execute.text_of g.P.Execute.loaders g.P.Execute.fits m ys all kept) in
+    let last : AreLast (requests g.P.Execute.program g.P.Execute.text_of plans) s s (map report_of c.in_ok-answers-in-None.answers.items) = record {
       complete = none;
       answered = subst (λ ts. AreTexts (requests g.P.Execute.program g.P.Execute.text_of plans) (read m.modes (look m.pairs)) ts) (sym c.in_ok-answers-in-None.ensures.answers) texts;
       same = refl;
@@ -86,13 +86,13 @@ returns-in_ok-answers-in-None-clause-answers g c = λ begun ready.
     let found = rw c.in-None.is at c.in_ok-go_on.ensures.found in
     let gone = c.in_ok-go_on.ensures.went in
     let none = subst (λ ps. front (session_modes s) (together (requests g.P.Execute.program g.P.Execute.text_of ps)) s.memory ≡ []) fit.plans found in
-    let all = all-told g.P.Execute.program g.P.Execute.text_of g.P.Execute.loaders g.P.Execute.fits t.rounds m t.parts ys gone found in
+    let all = all-report g.P.Execute.program g.P.Execute.text_of g.P.Execute.loaders g.P.Execute.fits t.rounds m t.parts ys gone found in
     let kept = gone-fit g.P.Execute.program g.P.Execute.text_of g.P.Execute.loaders g.P.Execute.fits t.rounds m m t.parts ys gone (same-grows session session refl) in
     let are = gone-plans g.P.Execute.program g.P.Execute.text_of g.P.Execute.loaders g.P.Execute.fits t.rounds m t.parts ys gone ∙ fit.plans in
     let shared = ready-shared g.P.Execute.program g.P.Execute.text_of g.P.Execute.loaders g.P.Execute.fits g.S.Asks.may_tell plans begun s t was in
-    let told = shared-gone g.P.Execute.program g.P.Execute.text_of g.P.Execute.loaders g.P.Execute.fits g.S.Asks.may_tell plans begun s t.parts ys t.rounds m shared gone in
+    let report = shared-gone g.P.Execute.program g.P.Execute.text_of g.P.Execute.loaders g.P.Execute.fits g.S.Asks.may_tell plans begun s t.parts ys t.rounds m shared gone in
     let enough = rw (← c.self.view_is) at c.requires.loaders in
-    let headline = run-answers g.P.Execute.program g.P.Execute.text_of g.P.Execute.loaders g.P.Execute.fits g.S.Asks.may_tell plans begun session t.parts ys t.rounds told gone fit.plans enough c.go_on.ensures.limited are all kept none in
+    let headline = run-answers g.P.Execute.program g.P.Execute.text_of g.P.Execute.loaders g.P.Execute.fits g.S.Asks.may_tell plans begun session t.parts ys t.rounds report gone fit.plans enough c.go_on.ensures.limited are all kept none in
     rw (← c.self.view_is) (subst (λ ts. SharedHeadline g.S.Asks.may_tell begun s (requests g.P.Execute.program g.P.Execute.text_of plans) ts) (sym c.in_ok-answers-in-None.ensures.answers) headline)
 
 pub cut-requires : goal.cut-requires

@@ -10,7 +10,7 @@ use Rattle.load_rounds.proofs.Following.{in-none, in-stops, in-loaders}
 use Rattle.load_rounds.proofs.GoingOn.{gone-fit, gone-plans, gone-within, found-none}
 use Rattle.load_rounds.proofs.Growing.{same-grows, ran-grows}
 use Rattle.load_rounds.proofs.Runs.{if-ok}
-use Rattle.load_rounds.proofs.Sharing.{all-told, shared-none, shared-gone, shared-more, shared-all}
+use Rattle.load_rounds.proofs.Sharing.{all-report, shared-none, shared-gone, shared-more, shared-all}
 use Rattle.load_rounds.proofs.States.{on-err}
 use Rattle.load_rounds.proofs.session.Session.answer_all.Goals as goal
 
@@ -27,7 +27,7 @@ loop-together-init g c =
     let t = c.in_ok-together.together in
     record {
       plans = c.in_ok-together.ensures.same;
-      shared = rw c.in_ok-together.ensures.rounds (shared-none g.P.Execute.program g.P.Execute.text_of g.P.Execute.loaders g.P.Execute.fits g.S.Asks.may_tell c.args.plans.now old (state_of c.forget.new.self) t.parts c.forget.ensures.after c.in_ok-together.ensures.untold);
+      shared = rw c.in_ok-together.ensures.rounds (shared-none g.P.Execute.program g.P.Execute.text_of g.P.Execute.loaders g.P.Execute.fits g.S.Asks.may_tell c.args.plans.now old (state_of c.forget.new.self) t.parts c.forget.ensures.after c.in_ok-together.ensures.unreported);
       fits = c.in_ok-together.ensures.fitting (memory_of c.forget.new.self);
     }
 
@@ -68,11 +68,11 @@ loop-together-preserved g c =
     let found : FindsAll p cur (Some c.in-Some.wants) = subst (λ ps. FindsAll (together (requests g.P.Execute.program g.P.Execute.text_of ps)) cur (Some c.in-Some.wants)) was.plans (rw c.in-Some.is at c.in_ok-wants.ensures.found) in
     let one : later.rounds ≡ t.rounds + 1 = rw c.in-Some.is at c.in_ok-wants.ensures.counted in
     let gone = c.in_ok-wants.ensures.went in
-    let told = shared-gone g.P.Execute.program g.P.Execute.text_of g.P.Execute.loaders g.P.Execute.fits g.S.Asks.may_tell plans old cur t.parts later.parts t.rounds (memory_of s) was.shared gone in
+    let report = shared-gone g.P.Execute.program g.P.Execute.text_of g.P.Execute.loaders g.P.Execute.fits g.S.Asks.may_tell plans old cur t.parts later.parts t.rounds (memory_of s) was.shared gone in
     let ran = c.in_ok-ask.ensures.ran loads found.2 in
     record {
       plans = gone-plans g.P.Execute.program g.P.Execute.text_of g.P.Execute.loaders g.P.Execute.fits t.rounds (memory_of s) t.parts later.parts gone ∙ was.plans;
-      shared = shared-more g.P.Execute.program g.P.Execute.text_of g.P.Execute.loaders g.P.Execute.fits g.S.Asks.may_tell plans old (state_of c.ask.new.self) s t.parts later.parts t.rounds later.rounds told one gone found.0 ran;
+      shared = shared-more g.P.Execute.program g.P.Execute.text_of g.P.Execute.loaders g.P.Execute.fits g.S.Asks.may_tell plans old (state_of c.ask.new.self) s t.parts later.parts t.rounds later.rounds report one gone found.0 ran;
       fits = gone-fit g.P.Execute.program g.P.Execute.text_of g.P.Execute.loaders g.P.Execute.fits t.rounds (memory_of s) (memory_of c.ask.new.self) t.parts later.parts gone (ran-grows g.S.Asks.may_tell s c.ask.new.self loads ran);
     }
 
@@ -88,14 +88,14 @@ returns-clause-answers g c =
     let found = found-none (together (requests g.P.Execute.program g.P.Execute.text_of (plans_in t.parts))) cur _ c.in_default.not-Some c.in_ok-wants.ensures.found in
     let none = subst (λ ps. front (session_modes cur) (together (requests g.P.Execute.program g.P.Execute.text_of ps)) cur.memory ≡ []) was.plans found in
     let gone = c.in_ok-wants.ensures.went in
-    let told = shared-gone g.P.Execute.program g.P.Execute.text_of g.P.Execute.loaders g.P.Execute.fits g.S.Asks.may_tell plans old cur t.parts later.parts t.rounds (memory_of s) was.shared gone in
-    let all = all-told g.P.Execute.program g.P.Execute.text_of g.P.Execute.loaders g.P.Execute.fits t.rounds (memory_of s) t.parts later.parts gone found in
+    let report = shared-gone g.P.Execute.program g.P.Execute.text_of g.P.Execute.loaders g.P.Execute.fits g.S.Asks.may_tell plans old cur t.parts later.parts t.rounds (memory_of s) was.shared gone in
+    let all = all-report g.P.Execute.program g.P.Execute.text_of g.P.Execute.loaders g.P.Execute.fits t.rounds (memory_of s) t.parts later.parts gone found in
     let enough = subst (λ ps. All (λ plan. g.P.Execute.loaders plan ≤ length old.loaders) ps) (sym was.plans) c.requires in
     let within : HasLoaders (length old.loaders) (together (requests g.P.Execute.program g.P.Execute.text_of plans)) = subst (λ ps. HasLoaders (length old.loaders) (together (requests g.P.Execute.program g.P.Execute.text_of ps))) was.plans
     (gone-within g.P.Execute.program g.P.Execute.text_of g.P.Execute.loaders g.P.Execute.fits 0 t.rounds (length old.loaders) (memory_of s) t.parts later.parts gone enough) in
     let fit = gone-fit g.P.Execute.program g.P.Execute.text_of g.P.Execute.loaders g.P.Execute.fits t.rounds (memory_of s) (memory_of s) t.parts later.parts gone (same-grows s s refl) in
     let are = gone-plans g.P.Execute.program g.P.Execute.text_of g.P.Execute.loaders g.P.Execute.fits t.rounds (memory_of s) t.parts later.parts gone ∙ was.plans in
-    let headline = shared-all g.P.Execute.program g.P.Execute.text_of g.P.Execute.loaders g.P.Execute.fits g.S.Asks.may_tell plans old s later.parts t.rounds told c.forget.ensures.limited within are all fit none in
+    let headline = shared-all g.P.Execute.program g.P.Execute.text_of g.P.Execute.loaders g.P.Execute.fits g.S.Asks.may_tell plans old s later.parts t.rounds report c.forget.ensures.limited within are all fit none in
     if-ok c.take_answers.result (λ answers e. subst (λ ts. SharedHeadline g.S.Asks.may_tell old cur (requests g.P.Execute.program g.P.Execute.text_of plans) ts) (sym e) headline) c.take_answers.ensures.answers
 
 pub returns-clause-stopped : goal.returns-clause-stopped

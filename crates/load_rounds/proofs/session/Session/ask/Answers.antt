@@ -136,10 +136,10 @@ returns-clause-ran g c = λ loads wanted.
     let own = λ (m : ℕ) (lt : m < length L). wanted m (omega (arith, lt, lined)) in
     let replies = map reply_of c.in_ok-replies.replies.items in
     let h = c.in_ok-orders.ensures.entered in
-    let told = rw (c.deref.ensures.value, h.loaders, c.in_ok-orders.ensures.orders, wanted-orders keys loads L own) at c.in_ok-replies.ensures in
+    let report = rw (c.deref.ensures.value, h.loaders, c.in_ok-orders.ensures.orders, wanted-orders keys loads L own) at c.in_ok-replies.ensures in
     let kept = c.in_ok-keep_owned.ensures.pairs in
     rw (← c.self.view_is) (record {
       replies = replies;
-      answered = replies-before false round keys g.S.Asks.may_tell L (round_orders (map rule_of L) loads) replies told;
+      answered = replies-before false round keys g.S.Asks.may_tell L (round_orders (map rule_of L) loads) replies report;
       after = state-ran keys loads L own round r c.cut_all.new.rounds c.cut_all.new.loaders.items c.mark_all.new.loaders.items M c.keep_owned.new.self replies next c.self.invariant h c.mark_all.ensures kept;
     })

@@ -7,11 +7,11 @@ use Rattle.execution.specs.Sessions.{Cell, without, is_cell}
 use Rattle.load_rounds.proofs.States.{cached, same-memory, state-is}
 use Rattle.load_rounds.proofs.session.Session.clear.Goals as goal
 
-pub returns-clause-told : goal.returns-clause-told
-returns-clause-told g c =
+pub returns-clause-report : goal.returns-clause-report
+returns-clause-report g c =
     let modes = modes_of (map rule_of c.self.inside.loaders.items) in
     let key = cached modes c.drop_failed.new.self.modes c.args.loader c.mode-mode.result (cache_of c.in_ok-key.key) (key_of c.args.key.now) (c.drop_failed.ensures.modes ∙ c.self.invariant.modes) c.mode-mode.ensures c.in_ok-key.ensures in
-    rw (← c.self.view_is, ← key) (c.clear.ensures.told ∙ ap is_some (c.drop_failed.ensures.pairs c.args.loader (cache_of c.in_ok-key.key)))
+    rw (← c.self.view_is, ← key) (c.clear.ensures.found ∙ ap is_some (c.drop_failed.ensures.pairs c.args.loader (cache_of c.in_ok-key.key)))
 
 pub returns-clause-after : goal.returns-clause-after
 returns-clause-after g c =

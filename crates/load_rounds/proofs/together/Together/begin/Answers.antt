@@ -1,7 +1,7 @@
 use Rattle.std.proofs.Common.{◌++◌, ◌∷◌, [], take, ap, ◌∙◌, sym, arith, refl}
 use Rattle.std.proofs.lemmas.List.{take_more, take_all, map-append}
-use Rattle.load_rounds.specs.Together.{PartOf, plans_in, told_in}
-use Rattle.load_rounds.proofs.GoingOn.{fit-more, untold-begun}
+use Rattle.load_rounds.specs.Together.{PartOf, plans_in, reports_in}
+use Rattle.load_rounds.proofs.GoingOn.{fit-more, unreported-begun}
 use Rattle.load_rounds.proofs.together.Together.begin.Goals as goal
 
 pub loop-plan-preserved : goal.loop-plan-preserved
@@ -14,7 +14,7 @@ loop-plan-preserved g c =
     let put = c.in_ok-push.ensures.items in
     record {
       same = ap plans_in put ∙ map-append (λ (x : PartOf _ _). x.plan) items _ ∙ ap (λ ps. ps ++ plan ∷ []) was.same ∙ ap (λ p. take i c.args.plans.now ++ p ∷ []) c.plan-item.is ∙ sym next;
-      untold = ap told_in put ∙ untold-begun items plan c.start.result ∙ was.untold;
+      unreported = ap reports_in put ∙ unreported-begun items plan c.start.result ∙ was.unreported;
       fitting = λ m. rw put (fit-more g.P.Execute.program g.P.Execute.text_of g.P.Execute.loaders g.P.Execute.fits m items plan c.start.result (was.fitting m) (c.start.ensures m));
     }
 
@@ -24,6 +24,6 @@ returns g c =
     record {
       same = was.same ∙ take_all c.loop-plan.plan-index c.args.plans.now (omega (arith, c.loop-plan-test.false));
       rounds = refl;
-      untold = was.untold;
+      unreported = was.unreported;
       fitting = was.fitting;
     }

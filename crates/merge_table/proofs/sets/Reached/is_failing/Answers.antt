@@ -5,4 +5,4 @@ use Rattle.merge_table.proofs.sets.Reached.is_failing.Goals as goal
 
 pub returns : goal.returns
 returns c = λ ms below r.
-    refuses (fields_of c.args.fields.now) (length c.args.fields.now) c.args.rows.now ms c.args.self.now.members c.args.self.now.marks c.meets.result c.requires.told below r.members r.marks c.meets.ensures
+    refuses (fields_of c.args.fields.now) (length c.args.fields.now) c.args.rows.now ms c.args.self.now.members c.args.self.now.marks c.meets.result c.requires.decided below r.members r.marks c.meets.ensures

@@ -14,8 +14,8 @@ returns-in_err-sources-clause-err c =
     let tables = map table_of c.args.tables.items in
     let p = err_from_is_err_and c.from_residual-in_err-sources.result c.from_residual-in_err-sources.ensures.1 in
     let read : IsRead (tree_of c.args.schema) c.args.bindings.now tables c.in_ok-bindings.bindings = record { accepts = c.in_ok-bindings.ensures.ok; once = c.in_ok-tables.ensures.once } in
-    let told = rw (c.loaders.ensures, sources_for-same _ (sheet_named tables) c.in_ok-tables.ensures.found c.in_ok-bindings.bindings.loaders) at c.in_err-sources.ensures.err in
-    rw (p.1, p.2) (from-loaders (tree_of c.args.schema) c.args.bindings.now tables c.in_ok-bindings.bindings read _ told)
+    let reported = rw (c.loaders.ensures, sources_for-same _ (sheet_named tables) c.in_ok-tables.ensures.found c.in_ok-bindings.bindings.loaders) at c.in_err-sources.ensures.err in
+    rw (p.1, p.2) (from-loaders (tree_of c.args.schema) c.args.bindings.now tables c.in_ok-bindings.bindings read _ reported)
 
 pub returns-clause-ok : goal.returns-clause-ok
 returns-clause-ok c =

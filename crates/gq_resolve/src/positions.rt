@@ -1,0 +1,48 @@
+//! Positions of an answer, and what is put at them.
+
+use gq_lexer::Place;
+use gq_parser::TypeRef;
+use gq_schema::Schema;
+use load_memory::Row;
+
+/// What a position with others below it is.
+#[derive(Clone, Copy, PartialEq, Eq, Debug, Drop)]
+pub enum Kind {
+    List,
+    Object,
+}
+
+/// A field of an object: its response key, its type, and where its errors are.
+#[derive(Clone, Copy, Drop)]
+pub struct FieldPosition<'p> {
+    pub key: &'p str,
+    pub non_null: bool,
+    pub place: Place,
+}
+
+/// The items of a list: their type, and where their errors are.
+#[derive(Clone, Copy, Drop)]
+pub struct Items {
+    pub non_null: bool,
+    pub place: Place,
+}
+
+/// A position that is bound to a column, over a row.
+#[derive(Clone, Copy, Drop)]
+pub struct Leaf<'r> {
+    pub schema: &'r Schema,
+    pub column: &'r str,
+    pub ty: &'r TypeRef,
+    pub row: &'r Row,
+}
+
+/// How a position goes on after its load.
+#[derive(Clone, Copy, PartialEq, Eq, Hash, Debug, Drop)]
+pub struct Onward {
+    /// The number of its group.
+    pub group: usize,
+    /// Of a later load of a `via`, of whose rows the first is taken, how many loaders come after it.
+    pub later: Option<usize>,
+    /// How many levels of objects there may be below it.
+    pub levels: u32,
+}

@@ -1,0 +1,11 @@
+use Rattle.std.proofs.Common.{◌≡◌, drop, fold, map}
+use Rattle.std.specs.Prelude.{filter_map}
+use Rattle.std.specs.Option.{option_map}
+use Rattle.document_parts.specs.Broken.{broken_of, with_broken, earliest}
+use Rattle.document_parts.specs.Parts.{field_part_of, parts_in}
+use Rattle.typed_rules.specs.FieldSelections.{unknown_field, unknown_fields}
+use Rattle.typed_rules.proofs.fields_on_correct_type.field_selections.Given as goal
+
+abbrev pub invariant-loop-part : goal.invariant-loop-part
+invariant-loop-part l =
+    fold with_broken (option_map broken_of l.earliest.found) (filter_map unknown_field (map field_part_of (drop l.part-index l.parts.fields.items))) ≡ earliest (unknown_fields (parts_in l.parts))

@@ -1,0 +1,97 @@
+//! Fragment Spread Is Possible (section 5.5.2.3).
+
+ghost use Rattle.std.specs.Prelude.{◌≡◌, map, string_bytes};
+ghost use Rattle.std.specs.List.{list_any};
+ghost use Rattle.std.specs.Option.{option_map, option_copied};
+ghost use Rattle.gq_schema.specs.Types.{tree_of, can_be};
+ghost use Rattle.document_parts.specs.Broken.{broken_of, earliest};
+ghost use Rattle.document_parts.specs.Parents.{composite_in};
+ghost use Rattle.document_parts.specs.Parts.{spread_part_of, inline_part_of, parts_in};
+ghost use Rattle.typed_rules.specs.FragmentSpreadIsPossible.{may_overlap, is_impossible, fragment_type, impossible_spread, impossible_inline, impossible_spreads};
+
+use document_parts::{Broken, Earliest, InlinePart, Parts, SpreadPart};
+use gq_schema::Schema;
+
+// Whether one of these object types is a possible type of a type.
+fn can_be_any(schema: &Schema, ty: &str, names: &[String]) -> bool
+    ensures { result ≡ list_any (can_be (tree_of schema.now) ty.now) (map string_bytes names.now) }
+{
+    for name in names {
+        if schema.can_be(ty, name.as_str()) {
+            return true;
+        }
+    }
+    false
+}
+
+/// Whether an object type is a possible type of both.
+pub fn may_overlap(schema: &Schema, one: &str, other: &str) -> bool
+    ensures { result ≡ may_overlap (tree_of schema.now) one.now other.now }
+{
+    match schema.possible_types(one) {
+        Some(names) => can_be_any(schema, other, names),
+        None => false,
+    }
+}
+
+fn is_impossible(schema: &Schema, parent: Option<&str>, fragment_type: Option<&str>) -> bool
+    ensures { result ≡ is_impossible (tree_of schema.now) (option_copied parent.entry) (option_copied fragment_type.entry) }
+{
+    match (parent, fragment_type) {
+        (Some(parent), Some(fragment_type)) => !may_overlap(schema, parent, fragment_type),
+        _ => false,
+    }
+}
+
+// The name, where it is that of a composite type.
+fn composite<'d>(schema: &Schema, name: &'d str) -> Option<&'d str>
+    ensures { option_copied result ≡ composite_in (tree_of schema.now) name.now }
+{
+    let kind = schema.kind_of(name)?;
+    if kind.is_leaf() { None } else { Some(name) }
+}
+
+// The composite type that the fragment of a number is for.
+fn fragment_type<'d>(parts: &Parts<'d>, fragment: usize) -> Option<&'d str>
+    ensures { option_copied result ≡ fragment_type (parts_in parts.now) fragment }
+{
+    let fragment = parts.document.fragments.get(fragment)?;
+    composite(parts.schema, fragment.condition.name.as_str())
+}
+
+fn impossible_spread<'d>(parts: &Parts<'d>, part: &SpreadPart<'d>) -> Option<Broken<'d>>
+    ensures { option_map broken_of result ≡ impossible_spread (parts_in parts.now) (spread_part_of part.now) }
+{
+    let fragment_type = fragment_type(parts, part.target?);
+    if !is_impossible(parts.schema, part.parent, fragment_type) {
+        return None;
+    }
+    Some(Broken::named(part.spread.name.as_str(), part.spread.place))
+}
+
+fn impossible_inline<'d>(schema: &Schema, part: &InlinePart<'d>) -> Option<Broken<'d>>
+    ensures { option_map broken_of result ≡ impossible_inline (tree_of schema.now) (inline_part_of part.now) }
+{
+    let condition = part.inline.condition.as_ref()?;
+    let fragment_type = composite(schema, condition.name.as_str());
+    if !is_impossible(schema, part.parent, fragment_type) {
+        return None;
+    }
+    Some(Broken::named(condition.name.as_str(), part.inline.place))
+}
+
+/// The earliest spread, or inline fragment with a type condition, whose type shares no possible object type with the type
+/// that it stands in, at its `...` (section 5.5.2.3). A type without any possible object type shares none with itself.
+#[tactic(auto, using(crate::proofs::Keeping::keep_next, crate::proofs::Keeping::keep_before))]
+pub fn possible_spreads<'d>(parts: &Parts<'d>) -> Option<Broken<'d>>
+    ensures { option_map broken_of result ≡ earliest (impossible_spreads (parts_in parts.now)) }
+{
+    let mut earliest = Earliest::new();
+    for part in &parts.spreads {
+        earliest.add_if(impossible_spread(parts, part));
+    }
+    for part in &parts.inlines {
+        earliest.add_if(impossible_inline(parts.schema, part));
+    }
+    earliest.found
+}

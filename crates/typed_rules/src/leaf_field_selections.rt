@@ -1,0 +1,48 @@
+//! Leaf Field Selections (section 5.3.3).
+
+ghost use Rattle.std.specs.Prelude.{◌≡◌};
+ghost use Rattle.std.specs.Option.{option_map};
+ghost use Rattle.gq_schema.specs.Types.{tree_of};
+ghost use Rattle.document_parts.specs.Broken.{broken_of, earliest};
+ghost use Rattle.document_parts.specs.Parts.{field_part_of, parts_in};
+ghost use Rattle.typed_rules.specs.LeafFieldSelections.{kind_of_field, misfit_field, misfit_fields};
+
+use crate::fields_on_correct_type::is_type_name;
+use crate::references::core;
+use document_parts::{Broken, Earliest, FieldPart, Parts};
+use gq_schema::{Schema, TypeKind};
+
+// What a field's type is, without lists and `!`.
+fn kind_of_field(schema: &Schema, part: &FieldPart) -> Option<TypeKind>
+    ensures { result ≡ kind_of_field (tree_of schema.now) (field_part_of part.now) }
+{
+    if is_type_name(part) {
+        return Some(TypeKind::Scalar);
+    }
+    match part.definition {
+        Some(definition) => schema.kind_of(core(&definition.of_type)),
+        None => None,
+    }
+}
+
+fn misfit_field<'d>(schema: &Schema, part: &FieldPart<'d>) -> Option<Broken<'d>>
+    ensures { option_map broken_of result ≡ misfit_field (tree_of schema.now) (field_part_of part.now) }
+{
+    let kind = kind_of_field(schema, part)?;
+    if kind.is_leaf() == part.field.selection_set.is_none() {
+        return None;
+    }
+    Some(Broken::named(part.field.name.as_str(), part.field.place))
+}
+
+/// The earliest leaf with a selection set, or composite field without, at its own place (section 5.3.3).
+#[tactic(auto, using(crate::proofs::Keeping::keep_next))]
+pub fn leaf_selections<'d>(parts: &Parts<'d>) -> Option<Broken<'d>>
+    ensures { option_map broken_of result ≡ earliest (misfit_fields (parts_in parts.now)) }
+{
+    let mut earliest = Earliest::new();
+    for part in &parts.fields {
+        earliest.add_if(misfit_field(parts.schema, part));
+    }
+    earliest.found
+}

@@ -1,0 +1,16 @@
+-- What answers lines: a world, and how long an answer may be.
+use Rattle.std.specs.Prelude.{ℕ, Option}
+use Rattle.world.specs.Worlds.{WorldOf}
+use Rattle.world_answers.specs.declared.service.Service.{Service}
+
+-- a world, and how many bytes the text of an answer has at most
+pub record ServiceOf : Type 0 where
+  pub world : WorldOf
+  pub most : Option ℕ
+
+-- a world whose answers may have so many bytes, or any number
+abbrev pub within : Option ℕ → WorldOf → ServiceOf
+within most w = record { world = w; most = most }
+
+abbrev pub service_of : Service → ServiceOf
+service_of s = within s.max_answer s.world.now
