@@ -16,9 +16,10 @@ fn broken_by_spreads<'d>(
     parts: &Parts<'d>,
 ) -> Result<Option<Broken<'d>>> {
     let graph = Graph::new(alloc, parts)?;
+    let uses = VariableUses::new(alloc, parts)?;
     Ok(match title {
-        "All Variable Uses Defined" => all_variable_uses_defined(alloc, parts, &graph)?,
-        "All Variables Used" => all_variables_used(alloc, parts, &graph)?,
+        "All Variable Uses Defined" => all_variable_uses_defined(alloc, &uses, &graph)?,
+        "All Variables Used" => all_variables_used(alloc, &uses, &graph)?,
         "All Variable Usages Are Allowed" => variable_usages(alloc, parts, &graph)?,
         "Fragment Spreads Must Not Form Cycles" => fragment_cycles(alloc, parts, &graph)?,
         "too many levels" => too_deep(alloc, parts, &graph)?,

@@ -9,7 +9,7 @@ use Rattle.std.specs.Str.Parse.{ParsesUnsigned}
 use Rattle.std.proofs.lemmas.List.{get_or_default}
 use Rattle.clap.specs.Words.{ReadsOne}
 use Rattle.command_line.specs.Words.{HasNoEquals, IsNumber, IsFlag, AreTables, joined, equals_sign}
-use Rattle.command_line.specs.declared.words.TableFile.{TableFile}
+use Rattle.world_files.specs.declared.files.TableFile.{TableFile}
 
 -- what `get_one` reads is a number
 pub number_read : {E : Type 0} (gives : List ℕ → Result ℕ E → Type 0) → ((text : List ℕ) (r : Result ℕ E) → gives text r → ParsesUnsigned 32 10 text r)

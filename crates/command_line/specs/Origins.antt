@@ -8,6 +8,10 @@ use Rattle.world.specs.declared.fault.WorldFault.{WorldFault}
 use Rattle.world.specs.declared.fault.WorldFault.TheVariants as world
 use Rattle.line_serving.specs.declared.fault.ServeFault.{ServeFault}
 use Rattle.line_serving.specs.declared.fault.ServeFault.TheVariants as serve
+use Rattle.world_files.specs.declared.fault.InputFile.{InputFile}
+use Rattle.world_files.specs.declared.fault.InputFile.TheVariants as file
+use Rattle.world_files.specs.declared.fault.OpenFault.{OpenFault}
+use Rattle.world_files.specs.declared.fault.OpenFault.TheVariants as opening
 use Rattle.command_line.specs.declared.stop.Stop.{Stop}
 use Rattle.command_line.specs.declared.stop.Stop.TheVariants as stop
 use Rattle.command_line.specs.declared.words.Words.{Words}
@@ -17,40 +21,40 @@ use Rattle.command_line.specs.declared.origin.Location.{Location}
 use Rattle.command_line.specs.declared.origin.Location.TheVariants as location
 use Rattle.command_line.specs.declared.origin.Origin.{Origin}
 
-abbrev pub in_file : Subject → Location → Option Origin
-in_file file at = Some (record { subject = file; location = at })
+abbrev pub in_file : InputFile → Location → Option Origin
+in_file input at = Some (record { subject = subject.Input input; location = at })
 
 -- the place of a schema's fault, and the line of a bindings' one
 abbrev pub origin_of_schema : SchemaFault → Option Origin
-origin_of_schema (schema.Syntax place) = in_file subject.Schema (location.At place)
-origin_of_schema (schema.Duplicate place) = in_file subject.Schema (location.At place)
-origin_of_schema (schema.UnknownType place) = in_file subject.Schema (location.At place)
-origin_of_schema (schema.BadImplements place) = in_file subject.Schema (location.At place)
-origin_of_schema schema.NoQueryRoot = in_file subject.Schema location.Whole
-origin_of_schema (schema.ReservedName place) = in_file subject.Schema (location.At place)
-origin_of_schema (schema.NotServed place) = in_file subject.Schema (location.At place)
-origin_of_schema (schema.BadBinding line) = in_file subject.Bindings (location.Line line)
+origin_of_schema (schema.Syntax place) = in_file file.Schema (location.At place)
+origin_of_schema (schema.Duplicate place) = in_file file.Schema (location.At place)
+origin_of_schema (schema.UnknownType place) = in_file file.Schema (location.At place)
+origin_of_schema (schema.BadImplements place) = in_file file.Schema (location.At place)
+origin_of_schema schema.NoQueryRoot = in_file file.Schema location.Whole
+origin_of_schema (schema.ReservedName place) = in_file file.Schema (location.At place)
+origin_of_schema (schema.NotServed place) = in_file file.Schema (location.At place)
+origin_of_schema (schema.BadBinding line) = in_file file.Bindings (location.Line line)
 origin_of_schema schema.NoMemory = None
-origin_of_schema (schema.BadKind place) = in_file subject.Schema (location.At place)
-origin_of_schema (schema.BadDefault place) = in_file subject.Schema (location.At place)
+origin_of_schema (schema.BadKind place) = in_file file.Schema (location.At place)
+origin_of_schema (schema.BadDefault place) = in_file file.Schema (location.At place)
 
 -- a table that is missing, or lacks a column, is named by the bindings
 abbrev pub origin_of_world : WorldFault → Option Origin
 origin_of_world world.BadLimit = None
 origin_of_world (world.Schema fault) = origin_of_schema fault
 origin_of_world world.DuplicateTable = None
-origin_of_world world.NoSuchTable = in_file subject.Bindings location.Whole
-origin_of_world world.NoSuchColumn = in_file subject.Bindings location.Whole
+origin_of_world world.NoSuchTable = in_file file.Bindings location.Whole
+origin_of_world world.NoSuchColumn = in_file file.Bindings location.Whole
 origin_of_world world.NoMemory = None
 
 abbrev pub origin_of_serve : ServeFault → Option Origin
-origin_of_serve serve.LineTooLong = in_file subject.Requests location.Whole
-origin_of_serve serve.ReadFault = in_file subject.Requests location.Whole
-origin_of_serve serve.WriteFault = in_file subject.Output location.Whole
+origin_of_serve serve.LineTooLong = in_file file.Requests location.Whole
+origin_of_serve serve.ReadFault = in_file file.Requests location.Whole
+origin_of_serve serve.WriteFault = Some (record { subject = subject.Output; location = location.Whole })
 origin_of_serve serve.NoMemory = None
 origin_of_serve serve.BadCount = None
 
--- where a fault is by itself; of a table and of a file only who opened it can tell
+-- where a fault is by itself; of a table and of a file the end alone can't tell
 abbrev pub origin_of : Stop → Option Origin
 origin_of stop.Served = None
 origin_of (stop.Help text) = None
@@ -60,12 +64,24 @@ origin_of (stop.Table fault) = None
 origin_of stop.File = None
 origin_of (stop.Serve fault) = origin_of_serve fault
 
--- the name of a file of the words
+-- the file that couldn't be opened, or the place of a fault in what was read
+abbrev pub origin_of_opening : OpenFault → Option Origin
+origin_of_opening (opening.Unread input reason) = in_file input (location.Reason reason)
+origin_of_opening (opening.Table place fault (Some reason)) = in_file (file.Table place) (location.Reason reason)
+origin_of_opening (opening.Table place fault None) = in_file (file.Table place) location.Whole
+origin_of_opening (opening.World fault) = origin_of_world fault
+origin_of_opening opening.NoMemory = None
+
+-- the path of a file of the words
+abbrev pub path_of : Words → InputFile → List ℕ
+path_of words file.Schema = string_bytes words.files.schema
+path_of words file.Bindings = string_bytes words.files.bindings
+path_of words (file.Table place) = option_map_or (λ t. string_bytes t.file) (slice_get words.files.tables.items place) []
+path_of words file.Requests = string_bytes words.requests
+
+-- the name of what a fault is about
 abbrev pub file_of : Words → Subject → List ℕ
-file_of words subject.Schema = string_bytes words.schema
-file_of words subject.Bindings = string_bytes words.bindings
-file_of words (subject.Table place) = option_map_or (λ t. string_bytes t.file) (slice_get words.tables.items place) []
-file_of words subject.Requests = string_bytes words.requests
+file_of words (subject.Input input) = path_of words input
 file_of words subject.Output = codes "standard output"
 
 -- The file, and where in it: behind colons a line and a column, or behind a colon and a space what the system says. A fault of

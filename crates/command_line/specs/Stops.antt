@@ -9,6 +9,8 @@ use Rattle.csv_source.specs.declared.fault.TableFault.TheVariants as table
 use Rattle.line_serving.specs.declared.fault.ServeFault.{ServeFault}
 use Rattle.line_serving.specs.declared.fault.ServeFault.TheVariants as serve
 use Rattle.line_serving.specs.Faults as serving
+use Rattle.world_files.specs.declared.fault.OpenFault.{OpenFault}
+use Rattle.world_files.specs.declared.fault.OpenFault.TheVariants as opening
 use Rattle.command_line.specs.declared.stop.Stop.{Stop}
 use Rattle.command_line.specs.declared.stop.Stop.TheVariants as stop
 
@@ -68,3 +70,10 @@ line_of (stop.World fault) = worlds.code_and_name fault
 line_of (stop.Table fault) = line_of_table fault
 line_of stop.File = codes "X2 ReadFault"
 line_of (stop.Serve fault) = serving.code_and_name fault
+
+-- how a run ends where files can't be opened
+abbrev pub stop_of : OpenFault → Stop
+stop_of (opening.Unread file reason) = stop.File
+stop_of (opening.Table place fault reason) = stop.Table fault
+stop_of (opening.World fault) = stop.World fault
+stop_of opening.NoMemory = stop.Serve serve.NoMemory

@@ -1,5 +1,6 @@
 -- The parts of a command line.
-use Rattle.std.specs.Prelude.{◌≡◌, ◌≢◌, ◌⊎◌, ◌<◌, ◌^◌, ℕ, List, [], ◌∷◌, ◌++◌, Bool, true, false, Option, Some, None, Any, codes, map, string_bytes, unwrap_or}
+use Rattle.std.specs.Prelude.{◌≡◌, ◌≢◌, ◌⊎◌, ◌<◌, ◌^◌, ℕ, List, [], ◌∷◌, ◌++◌, Bool, true, false, Option, Some, None, MatchOption, Any, codes, map, string_bytes, unwrap_or}
+use Rattle.std.specs.Global.{Vec}
 use Rattle.std.specs.List.{All}
 use Rattle.std.specs.Option.{SomeIff}
 use Rattle.std.specs.Str.Parse.{IsNumeral, digits_value, without_leading_plus}
@@ -10,7 +11,7 @@ use Rattle.line_serving.specs.declared.fault.ServeFault.TheVariants as serve
 use Rattle.command_line.specs.Command.{command_line}
 use Rattle.command_line.specs.declared.stop.Stop.{Stop}
 use Rattle.command_line.specs.declared.stop.Stop.TheVariants as stop
-use Rattle.command_line.specs.declared.words.TableFile.{TableFile}
+use Rattle.world_files.specs.declared.files.TableFile.{TableFile}
 use Rattle.command_line.specs.declared.words.Words.{Words}
 
 abbrev pub equals_sign : ℕ
@@ -27,6 +28,10 @@ joined t = string_bytes t.name ++ equals_sign ∷ string_bytes t.file
 pub record AreTables (words : List (List ℕ)) (tables : List TableFile) : Type 0 where
   pub whole : map joined tables ≡ words
   pub first : All (λ t. HasNoEquals (string_bytes t.name)) tables
+
+-- the tables that the words name; none where one has no `=`
+abbrev pub NamesTables : List (List ℕ) → Option (Vec TableFile) → Type 0
+NamesTables words found = MatchOption found (Any HasNoEquals words) (λ tables. AreTables words tables.items)
 
 -- the text of a number in decimal, where there is one that fits
 abbrev pub IsNumber : Option (List ℕ) → Option ℕ → Type 0
@@ -48,14 +53,14 @@ table_words rows = unwrap_or (all_of (codes "NAME=F") rows) []
 
 -- the parts of what `clap` reads
 pub record IsWords (rows : List Row) (words : Words) : Type 0 where
-  pub schema : string_bytes words.schema ≡ text_at rows (codes "schema")
-  pub bindings : string_bytes words.bindings ≡ text_at rows (codes "bindings")
+  pub schema : string_bytes words.files.schema ≡ text_at rows (codes "schema")
+  pub bindings : string_bytes words.files.bindings ≡ text_at rows (codes "bindings")
   pub workers : IsNumber (one_of (codes "workers") rows) words.workers
-  pub max_batch : IsNumber (one_of (codes "max-batch") rows) words.max_batch
+  pub max_batch : IsNumber (one_of (codes "max-batch") rows) words.files.max_batch
   pub max_answer : IsNumber (one_of (codes "max-answer") rows) words.max_answer
   pub explain : IsFlag (one_of (codes "explain") rows) words.explain
   pub requests : string_bytes words.requests ≡ text_at rows (codes "REQUESTS")
-  pub tables : AreTables (table_words rows) words.tables.items
+  pub tables : AreTables (table_words rows) words.files.tables.items
 
 -- `clap` takes the words, and these are their parts
 pub record IsRead (texts : List (List ℕ)) (words : Words) : Type 0 where

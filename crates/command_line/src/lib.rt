@@ -13,4 +13,4 @@ mod words;
 
 pub use origin::{End, LocatedStop, Location, Origin, Subject};
 pub use stop::Stop;
-pub use words::{TableFile, Words};
+pub use words::Words;

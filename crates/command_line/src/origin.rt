@@ -1,27 +1,24 @@
 //! Where the fault is that ends a run.
 
 ghost use Rattle.std.specs.Prelude.{◌≡◌, IfOk, IfSome, None, string_bytes};
-ghost use Rattle.command_line.specs.declared.stop.Stop.TheVariants.{Serve};
-ghost use Rattle.line_serving.specs.declared.fault.ServeFault.TheVariants.{NoMemory};
-ghost use Rattle.command_line.specs.Origins.{in_file, origin_of_schema, origin_of_world, origin_of_serve, origin_of, file_of, IsWritten, Explains};
+ghost use Rattle.command_line.specs.Stops.{stop_of};
+ghost use Rattle.command_line.specs.Origins.{in_file, origin_of_schema, origin_of_world, origin_of_serve, origin_of, origin_of_opening, path_of, file_of, IsWritten, Explains};
 
 use crate::stop::Stop;
 use crate::words::Words;
 use gq_lexer::Place;
 use gq_schema::SchemaFault;
 use line_serving::ServeFault;
-use std::alloc::{AllocError, AllocFailed, Global};
+use std::alloc::{AllocError, Global};
 use std::io;
 use world::WorldFault;
+use world_files::{InputFile, OpenFault};
 
-/// One of the files of a command line.
+/// What a fault is about.
 #[derive(Clone, Copy, Debug)]
 pub enum Subject {
-    Schema,
-    Bindings,
-    /// The table of this place among the words, from 0.
-    Table(usize),
-    Requests,
+    /// One of the files of a command line. A table's place is that among the words.
+    Input(InputFile),
     /// No file of the words, but standard output.
     Output,
 }
@@ -61,10 +58,13 @@ pub struct End {
 }
 
 // An origin that is known.
-fn in_file(subject: Subject, location: Location) -> Option<Origin>
-    ensures { result ≡ in_file subject location }
+fn in_file(file: InputFile, location: Location) -> Option<Origin>
+    ensures { result ≡ in_file file location }
 {
-    Some(Origin { subject, location })
+    Some(Origin {
+        subject: Subject::Input(file),
+        location,
+    })
 }
 
 // The place of a schema's fault, and the line of a bindings' one. Want of memory is nowhere.
@@ -72,17 +72,17 @@ fn origin_of_schema(fault: &SchemaFault) -> Option<Origin>
     ensures { result ≡ origin_of_schema fault.now }
 {
     match fault {
-        SchemaFault::Syntax(place) => in_file(Subject::Schema, Location::At(*place)),
-        SchemaFault::Duplicate(place) => in_file(Subject::Schema, Location::At(*place)),
-        SchemaFault::UnknownType(place) => in_file(Subject::Schema, Location::At(*place)),
-        SchemaFault::BadImplements(place) => in_file(Subject::Schema, Location::At(*place)),
-        SchemaFault::NoQueryRoot => in_file(Subject::Schema, Location::Whole),
-        SchemaFault::ReservedName(place) => in_file(Subject::Schema, Location::At(*place)),
-        SchemaFault::NotServed(place) => in_file(Subject::Schema, Location::At(*place)),
-        SchemaFault::BadBinding(line) => in_file(Subject::Bindings, Location::Line(*line)),
+        SchemaFault::Syntax(place) => in_file(InputFile::Schema, Location::At(*place)),
+        SchemaFault::Duplicate(place) => in_file(InputFile::Schema, Location::At(*place)),
+        SchemaFault::UnknownType(place) => in_file(InputFile::Schema, Location::At(*place)),
+        SchemaFault::BadImplements(place) => in_file(InputFile::Schema, Location::At(*place)),
+        SchemaFault::NoQueryRoot => in_file(InputFile::Schema, Location::Whole),
+        SchemaFault::ReservedName(place) => in_file(InputFile::Schema, Location::At(*place)),
+        SchemaFault::NotServed(place) => in_file(InputFile::Schema, Location::At(*place)),
+        SchemaFault::BadBinding(line) => in_file(InputFile::Bindings, Location::Line(*line)),
         SchemaFault::NoMemory => None,
-        SchemaFault::BadKind(place) => in_file(Subject::Schema, Location::At(*place)),
-        SchemaFault::BadDefault(place) => in_file(Subject::Schema, Location::At(*place)),
+        SchemaFault::BadKind(place) => in_file(InputFile::Schema, Location::At(*place)),
+        SchemaFault::BadDefault(place) => in_file(InputFile::Schema, Location::At(*place)),
     }
 }
 
@@ -93,7 +93,7 @@ fn origin_of_world(fault: &WorldFault) -> Option<Origin>
     match fault {
         WorldFault::Schema(fault) => origin_of_schema(fault),
         WorldFault::NoSuchTable | WorldFault::NoSuchColumn => {
-            in_file(Subject::Bindings, Location::Whole)
+            in_file(InputFile::Bindings, Location::Whole)
         }
         WorldFault::BadLimit | WorldFault::DuplicateTable | WorldFault::NoMemory => None,
     }
@@ -104,10 +104,13 @@ fn origin_of_serve(fault: ServeFault) -> Option<Origin>
 {
     match fault {
         ServeFault::LineTooLong | ServeFault::ReadFault => in_file(
-            Subject::Requests,
+            InputFile::Requests,
             Location::Whole,
         ),
-        ServeFault::WriteFault => in_file(Subject::Output, Location::Whole),
+        ServeFault::WriteFault => Some(Origin {
+            subject: Subject::Output,
+            location: Location::Whole,
+        }),
         ServeFault::BadCount | ServeFault::NoMemory => None,
     }
 }
@@ -126,24 +129,35 @@ impl Stop {
     }
 }
 
-impl From<AllocError> for LocatedStop {
-    ghost from_gives = { λ _ end. (end.stop ≡ Serve NoMemory) × (end.origin ≡ None) };
-
-    fn from(_: AllocError) -> LocatedStop {
-        LocatedStop {
-            stop: Stop::Serve(ServeFault::NoMemory),
-            origin: None,
-        }
+// The file that couldn't be opened, or the place of a fault in what was read.
+fn origin_of_opening(fault: &OpenFault) -> Option<Origin>
+    ensures { result ≡ origin_of_opening fault.now }
+{
+    match fault {
+        OpenFault::Unread { file, reason } => in_file(*file, Location::Reason(*reason)),
+        OpenFault::Table {
+            place,
+            reason: Some(reason),
+            ..
+        } => in_file(InputFile::Table(*place), Location::Reason(*reason)),
+        OpenFault::Table {
+            place,
+            reason: None,
+            ..
+        } => in_file(InputFile::Table(*place), Location::Whole),
+        OpenFault::World(fault) => origin_of_world(fault),
+        OpenFault::NoMemory => None,
     }
 }
 
-impl<T: Drop> From<AllocFailed<T>> for LocatedStop {
-    ghost from_gives = { λ _ end. (end.stop ≡ Serve NoMemory) × (end.origin ≡ None) };
+impl From<OpenFault> for LocatedStop {
+    ghost from_gives = { λ fault end. (end.stop ≡ stop_of fault) × (end.origin ≡ origin_of_opening fault) };
 
-    fn from(_: AllocFailed<T>) -> LocatedStop {
+    fn from(fault: OpenFault) -> LocatedStop {
+        let origin = origin_of_opening(&fault);
         LocatedStop {
-            stop: Stop::Serve(ServeFault::NoMemory),
-            origin: None,
+            stop: Stop::from(fault),
+            origin,
         }
     }
 }
@@ -158,18 +172,27 @@ impl From<Stop> for LocatedStop {
 }
 
 impl Words {
-    // The name of a file.
+    // The path of a file.
+    fn path(&self, file: InputFile) -> &str
+        ensures { result.now ≡ path_of self.now file }
+    {
+        match file {
+            InputFile::Schema => self.files.schema.as_str(),
+            InputFile::Bindings => self.files.bindings.as_str(),
+            InputFile::Table(place) => match self.files.tables.get(place) {
+                Some(table) => table.file.as_str(),
+                None => "",
+            },
+            InputFile::Requests => self.requests.as_str(),
+        }
+    }
+
+    // The name of what a fault is about.
     fn file(&self, subject: Subject) -> &str
         ensures { result.now ≡ file_of self.now subject }
     {
         match subject {
-            Subject::Schema => self.schema.as_str(),
-            Subject::Bindings => self.bindings.as_str(),
-            Subject::Table(place) => match self.tables.get(place) {
-                Some(table) => table.file.as_str(),
-                None => "",
-            },
-            Subject::Requests => self.requests.as_str(),
+            Subject::Input(file) => self.path(file),
             Subject::Output => "standard output",
         }
     }

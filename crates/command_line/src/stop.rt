@@ -1,7 +1,7 @@
 //! How a run ends.
 
 ghost use Rattle.std.specs.Prelude.{◌≡◌};
-ghost use Rattle.command_line.specs.Stops.{status_of, status_of_world, status_of_table, status_of_serve, line_of, line_of_table};
+ghost use Rattle.command_line.specs.Stops.{status_of, status_of_world, status_of_table, status_of_serve, line_of, line_of_table, stop_of};
 ghost use Rattle.command_line.specs.declared.stop.Stop.TheVariants.{Serve};
 ghost use Rattle.line_serving.specs.declared.fault.ServeFault.TheVariants.{NoMemory};
 
@@ -10,6 +10,7 @@ use gq_schema::SchemaFault;
 use line_serving::ServeFault;
 use std::alloc::{AllocError, AllocFailed};
 use world::WorldFault;
+use world_files::OpenFault;
 
 /// How a run ends.
 #[derive(Debug, Drop)]
@@ -97,6 +98,19 @@ impl<T: Drop> From<AllocFailed<T>> for Stop {
 
     fn from(_: AllocFailed<T>) -> Stop {
         Stop::Serve(ServeFault::NoMemory)
+    }
+}
+
+impl From<OpenFault> for Stop {
+    ghost from_gives = { λ fault stop. stop ≡ stop_of fault };
+
+    fn from(fault: OpenFault) -> Stop {
+        match fault {
+            OpenFault::Unread { .. } => Stop::File,
+            OpenFault::Table { fault, .. } => Stop::Table(fault),
+            OpenFault::World(fault) => Stop::World(fault),
+            OpenFault::NoMemory => Stop::Serve(ServeFault::NoMemory),
+        }
     }
 }
 

@@ -1,8 +1,8 @@
 //! The words of a command line.
 
-ghost use Rattle.std.specs.Prelude.{◌≡◌, ℕ, List, IfOk, IfErr, MatchOption, Any, map, string_bytes};
+ghost use Rattle.std.specs.Prelude.{◌≡◌, ℕ, List, IfOk, IfErr, MatchOption, map, string_bytes};
 ghost use Rattle.clap.specs.Words.{found_of, kind_of, rows_of, one_of};
-ghost use Rattle.command_line.specs.Words.{HasNoEquals, joined, text_at, table_words, AreTables, IsNumber, IsFlag, IsWords, IsRead, IsRefused, IsUnread, Refuses};
+ghost use Rattle.command_line.specs.Words.{HasNoEquals, joined, text_at, table_words, NamesTables, IsNumber, IsFlag, IsWords, IsRead, IsRefused, IsUnread, Refuses};
 
 use crate::command::command;
 use crate::stop::Stop;
@@ -10,34 +10,22 @@ use clap::error::ErrorKind;
 use clap::{ArgMatches, Error};
 use line_serving::ServeFault;
 use std::alloc::{AllocError, Global};
-
-/// A table by its name, and the file that it is in.
-#[derive(Debug, Drop)]
-pub struct TableFile {
-    pub name: String,
-    pub file: String,
-}
+use world_files::{TableFile, WorldFiles};
 
 /// The parts of a command line: `--schema F --bindings F [--workers N] [--max-batch N]
 /// [--max-answer BYTES] [--explain] REQUESTS [NAME=F]..`.
 #[derive(Debug, Drop)]
 pub struct Words {
-    /// The file of the schema.
-    pub schema: String,
-    /// The file of the bindings.
-    pub bindings: String,
+    /// The files of the world, with the tables in the order of their words, and the batch limit.
+    pub files: WorldFiles,
     /// How many workers run the batches of a round at the same time, from 1 to 16; `None`: they run one after another.
     pub workers: Option<u32>,
-    /// The batch limit, from 1 to 65,535; `None`: no limit.
-    pub max_batch: Option<u32>,
     /// How many bytes one answer has at most, from 1 to 4,294,967,295; `None`: no limit.
     pub max_answer: Option<u32>,
     /// Whether a run that ends by a fault says where it is.
     pub explain: bool,
     /// The file of the request lines.
     pub requests: String,
-    /// The tables in the order of their words.
-    pub tables: Vec<TableFile>,
 }
 
 // How an error of `clap` ends a run.
@@ -97,8 +85,7 @@ fn table_file(alloc: Global, word: &str) -> Result<Option<TableFile>, AllocError
 
 // The tables that words name, where each has a `=`.
 fn table_files(alloc: Global, words: &[&str]) -> Result<Option<Vec<TableFile>>, AllocError>
-    ensures { IfOk result (λ r. MatchOption r (Any HasNoEquals (map (λ w. w.now) words.now))
-        (λ tables. AreTables (map (λ w. w.now) words.now) tables.items)) }
+    ensures { IfOk result (NamesTables (map (λ w. w.now) words.now)) }
 {
     let mut tables = Vec::new(alloc);
     for word in words {
@@ -112,8 +99,7 @@ fn table_files(alloc: Global, words: &[&str]) -> Result<Option<Vec<TableFile>>, 
 
 // The tables, where the word of each has a `=`.
 fn tables_of(alloc: Global, matches: &ArgMatches<'_>) -> Result<Option<Vec<TableFile>>, AllocError>
-    ensures { IfOk result (λ r. MatchOption r (Any HasNoEquals (table_words (rows_of (found_of matches.now))))
-        (λ tables. AreTables (table_words (rows_of (found_of matches.now))) tables.items)) }
+    ensures { IfOk result (NamesTables (table_words (rows_of (found_of matches.now)))) }
 {
     match matches.get_strs("NAME=F") {
         Some(words) => table_files(alloc, words),
@@ -130,14 +116,16 @@ fn words_of(alloc: Global, matches: &ArgMatches<'_>) -> Result<Words, Stop>
         return Err(Stop::Command(String::from_str(alloc, "bad table")?));
     };
     Ok(Words {
-        schema: text_of(alloc, matches, "schema")?,
-        bindings: text_of(alloc, matches, "bindings")?,
+        files: WorldFiles {
+            schema: text_of(alloc, matches, "schema")?,
+            bindings: text_of(alloc, matches, "bindings")?,
+            tables,
+            max_batch: number_of(matches, "max-batch"),
+        },
         workers: number_of(matches, "workers"),
-        max_batch: number_of(matches, "max-batch"),
         max_answer: number_of(matches, "max-answer"),
         explain: is_given(matches, "explain"),
         requests: text_of(alloc, matches, "REQUESTS")?,
-        tables,
     })
 }
 

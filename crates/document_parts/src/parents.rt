@@ -2,23 +2,13 @@
 
 ghost use Rattle.std.specs.Prelude.{◌≡◌};
 ghost use Rattle.std.specs.Option.{option_map, option_copied};
-ghost use Rattle.gq_parser.specs.Tree.{type_of, condition_of, condition_if};
+ghost use Rattle.gq_parser.specs.Tree.{condition_of, condition_if};
 ghost use Rattle.schema_syntax.specs.Tree.{field_of};
-ghost use Rattle.gq_schema.specs.Types.{tree_of, core_of};
+ghost use Rattle.gq_schema.specs.Types.{tree_of};
 ghost use Rattle.document_parts.specs.Parents.{composite_in, known_field, inside_operation, inside_field, inside_condition, inside_inline};
 
-use gq_parser::{TypeCondition, TypeRef};
+use gq_parser::TypeCondition;
 use gq_schema::{FieldDef, Schema};
-
-// The name at the core of a type.
-fn core(of_type: &TypeRef) -> &str
-    ensures { result.now ≡ (core_of (type_of of_type.now)).text }
-{
-    match of_type {
-        TypeRef::Named { name, .. } => name.as_str(),
-        TypeRef::List { item, .. } => core(item),
-    }
-}
 
 // The name, where it is that of a composite type.
 fn composite<'d>(schema: &Schema, name: &'d str) -> Option<&'d str>
@@ -50,7 +40,7 @@ pub fn inside_operation(schema: &Schema) -> Option<&str>
 pub fn inside_field<'d>(schema: &Schema, definition: Option<&'d FieldDef>) -> Option<&'d str>
     ensures { option_copied result ≡ inside_field (tree_of schema.now) (option_map field_of (option_copied definition.entry)) }
 {
-    composite(schema, core(&definition?.of_type))
+    composite(schema, definition?.of_type.named())
 }
 
 /// The type that is selected inside a fragment, where it is known.

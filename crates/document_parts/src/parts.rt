@@ -90,6 +90,13 @@ impl<'d> Parts<'d> {
         })
     }
 
+    /// The number of the first fragment of each name, from 0.
+    pub fn fragment_numbers(&self) -> &Numbers<'d>
+        ensures { AreNumbers (parts_in self.now).document.fragments result.now }
+    {
+        &self.fragments
+    }
+
     /// The number of the first fragment of this name, from 0.
     pub fn fragment(&self, name: &str) -> Option<usize>
         ensures { result ≡ fragment_place (parts_in self.now).document.fragments name.now }

@@ -10,20 +10,20 @@ use Rattle.document_parts.specs.declared.part.Owner.{Owner}
 use Rattle.document_parts.specs.declared.part.Owner.TheVariants as owner
 use Rattle.document_parts.specs.Parts.{VariableUse}
 use Rattle.spread_graph.specs.declared.batch.BatchSet.{BatchSet}
-use Rattle.spread_graph.specs.Graphs.{GraphOf}
+use Rattle.spread_graph.specs.Graphs.{GraphOf, row}
 use Rattle.spread_graph.specs.Reach.{is_among}
 use Rattle.spread_graph.specs.Batches.{has, set_at, any_below, is_missing_in, is_missing_at, misses, AreReachers}
 use Rattle.spread_graph.proofs.MissingLaws.{missing-in_operation, missing-in_fragment, in_batch, batch_noted}
 use Rattle.document_rules.specs.declared.use_table.UseTable as rust
-use Rattle.document_rules.specs.Rows.{RowsOf, is_same_owner, row}
+use Rattle.spread_graph.specs.OwnerRows.{is_same_owner, owner_rows}
 use Rattle.document_rules.specs.VariableReach.{is_within, defines}
 use Rattle.document_rules.specs.AllVariableUsesDefined.{lacks, one_lacks}
 use Rattle.document_rules.specs.UseTable.{is_numbered}
-use Rattle.document_rules.specs.UseRows.{use_at, rows_in, IsUseTable, defines_at}
+use Rattle.document_rules.specs.UseRows.{use_at, IsUseTable, defines_at}
 use Rattle.document_rules.proofs.ReachLaws.{stands_alone, defines-use}
 
 -- what was noted of a place that stands in one row alone
-missing-in : (g : GraphOf) (first count s : ℕ) (rows : RowsOf) (reached : List BatchSet) (set : BatchSet) (old mid new : Bool) (o : Owner) → AreReachers g first count reached
+missing-in : (g : GraphOf) (first count s : ℕ) (rows : GraphOf) (reached : List BatchSet) (set : BatchSet) (old mid new : Bool) (o : Owner) → AreReachers g first count reached
     → ((q : Owner) → is_among s (row rows q) ≡ is_same_owner q o)
     → mid ≡ (any_below (is_missing_at rows.operations first set s) count || old) → new ≡ (any_below (is_missing_in rows.fragments reached set s) (length reached) || mid)
     → new ≡ (any_below (misses g first o set) count || old)
@@ -40,12 +40,12 @@ misses-by g first i set (owner.Fragment j) = refl
 pub lacks_batch : (g : GraphOf) (uses : List VariableUse) (table : rust.UseTable) → IsUseTable uses table → (k : ℕ) → k < length uses → (operations : List Operation) (first count : ℕ) (reached sets : List BatchSet) (old mid new : Bool)
     → AreReachers g first count reached → first + count ≤ length operations
     → ((n m : ℕ) → has (set_at sets n) m ≡ (nat_lt m count && defines_at (λ q. get_by (λ (p : Bor (List ℕ)). bytes_eq q p.now) table.names) n operations (first + m)))
-    → mid ≡ (any_below (is_missing_at (rows_in table.rows).operations first (set_at sets (slice_index table.numbers.items (slice_index table.stand_ins.items k))) (slice_index table.stand_ins.items k)) count || old)
-    → new ≡ (any_below (is_missing_in (rows_in table.rows).fragments reached (set_at sets (slice_index table.numbers.items (slice_index table.stand_ins.items k))) (slice_index table.stand_ins.items k)) (length reached) || mid)
+    → mid ≡ (any_below (is_missing_at (owner_rows table.rows).operations first (set_at sets (slice_index table.numbers.items (slice_index table.stand_ins.items k))) (slice_index table.stand_ins.items k)) count || old)
+    → new ≡ (any_below (is_missing_in (owner_rows table.rows).fragments reached (set_at sets (slice_index table.numbers.items (slice_index table.stand_ins.items k))) (slice_index table.stand_ins.items k)) (length reached) || mid)
     → (new || one_lacks g (first + count) (drop (first + count) operations) (use_at uses k)) ≡ (old || one_lacks g first (drop first operations) (use_at uses k))
 lacks_batch g uses table holds k within operations first count reached sets old mid new are inside defined by_own by_all =
     batch_noted old new (any_below (misses g first u.owner set) count) (one_lacks g (first + count) (drop (first + count) operations) u) (one_lacks g first (drop first operations) u) _
-    (missing-in g first count s (rows_in table.rows) reached set old mid new u.owner are (stands_alone uses table holds k within) by_own by_all)
+    (missing-in g first count s (owner_rows table.rows) reached set old mid new u.owner are (stands_alone uses table holds k within) by_own by_all)
     (in_batch (λ j os. one_lacks g j os u) (λ j o. lacks g j o u) (λ j o os. refl) operations first count (misses g first u.owner set) inside agree)
     refl where
       u : VariableUse

@@ -11,10 +11,11 @@ use Rattle.document_parts.specs.declared.part.Owner.{Owner}
 use Rattle.document_parts.specs.Parts.{VariableUse}
 use Rattle.spread_graph.specs.Reach.{is_among}
 use Rattle.document_rules.specs.declared.use_table.UseTable as rust
-use Rattle.document_rules.specs.Rows.{is_same_owner, row}
+use Rattle.spread_graph.specs.OwnerRows.{is_same_owner, owner_rows}
+use Rattle.spread_graph.specs.Graphs.{row}
 use Rattle.document_rules.specs.VariableReach.{is_variable, defines}
 use Rattle.document_rules.specs.UseTable.{is_use, number_in, is_number, is_numbered}
-use Rattle.document_rules.specs.UseRows.{no_use, use_at, rows_in, IsUseTable}
+use Rattle.document_rules.specs.UseRows.{no_use, use_at, IsUseTable}
 use Rattle.document_rules.proofs.UseLaws.{same_owner, is_same_owner-same}
 
 -- two tests that are true together are one
@@ -89,7 +90,7 @@ module _ (uses : List VariableUse) (table : rust.UseTable) (holds : IsUseTable u
     back h = rw ((bytes_eq-Decides q name).0 h, placed.is) (eq-eqb (slice_index table.numbers.items k) placed.at numbered)
 
   -- the one that stands for a use stands in the row of the use's owner alone
-  pub stands_alone : (q : Owner) → is_among (slice_index table.stand_ins.items k) (row (rows_in table.rows) q) ≡ is_same_owner q (use_at uses k).owner
+  pub stands_alone : (q : Owner) → is_among (slice_index table.stand_ins.items k) (row (owner_rows table.rows) q) ≡ is_same_owner q (use_at uses k).owner
   stands_alone q = same_tests _ _ there back where
     s : ℕ
     s = slice_index table.stand_ins.items k
@@ -97,10 +98,10 @@ module _ (uses : List VariableUse) (table : rust.UseTable) (holds : IsUseTable u
     own : (use_at uses s).owner ≡ (use_at uses k).owner
     own = (holds.sound s (use_at uses k).owner (holds.stood k within)).1
 
-    there : is_among s (row (rows_in table.rows) q) ≡ true → is_same_owner q (use_at uses k).owner ≡ true
+    there : is_among s (row (owner_rows table.rows) q) ≡ true → is_same_owner q (use_at uses k).owner ≡ true
     there h = rw (sym (holds.sound s q h).1 ∙ own) (is_same_owner-same (use_at uses k).owner)
 
-    back : is_same_owner q (use_at uses k).owner ≡ true → is_among s (row (rows_in table.rows) q) ≡ true
+    back : is_same_owner q (use_at uses k).owner ≡ true → is_among s (row (owner_rows table.rows) q) ≡ true
     back h = rw (same_owner q (use_at uses k).owner h) (holds.stood k within)
 
 -- ---- the same of operations

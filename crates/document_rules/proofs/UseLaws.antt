@@ -8,7 +8,8 @@ use Rattle.document_parts.specs.declared.part.Owner.{Owner}
 use Rattle.document_parts.specs.declared.part.Owner.TheVariants as owner
 use Rattle.document_parts.specs.declared.part.VariableUse as rust-use
 use Rattle.document_parts.specs.Parts.{VariableUse, use_of}
-use Rattle.document_rules.specs.Rows.{RowsOf, is_same_owner, row}
+use Rattle.spread_graph.specs.Graphs.{GraphOf, row}
+use Rattle.spread_graph.specs.OwnerRows.{is_same_owner}
 use Rattle.spread_graph.specs.Reach.{is_among}
 use Rattle.document_rules.specs.declared.use_table.Last as rust
 use Rattle.document_rules.specs.UseRows.{no_use, use_at, IsIn, Stands, IsUpTo, IsNext}
@@ -34,30 +35,30 @@ is_among-push s k (x ∷ xs) = ap (λ b. eqb x s || b) (is_among-push s k xs) �
   or-assoc false b c = refl
 
 -- the row of q, where k was put behind that of o
-abbrev PutInto : RowsOf → RowsOf → Owner → ℕ → Type 0
+abbrev PutInto : GraphOf → GraphOf → Owner → ℕ → Type 0
 PutInto old new o k = (q : Owner) → row new q ≡ cond (is_same_owner q o) (row old q ++ k ∷ []) (row old q)
 
 -- what is in a row then, by whether it is the one
-in_put : (old new : RowsOf) (o q : Owner) (k s : ℕ) (b : Bool) → is_same_owner q o ≡ b → PutInto old new o k → is_among s (row new q) ≡ cond b (is_among s (row old q) || eqb k s) (is_among s (row old q))
+in_put : (old new : GraphOf) (o q : Owner) (k s : ℕ) (b : Bool) → is_same_owner q o ≡ b → PutInto old new o k → is_among s (row new q) ≡ cond b (is_among s (row old q) || eqb k s) (is_among s (row old q))
 in_put old new o q k s true e put = rw (put q, e) (is_among-push s k (row old q))
 in_put old new o q k s false e put = rw (put q, e)
 
-kept_by : (old new : RowsOf) (o q : Owner) (k s : ℕ) (b : Bool) → is_same_owner q o ≡ b → PutInto old new o k → IsIn old q s → IsIn new q s
+kept_by : (old new : GraphOf) (o q : Owner) (k s : ℕ) (b : Bool) → is_same_owner q o ≡ b → PutInto old new o k → IsIn old q s → IsIn new q s
 kept_by old new o q k s true e put there = in_put old new o q k s true e put ∙ ap (λ b. b || eqb k s) there
 kept_by old new o q k s false e put there = in_put old new o q k s false e put ∙ there
 
 -- whose row a use is in then
-pub record Found (old : RowsOf) (o q : Owner) (k s : ℕ) : Type 0 where
+pub record Found (old : GraphOf) (o q : Owner) (k s : ℕ) : Type 0 where
   pub same : s ≡ k
   pub own : q ≡ o
 
-found_by : (old new : RowsOf) (o q : Owner) (k s : ℕ) (b : Bool) → is_same_owner q o ≡ b → PutInto old new o k → IsIn new q s → IsIn old q s ⊎ Found old o q k s
+found_by : (old new : GraphOf) (o q : Owner) (k s : ℕ) (b : Bool) → is_same_owner q o ≡ b → PutInto old new o k → IsIn new q s → IsIn old q s ⊎ Found old o q k s
 found_by old new o q k s false e put there = inl (sym (in_put old new o q k s false e put) ∙ there)
 found_by old new o q k s true e put there =
     ⊎_elim (λ h. inl h) (λ h. inr (record { same = sym (eqb-true k s h); own = same_owner q o e }))
     (or_cases (is_among s (row old q)) (eqb k s) (sym (in_put old new o q k s true e put) ∙ there))
 
-pub next_hit : (uses : List VariableUse) (numbers : List ℕ) (rows : RowsOf) (lasts : List (Option rust.Last)) (o : Owner) (number k : ℕ) (l : rust.Last)
+pub next_hit : (uses : List VariableUse) (numbers : List ℕ) (rows : GraphOf) (lasts : List (Option rust.Last)) (o : Owner) (number k : ℕ) (l : rust.Last)
     → IsUpTo uses numbers rows lasts k → slice_index_or lasts number None ≡ Some l → is_same_owner l.owner o ≡ true
     → IsNext uses numbers rows rows lasts o number k l.place
 next_hit uses numbers rows lasts o number k l before at e =
@@ -69,7 +70,7 @@ next_hit uses numbers rows lasts o number k l before at e =
       kept = λ t q there. there;
     }
 
-pub next_miss : (uses : List VariableUse) (numbers : List ℕ) (old new : RowsOf) (before after : List (Option rust.Last)) (o : Owner) (number k : ℕ)
+pub next_miss : (uses : List VariableUse) (numbers : List ℕ) (old new : GraphOf) (before after : List (Option rust.Last)) (o : Owner) (number k : ℕ)
     → Stands uses numbers o number k → IsUpTo uses numbers old before k → PutInto old new o k
     → ((n : ℕ) → slice_index_or after n None ≡ cond (eqb n number) (Some (record { owner = o; place = k })) (slice_index_or before n None))
     → IsNext uses numbers old new after o number k k
@@ -104,7 +105,7 @@ use_at-map uses k item within is =
     let seen : use_of item ≡ get_or (map use_of uses) k (use_of item) = ap use_of is ∙ sym (get_or-map use_of uses k item) in
     sym (get_or_read (map use_of uses) k (use_of item) (omega (arith, length-map uses use_of)) seen no_use)
 
-module _ (uses : List VariableUse) (numbers stand_ins : List ℕ) (old new : RowsOf) (lasts : List (Option rust.Last)) (o : Owner) (number k s : ℕ) (placed : length stand_ins ≡ k) (own : Stands uses numbers o number k) (next : IsNext uses numbers old new lasts o number k s) where
+module _ (uses : List VariableUse) (numbers stand_ins : List ℕ) (old new : GraphOf) (lasts : List (Option rust.Last)) (o : Owner) (number k s : ℕ) (placed : length stand_ins ≡ k) (own : Stands uses numbers o number k) (next : IsNext uses numbers old new lasts o number k s) where
   -- each use up to this one has one that stands for it
   pub stood_more : ((j : ℕ) → j < k → IsIn old (use_at uses j).owner (slice_index stand_ins j)) → (j : ℕ) → j < k + 1 → IsIn new (use_at uses j).owner (slice_index (stand_ins ++ s ∷ []) j)
   stood_more before = below_more (λ j. IsIn new (use_at uses j).owner (slice_index (stand_ins ++ s ∷ []) j)) k

@@ -8,18 +8,18 @@ use Rattle.std.proofs.lemmas.List.Folds.{list_any_at}
 use Rattle.document_parts.specs.declared.part.Owner.{Owner}
 use Rattle.document_parts.specs.declared.part.Owner.TheVariants as owner
 use Rattle.document_parts.specs.Parts.{VariableUse}
-use Rattle.spread_graph.specs.Graphs.{GraphOf}
+use Rattle.spread_graph.specs.Graphs.{GraphOf, row, row_at}
 use Rattle.spread_graph.specs.Reach.{is_among, reaches}
 use Rattle.spread_graph.specs.declared.batch.BatchSet.{BatchSet}
 use Rattle.spread_graph.specs.Batches.{has, no_operations, set_at, any_below, AreReachers}
 use Rattle.spread_graph.proofs.BatchLaws.{has-none}
 use Rattle.spread_graph.proofs.MissingLaws.{any_below-at, passing}
 use Rattle.document_rules.specs.declared.use_table.UseTable as rust
-use Rattle.document_rules.specs.Rows.{row, row_at}
 use Rattle.document_rules.specs.VariableReach.{is_within}
 use Rattle.document_rules.specs.AllVariablesUsed.{uses_there}
 use Rattle.document_rules.specs.UseTable.{number_in, is_number, has_if}
-use Rattle.document_rules.specs.UseRows.{no_use, use_at, rows_in, IsUseTable, is_number_among, is_used_in, is_used_at, has_number}
+use Rattle.spread_graph.specs.OwnerRows.{owner_rows}
+use Rattle.document_rules.specs.UseRows.{no_use, use_at, IsUseTable, is_number_among, is_used_in, is_used_at, has_number}
 use Rattle.document_rules.proofs.ReachLaws.{same_tests, number-use}
 
 -- a number of the list that passes
@@ -56,9 +56,9 @@ any_use p (u ∷ us) h =
     (or_cases (p u) (list_any p us) h)
 
 module _ (g : GraphOf) (uses : List VariableUse) (table : rust.UseTable) (holds : IsUseTable uses table) (first count : ℕ) (reached : List BatchSet) (are : AreReachers g first count reached) (m : ℕ) (of_batch : m < count) (name : List ℕ) where
-  from_row : (o : Owner) → is_within g (first + m) o ≡ true → (n : ℕ) → number_in uses name ≡ Some n → is_number_among table.numbers.items n (row (rows_in table.rows) o) ≡ true → list_any (uses_there g (first + m) name) uses ≡ true
+  from_row : (o : Owner) → is_within g (first + m) o ≡ true → (n : ℕ) → number_in uses name ≡ Some n → is_number_among table.numbers.items n (row (owner_rows table.rows) o) ≡ true → list_any (uses_there g (first + m) name) uses ≡ true
   from_row o inside n at h =
-      let r = any_number (λ s. eqb n (slice_index table.numbers.items s)) (row (rows_in table.rows) o) h in
+      let r = any_number (λ s. eqb n (slice_index table.numbers.items s)) (row (owner_rows table.rows) o) h in
       let sound = holds.sound r.x o r.among in
       let number : is_number (slice_index table.numbers.items r.x) (number_in uses name) ≡ true = rw at (eq-eqb (slice_index table.numbers.items r.x) n (sym (eqb-true n (slice_index table.numbers.items r.x) r.passes))) in
       let named : bytes_eq name (use_at uses r.x).name ≡ true = sym (number-use uses table holds r.x sound.0 name) ∙ number in
@@ -68,25 +68,25 @@ module _ (g : GraphOf) (uses : List VariableUse) (table : rust.UseTable) (holds 
   from_rows : (n : ℕ) → number_in uses name ≡ Some n → has_number table first count reached m n ≡ true → list_any (uses_there g (first + m) name) uses ≡ true
   from_rows n at h =
       ⊎_elim
-      (λ e. let r = passing (is_used_in table.numbers.items n (rows_in table.rows).fragments reached m) (length reached) e in
-      let parts = and_parts (is_number_among table.numbers.items n (row_at (rows_in table.rows).fragments r.at)) (has (set_at reached r.at) m) r.passes in
+      (λ e. let r = passing (is_used_in table.numbers.items n (owner_rows table.rows).fragments reached m) (length reached) e in
+      let parts = and_parts (is_number_among table.numbers.items n (row_at (owner_rows table.rows).fragments r.at)) (has (set_at reached r.at) m) r.passes in
       from_row (owner.Fragment r.at) (and_parts (nat_lt m count) (reaches g (owner.Operation (first + m)) r.at) (sym (are r.at m) ∙ parts.1)).1 n at parts.0)
-      (λ e. let r = passing (is_used_at table.numbers.items n (rows_in table.rows).operations first m) count e in
-      let parts = and_parts (is_number_among table.numbers.items n (row_at (rows_in table.rows).operations (first + r.at))) (eqb m r.at) r.passes in
-      from_row (owner.Operation (first + m)) (eq-eqb (first + m) (first + m) refl) n at (ap (λ (i : ℕ). is_number_among table.numbers.items n (row_at (rows_in table.rows).operations (first + i))) (eqb-true m r.at parts.1) ∙ parts.0))
-      (or_cases (any_below (is_used_in table.numbers.items n (rows_in table.rows).fragments reached m) (length reached)) (any_below (is_used_at table.numbers.items n (rows_in table.rows).operations first m) count) h)
+      (λ e. let r = passing (is_used_at table.numbers.items n (owner_rows table.rows).operations first m) count e in
+      let parts = and_parts (is_number_among table.numbers.items n (row_at (owner_rows table.rows).operations (first + r.at))) (eqb m r.at) r.passes in
+      from_row (owner.Operation (first + m)) (eq-eqb (first + m) (first + m) refl) n at (ap (λ (i : ℕ). is_number_among table.numbers.items n (row_at (owner_rows table.rows).operations (first + i))) (eqb-true m r.at parts.1) ∙ parts.0))
+      (or_cases (any_below (is_used_in table.numbers.items n (owner_rows table.rows).fragments reached m) (length reached)) (any_below (is_used_at table.numbers.items n (owner_rows table.rows).operations first m) count) h)
 
   -- a row within reach is the operation's own or one of those reached
-  in_reach : (o : Owner) (n : ℕ) → is_within g (first + m) o ≡ true → is_number_among table.numbers.items n (row (rows_in table.rows) o) ≡ true → has_number table first count reached m n ≡ true
+  in_reach : (o : Owner) (n : ℕ) → is_within g (first + m) o ≡ true → is_number_among table.numbers.items n (row (owner_rows table.rows) o) ≡ true → has_number table first count reached m n ≡ true
   in_reach (owner.Operation k) n inside h =
-      or_right (any_below (is_used_in table.numbers.items n (rows_in table.rows).fragments reached m) (length reached)) _
-      (any_below-at (is_used_at table.numbers.items n (rows_in table.rows).operations first m) count m of_batch
-      (and_from _ (eqb m m) (ap (λ q. is_number_among table.numbers.items n (row_at (rows_in table.rows).operations q)) (eqb-true (first + m) k inside) ∙ h) (eq-eqb m m refl)))
+      or_right (any_below (is_used_in table.numbers.items n (owner_rows table.rows).fragments reached m) (length reached)) _
+      (any_below-at (is_used_at table.numbers.items n (owner_rows table.rows).operations first m) count m of_batch
+      (and_from _ (eqb m m) (ap (λ q. is_number_among table.numbers.items n (row_at (owner_rows table.rows).operations q)) (eqb-true (first + m) k inside) ∙ h) (eq-eqb m m refl)))
   in_reach (owner.Fragment j) n inside h =
       let there : has (set_at reached j) m ≡ true = are j m ∙ and_from (nat_lt m count) (reaches g (owner.Operation (first + m)) j) (lt-ltb m count of_batch) inside in
-      or_left _ (any_below (is_used_at table.numbers.items n (rows_in table.rows).operations first m) count)
+      or_left _ (any_below (is_used_at table.numbers.items n (owner_rows table.rows).operations first m) count)
       (⊎_elim
-      (λ lt. any_below-at (is_used_in table.numbers.items n (rows_in table.rows).fragments reached m) (length reached) j lt (and_from (is_number_among table.numbers.items n (row_at (rows_in table.rows).fragments j)) (has (set_at reached j) m) h there))
+      (λ lt. any_below-at (is_used_in table.numbers.items n (owner_rows table.rows).fragments reached m) (length reached) j lt (and_from (is_number_among table.numbers.items n (row_at (owner_rows table.rows).fragments j)) (has (set_at reached j) m) h there))
       (λ past. absurd (both_ways (has no_operations m) (has-none m) (ap (λ (t : BatchSet). has t m) (sym (get_or_past reached j no_operations past)) ∙ there)))
       (cases_lt j (length reached)))
 
@@ -97,7 +97,7 @@ module _ (g : GraphOf) (uses : List VariableUse) (table : rust.UseTable) (holds 
       let same : slice_index table.numbers.items r.k ≡ n = eqb-true (slice_index table.numbers.items r.k) n number in
       let s = slice_index table.stand_ins.items r.k in
       let standing : n ≡ slice_index table.numbers.items s = sym same ∙ sym (holds.alike r.k r.within) in
-      in_reach (use_at uses r.k).owner n parts.0 (any_here (λ q. eqb n (slice_index table.numbers.items q)) (row (rows_in table.rows) (use_at uses r.k).owner) s (holds.stood r.k r.within) (eq-eqb n (slice_index table.numbers.items s) standing))
+      in_reach (use_at uses r.k).owner n parts.0 (any_here (λ q. eqb n (slice_index table.numbers.items q)) (row (owner_rows table.rows) (use_at uses r.k).owner) s (holds.stood r.k r.within) (eq-eqb n (slice_index table.numbers.items s) standing))
 
   -- what is in the sets is what is used
   pub used_by : (sets : List BatchSet) → ((n : ℕ) → has (set_at sets n) m ≡ has_number table first count reached m n) → has_if sets m (number_in uses name) ≡ list_any (uses_there g (first + m) name) uses

@@ -3,14 +3,15 @@ use Rattle.std.specs.Prelude.{◌≡◌, ◌<◌, ◌+◌, ◌||◌, ◌&&◌, �
 use Rattle.std.specs.List.{list_any}
 use Rattle.std.specs.HashMap.{HashMap, get_by}
 use Rattle.std.specs.Borrow.{Bor}
-use Rattle.gq_parser.specs.Tree.{Operation, operation_of}
+use Rattle.gq_parser.specs.Tree.{Operation}
 use Rattle.document_parts.specs.declared.broken.Earliest.{Earliest}
 use Rattle.document_parts.specs.Broken.{BrokenOf}
 use Rattle.document_parts.specs.Parts.{VariableUse}
 use Rattle.spread_graph.specs.declared.batch.BatchSet.{BatchSet}
 use Rattle.spread_graph.specs.Graphs.{GraphOf}
-use Rattle.spread_graph.specs.Batches.{has, set_at, AreReachers}
-use Rattle.document_rules.specs.declared.batch.Batch.{Batch}
+use Rattle.spread_graph.specs.Batches.{has, set_at}
+use Rattle.spread_graph.specs.declared.batches.Batch.{Batch}
+use Rattle.spread_graph.specs.Operations.{operations_in, IsReached}
 use Rattle.document_rules.specs.declared.use_table.UseTable.{UseTable}
 use Rattle.document_rules.specs.Named.{named_variable}
 use Rattle.document_rules.specs.Scans.{with_all}
@@ -18,14 +19,6 @@ use Rattle.document_rules.specs.AllVariableUsesDefined.{one_lacks}
 use Rattle.document_rules.specs.AllVariablesUsed.{unused_variables}
 use Rattle.document_rules.specs.UseTable.{is_numbered, has_if}
 use Rattle.document_rules.specs.UseRows.{use_at, IsUseTable, defines_at}
-
--- all operations of the document, and not those of the batch alone
-abbrev pub operations_in : Batch → List Operation
-operations_in b = map operation_of b.operations.now
-
--- the sets that the batch has are those of this graph
-abbrev pub IsReached : GraphOf → Batch → Type 0
-IsReached g b = AreReachers g b.first b.count b.reached.items
 
 -- ---- sets of a batch's operations, by the numbers of names
 

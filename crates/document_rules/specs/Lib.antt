@@ -1,4 +1,4 @@
--- Definitions, a file for each rule. Named and Repeated are shared; no public clause cites Scans, Rows, UseTable, UseRows and BatchSteps.
+-- Definitions, a file for each rule. Named and Repeated are shared; no public clause cites Scans, UseTable, UseRows and BatchSteps.
 pub mod Named
 pub mod Repeated
 pub mod Scans
@@ -17,7 +17,6 @@ pub mod TooComplex
 pub mod VariableReach
 pub mod AllVariableUsesDefined
 pub mod AllVariablesUsed
-pub mod Rows
 pub mod UseTable
 pub mod UseRows
 pub mod BatchSteps

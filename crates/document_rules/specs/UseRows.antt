@@ -11,10 +11,11 @@ use Rattle.document_parts.specs.Parts.{VariableUse}
 use Rattle.spread_graph.specs.declared.batch.BatchSet.{BatchSet}
 use Rattle.spread_graph.specs.Batches.{has, set_at, any_below}
 use Rattle.spread_graph.specs.Reach.{is_among}
-use Rattle.document_rules.specs.declared.use_table.UseRows as rust-rows
 use Rattle.document_rules.specs.declared.use_table.UseTable as rust-table
 use Rattle.document_rules.specs.declared.use_table.Last as rust-last
-use Rattle.document_rules.specs.Rows.{rows_of, row_at, RowsOf, row}
+use Rattle.spread_graph.specs.declared.rows.OwnerRows.{OwnerRows}
+use Rattle.spread_graph.specs.OwnerRows.{owner_rows}
+use Rattle.spread_graph.specs.Graphs.{row_at, GraphOf, row}
 use Rattle.document_rules.specs.UseTable.{number_in, numbers_by, is_numbered}
 
 -- what is read behind the last use
@@ -24,11 +25,8 @@ no_use = record { owner = owner.Operation 0; place = record { line = 1; column =
 abbrev pub use_at : List VariableUse → ℕ → VariableUse
 use_at uses k = slice_index_or uses k no_use
 
-abbrev pub rows_in : rust-rows.UseRows → RowsOf
-rows_in r = record { operations = rows_of r.operations.items; fragments = rows_of r.fragments.items }
-
 -- the use k stands in this owner's row
-abbrev pub IsIn : RowsOf → Owner → ℕ → Type 0
+abbrev pub IsIn : GraphOf → Owner → ℕ → Type 0
 IsIn rows o k = is_among k (row rows o) ≡ true
 
 -- the use k has this owner, and its name this number
@@ -37,23 +35,28 @@ pub record Stands (uses : List VariableUse) (numbers : List ℕ) (o : Owner) (nu
   pub numbered : slice_index numbers k ≡ number
 
 -- the rows have uses before k alone, each in its own owner's row, and the last ones of names are among them
-pub record IsUpTo (uses : List VariableUse) (numbers : List ℕ) (rows : RowsOf) (last : List (Option rust-last.Last)) (k : ℕ) : Type 0 where
+pub record IsUpTo (uses : List VariableUse) (numbers : List ℕ) (rows : GraphOf) (last : List (Option rust-last.Last)) (k : ℕ) : Type 0 where
   pub sound : (s : ℕ) (o : Owner) → IsIn rows o s → (s < k) × ((use_at uses s).owner ≡ o)
   pub lasts : (n : ℕ) → MatchOption (slice_index_or last n None) (Unit {0}) (λ (l : rust-last.Last). IsIn rows l.owner l.place × (slice_index numbers l.place ≡ n))
 
 -- the same one use further, for which s stands
-pub record IsNext (uses : List VariableUse) (numbers : List ℕ) (old new : RowsOf) (lasts : List (Option rust-last.Last)) (o : Owner) (number k s : ℕ) : Type 0 where
+pub record IsNext (uses : List VariableUse) (numbers : List ℕ) (old new : GraphOf) (lasts : List (Option rust-last.Last)) (o : Owner) (number k s : ℕ) : Type 0 where
   pub further : IsUpTo uses numbers new lasts (k + 1)
   pub stands : IsIn new o s
   pub numbered : slice_index numbers s ≡ number
   pub kept : (t : ℕ) (q : Owner) → IsIn old q t → IsIn new q t
 
+-- where the rows have the uses before the use k, they have this one too now, by the use s
+abbrev pub GoesOn : OwnerRows → List (Option rust-last.Last) → OwnerRows → List (Option rust-last.Last) → Owner → ℕ → ℕ → ℕ → Type 0
+GoesOn old lasts new lasts' o number k s = (uses : List VariableUse) (numbers : List ℕ) → Stands uses numbers o number k
+    → IsUpTo uses numbers (owner_rows old) lasts k → IsNext uses numbers (owner_rows old) (owner_rows new) lasts' o number k s
+
 -- what the table of uses holds
 pub record IsUseTable (uses : List VariableUse) (table : rust-table.UseTable) : Type 0 where
   pub names : (q : List ℕ) → get_by (λ (k : Bor (List ℕ)). bytes_eq q k.now) table.names ≡ number_in uses q
   pub numbers : table.numbers.items ≡ numbers_by (number_in uses) uses
-  pub sound : (s : ℕ) (o : Owner) → IsIn (rows_in table.rows) o s → (s < length uses) × ((use_at uses s).owner ≡ o)
-  pub stood : (k : ℕ) → k < length uses → IsIn (rows_in table.rows) (use_at uses k).owner (slice_index table.stand_ins.items k)
+  pub sound : (s : ℕ) (o : Owner) → IsIn (owner_rows table.rows) o s → (s < length uses) × ((use_at uses s).owner ≡ o)
+  pub stood : (k : ℕ) → k < length uses → IsIn (owner_rows table.rows) (use_at uses k).owner (slice_index table.stand_ins.items k)
   pub alike : (k : ℕ) → k < length uses → slice_index table.numbers.items (slice_index table.stand_ins.items k) ≡ slice_index table.numbers.items k
 
 -- a use in the row has a name of this number
@@ -71,8 +74,8 @@ is_used_at numbers n rows first m i = is_number_among numbers n (row_at rows (fi
 -- a use of a name of this number stands in a fragment that the operation of the number m in a batch reaches, or in itself
 abbrev pub has_number : rust-table.UseTable → ℕ → ℕ → List BatchSet → ℕ → ℕ → Bool
 has_number table first count reached m n =
-    any_below (is_used_in table.numbers.items n (rows_in table.rows).fragments reached m) (length reached)
-    || any_below (is_used_at table.numbers.items n (rows_in table.rows).operations first m) count
+    any_below (is_used_in table.numbers.items n (owner_rows table.rows).fragments reached m) (length reached)
+    || any_below (is_used_at table.numbers.items n (owner_rows table.rows).operations first m) count
 
 -- the operation of this number has a variable whose name has the number n
 abbrev pub defines_at : (List ℕ → Option ℕ) → ℕ → List Operation → ℕ → Bool

@@ -1,19 +1,18 @@
 //! Which operations of a batch define a variable of each name, and which use one, as a set of operations for each
 //! name.
 
-ghost use Rattle.std.specs.Prelude.{◌≡◌, ◌≤◌, ◌<◌, ◌==◌, ◌&&◌, ◌^◌, ℕ, IfOk, OnOk, length};
+ghost use Rattle.std.specs.Prelude.{◌≡◌, ◌<◌, ◌==◌, ◌&&◌, ℕ, IfOk, OnOk, length};
 ghost use Rattle.gq_parser.specs.Tree.{operation_of};
 ghost use Rattle.spread_graph.specs.Batches.{has, set_at, any_below};
-ghost use Rattle.document_rules.specs.Rows.{rows_of};
+ghost use Rattle.spread_graph.specs.Rows.{rows_in};
 ghost use Rattle.document_rules.specs.UseTable.{has_if};
 ghost use Rattle.document_rules.specs.UseRows.{is_number_among, is_used_at, is_used_in, has_number};
 ghost use Rattle.document_rules.specs.BatchSteps.{number_by, has_numbered, Adds, AreDefiners, NotesLacking};
 
-use crate::batch::Batch;
 use crate::use_table::{Numbers, UseTable, number_at};
 use gq_parser::Operation;
 use spread_graph::{
-    BatchSet, note_missing_in_fragments, note_missing_in_operations, put, row_of, set_of,
+    Batch, BatchSet, note_missing_in_fragments, note_missing_in_operations, put, row_of, set_of,
 };
 use std::alloc::{AllocError, Global};
 
@@ -63,14 +62,7 @@ pub fn note_lacking(
 {
     let sets = defined(alloc, &table.names, batch)?;
     let (rows, numbers) = (&table.rows, &table.numbers);
-    note_missing_in_operations(
-        &rows.operations,
-        batch.first,
-        batch.count,
-        numbers,
-        &sets,
-        lacking,
-    )?;
+    note_missing_in_operations(&rows.operations, batch, numbers, &sets, lacking)?;
     note_missing_in_fragments(&rows.fragments, &batch.reached, numbers, &sets, lacking)?;
     Ok(())
 }
@@ -99,7 +91,7 @@ fn add_uses_in_fragments(
     numbers: &[usize],
     sets: &mut Sets,
 ) -> Result<(), AllocError>
-    ensures { OnOk result (Adds (λ n m. any_below (is_used_in numbers.now n (rows_of rows.now) reached.now m) (length reached.now)) sets.old.items sets.new.items) }
+    ensures { OnOk result (Adds (λ n m. any_below (is_used_in numbers.now n (rows_in rows.now) reached.now m) (length reached.now)) sets.old.items sets.new.items) }
 {
     for fragment in 0..reached.len() {
         add_uses(row_of(rows, fragment), reached[fragment], numbers, sets)?;
@@ -110,17 +102,14 @@ fn add_uses_in_fragments(
 // Adds each operation of a batch to the sets of the names that it uses itself.
 fn add_uses_in_operations(
     rows: &[Vec<usize>],
-    first: usize,
-    count: usize,
+    batch: &Batch,
     numbers: &[usize],
     sets: &mut Sets,
 ) -> Result<(), AllocError>
-    requires first { first < 2 ^ 63 }
-    requires count { count ≤ 64 }
-    ensures { OnOk result (Adds (λ n m. any_below (is_used_at numbers.now n (rows_of rows.now) first m) count) sets.old.items sets.new.items) }
+    ensures { OnOk result (Adds (λ n m. any_below (is_used_at numbers.now n (rows_in rows.now) batch.now.first m) batch.now.count) sets.old.items sets.new.items) }
 {
-    for number in 0..count {
-        let own = row_of(rows, first + number);
+    for number in 0..batch.count {
+        let own = row_of(rows, batch.first + number);
         add_uses(own, BatchSet::alone(number), numbers, sets)?;
     }
     Ok(())
@@ -133,13 +122,7 @@ pub fn used(alloc: Global, table: &UseTable, batch: &Batch) -> Result<Sets, Allo
 {
     let mut sets: Sets = Vec::new(alloc);
     let (rows, numbers) = (&table.rows, &table.numbers);
-    add_uses_in_operations(
-        &rows.operations,
-        batch.first,
-        batch.count,
-        numbers,
-        &mut sets,
-    )?;
+    add_uses_in_operations(&rows.operations, batch, numbers, &mut sets)?;
     add_uses_in_fragments(&rows.fragments, &batch.reached, numbers, &mut sets)?;
     Ok(sets)
 }

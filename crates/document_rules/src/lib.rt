@@ -5,7 +5,6 @@
 //! or nothing if the document keeps the rule. No rule needs places to differ, nor another rule to be kept.
 #![tactic(auto)]
 
-mod batch;
 mod batches;
 mod directives;
 mod fragments;
@@ -14,6 +13,7 @@ mod operations;
 mod served;
 mod unique_argument_names;
 mod use_table;
+mod variable_uses;
 mod variables;
 
 pub use directives::{
@@ -25,4 +25,5 @@ pub use fragments::{
 pub use operations::{lone_anonymous_operation, operation_name_uniqueness};
 pub use served::{MOST_FIELDS, is_too_complex, not_served};
 pub use unique_argument_names::argument_uniqueness;
+pub use variable_uses::VariableUses;
 pub use variables::{all_variable_uses_defined, all_variables_used, variable_uniqueness};

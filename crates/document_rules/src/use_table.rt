@@ -1,15 +1,15 @@
 //! The uses of variables, by what they stand in and by their names.
 
-ghost use Rattle.std.specs.Prelude.{◌≡◌, ◌+◌, ◌++◌, ◌∷◌, [], ℕ, List, Some, None, IfOk, OnOk, bytes_eq, map, slice_index, if◌then◌else◌};
+ghost use Rattle.std.specs.Prelude.{◌≡◌, ℕ, List, Some, None, IfOk, OnOk, bytes_eq, map, slice_index, if◌then◌else◌};
 ghost use Rattle.std.specs.HashMap.{get_by};
 ghost use Rattle.gq_schema.specs.Scan.{or_else};
-ghost use Rattle.document_parts.specs.Parts.{VariableUse as Use, use_of};
-ghost use Rattle.document_rules.specs.Rows.{is_same_owner, row};
+ghost use Rattle.document_parts.specs.Parts.{use_of};
+ghost use Rattle.spread_graph.specs.OwnerRows.{is_same_owner};
 ghost use Rattle.document_rules.specs.UseTable.{number_in, numbers_by};
-ghost use Rattle.document_rules.specs.UseRows.{rows_in, IsUpTo, IsNext, Stands, IsUseTable};
+ghost use Rattle.document_rules.specs.UseRows.{GoesOn, IsUseTable};
 
 use document_parts::{Owner, VariableUse};
-use spread_graph::{add_to_row, put};
+use spread_graph::{OwnerRows, put};
 use std::alloc::{AllocError, Global};
 use std::collections::HashMap;
 
@@ -69,26 +69,6 @@ fn is_same_owner(one: Owner, other: Owner) -> bool
     }
 }
 
-/// Uses by the operation or fragment that they stand in.
-#[derive(Drop)]
-pub struct UseRows {
-    pub operations: Vec<Vec<usize>>,
-    pub fragments: Vec<Vec<usize>>,
-}
-
-impl UseRows {
-    fn add(&mut self, alloc: Global, owner: Owner, place: usize) -> Result<(), AllocError>
-        ensures { (o : _) → OnOk result (row (rows_in self.new) o
-            ≡ (if is_same_owner o owner then row (rows_in self.old) o ++ place ∷ [] else row (rows_in self.old) o)) }
-    {
-        match owner {
-            Owner::Operation(i) => add_to_row(alloc, &mut self.operations, i, place)?,
-            Owner::Fragment(j) => add_to_row(alloc, &mut self.fragments, j, place)?,
-        }
-        Ok(())
-    }
-}
-
 /// The last use of a name that was put into a row.
 #[derive(Clone, Copy)]
 struct Last {
@@ -100,14 +80,13 @@ struct Last {
 // fragment.
 fn stand_in(
     alloc: Global,
-    rows: &mut UseRows,
+    rows: &mut OwnerRows,
     lasts: &mut Vec<Option<Last>>,
     owner: Owner,
     number: usize,
     place: usize,
 ) -> Result<usize, AllocError>
-    ensures { (uses : List Use) (numbers : List ℕ) → Stands uses numbers owner number place → IsUpTo uses numbers (rows_in rows.old) lasts.old.items place
-        → IfOk result (λ s. IsNext uses numbers (rows_in rows.old) (rows_in rows.new) lasts.new.items owner number place s) }
+    ensures { IfOk result (GoesOn rows.old lasts.old.items rows.new lasts.new.items owner number place) }
 {
     if let Some(Some(last)) = lasts.get(number) {
         if is_same_owner(last.owner, owner) {
@@ -128,16 +107,18 @@ pub struct UseTable<'d> {
     pub numbers: Vec<usize>,
     /// Of each use the one that stands in the rows for it: one of its name, in the same operation or fragment.
     pub stand_ins: Vec<usize>,
-    pub rows: UseRows,
+    /// Uses by the operation or fragment that they stand in.
+    pub rows: OwnerRows,
 }
 
 impl<'d> UseTable<'d> {
+    /// The table of these uses.
     pub fn new(alloc: Global, uses: &[VariableUse<'d>]) -> Result<UseTable<'d>, AllocError>
         ensures { IfOk result (λ table. IsUseTable (map use_of uses.now) table) }
     {
         let names = first_uses(alloc, uses)?;
         let numbers = numbers_of(alloc, &names, uses)?;
-        let mut rows = UseRows {
+        let mut rows = OwnerRows {
             operations: Vec::new(alloc),
             fragments: Vec::new(alloc),
         };

@@ -12,13 +12,13 @@ ghost use Rattle.document_rules.specs.Scans.{Tells};
 ghost use Rattle.document_rules.specs.AllVariablesUsed.{unused_variables, all_variables_used};
 ghost use Rattle.document_rules.specs.BatchSteps.{number_by, AreLacking, unused_by, TellsUnused};
 
-use crate::batch::Batch;
 use crate::batches::{has_if, note_lacking, used};
 use crate::names::add_repeated;
 use crate::use_table::{Numbers, UseTable, number_at};
+use crate::variable_uses::VariableUses;
 use document_parts::{Broken, Earliest, Parts};
 use gq_parser::Operation;
-use spread_graph::{BatchSet, Graph, edges_of};
+use spread_graph::{Batch, BatchSet, Graph};
 use std::alloc::{AllocError, Global};
 
 /// Variable Uniqueness (section 5.8.1): a variable whose name an earlier one of its operation has.
@@ -46,11 +46,10 @@ fn lacking_uses(
 ) -> Result<Vec<bool>, AllocError>
     ensures { IfOk result (λ lacking. AreLacking graph.now (map operation_of operations.now) table.now lacking.items) }
 {
-    let edges = edges_of(alloc, graph)?;
     let mut lacking = Vec::new(alloc);
     let mut first = 0;
     while first < operations.len() {
-        let batch = Batch::new(alloc, operations, graph, &edges, first)?;
+        let batch = Batch::new(alloc, operations, graph, first)?;
         note_lacking(alloc, table, &batch, &mut lacking)?;
         first += batch.count;
     }
@@ -68,20 +67,20 @@ fn is_noted(noted: &[bool], place: usize) -> bool
 /// defining the variable.
 pub fn all_variable_uses_defined<'d>(
     alloc: Global,
-    parts: &Parts<'d>,
+    uses: &VariableUses<'_, 'd>,
     graph: &Graph,
 ) -> Result<Option<Broken<'d>>, AllocError>
-    requires { graph.now ≡ graph_of (parts_in parts.now) }
-    ensures { IfOk result (λ broken. option_map broken_of broken ≡ earliest (all_variable_uses_defined (parts_in parts.now))) }
+    requires graph { graph.now ≡ graph_of (parts_in uses.now.parts.now) }
+    ensures { IfOk result (λ broken. option_map broken_of broken ≡ earliest (all_variable_uses_defined (parts_in uses.now.parts.now))) }
 {
+    let parts = uses.parts;
     if parts.uses.is_empty() {
         return Ok(None);
     }
-    let table = UseTable::new(alloc, &parts.uses)?;
-    let lacking = lacking_uses(alloc, &parts.document.operations, graph, &table)?;
+    let lacking = lacking_uses(alloc, &parts.document.operations, graph, &uses.table)?;
     let mut earliest = Earliest::new();
     for (place, part) in parts.uses.iter().enumerate() {
-        if is_noted(&lacking, number_at(&table.stand_ins, place)) {
+        if is_noted(&lacking, number_at(&uses.table.stand_ins, place)) {
             earliest.add(Broken::named(part.name, part.place));
         }
     }
@@ -139,23 +138,21 @@ fn has_no_variables(operations: &[Operation]) -> bool
 /// All Variables Used (section 5.8.4): a variable of an operation that reaches no use of it, in itself or in fragments.
 pub fn all_variables_used<'d>(
     alloc: Global,
-    parts: &Parts<'d>,
+    uses: &VariableUses<'_, 'd>,
     graph: &Graph,
 ) -> Result<Option<Broken<'d>>, AllocError>
-    requires { graph.now ≡ graph_of (parts_in parts.now) }
-    ensures { IfOk result (λ broken. option_map broken_of broken ≡ earliest (all_variables_used (parts_in parts.now))) }
+    requires graph { graph.now ≡ graph_of (parts_in uses.now.parts.now) }
+    ensures { IfOk result (λ broken. option_map broken_of broken ≡ earliest (all_variables_used (parts_in uses.now.parts.now))) }
 {
-    let operations = parts.document.operations.as_slice();
+    let operations = uses.parts.document.operations.as_slice();
     if has_no_variables(operations) {
         return Ok(None);
     }
-    let table = UseTable::new(alloc, &parts.uses)?;
-    let edges = edges_of(alloc, graph)?;
     let mut earliest = Earliest::new();
     let mut first = 0;
     while first < operations.len() {
-        let batch = Batch::new(alloc, operations, graph, &edges, first)?;
-        add_unused_of_batch(alloc, &table, &batch, &mut earliest)?;
+        let batch = Batch::new(alloc, operations, graph, first)?;
+        add_unused_of_batch(alloc, &uses.table, &batch, &mut earliest)?;
         first += batch.count;
     }
     Ok(earliest.found)

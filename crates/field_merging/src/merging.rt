@@ -24,8 +24,8 @@ use crate::ranks::rank_fragments;
 use document_parts::{Broken, Parts};
 use merge_table::{failing_keys, failing_pairs};
 use selection_members::{
-    ClashingSet, Source, Walk, first_member, fragment_starts, fragment_targets, known_fragments,
-    numbering_of, operation_fields, reached_in,
+    ClashingSet, Source, Walk, first_member, fragment_starts, known_fragments, numbering_of,
+    operation_fields, reached_in,
 };
 use spread_graph::Graph;
 use std::alloc::{AllocError, Global};
@@ -161,10 +161,9 @@ pub fn field_merging<'d>(
     }
     let document = parts.document;
     let fragments = rank_fragments(alloc, graph)?;
-    let targets = fragment_targets(alloc, &document.fragments)?;
     let first = operation_fields(&document.operations);
     let starts = fragment_starts(alloc, first, &document.fragments)?;
     let numbering = numbering_of(alloc, document, &starts, &fragments, parts.fields.len())?;
-    let grounds = grounds_of(parts, &targets, &starts, &numbering);
+    let grounds = grounds_of(parts, parts.fragment_numbers(), &starts, &numbering);
     compare(alloc, grounds, &fragments)
 }

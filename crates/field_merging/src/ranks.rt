@@ -8,57 +8,6 @@ use document_parts::Owner;
 use spread_graph::Graph;
 use std::alloc::{AllocError, Global};
 
-// Who spreads each fragment, once for each spread.
-fn users(alloc: Global, graph: &Graph) -> Result<Vec<Vec<usize>>, AllocError> {
-    let mut users = Vec::with_capacity(alloc, graph.len())?;
-    for _ in 0..graph.len() {
-        users.push(Vec::new(alloc))?;
-    }
-    for fragment in 0..graph.len() {
-        for target in graph.row(Owner::Fragment(fragment)) {
-            if let Some(list) = users.get_mut(*target) {
-                list.push(fragment)?;
-            }
-        }
-    }
-    Ok(users)
-}
-
-// Takes one from what is left of each user, and adds those of which nothing is left.
-fn settle(users: &[usize], left: &mut [usize], order: &mut Vec<usize>) -> Result<(), AllocError> {
-    for user in users {
-        if let Some(count) = left.get_mut(*user) {
-            *count = count.saturating_sub(1);
-            if *count == 0 {
-                order.push(*user)?;
-            }
-        }
-    }
-    Ok(())
-}
-
-// Each fragment once all that it spreads have come. Nothing is claimed of it: it is the order in which fragments are looked at first.
-fn likely_order(alloc: Global, graph: &Graph) -> Result<Vec<usize>, AllocError> {
-    let users = users(alloc, graph)?;
-    let mut left = Vec::with_capacity(alloc, graph.len())?;
-    let mut order = Vec::with_capacity(alloc, graph.len())?;
-    for fragment in 0..graph.len() {
-        let count = graph.row(Owner::Fragment(fragment)).len();
-        left.push(count)?;
-        if count == 0 {
-            order.push(fragment)?;
-        }
-    }
-    for i in 0..graph.len() {
-        if let Some(fragment) = order.get(i).copied()
-            && let Some(list) = users.get(fragment)
-        {
-            settle(list, &mut left, &mut order)?;
-        }
-    }
-    Ok(order)
-}
-
 fn is_marked(taken: &[bool], fragment: usize) -> bool
     ensures { result ≡ slice_index_or taken.now fragment false }
 {
@@ -151,8 +100,7 @@ pub fn rank_fragments(alloc: Global, graph: &Graph) -> Result<Vec<usize>, AllocE
 {
     let mut taken = vec![in alloc; false; graph.len()]?;
     let mut order = Vec::with_capacity(alloc, graph.len())?;
-    let likely = likely_order(alloc, graph)?;
-    take_these(graph, &likely, &mut taken, &mut order)?;
+    take_these(graph, graph.order(), &mut taken, &mut order)?;
     for _ in 0..graph.len() {
         if are_all_marked(&taken) {
             return Ok(order);

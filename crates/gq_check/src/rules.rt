@@ -13,8 +13,8 @@ use crate::fault::Rule;
 use crate::report::Report;
 use document_parts::{Broken, Parts};
 use document_rules::{
-    all_variable_uses_defined, all_variables_used, argument_uniqueness, directives_are_defined,
-    directives_are_in_valid_locations, directives_are_unique_per_location,
+    VariableUses, all_variable_uses_defined, all_variables_used, argument_uniqueness,
+    directives_are_defined, directives_are_in_valid_locations, directives_are_unique_per_location,
     fragment_name_uniqueness, fragment_spread_target_defined, fragments_must_be_used,
     is_too_complex, lone_anonymous_operation, not_served, operation_name_uniqueness,
     variable_uniqueness,
@@ -139,10 +139,11 @@ fn variables_fault<'d>(
     if let Some(broken) = input_variables(parts) {
         return Ok(Some(Report::Breaks(Rule::VariablesAreInputTypes, broken)));
     }
-    if let Some(broken) = all_variable_uses_defined(alloc, parts, graph)? {
+    let uses = VariableUses::new(alloc, parts)?;
+    if let Some(broken) = all_variable_uses_defined(alloc, &uses, graph)? {
         return Ok(Some(Report::Breaks(Rule::AllVariableUsesDefined, broken)));
     }
-    if let Some(broken) = all_variables_used(alloc, parts, graph)? {
+    if let Some(broken) = all_variables_used(alloc, &uses, graph)? {
         return Ok(Some(Report::Breaks(Rule::AllVariablesUsed, broken)));
     }
     let broken = variable_usages(alloc, parts, graph)?;

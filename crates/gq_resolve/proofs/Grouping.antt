@@ -15,7 +15,7 @@ use Rattle.plan_program.specs.PlanPrograms.{fields_of, read_from, asked_program,
 use Rattle.plan_program.specs.declared.prepared.KeyFrom.{KeyFrom}
 use Rattle.plan_program.specs.declared.prepared.Prepared.{Prepared}
 use Rattle.gq_resolve.specs.Puts.{OnwardOf, View}
-use Rattle.gq_resolve.specs.Groups.{children_in, nowhere, children_at, then_at, then_rows, next_rows, after_at, Covers, type_prepared, IsAsked, asks_seen, members_seen, Makes, IsShape, IsRight, AreRight, Grows, IsNew, IsAsking, AreMade, AreKept, IsShaped}
+use Rattle.gq_resolve.specs.Groups.{children_in, nowhere, children_at, then_at, then_rows, next_rows, after_at, Covers, type_prepared, IsAsked, asks_seen, members_seen, Makes, IsShape, IsRight, AreRight, Grows, IsNew, IsAsking, AreMade, AreKept, IsOnly, IsShaped}
 use Rattle.gq_resolve.specs.Positions.{position_seen}
 use Rattle.gq_resolve.specs.Suspended.{view_of}
 use Rattle.gq_resolve.specs.declared.groups.Asks.{Asks}
@@ -80,8 +80,11 @@ length-more xs y = length-append xs (y ∷ [])
 
 shape-more : (plan : PlanOf) (old new : List Group) (children : ChildrenOf) (s : Shape) → length old ≤ length new → ((v : View) → Covers plan new v → Covers plan old v) → IsShape plan old children s → IsShape plan new children s
 shape-more plan old new children s le covers made = record {
-  known = λ n m among. asked-more (length old) (length new) (get_or s.members.value.items n m).asks le (made.known n m among);
-  members = λ v c. made.members v (covers v c);
+  makes = record {
+    known = λ n m among. asked-more (length old) (length new) (get_or s.members.value.items n m).asks le (made.makes.known n m among);
+    members = λ v c. made.makes.members v (covers v c);
+  };
+  only = made.only;
 }
 
 right-one : (plan : PlanOf) (old new : List Group) (g : Group) → length old ≤ length new → ((v : View) → Covers plan new v → Covers plan old v) → IsRight plan old g → IsRight plan new g
@@ -134,7 +137,7 @@ kept-there gs i k g s ty within same lt is name = λ plan h.
     let there : slice_get gs i ≡ Some g = slice_get-get_or gs i g within ∙ ap Some (sym same) in
     let here : IsShape plan gs (children_in g.children) s = subst (IsShape plan gs (children_in g.children)) (sym is) (right-there plan gs i g there h k s lt) in
     subst (λ (b : ChildrenOf). Makes plan gs s.members.value.items (type_prepared plan b ty)) (sym (children-there gs i g there))
-    (subst (λ (t : List ℕ). Makes plan gs s.members.value.items (type_prepared plan (children_in g.children) t)) name here)
+    (subst (λ (t : List ℕ). Makes plan gs s.members.value.items (type_prepared plan (children_in g.children) t)) name here.makes)
 
 -- ---- a shape that is kept
 
@@ -228,13 +231,16 @@ shaped-kept plan most gs group ty ms h = record { grows = grows-self plan gs; fr
 
 -- a shape that was made is kept, where there was such a group
 pub shaped-then : (plan : PlanOf) (most : ℕ) (old mid new : List Group) (count group : ℕ) (ty : List ℕ) (s : Shape) (ms : List Member) → count ≡ length old → string_bytes s.ty ≡ ty → s.members.value.items ≡ ms
-    → AreMade old mid (type_prepared plan (children_at old group) ty) ms → ((p : PlanOf) → (group < count → IsShape p mid (children_at mid group) s) → Grows p mid new) → (most ≤ count → new ≡ mid) → IsShaped plan most old new group ty ms
-shaped-then plan most old mid new count group ty s ms counted name same h kept full =
+    → (s.only ≡ true → IsOnly plan.definitions (children_at old group) ty) → AreMade old mid (type_prepared plan (children_at old group) ty) ms → ((p : PlanOf) → (group < count → IsShape p mid (children_at mid group) s) → Grows p mid new) → (most ≤ count → new ≡ mid) → IsShaped plan most old new group ty ms
+shaped-then plan most old mid new count group ty s ms counted name same only h kept full =
     let made : Makes plan mid ms (type_prepared plan (children_at old group) ty) = h.makes plan in
+    let here : IsShape plan mid (children_at old group) s = record {
+      makes = subst (λ (xs : List Member). Makes plan mid xs (type_prepared plan (children_at old group) (string_bytes s.ty))) (sym same)
+          (subst (λ (t : List ℕ). Makes plan mid ms (type_prepared plan (children_at old group) t)) (sym name) made);
+      only = λ e. subst (λ (t : List ℕ). IsOnly plan.definitions (children_at old group) t) (sym name) (only e);
+    } in
     let shape : group < count → IsShape plan mid (children_at mid group) s =
-    λ lt. subst (λ (b : ChildrenOf). IsShape plan mid b s) (sym ((h.grows plan).stand group (omega (arith, lt, counted))))
-    (subst (λ (xs : List Member). Makes plan mid xs (type_prepared plan (children_at old group) (string_bytes s.ty))) (sym same)
-    (subst (λ (t : List ℕ). Makes plan mid ms (type_prepared plan (children_at old group) t)) (sym name) made)) in
+    λ lt. subst (λ (b : ChildrenOf). IsShape plan mid b s) (sym ((h.grows plan).stand group (omega (arith, lt, counted)))) here in
     let grown : Grows plan mid new = kept plan shape in
     record {
       grows = grows-then plan old mid new (h.grows plan) grown;

@@ -27,6 +27,14 @@ lookup-got m loader key cached mode found lt at is got =
     let here : nat_lt loader (length m.modes) ≡ true = below-true loader (length m.modes) lt in
     rw here (got ∙ ap (look m.pairs loader) (is ∙ ap (λ n. folded n key) (sym (mode-got m.modes loader mode at))))
 
+-- a memory of no pairs says nothing
+pub lookup-nothing : (m : MemoryOf) (load : Load) → m.pairs ≡ [] → lookup m load ≡ None
+lookup-nothing m load none = go (nat_lt load.loader (length m.modes)) refl
+  where
+    go : (b : Bool) → nat_lt load.loader (length m.modes) ≡ b → lookup m load ≡ None
+    go true e = rw (e, none) refl
+    go false e = rw e refl
+
 -- what a memory would say if it had these modes
 abbrev with_modes : MemoryOf → Load → List KeyMode → Option OutcomeOf
 with_modes m load modes = if nat_lt load.loader (length modes) then read modes (look m.pairs) load else None

@@ -8,13 +8,13 @@ use Rattle.gq_schema.specs.BindingsTree.{StepOf}
 use Rattle.load_memory.specs.Rows.{RowOf}
 use Rattle.load_memory.specs.declared.key.CacheKey.{CacheKey}
 use Rattle.execution.specs.Loads.{Reader}
-use Rattle.execution.specs.Program.{Kind, ListOf, ObjectOf, Item, FieldPosition, Program, Under, Programs, End, With}
+use Rattle.execution.specs.Program.{Kind, ListOf, ObjectOf, Item, FieldPosition, Null, Program, Is, Under, Programs, End, With}
 use Rattle.gq_check.specs.Plans.{PlanOf}
 use Rattle.plan_program.specs.FieldValues.{ChildrenOf}
-use Rattle.plan_program.specs.PlanPrograms.{places, list_of, first_of, row_object, joined_object, joined_objects, object_program}
+use Rattle.plan_program.specs.PlanPrograms.{object_type, type_of_row, places, list_of, first_of, typed_object, row_object, joined_object, joined_objects, object_program}
 use Rattle.gq_resolve.specs.Puts.{Put, Begins, Ends, Enters, OnwardOf, View, puts, all_puts}
 use Rattle.gq_resolve.specs.Positions.{position_seen, later_of}
-use Rattle.gq_resolve.specs.Groups.{children_at, then_at, then_rows, next_rows, steps_in, Covers, IsAsked, AreKnown, asks_seen, members_seen, AreRight, Grows, IsShaped}
+use Rattle.gq_resolve.specs.Groups.{children_at, then_at, then_rows, next_rows, steps_in, Covers, IsAsked, AreKnown, asks_seen, members_seen, AreRight, Grows, IsWhole, AreOnly, IsShaped}
 use Rattle.gq_resolve.specs.Suspended.{view_of}
 use Rattle.gq_resolve.specs.Steps.{last_steps}
 use Rattle.gq_resolve.specs.Following.{FollowsTo, followed_puts}
@@ -251,6 +251,47 @@ module _ (plan : PlanOf) (gs : List Group) (v : View) (onward : OnwardOf) (cov :
   after-head left (x ∷ xs) row some is =
       let after : v.after (later_of left onward) ≡ first_of (joined_by (last_steps left (steps_in (then_at gs onward.group)))) = after-missing left _ refl in
       ap (λ (f : List RowOf → Program). f (row ∷ [])) after ∙ ap (joined_by (last_steps left (steps_in (then_at gs onward.group)))) is ∙ sym (ap (λ (f : List RowOf → Program). f (x ∷ xs)) after)
+
+-- ---- an object of the only type of its group
+
+module _ (plan : PlanOf) (gs : List Group) (v : View) (onward : OnwardOf) (cov : Covers plan gs v) (lt : onward.group < length gs) where
+  -- its program is that of the type's fields
+  pub after-only : (row : RowOf) (ms : List Member) → IsWhole plan gs (children_at gs onward.group) ms
+      → v.after (later_of 0 onward) (row ∷ []) ≡ object_program plan onward.levels (children_at gs onward.group).type_name (children_at gs onward.group).fields row
+  after-only row ms whole =
+      let typed : type_of_row plan.definitions (children_at gs onward.group).type_name row ≡ object_type (children_at gs onward.group).type_name = rw whole.object refl in
+      after-row plan gs v onward cov lt row ∙ ap (typed_object (object_program plan onward.levels) (children_at gs onward.group) row) typed
+
+module _ {S : Type 0} {goes : Putting S} {below : Below S} {most : ℕ} {plan : PlanOf} where
+  -- of no level
+  pub goes-only-none : {known : Type 0} (non_null : Bool) (R : Reader) (onward : OnwardOf) (row : RowOf) (a b : Progress S) (ms : List Member) → 0 ≡ onward.levels → AreOnly a.groups.items onward.group ms → (known → onward.group < length a.groups.items)
+      → Goes goes below most plan known (λ v. puts non_null (Is Null) R) a b → Goes goes below most plan known (λ v. puts non_null (v.after (later_of 0 onward) (row ∷ [])) R) a b
+  goes-only-none non_null R onward row a b ms none only among p = record {
+    grows = p.grows;
+    front = p.front;
+    puts = λ k r w v cov.
+        let is : v.after (later_of 0 onward) (row ∷ []) ≡ Is Null =
+        after-only plan a.groups.items v onward (p.grows.covers v cov) (among k) row ms (only plan r)
+        ∙ ap (λ (l : ℕ). object_program plan l (children_at a.groups.items onward.group).type_name (children_at a.groups.items onward.group).fields row) (sym none) in
+        subst (λ (q : Program). goes v (puts non_null q R) a.out b.out) (sym is) (p.puts k r w v cov);
+  }
+
+  -- of the members that are kept
+  pub goes-only : {known : Type 0} (non_null : Bool) (R : Reader) (onward : OnwardOf) (n : ℕ) (row : RowOf) (a b : Progress S) (ms : List Member) → onward.levels ≡ suc n → AreOnly a.groups.items onward.group ms → (known → onward.group < length a.groups.items)
+      → Goes goes below most plan (AreKnown (length a.groups.items) ms) (λ v. puts false (Under ObjectOf (members_seen plan.definitions v n row ms)) R) a b
+      → Goes goes below most plan known (λ v. puts non_null (v.after (later_of 0 onward) (row ∷ [])) R) a b
+  goes-only non_null R onward n row a b ms above only among p = record {
+    grows = p.grows;
+    front = p.front;
+    puts = λ k r w v cov.
+        let covered : Covers plan a.groups.items v = p.grows.covers v cov in
+        let whole : IsWhole plan a.groups.items (children_at a.groups.items onward.group) ms = only plan r in
+        let is : v.after (later_of 0 onward) (row ∷ []) ≡ Under ObjectOf (members_seen plan.definitions v n row ms) =
+        after-only plan a.groups.items v onward covered (among k) row ms whole
+        ∙ ap (λ (l : ℕ). object_program plan l (children_at a.groups.items onward.group).type_name (children_at a.groups.items onward.group).fields row) above
+        ∙ ap (λ (us : Programs). Under ObjectOf us) (sym (whole.makes.members v covered n row)) in
+        subst (λ (q : Program). goes v (puts non_null q R) a.out b.out) (sym is) (p.puts whole.makes.known r w v cov);
+  }
 
 pub map-map : {A B C : Type 0} (f : B → C) (g : A → B) (xs : List A) → map f (map g xs) ≡ map (λ (x : A). f (g x)) xs
 map-map f g [] = refl

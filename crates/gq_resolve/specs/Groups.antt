@@ -1,5 +1,5 @@
 -- What is kept of the groups that load, by their numbers.
-use Rattle.std.specs.Prelude.{◌≡◌, ◌<◌, ◌≤◌, ℕ, false, List, [], ◌∷◌, length, map, take, string_bytes, Option, Some, None}
+use Rattle.std.specs.Prelude.{◌≡◌, ◌<◌, ◌≤◌, ℕ, true, false, List, [], ◌∷◌, length, map, take, string_bytes, Option, Some, None}
 use Rattle.std.specs.List.{All, slice_get}
 use Rattle.std.specs.Option.{option_map_or}
 use Rattle.std.specs.Arc.{arc_value}
@@ -7,6 +7,7 @@ use Rattle.std.specs.declared.sync.Arc.{Arc}
 use Rattle.std.specs.declared.alloc.Global.{Global}
 use Rattle.gq_parser.specs.Tree.{type_of}
 use Rattle.schema_syntax.specs.Tree.{Definition}
+use Rattle.gq_schema.specs.BindingsTypes.{is_object_type}
 use Rattle.gq_schema.specs.BindingsTree.{StepOf}
 use Rattle.gq_schema.specs.BindingsSeen.{step_of}
 use Rattle.load_memory.specs.Rows.{RowOf, cell_of}
@@ -107,8 +108,14 @@ pub record Makes (plan : PlanOf) (gs : List Group) (ms : List Member) (ps : List
   pub known : AreKnown (length gs) ms
   pub members : (v : View) → Covers plan gs v → AreMembers plan v ms ps
 
-abbrev pub IsShape : PlanOf → List Group → ChildrenOf → Shape → Type 0
-IsShape plan gs children s = Makes plan gs s.members.value.items (type_prepared plan children (string_bytes s.ty))
+-- each object below a group has this type, since its field is of that object type
+pub record IsOnly (defs : List Definition) (children : ChildrenOf) (ty : List ℕ) : Type 0 where
+  pub object : is_object_type defs children.type_name ≡ true
+  pub same : ty ≡ children.type_name
+
+pub record IsShape (plan : PlanOf) (gs : List Group) (children : ChildrenOf) (s : Shape) : Type 0 where
+  pub makes : Makes plan gs s.members.value.items (type_prepared plan children (string_bytes s.ty))
+  pub only : s.only ≡ true → IsOnly plan.definitions children (string_bytes s.ty)
 
 abbrev pub IsRight : PlanOf → List Group → Group → Type 0
 IsRight plan gs g = All (IsShape plan gs (children_in g.children)) g.shapes.items
@@ -150,6 +157,14 @@ pub record AreMade (old new : List Group) (ps : List PreparedOf) (ms : List Memb
 -- where the groups are right, these are the members of a type below a group
 abbrev pub AreKept : List Group → ℕ → List ℕ → List Member → Type 0
 AreKept gs group ty ms = (plan : PlanOf) → AreRight plan gs → Makes plan gs ms (type_prepared plan (children_at gs group) ty)
+
+-- where the groups are right, these are the members of all objects below a group
+pub record IsWhole (plan : PlanOf) (gs : List Group) (children : ChildrenOf) (ms : List Member) : Type 0 where
+  pub object : is_object_type plan.definitions children.type_name ≡ true
+  pub makes : Makes plan gs ms (type_prepared plan children children.type_name)
+
+abbrev pub AreOnly : List Group → ℕ → List Member → Type 0
+AreOnly gs group ms = (plan : PlanOf) → AreRight plan gs → IsWhole plan gs (children_at gs group) ms
 
 -- The members of a type below a group. They are kept from then on, unless there are so many groups.
 pub record IsShaped (plan : PlanOf) (most : ℕ) (old new : List Group) (group : ℕ) (ty : List ℕ) (ms : List Member) : Type 0 where

@@ -1,14 +1,15 @@
 -- What a walk puts into its sink, and what it does to the groups on its way.
-use Rattle.std.specs.Prelude.{◌≡◌, ◌≤◌, ◌⊎◌, ℕ, Bool, List, [], ◌∷◌, length, map, take}
+use Rattle.std.specs.Prelude.{◌≡◌, ◌<◌, ◌≤◌, ◌⊎◌, ℕ, Bool, List, [], ◌∷◌, length, map, take}
 use Rattle.load_memory.specs.Rows.{RowOf}
 use Rattle.execution.specs.Program.{Program}
 use Rattle.gq_check.specs.Plans.{PlanOf, plan_of}
 use Rattle.plan_program.specs.PlanPrograms.{list_of}
 use Rattle.gq_resolve.specs.Groups.{children_at, Covers, AreRight, Grows}
 use Rattle.gq_resolve.specs.Puts.{Put, OnwardOf, View, puts}
-use Rattle.gq_resolve.specs.Positions.{later_of}
+use Rattle.gq_resolve.specs.Positions.{onward_of, later_of}
 use Rattle.gq_resolve.specs.Evaluated.{lookup}
 use Rattle.gq_resolve.specs.declared.groups.Group.{Group}
+use Rattle.gq_resolve.specs.declared.tour.Loading.{Loading}
 use Rattle.gq_resolve.specs.declared.tour.Progress.{Progress}
 use Rattle.gq_resolve.specs.declared.tour.Tour.{Tour}
 
@@ -22,6 +23,11 @@ pub record Goes {S : Type 0} (goes : View → List Put → S → S → Type 0) (
 -- it puts a program over the memory
 abbrev pub Walks : {S : Type 0} (goes : View → List Put → S → S → Type 0) (below : ℕ → S → Type 0) → Tour → Type 0 → Bool → (View → Program) → Progress S → Progress S → Type 0
 Walks goes below tour known non_null program old new = Goes goes below tour.most (plan_of tour.plan.now) known (λ v. puts non_null (program v) (lookup tour.memory.now)) old new
+
+-- it puts an object over a row, at a position that no later loader is left of
+abbrev pub WalksRow : {S : Type 0} (goes : View → List Put → S → S → Type 0) (below : ℕ → S → Type 0) → Tour → Loading → RowOf → Progress S → Progress S → Type 0
+WalksRow goes below tour to row old new =
+    Walks goes below tour (to.onward.group < length old.groups.items) to.non_null (λ v. v.after (later_of 0 (onward_of to.onward)) (row ∷ [])) old new
 
 -- Groups past the first so many were let go, where there were as many as are kept and no position more waits.
 pub record LetsGo {S : Type 0} (waits : S → ℕ) (most count held : ℕ) (old new : Progress S) : Type 0 where

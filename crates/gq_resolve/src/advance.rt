@@ -11,7 +11,6 @@ use crate::answered::Answered;
 use crate::bounded::BoundedBuilder;
 use crate::builder::Builder;
 use crate::groups::{Group, Member, members_of};
-use crate::no_memory::NoMemory;
 use crate::output::{Blocked, Output};
 use crate::positions::{FieldPosition, Kind};
 use crate::sink::Sink;
@@ -19,7 +18,7 @@ use crate::tour::{Loading, Progress, Tour};
 use crate::wanting::wanted;
 use gq_lexer::Place;
 use indexmap::IndexSet;
-use load_memory::{CacheKey, Row};
+use load_memory::{CacheKey, NoMemory, Row};
 use load_queue::Wants;
 use plan_program::{collect, prepare_groups};
 

@@ -3,8 +3,8 @@
 ghost use Rattle.std.specs.Prelude.{◌≡◌, IfOk, string_bytes};
 ghost use Rattle.gq_resolve.specs.Answered.{answered_of, answer_text};
 
-use crate::no_memory::NoMemory;
 use answer_json::{FieldError, Response, write_answer};
+use load_memory::NoMemory;
 use std::alloc::Global;
 
 /// A response with its errors, in depth-first order of the response (sections 6.4.3 and 6.4.4).
@@ -23,5 +23,8 @@ pub struct Answered {
 pub fn answer_text(alloc: Global, answered: &Answered) -> Result<String, NoMemory>
     ensures { IfOk result (λ text. string_bytes text ≡ answer_text (answered_of answered.now)) }
 {
-    Ok(write_answer(alloc, &answered.response, &answered.errors)?)
+    match write_answer(alloc, &answered.response, &answered.errors) {
+        Ok(text) => Ok(text),
+        Err(_) => Err(NoMemory),
+    }
 }

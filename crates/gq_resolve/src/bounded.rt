@@ -10,10 +10,9 @@ ghost use Rattle.gq_resolve.specs.Bounded.{size_of, bytes_in, Bounds, CountsPut,
 use crate::answered::Answered;
 use crate::builder::{Builder, copied_leaf_value};
 use crate::cells::cell_value;
-use crate::no_memory::NoMemory;
 use crate::positions::{FieldPosition, Items, Kind, Leaf, Onward};
 use crate::sink::Sink;
-use load_memory::KeyRef;
+use load_memory::{KeyRef, NoMemory};
 use plan_program::LeafValue;
 use std::alloc::Global;
 

@@ -12,11 +12,10 @@ ghost use Rattle.gq_resolve.specs.Built.{path_in, placed, given_leaf_value, at_r
 use crate::answered::Answered;
 use crate::cells::cell_value;
 use crate::level::{Level, Parts, Position};
-use crate::no_memory::NoMemory;
 use crate::positions::{FieldPosition, Items, Kind, Leaf, Onward};
 use crate::sink::Sink;
 use answer_json::{FieldError, PathPart, Response};
-use load_memory::KeyRef;
+use load_memory::{KeyRef, NoMemory};
 use plan_program::LeafValue;
 use std::alloc::{AllocError, Global};
 use std::mem;

@@ -37,11 +37,7 @@ pub fn complete(ty: &TypeRef, response: Response, faulted: bool) -> Completed
     if !is_null(&response) {
         return Completed::Value(response);
     }
-    let non_null = match ty {
-        TypeRef::Named { non_null, .. } => *non_null,
-        TypeRef::List { non_null, .. } => *non_null,
-    };
-    if non_null {
+    if ty.is_non_null() {
         Completed::NullAbove { new: !faulted }
     } else {
         Completed::Null

@@ -8,12 +8,11 @@ ghost use Rattle.plan_program.specs.PlanPrograms.{plan_program};
 ghost use Rattle.gq_resolve.specs.Evaluated.{reader, IsEvaluated, AddsPart, CanEvaluate};
 
 use crate::answered::Answered;
-use crate::no_memory::NoMemory;
 use crate::resolve::Resolve;
 use crate::root_state::RootState;
 use futures::task::Poll;
 use gq_check::Plan;
-use load_memory::Memory;
+use load_memory::{Memory, NoMemory};
 use load_queue::Wants;
 use std::alloc::Global;
 

@@ -8,10 +8,9 @@ ghost use Rattle.gq_resolve.specs.Evaluated.{lookup};
 ghost use Rattle.gq_resolve.specs.Following.{StepsTo, ComesTo, FollowsTo};
 
 use crate::keys::{KeyOver, column_over};
-use crate::no_memory::NoMemory;
 use crate::reading::look_up;
 use gq_schema::Step;
-use load_memory::{CacheKey, KeyRef, Memory, Outcome, Row};
+use load_memory::{CacheKey, KeyRef, Memory, NoMemory, Outcome, Row};
 use plan_program::{LeafValue, no_column_message};
 use std::alloc::Global;
 

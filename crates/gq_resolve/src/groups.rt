@@ -1,18 +1,19 @@
 //! What is the same for all rows: what a plan asks of the objects below each load, prepared once.
 
-ghost use Rattle.std.specs.Prelude.{◌≡◌, ◌<◌, ◌≤◌, IfOk, IfSome, OnOk, map};
+ghost use Rattle.std.specs.Prelude.{◌≡◌, ◌<◌, ◌≤◌, IfOk, IfSome, IsTrue, OnOk, map};
+ghost use Rattle.gq_schema.specs.Types.{tree_of};
 ghost use Rattle.gq_schema.specs.BindingsSeen.{step_of};
 ghost use Rattle.gq_check.specs.Plans.{PlanOf, plan_of};
 ghost use Rattle.plan_program.specs.Prepared.{value_from_seen, all_prepared_seen, children_seen};
-ghost use Rattle.gq_resolve.specs.Groups.{children_in, children_at, then_at, steps_in, type_prepared, IsShape, Grows, IsNew, IsAsking, AreMade, AreKept, IsShaped};
+ghost use Rattle.gq_resolve.specs.Groups.{children_in, children_at, then_at, steps_in, type_prepared, IsShape, Grows, IsNew, IsAsking, AreMade, AreKept, IsOnly, AreOnly, IsShaped};
 
-use crate::no_memory::NoMemory;
+use crate::cells::is_object_type;
 use crate::positions::{FieldPosition, Items, Onward};
 use crate::tour::Tour;
 use gq_lexer::Place;
 use gq_parser::{Field, Selection, TypeRef};
-use gq_schema::Step;
-use load_memory::Key;
+use gq_schema::{Schema, Step};
+use load_memory::{Key, NoMemory};
 use plan_program::{
     Children, KeyFrom, LeafValue, Prepared, ValueFrom, collect_subfields, prepare_groups,
 };
@@ -67,6 +68,8 @@ pub struct Member<'p> {
 #[derive(Drop)]
 pub struct Shape<'p> {
     pub ty: String,
+    /// Whether all objects below the group have this type, since the group's field is of it.
+    pub only: bool,
     pub members: Rc<Vec<Member<'p>>>,
 }
 
@@ -240,6 +243,30 @@ fn kept<'p>(
     Ok(None)
 }
 
+/// The members of the objects below a group where all of them have one type, once it was met. No row is looked at.
+pub fn only_members<'p>(
+    groups: &[Group<'p>],
+    group: usize,
+) -> Result<Option<Rc<Vec<Member<'p>>>>, NoMemory>
+    ensures { IfOk result (λ found. IfSome found (λ members. AreOnly groups.now group members.value.items)) }
+{
+    if group >= groups.len() {
+        return Ok(None);
+    }
+    match groups[group].shapes.first() {
+        Some(shape) if shape.only => Ok(Some(shape.members.clone()?)),
+        _ => Ok(None),
+    }
+}
+
+// Whether all objects below a group have this type, since the group's field is of it.
+fn is_only(schema: &Schema, groups: &[Group<'_>], group: usize, ty: &str) -> bool
+    ensures { IsTrue result → IsOnly (tree_of schema.now) (children_at groups.now group) ty.now }
+{
+    let name = type_name_of(groups, group);
+    ty == name && is_object_type(schema, name)
+}
+
 // Prepares what is asked of the objects of a type.
 fn meet<'p>(
     tour: &Tour<'_, 'p, '_>,
@@ -305,10 +332,12 @@ pub fn shape_of<'p>(
         return Ok(members);
     }
     let count = groups.len();
+    let only = is_only(tour.plan.schema(), groups, group, ty);
     let children = children_of(tour.alloc, groups, group)?;
     let members = meet(tour, groups, &children, ty)?;
     let shape = Shape {
         ty: String::from_str(tour.alloc, ty)?,
+        only,
         members: members.clone()?,
     };
     keep(groups, count, tour.most, group, shape)?;

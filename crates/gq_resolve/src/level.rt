@@ -7,9 +7,9 @@ ghost use Rattle.gq_resolve.specs.Bounded.{part_size, without_parts};
 ghost use Rattle.gq_resolve.specs.Built.{root_position, step_in, level_with, level_response, position_held, level_seen};
 
 use crate::completing::is_null;
-use crate::no_memory::NoMemory;
 use answer_json::{PathPart, Response};
 use gq_lexer::Place;
+use load_memory::NoMemory;
 use std::alloc::{AllocError, Global};
 
 /// A position: the last step of its path, its type, and where its errors are.

@@ -6,17 +6,20 @@ ghost use Rattle.gq_resolve.specs.Suspended.{plan_on};
 
 use crate::advance::{Rooted, responded_within};
 use crate::answered::answer_text;
-use crate::no_memory::NoMemory;
 use crate::output::Output;
 use crate::tour::Tour;
 use answer_json::write_refusal;
+use load_memory::NoMemory;
 use std::alloc::Global;
 
 // The refusal of an answer that is too long.
 fn too_long(alloc: Global) -> Result<String, NoMemory>
     ensures { IfOk result (λ text. string_bytes text ≡ too_long_text) }
 {
-    Ok(write_refusal(alloc, "answer too long", None)?)
+    match write_refusal(alloc, "answer too long", None) {
+        Ok(text) => Ok(text),
+        Err(_) => Err(NoMemory),
+    }
 }
 
 // The text, unless it is too long.

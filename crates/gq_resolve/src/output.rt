@@ -10,12 +10,11 @@ ghost use Rattle.plan_program.specs.Prepared.{leaf_value_seen};
 ghost use Rattle.gq_resolve.specs.Cells.{value_seen};
 
 use crate::cells::{CellValue, leaf_of};
-use crate::no_memory::NoMemory;
 use crate::positions::{FieldPosition, Items, Kind, Leaf, Onward};
 use crate::sink::Sink;
 use indexmap::IndexSet;
 use json::{Token, Writer};
-use load_memory::{Cell, Key, KeyRef};
+use load_memory::{Cell, Key, KeyRef, NoMemory};
 use plan_program::LeafValue;
 use std::alloc::Global;
 

@@ -6,8 +6,7 @@ ghost use Rattle.load_memory.specs.Keys.{borrowed_of};
 ghost use Rattle.load_memory.specs.Outcomes.{outcome_of};
 ghost use Rattle.gq_resolve.specs.Evaluated.{lookup};
 
-use crate::no_memory::NoMemory;
-use load_memory::{CacheKey, KeyRef, Memory, Outcome};
+use load_memory::{CacheKey, KeyRef, Memory, NoMemory, Outcome};
 use std::alloc::Global;
 
 /// What the memory says of a key of a loader; nothing where there is no such loader. It is looked up by a cache key that is
@@ -21,6 +20,9 @@ pub fn look_up<'m>(
 ) -> Result<Option<&'m Outcome>, NoMemory>
     ensures { IfOk result (λ outcome. option_map outcome_of (option_copied outcome) ≡ lookup memory.now (record { loader = loader; key = borrowed_of key.entry })) }
 {
+    if memory.is_empty() {
+        return Ok(None);
+    }
     if loader >= memory.modes().len() {
         return Ok(None);
     }

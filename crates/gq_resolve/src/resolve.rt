@@ -8,9 +8,8 @@ ghost use Rattle.gq_check.specs.Plans.{PlanOf};
 ghost use Rattle.gq_resolve.specs.Evaluated.{reader, IsEvaluated, AddsPart, CanEvaluate, GrowsTo};
 
 use crate::answered::Answered;
-use crate::no_memory::NoMemory;
 use futures::task::Poll;
-use load_memory::Memory;
+use load_memory::{Memory, NoMemory};
 use load_queue::Wants;
 use std::alloc::Global;
 

@@ -14,13 +14,12 @@ use crate::advance::{Stopped, advance, responded};
 use crate::answered::{Answered, answer_text};
 use crate::kept::most_kept;
 use crate::limited::limited_answer;
-use crate::no_memory::NoMemory;
 use crate::output::NO_LIMIT;
 use crate::resolve::Resolve;
 use crate::tour::Tour;
 use futures::task::Poll;
 use gq_check::Plan;
-use load_memory::Memory;
+use load_memory::{Memory, NoMemory};
 use load_queue::Wants;
 use std::alloc::Global;
 

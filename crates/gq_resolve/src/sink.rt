@@ -8,9 +8,8 @@ ghost use Rattle.gq_resolve.specs.Cells.{leaf_seen};
 ghost use Rattle.gq_resolve.specs.Puts.{Put, Begins, Ends, Enters, Has, Waits, OnwardOf, View, waiting};
 ghost use Rattle.gq_resolve.specs.Positions.{kind_of, position_seen, item_position, onward_of};
 
-use crate::no_memory::NoMemory;
 use crate::positions::{FieldPosition, Items, Kind, Leaf, Onward};
-use load_memory::KeyRef;
+use load_memory::{KeyRef, NoMemory};
 use plan_program::LeafValue;
 
 /// What a walk puts an answer into, depth first. After an error it is only dropped.

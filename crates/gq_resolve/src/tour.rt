@@ -7,22 +7,21 @@ ghost use Rattle.execution.specs.Program.{Under, ListOf, ObjectOf};
 ghost use Rattle.gq_check.specs.Plans.{plan_of};
 ghost use Rattle.plan_program.specs.Prepared.{key_from_seen, keys_seen};
 ghost use Rattle.plan_program.specs.PlanPrograms.{places, with_rows, read_from, read_key, read_if, object_program};
-ghost use Rattle.gq_resolve.specs.Groups.{children_at, asks_seen, members_seen, IsAsked, AreKnown};
+ghost use Rattle.gq_resolve.specs.Groups.{children_at, asks_seen, members_seen, IsAsked, AreKnown, AreOnly};
 ghost use Rattle.gq_resolve.specs.Positions.{onward_of, later_of};
-ghost use Rattle.gq_resolve.specs.Walks.{Walks, LetsGo, items_after};
+ghost use Rattle.gq_resolve.specs.Walks.{Walks, WalksRow, LetsGo, items_after};
 
 use crate::cells::{TypeOf, type_of_row};
 use crate::following::{Followed, follow_steps};
 use crate::groups::{
-    Asks, Group, Member, Then, items_of, shape_of, steps_of, then_of, type_name_of,
+    Asks, Group, Member, Then, items_of, only_members, shape_of, steps_of, then_of, type_name_of,
 };
 use crate::keys::{KeyOver, key_over};
-use crate::no_memory::NoMemory;
 use crate::positions::{Items, Kind, Leaf, Onward};
 use crate::reading::look_up;
 use crate::sink::Sink;
 use gq_check::Plan;
-use load_memory::{CacheKey, Key, KeyRef, Memory, Outcome, Row};
+use load_memory::{CacheKey, Key, KeyRef, Memory, NoMemory, Outcome, Row};
 use plan_program::{KeyFrom, LeafValue, no_column_message};
 use std::alloc::Global;
 
@@ -323,13 +322,34 @@ impl<'w, 'p, 'a> Tour<'w, 'p, 'a> {
         to: Loading,
         row: &Row,
     ) -> Result<(), NoMemory>
-        ensures { OnOk result (Walks S.goes S.below self.now (to.onward.group < length at.old.groups.items) to.non_null (λ v. v.after (later_of 0 (onward_of to.onward)) (row.now ∷ [])) at.old at.new) }
+        ensures { OnOk result (WalksRow S.goes S.below self.now to row.now at.old at.new) }
     {
+        if let Some(members) = only_members(&at.groups, to.onward.group)? {
+            return self.only_object(at, to, &members, row);
+        }
         let name = type_name_of(&at.groups, to.onward.group);
         match type_of_row(self.alloc, self.plan.schema(), name, row)? {
             TypeOf::Object(ty) => self.typed_object(at, to, ty, row),
             TypeOf::Fault(text) => at.out.leaf_value(&LeafValue::Fault(text), to.non_null),
         }
+    }
+
+    // An object of the only type that the objects of its group have, with the members that are kept of it.
+    #[cycle(tour)]
+    fn only_object<S: Sink>(
+        &self,
+        at: &mut Progress<'p, S>,
+        to: Loading,
+        members: &[Member<'p>],
+        row: &Row,
+    ) -> Result<(), NoMemory>
+        ensures { AreOnly at.old.groups.items to.onward.group members.now → OnOk result (WalksRow S.goes S.below self.now to row.now at.old at.new) }
+    {
+        let levels = to.onward.levels;
+        if levels == 0 {
+            return at.out.leaf_value(&LeafValue::Null, to.non_null);
+        }
+        self.object(at, levels - 1, members, row)
     }
 
     // An object of a type over a row.

@@ -8,10 +8,9 @@ ghost use Rattle.gq_resolve.specs.Evaluated.{AddsPart};
 ghost use Rattle.gq_resolve.specs.Suspended.{loads_of};
 
 use crate::groups::{Group, may_load};
-use crate::no_memory::NoMemory;
 use crate::output::Blocked;
 use indexmap::IndexSet;
-use load_memory::Key;
+use load_memory::{Key, NoMemory};
 use load_queue::Wants;
 
 // Adds a load, if there is such a loader.

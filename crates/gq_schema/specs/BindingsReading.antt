@@ -1,5 +1,5 @@
 -- What a bindings text says over a schema, or which line is the first bad one.
-use Rattle.std.specs.Prelude.{ℕ, Bool, not, is_some, ◌||◌, List, [], ◌∷◌, ◌++◌, Option, Some, None, option_map, option_and_then, if◌then◌else◌}
+use Rattle.std.specs.Prelude.{◌≡◌, ℕ, Bool, not, is_some, ◌||◌, List, [], ◌∷◌, ◌++◌, Option, Some, None, option_map, option_and_then, if◌then◌else◌}
 use Rattle.bindings_syntax.specs.Statements.{StatementOf, loader_line, field_line}
 use Rattle.bindings_syntax.specs.Reading.{NumberedOf, BindingsTextOf, bindings_text}
 use Rattle.schema_syntax.specs.Tree.{Field, Definition, Object}
@@ -28,6 +28,10 @@ abbrev pub after_statement : List Definition → BindingsOf → StatementOf → 
 after_statement defs b (loader_line name table by) = after_loader b (record { name = name; table = table; by = by })
 after_statement defs b (field_line ty name form) =
     if is_some (binding_in b.fields ty name) then None else option_map (with_field b ty name) (field_binding defs b.loaders ty name form)
+
+-- these are the new bindings, or there are none
+abbrev pub AreNewIf : Option BindingsOf → BindingsOf → Bool → Type 0
+AreNewIf after new good = after ≡ (if good then Some new else None)
 
 -- these bindings, or this line is the first bad one
 abbrev pub or_refused : ℕ → Option BindingsOf → Reading

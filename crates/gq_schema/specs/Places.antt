@@ -1,7 +1,8 @@
 -- Where the first element of each name stands in a list.
-use Rattle.std.specs.Prelude.{◌≡◌, ℕ, ◌+◌, Bool, List, [], ◌∷◌, Option, Some, None, String, if◌then◌else◌}
+use Rattle.std.specs.Prelude.{◌≡◌, ℕ, ◌+◌, Bool, List, [], ◌∷◌, Option, Some, None, String, bytes_eq, string_bytes, if◌then◌else◌}
 use Rattle.std.specs.Global.{Global}
 use Rattle.std.specs.HashMap.{HashMap, get_by_text}
+use Rattle.schema_syntax.specs.declared.tree.Name as rust
 use Rattle.schema_syntax.specs.Tree.{Definition, Object, Interface, Enum}
 use Rattle.gq_schema.specs.Types.{is_called, is_field}
 
@@ -9,6 +10,10 @@ use Rattle.gq_schema.specs.Types.{is_called, is_field}
 abbrev pub place_from : {A : Type 0} → ℕ → (A → Bool) → List A → Option ℕ
 place_from n test [] = None
 place_from n test (x ∷ xs) = if test x then Some n else place_from (n + 1) test xs
+
+-- this place, if it is of the name q
+abbrev pub place_if_called : List ℕ → rust.Name → ℕ → Option ℕ
+place_if_called q name place = if bytes_eq q (string_bytes name.text) then Some place else None
 
 -- the map has the place of the first element of each name
 abbrev pub ArePlaces : {A S : Type 0} → (List ℕ → A → Bool) → List A → HashMap (String Global) ℕ S → Type 0

@@ -4,6 +4,8 @@ use Rattle.std.specs.Prelude.{ℕ, Bool, true, false, ◌&&◌, ◌||◌, not, L
 use Rattle.std.specs.List.{list_any}
 use Rattle.std.specs.Option.{option_and_then, option_map_or}
 use Rattle.gq_parser.specs.Tree.{TypeTree, Named, ListOf}
+use Rattle.gq_parser.specs.Types.{named_of, named_place}
+pub use Rattle.gq_parser.specs.Types.{is_non_null}
 use Rattle.schema_syntax.specs.declared.tree.Definition as rust
 use Rattle.schema_syntax.specs.Tree.{Name, Argument, Field, Definition, definition_of, Schema, Object, Interface, Union, Enum}
 use Rattle.gq_schema.specs.declared.kind.TypeKind.{TypeKind}
@@ -150,9 +152,4 @@ is_same_type _ _ = false
 
 -- the name at the core of a type, with its place
 abbrev pub core_of : TypeTree → Name
-core_of (Named p n non_null) = record { text = n; place = p }
-core_of (ListOf p t non_null) = core_of t
-
-abbrev pub is_non_null : TypeTree → Bool
-is_non_null (Named p n non_null) = non_null
-is_non_null (ListOf p t non_null) = non_null
+core_of t = record { text = named_of t; place = named_place t }

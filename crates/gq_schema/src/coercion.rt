@@ -144,8 +144,8 @@ fn coerce_named(
     }
 }
 
-// A list of one item.
-fn list_of_one(alloc: Global, item: Option<Input>) -> Result<Option<Input>, AllocError>
+/// A list of one item, where there is one.
+pub fn list_of_one(alloc: Global, item: Option<Input>) -> Result<Option<Input>, AllocError>
     ensures { IfOk result (λ input. option_map input_of input ≡ one_item (option_map input_of item)) }
 {
     match item {
@@ -211,7 +211,8 @@ fn coerce_all(
     ty: &TypeRef,
     literals: &[Literal],
 ) -> Result<Option<Input>, AllocError>
-    ensures { IfOk result (λ input. option_map input_of input ≡ list_input (all_items (coerced (tree_of schema.now) (type_of ty.now)) (values_of (map literal_of literals.now)))) }
+    ensures { IfOk result (λ i. option_map input_of i
+        ≡ list_input (all_items (coerced (tree_of schema.now) (type_of ty.now)) (map_literals literals.now))) }
 {
     let mut inputs = Vec::with_capacity(alloc, literals.len())?;
     for literal in literals {

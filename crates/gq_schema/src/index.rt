@@ -1,12 +1,12 @@
 //! Where definitions and what they define stand, by name.
 
-ghost use Rattle.std.specs.Prelude.{◌≡◌, ℕ, List, Some, None, IfOk, OnOk, find, map, bytes_eq, string_bytes, if◌then◌else◌};
+ghost use Rattle.std.specs.Prelude.{◌≡◌, ℕ, List, Some, None, IfOk, OnOk, find, map};
 ghost use Rattle.std.specs.List.{list_any};
 ghost use Rattle.std.specs.Option.{option_map, option_copied};
 ghost use Rattle.std.specs.HashMap.{get_by_text};
 ghost use Rattle.schema_syntax.specs.Tree.{names_of, field_of, fields_of, definition_of};
 ghost use Rattle.gq_schema.specs.Scan.{or_else};
-ghost use Rattle.gq_schema.specs.Places.{ArePlaces, part_place};
+ghost use Rattle.gq_schema.specs.Places.{ArePlaces, place_if_called, part_place};
 ghost use Rattle.gq_schema.specs.Types.{is_called, is_field, own_fields, own_values};
 
 use schema_syntax::{Definition, FieldDefinition, Name};
@@ -18,7 +18,7 @@ pub type Places = HashMap<String, usize>;
 
 /// Notes the place of a name, unless one of the name stands earlier.
 pub fn note(places: &mut Places, name: &Name, place: usize) -> Result<(), AllocError>
-    ensures { (q : List ℕ) → OnOk result (get_by_text places.new q ≡ or_else (get_by_text places.old q) (if bytes_eq q (string_bytes name.now.text) then Some place else None)) }
+    ensures { (q : List ℕ) → OnOk result (get_by_text places.new q ≡ or_else (get_by_text places.old q) (place_if_called q name.now place)) }
 {
     places.entry(name.text.clone()?)?.or_insert(place);
     Ok(())

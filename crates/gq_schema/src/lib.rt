@@ -24,7 +24,7 @@ mod type_names;
 mod types;
 
 pub use bindings::{Binding, Bindings, By, KeyPart, KeySource, LoaderLine, Step};
-pub use coercion::{accepts, coerce};
+pub use coercion::{accepts, coerce, list_of_one};
 pub use fault::SchemaFault;
 pub use input::Input;
 pub use kind::TypeKind;

@@ -1,11 +1,11 @@
 //! The object types that each type can be (section 5.5.2.3).
 
-ghost use Rattle.std.specs.Prelude.{◌≡◌, ◌||◌, ◌&&◌, ◌++◌, ◌∷◌, [], ℕ, List, if◌then◌else◌, OnOk, IfOk, bytes_eq, string_bytes};
+ghost use Rattle.std.specs.Prelude.{◌≡◌, ◌||◌, ℕ, List, OnOk, IfOk, bytes_eq, string_bytes};
 ghost use Rattle.std.specs.List.{list_any};
 ghost use Rattle.schema_syntax.specs.Tree.{names_of, definition_of};
 ghost use Rattle.gq_schema.specs.Indexes.{tree_in};
 ghost use Rattle.gq_schema.specs.Types.{is_called, possible_names};
-ghost use Rattle.gq_schema.specs.Possible.{names_at, with_name_if, is_among, unions_at, has_union, AreUnions, with_possible};
+ghost use Rattle.gq_schema.specs.Possible.{names_at, CanBeIf, is_among, includes, unions_at, has_union, with_union_if, is_union_with, AreUnions, AddsPossible};
 
 use crate::index::Indexed;
 use crate::type_names::TypeNames;
@@ -26,7 +26,7 @@ fn add_to(
     name: &Name,
     object: &Name,
 ) -> Result<(), AllocError>
-    ensures { (q : List ℕ) → OnOk result (names_at possible.new q ≡ with_name_if (bytes_eq q (string_bytes name.now.text)) (names_at possible.old q) (string_bytes object.now.text)) }
+    ensures { (q : List ℕ) → OnOk result (CanBeIf (bytes_eq q (string_bytes name.now.text)) q object.now possible.old possible.new) }
 {
     possible
         .entry(name.text.clone()?)?
@@ -42,7 +42,7 @@ fn add_to_each(
     names: &[Name],
     object: &Name,
 ) -> Result<(), AllocError>
-    ensures { (q : List ℕ) → OnOk result (names_at possible.new q ≡ with_name_if (list_any (is_called q) (names_of names.now)) (names_at possible.old q) (string_bytes object.now.text)) }
+    ensures { (q : List ℕ) → OnOk result (CanBeIf (list_any (is_called q) (names_of names.now)) q object.now possible.old possible.new) }
 {
     for name in names {
         add_to(alloc, possible, name, object)?;
@@ -56,7 +56,7 @@ fn add_to_unions(
     names: &[&Name],
     object: &Name,
 ) -> Result<(), AllocError>
-    ensures { (q : List ℕ) → OnOk result (names_at possible.new q ≡ with_name_if (is_among q names.now) (names_at possible.old q) (string_bytes object.now.text)) }
+    ensures { (q : List ℕ) → OnOk result (CanBeIf (is_among q names.now) q object.now possible.old possible.new) }
 {
     for name in names {
         add_to(alloc, possible, name, object)?;
@@ -71,7 +71,7 @@ fn add_object(
     object: &ObjectDefinition,
     unions: &Unions,
 ) -> Result<(), AllocError>
-    ensures { (q : List ℕ) → OnOk result (names_at possible.new q ≡ with_name_if (bytes_eq q (string_bytes object.now.name.text) || (list_any (is_called q) (names_of object.now.interfaces.items) || has_union unions.now (string_bytes object.now.name.text) q)) (names_at possible.old q) (string_bytes object.now.name.text)) }
+    ensures { (q : List ℕ) → OnOk result (CanBeIf (includes unions.now q object.now) q object.now.name possible.old possible.new) }
 {
     add_to(alloc, possible, &object.name, &object.name)?;
     add_to_each(alloc, possible, &object.interfaces, &object.name)?;
@@ -88,7 +88,8 @@ fn note_union<'a>(
     member: &'a Name,
     union: &'a Name,
 ) -> Result<(), AllocError>
-    ensures { (o : List ℕ) → OnOk result (unions_at unions.new o ≡ (if bytes_eq o (string_bytes member.now.text) then unions_at unions.old o ++ string_bytes union.now.text ∷ [] else unions_at unions.old o)) }
+    ensures { (o : List ℕ) → OnOk result (unions_at unions.new o
+        ≡ with_union_if (bytes_eq o (string_bytes member.now.text)) union.now (unions_at unions.old o)) }
 {
     unions
         .entry(member.text.as_str())?
@@ -102,7 +103,7 @@ fn note_members<'a>(
     unions: &mut Unions<'a>,
     union: &'a UnionDefinition,
 ) -> Result<(), AllocError>
-    ensures { (o q : List ℕ) → OnOk result (has_union unions.new o q ≡ ((bytes_eq q (string_bytes union.now.name.text) && list_any (is_called o) (names_of union.now.members.items)) || has_union unions.old o q)) }
+    ensures { (o q : List ℕ) → OnOk result (has_union unions.new o q ≡ (is_union_with union.now o q || has_union unions.old o q)) }
 {
     for member in &union.members {
         note_union(alloc, unions, member, &union.name)?;
@@ -117,7 +118,7 @@ fn add_definition(
     definition: &Definition,
     unions: &Unions,
 ) -> Result<(), AllocError>
-    ensures { (defs : _) (q : List ℕ) → AreUnions unions.now defs → OnOk result (names_at possible.new q ≡ with_possible defs q (names_at possible.old q) (definition_of definition.now)) }
+    ensures { (defs : _) (q : List ℕ) → AreUnions unions.now defs → OnOk result (AddsPossible defs q (definition_of definition.now) possible.old possible.new) }
 {
     match definition {
         Definition::Object(object) => {

@@ -1,32 +1,10 @@
-//! What a reference to a type says.
+//! When two references to types say the same.
 
 ghost use Rattle.std.specs.Prelude.{◌≡◌};
 ghost use Rattle.gq_parser.specs.Tree.{type_of};
-ghost use Rattle.gq_schema.specs.Types.{core_of, is_non_null, is_same_type};
+ghost use Rattle.gq_schema.specs.Types.{is_same_type};
 
-use gq_lexer::Place;
 use gq_parser::TypeRef;
-
-/// The name at the core of a type, and its place.
-pub fn core(of_type: &TypeRef) -> (&str, Place)
-    ensures name { result.0.now ≡ (core_of (type_of of_type.now)).text }
-    ensures place { result.1 ≡ (core_of (type_of of_type.now)).place }
-{
-    match of_type {
-        TypeRef::Named { place, name, .. } => (name.as_str(), *place),
-        TypeRef::List { item, .. } => core(item),
-    }
-}
-
-/// Whether a `!` ends it.
-pub fn is_non_null(of_type: &TypeRef) -> bool
-    ensures { result ≡ is_non_null (type_of of_type.now) }
-{
-    match of_type {
-        TypeRef::Named { non_null, .. } => *non_null,
-        TypeRef::List { non_null, .. } => *non_null,
-    }
-}
 
 /// Whether both are the same type.
 pub fn is_same_type(one: &TypeRef, other: &TypeRef) -> bool

@@ -1,5 +1,5 @@
 -- Loader by loader, the batches of what is wanted are entered.
-use Rattle.std.proofs.Common.{◌≡◌, ◌≢◌, ℕ, zero, suc, ◌<◌, ◌≤◌, ◌+◌, Bool, true, false, List, [], ◌∷◌, ◌++◌, map, length, get_or, refl, ap, ◌∙◌, sym, arith, append_assoc, ◌⊎◌, inl, inr}
+use Rattle.std.proofs.Common.{◌≡◌, ◌≢◌, ℕ, zero, suc, ◌<◌, ◌≤◌, ◌+◌, Bool, true, false, List, [], ◌∷◌, ◌++◌, map, length, get_or, refl, ap, ◌∙◌, sym, arith, append_assoc, ltb-false, ◌⊎◌, inl, inr}
 use Rattle.std.proofs.lemmas.List.{append-nil, length-map, get_or-map, set-get_or}
 use Rattle.std.proofs.lemmas.Bool.{lt-ltb, ltb-true}
 use Rattle.std.specs.Prelude.{slice_set, nat_lt}
@@ -141,6 +141,25 @@ enters-cut round i keys old cur before rounds after was d x lt at ks same is mor
 -- a loader that stays
 pub enters-kept : {S : Type 0} (round i : ℕ) (keys : ℕ → List KeyOf) (old cur : List (LoaderOf S)) (before rounds : ℕ) (d x : LoaderOf S) → Enters round keys old cur before rounds → d ≡ get_or cur i d → x ≡ d → Enters round keys old (slice_set cur i x) before rounds
 enters-kept round i keys old cur before rounds d x was at is = record { loaders = ap (λ y. slice_set cur i y) (is ∙ at) ∙ set-get_or cur i d ∙ was.loaders; rounds = was.rounds }
+
+-- a loader of which nothing is wanted
+first-skipped : (keys : ℕ → List KeyOf) (i m : ℕ) → keys i ≡ [] → first_keys (i + 1) keys m ≡ first_keys i keys m
+first-skipped keys i m none = go (nat_lt m i) refl (nat_lt i m) refl where
+  go : (a : Bool) → nat_lt m i ≡ a → (b : Bool) → nat_lt i m ≡ b → first_keys (i + 1) keys m ≡ first_keys i keys m
+  go true e b f = first-some keys (i + 1) m (omega (arith, ltb-true m i e)) ∙ sym (first-some keys i m (ltb-true m i e))
+  go false e true f = first-none keys (i + 1) m (omega (arith, ltb-true i m f)) ∙ sym (first-none keys i m (omega (arith, ltb-true i m f)))
+  go false e false f =
+      let same : m ≡ i = omega (arith, ltb-false m i e, ltb-false i m f) in
+      first-some keys (i + 1) m (omega (arith, same)) ∙ ap keys same ∙ none ∙ sym (first-none keys i m (omega (arith, same)))
+
+pub orders-skipped : (i : ℕ) (keys : ℕ → List KeyOf) (rules : List RuleOf) → keys i ≡ [] → orders_by 0 rules (first_keys (i + 1) keys) ≡ orders_by 0 rules (first_keys i keys)
+orders-skipped i keys rules none = orders-same 0 (first_keys (i + 1) keys) (first_keys i keys) rules (λ m le lt. first-skipped keys i m none)
+
+pub enters-skipped : {S : Type 0} (round i : ℕ) (keys : ℕ → List KeyOf) (old cur : List (LoaderOf S)) (before rounds : ℕ) → keys i ≡ [] → Enters round (first_keys i keys) old cur before rounds → Enters round (first_keys (i + 1) keys) old cur before rounds
+enters-skipped round i keys old cur before rounds none was = record {
+  loaders = was.loaders ∙ sym (logged-same false round 0 (first_keys (i + 1) keys) (first_keys i keys) old (λ m le lt. first-skipped keys i m none));
+  rounds = was.rounds ∙ ap (λ os. before + made os) (sym (orders-skipped i keys (map rule_of old) none));
+}
 
 -- all loaders were asked
 pub enters-all : {S : Type 0} (round n : ℕ) (keys : ℕ → List KeyOf) (old cur : List (LoaderOf S)) (before rounds : ℕ) → length old ≤ n → Enters round (first_keys n keys) old cur before rounds → Enters round keys old cur before rounds

@@ -1,19 +1,20 @@
 -- The state of a session after its fields were changed.
-use Rattle.std.proofs.Common.{◌≡◌, ℕ, ◌<◌, ◌+◌, Bool, true, false, List, [], map, length, refl, ap, ◌∙◌, sym, arith, Some, Result, Ok, Err}
+use Rattle.std.proofs.Common.{◌≡◌, ℕ, ◌<◌, ◌≤◌, ◌+◌, Bool, true, false, List, [], ◌∷◌, map, length, refl, ap, ◌∙◌, sym, arith, Some, Result, Ok, Err}
 use Rattle.std.proofs.Math.Path.{fun_ext}
 use Rattle.std.proofs.lemmas.List.{length-map}
-use Rattle.std.specs.Prelude.{slice_get, nat_lt, if◌then◌else◌, OnErr}
+use Rattle.std.proofs.lemmas.List.Elements.{All-nil, All-cons}
+use Rattle.std.specs.Prelude.{All, slice_get, nat_lt, if◌then◌else◌, OnErr}
 use Rattle.load_memory.specs.Keys.{KeyOf, folded, mode_at}
 use Rattle.load_memory.specs.Pairs.{MemoryOf, look, IsWith, IsSameMap}
 use Rattle.load_memory.specs.Replies.{ReplyOf, pairs_of}
 use Rattle.load_memory.specs.declared.key.KeyMode.{KeyMode}
 use Rattle.load_memory.proofs.ReplyPairs.{mode-at}
-use Rattle.load_queue.specs.Loaders.{LoaderOf, stored_in}
+use Rattle.load_queue.specs.Loaders.{LoaderOf, AskedOf, stored_in, unasked}
 use Rattle.execution.specs.Loads.{Load, Memory}
 use Rattle.execution.specs.Front.{keys_for}
 use Rattle.execution.specs.Rounds.{rule_of, modes_of, round_orders, after_round, stored}
 use Rattle.execution.specs.Sessions.{AskedLoads, Lost}
-use Rattle.load_rounds.specs.Sessions.{StateOf, logged_from, made, after_step, of_first, IsSession}
+use Rattle.load_rounds.specs.Sessions.{StateOf, logged_from, made, after_step, of_first, AreNumbered, IsSession}
 use Rattle.load_rounds.specs.Rounds.{orders_by, first_keys, Enters}
 use Rattle.load_rounds.proofs.Cutting.{rules-logged, logged-same, logged-past, orders-same, orders-past, first-some}
 use Rattle.load_rounds.proofs.Numbering.{enters-numbered, logged-numbered, made-one, marked-round, orders-loads, keys-first}
@@ -31,6 +32,25 @@ module _ {S : Type 0} where
 
   pub state-is : (ls others : List (LoaderOf S)) (M N : Memory) (r s : ℕ) → ls ≡ others → M ≡ N → r ≡ s → state ls M r ≡ state others N s
   state-is ls others M N r s a b c = rw (a, b, c) refl
+
+  rules-unasked : (ls : List (LoaderOf S)) → map rule_of (map unasked ls) ≡ map rule_of ls
+  rules-unasked [] = refl
+  rules-unasked (l ∷ ls) = ap (λ rs. rule_of l ∷ rs) (rules-unasked ls)
+
+  numbered-unasked : (rounds : ℕ) (ls : List (LoaderOf S)) → AreNumbered rounds (map unasked ls)
+  numbered-unasked rounds [] = All-nil (λ (l : LoaderOf S). All (λ (a : AskedOf). a.round ≤ rounds) l.log)
+  numbered-unasked rounds (l ∷ ls) =
+      All-cons (λ (l : LoaderOf S). All (λ (a : AskedOf). a.round ≤ rounds) l.log) (unasked l) (map unasked ls) (All-nil (λ (a : AskedOf). a.round ≤ rounds)) (numbered-unasked rounds ls)
+
+  -- the fields once the session started again
+  pub restarted-session : (rounds after : ℕ) (old new : List (LoaderOf S)) (memory later : MemoryOf) → IsSession old memory rounds → later.modes ≡ memory.modes → new ≡ map unasked old → IsSession new later after
+  restarted-session rounds after old new memory later is same again =
+      let rules : map rule_of new ≡ map rule_of old = ap (map rule_of) again ∙ rules-unasked old in
+      record {
+        modes = same ∙ is.modes ∙ ap modes_of (sym rules);
+        limited = rw rules is.limited;
+        numbered = rw again (numbered-unasked after old);
+      }
 
   -- the fields after something was entered
   pub entered-session : (round before after : ℕ) (keys : ℕ → List KeyOf) (old new : List (LoaderOf S)) (memory later : MemoryOf) → round ≡ before + 1 → IsSession old memory before → Enters round keys old new before after → later.modes ≡ memory.modes → IsSession new later after

@@ -86,6 +86,11 @@ module _ {S E : Type 0} where
     Gives p text_of (polled s rounds progress) out = (old : StateOf S) → HasMade may old (state_of s) p rounds → Answers may old (state_of out.0) p text_of out.1
     Gives p text_of over out = ⊥
 
+    -- what comes of the second, one poll later, comes of the first too
+    abbrev pub GivesNoMore : {P : Type 0} → (P → Program) → (P → AnsweredOf → List ℕ) → AnsweringOf S P E → AnsweringOf S P E → Type 0
+    GivesNoMore program text_of old new = (out : SessionOf S × Result Answer NoMemory) → Gives (program new.plan) (text_of new.plan) new.far out
+        → Gives (program old.plan) (text_of old.plan) old.far out
+
     -- A poll that was pending has made exactly one round, which asked the front, and this isn't empty. So many polls are within
     -- the load chain over the memory after it.
     pub record PollRan (p : Program) (old new : FarOf S E) : Type 0 where

@@ -1,10 +1,11 @@
 -- What the calls of a session do.
 use Rattle.std.specs.Prelude.{◌≡◌, ◌⊎◌, ℕ, List, [], ◌∷◌, map, Some}
 use Rattle.load_memory.specs.Keys.{KeyOf}
-use Rattle.load_memory.specs.Outcomes.{OutcomeOf}
+use Rattle.load_memory.specs.Outcomes.{OutcomeOf, ItemOf, known}
+use Rattle.load_memory.specs.Pairs.{MemoryOf, PairOf, pair_of, look}
 use Rattle.load_memory.specs.Replies.{ReplyOf}
 use Rattle.load_queue.specs.Answers.{AnswerOf}
-use Rattle.execution.specs.Loads.{Load, read}
+use Rattle.execution.specs.Loads.{Load, Reader, read}
 use Rattle.execution.specs.Front.{front_of_keys}
 use Rattle.execution.specs.Rounds.{round_orders, may_at, AreReplies, without_failed}
 use Rattle.execution.specs.Sessions.{Forgot, AskedLoads, Lost, Cell, key_cell}
@@ -13,10 +14,22 @@ use Rattle.load_rounds.specs.Sessions.{StateOf, rules_of, session_modes, after_s
 abbrev pub load_of : ℕ → KeyOf → Load
 load_of loader key = record { loader = loader; key = key }
 
+-- what a memory says of loads
+abbrev pub reader_of : MemoryOf → Reader
+reader_of m = read m.modes (look m.pairs)
+
 module _ {S : Type 0} where
   -- a key as the memory has it
   abbrev pub cell_at : StateOf S → ℕ → KeyOf → Cell
   cell_at s loader key = key_cell (session_modes s) loader key
+
+  -- the pair of a key and an item
+  abbrev pub pair_at : StateOf S → ℕ → KeyOf → ItemOf → PairOf
+  pair_at s loader key item = pair_of loader (cell_at s loader key).1 (known item)
+
+  -- those keys of a loader that aren't known
+  abbrev pub front_at : StateOf S → ℕ → List KeyOf → List Load
+  front_at s loader keys = front_of_keys (session_modes s) loader keys s.memory
 
   -- what a call asks for keys of a loader: those that aren't known once failed batches are forgotten
   abbrev pub asked_for : StateOf S → ℕ → List KeyOf → List Load

@@ -56,10 +56,18 @@ module _ {S : Type 0} (may : S → List KeyOf → AnswerOf → Type 0) where
     pub chained : rounds ≤ chain p (read (session_modes old) new.memory)
     pub fewest : (Ns : List Memory) → IsSparing (session_modes old) p new.memory (without_failed old.memory) Ns → rounds ≤ length Ns
 
+  -- an answer with the headline
+  abbrev pub HasHeadline : StateOf S → StateOf S → Program → (AnsweredOf → List ℕ) → Answer → Type 0
+  HasHeadline old new p text_of a = Headline old new p text_of (string_bytes a.text) a.rounds
+
   -- The headline, of a plan: it is of a document that keeps every rule, and is executed as its program.
   pub record AnswersPlan (old new : StateOf S) (plan : PlanOf) (text : List ℕ) (rounds : ℕ) : Type 0 where
     pub valid : IsPlan plan
     pub headline : Headline old new (plan_program plan) answer_text text rounds
+
+  -- the headline, of the program of a plan
+  abbrev pub ExecutesPlan : StateOf S → StateOf S → PlanOf → List ℕ → ℕ → Type 0
+  ExecutesPlan old new plan text rounds = Headline old new (plan_program plan) answer_text text rounds
 
   -- After want of memory the finished rounds stay, and perhaps one more was lost.
   pub record StopsAnswering (old new : StateOf S) (p : Program) : Type 0 where
@@ -70,4 +78,4 @@ module _ {S : Type 0} (may : S → List KeyOf → AnswerOf → Type 0) where
 
   -- what an answering call says: the headline, or after want of memory what stays
   abbrev pub Answers : StateOf S → StateOf S → Program → (AnsweredOf → List ℕ) → Result Answer NoMemory → Type 0
-  Answers old new p text_of result = IfOk result (λ a. Headline old new p text_of (string_bytes a.text) a.rounds) × OnErr result (StopsAnswering old new p)
+  Answers old new p text_of result = IfOk result (HasHeadline old new p text_of) × OnErr result (StopsAnswering old new p)

@@ -1,5 +1,5 @@
 -- Calls of a session, one after another: the steps that they make, and what the logs gain by them.
-use Rattle.std.specs.Prelude.{◌≡◌, ◌==◌, ℕ, Bool, false, List, [], ◌∷◌, ◌++◌, map, length, drop, Option, Some, None, slice_get}
+use Rattle.std.specs.Prelude.{◌≡◌, ◌==◌, ◌⊎◌, ℕ, Bool, false, List, [], ◌∷◌, ◌++◌, map, length, drop, Option, Some, None, slice_get}
 use Rattle.std.specs.List.{filter}
 use Rattle.load_memory.specs.Keys.{KeyOf}
 use Rattle.load_memory.specs.Outcomes.{OutcomeOf, batch_fault}
@@ -11,8 +11,9 @@ use Rattle.load_queue.specs.Loaders.{LoaderOf, AskedOf}
 use Rattle.execution.specs.Loads.{IsOneOf}
 use Rattle.execution.specs.Program.{Program}
 use Rattle.execution.specs.Completion.{AnsweredOf}
-use Rattle.execution.specs.Sessions.{Step, Forgot, AskedLoads, Lost, Primed, Cleared, ClearedAll, Cell, key_cell, is_cell}
-use Rattle.load_rounds.specs.Sessions.{StateOf, session_modes, after_steps, MayBe}
+use Rattle.execution.specs.Sessions.{Step, Forgot, AskedLoads, Lost, Primed, Cleared, ClearedAll, Cell, key_cell, is_cell, IsAnsweredIn}
+use Rattle.execution.specs.Logs.{HasPair}
+use Rattle.load_rounds.specs.Sessions.{SessionOf, StateOf, state_of, session_modes, after_steps, MayBe}
 use Rattle.load_rounds.specs.Calls.{asked_for, IsLoaded, IsStopped}
 use Rattle.load_rounds.specs.Headline.{Headline, StopsAnswering}
 use Rattle.load_rounds.specs.SharedRounds.{RequestOf, ReportOf, SharedHeadline}
@@ -111,9 +112,13 @@ module _ {S : Type 0} where
   abbrev pub stored_gained : ℕ → StateOf S → StateOf S → List AskedOf
   stored_gained loader old new = filter (λ e. e.stored) (gained loader old new)
 
+  -- what was asked of a loader in rounds that were stored
+  abbrev pub gained_cells : ℕ → StateOf S → StateOf S → List Cell
+  gained_cells loader old new = entered_cells (session_modes old) loader (stored_gained loader old new)
+
   -- the cell was asked in a round that was stored
   abbrev pub IsEntered : Cell → StateOf S → StateOf S → Type 0
-  IsEntered cell old new = IsOneOf cell (entered_cells (session_modes old) cell.0 (stored_gained cell.0 old new))
+  IsEntered cell old new = IsOneOf cell (gained_cells cell.0 old new)
 
   -- what is known of the cell is the fault of its whole batch
   abbrev pub IsFailedAt : Cell → StateOf S → Type 0
@@ -142,7 +147,35 @@ module _ {S : Type 0} where
     IsCall (ExecutingTogether rs reports) old new = SharedHeadline may old new rs reports
     IsCall (Running p rounds stage) old new = IsRun may p old new rounds stage
 
+    abbrev pub IsCallOf : Call → SessionOf S → SessionOf S → Type 0
+    IsCallOf call old new = IsCall call (state_of old) (state_of new)
+
     -- calls one after another
     abbrev pub AreCalls : List Call → StateOf S → StateOf S → Type 0
     AreCalls [] old new = new ≡ old
     AreCalls (call ∷ calls) old new = (mid : StateOf S) × IsCall call old mid × AreCalls calls mid new
+
+-- two calls of a session, the calls between them, the states before and after each, and a cell
+pub record TwiceOf (S : Type 0) : Type 0 where
+  pub first : Call
+  pub between : List Call
+  pub last : Call
+  pub cell : Cell
+  pub old : StateOf S
+  pub mid : StateOf S
+  pub late : StateOf S
+  pub new : StateOf S
+
+module _ {S : Type 0} (may : S → List KeyOf → AnswerOf → Type 0) where
+  -- both calls asked the cell, each in a round that was stored
+  pub record AskTwice (t : TwiceOf S) : Type 0 where
+    pub one : IsCall may t.first t.old t.mid
+    pub between : AreCalls may t.between t.mid t.late
+    pub two : IsCall may t.last t.late t.new
+    pub entered : IsEntered t.cell t.old t.mid
+    pub entered_again : IsEntered t.cell t.late t.new
+
+  -- where a pair is from after calls: it was there, was primed by one of them, or is in a reply of one of their rounds
+  abbrev pub IsFrom : List Call → StateOf S → StateOf S → PairOf → Type 0
+  IsFrom calls old new pair = HasPair old.memory pair ⊎ IsOneOf (Priming pair) calls
+      ⊎ ((steps : List Step) × Leads may old steps new × AreMadeOf calls steps × IsAnsweredIn (session_modes old) pair (replies_of steps))

@@ -1,7 +1,10 @@
 -- Rounds by hand: what contracts see of a run, what its calls do to a session, and what was done since it was begun.
-use Rattle.std.specs.Prelude.{◌≡◌, ◌≢◌, ◌⊎◌, ◌+◌, ℕ, List, [], map, length, IsPermutation, string_bytes}
+use Rattle.std.specs.Prelude.{◌≡◌, ◌≢◌, ◌⊎◌, ◌+◌, ℕ, List, [], map, length, Result, IfOk, IsPermutation, string_bytes}
 use Rattle.load_memory.specs.Keys.{KeyOf}
 use Rattle.load_memory.specs.Replies.{ReplyOf}
+use Rattle.load_memory.specs.Shelves.{shown}
+use Rattle.load_memory.specs.declared.no_memory.NoMemory.{NoMemory}
+use Rattle.load_memory.specs.declared.shelf.Receipt.{Receipt}
 use Rattle.load_queue.specs.Answers.{AnswerOf}
 use Rattle.load_queue.specs.Loaders.{stored_in}
 use Rattle.load_queue.specs.Orders.{OrderOf}
@@ -61,6 +64,10 @@ module _ {S : Type 0} where
     TakesInAnyOrder old new shown = (replies : List ReplyOf) → AreReplies (may_at may old.loaders) (orders_in old p) replies
         → IsPermutation replies shown → new ≡ received old replies
 
+    -- the same of the replies that receipts show
+    abbrev pub TakesReceipts : StateOf S → StateOf S → List Receipt → Type 0
+    TakesReceipts old new receipts = TakesInAnyOrder old new (map shown receipts)
+
   -- Nothing is missing: the text is that of the execution over the memory, and nothing changes.
   pub record IsLast (p : Program) (text_of : AnsweredOf → List ℕ) (old new : StateOf S) (text : List ℕ) : Type 0 where
     pub complete : front_in old p ≡ []
@@ -114,3 +121,11 @@ module _ {S : Type 0} where
     abbrev pub AnswersRun : (AnsweredOf → List ℕ) → StateOf S → StateOf S → Next → Type 0
     AnswersRun text_of begun now (next.Finished answer) = Headline may begun now p text_of (string_bytes answer.text) answer.rounds
     AnswersRun text_of begun now (next.Round orders) = Unit {0}
+
+    -- From whichever state a run was begun: the session is as the run of this stage left it, and after a call as the run then does.
+    abbrev pub RunsOnFrom : {P : Type 0} → Stage → StateOf S → StateOf S → RunOf P → RunOf P → Type 0
+    RunsOnFrom stage old new run later = (begun : StateOf S) → IsRun begun old run.rounds stage → IsRun begun new later.rounds later.stage
+
+    -- and an answer has the headline, from there
+    abbrev pub AnswersRunFrom : {P : Type 0} → (AnsweredOf → List ℕ) → StateOf S → StateOf S → RunOf P → Result Next NoMemory → Type 0
+    AnswersRunFrom text_of old new run result = (begun : StateOf S) → IsRun begun old run.rounds Ready → IfOk result (AnswersRun text_of begun new)

@@ -6,7 +6,7 @@ use Rattle.load_memory.specs.Pairs.{MemoryOf, PairOf, look}
 use Rattle.load_memory.specs.declared.key.KeyMode.{KeyMode}
 use Rattle.load_queue.specs.Answers.{AnswerOf}
 use Rattle.load_queue.specs.Batches.{batches}
-use Rattle.load_queue.specs.Loaders.{LoaderOf, AskedOf}
+use Rattle.load_queue.specs.Loaders.{LoaderOf, AskedOf, unasked}
 use Rattle.load_queue.specs.Orders.{OrderOf}
 use Rattle.execution.specs.Loads.{Load, Memory}
 use Rattle.execution.specs.Front.{keys_for}
@@ -27,6 +27,10 @@ pub record StateOf (S : Type 0) : Type 0 where
 
 abbrev pub state_of : {S : Type 0} → SessionOf S → StateOf S
 state_of s = record { loaders = s.loaders; memory = look s.pairs; rounds = s.rounds }
+
+-- a new session over the same loaders: nothing was asked, nothing is known, and no round was made
+abbrev pub restarted : {S : Type 0} → SessionOf S → SessionOf S
+restarted s = record { loaders = map unasked s.loaders; pairs = []; rounds = 0 }
 
 -- the entry of a batch
 abbrev pub entry : Bool → ℕ → List KeyOf → AskedOf

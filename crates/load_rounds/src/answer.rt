@@ -1,6 +1,5 @@
 //! Answers in turn: round after round until nothing is missing.
-ghost use Rattle.std.specs.Prelude.{◌≡◌, ◌≤◌, ◌⊎◌, length, IfOk, OnOk, OnErr, string_bytes};
-ghost use Rattle.execution.specs.Front.{front};
+ghost use Rattle.std.specs.Prelude.{◌≤◌, length, IfOk, OnOk, OnErr};
 ghost use Rattle.execution.specs.Rounds.{HasLoaders};
 
 use crate::execute::Execute;
@@ -20,10 +19,10 @@ pub struct Answer {
 }
 
 impl<S: Asks> Session<S> {
-    ghost use Rattle.load_rounds.specs.Sessions.{state_of, session_modes, memory_of};
-    ghost use Rattle.load_rounds.specs.Calls.{RoundLost};
+    ghost use Rattle.load_rounds.specs.Sessions.{state_of, memory_of};
+    ghost use Rattle.load_rounds.specs.Runs.{IsUnasked};
     ghost use Rattle.load_rounds.specs.Answerings.{Turned};
-    ghost use Rattle.load_rounds.specs.Headline.{Headline, StopsAnswering};
+    ghost use Rattle.load_rounds.specs.Headline.{HasHeadline, StopsAnswering};
 
     /// Answers a plan on this thread. It forgets failed batches, and then makes rounds until nothing is
     /// missing. Each round asks for all keys that are needed and missing.
@@ -31,8 +30,8 @@ impl<S: Asks> Session<S> {
     /// When out of memory, the finished rounds stay, and a round that was out is lost.
     pub fn answer<'p, P: Execute<'p>>(&mut self, plan: &'p P) -> Result<Answer, NoMemory>
         requires { P.loaders plan.now ≤ length self.old.loaders }
-        ensures answer { IfOk result (λ a. Headline S.may_tell (state_of self.old) (state_of self.new)
-            (P.program plan.now) (P.text_of plan.now) (string_bytes a.text) a.rounds) }
+        ensures answer { IfOk result (HasHeadline S.may_tell (state_of self.old) (state_of self.new)
+            (P.program plan.now) (P.text_of plan.now)) }
         ensures stopped { OnErr result (StopsAnswering S.may_tell (state_of self.old) (state_of self.new)
             (P.program plan.now)) }
     {
@@ -60,8 +59,7 @@ impl<S: Asks> Session<S> {
             (state_of self.new) (P.program plan.now) polled) }
         ensures fits { OnOk result (P.fits plan.now progress.new (memory_of self.new)) }
         ensures within { OnOk result (HasLoaders (P.loaders plan.now) (P.program plan.now)) }
-        ensures stopped { OnErr result ((state_of self.new ≡ state_of self.old) ⊎ RoundLost (state_of self.old)
-            (state_of self.new) (front (session_modes (state_of self.old)) (P.program plan.now) (state_of self.old).memory)) }
+        ensures stopped { OnErr result (IsUnasked (P.program plan.now) (state_of self.old) (state_of self.new)) }
     {
         match self.execute(plan, progress)? {
             Executed::Ready(text) => Ok(Poll::Ready(text)),

@@ -94,7 +94,7 @@ impl<S, E> Far<S, E> {
 impl<'p, S: Asks + Drop, E: Drop, P: Execute<'p, Progress = E> + Drop> Future
     for Answering<'p, S, P, E> {
     ghost use Rattle.load_rounds.specs.Sessions.{state_of};
-    ghost use Rattle.load_rounds.specs.Answerings.{CanPoll, Gives, PollRan, begun, rounds_of};
+    ghost use Rattle.load_rounds.specs.Answerings.{CanPoll, Gives, GivesNoMore, PollRan, begun, rounds_of};
 
     type Output = (Session<S>, Result<Answer, NoMemory>);
 
@@ -110,9 +110,7 @@ impl<'p, S: Asks + Drop, E: Drop, P: Execute<'p, Progress = E> + Drop> Future
             Gives S.may_tell (P.program self.old.plan) (P.text_of self.old.plan) self.old.far out) }
         ensures again { OnPending result
             (CanPoll S.may_tell (P.fits self.new.plan) (P.loaders self.new.plan) (P.program self.new.plan) self.new.far) }
-        ensures same { OnPending result ((x : _)
-            → Gives S.may_tell (P.program self.new.plan) (P.text_of self.new.plan) self.new.far x
-            → Gives S.may_tell (P.program self.old.plan) (P.text_of self.old.plan) self.old.far x) }
+        ensures same { OnPending result (GivesNoMore S.may_tell P.program P.text_of self.old self.new) }
         ensures registered { OnPending result (Covers cx.new (λ _. ⊥)) }
         ensures kept { Keeps cx.old cx.new }
         ensures plan { self.new.plan ≡ self.old.plan }

@@ -3,10 +3,9 @@ ghost use Rattle.std.specs.Prelude.{◌≡◌, ◌<◌, All, IsSome, Some, map, 
 ghost use Rattle.load_memory.specs.Keys.{key_of};
 ghost use Rattle.load_memory.specs.Outcomes.{outcome_of};
 ghost use Rattle.load_memory.specs.Pairs.{look};
-ghost use Rattle.load_queue.specs.Wanted.{nothing_wanted};
 ghost use Rattle.execution.specs.Loads.{read};
-ghost use Rattle.execution.specs.Front.{missing, wanting};
-ghost use Rattle.load_rounds.specs.Calls.{load_of};
+ghost use Rattle.execution.specs.Front.{missing, wanted};
+ghost use Rattle.load_rounds.specs.Calls.{load_of, reader_of};
 
 use load_memory::{Key, Memory, NoMemory, Outcome, cache_key};
 use load_queue::Wants;
@@ -35,8 +34,8 @@ pub(crate) fn missing_keys(
     keys: &[Key],
 ) -> Result<Wants, NoMemory>
     requires { loader < length memory.now.modes }
-    ensures { IfOk result (λ wants. wants ≡ wanting (map nothing_wanted memory.now.modes)
-        (missing (read memory.now.modes (look memory.now.pairs)) (map (load_of loader) (map key_of keys.now)))) }
+    ensures { IfOk result (λ wants. wants
+        ≡ wanted memory.now.modes (missing (reader_of memory.now) (map (load_of loader) (map key_of keys.now)))) }
 {
     let mut wants = Wants::new(alloc, memory)?;
     for key in keys {
@@ -57,8 +56,8 @@ pub(crate) fn known_outcomes(
     requires loader { loader < length memory.now.modes }
     requires known { All (λ k. IsSome (read memory.now.modes (look memory.now.pairs) (load_of loader k)))
         (map key_of keys.now) }
-    ensures { IfOk result (λ v. map (λ k. read memory.now.modes (look memory.now.pairs) (load_of loader k))
-        (map key_of keys.now) ≡ map Some (map outcome_of v.items)) }
+    ensures { IfOk result (λ v. map (λ k. reader_of memory.now (load_of loader k)) (map key_of keys.now)
+        ≡ map Some (map outcome_of v.items)) }
 {
     let mut outcomes = Vec::with_capacity(alloc, keys.len())?;
     for key in keys {

@@ -1,26 +1,23 @@
 //! What holds of the calls of a session, one after another. Each function does nothing: its contract is the law.
-ghost use Rattle.std.specs.Prelude.{◌≡◌, ◌≤◌, ◌⊎◌, ◌∷◌, [], ℕ, List, Some, true, length, map};
+ghost use Rattle.std.specs.Prelude.{◌≡◌, ◌≤◌, ◌⊎◌, ◌∷◌, [], List, true, length, map};
 ghost use Rattle.std.specs.List.{list_any};
-ghost use Rattle.load_memory.specs.Pairs.{PairOf};
+ghost use Rattle.load_queue.specs.Loaders.{unasked};
 ghost use Rattle.execution.specs.Front.{front};
-ghost use Rattle.execution.specs.Loads.{IsOneOf, Memory};
+ghost use Rattle.execution.specs.Logs.{HasPair};
+ghost use Rattle.execution.specs.Loads.{Memory};
 ghost use Rattle.execution.specs.Rounds.{AreLimited};
-ghost use Rattle.execution.specs.Sessions.{Cell, Step, Forgot, Primed, AreApart, IsAnsweredIn};
-ghost use Rattle.execution.specs.Completion.{AnsweredOf};
-ghost use Rattle.execution.specs.Program.{Program};
-ghost use Rattle.execution.specs.Rounds.{IsLawful, key_by_key, direct, HoldsItems, without_failed};
+ghost use Rattle.execution.specs.Sessions.{Forgot, Primed, AreApart};
+ghost use Rattle.execution.specs.Rounds.{direct};
 ghost use Rattle.gq_check.specs.Plans.{plan_of};
-ghost use Rattle.gq_resolve.specs.Answered.{answer_text};
-ghost use Rattle.plan_program.specs.PlanPrograms.{plan_program};
 ghost use Rattle.load_rounds.specs.Sessions.{StateOf, rules_of, session_modes};
-ghost use Rattle.load_rounds.specs.Headline.{Headline, AnswersPlan, IsTextOf};
-ghost use Rattle.load_rounds.specs.SharedRounds.{RequestOf, ReportOf, front_of_all, together, SharedHeadline, IsAnsweredAlone, longest_chain};
+ghost use Rattle.load_rounds.specs.Headline.{ExecutesPlan, AnswersPlan};
+ghost use Rattle.load_rounds.specs.SharedRounds.{RequestOf, front_of_all, together, SharedHeadline, IsAnsweredAlone, longest_chain};
 ghost use Rattle.load_memory.specs.Keys.{KeyOf};
 ghost use Rattle.load_memory.specs.Outcomes.{ItemOf};
 ghost use Rattle.load_memory.specs.declared.key.KeyMode.{KeyMode};
-ghost use Rattle.load_rounds.specs.KeyByKey.{AnswerKeyByKey, RespectModes, CompareAlike, item_over};
+ghost use Rattle.load_rounds.specs.KeyByKey.{AnswerKeyByKey, RespectModes, HasLawfulLog, IsAnsweredAlike, IsAnsweredDirectly};
 ghost use Rattle.load_rounds.specs.SharedKeyByKey.{AreAnsweredAlike, AreAnsweredDirectly};
-ghost use Rattle.load_rounds.specs.Histories.{Call, Priming, IsMadeOf, AreMadeOf, Leads, IsCall, AreCalls, clears_at, replies_of, entered_cells, stored_gained, IsEntered, IsFailedAt};
+ghost use Rattle.load_rounds.specs.Histories.{Call, IsMadeOf, AreMadeOf, Leads, IsCall, AreCalls, clears_at, IsFrom, gained_cells, AskTwice, IsFailedAt};
 
 use gq_check::Plan;
 use load_queue::Asks;
@@ -29,14 +26,19 @@ use load_queue::Asks;
 /// cache keys only the first. Calls in a row make their steps in a row. So each pair of the memory after them was there
 /// before, was primed by one of them, or is in a reply of one of their rounds.
 pub fn calls_are_steps<S: Asks>()
-    ensures one { (call : Call) (old new : StateOf S) → IsCall S.may_tell call old new
-        → (steps : List Step) × Leads S.may_tell old (Forgot ∷ steps) new × IsMadeOf call steps }
-    ensures all { (calls : List Call) (old new : StateOf S) → AreCalls S.may_tell calls old new
-        → (steps : List Step) × Leads S.may_tell old steps new × AreMadeOf calls steps }
-    ensures pairs { (calls : List Call) (old new : StateOf S) (pair : PairOf) → AreCalls S.may_tell calls old new
-        → new.memory pair.loader pair.key ≡ Some pair.outcome
-        → (old.memory pair.loader pair.key ≡ Some pair.outcome) ⊎ IsOneOf (Priming pair) calls
-        ⊎ ((steps : List Step) × Leads S.may_tell old steps new × AreMadeOf calls steps × IsAnsweredIn (session_modes old) pair (replies_of steps)) }
+    ensures one { (call : Call) (old new : _) → IsCall S.may_tell call old new
+        → (steps : _) × Leads S.may_tell old (Forgot ∷ steps) new × IsMadeOf call steps }
+    ensures all { (calls : List Call) (old new : _) → AreCalls S.may_tell calls old new
+        → (steps : _) × Leads S.may_tell old steps new × AreMadeOf calls steps }
+    ensures pairs { (calls : _) (old new : _) (pair : _) → AreCalls S.may_tell calls old new → HasPair new.memory pair
+        → IsFrom S.may_tell calls old new pair }
+{}
+
+/// No call changes more of a loader than its log. So a session that starts again is as a new one over the loaders that it was
+/// made with, whatever was called before.
+pub fn calls_keep_loaders<S: Asks>()
+    ensures { (calls : List Call) (old new : StateOf S) → AreCalls S.may_tell calls old new
+        → map unasked new.loaders ≡ map unasked old.loaders }
 {}
 
 /// *No key twice*, over any list of calls. No call asks a loader twice for one cache key. If two calls each have a stored log
@@ -45,12 +47,10 @@ pub fn calls_are_steps<S: Asks>()
 /// asked for again. A run by hand counts as one call, at whatever stage it was dropped, unless another call changed its
 /// session before that.
 pub fn no_key_twice<S: Asks>()
-    ensures together { (call : Call) (old new : StateOf S) (loader : ℕ) → AreLimited (rules_of old) → IsCall S.may_tell call old new
-        → AreApart (entered_cells (session_modes old) loader (stored_gained loader old new)) }
-    ensures again { (old mid late new : StateOf S) (first last : Call) (between : List Call) (cell : Cell) → AreLimited (rules_of old)
-        → IsCall S.may_tell first old mid → AreCalls S.may_tell between mid late → IsCall S.may_tell last late new
-        → IsEntered cell old mid → IsEntered cell late new
-        → (list_any (clears_at cell) between ≡ true) ⊎ IsFailedAt cell mid }
+    ensures together { (call : _) (old new : _) (loader : _) → AreLimited (rules_of old) → IsCall S.may_tell call old new
+        → AreApart (gained_cells loader old new) }
+    ensures again { (t : _) → AreLimited (rules_of t.old) → AskTwice S.may_tell t
+        → (list_any (clears_at t.cell) t.between ≡ true) ⊎ IsFailedAt t.cell t.mid }
 {}
 
 /// *Shared rounds*. Several requests are one program, whose front is the front of all of them: what any of them needs and the memory
@@ -59,11 +59,11 @@ pub fn no_key_twice<S: Asks>()
 pub fn requests_share_rounds<S: Asks>()
     ensures front { (modes : List KeyMode) (rs : List RequestOf) (M : Memory)
         → front modes (together rs) M ≡ front_of_all modes (map (λ r. r.program) rs) M }
-    ensures chain { (old new : StateOf S) (rs : List RequestOf) (reports : List ReportOf) → (h : SharedHeadline S.may_tell old new rs reports)
+    ensures chain { (old new : _) (rs : _) (report : _) → (h : SharedHeadline S.may_tell old new rs report)
         → length h.log ≤ longest_chain (session_modes old) rs new }
-    ensures one { (old new : StateOf S) (r : RequestOf) (report : ReportOf) → SharedHeadline S.may_tell old new (r ∷ []) (report ∷ [])
+    ensures one { (old new : _) (r : _) (report : _) → SharedHeadline S.may_tell old new (r ∷ []) (report ∷ [])
         → IsAnsweredAlone S.may_tell old new r report }
-    ensures alone { (old new : StateOf S) (r : RequestOf) (report : ReportOf) → IsAnsweredAlone S.may_tell old new r report
+    ensures alone { (old new : _) (r : _) (report : _) → IsAnsweredAlone S.may_tell old new r report
         → SharedHeadline S.may_tell old new (r ∷ []) (report ∷ []) }
 {}
 
@@ -72,16 +72,10 @@ pub fn requests_share_rounds<S: Asks>()
 /// orders. If the loaders compare keys as their sources do, and the memory has at first what the sources would answer, as in a
 /// new session, the text is that of direct execution.
 pub fn answers_key_by_key<S: Asks>()
-    ensures lawful { (item : S → KeyOf → ItemOf) (old new : StateOf S) (p : Program) (text_of : AnsweredOf → List ℕ) (text : List ℕ) (rounds : ℕ)
-        → AnswerKeyByKey S.may_tell item → (h : Headline S.may_tell old new p text_of text rounds)
-        → IsLawful (key_by_key (item_over item old.loaders)) (rules_of old) p (without_failed old.memory) h.log new.memory }
-    ensures one { (item : S → KeyOf → ItemOf) (old new other : StateOf S) (p : Program) (text_of : AnsweredOf → List ℕ) (text more : List ℕ) (rounds count : ℕ)
-        → AnswerKeyByKey S.may_tell item → Headline S.may_tell old new p text_of text rounds → Headline S.may_tell old other p text_of more count
-        → (new ≡ other) × (text ≡ more) × (rounds ≡ count) }
-    ensures direct { (item : S → KeyOf → ItemOf) (mode_of : S → KeyMode) (old new : StateOf S) (p : Program) (text_of : AnsweredOf → List ℕ) (text : List ℕ) (rounds : ℕ)
-        → AnswerKeyByKey S.may_tell item → RespectModes mode_of item → CompareAlike mode_of old.loaders
-        → HoldsItems (session_modes old) (item_over item old.loaders) (without_failed old.memory)
-        → Headline S.may_tell old new p text_of text rounds → IsTextOf text_of p (direct (item_over item old.loaders)) text }
+    ensures lawful { (item : S → KeyOf → ItemOf) → AnswerKeyByKey S.may_tell item → HasLawfulLog S.may_tell item }
+    ensures one { (item : S → KeyOf → ItemOf) → AnswerKeyByKey S.may_tell item → IsAnsweredAlike S.may_tell }
+    ensures direct { (item : _) (mode_of : S → KeyMode) → AnswerKeyByKey S.may_tell item → RespectModes mode_of item
+        → IsAnsweredDirectly S.may_tell item mode_of }
 {}
 
 /// *One lawful log*, of answers to several requests. Over sources that answer key by key two times the answers to the same requests
@@ -89,15 +83,14 @@ pub fn answers_key_by_key<S: Asks>()
 /// that of an answer alone is.
 pub fn requests_key_by_key<S: Asks>()
     ensures one { (item : S → KeyOf → ItemOf) → AnswerKeyByKey S.may_tell item → AreAnsweredAlike S.may_tell }
-    ensures direct { (item : S → KeyOf → ItemOf) (mode_of : S → KeyMode) → AnswerKeyByKey S.may_tell item → RespectModes mode_of item
+    ensures direct { (item : _) (mode_of : S → KeyMode) → AnswerKeyByKey S.may_tell item → RespectModes mode_of item
         → AreAnsweredDirectly S.may_tell item mode_of }
 {}
 
 /// The headline for a plan. Each plan is of a document that keeps every rule, so the whole sentence holds of its answer.
 pub fn answers_of_plans<S: Asks>(plan: &Plan<'_>)
-    ensures { (old new : StateOf S) (text : List ℕ) (rounds : ℕ)
-        → Headline S.may_tell old new (plan_program (plan_of plan.now)) answer_text text rounds
-        → AnswersPlan S.may_tell old new (plan_of plan.now) text rounds }
+    ensures { let p = plan_of plan.now in (old new : _) (text : _) (n : _) → ExecutesPlan S.may_tell old new p text n
+        → AnswersPlan S.may_tell old new p text n }
 {
     let _ = plan.operation();
 }

@@ -3,7 +3,8 @@
 //! The layer above may rely on this: what a call does to a session is a list of steps
 //! (`execution::specs::Sessions`), which its contract names: failed batches are forgotten, a round asks exactly
 //! what is needed and missing, a key is primed or cleared. The memory and the logs are those after these steps,
-//! and nothing else changes.
+//! and nothing else changes. One call is no list of steps: [`Session::restart`] makes the session as a new one over its
+//! loaders.
 //!
 //! Every answer carries one definition, the headline (`specs::Headline`). Answers come in turn ([`Session::answer`]), by a
 //! future ([`Answering`]), or in rounds that the caller runs ([`Session::begin`]): a run gives the orders of each round and
@@ -26,6 +27,7 @@ mod keys;
 pub mod law;
 pub mod limited;
 mod plan;
+mod restart;
 mod round;
 pub mod run;
 pub mod run_all;

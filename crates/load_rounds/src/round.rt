@@ -12,8 +12,9 @@ use load_queue::{Asks, Loader, Order, Wants};
 use std::alloc::Global;
 
 /// Cuts the wanted keys into batches, enters these in the logs of their loaders as asked in this round, and returns
-/// their orders. The keys move from the wants to the orders. The round is counted as soon as it has an order. When out
-/// of memory, the logs have the batches of the first loaders, perhaps of none.
+/// their orders. The keys move from the wants to the orders. A loader of which nothing is wanted isn't touched. The round
+/// is counted as soon as it has an order. When out of memory, the logs have the batches of the first loaders, perhaps of
+/// none.
 pub(crate) fn cut_all<S>(
     loaders: &mut Vec<Loader<S>>,
     rounds: &mut u32,
@@ -31,6 +32,9 @@ pub(crate) fn cut_all<S>(
 {
     let mut orders = Vec::new(*loaders.allocator());
     for loader in 0..loaders.len() {
+        if wants.keys(loader).is_empty() {
+            continue;
+        }
         let keys = wants.take_keys(loader);
         let mut more = loaders[loader].cut_owned(loader, round, keys)?;
         if !more.is_empty() {

@@ -1,5 +1,5 @@
 //! Rounds by hand: an answer on its way, whose rounds the caller runs.
-ghost use Rattle.std.specs.Prelude.{◌≡◌, ◌≤◌, ◌<◌, ◌^◌, List, All, map, length, IfOk, OnOk, OnErr, IsPermutation};
+ghost use Rattle.std.specs.Prelude.{◌≡◌, ◌≤◌, ◌<◌, ◌^◌, All, map, length, IfOk, OnOk, OnErr};
 ghost use Rattle.load_memory.specs.Shelves.{IsOn, shown};
 ghost use Rattle.execution.specs.Rounds.{may_at};
 ghost use Rattle.execution.specs.Sessions.{Forgot};
@@ -86,11 +86,9 @@ impl<'p, P> Run<'p, P> {
 }
 
 impl<'p, P: Execute<'p>> Run<'p, P> {
-    ghost use Rattle.load_memory.specs.Replies.{ReplyOf};
-    ghost use Rattle.execution.specs.Rounds.{AreReplies};
-    ghost use Rattle.load_rounds.specs.Sessions.{StateOf, state_of, memory_of};
+    ghost use Rattle.load_rounds.specs.Sessions.{state_of, memory_of};
     ghost use Rattle.load_rounds.specs.Executes.{FitsFrom};
-    ghost use Rattle.load_rounds.specs.Runs.{run_of, orders_in, received, AreReceived, IsNext, IsRun, AnswersRun, IsUnasked};
+    ghost use Rattle.load_rounds.specs.Runs.{run_of, orders_in, received, AreReceived, TakesReceipts, IsNext, RunsOnFrom, AnswersRunFrom, IsUnasked};
 
     /// Returns the answer if nothing is missing, and otherwise the orders of the next round, which is then out.
     ///
@@ -103,10 +101,10 @@ impl<'p, P: Execute<'p>> Run<'p, P> {
         ensures bounded { self.new.rounds < 2 ^ 32 }
         ensures failed { OnErr result (self.new ≡ run_of self.old.plan self.old.rounds Stage.Failed) }
         ensures lost { OnErr result (IsUnasked (P.program self.old.plan) (state_of session.old) (state_of session.new)) }
-        ensures run { (begun : StateOf S) → IsRun S.may_tell (P.program self.old.plan) begun (state_of session.old) self.old.rounds Stage.Ready
-            → IsRun S.may_tell (P.program self.old.plan) begun (state_of session.new) self.new.rounds self.new.stage }
-        ensures answer { (begun : StateOf S) → IsRun S.may_tell (P.program self.old.plan) begun (state_of session.old) self.old.rounds Stage.Ready
-            → IfOk result (AnswersRun S.may_tell (P.program self.old.plan) (P.text_of self.old.plan) begun (state_of session.new)) }
+        ensures run { RunsOnFrom S.may_tell (P.program self.old.plan) Stage.Ready
+            (state_of session.old) (state_of session.new) self.old self.new }
+        ensures answer { AnswersRunFrom S.may_tell (P.program self.old.plan) (P.text_of self.old.plan)
+            (state_of session.old) (state_of session.new) self.old result }
     {
         let mut progress = self.plan.start();
         self.resume(session, &mut progress)
@@ -126,10 +124,10 @@ impl<'p, P: Execute<'p>> Run<'p, P> {
         ensures bounded { self.new.rounds < 2 ^ 32 }
         ensures failed { OnErr result (self.new ≡ run_of self.old.plan self.old.rounds Stage.Failed) }
         ensures lost { OnErr result (IsUnasked (P.program self.old.plan) (state_of session.old) (state_of session.new)) }
-        ensures run { (begun : StateOf S) → IsRun S.may_tell (P.program self.old.plan) begun (state_of session.old) self.old.rounds Stage.Ready
-            → IsRun S.may_tell (P.program self.old.plan) begun (state_of session.new) self.new.rounds self.new.stage }
-        ensures answer { (begun : StateOf S) → IsRun S.may_tell (P.program self.old.plan) begun (state_of session.old) self.old.rounds Stage.Ready
-            → IfOk result (AnswersRun S.may_tell (P.program self.old.plan) (P.text_of self.old.plan) begun (state_of session.new)) }
+        ensures run { RunsOnFrom S.may_tell (P.program self.old.plan) Stage.Ready
+            (state_of session.old) (state_of session.new) self.old self.new }
+        ensures answer { AnswersRunFrom S.may_tell (P.program self.old.plan) (P.text_of self.old.plan)
+            (state_of session.old) (state_of session.new) self.old result }
     {
         self.stage = Stage::Failed;
         match session.execute(self.plan, progress)? {
@@ -161,14 +159,13 @@ impl<'p, P: Execute<'p>> Run<'p, P> {
         requires shelf { All (IsOn shelf.now) receipts.now }
         requires round { AreReceived (may_at S.may_tell session.old.loaders) (orders_in (state_of session.old) (P.program self.old.plan)) (map shown receipts.now) }
         ensures taken { OnOk result (state_of session.new ≡ received (state_of session.old) (map shown receipts.now)) }
-        ensures ordered { (replies : List ReplyOf)
-            → AreReplies (may_at S.may_tell session.old.loaders) (orders_in (state_of session.old) (P.program self.old.plan)) replies
-            → IsPermutation replies (map shown receipts.now) → OnOk result (state_of session.new ≡ received (state_of session.old) replies) }
+        ensures ordered { OnOk result (TakesReceipts S.may_tell (P.program self.old.plan)
+            (state_of session.old) (state_of session.new) receipts.now) }
         ensures ready { OnOk result (self.new ≡ run_of self.old.plan self.old.rounds Stage.Ready) }
         ensures lost { OnErr result (state_of session.new ≡ state_of session.old) }
         ensures failed { OnErr result (self.new ≡ run_of self.old.plan self.old.rounds Stage.Failed) }
-        ensures run { (begun : StateOf S) → IsRun S.may_tell (P.program self.old.plan) begun (state_of session.old) self.old.rounds Stage.Out
-            → IsRun S.may_tell (P.program self.old.plan) begun (state_of session.new) self.new.rounds self.new.stage }
+        ensures run { RunsOnFrom S.may_tell (P.program self.old.plan) Stage.Out
+            (state_of session.old) (state_of session.new) self.old self.new }
     {
         self.stage = Stage::Failed;
         session.receive(shelf, receipts)?;

@@ -2,17 +2,17 @@
 ghost use Rattle.std.specs.Prelude.{◌≡◌, ◌<◌, ◌≤◌, ◌↔◌, ℕ, List, [], ◌∷◌, All, map, length, IfOk, OnOk, OnErr, IsErrOf, is_some, is_none, Some, option_map, option_copied, slice_get};
 ghost use Rattle.load_memory.specs.Keys.{key_of};
 ghost use Rattle.load_memory.specs.Outcomes.{outcome_of, known, item_of};
-ghost use Rattle.load_memory.specs.Pairs.{look, pair_of};
+ghost use Rattle.load_memory.specs.Pairs.{look};
 ghost use Rattle.load_memory.specs.Shelves.{IsOn, shown};
 ghost use Rattle.load_queue.specs.Logs.{asked_of};
 ghost use Rattle.execution.specs.Loads.{Load, read};
-ghost use Rattle.execution.specs.Front.{front_of_keys};
 ghost use Rattle.execution.specs.Rounds.{AreLimited, round_orders, without_failed};
 ghost use Rattle.execution.specs.Sessions.{Forgot, Lost, AskedLoads};
 ghost use Rattle.load_rounds.specs.Rounds.{AreWanted};
 
 use crate::fault::SessionFault;
 use crate::keys::{known_outcomes, missing_keys};
+use crate::restart::{forget_all, restart_all};
 use crate::round::{cut_all, mark_all, run_all};
 use load_memory::{Item, Key, Memory, NoMemory, Outcome, Receipt, Shelf, cache_key};
 use load_queue::{Asked, Asks, Loader, Order, Wants};
@@ -39,9 +39,9 @@ impl<S> Model for Session<S> {
 }
 
 impl<S> Session<S> {
-    ghost use Rattle.load_rounds.specs.Sessions.{session_modes, rules_of, state_of, after_step, AreNumbered};
-    ghost use Rattle.load_rounds.specs.Calls.{cell_at, RoundLost};
-    ghost use Rattle.load_rounds.specs.Histories.{IsCall, Priming, Clearing, ClearingAll, Forgetting, any_tell};
+    ghost use Rattle.load_rounds.specs.Sessions.{session_modes, rules_of, state_of, after_step, restarted, AreNumbered};
+    ghost use Rattle.load_rounds.specs.Calls.{cell_at, pair_at, RoundLost};
+    ghost use Rattle.load_rounds.specs.Histories.{IsCallOf, Priming, Clearing, ClearingAll, Forgetting, any_tell};
     ghost use Rattle.load_rounds.specs.Runs.{received};
 
     pub(crate) fn alloc(&self) -> Global {
@@ -125,11 +125,10 @@ impl<S> Session<S> {
     pub fn prime(&mut self, loader: usize, key: &Key, item: Item) -> Result<bool, SessionFault>
         ensures no_loader { IsErrOf result SessionFault.NoSuchLoader ↔ (length self.old.loaders ≤ loader) }
         ensures refused { IsErrOf result SessionFault.NoSuchLoader → self.new ≡ self.old }
-        ensures no_memory { IsErrOf result SessionFault.NoMemory → IsCall any_tell Forgetting (state_of self.old) (state_of self.new) }
+        ensures no_memory { IsErrOf result SessionFault.NoMemory → IsCallOf any_tell Forgetting self.old self.new }
         ensures report { IfOk result (λ added. added
             ≡ is_none (without_failed (look self.old.pairs) loader (cell_at (state_of self.old) loader (key_of key.now)).1)) }
-        ensures after { OnOk result (IsCall any_tell (Priming (pair_of loader (cell_at (state_of self.old) loader (key_of key.now)).1
-            (known (item_of item)))) (state_of self.old) (state_of self.new)) }
+        ensures after { OnOk result (IsCallOf any_tell (Priming (pair_at (state_of self.old) loader (key_of key.now) (item_of item))) self.old self.new) }
     {
         if loader >= self.loaders.len() {
             return Err(SessionFault::NoSuchLoader);
@@ -144,11 +143,10 @@ impl<S> Session<S> {
     pub fn clear(&mut self, loader: usize, key: &Key) -> Result<bool, SessionFault>
         ensures no_loader { IsErrOf result SessionFault.NoSuchLoader ↔ (length self.old.loaders ≤ loader) }
         ensures refused { IsErrOf result SessionFault.NoSuchLoader → self.new ≡ self.old }
-        ensures no_memory { IsErrOf result SessionFault.NoMemory → IsCall any_tell Forgetting (state_of self.old) (state_of self.new) }
+        ensures no_memory { IsErrOf result SessionFault.NoMemory → IsCallOf any_tell Forgetting self.old self.new }
         ensures report { IfOk result (λ there. there
             ≡ is_some (without_failed (look self.old.pairs) loader (cell_at (state_of self.old) loader (key_of key.now)).1)) }
-        ensures after { OnOk result (IsCall any_tell (Clearing (cell_at (state_of self.old) loader (key_of key.now)))
-            (state_of self.old) (state_of self.new)) }
+        ensures after { OnOk result (IsCallOf any_tell (Clearing (cell_at (state_of self.old) loader (key_of key.now))) self.old self.new) }
     {
         if loader >= self.loaders.len() {
             return Err(SessionFault::NoSuchLoader);
@@ -165,13 +163,27 @@ impl<S> Session<S> {
         ensures no_loader { IsErrOf result SessionFault.NoSuchLoader ↔ (length self.old.loaders ≤ loader) }
         ensures refused { OnErr result (self.new ≡ self.old) }
         ensures no_other { IsErrOf result SessionFault.NoMemory → ⊥ }
-        ensures after { OnOk result (IsCall any_tell (ClearingAll loader) (state_of self.old) (state_of self.new)) }
+        ensures after { OnOk result (IsCallOf any_tell (ClearingAll loader) self.old self.new) }
     {
         if loader >= self.loaders.len() {
             return Err(SessionFault::NoSuchLoader);
         }
         self.memory.drop_failed();
         self.memory.clear_all(loader);
+        Ok(())
+    }
+
+    /// Starts again: the session is as a [new](Session::new) one over its loaders. Nothing is known of any key, nothing was
+    /// asked, and no round was made. Its tables stay for what comes, unless very many keys were known. When out of memory,
+    /// nothing is changed but that keys may be forgotten.
+    pub fn restart(&mut self) -> Result<(), NoMemory>
+        ensures restarted { OnOk result (self.new ≡ restarted self.old) }
+        ensures loaders { OnErr result (self.new.loaders ≡ self.old.loaders) }
+        ensures rounds { OnErr result (self.new.rounds ≡ self.old.rounds) }
+    {
+        forget_all(*self.loaders.allocator(), &mut self.memory)?;
+        restart_all(&mut self.loaders);
+        self.rounds = 0;
         Ok(())
     }
 }
@@ -197,8 +209,8 @@ impl<S: Drop> Session<S> {
 
 impl<S: Asks> Session<S> {
     ghost use Rattle.load_rounds.specs.Sessions.{state_of, session_modes};
-    ghost use Rattle.load_rounds.specs.Calls.{AsksOnce, RoundRan, RoundLost};
-    ghost use Rattle.load_rounds.specs.Histories.{IsCall, Loading, StoppedLoading};
+    ghost use Rattle.load_rounds.specs.Calls.{front_at, AsksOnce, RoundRan, RoundLost};
+    ghost use Rattle.load_rounds.specs.Histories.{IsCallOf, Loading, StoppedLoading};
 
     /// Loads one key of a loader, after it forgets failed batches. Returns a copy of the key's outcome: the known one,
     /// or else what the source returns in a round of this one key, which is kept.
@@ -206,9 +218,8 @@ impl<S: Asks> Session<S> {
         ensures no_loader { IsErrOf result SessionFault.NoSuchLoader ↔ (length self.old.loaders ≤ loader) }
         ensures refused { IsErrOf result SessionFault.NoSuchLoader → self.new ≡ self.old }
         ensures no_memory { IsErrOf result SessionFault.NoMemory
-            → IsCall S.may_tell (StoppedLoading loader (key_of key ∷ [])) (state_of self.old) (state_of self.new) }
-        ensures loaded { IfOk result (λ outcome. IsCall S.may_tell (Loading loader (key_of key ∷ []) (outcome_of outcome ∷ []))
-            (state_of self.old) (state_of self.new)) }
+            → IsCallOf S.may_tell (StoppedLoading loader (key_of key ∷ [])) self.old self.new }
+        ensures loaded { IfOk result (λ outcome. IsCallOf S.may_tell (Loading loader (key_of key ∷ []) (outcome_of outcome ∷ [])) self.old self.new) }
     {
         let keys = [key];
         let mut outcomes = self.load_many(loader, &keys)?;
@@ -224,9 +235,8 @@ impl<S: Asks> Session<S> {
         ensures no_loader { IsErrOf result SessionFault.NoSuchLoader ↔ (length self.old.loaders ≤ loader) }
         ensures refused { IsErrOf result SessionFault.NoSuchLoader → self.new ≡ self.old }
         ensures no_memory { IsErrOf result SessionFault.NoMemory
-            → IsCall S.may_tell (StoppedLoading loader (map key_of keys.now)) (state_of self.old) (state_of self.new) }
-        ensures loaded { IfOk result (λ outcomes. IsCall S.may_tell (Loading loader (map key_of keys.now)
-            (map outcome_of outcomes.items)) (state_of self.old) (state_of self.new)) }
+            → IsCallOf S.may_tell (StoppedLoading loader (map key_of keys.now)) self.old self.new }
+        ensures loaded { IfOk result (λ outcomes. IsCallOf S.may_tell (Loading loader (map key_of keys.now) (map outcome_of outcomes.items)) self.old self.new) }
     {
         if loader >= self.loaders.len() {
             return Err(SessionFault::NoSuchLoader);
@@ -240,9 +250,9 @@ impl<S: Asks> Session<S> {
     fn ask_missing(&mut self, loader: usize, keys: &[Key]) -> Result<(), NoMemory>
         requires { loader < length self.old.loaders }
         ensures ran { OnOk result (AsksOnce S.may_tell (state_of self.old) (state_of self.new)
-            (front_of_keys (session_modes (state_of self.old)) loader (map key_of keys.now) (look self.old.pairs))) }
+            (front_at (state_of self.old) loader (map key_of keys.now))) }
         ensures lost { OnErr result (RoundLost (state_of self.old) (state_of self.new)
-            (front_of_keys (session_modes (state_of self.old)) loader (map key_of keys.now) (look self.old.pairs))) }
+            (front_at (state_of self.old) loader (map key_of keys.now))) }
     {
         let wants = missing_keys(*self.loaders.allocator(), &self.memory, loader, keys)?;
         if wants.keys(loader).is_empty() {

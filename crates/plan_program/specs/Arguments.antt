@@ -1,5 +1,6 @@
 -- The coerced arguments of a field (section 6.4.1, CoerceArgumentValues).
-use Rattle.std.specs.Prelude.{ℕ, Bool, List, [], ◌∷◌, ◌++◌, Option, Some, None, if◌then◌else◌}
+use Rattle.std.specs.Prelude.{◌≡◌, ℕ, Bool, List, [], ◌∷◌, ◌++◌, Option, Some, None, if◌then◌else◌}
+use Rattle.gq_lexer.specs.declared.place.Place.{Place}
 use Rattle.gq_parser.specs.Tree.{TypeTree, Named, ListOf, Value, Variable, Array}
 use Rattle.gq_parser.specs.Tree as literal
 use Rattle.schema_syntax.specs.Tree.{Argument, Field}
@@ -25,6 +26,10 @@ variable_value non_null (Some i) = Some i
 abbrev pub name_value : PlanOf → List ℕ → Bool → Value → Option Input
 name_value plan name non_null (Variable p v) = variable_value non_null (value_in plan.variables v)
 name_value plan name non_null v = named_value None plan.definitions name non_null v
+
+-- the input is what a literal gives at a type, where that is a name
+abbrev pub IsValueAtName : PlanOf → TypeTree → Bool → Value → Option Input → Type 0
+IsValueAtName plan t non_null v input = (p : Place) (name : List ℕ) → t ≡ Named p name non_null → input ≡ name_value plan name non_null v
 
 -- the same at a list, where item says what a literal gives at its items
 abbrev pub list_value : PlanOf → (Value → Option Input) → Bool → Value → Option Input
@@ -62,6 +67,10 @@ argument_value plan a None = default_value plan a.of_type a.default
 argument_value plan a (Some (Variable p v)) = by_variable plan a (value_in plan.variables v)
 argument_value plan a (Some v) = or_refused (literal_value plan a.of_type v)
 
+-- the same from all that is given
+abbrev pub value_given : PlanOf → List literal.Argument → Argument → Coerced
+value_given plan given a = argument_value plan a (given_to given a.name.text)
+
 pub record ValueOf : Type 0 where
   pub name : List ℕ
   pub value : Input
@@ -85,7 +94,7 @@ and_then name refused others = null_argument name
 abbrev pub coerced_arguments : PlanOf → List literal.Argument → List Argument → ArgumentsOf
 coerced_arguments plan given [] = all_values []
 coerced_arguments plan given (a ∷ as') =
-    and_then a.name.text (argument_value plan a (given_to given a.name.text)) (coerced_arguments plan given as')
+    and_then a.name.text (value_given plan given a) (coerced_arguments plan given as')
 
 abbrev pub field_arguments : PlanOf → List literal.Argument → Option Field → ArgumentsOf
 field_arguments plan given None = all_values []

@@ -1,15 +1,12 @@
 -- What a collection holds, and what is left to collect.
-use Rattle.std.specs.Prelude.{ℕ, List, [], ◌∷◌, map, Option, Some, None}
-use Rattle.std.specs.Borrow.{Bor}
+use Rattle.std.specs.Prelude.{◌≡◌, ℕ, List, [], ◌∷◌, Option, Some, None}
 use Rattle.plan_program.specs.declared.collected.Collected as rust
 use Rattle.plan_program.specs.declared.collection.Rest.{Rest}
-use Rattle.gq_parser.specs.Tree.{map_selections}
+use Rattle.gq_parser.specs.Tree.{Selection, map_selections}
 use Rattle.gq_check.specs.Plans.{PlanOf}
-use Rattle.plan_program.specs.Groups.{Collected, collect_all, entering}
+use Rattle.plan_program.specs.Groups.{Collected, collect_one, collect_all, entering}
 use Rattle.plan_program.specs.Seen.{groups_of}
-
-abbrev pub texts_of : List (Bor (List ℕ)) → List (List ℕ)
-texts_of ts = map (λ (t : Bor (List ℕ)). t.now) ts
+use Rattle.plan_program.specs.Finding.{texts_of}
 
 abbrev pub collected_of : rust.Collected → Collected
 collected_of c = record { groups = groups_of c.groups.items; entered = texts_of c.entered.keys }
@@ -22,7 +19,15 @@ abbrev pub collect_rest_if : PlanOf → List ℕ → Collected → Option Rest �
 collect_rest_if plan ty so_far None = so_far
 collect_rest_if plan ty so_far (Some r) = collect_rest plan ty so_far r
 
+-- what a selection collected, with what is left inside it, is all that it collects
+abbrev pub Collects : PlanOf → List ℕ → ℕ → Selection → rust.Collected → rust.Collected → Option Rest → Type 0
+Collects plan ty enterable s old new inner = collect_rest_if plan ty (collected_of new) inner ≡ collect_one plan ty (entering plan ty enterable) (collected_of old) s
+
 -- the same of several, the last of which comes first
 abbrev pub collect_rests : PlanOf → List ℕ → Collected → List Rest → Collected
 collect_rests plan ty so_far [] = so_far
 collect_rests plan ty so_far (r ∷ rs) = collect_rest plan ty (collect_rests plan ty so_far rs) r
+
+-- what is left, after some of one more rest was collected, collects the same as before
+abbrev pub CollectsFirst : PlanOf → List ℕ → Rest → rust.Collected → rust.Collected → List Rest → List Rest → Type 0
+CollectsFirst plan ty rest old new left after = collect_rests plan ty (collected_of new) after ≡ collect_rests plan ty (collect_rest plan ty (collected_of old) rest) left

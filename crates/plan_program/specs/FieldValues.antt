@@ -141,12 +141,17 @@ with_arguments (all_values values) asked = asked values
 abbrev pub position_of : List ℕ → Place → Bool → FieldPosition
 position_of key place non_null = record { part = Key key; non_null = non_null; place = place }
 
+-- what a group asks for by the definition of its field
+abbrev pub asked_by : PlanOf → List ℕ → FieldOf → GroupOf → Field → ValueFrom
+asked_by plan ty f g d =
+    with_arguments (arguments_of plan ty g) (λ values. bound_asked plan d.of_type (children_of d.of_type f.place g.fields) values (binding_in plan.bindings.fields ty f.name))
+
 -- A field that the object type has no definition of, which no valid plan has, is null.
 abbrev pub defined_asked : PlanOf → List ℕ → FieldOf → GroupOf → Option Field → PreparedOf
 defined_asked plan ty f g None = record { position = position_of g.key f.place false; asked = known Null }
 defined_asked plan ty f g (Some d) = record {
   position = position_of g.key f.place (is_non_null d.of_type);
-  asked = with_arguments (arguments_of plan ty g) (λ values. bound_asked plan d.of_type (children_of d.of_type f.place g.fields) values (binding_in plan.bindings.fields ty f.name));
+  asked = asked_by plan ty f g d;
 }
 
 -- `__typename` is the object type's name

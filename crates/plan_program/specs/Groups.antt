@@ -38,6 +38,14 @@ nothing_collected = record { groups = []; entered = [] }
 abbrev pub chosen_field : Place → Option (List ℕ) → List ℕ → List Argument → Below → FieldOf
 chosen_field place alias name given b = record { place = place; key = unwrap_or alias name; name = name; arguments = given; below = b }
 
+-- one more field
+abbrev pub with_chosen : Collected → FieldOf → Collected
+with_chosen so_far f = record { groups = with_field so_far.groups f; entered = so_far.entered }
+
+-- one more fragment, where it is entered
+abbrev pub with_entered_if : Bool → Collected → List ℕ → Collected
+with_entered_if entered so_far name = if entered then record { groups = so_far.groups; entered = so_far.entered ++ name ∷ [] } else so_far
+
 abbrev pub has_entered : Collected → List ℕ → Bool
 has_entered so_far name = list_any (bytes_eq name) so_far.entered
 

@@ -3,6 +3,7 @@ pub mod Groups
 pub mod Arguments
 pub mod Texts
 pub mod Seen
+pub mod Finding
 pub mod Collecting
 pub mod Steps
 pub mod Coercing

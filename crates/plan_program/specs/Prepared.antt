@@ -1,8 +1,9 @@
 -- What contracts see of what a group asks for.
 use Rattle.std.specs.Prelude.{ℕ, List, map, Option, Some, None, string_bytes, option_map}
 use Rattle.std.specs.Arc.{arc_value}
-use Rattle.gq_parser.specs.Tree.{type_of}
-use Rattle.gq_schema.specs.BindingsSeen.{step_of}
+use Rattle.gq_parser.specs.Tree.{TypeTree, type_of}
+use Rattle.gq_schema.specs.declared.bindings.binding.Binding.{Binding}
+use Rattle.gq_schema.specs.BindingsSeen.{step_of, binding_of}
 use Rattle.load_memory.specs.Keys.{KeyOf, key_of}
 use Rattle.load_memory.specs.declared.key.Key.{Key}
 use Rattle.execution.specs.Program.{Text, Int, Boolean, LeafValue, Value, Null, Fault}
@@ -16,8 +17,10 @@ use Rattle.plan_program.specs.declared.prepared.Children.{Children}
 use Rattle.plan_program.specs.declared.prepared.ValueFrom as rust-value
 use Rattle.plan_program.specs.declared.prepared.ValueFrom.TheVariants as value
 use Rattle.plan_program.specs.declared.prepared.Prepared.{Prepared}
+use Rattle.gq_check.specs.Plans.{PlanOf}
+use Rattle.plan_program.specs.Arguments.{ValueOf}
 use Rattle.plan_program.specs.Seen.{fields_seen}
-use Rattle.plan_program.specs.FieldValues.{PartFrom, fixed_part, column_part, KeyFrom, fixed, of_column, of_pair, ChildrenOf, ValueFrom, known, cell, first_row, all_rows, each_row, joined_rows, PreparedOf, position_of}
+use Rattle.plan_program.specs.FieldValues.{PartFrom, fixed_part, column_part, KeyFrom, fixed, of_column, of_pair, ChildrenOf, ValueFrom, known, cell, first_row, all_rows, each_row, joined_rows, PreparedOf, position_of, bound_asked}
 
 abbrev pub leaf_value_seen : rust-leaf_value.LeafValue → LeafValue
 leaf_value_seen (leaf_value.Text t) = Value (Text (string_bytes t))
@@ -48,6 +51,10 @@ value_from_seen (value.First loader k b) = first_row loader (key_from_seen k) (c
 value_from_seen (value.All loader k b) = all_rows loader (key_from_seen k) (children_seen (arc_value b))
 value_from_seen (value.Each loader ks b) = each_row loader (keys_seen ks.items) (children_seen (arc_value b))
 value_from_seen (value.Joined loader k steps b) = joined_rows loader (key_from_seen k) (map step_of steps.now) (children_seen (arc_value b))
+
+-- what a binding asks for
+abbrev pub bound_by : PlanOf → TypeTree → ChildrenOf → List ValueOf → Binding → ValueFrom
+bound_by plan t below values binding = bound_asked plan t below values (Some (binding_of binding))
 
 abbrev pub prepared_seen : Prepared → PreparedOf
 prepared_seen p = record { position = position_of p.key.now p.place p.non_null; asked = value_from_seen p.asked }

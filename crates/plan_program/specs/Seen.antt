@@ -4,12 +4,12 @@ use Rattle.std.specs.Borrow.{Bor}
 use Rattle.std.specs.declared.string.String.{String}
 use Rattle.std.specs.declared.alloc.Global.{Global}
 use Rattle.gq_parser.specs.declared.tree.Field as rust
-use Rattle.gq_parser.specs.Tree.{Selection, Field, Spread, Inline, nothing_below, field_of}
+use Rattle.gq_parser.specs.Tree.{Selection, Selections, Field, Spread, Inline, nothing_below, field_of}
 use Rattle.gq_schema.specs.declared.input.Input as rust-input
 use Rattle.gq_schema.specs.Inputs.{input_of}
 use Rattle.plan_program.specs.declared.group.Group.{Group}
 use Rattle.plan_program.specs.declared.arguments.Args.{Args}
-use Rattle.plan_program.specs.Groups.{FieldOf, chosen_field, GroupOf}
+use Rattle.plan_program.specs.Groups.{FieldOf, chosen_field, GroupOf, selections_below}
 use Rattle.plan_program.specs.Arguments.{ValueOf}
 
 -- a selection that is a field
@@ -20,6 +20,10 @@ field_in (Inline place condition ds set) = chosen_field place None [] [] nothing
 
 abbrev pub field_seen : rust.Field → FieldOf
 field_seen f = field_in (field_of f)
+
+-- what a field selects
+abbrev pub selected_by : rust.Field → Selections
+selected_by f = selections_below (field_seen f).below
 
 abbrev pub fields_seen : List (Bor rust.Field) → List FieldOf
 fields_seen fs = map (λ (f : Bor rust.Field). field_seen f.now) fs

@@ -1,26 +1,23 @@
 //! Coerced arguments (section 6.4.1).
 
-ghost use Rattle.std.specs.Prelude.{◌≡◌, ℕ, List, IfOk, IfErr, Some, map};
+ghost use Rattle.std.specs.Prelude.{◌≡◌, List, IfOk, IfErr, Some, map};
 ghost use Rattle.std.specs.Option.{option_map};
-ghost use Rattle.gq_lexer.specs.declared.place.Place.{Place};
-ghost use Rattle.gq_parser.specs.Tree.{Named, type_of, literal_of, values_of as literals_of, arguments_of as arguments_seen};
+ghost use Rattle.gq_parser.specs.Tree.{type_of, literal_of, map_literals, arguments_of as arguments_seen};
 ghost use Rattle.schema_syntax.specs.Tree.{argument_of, arguments_of as arguments_defined};
 ghost use Rattle.gq_schema.specs.Inputs.{input_of};
 ghost use Rattle.gq_schema.specs.Coercion.{list_input, all_items, one_item};
 ghost use Rattle.variable_values.specs.Variables.{value_in};
 ghost use Rattle.gq_check.specs.Plans.{plan_of};
 ghost use Rattle.plan_program.specs.Chosen.{given_to};
-ghost use Rattle.plan_program.specs.Arguments.{null_input, variable_value, name_value, literal_value, or_refused, default_value, by_variable, argument_value, coerced_arguments, arguments_of, all_values};
+ghost use Rattle.plan_program.specs.Arguments.{null_input, variable_value, IsValueAtName, literal_value, or_refused, default_value, by_variable, argument_value, value_given, coerced_arguments, arguments_of, all_values};
 ghost use Rattle.plan_program.specs.Seen.{values_of, group_of};
 ghost use Rattle.plan_program.specs.Coercing.{coerced_seen, Refuses};
 
 use crate::chosen::given_to;
 use crate::group::Group;
-use crate::no_memory::NoMemory;
-use crate::type_refs::is_non_null;
 use gq_check::Plan;
 use gq_parser::{Argument, Literal, TypeRef, Value};
-use gq_schema::{ArgDef, Input, coerce};
+use gq_schema::{ArgDef, Input, coerce, list_of_one};
 use std::alloc::{AllocError, AllocFailed, Global};
 use thiserror::Error;
 
@@ -124,20 +121,6 @@ fn variable_value(plan: &Plan<'_>, non_null: bool, name: &str) -> Result<Option<
     }
 }
 
-// A list of one item.
-fn list_of_one(alloc: Global, item: Option<Input>) -> Result<Option<Input>, AllocError>
-    ensures { IfOk result (λ input. option_map input_of input ≡ one_item (option_map input_of item)) }
-{
-    match item {
-        Some(item) => {
-            let mut items = Vec::with_capacity(alloc, 1)?;
-            items.push(item)?;
-            Ok(Some(Input::List(items)))
-        }
-        None => Ok(None),
-    }
-}
-
 // What a literal gives at a type that is no list.
 fn name_value(
     alloc: Global,
@@ -146,8 +129,8 @@ fn name_value(
     non_null: bool,
     literal: &Literal,
 ) -> Result<Option<Input>, AllocError>
-    ensures { IfOk result (λ input. (p : Place) (name : List ℕ) → type_of ty.now ≡ Named p name non_null
-        → option_map input_of input ≡ name_value (plan_of plan.now) name non_null (literal_of literal.now)) }
+    ensures { IfOk result (λ i. IsValueAtName (plan_of plan.now) (type_of ty.now) non_null (literal_of literal.now)
+        (option_map input_of i)) }
 {
     match &literal.value {
         Value::Variable(name) => Ok(variable_value(plan, non_null, name.as_str())?),
@@ -210,7 +193,8 @@ fn list_value(
     ty: &TypeRef,
     literals: &[Literal],
 ) -> Result<Option<Input>, AllocError>
-    ensures { IfOk result (λ input. option_map input_of input ≡ list_input (all_items (literal_value (plan_of plan.now) (type_of ty.now)) (literals_of (map literal_of literals.now)))) }
+    ensures { IfOk result (λ i. option_map input_of i
+        ≡ list_input (all_items (literal_value (plan_of plan.now) (type_of ty.now)) (map_literals literals.now))) }
 {
     let mut inputs = Vec::with_capacity(alloc, literals.len())?;
     for literal in literals {
@@ -241,7 +225,7 @@ fn default_value(alloc: Global, plan: &Plan<'_>, argument: &ArgDef) -> Result<Co
             Ok(or_refused(input))
         }
         None => {
-            if is_non_null(&argument.of_type) {
+            if argument.of_type.is_non_null() {
                 Ok(Coerced::Refused)
             } else {
                 Ok(Coerced::Absent)
@@ -257,11 +241,12 @@ fn by_variable(
     argument: &ArgDef,
     name: &str,
 ) -> Result<Coerced, AllocError>
-    ensures { IfOk result (λ value. coerced_seen value ≡ by_variable (plan_of plan.now) (argument_of argument.now) (value_in (plan_of plan.now).variables name.now)) }
+    ensures { IfOk result (λ v. coerced_seen v
+        ≡ by_variable (plan_of plan.now) (argument_of argument.now) (value_in (plan_of plan.now).variables name.now)) }
 {
     match plan.variable(name) {
         Some(value) => {
-            let non_null = is_non_null(&argument.of_type);
+            let non_null = argument.of_type.is_non_null();
             Ok(or_refused(value_of_variable(non_null, value)?))
         }
         None => default_value(alloc, plan, argument),
@@ -297,7 +282,8 @@ fn argument_value(
     argument: &ArgDef,
     given: &[Argument],
 ) -> Result<Coerced, AllocError>
-    ensures { IfOk result (λ value. coerced_seen value ≡ argument_value (plan_of plan.now) (argument_of argument.now) (given_to (arguments_seen given.now) (argument_of argument.now).name.text)) }
+    ensures { IfOk result (λ v. coerced_seen v
+        ≡ value_given (plan_of plan.now) (arguments_seen given.now) (argument_of argument.now)) }
 {
     match given_to(given, argument.name.text.as_str()) {
         Some(literal) => given_value(alloc, plan, argument, literal),
@@ -311,7 +297,8 @@ fn coerced_arguments(
     given: &[Argument],
     arguments: &[ArgDef],
 ) -> Result<Args, ArgFault>
-    ensures ok { IfOk result (λ args. coerced_arguments (plan_of plan.now) (arguments_seen given.now) (arguments_defined arguments.now) ≡ all_values (values_of args)) }
+    ensures ok { IfOk result (λ a.
+        coerced_arguments (plan_of plan.now) (arguments_seen given.now) (arguments_defined arguments.now) ≡ all_values (values_of a)) }
     ensures fault { IfErr result (λ fault. Refuses fault (coerced_arguments (plan_of plan.now) (arguments_seen given.now) (arguments_defined arguments.now))) }
 {
     let mut args = Args {

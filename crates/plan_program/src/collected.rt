@@ -1,8 +1,9 @@
 //! What is collected.
 
-ghost use Rattle.std.specs.Prelude.{◌≡◌, map};
+ghost use Rattle.plan_program.specs.Finding.{texts_of, keys_in, AreFound};
 
 use crate::fields::key_of;
+use crate::finding::{note_key, place_of};
 use crate::group::Group;
 use gq_parser::Field;
 use indexmap::IndexSet;
@@ -12,16 +13,16 @@ use std::alloc::{AllocError, Global};
 #[derive(Drop)]
 pub struct Collected<'p> {
     groups: Vec<Group<'p>>,
-    // the keys of the groups, in the same order
-    keys: IndexSet<&'p str>,
+    // the keys of the groups, in the same order; none while the groups are few
+    table: IndexSet<&'p str>,
     // the names of the fragments
     entered: IndexSet<&'p str>,
-    ghost same_keys: { map (λ k. k.now) keys.keys ≡ map (λ g. g.key.now) groups.items },
+    ghost found: { AreFound (texts_of table.keys) (keys_in groups.items) },
 }
 
 impl<'p> Collected<'p> {
-    ghost use Rattle.std.specs.Prelude.{◌≡◌, ◌++◌, ◌∷◌, [], not, OnOk, IfOk, if◌then◌else◌};
-    ghost use Rattle.plan_program.specs.Groups.{with_field, nothing_collected, has_entered};
+    ghost use Rattle.std.specs.Prelude.{◌≡◌, not, OnOk, IfOk};
+    ghost use Rattle.plan_program.specs.Groups.{with_chosen, with_entered_if, nothing_collected, has_entered};
     ghost use Rattle.plan_program.specs.Seen.{field_seen, groups_of};
     ghost use Rattle.plan_program.specs.Collecting.{collected_of};
 
@@ -30,7 +31,7 @@ impl<'p> Collected<'p> {
     {
         Collected {
             groups: Vec::new(alloc),
-            keys: IndexSet::new(alloc),
+            table: IndexSet::new(alloc),
             entered: IndexSet::new(alloc),
         }
     }
@@ -43,10 +44,10 @@ impl<'p> Collected<'p> {
 
     /// Adds a field to the group of its key, or begins one.
     pub fn add_field(&mut self, alloc: Global, field: &'p Field) -> Result<(), AllocError>
-        ensures { OnOk result (collected_of self.new ≡ record { groups = with_field (collected_of self.old).groups (field_seen field.now); entered = (collected_of self.old).entered }) }
+        ensures { OnOk result (collected_of self.new ≡ with_chosen (collected_of self.old) (field_seen field.now)) }
     {
         let key = key_of(field);
-        match self.keys.get_index_of(key) {
+        match place_of(&self.groups, &self.table, key) {
             Some(place) => {
                 self.groups[place].fields.push(field)?;
             }
@@ -54,7 +55,7 @@ impl<'p> Collected<'p> {
                 let mut fields = Vec::with_capacity(alloc, 1)?;
                 fields.push(field)?;
                 self.groups.reserve(1)?;
-                self.keys.insert(key)?;
+                note_key(&self.groups, &mut self.table, key)?;
                 self.groups.push(Group { key, fields })?;
             }
         }
@@ -64,7 +65,7 @@ impl<'p> Collected<'p> {
     /// Notes that a fragment is entered; false where it was before.
     pub fn enter(&mut self, name: &'p str) -> Result<bool, AllocError>
         ensures is_new { IfOk result (λ entered. entered ≡ not (has_entered (collected_of self.old) name.now)) }
-        ensures after { IfOk result (λ entered. collected_of self.new ≡ (if entered then record { groups = (collected_of self.old).groups; entered = (collected_of self.old).entered ++ name.now ∷ [] } else collected_of self.old)) }
+        ensures after { IfOk result (λ entered. collected_of self.new ≡ with_entered_if entered (collected_of self.old) name.now) }
     {
         Ok(self.entered.insert(name)?)
     }

@@ -4,17 +4,17 @@ ghost use Rattle.std.specs.Prelude.{◌≡◌, ◌<◌, ◌≤◌, ◌+◌, IfOk
 ghost use Rattle.gq_parser.specs.Tree.{map_selections, selection_of};
 ghost use Rattle.gq_check.specs.Plans.{plan_of};
 ghost use Rattle.plan_program.specs.Groups as groups;
-ghost use Rattle.plan_program.specs.Groups.{collect_one, collect_from, entering, collect, collect_subfields, selections_below, nothing_collected};
-ghost use Rattle.plan_program.specs.Seen.{groups_of, field_seen, fields_seen};
-ghost use Rattle.plan_program.specs.Collecting.{collected_of, collect_rest, collect_rest_if, collect_rests};
+ghost use Rattle.plan_program.specs.Groups.{collect_one, collect_from, entering, collect, collect_subfields, nothing_collected};
+ghost use Rattle.plan_program.specs.Seen.{groups_of, selected_by, fields_seen};
+ghost use Rattle.plan_program.specs.Collecting.{collected_of, collect_rest_if, Collects, CollectsFirst};
 ghost use Rattle.plan_program.specs.Steps.{steps_inside, steps_one, steps_rest, steps_if, all_steps};
 
 use crate::chosen::{applies, applies_inline, is_left_out};
 use crate::collected::Collected;
 use crate::group::Group;
-use crate::no_memory::NoMemory;
 use gq_check::Plan;
 use gq_parser::{Field, Selection};
+use load_memory::NoMemory;
 use std::alloc::{AllocError, Global};
 
 // Selections that are left to collect, where so many fragments may still be entered one inside another.
@@ -31,7 +31,7 @@ fn rest_of_fragment<'p>(
     enterable: usize,
     name: &str,
 ) -> Option<Rest<'p>>
-    ensures entered { (so_far : groups.Collected) → collect_rest_if (plan_of plan.now) ty.now so_far result ≡ entering (plan_of plan.now) ty.now enterable so_far name.now }
+    ensures entered { (so_far : _) → collect_rest_if (plan_of plan.now) ty.now so_far result ≡ entering (plan_of plan.now) ty.now enterable so_far name.now }
     ensures steps { steps_if (plan_of plan.now).fragments result ≤ steps_inside (plan_of plan.now).fragments enterable }
 {
     if enterable == 0 {
@@ -59,8 +59,9 @@ fn collect_one<'p>(
     selection: &'p Selection,
     so_far: &mut Collected<'p>,
 ) -> Result<Option<Rest<'p>>, AllocError>
-    ensures collected { IfOk result (λ inner. collect_rest_if (plan_of plan.now) ty.now (collected_of so_far.new) inner ≡ collect_one (plan_of plan.now) ty.now (entering (plan_of plan.now) ty.now enterable) (collected_of so_far.old) (selection_of selection.now)) }
-    ensures steps { IfOk result (λ inner. steps_if (plan_of plan.now).fragments inner < steps_one (steps_inside (plan_of plan.now).fragments enterable) (selection_of selection.now)) }
+    ensures collected { IfOk result (Collects (plan_of plan.now) ty.now enterable (selection_of selection.now) so_far.old so_far.new) }
+    ensures steps { let fs = (plan_of plan.now).fragments in
+        IfOk result (λ i. steps_if fs i < steps_one (steps_inside fs enterable) (selection_of selection.now)) }
 {
     match selection {
         Selection::Field(field) => {
@@ -102,8 +103,10 @@ fn collect_first<'p>(
     left: &mut Vec<Rest<'p>>,
     so_far: &mut Collected<'p>,
 ) -> Result<(), AllocError>
-    ensures collected { OnOk result (collect_rests (plan_of plan.now) ty.now (collected_of so_far.new) left.new.items ≡ collect_rests (plan_of plan.now) ty.now (collect_rest (plan_of plan.now) ty.now (collected_of so_far.old) rest.entry) left.old.items) }
-    ensures steps { OnOk result (all_steps (plan_of plan.now).fragments left.new.items < all_steps (plan_of plan.now).fragments left.old.items + steps_rest (plan_of plan.now).fragments rest.entry) }
+    ensures collected { OnOk result (CollectsFirst (plan_of plan.now) ty.now rest.entry so_far.old so_far.new
+        left.old.items left.new.items) }
+    ensures steps { let fs = (plan_of plan.now).fragments in
+        OnOk result (all_steps fs left.new.items < all_steps fs left.old.items + steps_rest fs rest.entry) }
 {
     let Some((selection, selections)) = rest.selections.split_first() else {
         return Ok(());
@@ -148,7 +151,7 @@ fn collect_field<'p>(
     field: &'p Field,
     so_far: &mut Collected<'p>,
 ) -> Result<(), AllocError>
-    ensures { OnOk result (collected_of so_far.new ≡ collect_from (plan_of plan.now) ty.now (collected_of so_far.old) (selections_below (field_seen field.now).below)) }
+    ensures { OnOk result (collected_of so_far.new ≡ collect_from (plan_of plan.now) ty.now (collected_of so_far.old) (selected_by field.now)) }
 {
     match &field.selection_set {
         Some(set) => collect_from(alloc, plan, ty, &set.selections, so_far),

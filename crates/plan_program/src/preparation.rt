@@ -4,29 +4,27 @@ ghost use Rattle.std.specs.Prelude.{◌≡◌, IfOk, Some, false, map, string_by
 ghost use Rattle.std.specs.Option.{option_map, option_copied};
 ghost use Rattle.std.specs.Arc.{arc_value};
 ghost use Rattle.gq_parser.specs.Tree.{type_of};
+ghost use Rattle.gq_parser.specs.Types.{is_non_null};
 ghost use Rattle.schema_syntax.specs.Tree.{field_of};
 ghost use Rattle.gq_schema.specs.Inputs.{input_of, inputs_of};
 ghost use Rattle.gq_schema.specs.BindingsSeen.{part_of, key_of as source_of, step_of, binding_of};
-ghost use Rattle.gq_schema.specs.BindingsTree.{binding_in};
 ghost use Rattle.load_memory.specs.Keys.{key_of};
 ghost use Rattle.gq_check.specs.Plans.{plan_of};
 ghost use Rattle.plan_program.specs.Arguments.{arguments_of};
-ghost use Rattle.plan_program.specs.FieldValues.{text_of_input, key_of_input, input_named, key_if, part_from, key_from, keys_of, have_loaders, IsLoadedBy, each_asked, bound_asked, children_of, with_arguments, position_of, known, prepared, all_prepared};
+ghost use Rattle.plan_program.specs.FieldValues.{item_type, text_of_input, key_of_input, input_named, key_if, part_from, key_from, keys_of, have_loaders, IsLoadedBy, each_asked, children_of, asked_by, position_of, known, prepared, all_prepared};
 ghost use Rattle.execution.specs.Program.{Null};
 ghost use Rattle.plan_program.specs.Seen.{field_seen, fields_seen, group_of, groups_of, values_of};
-ghost use Rattle.plan_program.specs.Prepared.{part_from_seen, key_from_seen, keys_seen, children_seen, value_from_seen, prepared_seen, all_prepared_seen};
+ghost use Rattle.plan_program.specs.Prepared.{bound_by, part_from_seen, key_from_seen, keys_seen, children_seen, value_from_seen, prepared_seen, all_prepared_seen};
 
 use crate::arguments::{ArgFault, Args, arguments_of};
 use crate::group::Group;
-use crate::no_memory::NoMemory;
 use crate::prepared::{Children, KeyFrom, LeafValue, PartFrom, Prepared, ValueFrom};
 use crate::texts::null_argument_message;
-use crate::type_refs::{core_name, is_item_non_null, is_non_null};
 use gq_check::Plan;
 use gq_lexer::Place;
 use gq_parser::{Field, TypeRef};
 use gq_schema::{Binding, FieldDef, Input, KeyPart, KeySource, Step};
-use load_memory::Key;
+use load_memory::{Key, NoMemory};
 use std::alloc::{AllocError, Global};
 use std::sync::Arc;
 
@@ -187,7 +185,8 @@ fn bound_asked<'p>(
     args: &Args,
     binding: &'p Binding,
 ) -> Result<ValueFrom<'p>, AllocError>
-    ensures { IfOk result (λ asked. value_from_seen asked ≡ bound_asked (plan_of plan.now) (type_of ty.now) (children_seen (arc_value children.entry)) (values_of args.now) (Some (binding_of binding.now))) }
+    ensures { IfOk result (λ a. value_from_seen a
+        ≡ bound_by (plan_of plan.now) (type_of ty.now) (children_seen (arc_value children.entry)) (values_of args.now) binding.now) }
 {
     let null = ValueFrom::Known(LeafValue::Null);
     Ok(match binding {
@@ -239,11 +238,21 @@ fn bound_asked<'p>(
     })
 }
 
+// Whether a `!` ends the type of the items, or of the one that it is where it is no list.
+fn is_item_non_null(ty: &TypeRef) -> bool
+    ensures { result ≡ is_non_null (item_type (type_of ty.now)) }
+{
+    match ty {
+        TypeRef::Named { non_null, .. } => *non_null,
+        TypeRef::List { item, .. } => item.is_non_null(),
+    }
+}
+
 fn children_of<'p>(ty: &'p TypeRef, place: Place, fields: Vec<&'p Field>) -> Children<'p>
     ensures { children_seen result ≡ children_of (type_of ty.now) place (fields_seen fields.entry.items) }
 {
     Children {
-        type_name: core_name(ty),
+        type_name: ty.named(),
         item_non_null: is_item_non_null(ty),
         place,
         fields,
@@ -259,7 +268,8 @@ fn defined_asked<'p>(
     first: &'p Field,
     group: Group<'p>,
 ) -> Result<ValueFrom<'p>, AllocError>
-    ensures { IfOk result (λ asked. value_from_seen asked ≡ with_arguments (arguments_of (plan_of plan.now) ty.now (group_of group.entry)) (λ values. bound_asked (plan_of plan.now) (field_of definition.now).of_type (children_of (field_of definition.now).of_type (field_seen first.now).place (group_of group.entry).fields) values (binding_in (plan_of plan.now).bindings.fields ty.now (field_seen first.now).name))) }
+    ensures { IfOk result (λ a. value_from_seen a
+        ≡ asked_by (plan_of plan.now) ty.now (field_seen first.now) (group_of group.entry) (field_of definition.now)) }
 {
     let args = match arguments_of(alloc, plan, ty, &group) {
         Ok(args) => args,
@@ -318,7 +328,7 @@ fn prepare_one<'p>(
     Ok(Prepared {
         key,
         place: first.place,
-        non_null: is_non_null(&definition.of_type),
+        non_null: definition.of_type.is_non_null(),
         asked,
     })
 }

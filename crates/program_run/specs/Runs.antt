@@ -9,10 +9,13 @@ use Rattle.command_line.specs.declared.stop.Stop.TheVariants as stop
 use Rattle.command_line.specs.declared.words.Words.{Words}
 use Rattle.command_line.specs.Words.{IsRead, IsRefused}
 use Rattle.command_line.specs.declared.origin.LocatedStop.{LocatedStop}
-use Rattle.command_line.specs.Origins.{Explains}
+use Rattle.command_line.specs.Stops.{stop_of}
+use Rattle.command_line.specs.Origins.{origin_of, origin_of_opening, Explains}
 use Rattle.world.specs.Sources.{TableOf}
 use Rattle.world.specs.Worlds.{WorldOf, IsWorld}
-use Rattle.world_files.specs.Opening.{IsUnmade, IsPlaced}
+use Rattle.world_files.specs.declared.fault.InputFile.TheVariants.{Requests}
+use Rattle.world_files.specs.declared.fault.OpenFault.{OpenFault}
+use Rattle.world_files.specs.Opening.{IsUnread, IsLocated, IsUnmade}
 use Rattle.world_answers.specs.Services.{ServiceOf, within}
 use Rattle.world_answers.specs.Serving.{DevicesOf, ServesAll, StopsServing}
 use Rattle.batch_workers.specs.Workers.{IsBadCount}
@@ -44,9 +47,13 @@ IsServedBy (Some workers) service devices end = (¬ (IsBadCount workers) → IsS
 abbrev pub IsWorldOfSome : Option ℕ → WorldOf → Type 0
 IsWorldOfSome max world = (schema : List ℕ) × (bindings : List ℕ) × (tables : List TableOf) × IsWorld schema bindings tables max world
 
+-- the end of a run whose files give no world with this limit, or no request lines
+abbrev pub IsUnmadeEnd : Option ℕ → Stop → Type 0
+IsUnmadeEnd max end = (fault : OpenFault) × IsUnmade max fault × (end ≡ stop_of fault)
+
 -- no world or no request lines were to be had, and nothing was written
 pub record IsUnserved (max : Option ℕ) (old new : Option (List ℕ)) (end : Stop) : Type 0 where
-  pub unmade : IsUnmade max end
+  pub unmade : IsUnmadeEnd max end
   pub kept : Keeps old new
 
 -- the lines of the reader were served over a world, without any limit, or there was no world and nothing was read
@@ -56,12 +63,12 @@ IsSampleRun devices end = ((world : WorldOf) × IsWorldOfSome None world × IsSe
 
 -- the request lines of a file were served over a world, with the limits of the words
 abbrev pub AreFilesServed : Words → Option (List ℕ) → Option (List ℕ) → Stop → Type 0
-AreFilesServed words old new end = (world : WorldOf) × (unread : Option (List ℕ)) × (rest : Option (List ℕ)) × IsWorldOfSome words.max_batch world
+AreFilesServed words old new end = (world : WorldOf) × (unread : Option (List ℕ)) × (rest : Option (List ℕ)) × IsWorldOfSome words.files.max_batch world
     × IsServedBy words.workers (within words.max_answer world) (record { unread = unread; rest = rest; old = old; new = new }) end
 
 -- the request lines of a file were served over the world of the other files; what the files hold isn't known
 abbrev pub IsFilesRun : Words → Option (List ℕ) → Option (List ℕ) → Stop → Type 0
-IsFilesRun words old new end = AreFilesServed words old new end ⊎ IsUnserved words.max_batch old new end
+IsFilesRun words old new end = AreFilesServed words old new end ⊎ IsUnserved words.files.max_batch old new end
 
 -- the help was written with a line feed, or a front of it went out
 abbrev pub IsShown : List ℕ → Option (List ℕ) → Option (List ℕ) → Stop → Type 0
@@ -87,6 +94,15 @@ IsWordsRun texts old new end = ((words : Words) × IsRead texts words × IsFiles
 abbrev pub IsProgramRun : List (List ℕ) → DevicesOf → Stop → Type 0
 IsProgramRun [] devices end = IsSampleRun devices end
 IsProgramRun (word ∷ words) devices end = Keeps devices.unread devices.rest × IsWordsRun (word ∷ words) devices.old devices.new end
+
+-- a file of the words can't be opened, or the files of the world give none
+abbrev pub IsUnopenedOf : Words → OpenFault → Type 0
+IsUnopenedOf words fault = IsLocated words.files fault ⊎ IsUnread Requests fault
+
+-- where the fault is: what the end itself says, or what is known of the files that were to be opened
+abbrev pub IsPlaced : Words → LocatedStop → Type 0
+IsPlaced words end = (end.origin ≡ origin_of end.stop)
+    ⊎ ((fault : OpenFault) × IsUnopenedOf words fault × (end.stop ≡ stop_of fault) × (end.origin ≡ origin_of_opening fault))
 
 -- what is said besides: the words asked for it, and it names the file of the fault and where in it that is, as far as that is known
 abbrev pub SaysWhere : List (List ℕ) → Stop → List ℕ → Type 0

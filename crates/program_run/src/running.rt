@@ -6,10 +6,9 @@ ghost use Rattle.line_serving.specs.Devices.{device_of};
 ghost use Rattle.line_serving.specs.Lines.{line_feed};
 ghost use Rattle.line_serving.specs.Output.{IsCut};
 ghost use Rattle.batch_workers.specs.Workers.{IsBadCount};
-ghost use Rattle.program_run.specs.Runs.{IsServed, IsMiscounted, IsServedBy, IsShown, EndsAsRefused, IsSampleRun, IsFilesRun, IsProgramRun, SaysWhere, IsWordless};
+ghost use Rattle.program_run.specs.Runs.{IsServed, IsMiscounted, IsServedBy, IsShown, EndsAsRefused, IsSampleRun, IsFilesRun, IsPlaced, IsProgramRun, SaysWhere, IsWordless};
 ghost use Rattle.world_answers.specs.Services.{service_of};
 ghost use Rattle.world_answers.specs.Serving.{devices};
-ghost use Rattle.world_files.specs.Opening.{IsPlaced};
 
 use command_line::{End, LocatedStop, Stop, Words};
 use line_serving::{Counted, DeviceFault, ServeFault};
@@ -111,7 +110,7 @@ fn run_sample<R: Read, W: Write>(
             };
             serve_in_turn(alloc, &service, reader, writer)
         }
-        Err(stop) => stop,
+        Err(fault) => Stop::from(fault),
     }
 }
 
@@ -126,6 +125,7 @@ fn max_answer(words: &Words) -> Option<usize>
 }
 
 /// Serves the request lines of a file over the world of the other files, with the limits and the workers that the words give.
+#[tactic(auto, using(crate::proofs::Opened::unread_unmade))]
 fn run_files<R: Files + Threads + Wait + AllocGlobal + Sync, W: Write>(
     rt: &R,
     words: &Words,
@@ -134,15 +134,15 @@ fn run_files<R: Files + Threads + Wait + AllocGlobal + Sync, W: Write>(
     ensures run { IsFilesRun words.now (W.contents (device_of writer.old)) (W.contents (device_of writer.new)) result.stop }
     ensures placed { IsPlaced words.now result }
 {
-    let world = match open_world(rt, words) {
+    let world = match open_world(rt, &words.files) {
         Ok(world) => world,
-        Err(stop) => return stop,
+        Err(fault) => return LocatedStop::from(fault),
     };
     let service = Service {
         world: &world,
         max_answer: max_answer(words),
     };
-    match open_requests(rt, words) {
+    match open_requests(rt, words.requests.as_str()) {
         Ok(file) => LocatedStop::from(serve_words(
             rt,
             words.workers,
@@ -150,7 +150,7 @@ fn run_files<R: Files + Threads + Wait + AllocGlobal + Sync, W: Write>(
             &mut Counted::new(file),
             writer,
         )),
-        Err(stop) => stop,
+        Err(fault) => LocatedStop::from(fault),
     }
 }
 

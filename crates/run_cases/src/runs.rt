@@ -63,7 +63,7 @@ fn files_served<R: Files + AllocGlobal, W: Write>(
     words: &Words,
     writer: &mut Counted<W>,
 ) -> Result<Stop, LocatedStop> {
-    let world = open_world(rt, words)?;
+    let world = open_world(rt, &words.files)?;
     let max_answer = match words.max_answer {
         Some(most) => Some(most as usize),
         None => None,
@@ -72,7 +72,7 @@ fn files_served<R: Files + AllocGlobal, W: Write>(
         world: &world,
         max_answer,
     };
-    let mut requests = Counted::new(open_requests(rt, words)?);
+    let mut requests = Counted::new(open_requests(rt, words.requests.as_str())?);
     Ok(served(rt.alloc(), &service, &mut requests, writer))
 }
 

@@ -24,9 +24,9 @@ pub fn words_of(alloc: Global, line: &str) -> Result<Words, Stop> {
 fn parts(alloc: Global, words: &Words) -> Result<String, AllocError> {
     let mut report = format!(in alloc;
         "schema {}, bindings {}, requests {}",
-        words.schema, words.bindings, words.requests
+        words.files.schema, words.files.bindings, words.requests
     )?;
-    if let Some(most) = words.max_batch {
+    if let Some(most) = words.files.max_batch {
         write!(report, ", at most {most} keys")?;
     }
     if let Some(most) = words.max_answer {
@@ -38,7 +38,7 @@ fn parts(alloc: Global, words: &Words) -> Result<String, AllocError> {
     if words.explain {
         report.push_str(", explained")?;
     }
-    for table in &words.tables {
+    for table in &words.files.tables {
         write!(report, ", table {:?} in {:?}", table.name, table.file)?;
     }
     Ok(report)

@@ -181,9 +181,9 @@ pub fn opened<R: Files + AllocGlobal>(rt: &R, line: &str) -> Result<String> {
         Ok(words) => words,
         Err(stop) => return Ok(part_of(rt.alloc(), &stop)?),
     };
-    match open_world(rt, &words) {
+    match open_world(rt, &words.files) {
         Ok(world) => Ok(report_of(rt.alloc(), &world)?),
-        Err(end) => Ok(part_of(rt.alloc(), &end.stop)?),
+        Err(fault) => Ok(part_of(rt.alloc(), &Stop::from(fault))?),
     }
 }
 
@@ -192,8 +192,8 @@ pub fn requested<R: Files + AllocGlobal>(rt: &R, line: &str) -> Result<String> {
     let Ok(words) = words_of(rt.alloc(), line) else {
         bail!("words that are refused");
     };
-    match open_requests(rt, &words) {
+    match open_requests(rt, words.requests.as_str()) {
         Ok(_) => Ok(String::from_str(rt.alloc(), "open")?),
-        Err(end) => Ok(part_of(rt.alloc(), &end.stop)?),
+        Err(fault) => Ok(part_of(rt.alloc(), &Stop::from(fault))?),
     }
 }

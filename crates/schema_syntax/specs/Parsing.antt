@@ -13,11 +13,13 @@ use Rattle.gq_parser.specs.declared.tree.Value.{Value}
 use Rattle.gq_parser.specs.declared.tree.Literal.{Literal}
 use Rattle.std.specs.declared.string.String.{String}
 use Rattle.std.specs.declared.alloc.Global.{Global}
+use Rattle.schema_syntax.specs.declared.word.SchemaWord.{SchemaWord}
+use Rattle.schema_syntax.specs.declared.tree.Definition as rust-definition
 use Rattle.schema_syntax.specs.declared.fault.Stop as rust
 use Rattle.schema_syntax.specs.declared.fault.Stop.TheVariants.{Unexpected, NotServed, NoMemory}
 use Rattle.schema_syntax.specs.Word.{word_of}
 use Rattle.schema_syntax.specs.Tree as tree
-use Rattle.schema_syntax.specs.Tree.{Definition, definitions_of}
+use Rattle.schema_syntax.specs.Tree.{Definition, definition_of, definitions_of}
 use Rattle.schema_syntax.specs.declared.tree.SchemaDocument as rust-document
 use Rattle.schema_syntax.specs.Grammar.{IsServedType, IsTypeName, IsAmpersand, AreMoreInterfaces, AreInterfaces, IsPipe, AreMoreMembers, IsBody, IsDocument}
 use Rattle.schema_syntax.specs.Machine.{Symbol, AValue, read, refused}
@@ -37,6 +39,10 @@ Reads IsTree room symbols room_after symbols_after before after (Err stop) = (st
 abbrev pub IsNotNext : Word → List Token → Type 0
 IsNotNext w [] = Unit {0}
 IsNotNext w (at p first ∷ rest) = first ≢ w
+
+-- what was read is the body of a type, wherever its word was
+abbrev pub IsTypeBody : SchemaWord → rust-definition.Definition → List Token → List Token → Type 0
+IsTypeBody w d before after = (place : Place) → IsBody w place (definition_of d) before after
 
 -- this word was taken
 pub record IsTaken (w : Word) (old new : List Token) : Type 0 where

@@ -9,11 +9,11 @@ ghost use Rattle.gq_parser.specs.Tree.{literal_of, type_of, map_literals, map_me
 ghost use Rattle.gq_parser.specs.Grammar.{IsValue, AreValues, AreMembers, IsDefault};
 ghost use Rattle.schema_syntax.specs.declared.word.SchemaWord.TheVariants as words;
 ghost use Rattle.schema_syntax.specs.declared.tree.Definition.TheVariants as declared;
-ghost use Rattle.schema_syntax.specs.Tree.{name_of, names_of, argument_of, arguments_of, field_of, fields_of, definition_of, definitions_of, Definition as tree_definition};
+ghost use Rattle.schema_syntax.specs.Tree.{name_of, names_of, argument_of, arguments_of, field_of, fields_of, definition_of, definitions_of};
 ghost use Rattle.schema_syntax.specs.Fault.{IsStop};
 ghost use Rattle.schema_syntax.specs.Grammar.{IsDocument, IsBody, IsName, IsTypeName, IsReason, IsDeprecated, IsArgument, AreArguments, AreOptionalArguments, IsField, AreFields, IsEnumValue, AreEnumValues};
 ghost use Rattle.schema_syntax.specs.Machine.{one, a_union_then, A, AName, AColon, ATypeName, AnItem, AnEnumName, AQuery, ARootEnd, ADefinition, RootBody, ObjectBody, FirstInterface, MoreInterfaces, InterfaceBody, EnumBody, Fields, MaybeArguments, Arguments, MaybeDefault, AType, MaybeBang, MaybeDeprecated, MaybeReason, EnumValues, MaybePipe, MoreMembers, AValue, MoreValues, MoreObjectFields, refused};
-ghost use Rattle.schema_syntax.specs.Parsing.{Reads, Eats, Expects, Describes, TakesMark, TakesText, NumberReads, IsNotNext, IsNoName, IsNoInt, IsNoFloat, IsNameTaken, IsTaken, IsMemberRead, IsEnumNameRead, IsQueryTaken, AreSomeInterfaces, AreMembersRead, IsTypeRead, IsNamed, AreInterfacesRead, IsDefinitionRead, Finds};
+ghost use Rattle.schema_syntax.specs.Parsing.{Reads, Eats, Expects, Describes, TakesMark, TakesText, NumberReads, IsNotNext, IsNoName, IsNoInt, IsNoFloat, IsNameTaken, IsTaken, IsMemberRead, IsEnumNameRead, IsQueryTaken, AreSomeInterfaces, AreMembersRead, IsTypeRead, IsNamed, AreInterfacesRead, IsDefinitionRead, IsTypeBody, Finds};
 
 use crate::fault::Stop;
 use crate::tree::{
@@ -576,7 +576,7 @@ impl<'a> Parser<'a> {
     }
 
     fn object(&mut self) -> Result<ObjectDefinition, Stop>
-        ensures reads { Reads (λ d before after. (place : _) → IsBody words.Object place (definition_of (declared.Object d)) before after) 128 (A ATypeName ∷ one ObjectBody) 128 [] self.old self.new result }
+        ensures reads { Reads (λ d. IsTypeBody words.Object (declared.Object d)) 128 (A ATypeName ∷ one ObjectBody) 128 [] self.old self.new result }
         ensures shrinks { OnOk result (length self.new ≤ length self.old) }
     {
         let name = self.type_name()?;
@@ -590,7 +590,7 @@ impl<'a> Parser<'a> {
     }
 
     fn interface(&mut self) -> Result<InterfaceDefinition, Stop>
-        ensures reads { Reads (λ d before after. (place : _) → IsBody words.Interface place (definition_of (declared.Interface d)) before after) 128 (A ATypeName ∷ one InterfaceBody) 128 [] self.old self.new result }
+        ensures reads { Reads (λ d. IsTypeBody words.Interface (declared.Interface d)) 128 (A ATypeName ∷ one InterfaceBody) 128 [] self.old self.new result }
         ensures shrinks { OnOk result (length self.new ≤ length self.old) }
     {
         let name = self.type_name()?;
@@ -600,7 +600,7 @@ impl<'a> Parser<'a> {
     }
 
     fn union_type(&mut self) -> Result<UnionDefinition, Stop>
-        ensures reads { Reads (λ d before after. (place : _) → IsBody words.Union place (definition_of (declared.Union d)) before after) 128 (A ATypeName ∷ a_union_then) 128 [] self.old self.new result }
+        ensures reads { Reads (λ d. IsTypeBody words.Union (declared.Union d)) 128 (A ATypeName ∷ a_union_then) 128 [] self.old self.new result }
         ensures shrinks { OnOk result (length self.new ≤ length self.old) }
     {
         let name = self.type_name()?;
@@ -610,7 +610,7 @@ impl<'a> Parser<'a> {
     }
 
     fn enum_type(&mut self) -> Result<EnumDefinition, Stop>
-        ensures reads { Reads (λ d before after. (place : _) → IsBody words.Enum place (definition_of (declared.Enum d)) before after) 128 (A ATypeName ∷ one EnumBody) 128 [] self.old self.new result }
+        ensures reads { Reads (λ d. IsTypeBody words.Enum (declared.Enum d)) 128 (A ATypeName ∷ one EnumBody) 128 [] self.old self.new result }
         ensures shrinks { OnOk result (length self.new ≤ length self.old) }
     {
         let name = self.type_name()?;
@@ -650,7 +650,7 @@ pub(crate) fn definitions(
     ensures found { IfOk result (λ d. IsDocument (definitions_of d) (tokens_of text.now tokens.now) × IsShallow most_brackets (tokens_of text.now tokens.now)) }
 
     // Such a tree is found, and there is no other.
-    ensures only { (ds : List tree_definition) → IsDocument ds (tokens_of text.now tokens.now) → IsShallow most_brackets (tokens_of text.now tokens.now) → Finds ds result }
+    ensures only { (ds : _) → IsDocument ds (tokens_of text.now tokens.now) → IsShallow most_brackets (tokens_of text.now tokens.now) → Finds ds result }
 
     // Otherwise the first fault is named.
     ensures stop { IfErr result (IsStop (tokens_of text.now tokens.now)) }

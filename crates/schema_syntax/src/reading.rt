@@ -31,10 +31,12 @@ pub fn read_tokens(
     requires size { length text.now ≤ MAX_BYTES }
     requires inside { All (IsToken text.now) tokens.now }
     // What is found is what the grammar says, no bracket in it is opened while 128 are open, and the text ends behind it.
-    ensures found { IfOk result (λ d. IsDocument (definitions_of d) (tokens_of text.now tokens.now) × IsShallow most_brackets (tokens_of text.now tokens.now) × (lexical ≡ None)) }
+    ensures found { let ts = tokens_of text.now tokens.now in
+        IfOk result (λ d. IsDocument (definitions_of d) ts × IsShallow most_brackets ts × (lexical ≡ None)) }
 
     // Such a tree is found, and there is no other.
-    ensures only { (ds : List tree_definition) → IsDocument ds (tokens_of text.now tokens.now) → IsShallow most_brackets (tokens_of text.now tokens.now) → lexical ≡ None → FindsTree ds result }
+    ensures only { let ts = tokens_of text.now tokens.now in
+        (ds : _) → IsDocument ds ts → IsShallow most_brackets ts → lexical ≡ None → FindsTree ds result }
 
     // Otherwise the first fault is named.
     ensures fault { IfErr result (IsSyntaxFault text.now (tokens_of text.now tokens.now) lexical) }

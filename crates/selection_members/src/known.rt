@@ -7,9 +7,12 @@ ghost use Rattle.selection_members.specs.Fragments.{target_at, AreTargets};
 ghost use Rattle.selection_members.specs.Members.{count_fields, count_operations, starts_from};
 ghost use Rattle.selection_members.specs.Walks.{to, AreThere};
 
-use crate::targets::Targets;
 use gq_parser::Document;
 use merge_table::{Reached, Row};
+use std::collections::HashMap;
+
+/// The number of the first fragment of each name, from 0.
+pub type Targets<'d> = HashMap<&'d str, usize>;
 
 /// What is to be known of a document before its fragments are walked through.
 #[derive(Clone, Copy)]

@@ -16,7 +16,6 @@ mod gathering;
 mod known;
 mod meeting;
 mod numbering;
-mod targets;
 mod visiting;
 mod walk;
 
@@ -24,9 +23,8 @@ pub use counting::{fields_from, fields_in, fragment_starts, operation_fields};
 pub use first::first_member;
 pub use fragments::known_fragments;
 pub use gathering::members_of_fields;
-pub use known::{Source, Walk};
+pub use known::{Source, Targets, Walk};
 pub use meeting::{Met, first_met};
 pub use numbering::{Numbering, numbering_of};
-pub use targets::{Targets, fragment_targets};
 pub use visiting::{ClashingSet, add_clashing};
 pub use walk::reached_in;

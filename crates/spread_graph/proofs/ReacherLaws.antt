@@ -2,13 +2,15 @@
 use Rattle.std.proofs.Common.{◌≡◌, ◌∙◌, sym, ap, refl, subst, ℕ, zero, suc, ◌+◌, ◌^◌, ◌<◌, ◌≤◌, Bool, true, false, ◌||◌, eqb, List, [], ◌∷◌, ◌++◌, length, get_or, set, replicate, arith, ⊎_elim}
 use Rattle.std.specs.Prelude.{◌&&◌, nat_lt}
 use Rattle.std.proofs.lemmas.Bool.{false≢true, eqb-true, eq-eqb, ne_eqb, cases_eq, or_left, or_right, or_cases, and_from, and_parts, cases_lt}
-use Rattle.std.proofs.lemmas.List.{get_or-set_same, get_or-set_other, get_or_default, length-set}
+use Rattle.std.specs.Global.{Vec}
+use Rattle.std.proofs.lemmas.List.{get_or-set_same, get_or-set_other, get_or_default, length-map, length-set}
 use Rattle.std.proofs.lemmas.List.Folds.{list_any-append}
 use Rattle.document_parts.specs.declared.part.Owner.TheVariants as owner
 use Rattle.spread_graph.specs.declared.batch.BatchSet.{BatchSet}
 use Rattle.spread_graph.specs.declared.edges.Edge.{Edge}
 use Rattle.spread_graph.specs.Graphs.{GraphOf, row_at, row}
 use Rattle.spread_graph.specs.Reach.{is_among, spreads, reaches, are_known, Reaches, start, along}
+use Rattle.spread_graph.specs.Rows.{row_in, rows_in}
 use Rattle.spread_graph.specs.Batches.{has, is_within, both, no_operations, set_at, is_edge, has_edge, AreEdges, AreBelow, AreSpreaders, AreReachers, room, Passes, AllPass, AreKept, AreFollowed}
 use Rattle.spread_graph.proofs.ReachLaws.{through_sound, reaches_complete, spreads-below}
 use Rattle.spread_graph.proofs.BatchLaws.{has-none, has-both, within-has, not-within-more}
@@ -154,14 +156,14 @@ edge_there [] k e within = absurd (omega arith)
 edge_there (x ∷ xs) zero e within = or_left (is_edge x.from x.to x) (has_edge xs x.from x.to) (and_from (eqb x.from x.from) (eqb x.to x.to) (eq-eqb x.from x.from refl) (eq-eqb x.to x.to refl))
 edge_there (x ∷ xs) (suc k) e within = or_right (is_edge (get_or xs k e).from (get_or xs k e).to x) (has_edge xs (get_or xs k e).from (get_or xs k e).to) (edge_there xs k e (omega arith))
 
-pub edges-below : (g : GraphOf) (edges : List Edge) → are_known g ≡ true → AreEdges g edges → AreBelow (length g.fragments) edges
+pub edges-below : (g : GraphOf) (edges : List Edge) → are_known g ≡ true → AreEdges g.fragments edges → AreBelow (length g.fragments) edges
 edges-below g edges known are k e within =
     let here = sym (are (get_or edges k e).from (get_or edges k e).to) ∙ edge_there edges k e within in
     (from (get_or edges k e).from (get_or edges k e).to here, spreads-below g (owner.Fragment (get_or edges k e).from) (get_or edges k e).to known here) where
       from : (f j : ℕ) → spreads g (owner.Fragment f) j ≡ true → f < length g.fragments
       from f j h = ⊎_elim (λ lt. lt) (λ past. absurd (false≢true (sym (nothing-spread g f j past) ∙ h))) (cases_lt f (length g.fragments))
 
-module _ (g : GraphOf) (edges : List Edge) (known : are_known g ≡ true) (are : AreEdges g edges) (first count : ℕ) where
+module _ (g : GraphOf) (edges : List Edge) (known : are_known g ≡ true) (are : AreEdges g.fragments edges) (first count : ℕ) where
   -- the operation of the number i in the batch reaches the fragment j
   abbrev pub reached : ℕ → ℕ → Bool
   reached j i = nat_lt i count && reaches g (owner.Operation (first + i)) j
@@ -203,24 +205,24 @@ edge_step edges from to f j rest = ap (λ b. b || (eqb from f && is_among j rest
   by false true false r = refl
 
 -- what the list has so far: edges alone, and all those of the fragments that were taken
-pub record IsEdgesOf (g : GraphOf) (edges : List Edge) (taken : List Bool) : Type 0 where
-  pub sound : (f j : ℕ) → has_edge edges f j ≡ true → spreads g (owner.Fragment f) j ≡ true
-  pub all : (f j : ℕ) → get_or taken f false ≡ true → spreads g (owner.Fragment f) j ≡ true → has_edge edges f j ≡ true
-  pub len : length taken ≡ length g.fragments
+pub record IsEdgesOf (rows : List (Vec ℕ)) (edges : List Edge) (taken : List Bool) : Type 0 where
+  pub sound : (f j : ℕ) → has_edge edges f j ≡ true → is_among j (row_at (rows_in rows) f) ≡ true
+  pub all : (f j : ℕ) → get_or taken f false ≡ true → is_among j (row_at (rows_in rows) f) ≡ true → has_edge edges f j ≡ true
+  pub len : length taken ≡ length rows
 
-module _ (g : GraphOf) (old new : List Edge) (from : ℕ) (more : (f j : ℕ) → has_edge new f j ≡ (has_edge old f j || (eqb from f && spreads g (owner.Fragment from) j))) where
-  pub edges_sound : ((f j : ℕ) → has_edge old f j ≡ true → spreads g (owner.Fragment f) j ≡ true) → (f j : ℕ) → has_edge new f j ≡ true → spreads g (owner.Fragment f) j ≡ true
+module _ (rows : List (Vec ℕ)) (old new : List Edge) (from : ℕ) (more : (f j : ℕ) → has_edge new f j ≡ (has_edge old f j || (eqb from f && is_among j (row_at (rows_in rows) from)))) where
+  pub edges_sound : ((f j : ℕ) → has_edge old f j ≡ true → is_among j (row_at (rows_in rows) f) ≡ true) → (f j : ℕ) → has_edge new f j ≡ true → is_among j (row_at (rows_in rows) f) ≡ true
   edges_sound before f j h = ⊎_elim (before f j)
-      (λ here. let p = and_parts (eqb from f) (spreads g (owner.Fragment from) j) here in ap (λ k. spreads g (owner.Fragment k) j) (sym (eqb-true from f p.0)) ∙ p.1)
-      (or_cases (has_edge old f j) (eqb from f && spreads g (owner.Fragment from) j) (sym (more f j) ∙ h))
+      (λ here. let p = and_parts (eqb from f) (is_among j (row_at (rows_in rows) from)) here in ap (λ k. is_among j (row_at (rows_in rows) k)) (sym (eqb-true from f p.0)) ∙ p.1)
+      (or_cases (has_edge old f j) (eqb from f && is_among j (row_at (rows_in rows) from)) (sym (more f j) ∙ h))
 
   pub edges_kept : (f j : ℕ) → has_edge old f j ≡ true → has_edge new f j ≡ true
-  edges_kept f j h = more f j ∙ or_left (has_edge old f j) (eqb from f && spreads g (owner.Fragment from) j) h
+  edges_kept f j h = more f j ∙ or_left (has_edge old f j) (eqb from f && is_among j (row_at (rows_in rows) from)) h
 
-  pub edges_new : (f j : ℕ) → from ≡ f → spreads g (owner.Fragment f) j ≡ true → has_edge new f j ≡ true
-  edges_new f j e h = more f j ∙ or_right (has_edge old f j) (eqb from f && spreads g (owner.Fragment from) j) (and_from (eqb from f) (spreads g (owner.Fragment from) j) (eq-eqb from f e) (ap (λ k. spreads g (owner.Fragment k) j) e ∙ h))
+  pub edges_new : (f j : ℕ) → from ≡ f → is_among j (row_at (rows_in rows) f) ≡ true → has_edge new f j ≡ true
+  edges_new f j e h = more f j ∙ or_right (has_edge old f j) (eqb from f && is_among j (row_at (rows_in rows) from)) (and_from (eqb from f) (is_among j (row_at (rows_in rows) from)) (eq-eqb from f e) (ap (λ k. is_among j (row_at (rows_in rows) k)) e ∙ h))
 
-  pub taken_more : (taken : List Bool) → from < length taken → IsEdgesOf g old taken → IsEdgesOf g new (set taken from true)
+  pub taken_more : (taken : List Bool) → from < length taken → IsEdgesOf rows old taken → IsEdgesOf rows new (set taken from true)
   taken_more taken within before = record {
     sound = edges_sound before.sound;
     all = λ f j is h. ⊎_elim (λ e. edges_new f j e h) (λ n. edges_kept f j (before.all f j (sym (get_or-set_other taken from f true false (λ e. n (sym e))) ∙ is) h)) (cases_eq from f);
@@ -230,6 +232,6 @@ module _ (g : GraphOf) (old new : List Edge) (from : ℕ) (more : (f j : ℕ) �
     length-same = length-set taken from true
 
 -- each fragment was taken, or comes before one
-pub edges_all : (g : GraphOf) (edges : List Edge) → ((f j : ℕ) → has_edge edges f j ≡ true → spreads g (owner.Fragment f) j ≡ true) → ((f j : ℕ) → f < length g.fragments → spreads g (owner.Fragment f) j ≡ true → has_edge edges f j ≡ true) → AreEdges g edges
-edges_all g edges sound all f j = same_tests (has_edge edges f j) (spreads g (owner.Fragment f) j) (sound f j)
-    (λ h. ⊎_elim (λ lt. all f j lt h) (λ past. absurd (false≢true (sym (nothing-spread g f j past) ∙ h))) (cases_lt f (length g.fragments)))
+pub edges_all : (rows : List (Vec ℕ)) (edges : List Edge) → ((f j : ℕ) → has_edge edges f j ≡ true → is_among j (row_at (rows_in rows) f) ≡ true) → ((f j : ℕ) → f < length rows → is_among j (row_at (rows_in rows) f) ≡ true → has_edge edges f j ≡ true) → AreEdges (rows_in rows) edges
+edges_all rows edges sound all f j = same_tests (has_edge edges f j) (is_among j (row_at (rows_in rows) f)) (sound f j)
+    (λ h. ⊎_elim (λ lt. all f j lt h) (λ past. absurd (false≢true (sym (nothing-spread (record { operations = []; fragments = rows_in rows }) f j (omega (arith, past, length-map rows row_in))) ∙ h))) (cases_lt f (length rows)))

@@ -1,5 +1,5 @@
 -- Operations by batches of 64 in a row, and which of a batch reach each fragment.
-use Rattle.std.specs.Prelude.{◌≡◌, ℕ, zero, suc, ◌+◌, ◌-◌, ◌^◌, ◌<◌, Bool, true, false, not, ◌==◌, ◌&&◌, ◌||◌, nat_lt, List, [], ◌∷◌, length, bit_or, slice_index_or}
+use Rattle.std.specs.Prelude.{◌≡◌, ℕ, zero, suc, ◌+◌, ◌-◌, ◌^◌, ◌<◌, Bool, true, false, not, ◌==◌, ◌&&◌, ◌||◌, nat_lt, List, [], ◌∷◌, length, bit_or, slice_index, slice_index_or}
 use Rattle.std.specs.Int.{bit_at}
 use Rattle.std.specs.List.{list_any}
 use Rattle.document_parts.specs.declared.part.Owner.{Owner}
@@ -7,7 +7,7 @@ use Rattle.document_parts.specs.declared.part.Owner.TheVariants as owner
 use Rattle.spread_graph.specs.declared.batch.BatchSet.{BatchSet}
 use Rattle.spread_graph.specs.declared.edges.Edge.{Edge}
 use Rattle.spread_graph.specs.Graphs.{GraphOf, row_at}
-use Rattle.spread_graph.specs.Reach.{is_among, spreads, reaches}
+use Rattle.spread_graph.specs.Reach.{is_among, spreads, reaches, are_known}
 
 -- the set has the operation of the number i in the batch
 abbrev pub has : BatchSet → ℕ → Bool
@@ -41,9 +41,14 @@ is_edge f j e = e.from == f && e.to == j
 abbrev pub has_edge : List Edge → ℕ → ℕ → Bool
 has_edge edges f j = list_any (is_edge f j) edges
 
--- these are what the fragments spread
-abbrev pub AreEdges : GraphOf → List Edge → Type 0
-AreEdges g edges = (f j : ℕ) → has_edge edges f j ≡ spreads g (owner.Fragment f) j
+-- these are what the fragments spread, each what its row has
+abbrev pub AreEdges : List (List ℕ) → List Edge → Type 0
+AreEdges rows edges = (f j : ℕ) → has_edge edges f j ≡ is_among j (row_at rows f)
+
+-- rows name fragments that there are, and these are what the fragments spread
+pub record IsLinked (g : GraphOf) (edges : List Edge) : Type 0 where
+  pub known : are_known g ≡ true
+  pub linked : AreEdges g.fragments edges
 
 -- each leads from one of so many fragments to one of them
 abbrev pub AreBelow : ℕ → List Edge → Type 0
@@ -81,6 +86,14 @@ abbrev pub AreFollowed : List Edge → ℕ → List BatchSet → Type 0
 AreFollowed edges count sets = (k : ℕ) (e : Edge) → k < count → is_within (set_at sets (slice_index_or edges k e).from) (set_at sets (slice_index_or edges k e).to) ≡ true
 
 -- ---- what is missing from sets
+
+-- those places are noted that were, and those that pass
+abbrev pub Notes : (ℕ → Bool) → List Bool → List Bool → Type 0
+Notes test old new = (s : ℕ) → slice_index_or new s false ≡ (test s || slice_index_or old s false)
+
+-- the set of a place, by the place's number
+abbrev pub set_for : List ℕ → List BatchSet → ℕ → BatchSet
+set_for numbers sets s = set_at sets (slice_index numbers s)
 
 -- a number below this passes
 abbrev pub any_below : (ℕ → Bool) → ℕ → Bool

@@ -8,3 +8,5 @@ pub mod Known
 pub mod Tables
 pub mod Rules
 pub mod Batches
+pub mod Operations
+pub mod OwnerRows

@@ -1,7 +1,6 @@
 //! Which fragments lie on one cycle.
 
-use crate::graph::Graph;
-use document_parts::Owner;
+use crate::rows::row_of;
 use std::alloc::{AllocError, Global};
 
 /// What the search knows of a fragment.
@@ -30,7 +29,7 @@ struct Search {
 }
 
 impl Search {
-    fn new(alloc: Global, graph: &Graph) -> Result<Search, AllocError> {
+    fn new(alloc: Global, count: usize) -> Result<Search, AllocError> {
         let unmet = Node {
             number: 0,
             low: 0,
@@ -39,7 +38,7 @@ impl Search {
             rank: 0,
         };
         Ok(Search {
-            nodes: vec![in alloc; unmet; graph.len()]?,
+            nodes: vec![in alloc; unmet; count]?,
             open: Vec::new(alloc),
             path: Vec::new(alloc),
             met: 0,
@@ -89,11 +88,11 @@ impl Search {
     }
 
     // Follows the next spread of the last fragment of the path, or steps back.
-    fn step(&mut self, graph: &Graph, fragment: usize) -> Result<(), AllocError> {
+    fn step(&mut self, rows: &[Vec<usize>], fragment: usize) -> Result<(), AllocError> {
         let Some(node) = self.nodes.get(fragment).copied() else {
             return Ok(());
         };
-        match graph.row(Owner::Fragment(fragment)).get(node.next).copied() {
+        match row_of(rows, fragment).get(node.next).copied() {
             Some(target) => {
                 if let Some(node) = self.nodes.get_mut(fragment) {
                     node.next = node.next.saturating_add(1);
@@ -113,24 +112,24 @@ impl Search {
 }
 
 // More steps than a search takes: one for each spread, one back from each fragment, and one for each to begin with.
-fn most_steps(graph: &Graph) -> usize {
-    let mut steps = graph.len().saturating_mul(2);
-    for fragment in 0..graph.len() {
-        steps = steps.saturating_add(graph.row(Owner::Fragment(fragment)).len());
+fn most_steps(rows: &[Vec<usize>]) -> usize {
+    let mut steps = rows.len().saturating_mul(2);
+    for row in rows {
+        steps = steps.saturating_add(row.len());
     }
     steps
 }
 
-/// A number for each fragment: one number for those that reach one another, and no less than those of what it spreads. Nothing is
-/// claimed of it, and who takes it looks.
-pub fn components(alloc: Global, graph: &Graph) -> Result<Vec<usize>, AllocError> {
-    let mut search = Search::new(alloc, graph)?;
+/// A number for each fragment, where `rows` has what each spreads: one number for those that reach one another, and no less than
+/// those of what it spreads. Nothing is claimed of it, and who takes it looks.
+pub fn components(alloc: Global, rows: &[Vec<usize>]) -> Result<Vec<usize>, AllocError> {
+    let mut search = Search::new(alloc, rows.len())?;
     let mut begun = 0;
-    for _ in 0..most_steps(graph) {
+    for _ in 0..most_steps(rows) {
         match search.path.last().copied() {
-            Some(fragment) => search.step(graph, fragment)?,
+            Some(fragment) => search.step(rows, fragment)?,
             None => {
-                if begun >= graph.len() {
+                if begun >= rows.len() {
                     break;
                 }
                 if search.nodes.get(begun).is_some_and(|node| node.number == 0) {
@@ -148,8 +147,7 @@ pub fn components(alloc: Global, graph: &Graph) -> Result<Vec<usize>, AllocError
 }
 
 /// The fragments by their ranks, so that each comes after those that it spreads, where there is no cycle. Nothing is claimed of it.
-pub fn order(alloc: Global, graph: &Graph) -> Result<Vec<usize>, AllocError> {
-    let ranks = components(alloc, graph)?;
+pub fn order(alloc: Global, ranks: &[usize]) -> Result<Vec<usize>, AllocError> {
     let mut order = vec![in alloc; 0usize; ranks.len()]?;
     for (fragment, rank) in ranks.iter().enumerate() {
         if let Some(place) = order.get_mut(rank.saturating_sub(1)) {

@@ -2,7 +2,6 @@
 
 ghost use Rattle.std.specs.Prelude.{◌≡◌, IfOk, IsTrue, Some, None};
 ghost use Rattle.std.specs.Option.{option_map};
-ghost use Rattle.gq_parser.specs.Tree.{document_of};
 ghost use Rattle.document_parts.specs.Broken.{broken_of, earliest};
 ghost use Rattle.document_parts.specs.Parts.{parts_in};
 ghost use Rattle.spread_graph.specs.Graphs.{graph_of};
@@ -10,7 +9,6 @@ ghost use Rattle.spread_graph.specs.Reach.{is_cyclic};
 ghost use Rattle.spread_graph.specs.Ranks.{rank_of, are_at_most, are_under, IsOrdered};
 ghost use Rattle.spread_graph.specs.Rules.{stands_first, fragment_cycles};
 
-use crate::components::components;
 use crate::graph::Graph;
 use crate::walk::Walk;
 use document_parts::{Broken, Earliest, Owner, Parts};
@@ -90,15 +88,12 @@ fn stands_first(earliest: &Earliest, place: Place) -> bool
     }
 }
 
-// Ranks that are ordered; where those that were found are not, as never happens, all alike.
-fn ranks(alloc: Global, graph: &Graph) -> Result<Vec<usize>, AllocError>
-    ensures { IfOk result (λ ranks. IsOrdered ranks.items graph.now) }
+// Ranks that are ordered; where those of the graph are not, as never happens, all alike.
+fn ranks(graph: &Graph) -> &[usize]
+    ensures { IsOrdered result.now graph.now }
 {
-    let ranks = components(alloc, graph)?;
-    if is_ordered(&ranks, graph) {
-        return Ok(ranks);
-    }
-    Ok(Vec::new(alloc))
+    let ranks = graph.ranks();
+    if is_ordered(ranks, graph) { ranks } else { &[] }
 }
 
 /// Fragment Spreads Must Not Form Cycles: the earliest fragment that reaches itself (section 5.5.2.2).
@@ -112,11 +107,11 @@ pub fn fragment_cycles<'d>(
     requires { graph.now ≡ graph_of (parts_in parts.now) }
     ensures { IfOk result (λ broken. option_map broken_of broken ≡ earliest (fragment_cycles (parts_in parts.now))) }
 {
-    let ranks = ranks(alloc, graph)?;
+    let ranks = ranks(graph);
     let mut walk = Walk::new(alloc);
     let mut earliest = Earliest::new();
     for (i, fragment) in parts.document.fragments.iter().enumerate() {
-        if stands_first(&earliest, fragment.place) && is_cyclic(&mut walk, &ranks, graph, i)? {
+        if stands_first(&earliest, fragment.place) && is_cyclic(&mut walk, ranks, graph, i)? {
             earliest.add(Broken::named(fragment.name.as_str(), fragment.place));
         }
     }

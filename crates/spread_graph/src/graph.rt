@@ -5,7 +5,10 @@ ghost use Rattle.document_parts.specs.Parts.{spread_part_of, parts_in};
 ghost use Rattle.spread_graph.specs.Graphs.{operation_number, fragment_number, with_target, with_spread, graph_of, row};
 ghost use Rattle.spread_graph.specs.Reach.{are_known};
 ghost use Rattle.spread_graph.specs.Rows.{rows_in};
+ghost use Rattle.spread_graph.specs.Batches.{AreEdges};
 
+use crate::components::{components, order};
+use crate::edges::{Edge, edges_of};
 use document_parts::{Owner, Parts, SpreadPart};
 use std::alloc::{AllocError, Global};
 use std::marker::Model;
@@ -13,24 +16,27 @@ use std::marker::Model;
 /// What each of several spreads.
 type Rows = Vec<Vec<usize>>;
 
-/// The fragments that each operation and each fragment of a document spreads, by their numbers from 0.
+/// The fragments that each operation and each fragment of a document spreads, by their numbers from 0. What all rules need to go
+/// through them in order is found once, with the graph.
 #[derive(Drop)]
 pub struct Graph {
     operations: Rows,
     fragments: Rows,
+    ranks: Vec<usize>,
+    order: Vec<usize>,
+    edges: Vec<Edge>,
 }
 
 impl Model for Graph {
-    ghost use Rattle.std.specs.Prelude.{◌≡◌, true};
     ghost use Rattle.spread_graph.specs.Graphs.{GraphOf};
-    ghost use Rattle.spread_graph.specs.Reach.{are_known};
     ghost use Rattle.spread_graph.specs.Rows.{rows_in};
+    ghost use Rattle.spread_graph.specs.Batches.{IsLinked};
 
     ghost Value = { GraphOf };
 
     ghost view = { λ g. record { operations = rows_in g.operations.items; fragments = rows_in g.fragments.items } };
 
-    ghost invariant = { λ g. are_known (record { operations = rows_in g.operations.items; fragments = rows_in g.fragments.items }) ≡ true };
+    ghost invariant = { λ g. IsLinked (record { operations = rows_in g.operations.items; fragments = rows_in g.fragments.items }) g.edges.items };
 }
 
 // So many that spread nothing.
@@ -93,9 +99,15 @@ impl Graph {
         for spread in &parts.spreads {
             add_spread(count, spread, &mut operations, &mut fragments)?;
         }
+        let ranks = components(alloc, &fragments)?;
+        let order = order(alloc, &ranks)?;
+        let edges = edges_of(alloc, &fragments, &order)?;
         Ok(Graph {
             operations,
             fragments,
+            ranks,
+            order,
+            edges,
         })
     }
 
@@ -104,6 +116,25 @@ impl Graph {
         ensures { result ≡ length self.now.fragments }
     {
         self.fragments.len()
+    }
+
+    /// A number for each fragment: one number for those that reach one another, and no less than those of what it spreads. Nothing
+    /// is claimed of it, and who takes it looks.
+    pub(crate) fn ranks(&self) -> &[usize] {
+        &self.ranks
+    }
+
+    /// The fragments, each after those that it spreads, where there is no cycle. Nothing is claimed of it, and who takes it looks.
+    pub fn order(&self) -> &[usize] {
+        &self.order
+    }
+
+    /// What the fragments spread, as one list. If there is no cycle, what a fragment spreads comes after everything that leads to
+    /// it; no contract says so.
+    pub(crate) fn edges(&self) -> &[Edge]
+        ensures { AreEdges self.now.fragments result.now }
+    {
+        &self.edges
     }
 
     /// What an operation or a fragment spreads, in the order of the text.

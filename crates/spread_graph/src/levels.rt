@@ -11,7 +11,6 @@ ghost use Rattle.spread_graph.specs.Levels.{levels_expanded};
 ghost use Rattle.spread_graph.specs.Tables.{Agrees, IsFull, IsSettled, expanded_table};
 ghost use Rattle.spread_graph.specs.Rules.{deep_operation, too_deep};
 
-use crate::components::order;
 use crate::graph::Graph;
 use document_parts::{Broken, Earliest, Parts};
 use gq_parser::{Operation, Selection, SelectionSet};
@@ -101,7 +100,7 @@ fn ordered_table(alloc: Global, parts: &Parts, graph: &Graph) -> Result<Table, A
     ensures len { IfOk result (λ table. length table.items ≡ length (parts_in parts.now).document.fragments) }
 {
     let count = parts.document.fragments.len();
-    let order = order(alloc, graph)?;
+    let order = graph.order();
     let mut table: Table = vec![in alloc; None; count]?;
     for i in 0..count {
         match order.get(i) {

@@ -1,11 +1,13 @@
 //! Places that an operation of a batch reaches, where the place's set lacks that operation.
 
-ghost use Rattle.std.specs.Prelude.{◌≡◌, ◌≤◌, ◌<◌, ◌||◌, ◌&&◌, ◌^◌, ℕ, not, false, length, slice_index, slice_index_or, OnOk};
+ghost use Rattle.std.specs.Prelude.{◌≡◌, ◌&&◌, not, length, OnOk};
 ghost use Rattle.spread_graph.specs.Reach.{is_among};
 ghost use Rattle.spread_graph.specs.Rows.{rows_in};
-ghost use Rattle.spread_graph.specs.Batches.{set_at, is_within, any_below, is_missing_in, is_missing_at};
+ghost use Rattle.spread_graph.specs.Batches.{set_at, set_for, is_within, any_below, is_missing_in, Notes};
+ghost use Rattle.spread_graph.specs.Operations.{is_missing_in_batch};
 
 use crate::batch::BatchSet;
+use crate::batches::Batch;
 use crate::rows::{put, row_of};
 use std::alloc::AllocError;
 
@@ -27,8 +29,7 @@ fn note_row(
     sets: &[BatchSet],
     noted: &mut Vec<bool>,
 ) -> Result<(), AllocError>
-    ensures { (s : ℕ) → OnOk result (slice_index_or noted.new.items s false
-        ≡ ((is_among s row.now && not (is_within reached_by (set_at sets.now (slice_index numbers.now s)))) || slice_index_or noted.old.items s false)) }
+    ensures { OnOk result (Notes (λ s. is_among s row.now && not (is_within reached_by (set_for numbers.now sets.now s))) noted.old.items noted.new.items) }
 {
     for place in row {
         let number = numbers.get(*place).copied().unwrap_or(0);
@@ -47,8 +48,8 @@ pub fn note_missing_in_fragments(
     sets: &[BatchSet],
     noted: &mut Vec<bool>,
 ) -> Result<(), AllocError>
-    ensures { (s : ℕ) → OnOk result (slice_index_or noted.new.items s false
-        ≡ (any_below (is_missing_in (rows_in rows.now) reached.now (set_at sets.now (slice_index numbers.now s)) s) (length reached.now) || slice_index_or noted.old.items s false)) }
+    ensures { OnOk result (Notes (λ s. any_below (is_missing_in (rows_in rows.now) reached.now (set_for numbers.now sets.now s) s) (length reached.now))
+        noted.old.items noted.new.items) }
 {
     for fragment in 0..reached.len() {
         note_row(
@@ -62,23 +63,18 @@ pub fn note_missing_in_fragments(
     Ok(())
 }
 
-/// Notes those places in operations of a batch whose sets lack the operation. The batch is `count` operations
-/// from `first` on.
+/// Notes those places in operations of a batch whose sets lack the operation.
 pub fn note_missing_in_operations(
     rows: &[Vec<usize>],
-    first: usize,
-    count: usize,
+    batch: &Batch,
     numbers: &[usize],
     sets: &[BatchSet],
     noted: &mut Vec<bool>,
 ) -> Result<(), AllocError>
-    requires first { first < 2 ^ 63 }
-    requires count { count ≤ 64 }
-    ensures { (s : ℕ) → OnOk result (slice_index_or noted.new.items s false
-        ≡ (any_below (is_missing_at (rows_in rows.now) first (set_at sets.now (slice_index numbers.now s)) s) count || slice_index_or noted.old.items s false)) }
+    ensures { OnOk result (Notes (λ s. is_missing_in_batch (rows_in rows.now) batch.now (set_for numbers.now sets.now s) s) noted.old.items noted.new.items) }
 {
-    for number in 0..count {
-        let own = row_of(rows, first + number);
+    for number in 0..batch.count {
+        let own = row_of(rows, batch.first + number);
         note_row(own, BatchSet::alone(number), numbers, sets, noted)?;
     }
     Ok(())

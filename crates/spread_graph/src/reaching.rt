@@ -76,7 +76,7 @@ pub fn reachers(
 ) -> Result<Vec<BatchSet>, AllocError>
     requires first { first < 2 ^ 63 }
     requires count { (0 < count) × (count ≤ 64) }
-    requires edges { AreEdges graph.now edges.now }
+    requires edges { AreEdges graph.now.fragments edges.now }
     ensures len { IfOk result (λ sets. length sets.items ≡ length graph.now.fragments) }
     ensures sets { IfOk result (λ sets. AreReachers graph.now first count sets.items) }
 {

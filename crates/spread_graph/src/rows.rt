@@ -1,9 +1,11 @@
 //! Lists and rows that grow to the places that are written.
 
 ghost use Rattle.std.specs.Prelude.{◌≡◌, ◌==◌, ◌++◌, ◌∷◌, [], ℕ, OnOk, slice_index_or, if◌then◌else◌};
-ghost use Rattle.spread_graph.specs.Graphs.{row_at};
+ghost use Rattle.spread_graph.specs.Graphs.{row_at, row};
 ghost use Rattle.spread_graph.specs.Rows.{rows_in};
+ghost use Rattle.spread_graph.specs.OwnerRows.{owner_rows, is_same_owner};
 
+use document_parts::Owner;
 use std::alloc::{AllocError, Global};
 
 /// Puts a value at a place, with `rest` at the places before it that weren't there.
@@ -27,8 +29,8 @@ pub fn row_of(rows: &[Vec<usize>], i: usize) -> &[usize]
     }
 }
 
-/// Puts a number at the end of a row; rows that weren't there are empty.
-pub fn add_to_row(
+// Puts a number at the end of a row; rows that weren't there are empty.
+fn add_to_row(
     alloc: Global,
     rows: &mut Vec<Vec<usize>>,
     row: usize,
@@ -42,4 +44,25 @@ pub fn add_to_row(
     }
     rows[row].push(number)?;
     Ok(())
+}
+
+/// Rows of numbers, one for each operation and one for each fragment.
+#[derive(Drop)]
+pub struct OwnerRows {
+    pub operations: Vec<Vec<usize>>,
+    pub fragments: Vec<Vec<usize>>,
+}
+
+impl OwnerRows {
+    /// Puts a number at the end of the row of an operation or fragment.
+    pub fn add(&mut self, alloc: Global, owner: Owner, number: usize) -> Result<(), AllocError>
+        ensures { (o : _) → OnOk result (row (owner_rows self.new) o
+            ≡ (if is_same_owner o owner then row (owner_rows self.old) o ++ number ∷ [] else row (owner_rows self.old) o)) }
+    {
+        match owner {
+            Owner::Operation(i) => add_to_row(alloc, &mut self.operations, i, number)?,
+            Owner::Fragment(j) => add_to_row(alloc, &mut self.fragments, j, number)?,
+        }
+        Ok(())
+    }
 }

@@ -13,7 +13,7 @@ use Rattle.spread_graph.specs.Reach.{is_among}
 use Rattle.spread_graph.specs.Batches.{has, set_at, any_below, is_missing_in, is_missing_at, misses, AreReachers}
 use Rattle.spread_graph.proofs.MissingLaws.{missing-in_operation, missing-in_fragment, in_batch, batch_noted}
 use Rattle.typed_rules.specs.AllVariableUsagesAreAllowed.{forbids, includes, is_forbidden}
-use Rattle.typed_rules.specs.UsePlaces.{is_same_owner}
+use Rattle.spread_graph.specs.OwnerRows.{is_same_owner}
 use Rattle.typed_rules.specs.UseKinds.{is_forbidden_use}
 use Rattle.typed_rules.proofs.KindLaws.{forbids-next}
 

@@ -15,8 +15,10 @@ use Rattle.gq_parser.specs.Tree.{VariableDefinition, TypeTree, Named, ListOf}
 use Rattle.document_parts.specs.declared.part.Owner.{Owner}
 use Rattle.document_parts.specs.declared.part.VariableUse as rust-use
 use Rattle.spread_graph.specs.Reach.{is_among}
-use Rattle.typed_rules.specs.declared.use_places.UsePlaces.{UsePlaces}
-use Rattle.typed_rules.specs.UsePlaces.{is_same_owner, row, ArePlaces}
+use Rattle.spread_graph.specs.declared.rows.OwnerRows.{OwnerRows}
+use Rattle.spread_graph.specs.Graphs.{row}
+use Rattle.spread_graph.specs.OwnerRows.{owner_rows, is_same_owner}
+use Rattle.typed_rules.specs.UsePlaces.{ArePlaces}
 use Rattle.document_parts.specs.Parts.{Location, VariableUse, use_of}
 use Rattle.typed_rules.specs.CompatibleTypes.{are_compatible, nullable}
 use Rattle.gq_schema.specs.Types.{is_non_null}
@@ -212,7 +214,7 @@ use_at-get (u ∷ us) zero d within = refl
 use_at-get (u ∷ us) (suc k) d within = use_at-get us k d (omega arith)
 
 -- the rows of a use, by its view
-pub rows-seen : (p : UsePlaces) (uses : List rust-use.VariableUse) → ArePlaces p uses → (k : ℕ) → k < length uses → (o : Owner) → is_among k (row p o) ≡ is_same_owner o (use_at (map use_of uses) k).owner
+pub rows-seen : (p : OwnerRows) (uses : List rust-use.VariableUse) → ArePlaces p uses → (k : ℕ) → k < length uses → (o : Owner) → is_among k (row (owner_rows p) o) ≡ is_same_owner o (use_at (map use_of uses) k).owner
 rows-seen p [] are k within o = absurd (omega arith)
 rows-seen p (u ∷ us) are k within o = are o k u within ∙ ap (λ (v : VariableUse). is_same_owner o v.owner) (sym (use_at-get (u ∷ us) k u within))
 

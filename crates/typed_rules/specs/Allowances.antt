@@ -1,10 +1,11 @@
 -- What is noted of a batch of operations: for each use of a variable those that allow it where it is.
 use Rattle.std.specs.Prelude.{◌≡◌, ◌<◌, ◌+◌, ◌==◌, ℕ, Bool, true, false, not, List, length, map, Some, slice_get, if◌then◌else◌}
-use Rattle.gq_parser.specs.declared.tree.Operation as rust-operation
-use Rattle.gq_parser.specs.Tree.{VariableDefinition, Operation, operation_of}
+use Rattle.gq_parser.specs.Tree.{VariableDefinition, Operation}
 use Rattle.document_parts.specs.declared.part.VariableUse as rust-use
 use Rattle.document_parts.specs.Parts.{use_of}
 use Rattle.spread_graph.specs.declared.batch.BatchSet.{BatchSet}
+use Rattle.spread_graph.specs.declared.batches.Batch.{Batch}
+use Rattle.spread_graph.specs.Operations.{operations_in}
 use Rattle.spread_graph.specs.Batches.{has, set_at}
 use Rattle.typed_rules.specs.declared.allowed_uses.Allowance.{Allowance}
 use Rattle.typed_rules.specs.declared.allowed_uses.Allowance.TheVariants.{Allowed, Forbidden}
@@ -22,11 +23,17 @@ abbrev pub AllowsWhere : (ℕ → ℕ → Bool) → VariableDefinition → List 
 AllowsWhere is_noted v uses old new = (r m : ℕ) → r < length uses → m < 64
     → has (set_at new r) m ≡ (if is_noted r m then not (is_forbidden_use v (use_at (map use_of uses) r)) else has (set_at old r) m)
 
+-- It is noted of each use that stands for others whether these variables, which are all of the operation's, allow it; it was noted
+-- before that they do.
+abbrev pub AllowsBy : UseKinds → List VariableDefinition → ℕ → List rust-use.VariableUse → List BatchSet → List BatchSet → Type 0
+AllowsBy kinds vs number uses old new = (r : ℕ) → r < length uses → IsKind kinds.known (map use_of uses) r → has (set_at old r) number ≡ true
+    → has (set_at new r) number ≡ not (forbids vs (use_at (map use_of uses) r))
+
 -- of other operations than that of this number nothing else is noted
 abbrev pub KeepsOthers : ℕ → List rust-use.VariableUse → List BatchSet → List BatchSet → Type 0
 KeepsOthers number uses old new = (r m : ℕ) → r < length uses → m < 64 → (m == number) ≡ false → has (set_at new r) m ≡ has (set_at old r) m
 
--- Of each use that stands for others it is noted which operations of the batch allow it: `count` of these from `first` on.
-abbrev pub AreAllowed : UseKinds → List rust-use.VariableUse → List rust-operation.Operation → ℕ → ℕ → List BatchSet → Type 0
-AreAllowed kinds uses os first count sets = (r m : ℕ) (o : Operation) → r < length uses → m < count → IsKind kinds.known (map use_of uses) r
-    → slice_get (map operation_of os) (first + m) ≡ Some o → has (set_at sets r) m ≡ not (forbids o.variables (use_at (map use_of uses) r))
+-- of each use that stands for others it is noted which operations of the batch allow it
+abbrev pub AreAllowed : UseKinds → List rust-use.VariableUse → Batch → List BatchSet → Type 0
+AreAllowed kinds uses b sets = (r m : ℕ) (o : Operation) → r < length uses → m < b.count → IsKind kinds.known (map use_of uses) r
+    → slice_get (operations_in b) (b.first + m) ≡ Some o → has (set_at sets r) m ≡ not (forbids o.variables (use_at (map use_of uses) r))

@@ -1,17 +1,14 @@
 -- Variables Are Input Types (section 5.8.2).
-use Rattle.std.specs.Prelude.{Bool, true, false, ◌&&◌, not, List, filter_map, Option}
+use Rattle.std.specs.Prelude.{Bool, false, ◌&&◌, not, List, filter_map, Option}
 use Rattle.std.specs.Option.{option_map_or}
 use Rattle.gq_parser.specs.Tree.{TypeTree, Named, ListOf}
+use Rattle.gq_parser.specs.Types.{is_list}
 use Rattle.schema_syntax.specs.Tree.{Definition}
 use Rattle.gq_schema.specs.Kinds.{is_leaf}
 use Rattle.gq_schema.specs.Types.{kind_in, core_of}
 use Rattle.document_parts.specs.Broken.{BrokenOf}
 use Rattle.document_parts.specs.Parts.{VariablePart, PartsOf}
 use Rattle.typed_rules.specs.Words.{named_if}
-
-abbrev pub is_list : TypeTree → Bool
-is_list (Named p n non_null) = false
-is_list (ListOf p t non_null) = true
 
 abbrev pub is_list_of_lists : TypeTree → Bool
 is_list_of_lists (Named p n non_null) = false

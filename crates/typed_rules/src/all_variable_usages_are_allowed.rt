@@ -1,6 +1,6 @@
 //! All Variable Usages Are Allowed (section 5.8.5).
 
-ghost use Rattle.std.specs.Prelude.{◌≡◌, ◌≤◌, ◌<◌, ◌+◌, ◌^◌, IfOk, OnOk, length, map, false, slice_index_or};
+ghost use Rattle.std.specs.Prelude.{◌≡◌, IfOk, OnOk, map, false, slice_index_or};
 ghost use Rattle.std.specs.Option.{option_map};
 ghost use Rattle.document_parts.specs.Broken.{broken_of, earliest};
 ghost use Rattle.document_parts.specs.Parts.{use_of, parts_in};
@@ -12,50 +12,36 @@ ghost use Rattle.typed_rules.specs.ForbiddenMarks.{MarksForbidden, AreForbidden}
 
 use crate::allowed_uses::allowed;
 use crate::use_kinds::UseKinds;
-use crate::use_places::UsePlaces;
-use document_parts::{Broken, Earliest, Parts};
+use crate::use_places::places_of;
+use document_parts::{Broken, Earliest, Parts, VariableUse};
 use spread_graph::{
-    BatchSet, Graph, batch_from, edges_of, note_missing_in_fragments, note_missing_in_operations,
-    reachers,
+    Batch, Graph, OwnerRows, note_missing_in_fragments, note_missing_in_operations,
 };
 use std::alloc::{AllocError, Global};
 
 /// Where the uses of variables stand, and which stand for others of their kind.
 #[derive(Drop)]
 struct UseTable<'d> {
-    places: UsePlaces,
+    places: OwnerRows,
     kinds: UseKinds<'d>,
-}
-
-/// Some operations in a row: `count` of a document's, from `first` on. `reached` says of each fragment which of them reach it.
-#[derive(Drop)]
-struct Batch {
-    first: usize,
-    count: usize,
-    reached: Vec<BatchSet>,
 }
 
 // Marks the uses that an operation of a batch includes and forbids.
 fn mark_batch(
     alloc: Global,
-    parts: &Parts,
+    uses: &[VariableUse],
     table: &UseTable,
     batch: &Batch,
     marks: &mut Vec<bool>,
 ) -> Result<(), AllocError>
-    requires first { batch.now.first < 2 ^ 63 }
-    requires count { batch.now.count ≤ 64 }
-    requires within { batch.now.first + batch.now.count ≤ length parts.now.document.now.operations.items }
-    requires places { ArePlaces table.now.places parts.now.uses.items }
-    requires kinds { AreKinds table.now.kinds (map use_of parts.now.uses.items) }
-    ensures { OnOk result (MarksForbidden parts.now batch.now marks.old.items marks.new.items) }
+    requires places { ArePlaces table.now.places uses.now }
+    requires kinds { AreKinds table.now.kinds (map use_of uses.now) }
+    ensures { OnOk result (MarksForbidden uses.now batch.now marks.old.items marks.new.items) }
 {
-    let (first, count) = (batch.first, batch.count);
-    let operations = &parts.document.operations;
-    let sets = allowed(alloc, &table.kinds, &parts.uses, operations, first, count)?;
+    let sets = allowed(alloc, &table.kinds, uses, batch)?;
     let kinds = &table.kinds.stand_ins;
     let places = &table.places;
-    note_missing_in_operations(&places.operations, first, count, kinds, &sets, marks)?;
+    note_missing_in_operations(&places.operations, batch, kinds, &sets, marks)?;
     note_missing_in_fragments(&places.fragments, &batch.reached, kinds, &sets, marks)?;
     Ok(())
 }
@@ -65,23 +51,16 @@ fn forbidden_marks(alloc: Global, parts: &Parts, graph: &Graph) -> Result<Vec<bo
     ensures { IfOk result (λ marks. AreForbidden graph.now parts.now marks.items) }
 {
     let table = UseTable {
-        places: UsePlaces::new(alloc, &parts.uses)?,
+        places: places_of(alloc, &parts.uses)?,
         kinds: UseKinds::new(alloc, &parts.uses)?,
     };
-    let edges = edges_of(alloc, graph)?;
-    let operations = parts.document.operations.len();
+    let operations = parts.document.operations.as_slice();
     let mut marks = Vec::new(alloc);
     let mut first = 0;
-    while first < operations {
-        let count = batch_from(first, operations);
-        let reached = reachers(alloc, graph, &edges, first, count)?;
-        let batch = Batch {
-            first,
-            count,
-            reached,
-        };
-        mark_batch(alloc, parts, &table, &batch, &mut marks)?;
-        first += count;
+    while first < operations.len() {
+        let batch = Batch::new(alloc, operations, graph, first)?;
+        mark_batch(alloc, &parts.uses, &table, &batch, &mut marks)?;
+        first += batch.count;
     }
     Ok(marks)
 }

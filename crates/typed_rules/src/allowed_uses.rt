@@ -1,18 +1,17 @@
 //! Which operations of a batch allow which uses of variables where they stand.
 
-ghost use Rattle.std.specs.Prelude.{◌≡◌, ◌≤◌, ◌<◌, ◌+◌, ◌==◌, ◌&&◌, ℕ, IfOk, OnOk, length, map, not, true, string_bytes, if◌then◌else◌};
+ghost use Rattle.std.specs.Prelude.{◌≡◌, ◌<◌, ◌==◌, ◌&&◌, ℕ, IfOk, OnOk, not, string_bytes, if◌then◌else◌};
 ghost use Rattle.gq_parser.specs.Tree.{variable_of, variables_of};
 ghost use Rattle.document_parts.specs.Parts.{use_of};
-ghost use Rattle.spread_graph.specs.Batches.{has, set_at};
-ghost use Rattle.typed_rules.specs.Allowances.{allows, AllowsWhere, KeepsOthers, AreAllowed};
-ghost use Rattle.typed_rules.specs.AllVariableUsagesAreAllowed.{forbids};
-ghost use Rattle.typed_rules.specs.UseKinds.{is_listed, use_at, IsKind, is_forbidden_use};
+ghost use Rattle.spread_graph.specs.Batches.{has};
+ghost use Rattle.typed_rules.specs.Allowances.{allows, AllowsWhere, AllowsBy, KeepsOthers, AreAllowed};
+ghost use Rattle.typed_rules.specs.UseKinds.{is_listed, is_forbidden_use};
 
 use crate::compatible_types::is_allowed;
 use crate::use_kinds::UseKinds;
 use document_parts::VariableUse;
-use gq_parser::{Operation, VariableDefinition};
-use spread_graph::{BatchSet, put, set_of};
+use gq_parser::VariableDefinition;
+use spread_graph::{Batch, BatchSet, put, set_of};
 use std::alloc::{AllocError, Global};
 
 /// Whether an operation allows a use of a variable where it is.
@@ -100,8 +99,7 @@ fn allow_by_operation(
     sets: &mut Vec<BatchSet>,
 ) -> Result<(), AllocError>
     requires { number < 64 }
-    ensures own { (r : ℕ) → r < length uses.now → IsKind kinds.now.known (map use_of uses.now) r → has (set_at sets.old.items r) number ≡ true →
-        OnOk result (has (set_at sets.new.items r) number ≡ not (forbids (variables_of variables.now) (use_at (map use_of uses.now) r))) }
+    ensures own { OnOk result (AllowsBy kinds.now (variables_of variables.now) number uses.now sets.old.items sets.new.items) }
     ensures others { OnOk result (KeepsOthers number uses.now sets.old.items sets.new.items) }
 {
     let mut left = variables.len();
@@ -112,23 +110,18 @@ fn allow_by_operation(
     Ok(())
 }
 
-/// For each use that stands for others, the operations of a batch that allow it where it is. The batch is `count` operations
-/// from `first` on.
+/// For each use that stands for others, the operations of a batch that allow it where it is.
 pub fn allowed(
     alloc: Global,
     kinds: &UseKinds,
     uses: &[VariableUse],
-    operations: &[Operation],
-    first: usize,
-    count: usize,
+    batch: &Batch,
 ) -> Result<Vec<BatchSet>, AllocError>
-    requires count { count ≤ 64 }
-    requires within { first + count ≤ length operations.now }
-    ensures { IfOk result (λ sets. AreAllowed kinds.now uses.now operations.now first count sets.items) }
+    ensures { IfOk result (λ sets. AreAllowed kinds.now uses.now batch.now sets.items) }
 {
     let mut sets = vec![in alloc; BatchSet::all(); uses.len()]?;
-    for number in 0..count {
-        let variables = &operations[first + number].variables;
+    for number in 0..batch.count {
+        let variables = &batch.operations[batch.first + number].variables;
         allow_by_operation(kinds, uses, variables, number, &mut sets)?;
     }
     Ok(sets)

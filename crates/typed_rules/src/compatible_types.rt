@@ -5,7 +5,6 @@ ghost use Rattle.std.specs.Option.{option_copied};
 ghost use Rattle.gq_parser.specs.Tree.{type_of, literal_of};
 ghost use Rattle.typed_rules.specs.CompatibleTypes.{are_compatible, nullable, is_non_null_default, is_allowed};
 
-use crate::references::is_non_null;
 use gq_parser::{Literal, TypeRef, Value};
 
 /// Whether a variable's type fits a location's.
@@ -75,7 +74,7 @@ pub fn is_allowed(
 ) -> bool
     ensures { result ≡ is_allowed (type_of variable.now) (option_map literal_of (option_copied default.entry)) (type_of location.now) has_default }
 {
-    if is_non_null(location) && !is_non_null(variable) {
+    if location.is_non_null() && !variable.is_non_null() {
         (has_default || is_non_null_default(default))
             && is_compatible_with_nullable(variable, location)
     } else {

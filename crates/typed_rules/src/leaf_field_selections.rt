@@ -8,7 +8,6 @@ ghost use Rattle.document_parts.specs.Parts.{field_part_of, parts_in};
 ghost use Rattle.typed_rules.specs.LeafFieldSelections.{kind_of_field, misfit_field, misfit_fields};
 
 use crate::fields_on_correct_type::is_type_name;
-use crate::references::core;
 use document_parts::{Broken, Earliest, FieldPart, Parts};
 use gq_schema::{Schema, TypeKind};
 
@@ -20,7 +19,7 @@ fn kind_of_field(schema: &Schema, part: &FieldPart) -> Option<TypeKind>
         return Some(TypeKind::Scalar);
     }
     match part.definition {
-        Some(definition) => schema.kind_of(core(&definition.of_type)),
+        Some(definition) => schema.kind_of(definition.of_type.named()),
         None => None,
     }
 }

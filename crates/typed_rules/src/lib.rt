@@ -15,7 +15,6 @@ mod fragments_on_composite_types;
 mod known_argument_names;
 mod leaf_field_selections;
 mod provided_required_arguments;
-mod references;
 mod use_kinds;
 mod use_places;
 mod values_of_correct_type;

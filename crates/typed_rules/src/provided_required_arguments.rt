@@ -9,7 +9,6 @@ ghost use Rattle.document_parts.specs.Broken.{broken_of, earliest};
 ghost use Rattle.document_parts.specs.Parts.{argument_list_of, parts_in};
 ghost use Rattle.typed_rules.specs.RequiredArguments.{is_null, is_given, is_missing, first_missing, missing_argument, missing_arguments};
 
-use crate::references::is_non_null;
 use document_parts::{ArgumentList, Broken, Earliest, Parts};
 use gq_parser::{Argument, Literal, Value};
 use gq_schema::ArgDef;
@@ -23,7 +22,7 @@ fn is_null(literal: &Literal) -> bool
 fn is_required(argument: &ArgDef) -> bool
     ensures { result ≡ is_required (schema.argument_of argument.now) }
 {
-    is_non_null(&argument.of_type) && argument.default.is_none()
+    argument.of_type.is_non_null() && argument.default.is_none()
 }
 
 // Whether an argument of a name is given, and the first of the name isn't the literal `null`.

@@ -6,25 +6,18 @@ ghost use Rattle.gq_parser.specs.Tree.{type_of};
 ghost use Rattle.gq_schema.specs.Types.{tree_of};
 ghost use Rattle.document_parts.specs.Broken.{broken_of, earliest};
 ghost use Rattle.document_parts.specs.Parts.{variable_part_of, parts_in};
-ghost use Rattle.typed_rules.specs.VariablesAreInputTypes.{is_list, is_list_of_lists, is_of_leaf, is_input_type, non_input_variable, non_input_variables};
+ghost use Rattle.typed_rules.specs.VariablesAreInputTypes.{is_list_of_lists, is_of_leaf, is_input_type, non_input_variable, non_input_variables};
 
-use crate::references::core;
 use document_parts::{Broken, Earliest, Parts, VariablePart};
 use gq_parser::TypeRef;
 use gq_schema::Schema;
-
-fn is_list(of_type: &TypeRef) -> bool
-    ensures { result ≡ is_list (type_of of_type.now) }
-{
-    matches!(of_type, TypeRef::List { .. })
-}
 
 fn is_list_of_lists(of_type: &TypeRef) -> bool
     ensures { result ≡ is_list_of_lists (type_of of_type.now) }
 {
     match of_type {
         TypeRef::Named { .. } => false,
-        TypeRef::List { item, .. } => is_list(item),
+        TypeRef::List { item, .. } => item.is_list(),
     }
 }
 
@@ -32,7 +25,7 @@ fn is_list_of_lists(of_type: &TypeRef) -> bool
 pub fn is_of_leaf(schema: &Schema, of_type: &TypeRef) -> bool
     ensures { result ≡ is_of_leaf (tree_of schema.now) (type_of of_type.now) }
 {
-    match schema.kind_of(core(of_type)) {
+    match schema.kind_of(of_type.named()) {
         Some(kind) => kind.is_leaf(),
         None => false,
     }

@@ -3,8 +3,8 @@
 ghost use Rattle.std.specs.Prelude.{◌≡◌, Ok, IfOk, IfErr};
 ghost use Rattle.std.specs.Option.{option_map};
 ghost use Rattle.serde_json.specs.View.{view};
-ghost use Rattle.gq_parser.specs.Tree.{type_of, variable_of as definition_of, variables_of as definitions_of};
-ghost use Rattle.gq_schema.specs.Types.{tree_of, is_non_null};
+ghost use Rattle.gq_parser.specs.Tree.{variable_of as definition_of, variables_of as definitions_of};
+ghost use Rattle.gq_schema.specs.Types.{tree_of};
 ghost use Rattle.gq_schema.specs.Inputs.{input_of};
 ghost use Rattle.variable_values.specs.Variables.{variables_of};
 ghost use Rattle.variable_values.specs.Values.{right_value, default_value, given_value, coerced_variables, IsVariableFault};
@@ -13,7 +13,7 @@ ghost use Rattle.variable_values.specs.Seen.{value_seen};
 use crate::fault::VariableFault;
 use crate::json::coerce_json;
 use crate::variable::Variable;
-use gq_parser::{TypeRef, VariableDefinition};
+use gq_parser::VariableDefinition;
 use gq_schema::{Input, Schema, coerce};
 use serde_json::Value;
 use std::alloc::{AllocError, Global};
@@ -41,15 +41,6 @@ impl Coerced {
     }
 }
 
-fn is_non_null(ty: &TypeRef) -> bool
-    ensures { result ≡ is_non_null (type_of ty.now) }
-{
-    match ty {
-        TypeRef::Named { non_null, .. } => *non_null,
-        TypeRef::List { non_null, .. } => *non_null,
-    }
-}
-
 // What a variable has that is not given.
 fn default_value(
     alloc: Global,
@@ -64,7 +55,7 @@ fn default_value(
             Ok(Coerced::of(input))
         }
         None => {
-            if is_non_null(&definition.of_type) {
+            if definition.of_type.is_non_null() {
                 Ok(Coerced::Bad)
             } else {
                 Ok(Coerced::Absent)

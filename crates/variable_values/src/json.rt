@@ -10,7 +10,7 @@ ghost use Rattle.gq_schema.specs.Coercion.{list_input, one_item};
 ghost use Rattle.variable_values.specs.JsonCoercion.{from_integer, from_number, from_string, named_data, all_data, data_input};
 
 use gq_parser::TypeRef;
-use gq_schema::{Input, Schema};
+use gq_schema::{Input, Schema, list_of_one};
 use serde_json::{Number, Value};
 use std::alloc::{AllocError, Global};
 
@@ -75,20 +75,6 @@ fn coerce_named(
         Value::String(text) => Ok(coerce_string(schema, name, text)?),
         Value::Array(_) => Ok(None),
         Value::Object(_) => Ok(None),
-    }
-}
-
-// A list of one item.
-fn list_of_one(alloc: Global, item: Option<Input>) -> Result<Option<Input>, AllocError>
-    ensures { IfOk result (λ input. option_map input_of input ≡ one_item (option_map input_of item)) }
-{
-    match item {
-        Some(item) => {
-            let mut items = Vec::with_capacity(alloc, 1)?;
-            items.push(item)?;
-            Ok(Some(Input::List(items)))
-        }
-        None => Ok(None),
     }
 }
 

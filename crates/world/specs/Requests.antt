@@ -1,5 +1,6 @@
 -- What the plan of a request is, and why there is none.
-use Rattle.std.specs.Prelude.{◌≡◌, ℕ, Bool, true, false, List, Option, Some, None, Ok, codes}
+use Rattle.std.specs.Prelude.{◌≡◌, ℕ, Bool, true, false, List, Option, Some, None, Ok, option_map, codes}
+use Rattle.std.specs.Borrow.{Bor}
 use Rattle.gq_lexer.specs.declared.place.Place.{Place}
 use Rattle.gq_lexer.specs.declared.fault.LexFault.{LexFault}
 use Rattle.gq_lexer.specs.declared.fault.LexFault.TheVariants as lex
@@ -19,6 +20,10 @@ use Rattle.gq_check.specs.Verdict.{IsVerdict, IsValid, IsCheckFault}
 use Rattle.gq_check.specs.Texts.{check_message, check_place, prepare_message}
 use Rattle.world.specs.declared.request.RequestFault.{RequestFault}
 use Rattle.world.specs.declared.request.RequestFault.TheVariants as fault
+
+-- the name of an operation, where one is given
+abbrev pub name_given : Option (Bor (List ℕ)) → Option (List ℕ)
+name_given name = option_map (λ n. n.now) name
 
 -- The query is a document that is valid, and the plan is that of the operation that is asked for, with these values given for
 -- its variables.

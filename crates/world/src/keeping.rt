@@ -3,13 +3,12 @@
 ghost use Rattle.std.specs.Prelude.{◌≡◌, ◌≤◌, ℕ, List, [], Option, None, IfOk, IfErr, OnOk, OnErr, length, string_bytes};
 ghost use Rattle.std.specs.HashMap.{get_by_text};
 ghost use Rattle.std.specs.List.{Contains};
-ghost use Rattle.std.specs.Option.{option_map};
 ghost use Rattle.serde_json.specs.Data.{Data};
 ghost use Rattle.serde_json.specs.View.{view};
 ghost use Rattle.gq_schema.specs.Types.{tree_of};
 ghost use Rattle.gq_check.specs.Plans.{plan_of};
 ghost use Rattle.world.specs.Keeping.{longest, most_bytes, AreBounded, HasRoom, IsKept, MakesRoom, Adds};
-ghost use Rattle.world.specs.Requests.{IsPlanOf, IsRequestFault};
+ghost use Rattle.world.specs.Requests.{name_given, IsPlanOf, IsRequestFault};
 
 use crate::request::{RequestFault, checked};
 use crate::world::World;
@@ -180,8 +179,8 @@ impl<'w> KeptDocuments<'w> {
     ) -> Result<Plan<'_>, RequestFault>
         ensures schema { IfOk result (λ plan. plan.definitions ≡ self.now.world.definitions) }
         ensures bindings { IfOk result (λ plan. plan.bindings ≡ self.now.world.bindings) }
-        ensures ok { IfOk result (λ plan. IsPlanOf (tree_of self.now.world.definitions) query.now (option_map (λ name. name.now) operation_name.entry) (view variables.now) (plan_of plan)) }
-        ensures err { IfErr result (IsRequestFault (tree_of self.now.world.definitions) query.now (option_map (λ name. name.now) operation_name.entry) (view variables.now)) }
+        ensures ok { IfOk result (λ p. IsPlanOf (tree_of self.now.world.definitions) query.now (name_given operation_name.entry) (view variables.now) (plan_of p)) }
+        ensures err { IfErr result (IsRequestFault (tree_of self.now.world.definitions) query.now (name_given operation_name.entry) (view variables.now)) }
     {
         let Some(kept) = self.documents.get(query) else {
             return self.world.plan(alloc, query, operation_name, variables);

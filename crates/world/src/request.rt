@@ -1,7 +1,6 @@
 //! The plans of requests.
 
 ghost use Rattle.std.specs.Prelude.{◌≡◌, ℕ, List, Option, IfOk, IfErr, string_bytes};
-ghost use Rattle.std.specs.Option.{option_map};
 ghost use Rattle.serde_json.specs.Data.{Data};
 ghost use Rattle.serde_json.specs.View.{view};
 ghost use Rattle.gq_parser.specs.Fault.{IsDocumentOf};
@@ -9,7 +8,7 @@ ghost use Rattle.gq_parser.specs.Tree.{document_of};
 ghost use Rattle.gq_schema.specs.Types.{tree_of};
 ghost use Rattle.gq_check.specs.Plans.{plan_of};
 ghost use Rattle.gq_check.specs.Verdict.{IsValid};
-ghost use Rattle.world.specs.Requests.{IsPlanOf, IsRequestFault, token_message, parse_message, request_message, request_place};
+ghost use Rattle.world.specs.Requests.{name_given, IsPlanOf, IsRequestFault, token_message, parse_message, request_message, request_place};
 
 use crate::world::World;
 use gq_check::{CheckFault, Checked, Plan, PrepareFault, check, prepare};
@@ -130,8 +129,8 @@ impl World {
     ) -> Result<Plan<'_>, RequestFault>
         ensures schema { IfOk result (λ plan. plan.definitions ≡ self.now.definitions) }
         ensures bindings { IfOk result (λ plan. plan.bindings ≡ self.now.bindings) }
-        ensures ok { IfOk result (λ plan. IsPlanOf (tree_of self.now.definitions) query.now (option_map (λ name. name.now) operation_name.entry) (view variables.now) (plan_of plan)) }
-        ensures err { IfErr result (IsRequestFault (tree_of self.now.definitions) query.now (option_map (λ name. name.now) operation_name.entry) (view variables.now)) }
+        ensures ok { IfOk result (λ plan. IsPlanOf (tree_of self.now.definitions) query.now (name_given operation_name.entry) (view variables.now) (plan_of plan)) }
+        ensures err { IfErr result (IsRequestFault (tree_of self.now.definitions) query.now (name_given operation_name.entry) (view variables.now)) }
     {
         let checked = match checked(alloc, self, query) {
             Ok(checked) => checked,

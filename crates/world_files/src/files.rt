@@ -4,12 +4,12 @@ ghost use Rattle.std.specs.Prelude.{◌≡◌, ◌<◌, ◌≤◌, ℕ, List, le
 ghost use Rattle.std.specs.String.{from_utf8_error_vec};
 ghost use Rattle.world.specs.Sources.{TableOf};
 ghost use Rattle.world.specs.Worlds.{IsWorld};
-ghost use Rattle.world_files.specs.Opening.{IsUnreadIn, IsUnopenedIn, IsUnopenedOf, IsUnmade, IsLocated, IsWholeOrLong};
+ghost use Rattle.world_files.specs.declared.fault.InputFile.TheVariants.{Requests};
+ghost use Rattle.world_files.specs.Opening.{IsUnread, IsUnopened, IsUnopenedOf, IsUnmade, IsLocated, IsWholeOrLong};
 
-use command_line::{LocatedStop, Location, Origin, Stop, Subject, Words};
+use crate::fault::{InputFile, OpenFault};
 use csv_source::{Table, TableFault};
 use gq_lexer::MAX_BYTES;
-use line_serving::ServeFault;
 use std::alloc::Global;
 use std::fs;
 use std::io::{self, ErrorKind, Read};
@@ -26,23 +26,34 @@ const MAX_BINDINGS: u32 = 16_777_216;
 /// The most bytes that a table's file may have.
 const MAX_TABLE: u32 = 4_294_967_295;
 
-// How a failed call on a file ends a run.
-fn stopped_at(subject: Subject, error: &io::Error) -> LocatedStop
-    ensures { IsUnreadIn subject result }
+/// A table by its name, and the file that it is in.
+#[derive(Debug, Drop)]
+pub struct TableFile {
+    pub name: String,
+    pub file: String,
+}
+
+/// The files that a world is made of, and its batch limit.
+#[derive(Debug, Drop)]
+pub struct WorldFiles {
+    /// The file of the schema.
+    pub schema: String,
+    /// The file of the bindings.
+    pub bindings: String,
+    /// The tables in their order.
+    pub tables: Vec<TableFile>,
+    /// The batch limit, from 1 to 65,535; `None`: no limit.
+    pub max_batch: Option<u32>,
+}
+
+// What a failed call on a file is. Want of memory is in no file.
+fn unread(file: InputFile, reason: io::Error) -> OpenFault
+    ensures { IsUnread file result }
 {
-    if error.kind() == ErrorKind::OutOfMemory {
-        return LocatedStop {
-            stop: Stop::Serve(ServeFault::NoMemory),
-            origin: None,
-        };
+    if reason.kind() == ErrorKind::OutOfMemory {
+        return OpenFault::NoMemory;
     }
-    LocatedStop {
-        stop: Stop::File,
-        origin: Some(Origin {
-            subject,
-            location: Location::Reason(*error),
-        }),
-    }
+    OpenFault::Unread { file, reason }
 }
 
 // What is said of a file that is longer than it may be.
@@ -141,32 +152,28 @@ impl<R: Read> Read for Keeping<R> {
     }
 }
 
-// How a table's fault ends a run. Of a file that couldn't be read its reader has kept the reason.
-fn refused(subject: Subject, fault: TableFault, kept: Option<io::Error>) -> LocatedStop
-    ensures { IsUnopenedIn subject result }
+// What a refused table is. Of a file that couldn't be read its reader has kept the reason.
+fn refused(place: usize, fault: TableFault, kept: Option<io::Error>) -> OpenFault
+    ensures { IsUnopened place result }
 {
-    let location = match (fault, kept) {
-        (TableFault::ReadFault, Some(error)) => Location::Reason(error),
-        _ => Location::Whole,
+    let reason = match fault {
+        TableFault::ReadFault => kept,
+        _ => None,
     };
-    LocatedStop {
-        stop: Stop::Table(fault),
-        origin: Some(Origin { subject, location }),
+    OpenFault::Table {
+        place,
+        fault,
+        reason,
     }
 }
 
 // The table of a file. One that is longer than a table may be isn't read to its end.
-fn table_file<R: Files + AllocGlobal>(
-    rt: &R,
-    path: &str,
-    place: usize,
-) -> Result<Table, LocatedStop>
-    ensures err { IfErr result (IsUnopenedIn (Subject.Table place)) }
+fn table_file<R: Files + AllocGlobal>(rt: &R, path: &str, place: usize) -> Result<Table, OpenFault>
+    ensures err { IfErr result (IsUnopened place) }
 {
-    let subject = Subject::Table(place);
     let file = match fs::open(rt, path) {
         Ok(file) => file,
-        Err(error) => return Err(stopped_at(subject, &error)),
+        Err(error) => return Err(unread(InputFile::Table(place), error)),
     };
     let mut front = Keeping {
         inner: file.take(MAX_TABLE as u64 + 1),
@@ -174,26 +181,26 @@ fn table_file<R: Files + AllocGlobal>(
     };
     let table = Table::read(rt.alloc(), &mut front);
     if front.inner.limit() == 0 {
-        return Err(stopped_at(subject, &too_long()));
+        return Err(unread(InputFile::Table(place), too_long()));
     }
     match table {
         Ok(table) => Ok(table),
-        Err(fault) => Err(refused(subject, fault, front.fault)),
+        Err(fault) => Err(refused(place, fault, front.fault)),
     }
 }
 
-// The tables of a command line, in the order of its words.
+// The tables of the files, in their order.
 fn table_files<R: Files + AllocGlobal>(
     rt: &R,
-    words: &Words,
-) -> Result<Vec<(String, Table)>, LocatedStop>
-    ensures err { IfErr result (IsUnopenedOf words.now) }
+    files: &WorldFiles,
+) -> Result<Vec<(String, Table)>, OpenFault>
+    ensures err { IfErr result (IsUnopenedOf files.now) }
 {
     let mut tables = Vec::new(rt.alloc());
-    for (place, given) in words.tables.iter().enumerate() {
+    for (place, given) in files.tables.iter().enumerate() {
         let table = match table_file(rt, given.file.as_str(), place) {
             Ok(table) => table,
-            Err(stop) => return Err(stop),
+            Err(fault) => return Err(fault),
         };
         let name = String::from_str(rt.alloc(), given.name.as_str())?;
         tables.push((name, table))?;
@@ -201,44 +208,41 @@ fn table_files<R: Files + AllocGlobal>(
     Ok(tables)
 }
 
-/// The world of the files that a command line names. They are read in the order schema, bindings, tables.
+/// The world of files. They are read in the order schema, bindings, tables.
 ///
 /// # Errors
 ///
-/// `File` where the schema, the bindings or a table can't be opened, the first two can't be read or are no UTF-8, or the bindings
+/// `Unread` where the schema, the bindings or a table can't be opened, the first two can't be read or are no UTF-8, or the bindings
 /// have more than 16,777,216 bytes or a table more than 4,294,967,295; `Table` where a table is refused or its file can't be
-/// read; `World` where there is no world of what was read; and want of memory. Each has its file, and the place in it or the reason.
-pub fn open_world<R: Files + AllocGlobal>(rt: &R, words: &Words) -> Result<World, LocatedStop>
+/// read; `World` where there is no world of what was read; and want of memory.
+#[tactic(auto, using(crate::proofs::Opened::using_opened))]
+pub fn open_world<R: Files + AllocGlobal>(rt: &R, files: &WorldFiles) -> Result<World, OpenFault>
     ensures ok { IfOk result (λ world. (schema : List ℕ) × (bindings : List ℕ) × (tables : List TableOf)
-        × IsWorld schema bindings tables words.now.max_batch world) }
-    ensures err { IfErr result (λ end. IsUnmade words.now.max_batch end.stop) }
-    ensures origin { IfErr result (IsLocated words.now) }
+        × IsWorld schema bindings tables files.now.max_batch world) }
+    ensures err { IfErr result (IsUnmade files.now.max_batch) }
+    ensures located { IfErr result (IsLocated files.now) }
 {
-    let schema = match schema_file(rt, words.schema.as_str()) {
+    let schema = match schema_file(rt, files.schema.as_str()) {
         Ok(text) => text,
-        Err(error) => return Err(stopped_at(Subject::Schema, &error)),
+        Err(error) => return Err(unread(InputFile::Schema, error)),
     };
-    let bindings = match bindings_file(rt, words.bindings.as_str()) {
+    let bindings = match bindings_file(rt, files.bindings.as_str()) {
         Ok(text) => text,
-        Err(error) => return Err(stopped_at(Subject::Bindings, &error)),
+        Err(error) => return Err(unread(InputFile::Bindings, error)),
     };
-    let tables = match table_files(rt, words) {
+    let tables = match table_files(rt, files) {
         Ok(tables) => tables,
-        Err(stop) => return Err(stop),
+        Err(fault) => return Err(fault),
     };
     match World::new(
         rt.alloc(),
         schema.as_str(),
         bindings.as_str(),
         tables,
-        words.max_batch,
+        files.max_batch,
     ) {
         Ok(world) => Ok(world),
-        Err(fault) => {
-            let stop = Stop::World(fault);
-            let origin = stop.origin();
-            Err(LocatedStop { stop, origin })
-        }
+        Err(fault) => Err(OpenFault::World(fault)),
     }
 }
 
@@ -246,12 +250,12 @@ pub fn open_world<R: Files + AllocGlobal>(rt: &R, words: &Words) -> Result<World
 ///
 /// # Errors
 ///
-/// `File` where it can't be opened, with the reason, and want of memory.
-pub fn open_requests<R: Files>(rt: &R, words: &Words) -> Result<R::File, LocatedStop>
-    ensures err { IfErr result (IsUnreadIn Subject.Requests) }
+/// `Unread` where it can't be opened, with the reason, and want of memory.
+pub fn open_requests<R: Files>(rt: &R, path: &str) -> Result<R::File, OpenFault>
+    ensures err { IfErr result (IsUnread Requests) }
 {
-    match fs::open(rt, words.requests.as_str()) {
+    match fs::open(rt, path) {
         Ok(file) => Ok(file),
-        Err(error) => Err(stopped_at(Subject::Requests, &error)),
+        Err(error) => Err(unread(InputFile::Requests, error)),
     }
 }

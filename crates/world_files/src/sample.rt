@@ -3,9 +3,9 @@
 ghost use Rattle.std.specs.Prelude.{List, IfOk, IfErr, None};
 ghost use Rattle.world.specs.Sources.{TableOf};
 ghost use Rattle.world.specs.Worlds.{IsWorld};
-ghost use Rattle.world_files.specs.Opening.{IsUnopened, IsUnmade};
+ghost use Rattle.world_files.specs.Opening.{IsTableRefused, IsUnmade};
 
-use command_line::Stop;
+use crate::fault::OpenFault;
 use csv_source::Table;
 use std::alloc::Global;
 use world::World;
@@ -50,14 +50,20 @@ const TABLES: [(&str, &[u8]); 4] = [
 ];
 
 // The tables, read.
-fn sample_tables(alloc: Global) -> Result<Vec<(String, Table)>, Stop>
-    ensures err { IfErr result IsUnopened }
+fn sample_tables(alloc: Global) -> Result<Vec<(String, Table)>, OpenFault>
+    ensures err { IfErr result IsTableRefused }
 {
     let mut tables = Vec::new(alloc);
-    for (name, text) in TABLES {
+    for (place, (name, text)) in TABLES.into_iter().enumerate() {
         let table = match Table::read(alloc, text) {
             Ok(table) => table,
-            Err(fault) => return Err(Stop::Table(fault)),
+            Err(fault) => {
+                return Err(OpenFault::Table {
+                    place,
+                    fault,
+                    reason: None,
+                });
+            }
         };
         tables.push((String::from_str(alloc, name)?, table))?;
     }
@@ -69,16 +75,16 @@ fn sample_tables(alloc: Global) -> Result<Vec<(String, Table)>, Stop>
 /// # Errors
 ///
 /// Only when out of memory, since its parts are accepted.
-pub fn sample_world(alloc: Global) -> Result<World, Stop>
+pub fn sample_world(alloc: Global) -> Result<World, OpenFault>
     ensures ok { IfOk result (λ world. (tables : List TableOf) × IsWorld SCHEMA.now BINDINGS.now tables None world) }
     ensures err { IfErr result (IsUnmade None) }
 {
     let tables = match sample_tables(alloc) {
         Ok(tables) => tables,
-        Err(stop) => return Err(stop),
+        Err(fault) => return Err(fault),
     };
     match World::new(alloc, SCHEMA, BINDINGS, tables, None) {
         Ok(world) => Ok(world),
-        Err(fault) => Err(Stop::World(fault)),
+        Err(fault) => Err(OpenFault::World(fault)),
     }
 }

@@ -1,9 +1,9 @@
 //! The bindings of fields.
 
-ghost use Rattle.std.specs.Prelude.{◌≡◌, ◌++◌, [], ◌∷◌, None, OnOk, OnErr, ℕ, List, ◌&&◌, bytes_eq, string_bytes, if◌then◌else◌, Some};
+ghost use Rattle.std.specs.Prelude.{◌≡◌, ◌++◌, [], ◌∷◌, None, OnOk, OnErr, ℕ, List, Some};
 ghost use Rattle.std.specs.Option.{option_map, option_copied};
 ghost use Rattle.gq_schema.specs.BindingsTree.{binding_in};
-ghost use Rattle.gq_schema.specs.BindingsPlaces.{place_in};
+ghost use Rattle.gq_schema.specs.BindingsPlaces.{place_in, IsPlaced};
 
 use super::binding::{Binding, BoundField};
 use std::alloc::{AllocError, Global};
@@ -20,8 +20,7 @@ fn note(
     field_name: &String,
     place: usize,
 ) -> Result<(), AllocError>
-    ensures ok { (q r : List ℕ) → OnOk result (place_in places.new q r
-        ≡ (if bytes_eq q (string_bytes type_name.now) && bytes_eq r (string_bytes field_name.now) then Some place else place_in places.old q r)) }
+    ensures ok { (q r : List ℕ) → OnOk result (IsPlaced type_name.now field_name.now place places.old places.new q r) }
     ensures err { (q r : List ℕ) → OnErr result (place_in places.new q r ≡ place_in places.old q r) }
 {
     let key = type_name.clone()?;

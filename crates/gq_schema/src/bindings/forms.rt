@@ -298,7 +298,7 @@ pub fn field_binding(
     field_name: &str,
     form: Form<'_>,
 ) -> Result<Option<Binding>, AllocError>
-    ensures { IfOk result (λ found. option_map binding_of found
+    ensures { IfOk result (λ b. option_map binding_of b
         ≡ field_binding (tree_of schema.now) loaders.now type_name.now field_name.now (form_seen form.entry)) }
 {
     if !is_object_type(schema, type_name) {

@@ -93,7 +93,7 @@ fn owned_field(
 
 impl Bindings {
     ghost use Rattle.gq_schema.specs.BindingsSeen.{binding_of, loader_of};
-    ghost use Rattle.gq_schema.specs.BindingsReading.{nothing, after_loader, after_statement, after_statements, settled_field, settled_fields, settled, bindings_of, accepted};
+    ghost use Rattle.gq_schema.specs.BindingsReading.{AreNewIf, nothing, after_loader, after_statement, after_statements, settled_field, settled_fields, settled, bindings_of, accepted};
     ghost use Rattle.gq_schema.specs.BindingsFaults.{Refuses};
 
     /// Reads a bindings text over a schema.
@@ -179,7 +179,7 @@ impl Bindings {
         schema: &Schema,
         statement: Statement<'_>,
     ) -> Result<bool, AllocError>
-        ensures { IfOk result (λ good. after_statement (tree_of schema.now) self.old (statement_seen statement.entry) ≡ (if good then Some self.new else None)) }
+        ensures { IfOk result (AreNewIf (after_statement (tree_of schema.now) self.old (statement_seen statement.entry)) self.new) }
     {
         match statement {
             Statement::Loader { name, table, by } => self.add_loader(alloc, name, table, by),
@@ -199,7 +199,7 @@ impl Bindings {
         table: &str,
         by: Option<ByWords<'_>>,
     ) -> Result<bool, AllocError>
-        ensures { IfOk result (λ good. after_loader self.old (record { name = name.now; table = table.now; by = option_map by_seen by.entry }) ≡ (if good then Some self.new else None)) }
+        ensures { IfOk result (AreNewIf (after_loader self.old (record { name = name.now; table = table.now; by = option_map by_seen by.entry })) self.new) }
     {
         if self.loaders.find(name).is_some() {
             return Ok(false);
@@ -218,7 +218,7 @@ impl Bindings {
         field_name: &str,
         form: Form<'_>,
     ) -> Result<bool, AllocError>
-        ensures { IfOk result (λ good. after_statement (tree_of schema.now) self.old (field_line type_name.now field_name.now (form_seen form.entry)) ≡ (if good then Some self.new else None)) }
+        ensures { IfOk result (AreNewIf (after_statement (tree_of schema.now) self.old (field_line type_name.now field_name.now (form_seen form.entry))) self.new) }
     {
         if self.fields.get(type_name, field_name).is_some() {
             return Ok(false);
@@ -235,7 +235,7 @@ impl Bindings {
 
     /// Binds each field of an object type that has no line; false where one needs a line.
     fn settle(&mut self, alloc: Global, schema: &Schema) -> Result<bool, AllocError>
-        ensures { IfOk result (λ good. settled (tree_of schema.now) self.old (tree_of schema.now) ≡ (if good then Some self.new else None)) }
+        ensures { IfOk result (AreNewIf (settled (tree_of schema.now) self.old (tree_of schema.now)) self.new) }
     {
         for indexed in schema.definitions() {
             if let Definition::Object(object) = &indexed.definition {
@@ -255,7 +255,7 @@ impl Bindings {
         type_name: &str,
         fields: &[FieldDefinition],
     ) -> Result<bool, AllocError>
-        ensures { IfOk result (λ good. settled_fields (tree_of schema.now) type_name.now self.old (fields_of fields.now) ≡ (if good then Some self.new else None)) }
+        ensures { IfOk result (AreNewIf (settled_fields (tree_of schema.now) type_name.now self.old (fields_of fields.now)) self.new) }
     {
         let of_root = is_root_type(schema, type_name);
         for field in fields {
@@ -276,7 +276,7 @@ impl Bindings {
         field: &FieldDefinition,
     ) -> Result<bool, AllocError>
         requires { of_root ≡ is_root_type (tree_of schema.now) type_name.now }
-        ensures { IfOk result (λ good. settled_field (tree_of schema.now) type_name.now self.old (field_of field.now) ≡ (if good then Some self.new else None)) }
+        ensures { IfOk result (AreNewIf (settled_field (tree_of schema.now) type_name.now self.old (field_of field.now)) self.new) }
     {
         if self.fields.get(type_name, &field.name.text).is_some() {
             return Ok(true);

@@ -10,7 +10,7 @@ ghost use Rattle.gq_schema.specs.Places.{ArePlaces};
 ghost use Rattle.gq_schema.specs.Implements.{argument_in, has_argument, is_required, may_stand, serves, has_field, implements, bad_interface, bad_interface_in, first_bad_interface};
 
 use crate::index::{Places, note};
-use crate::references::{is_non_null, is_same_type};
+use crate::references::is_same_type;
 use crate::schema::Schema;
 use gq_lexer::Place;
 use schema_syntax::{ArgumentDefinition, Definition, FieldDefinition, Name};
@@ -68,7 +68,7 @@ fn has_arguments(own: &Arguments, wanted: &[ArgumentDefinition]) -> bool
 fn is_required(argument: &ArgumentDefinition) -> bool
     ensures { result ≡ is_required (argument_of argument.now) }
 {
-    is_non_null(&argument.of_type) && argument.default.is_none()
+    argument.of_type.is_non_null() && argument.default.is_none()
 }
 
 // Whether the interface's field has this argument too, or it may be left out.

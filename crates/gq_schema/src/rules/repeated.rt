@@ -1,11 +1,11 @@
 //! Names that are defined a second time.
 
-ghost use Rattle.std.specs.Prelude.{◌≡◌, ◌||◌, ◌++◌, ◌∷◌, ℕ, List, [], IfOk, OnOk, Some, None, not, bytes_eq, string_bytes, if◌then◌else◌};
+ghost use Rattle.std.specs.Prelude.{◌≡◌, ◌||◌, ℕ, List, [], IfOk, OnOk, Some, None, not, bytes_eq, string_bytes};
 ghost use Rattle.schema_syntax.specs.Tree.{name_of, names_of, arguments_of, fields_of, definition_of};
 ghost use Rattle.gq_schema.specs.Types.{tree_of, is_built_in};
-ghost use Rattle.gq_schema.specs.Seen.{has_text};
+ghost use Rattle.gq_schema.specs.Seen.{has_text, place_if_seen};
 ghost use Rattle.gq_schema.specs.Repeated.{repeated_name, repeated_argument, repeated_field, repeated_self, repeated_within, first_repeated};
-ghost use Rattle.gq_schema.specs.Earlier.{Agrees};
+ghost use Rattle.gq_schema.specs.Earlier.{Agrees, Passes};
 
 use crate::names::is_built_in;
 use gq_lexer::Place;
@@ -80,7 +80,7 @@ fn repeated_self<'a>(
     earlier: &mut Earlier<'a>,
     definition: &'a Definition,
 ) -> Result<Option<Place>, AllocError>
-    ensures { (ds : _) → Agrees earlier.old ds → IfOk result (λ place. (place ≡ repeated_self ds (definition_of definition.now)) × Agrees earlier.new (ds ++ definition_of definition.now ∷ [])) }
+    ensures { (ds : _) → Agrees earlier.old ds → IfOk result (Passes earlier.new ds (definition_of definition.now)) }
 {
     match definition {
         Definition::Schema(schema) => {
@@ -97,7 +97,7 @@ fn repeated_self<'a>(
 
 // The name of a type, where one of the same name stood earlier.
 fn repeated_type<'a>(seen: &mut Seen<'a>, name: &'a Name) -> Result<Option<Place>, AllocError>
-    ensures place { IfOk result (λ place. place ≡ (if is_built_in (string_bytes name.now.text) || has_text seen.old (string_bytes name.now.text) then Some name.now.place else None)) }
+    ensures place { IfOk result (λ place. place ≡ place_if_seen seen.old name.now) }
     ensures noted { (q : List ℕ) → OnOk result (has_text seen.new q ≡ (bytes_eq q (string_bytes name.now.text) || has_text seen.old q)) }
 {
     let first = note(seen, name)?;

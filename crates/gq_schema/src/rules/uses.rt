@@ -1,15 +1,16 @@
 //! The uses of types' names.
 
 ghost use Rattle.std.specs.Prelude.{◌≡◌};
+ghost use Rattle.gq_parser.specs.Tree.{type_of};
 ghost use Rattle.schema_syntax.specs.Tree.{name_of, names_of, arguments_of, fields_of, definition_of};
 ghost use Rattle.gq_schema.specs.Scan.{first_in};
-ghost use Rattle.gq_schema.specs.Types.{tree_of};
+ghost use Rattle.gq_schema.specs.Types.{tree_of, core_of};
 ghost use Rattle.gq_schema.specs.Uses.{fits, keeps, broken_use, broken_argument, broken_field, broken_root, broken_in, first_broken};
 
 use crate::kind::TypeKind;
-use crate::references::core;
 use crate::schema::Schema;
 use gq_lexer::Place;
+use gq_parser::TypeRef;
 use schema_syntax::{ArgumentDefinition, Definition, FieldDefinition, Name};
 
 /// What the use of a type's name is for.
@@ -70,6 +71,12 @@ fn broken_name(schema: &Schema, rule: Rule, role: Role, name: &Name) -> Option<P
     broken_use(schema, rule, role, name.text.as_str(), name.place)
 }
 
+fn broken_type(schema: &Schema, rule: Rule, role: Role, of_type: &TypeRef) -> Option<Place>
+    ensures { result ≡ broken_use (tree_of schema.now) rule role (core_of (type_of of_type.now)) }
+{
+    broken_use(schema, rule, role, of_type.named(), of_type.named_place())
+}
+
 fn broken_names(schema: &Schema, rule: Rule, role: Role, names: &[Name]) -> Option<Place>
     ensures { result ≡ first_in (broken_use (tree_of schema.now) rule role) (names_of names.now) }
 {
@@ -85,8 +92,7 @@ fn broken_arguments(schema: &Schema, rule: Rule, arguments: &[ArgumentDefinition
     ensures { result ≡ first_in (broken_argument (tree_of schema.now) rule) (arguments_of arguments.now) }
 {
     for argument in arguments {
-        let (name, place) = core(&argument.of_type);
-        if let Some(place) = broken_use(schema, rule, Role::ArgumentType, name, place) {
+        if let Some(place) = broken_type(schema, rule, Role::ArgumentType, &argument.of_type) {
             return Some(place);
         }
     }
@@ -100,8 +106,7 @@ fn broken_fields(schema: &Schema, rule: Rule, fields: &[FieldDefinition]) -> Opt
         if let Some(place) = broken_arguments(schema, rule, &field.arguments) {
             return Some(place);
         }
-        let (name, place) = core(&field.of_type);
-        if let Some(place) = broken_use(schema, rule, Role::FieldType, name, place) {
+        if let Some(place) = broken_type(schema, rule, Role::FieldType, &field.of_type) {
             return Some(place);
         }
     }

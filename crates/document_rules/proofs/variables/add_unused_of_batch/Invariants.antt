@@ -4,7 +4,7 @@ use Rattle.spread_graph.specs.Graphs.{GraphOf}
 use Rattle.document_rules.specs.Scans.{with_all}
 use Rattle.document_rules.specs.AllVariablesUsed.{unused_variables}
 use Rattle.document_rules.specs.UseRows.{IsUseTable}
-use Rattle.document_rules.specs.BatchSteps.{operations_in, IsReached}
+use Rattle.spread_graph.specs.Operations.{operations_in, IsReached}
 use Rattle.document_rules.proofs.variables.add_unused_of_batch.Given as goal
 
 abbrev pub invariant-loop-number : goal.invariant-loop-number

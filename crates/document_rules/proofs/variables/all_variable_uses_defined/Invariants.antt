@@ -10,5 +10,5 @@ use Rattle.document_rules.proofs.variables.all_variable_uses_defined.Given as go
 
 abbrev pub invariant-loop-place : goal.invariant-loop-place
 invariant-loop-place l =
-    with_all l.earliest (map named_use (filter (one_lacks l.graph 0 (document_of l.parts.document.now).operations) (map use_of (drop l.place l.part-items))))
-    ≡ earliest (map named_use (filter (one_lacks l.graph 0 (document_of l.parts.document.now).operations) (map use_of l.part-items)))
+    with_all l.earliest (map named_use (filter (one_lacks l.graph 0 (document_of l.uses.parts.now.document.now).operations) (map use_of (drop l.place l.part-items))))
+    ≡ earliest (map named_use (filter (one_lacks l.graph 0 (document_of l.uses.parts.now.document.now).operations) (map use_of l.part-items)))

@@ -8,8 +8,8 @@ use Rattle.document_rules.proofs.variables.all_variables_used.Given as goal
 
 abbrev pub invariant-loop-first : goal.invariant-loop-first
 invariant-loop-first l =
-    with_all l.earliest (unused_variables l.graph (map use_of l.parts.uses.items) l.first (drop l.first (map operation_of l.operations)))
-    ≡ earliest (unused_variables l.graph (map use_of l.parts.uses.items) 0 (map operation_of l.operations))
+    with_all l.earliest (unused_variables l.graph (map use_of l.uses.parts.now.uses.items) l.first (drop l.first (map operation_of l.operations)))
+    ≡ earliest (unused_variables l.graph (map use_of l.uses.parts.now.uses.items) 0 (map operation_of l.operations))
 
 abbrev pub decreases-loop-first : goal.decreases-loop-first
 decreases-loop-first l = length l.operations - l.first

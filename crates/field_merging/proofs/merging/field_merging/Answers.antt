@@ -19,7 +19,7 @@ use Rattle.spread_graph.specs.Graphs.{GraphOf, graph_of}
 use Rattle.spread_graph.specs.Rules.{fragment_cycles}
 use Rattle.field_merging.specs.Orders.{IsFree, IsGraphOrder}
 use Rattle.field_merging.specs.Rule.{IsMerging}
-use Rattle.field_merging.proofs.Acyclic.{free-of, ranks, are-ranked}
+use Rattle.field_merging.proofs.Acyclic.{one-place, free-of, ranks, are-ranked}
 use Rattle.field_merging.proofs.Listed.{counted}
 use Rattle.field_merging.proofs.Merged.{all-merged}
 use Rattle.field_merging.proofs.Ordering.{is-free, order-of}
@@ -63,8 +63,8 @@ rank_fragments-requires c = record { free = (known (parts_in c.args.parts.now) c
 pub fragment_starts-requires : goal.fragment_starts-requires
 fragment_starts-requires c =
     let count = (known (parts_in c.args.parts.now) c.args.graph.now c.requires.listed c.requires.graph c.requires.cycles).count in
-    let read = c.operation_fields-first.ensures ∙ ap (λ (os : List rust-operation.Operation). capped (count_operations (map operation_of os))) c.deref-2.ensures.value in
-    let others = ap (λ (fs : List rust-fragment.Fragment). count_fragments (map fragment_of fs)) c.deref-3.ensures.value in
+    let read = c.operation_fields-first.ensures ∙ ap (λ (os : List rust-operation.Operation). capped (count_operations (map operation_of os))) c.deref.ensures.value in
+    let others = ap (λ (fs : List rust-fragment.Fragment). count_fragments (map fragment_of fs)) c.deref-2.ensures.value in
     omega (arith, count, read, others, c.requires.few)
 
 pub numbering_of-requires-clause-counted : goal.numbering_of-requires-clause-counted
@@ -80,18 +80,22 @@ pub numbering_of-requires-clause-started : goal.numbering_of-requires-clause-sta
 numbering_of-requires-clause-started c =
     let d = document_of c.args.parts.now.document.now in
     let count = (known (parts_in c.args.parts.now) c.args.graph.now c.requires.listed c.requires.graph c.requires.cycles).count in
-    let read = c.operation_fields-first.ensures ∙ ap (λ (os : List rust-operation.Operation). capped (count_operations (map operation_of os))) c.deref-2.ensures.value in
+    let read = c.operation_fields-first.ensures ∙ ap (λ (os : List rust-operation.Operation). capped (count_operations (map operation_of os))) c.deref.ensures.value in
     let first : c.operation_fields-first.result ≡ count_operations d.operations = omega (arith, count, read, c.requires.few) in
-    c.deref-4.ensures.value ∙ (c.in_ok-starts.ensures ∙ (ap (λ (n : ℕ). starts_from n (map fragment_of c.deref-3.result.now)) first ∙ ap (λ (fs : List rust-fragment.Fragment). starts_from (count_operations d.operations) (map fragment_of fs)) c.deref-3.ensures.value))
+    c.deref-3.ensures.value ∙ (c.in_ok-starts.ensures ∙ (ap (λ (n : ℕ). starts_from n (map fragment_of c.deref-2.result.now)) first ∙ ap (λ (fs : List rust-fragment.Fragment). starts_from (count_operations d.operations) (map fragment_of fs)) c.deref-2.ensures.value))
 
 pub numbering_of-requires-clause-fragments : goal.numbering_of-requires-clause-fragments
 numbering_of-requires-clause-fragments c =
     let d = document_of c.args.parts.now.document.now in
     let order = (known (parts_in c.args.parts.now) c.args.graph.now c.requires.listed c.requires.graph c.requires.cycles).order c.in_ok-fragments.fragments.items c.in_ok-fragments.ensures in
-    subst (λ (o : List ℕ). IsOrder o (place_in d.fragments) d.fragments) (sym c.deref-5.ensures.value) order
+    subst (λ (o : List ℕ). IsOrder o (place_in d.fragments) d.fragments) (sym c.deref-4.ensures.value) order
 
 pub numbering_of-requires-clause-fixed : goal.numbering_of-requires-clause-fixed
 numbering_of-requires-clause-fixed c = (known (parts_in c.args.parts.now) c.args.graph.now c.requires.listed c.requires.graph c.requires.cycles).fixed
+
+pub grounds_of-grounds-requires-clause-named : goal.grounds_of-grounds-requires-clause-named
+grounds_of-grounds-requires-clause-named c = λ name.
+    c.fragment_numbers.ensures name ∙ sym (one-place 0 name (document_of c.args.parts.now.document.now).fragments)
 
 pub grounds_of-grounds-requires-clause-fixed : goal.grounds_of-grounds-requires-clause-fixed
 grounds_of-grounds-requires-clause-fixed c = (known (parts_in c.args.parts.now) c.args.graph.now c.requires.listed c.requires.graph c.requires.cycles).fixed
@@ -100,8 +104,8 @@ pub compare-requires-clause-fragments : goal.compare-requires-clause-fragments
 compare-requires-clause-fragments c =
     let d = document_of c.args.parts.now.document.now in
     let order = (known (parts_in c.args.parts.now) c.args.graph.now c.requires.listed c.requires.graph c.requires.cycles).order c.in_ok-fragments.fragments.items c.in_ok-fragments.ensures in
-    subst (λ (q : rust.Parts). IsOrder c.deref-7.result.now (place_in (document_of q.document.now).fragments) (document_of q.document.now).fragments) (sym c.grounds_of-grounds.ensures)
-    (subst (λ (o : List ℕ). IsOrder o (place_in d.fragments) d.fragments) (sym c.deref-7.ensures.value) order)
+    subst (λ (q : rust.Parts). IsOrder c.deref-6.result.now (place_in (document_of q.document.now).fragments) (document_of q.document.now).fragments) (sym c.grounds_of-grounds.ensures)
+    (subst (λ (o : List ℕ). IsOrder o (place_in d.fragments) d.fragments) (sym c.deref-6.ensures.value) order)
 
 pub compare-requires-clause-ranked : goal.compare-requires-clause-ranked
 compare-requires-clause-ranked c =

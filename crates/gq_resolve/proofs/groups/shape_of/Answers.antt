@@ -1,9 +1,11 @@
-use Rattle.std.proofs.Common.{rules, ◌≡◌, ◌∙◌, List, Vec, Global, ap, subst}
+use Rattle.std.proofs.Common.{rules, ◌≡◌, ◌∙◌, true, List, Vec, Global, ap, subst}
+use Rattle.schema_syntax.specs.Tree.{Definition}
+use Rattle.gq_schema.specs.Types.{tree_of}
 use Rattle.gq_check.specs.Plans.{PlanOf, plan_of}
 use Rattle.plan_program.specs.FieldValues.{ChildrenOf}
 use Rattle.plan_program.specs.Prepared.{children_seen}
 use Rattle.plan_program.specs.declared.prepared.Children.{Children}
-use Rattle.gq_resolve.specs.Groups.{children_at, type_prepared, AreMade, IsShaped}
+use Rattle.gq_resolve.specs.Groups.{children_at, type_prepared, IsOnly, AreMade, IsShaped}
 use Rattle.gq_resolve.specs.declared.groups.Group.{Group}
 use Rattle.gq_resolve.specs.declared.groups.Member.{Member}
 use Rattle.gq_resolve.proofs.Grouping.{shaped-kept, shaped-then}
@@ -22,8 +24,11 @@ returns c =
     let old : List Group = c.args.groups.now.items in
     let mid : List Group = c.meet.new.groups.items in
     let ms : List Member = c.in_ok-members-2.members.value.items in
-    let children : children_seen c.deref-3.result.now ≡ children_at old c.args.group =
-    ap (λ (b : Children). children_seen b) c.deref-3.ensures ∙ c.in_ok-children.ensures ∙ ap (λ (gs : List Group). children_at gs c.args.group) c.deref-2.ensures.value in
+    let only : c.is_only-only.result ≡ true → IsOnly plan.definitions (children_at old c.args.group) c.args.ty.now =
+    λ e. subst (λ (defs : List Definition). IsOnly defs (children_at old c.args.group) c.args.ty.now) (ap tree_of c.schema.ensures)
+    (subst (λ (gs : List Group). IsOnly (tree_of c.schema.result.now) (children_at gs c.args.group) c.args.ty.now) c.deref-2.ensures.value (c.is_only-only.ensures e)) in
+    let children : children_seen c.deref-4.result.now ≡ children_at old c.args.group =
+    ap (λ (b : Children). children_seen b) c.deref-4.ensures ∙ c.in_ok-children.ensures ∙ ap (λ (gs : List Group). children_at gs c.args.group) c.deref-3.ensures.value in
     let made : AreMade old mid (type_prepared plan (children_at old c.args.group) c.args.ty.now) ms =
     subst (λ (b : ChildrenOf). AreMade old mid (type_prepared plan b c.args.ty.now) ms) children c.in_ok-members-2.ensures in
-    shaped-then plan c.args.tour.now.most old mid c.keep.new.groups.items c.len-count.result c.args.group c.args.ty.now (record { ty = c.in_ok-from_str.field-0; members = c.in_ok-clone.field-0 }) ms (search rules) c.in_ok-from_str.ensures.ok (ap (λ (v : Vec Member Global). v.items) c.in_ok-clone.ensures.cases) made c.in_ok-keep.ensures.grows c.in_ok-keep.ensures.most
+    shaped-then plan c.args.tour.now.most old mid c.keep.new.groups.items c.len-count.result c.args.group c.args.ty.now (record { ty = c.in_ok-from_str.field-0; only = c.is_only-only.result; members = c.in_ok-clone.field-0 }) ms (search rules) c.in_ok-from_str.ensures.ok (ap (λ (v : Vec Member Global). v.items) c.in_ok-clone.ensures.cases) only made c.in_ok-keep.ensures.grows c.in_ok-keep.ensures.most

@@ -8,4 +8,4 @@ returns-in-Ok-open_requests-clause-run g c =
     rw c.from.ensures.0 (inl (c.in-Ok.world, _, _, c.in-Ok.ensures.ok, served))
 
 pub returns-in-Ok-open_requests-clause-placed : goal.returns-in-Ok-open_requests-clause-placed
-returns-in-Ok-open_requests-clause-placed g c = inl (inl (c.from.ensures.1 ∙ ap origin_of (sym c.from.ensures.0)))
+returns-in-Ok-open_requests-clause-placed g c = inl (c.from.ensures.1 ∙ ap origin_of (sym c.from.ensures.0))

@@ -1,5 +1,5 @@
 use Rattle.spread_graph.proofs.RankLaws.{alike}
 use Rattle.spread_graph.proofs.cycles.ranks.Goals as goal
 
-pub returns : goal.returns
-returns c = rw c.new.ensures.items (alike c.args.graph.now)
+pub returns-else-is_ordered : goal.returns-else-is_ordered
+returns-else-is_ordered c = alike c.args.graph.now

@@ -5,4 +5,4 @@ use Rattle.spread_graph.specs.Batches.{has_edge}
 use Rattle.spread_graph.proofs.edges.add_edges.Given as goal
 
 abbrev pub invariant-loop-to : goal.invariant-loop-to
-invariant-loop-to l = (f j : ℕ) → (has_edge l.edges.items f j || (eqb l.from f && is_among j (drop l.to-index l.to-items))) ≡ (has_edge l.initial.edges.items f j || (eqb l.from f && is_among j l.to-items))
+invariant-loop-to l = (f j : ℕ) → (has_edge l.edges.items f j || (eqb l.from f && is_among j (drop l.to-index l.row))) ≡ (has_edge l.initial.edges.items f j || (eqb l.from f && is_among j l.row))

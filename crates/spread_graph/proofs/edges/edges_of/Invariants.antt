@@ -1,18 +1,16 @@
-use Rattle.std.proofs.Common.{◌≡◌, ◌<◌, ℕ, true, vec_len}
-use Rattle.document_parts.specs.declared.part.Owner.TheVariants as owner
-use Rattle.spread_graph.specs.Reach.{spreads}
+use Rattle.std.proofs.Common.{◌≡◌, ◌<◌, ℕ, true}
+use Rattle.spread_graph.specs.Graphs.{row_at}
+use Rattle.spread_graph.specs.Reach.{is_among}
+use Rattle.spread_graph.specs.Rows.{rows_in}
 use Rattle.spread_graph.specs.Batches.{has_edge}
 use Rattle.spread_graph.proofs.ReacherLaws.{IsEdgesOf}
 use Rattle.spread_graph.proofs.edges.edges_of.Given as goal
 
 abbrev pub invariant-loop-fragment : goal.invariant-loop-fragment
-invariant-loop-fragment l = IsEdgesOf l.graph l.edges.items l.taken.items
-
-abbrev pub decreases-loop-fragment : goal.decreases-loop-fragment
-decreases-loop-fragment l = vec_len l.order
+invariant-loop-fragment l = IsEdgesOf l.rows l.edges.items l.taken.items
 
 abbrev pub invariant-loop-fragment-2 : goal.invariant-loop-fragment-2
 invariant-loop-fragment-2 l = record {
-  so_far : IsEdgesOf l.graph l.edges.items l.taken.items;
-  before : (f j : ℕ) → f < l.fragment → spreads l.graph (owner.Fragment f) j ≡ true → has_edge l.edges.items f j ≡ true;
+  so_far : IsEdgesOf l.rows l.edges.items l.taken.items;
+  before : (f j : ℕ) → f < l.fragment → is_among j (row_at (rows_in l.rows) f) ≡ true → has_edge l.edges.items f j ≡ true;
 }

@@ -14,6 +14,6 @@ loop-number-preserved c = λ s.
     let n = c.loop-number.number in
     let row = c.row_of-own.result.now in
     let alone = within-alone c.alone.result set n c.alone.ensures in
-    let here : (is_among s row && not (is_within c.alone.result set)) ≡ is_missing_at rows c.args.first set s n =
-    ap (λ (r : List ℕ). is_among s r && not (is_within c.alone.result set)) c.row_of-own.ensures ∙ ap (λ b. is_among s (row_at rows (c.args.first + n)) && not b) alone in
-    below_more (is_missing_at rows c.args.first set s) n (slice_index_or c.note_row.new.noted.items s false) (slice_index_or c.loop-number.noted.items s false) (slice_index_or c.args.noted.now.items s false) _ (c.in_ok-note_row.ensures s) here (c.loop-number.invariant s)
+    let here : (is_among s row && not (is_within c.alone.result set)) ≡ is_missing_at rows c.args.batch.now.first set s n =
+    ap (λ (r : List ℕ). is_among s r && not (is_within c.alone.result set)) c.row_of-own.ensures ∙ ap (λ b. is_among s (row_at rows (c.args.batch.now.first + n)) && not b) alone in
+    below_more (is_missing_at rows c.args.batch.now.first set s) n (slice_index_or c.note_row.new.noted.items s false) (slice_index_or c.loop-number.noted.items s false) (slice_index_or c.args.noted.now.items s false) _ (c.in_ok-note_row.ensures s) here (c.loop-number.invariant s)

@@ -5,4 +5,4 @@ use Rattle.spread_graph.proofs.missing.note_missing_in_operations.Given as goal
 
 abbrev pub invariant-loop-number : goal.invariant-loop-number
 invariant-loop-number l = (s : ℕ) →
-    slice_index_or l.noted.items s false ≡ (any_below (is_missing_at (rows_in l.rows) l.first (set_at l.sets (slice_index l.numbers s)) s) l.number || slice_index_or l.initial.noted.items s false)
+    slice_index_or l.noted.items s false ≡ (any_below (is_missing_at (rows_in l.rows) l.batch.first (set_at l.sets (slice_index l.numbers s)) s) l.number || slice_index_or l.initial.noted.items s false)

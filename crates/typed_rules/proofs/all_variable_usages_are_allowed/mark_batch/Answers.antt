@@ -14,18 +14,18 @@ pub returns : goal.returns
 returns c = λ g k are within.
     let table = c.args.table.now in
     let batch = c.args.batch.now in
-    let items = c.args.parts.now.uses.items in
+    let items = c.args.uses.now in
     let uses = map use_of items in
-    let all = c.args.parts.now.document.now.operations.items in
+    let all = batch.operations.now in
     let kind = c.requires.kinds k (omega (arith, within, length-map items use_of)) in
     let r = slice_index table.kinds.stand_ins.items k in
     let set = set_at c.in_ok-sets.sets.items r in
     let rows = rows-seen table.places items c.requires.places k within in
-    let allows = rw (c.deref.ensures.value, c.deref-2.ensures.value) at c.in_ok-sets.ensures in
-    let by_own = rw (c.deref-3.ensures.value, c.deref-4.ensures.value, c.deref-5.ensures.value) at (c.in_ok-note_missing_in_operations.ensures k) in
-    let by_all = rw (c.deref-6.ensures.value, c.deref-7.ensures.value, c.deref-8.ensures.value, c.deref-9.ensures.value) at (c.in_ok-note_missing_in_fragments.ensures k) in
+    let allows = c.in_ok-sets.ensures in
+    let by_own = rw (c.deref.ensures.value, c.deref-2.ensures.value, c.deref-3.ensures.value) at (c.in_ok-note_missing_in_operations.ensures k) in
+    let by_all = rw (c.deref-4.ensures.value, c.deref-5.ensures.value, c.deref-6.ensures.value, c.deref-7.ensures.value) at (c.in_ok-note_missing_in_fragments.ensures k) in
     forbids_batch g (use_at uses k) k (map operation_of all) batch.first batch.count (rows_in table.places.operations.items) (rows_in table.places.fragments.items) batch.reached.items set
     (slice_index_or c.args.marks.now.items k false) (slice_index_or c.note_missing_in_operations.new.noted.items k false) (slice_index_or c.note_missing_in_fragments.new.noted.items k false)
-    are (omega (arith, c.requires.within, length-map all operation_of)) (λ q. rows (owner.Operation q)) (λ j. rows (owner.Fragment j))
+    are (omega (arith, batch.within, length-map all operation_of)) (λ q. rows (owner.Operation q)) (λ j. rows (owner.Fragment j))
     (λ m o lt is. allows r m o (omega (arith, kind.within, length-map items use_of)) lt kind.listed is ∙ ap (λ b. not b) (same_forbids o.variables (use_at uses r) (use_at uses k) kind.name kind.location))
     by_own by_all

@@ -1,6 +1,7 @@
 use Rattle.std.proofs.Common.{◌≡◌, ◌<◌, ◌≤◌, ◌+◌, ℕ, true, not, Some, length, map, slice_get}
-use Rattle.gq_parser.specs.Tree.{Operation, operation_of}
+use Rattle.gq_parser.specs.Tree.{Operation}
 use Rattle.document_parts.specs.Parts.{use_of}
+use Rattle.spread_graph.specs.Operations.{operations_in}
 use Rattle.spread_graph.specs.Batches.{has, set_at}
 use Rattle.typed_rules.specs.AllVariableUsagesAreAllowed.{forbids}
 use Rattle.typed_rules.specs.UseKinds.{use_at, IsKind}
@@ -8,7 +9,7 @@ use Rattle.typed_rules.proofs.allowed_uses.allowed.Given as goal
 
 abbrev pub invariant-loop-number : goal.invariant-loop-number
 invariant-loop-number l = record {
-  before : (r m : ℕ) (o : Operation) → r < length l.uses → m < l.number → IsKind l.kinds.known (map use_of l.uses) r → slice_get (map operation_of l.operations) (l.first + m) ≡ Some o →
+  before : (r m : ℕ) (o : Operation) → r < length l.uses → m < l.number → IsKind l.kinds.known (map use_of l.uses) r → slice_get (operations_in l.batch) (l.batch.first + m) ≡ Some o →
       has (set_at l.sets.items r) m ≡ not (forbids o.variables (use_at (map use_of l.uses) r));
   behind : (r m : ℕ) → r < length l.uses → l.number ≤ m → m < 64 → has (set_at l.sets.items r) m ≡ true;
 }

@@ -1,4 +1,4 @@
-use Rattle.std.proofs.Common.{◌≡◌, ◌∙◌, sym, ap, subst, ℕ, ◌<◌, ◌≤◌, ◌++◌, [], List, take, length, Option, IfSome, inl, inr, lit<}
+use Rattle.std.proofs.Common.{◌≡◌, ap, subst, ℕ, ◌<◌, ◌≤◌, take, length, IfSome, inl, inr, lit<}
 use Rattle.std.specs.Option.{option_map}
 use Rattle.std.specs.Prelude.{string_bytes, string_len}
 use Rattle.std.specs.Global.{Vec}

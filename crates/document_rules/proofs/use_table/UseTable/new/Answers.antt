@@ -3,7 +3,8 @@ use Rattle.std.proofs.Math.Path.{fun_ext}
 use Rattle.std.proofs.lemmas.List.{length-map}
 use Rattle.document_parts.specs.Parts.{VariableUse, use_of}
 use Rattle.document_rules.specs.UseTable.{numbers_by}
-use Rattle.document_rules.specs.UseRows.{rows_in, Stands}
+use Rattle.spread_graph.specs.OwnerRows.{owner_rows}
+use Rattle.document_rules.specs.UseRows.{Stands}
 use Rattle.document_rules.proofs.UseLaws.{use_at-map, stood_more, alike_more}
 use Rattle.document_rules.proofs.use_table.UseTable.new.Goals as goal
 
@@ -22,8 +23,8 @@ loop-place-preserved c =
     record {
       placed = omega (arith, c.in_ok-push.ensures.len);
       so_far = next.further;
-      stood = rw c.in_ok-push.ensures.items (stood_more uses numbers so_far.items (rows_in c.loop-place.rows) (rows_in c.stand_in.new.rows) c.stand_in.new.lasts.items item.owner number k c.in_ok-stand.stand placed own next c.loop-place.invariant.stood);
-      alike = rw c.in_ok-push.ensures.items (alike_more uses numbers so_far.items (rows_in c.loop-place.rows) (rows_in c.stand_in.new.rows) c.stand_in.new.lasts.items item.owner number k c.in_ok-stand.stand placed own next c.loop-place.invariant.alike);
+      stood = rw c.in_ok-push.ensures.items (stood_more uses numbers so_far.items (owner_rows c.loop-place.rows) (owner_rows c.stand_in.new.rows) c.stand_in.new.lasts.items item.owner number k c.in_ok-stand.stand placed own next c.loop-place.invariant.stood);
+      alike = rw c.in_ok-push.ensures.items (alike_more uses numbers so_far.items (owner_rows c.loop-place.rows) (owner_rows c.stand_in.new.rows) c.stand_in.new.lasts.items item.owner number k c.in_ok-stand.stand placed own next c.loop-place.invariant.alike);
     }
 
 pub returns : goal.returns

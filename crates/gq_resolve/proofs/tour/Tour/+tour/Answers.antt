@@ -14,7 +14,7 @@ use Rattle.execution.specs.Loads.{Reader}
 use Rattle.execution.specs.Program.{Fault, Program, Is, Under, ListOf, ObjectOf}
 use Rattle.gq_check.specs.Plans.{PlanOf, plan_of}
 use Rattle.plan_program.specs.PlanPrograms.{TypeOf, object_type, type_fault, type_of_row, places, read_key, read_if, typed_object, object_program}
-use Rattle.gq_resolve.specs.Groups.{children_at, then_at, steps_in, Covers, IsShaped}
+use Rattle.gq_resolve.specs.Groups.{children_at, then_at, steps_in, Covers, AreOnly, IsShaped}
 use Rattle.gq_resolve.specs.Puts.{Ends, Waits, View, OnwardOf, puts}
 use Rattle.gq_resolve.specs.Positions.{onward_of, later_of}
 use Rattle.gq_resolve.specs.Evaluated.{lookup}
@@ -22,7 +22,7 @@ use Rattle.gq_resolve.specs.Following.{followed_puts}
 use Rattle.gq_resolve.specs.declared.groups.Group.{Group}
 use Rattle.gq_resolve.specs.declared.groups.Member.{Member}
 use Rattle.gq_resolve.specs.declared.groups.Then.TheVariants.{Joined}
-use Rattle.gq_resolve.proofs.Touring.{Laws, goes-put, goes-as, walks-as, goes-probed, goes-entered, goes-ended, goes-made, goes-let_go, fields_put, fields-more, known-at, items-more, items-whole, joined_by, after-first, after-all, after-joined, after-followed, after-missing, after-row, after-head, map-map}
+use Rattle.gq_resolve.proofs.Touring.{Laws, goes-put, goes-as, walks-as, goes-probed, goes-entered, goes-ended, goes-made, goes-only-none, goes-only, goes-let_go, fields_put, fields-more, known-at, items-more, items-whole, joined_by, after-first, after-all, after-joined, after-followed, after-missing, after-row, after-head, map-map}
 use Rattle.gq_resolve.proofs.tour.Tour.+tour.Given.{Over}
 use Rattle.gq_resolve.proofs.tour.Tour.+tour.Goals as goal
 
@@ -196,11 +196,31 @@ row-as plan gs lent v onward cov lt row defs name ty same said named is =
     (is ∙ ap (λ ds. type_of_row ds name row) said ∙ ap (λ n. type_of_row plan.definitions n row) (named ∙ ap (λ (xs : List Group). (children_at xs onward.group).type_name) same))
     ∙ sym (after-row plan gs v onward cov lt row)
 
+pub row_object-returns-in-Some : goal.row_object-returns-in-Some
+row_object-returns-in-Some g t c =
+    let lent : c.in-Some.members.value.items ≡ c.deref-in-Some-2.result.now = sym (c.deref-in-Some-2.ensures.value ∙ ap (λ (xs : Vec Member Global). xs.items) c.deref-in-Some.ensures) in
+    let only : AreOnly c.deref.result.now c.args.to.onward.group c.in-Some.members.value.items = rw c.in-Some.is at c.in_ok-members.ensures in
+    c.only_object.ensures (subst (λ (gs : List Group). AreOnly gs c.args.to.onward.group c.deref-in-Some-2.result.now) c.deref.ensures.value
+    (subst (λ (ms : List Member). AreOnly c.deref.result.now c.args.to.onward.group ms) lent only))
+
+pub only_object-returns-then-levels-eq0 : goal.only_object-returns-then-levels-eq0
+only_object-returns-then-levels-eq0 g t c = λ only.
+    let none : 0 ≡ c.args.to.onward.levels = omega (arith, c.if-levels-eq0.true) in
+    on_ok_weaker c.leaf_value.result
+    (λ q. goes-only-none {goes = g.S.Sink.goes} {below = g.S.Sink.below} c.args.to.non_null (lookup c.args.self.now.memory.now) (onward_of c.args.to.onward) c.args.row.now c.args.at.now _ c.args.members.now none only (λ k. k) (goes-put refl (λ k v _. q v)))
+    c.leaf_value.ensures
+
+pub only_object-returns : goal.only_object-returns
+only_object-returns g t c = λ only.
+    on_ok_weaker c.object.result
+    (λ p. goes-only c.args.to.non_null (lookup c.args.self.now.memory.now) (onward_of c.args.to.onward) (c.args.to.onward.levels - 1) c.args.row.now c.args.at.now _ c.args.members.now (omega (arith, c.if-levels-eq0.false)) only (λ k. k) p)
+    c.object.ensures
+
 pub row_object-returns-in-Object : goal.row_object-returns-in-Object
 row_object-returns-in-Object g t c =
     let seen : object_type c.in-Object.ty.now ≡ type_of_row (tree_of c.schema.result.now) c.type_name_of-name.result.now c.args.row.now = rw c.in-Object.is at c.in_ok-ty.ensures in
     on_ok_weaker c.typed_object.result
-    (λ p. walks-as c.args.to.non_null _ _ _ p (λ lt v cov. row-as _ c.args.at.now.groups.items _ v (onward_of c.args.to.onward) cov lt c.args.row.now _ _ _ c.deref.ensures.value (ap tree_of c.schema.ensures) c.type_name_of-name.ensures seen))
+    (λ p. walks-as c.args.to.non_null _ _ _ p (λ lt v cov. row-as _ c.args.at.now.groups.items _ v (onward_of c.args.to.onward) cov lt c.args.row.now _ _ _ c.deref-2.ensures.value (ap tree_of c.schema.ensures) c.type_name_of-name.ensures seen))
     c.typed_object.ensures
 
 pub row_object-returns-in-Fault : goal.row_object-returns-in-Fault
@@ -208,7 +228,7 @@ row_object-returns-in-Fault g t c =
     let seen : type_fault (string_bytes c.in-Fault.text) ≡ type_of_row (tree_of c.schema.result.now) c.type_name_of-name.result.now c.args.row.now = rw c.in-Fault.is at c.in_ok-ty.ensures in
     on_ok_weaker c.leaf_value.result
     (λ q. walks-as c.args.to.non_null _ (λ v. Is (Fault (string_bytes c.in-Fault.text))) _ (goes-put refl (λ k v _. q v))
-    (λ lt v cov. row-as _ c.args.at.now.groups.items _ v (onward_of c.args.to.onward) cov lt c.args.row.now _ _ _ c.deref.ensures.value (ap tree_of c.schema.ensures) c.type_name_of-name.ensures seen))
+    (λ lt v cov. row-as _ c.args.at.now.groups.items _ v (onward_of c.args.to.onward) cov lt c.args.row.now _ _ _ c.deref-2.ensures.value (ap tree_of c.schema.ensures) c.type_name_of-name.ensures seen))
     c.leaf_value.ensures
 
 pub typed_object-returns : goal.typed_object-returns

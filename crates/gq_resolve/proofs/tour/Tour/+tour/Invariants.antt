@@ -16,6 +16,9 @@ use Rattle.gq_resolve.proofs.tour.Tour.+tour.Given as goal
 abbrev pub decreases-typed_object : goal.decreases-typed_object
 decreases-typed_object g l = 30 * l.to.onward.levels
 
+abbrev pub decreases-only_object : goal.decreases-only_object
+decreases-only_object g l = 30 * l.to.onward.levels
+
 abbrev pub decreases-row_object : goal.decreases-row_object
 decreases-row_object g l = 30 * l.to.onward.levels + 1
 

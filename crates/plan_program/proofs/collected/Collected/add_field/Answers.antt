@@ -1,4 +1,4 @@
-use Rattle.std.proofs.Common.{◌≡◌, ℕ, List, ap, ◌∙◌, sym, ◌++◌, ◌∷◌, []}
+use Rattle.std.proofs.Common.{◌≡◌, ℕ, List, ap, ◌∙◌, ◌++◌, ◌∷◌, []}
 use Rattle.std.specs.Borrow.{Bor}
 use Rattle.std.proofs.lemmas.List.{map-append}
 use Rattle.gq_parser.specs.declared.tree.Field.{Field}
@@ -6,7 +6,7 @@ use Rattle.std.proofs.Math.Seq.{map-set_same}
 use Rattle.plan_program.specs.declared.group.Group.{Group}
 use Rattle.plan_program.specs.Groups.{FieldOf, GroupOf, Collected}
 use Rattle.plan_program.specs.Seen.{field_seen, fields_seen, groups_of}
-use Rattle.plan_program.specs.Collecting.{texts_of}
+use Rattle.plan_program.specs.Finding.{texts_of}
 use Rattle.plan_program.proofs.Grouping.{put_at, put_last}
 use Rattle.plan_program.proofs.collected.Collected.add_field.Goals as goal
 
@@ -18,7 +18,7 @@ group key fields = record { key = key; fields = fields }
 
 pub invariant_of-self : goal.invariant_of-self
 invariant_of-self c = record {
-  same_keys = c.args.self.now.same_keys ∙ sym (map-set_same (λ (g : Group). g.key.now) c.args.self.now.groups.items c.in-Some.place (record { key = c.index_mut.result.now.key; fields = c.push.new.self }) c.index_mut.result.now (ap (λ (g : Group). g.key.now) c.index_mut.ensures.value));
+  found = rw (map-set_same (λ (g : Group). g.key.now) c.args.self.now.groups.items c.in-Some.place (record { key = c.index_mut.result.now.key; fields = c.push.new.self }) c.index_mut.result.now (ap (λ (g : Group). g.key.now) c.index_mut.ensures.value)) c.args.self.now.found;
 }
 
 pub returns-in_ok-push-in-Some : goal.returns-in_ok-push-in-Some
@@ -27,8 +27,8 @@ returns-in_ok-push-in-Some c =
     let fields : fields_seen c.push.new.self.items ≡ fields_seen g.fields.items ++ field_seen c.args.field.now ∷ [] =
     ap fields_seen c.in_ok-push-in-Some.ensures.items ∙ map-append (λ (f : Bor Field). field_seen f.now) g.fields.items (c.args.field ∷ []) in
     ap (λ (gs : List GroupOf). collected gs (texts_of c.args.self.now.entered.keys))
-    (put_at c.args.self.now.groups.items c.args.self.now.keys.keys (field_seen c.args.field.now) c.key_of-key.result.now c.in-Some.place g (record { key = g.key; fields = c.push.new.self })
-    c.args.self.now.same_keys c.key_of-key.ensures c.in-Some.ensures.index c.index_mut.ensures.value (ap (λ (fs : List FieldOf). group g.key.now fs) fields))
+    (put_at c.args.self.now.groups.items (field_seen c.args.field.now) c.key_of-key.result.now c.in-Some.place g (record { key = g.key; fields = c.push.new.self })
+    c.key_of-key.ensures (rw c.deref.ensures.value at c.in-Some.ensures) c.index_mut.ensures.value (ap (λ (fs : List FieldOf). group g.key.now fs) fields))
 
 pub returns-in_ok-push-in-None-2 : goal.returns-in_ok-push-in-None-2
 returns-in_ok-push-in-None-2 c =
@@ -38,5 +38,5 @@ returns-in_ok-push-in-None-2 c =
     let groups : c.push-in-None-2.new.self.items ≡ c.args.self.now.groups.items ++ g ∷ [] =
     c.in_ok-push-in-None-2.ensures.items ∙ ap (λ (gs : List Group). gs ++ g ∷ []) c.in_ok-reserve-in-None.ensures.items in
     ap (λ (gs : List GroupOf). collected gs (texts_of c.args.self.now.entered.keys))
-    (ap groups_of groups ∙ put_last c.args.self.now.groups.items c.args.self.now.keys.keys f c.key_of-key.result.now g
-    c.args.self.now.same_keys c.key_of-key.ensures c.in-None.ensures.found (ap (λ (k : List ℕ). group k (fields_seen c.push-in-None.new.self.items)) c.key_of-key.ensures ∙ ap (λ (fs : List FieldOf). group f.key fs) fields))
+    (ap groups_of groups ∙ put_last c.args.self.now.groups.items f c.key_of-key.result.now g
+    c.key_of-key.ensures (rw c.deref.ensures.value at c.in-None.ensures) (ap (λ (k : List ℕ). group k (fields_seen c.push-in-None.new.self.items)) c.key_of-key.ensures ∙ ap (λ (fs : List FieldOf). group f.key fs) fields))

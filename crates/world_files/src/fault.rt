@@ -1,0 +1,56 @@
+//! Why files give no world.
+
+ghost use Rattle.std.specs.Prelude.{◌≡◌};
+ghost use Rattle.world_files.specs.declared.fault.OpenFault.TheVariants.{NoMemory};
+
+use csv_source::TableFault;
+use std::alloc::{AllocError, AllocFailed};
+use std::io;
+use world::WorldFault;
+
+/// One of the files that are opened.
+#[derive(Clone, Copy, Debug)]
+pub enum InputFile {
+    Schema,
+    Bindings,
+    /// The table of this place, from 0.
+    Table(usize),
+    /// The request lines.
+    Requests,
+}
+
+/// Why files give no world, or no request lines.
+#[derive(Debug, Drop)]
+pub enum OpenFault {
+    /// A file can't be opened or read, is too long, or is no text where it has to be.
+    Unread {
+        file: InputFile,
+        reason: io::Error,
+    },
+    /// The table of this place is refused.
+    Table {
+        place: usize,
+        fault: TableFault,
+        /// What the system says, if the file can't be read to its end.
+        reason: Option<io::Error>,
+    },
+    /// There is no world of the texts and the tables that were read.
+    World(WorldFault),
+    NoMemory,
+}
+
+impl From<AllocError> for OpenFault {
+    ghost from_gives = { λ _ fault. fault ≡ NoMemory };
+
+    fn from(_: AllocError) -> OpenFault {
+        OpenFault::NoMemory
+    }
+}
+
+impl<T: Drop> From<AllocFailed<T>> for OpenFault {
+    ghost from_gives = { λ _ fault. fault ≡ NoMemory };
+
+    fn from(_: AllocFailed<T>) -> OpenFault {
+        OpenFault::NoMemory
+    }
+}
