@@ -2,7 +2,7 @@
 
 ghost use Rattle.std.specs.Prelude.{◌≡◌, Some, None, IfOk, is_some, map, string_bytes};
 ghost use Rattle.std.specs.Option.{option_map};
-ghost use Rattle.gq_parser.specs.Tree.{type_of, literal_of, values_of};
+ghost use Rattle.gq_parser.specs.Tree.{type_of, literal_of, map_literals, values_of};
 ghost use Rattle.gq_schema.specs.Types.{tree_of};
 ghost use Rattle.gq_schema.specs.Inputs.{Null, input_of};
 ghost use Rattle.gq_schema.specs.Coercion.{int_of, from_int, from_text, from_enum, named_value, value_with, all_items, list_input, one_item, coerced, accepts, place_of};
