@@ -128,18 +128,3 @@ none-met a b la lb none m =
 pub has-empty : (i : ℕ) → has [] i ≡ false
 unfolding has
 has-empty i = ap (λ b. b == 1) (bit_at-zero (i % 64))
-
-pub has-within : (words : List ℕ) (i : ℕ) → length words ≡ 16 → has words i ≡ true → i < 1024
-has-within words i len e =
-    elim (cases_lt i 1024) [
-      | inl inside ↦ inside
-      | inr past ↦
-          let one = bit-of words i e in
-          let z : bit_at (get_or words (i / 64) 0) (i % 64) ≡ 0 = ap (λ w. bit_at w (i % 64)) (get_or_past words (i / 64) 0 (omega arith)) ∙ bit_at-zero (i % 64) in
-          omega (arith, one, z)
-    ]
-
--- a word without a bit
-pub has-zero : (words : List ℕ) (f i : ℕ) → get_or words (f / 64) 0 ≡ 0 → i / 64 ≡ f / 64 → has words i ≡ false
-unfolding has
-has-zero words f i e same = rw (same, e) (ap (λ b. b == 1) (bit_at-zero (i % 64)))

@@ -3,5 +3,4 @@ pub mod ClashLaws
 pub mod MergeLaws
 pub mod ReachLaws
 pub mod RenumberLaws
-pub mod SetLaws
 pub mod TableLaws

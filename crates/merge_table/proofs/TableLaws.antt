@@ -4,7 +4,7 @@ use Rattle.std.proofs.lemmas.List.{get_or_past, get_or_append_left, get_or_push,
 use Rattle.std.proofs.lemmas.Bool.{cases_lt, cases_eq, or_cases, or_parts, or_left, or_right, and_parts, and_cases, both_ways, cases_Bool, eqb-true, eq-eqb, ne_eqb}
 use Rattle.merge_table.specs.Sets.{has, Common, Meets}
 use Rattle.merge_table.specs.Merging.{Fields, IsPair, joined}
-use Rattle.merge_table.specs.Numbered.{at, test_at, have_one_key, are_alike, may_meet, do_agree, fields_of, members_at}
+use Rattle.merge_table.specs.Numbered.{at, test_at, have_one_key, are_alike, may_meet, do_agree, fields_of}
 use Rattle.merge_table.specs.declared.field.Field.{Field}
 use Rattle.merge_table.specs.Table.{row, entry, fail, IsBelow, Tells, TellsAll, Found, FailsWith, AreMarks, TestsJoined, TestsPair, KnowsInner, Holds, fails_itself, asks_members, fails_with}
 use Rattle.merge_table.specs.declared.recursion.Rule.{Rule}
@@ -323,15 +323,6 @@ row-same P old a below each here = (λ k e. let b = below k e in omega arith, al
           | inr last ↦ let e : k ≡ a = omega arith in rw (e, absent) here
         ]
 
-at-past : {A : Type 0} (g : Field → A) (d : A) (fields : List Field) (b : ℕ) → length fields ≤ b → at g d fields b ≡ d
-at-past g d [] b h = refl
-at-past g d (r ∷ rs) zero h = absurd (omega arith)
-at-past g d (r ∷ rs) (suc b) h = at-past g d rs b (omega arith)
-
--- past the last field there are no members
-pub no-members : (fields : List Field) (b c : ℕ) → length fields ≤ b → has (members_at fields b) c ≡ true → ⊥
-no-members fields b c h e = both_ways (has (members_at fields b) c) (ap (λ w. has w c) (at-past (λ f. f.members) [] fields b h) ∙ has-empty c) e
-
 at-same : {A : Type 0} (f g : Field → A) (d : A) (fields : List Field) (n : ℕ) → ((x : Field) → f x ≡ g x) → at f d fields n ≡ at g d fields n
 at-same f g d [] n h = refl
 at-same f g d (r ∷ rs) zero h = h r
@@ -371,8 +362,3 @@ fields-symmetric fields = record {
   meet = test-swap may_meet (λ x y. rw (eq-swap x.parent y.parent, or-comm (not x.object) (not y.object)) refl) fields;
   agree = test-swap do_agree (λ x y. rw (eq-swap x.name y.name, eq-swap x.arguments y.arguments) refl) fields;
 }
-
-pub fields-reflexive : (fields : List Field) (a : ℕ) → a < length fields → (fields_of fields).one_key a a ≡ true
-fields-reflexive [] a h = absurd (omega arith)
-fields-reflexive (f ∷ fs) zero h = eq-eqb f.key f.key refl
-fields-reflexive (f ∷ fs) (suc a) h = fields-reflexive fs a (omega arith)

@@ -1,7 +1,12 @@
 -- Which fields of a set clash, and the first of them whose response key has a clash. A set is a list of its fields in order of first meeting.
-use Rattle.std.specs.Prelude.{◌≡◌, ◌<◌, ℕ, Bool, true, false, ◌&&◌, List, Option}
+use Rattle.std.specs.Prelude.{◌≡◌, ◌<◌, ℕ, Bool, true, false, ◌&&◌, List, Option, length}
 use Rattle.std.specs.List.{list_any, find}
+use Rattle.merge_table.specs.declared.field.Field.{Field}
+use Rattle.merge_table.specs.declared.sets.Reached.{Reached}
+use Rattle.merge_table.specs.Entered.{IsReached}
+use Rattle.merge_table.specs.Numbered.{fields_of, is_in}
 use Rattle.merge_table.specs.Sets.{has}
+use Rattle.merge_table.specs.Table.{fail}
 
 -- a field with the response key of field f clashes with another of the set
 abbrev pub key_clashes : (ℕ → ℕ → Bool) → (ℕ → ℕ → Bool) → List ℕ → ℕ → Bool
@@ -23,6 +28,11 @@ pub record MarkedKey (one_key : ℕ → ℕ → Bool) (members marks : List ℕ)
 pub record TestsKey (one_key : ℕ → ℕ → Bool) (members marks : List ℕ) (n f : ℕ) (tested : Bool) : Type 0 where
   pub found : tested ≡ true → MarkedKey one_key members marks n f
   pub none : tested ≡ false → MarkedKey one_key members marks n f → ⊥
+
+-- the fields whose response key has a clash in a set, whatever set of these fields was reached
+abbrev pub AreFailingKeys : List Field → Reached → List ℕ → Type 0
+AreFailingKeys fields reached keys = (rows : List (List ℕ)) (ms : List ℕ) → ((c : ℕ) → is_in ms c ≡ true → c < length fields) → IsReached rows ms reached
+    → (f : ℕ) → f < length fields → has keys f ≡ key_clashes (fields_of fields).one_key (fail rows) ms f
 
 -- two of a set clash
 abbrev pub has_clash : (ℕ → ℕ → Bool) → List ℕ → Bool

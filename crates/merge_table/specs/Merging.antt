@@ -1,5 +1,5 @@
 -- *Field selection merging* (section 5.3.2): the standard's two recursions.
-use Rattle.std.specs.Prelude.{◌≡◌, ◌≢◌, Bool, true, ◌||◌, List, ◌∷◌, Option, Some, None}
+use Rattle.std.specs.Prelude.{◌≡◌, ◌≢◌, Bool, true, ◌||◌, List, ◌∷◌}
 
 -- What the rule asks of the fields of a document, where F stands for a field.
 pub record Fields (F : Type 0) : Type 0 where
@@ -59,9 +59,3 @@ KeyMerges {F} D ms f = (a b : F) → IsPair D ms a b → D.one_key a f ≡ true 
 pub data IsFirst {F : Type 0} (D : Fields F) (ms : F → Bool) (f : F) : List F → Type 0 where
   breaks : {fs : List F} → Breaks D ms f → IsFirst D ms f (f ∷ fs)
   later : {g : F} {fs : List F} → KeyMerges D ms g → IsFirst D ms f fs → IsFirst D ms f (g ∷ fs)
-
--- what is said of a set, whose members stand in a list in order of first meeting: it can be merged, or the first member whose
--- response key has a failing pair
-abbrev pub SaysOf : {F : Type 0} → Fields F → (F → Bool) → List F → Option F → Type 0
-SaysOf D ms order None = CanMerge D ms
-SaysOf D ms order (Some f) = (CanMerge D ms → ⊥) × IsFirst D ms f order

@@ -46,11 +46,6 @@ fields_of fields = record {
 abbrev pub AreInOrder : List Field → Type 0
 AreInOrder fields = (b c : ℕ) → (fields_of fields).enters b c ≡ true → c < b
 
--- the numbers of a list are below n
-abbrev pub AreBelow : List ℕ → ℕ → Type 0
-AreBelow [] n = Unit {0}
-AreBelow (m ∷ ms) n = (m < n) × AreBelow ms n
-
 -- a number stands in a list
 abbrev pub is_in : List ℕ → ℕ → Bool
 is_in [] x = false

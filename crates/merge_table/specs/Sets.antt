@@ -1,5 +1,5 @@
 -- Sets of numbers, as words of bits.
-use Rattle.std.specs.Prelude.{◌≡◌, ◌<◌, ℕ, ◌/◌, ◌%◌, Bool, true, false, ◌==◌, List, slice_index}
+use Rattle.std.specs.Prelude.{◌≡◌, ℕ, ◌/◌, ◌%◌, Bool, true, false, ◌==◌, List, slice_index}
 use Rattle.std.specs.Int.{bit_at}
 
 -- bit i % 64 of word i / 64
@@ -17,6 +17,6 @@ pub record Meets (a b : List ℕ) (met : Bool) : Type 0 where
   pub found : met ≡ true → Common a b
   pub none : met ≡ false → Common a b → ⊥
 
--- all numbers in it are below n
-abbrev pub AllBelow : List ℕ → ℕ → Type 0
-AllBelow a n = (i : ℕ) → has a i ≡ true → i < n
+-- no number is in it
+abbrev pub IsEmpty : List ℕ → Type 0
+IsEmpty a = (i : ℕ) → has a i ≡ true → ⊥

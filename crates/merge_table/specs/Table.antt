@@ -1,5 +1,5 @@
 -- A table of pairs of numbered fields: row b has each a below b that fails with it.
-use Rattle.std.specs.Prelude.{◌≡◌, ◌≢◌, ◌⊎◌, ℕ, ◌<◌, Bool, true, false, ◌||◌, ◌&&◌, not, List, [], ◌∷◌, length, slice_index_or, Option, Some, None, if◌then◌else◌}
+use Rattle.std.specs.Prelude.{◌≡◌, ◌≢◌, ◌⊎◌, ℕ, ◌<◌, Bool, true, false, ◌||◌, ◌&&◌, not, List, [], length, slice_index_or}
 use Rattle.merge_table.specs.declared.recursion.Rule.{Rule}
 use Rattle.merge_table.specs.declared.recursion.Rule.TheVariants.{Shape, Merge}
 use Rattle.merge_table.specs.Sets.{has, Common}
@@ -98,13 +98,3 @@ pub record KnowsInner (D : Fields ℕ) (rows : List (List ℕ)) (inner : List �
   pub below : (a : ℕ) → has inner a ≡ true → a < n
   pub only : (a : ℕ) → has inner a ≡ true → Found rows (D.enters a) (D.enters a)
   pub all : (a : ℕ) → a < n → Found rows (D.enters a) (D.enters a) → has inner a ≡ true
-
--- one of these has the key of field f and is marked
-abbrev pub has_marked : (ℕ → ℕ → Bool) → List ℕ → ℕ → List ℕ → Bool
-has_marked one_key marks f [] = false
-has_marked one_key marks f (m ∷ ms) = (one_key m f && has marks m) || has_marked one_key marks f ms
-
--- the first of these, in order, of whose key one of all is marked
-abbrev pub first_marked : (ℕ → ℕ → Bool) → List ℕ → List ℕ → List ℕ → Option ℕ
-first_marked one_key marks all [] = None
-first_marked one_key marks all (m ∷ ms) = if has_marked one_key marks m all then Some m else first_marked one_key marks all ms

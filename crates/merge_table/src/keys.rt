@@ -1,10 +1,8 @@
 //! The response keys that keep a set from being merged.
-ghost use Rattle.std.specs.Prelude.{◌≡◌, ◌≢◌, ◌<◌, ◌≤◌, ℕ, List, length, true, false};
-ghost use Rattle.merge_table.specs.Clashes.{TestsKey, key_clashes};
-ghost use Rattle.merge_table.specs.Entered.{IsReached};
-ghost use Rattle.merge_table.specs.Numbered.{fields_of, is_in};
+ghost use Rattle.std.specs.Prelude.{◌≡◌, ◌≢◌, ◌<◌, ◌≤◌, ℕ, length, false};
+ghost use Rattle.merge_table.specs.Clashes.{TestsKey, AreFailingKeys};
+ghost use Rattle.merge_table.specs.Numbered.{fields_of};
 ghost use Rattle.merge_table.specs.Sets.{has};
-ghost use Rattle.merge_table.specs.Table.{fail};
 
 use crate::field::Field;
 use crate::row::Row;
@@ -42,7 +40,7 @@ fn note_key(keys: &mut Row, fields: &[Field], reached: &Reached, f: usize)
 /// being merged.
 pub fn failing_keys(fields: &[Field], reached: &Reached) -> Row
     requires most { length fields.now ≤ 1024 }
-    ensures { (rows : List (List ℕ)) (ms : List ℕ) → ((c : ℕ) → is_in ms c ≡ true → c < length fields.now) → IsReached rows ms reached.now → (f : ℕ) → f < length fields.now → has result f ≡ key_clashes (fields_of fields.now).one_key (fail rows) ms f }
+    ensures { AreFailingKeys fields.now reached.now result }
 {
     let mut keys = Row::new();
     for f in 0..fields.len() {

@@ -2,9 +2,9 @@
 //!
 //! The layer above may rely on this: [`failing_pairs`] finds every pair of fields that conflict in
 //! one selection set, by the two recursions of the specification (`specs/Merging.antt`).
-//! [`first_failing`] says whether a set of fields can merge, and otherwise returns the first of its
-//! members whose response key has a conflict. Fields are numbered so that those of a field's
-//! selection set come before the field. It takes some `n² / 4` word steps for `n` fields.
+//! [`Reached`] gathers what a selection set has, and says whether two of its fields conflict;
+//! [`failing_keys`] then says which response keys have a conflict. Fields are numbered so that those
+//! of a field's selection set come before the field. It takes some `n² / 4` word steps for `n` fields.
 #![tactic(auto)]
 
 mod field;
@@ -17,7 +17,6 @@ mod table;
 
 pub use field::Field;
 pub use keys::failing_keys;
-pub use merge::{failing_pairs, first_failing, is_in_order};
+pub use merge::failing_pairs;
 pub use row::Row;
-pub use sets::{Entry, Reached, are_known, reached_sets};
-pub use table::marks_of;
+pub use sets::Reached;

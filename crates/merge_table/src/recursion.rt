@@ -1,5 +1,5 @@
 //! The rule's two recursions: what each says of a pair of fields with one response key.
-ghost use Rattle.std.specs.Prelude.{◌≡◌, ◌<◌, ◌≤◌, ◌||◌, ℕ, length};
+ghost use Rattle.std.specs.Prelude.{◌≡◌, ◌<◌, ◌≤◌, ◌||◌, length};
 ghost use Rattle.merge_table.specs.Numbered.{fields_of};
 ghost use Rattle.merge_table.specs.Table.{fail, HasShapes, fails_itself, asks_members};
 

@@ -1,6 +1,6 @@
 //! Sets of fields, a bit for each number.
 ghost use Rattle.std.specs.Prelude.{◌≡◌, ◌<◌, ℕ, ◌||◌, ◌==◌, false, MatchBool};
-ghost use Rattle.merge_table.specs.Sets.{has, Meets, AllBelow};
+ghost use Rattle.merge_table.specs.Sets.{has, Meets, IsEmpty};
 
 use std::marker::Model;
 
@@ -75,20 +75,10 @@ impl Row {
         false
     }
 
-    /// Whether all fields of the row are below a number.
-    pub fn is_below(&self, n: usize) -> bool
-        ensures { MatchBool result (AllBelow self.now n) (AllBelow self.now n → ⊥) }
+    /// Whether the row has no field. Only such a row has none in common with itself.
+    pub(crate) fn is_empty(&self) -> bool
+        ensures { MatchBool result (IsEmpty self.now) (IsEmpty self.now → ⊥) }
     {
-        let mut field = n;
-        while field < 64 * WORDS {
-            if self.words[field / 64] == 0 {
-                field = (field / 64 + 1) * 64;
-            } else if has_bit(&self.words, field) {
-                return false;
-            } else {
-                field += 1;
-            }
-        }
-        true
+        !self.meets(self)
     }
 }

@@ -11,14 +11,14 @@ use crate::row::Row;
 use std::alloc::{AllocError, Global};
 
 /// The fields that conflict with one of a set's members.
-pub fn marks_of(rows: &[Row], members: &Row) -> Row
+fn marks_of(rows: &[Row], members: &Row) -> Row
     requires most { length rows.now ≤ 1024 }
     requires below { IsBelow rows.now }
     requires members { (c : ℕ) → has members.now c ≡ true → c < length rows.now }
     ensures { AreMarks rows.now (has members.now) result }
 {
     let mut marks = Row::new();
-    if members.is_below(0) {
+    if members.is_empty() {
         return marks;
     }
     for d in 0..rows.len() {
@@ -33,7 +33,7 @@ pub fn marks_of(rows: &[Row], members: &Row) -> Row
 }
 
 /// The fields that conflict with one field.
-pub fn marks_of_field(rows: &[Row], field: usize) -> Row
+pub(crate) fn marks_of_field(rows: &[Row], field: usize) -> Row
     requires known { field < length rows.now }
     requires most { length rows.now ≤ 1024 }
     ensures { AreMarks rows.now (is_in (field ∷ [])) result }

@@ -4,10 +4,10 @@ use Rattle.merge_table.specs.Sets.{has}
 use Rattle.merge_table.proofs.TableLaws.{marks-all}
 use Rattle.merge_table.proofs.table.marks_of.Goals as goal
 
-pub returns-then-is_below : goal.returns-then-is_below
-returns-then-is_below c = record {
+pub returns-then-is_empty : goal.returns-then-is_empty
+returns-then-is_empty c = record {
   only = λ k e. absurd (both_ways (has c.new-marks.result k) (c.new-marks.ensures k) e);
-  all = λ k d m e. let less = c.if-is_below.ensures d m in absurd (omega (arith, less));
+  all = λ k d m e. absurd (c.if-is_empty.ensures d m);
 }
 
 pub returns : goal.returns
