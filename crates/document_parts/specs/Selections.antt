@@ -1,10 +1,12 @@
 -- The selections of a document, each before those inside it.
-use Rattle.std.specs.Prelude.{ℕ, ◌+◌, List, [], ◌∷◌, ◌++◌, Option, None}
+use Rattle.std.specs.Prelude.{◌≡◌, ℕ, ◌+◌, List, [], ◌∷◌, ◌++◌, map, Option, None}
+use Rattle.std.specs.Global.{Vec}
 use Rattle.gq_parser.specs.Tree.{Field, Spread, Inline, Below, nothing_below, below, SelectionSet, set_at, Selection, Selections, no_selection, and_selection, Operation, Fragment, Document}
 use Rattle.schema_syntax.specs.Tree.{Definition}
 use Rattle.document_parts.specs.declared.part.Owner.{Owner}
 use Rattle.document_parts.specs.declared.part.Owner.TheVariants as owner
-use Rattle.document_parts.specs.Pieces.{SelectionPart}
+use Rattle.document_parts.specs.declared.part.SelectionPart as rust-selection
+use Rattle.document_parts.specs.Pieces.{SelectionPart, selection_part_of}
 use Rattle.document_parts.specs.Parents.{known_field, inside_operation, inside_field, inside_condition, inside_inline}
 
 abbrev mutual
@@ -45,3 +47,7 @@ fragment_selections defs i (f ∷ fs) = selections_in defs (owner.Fragment i) (i
 -- operations first, and then fragments
 abbrev pub document_selections : List Definition → Document → List SelectionPart
 document_selections defs d = operation_selections defs 0 d.operations ++ fragment_selections defs 0 d.fragments
+
+-- the new list is the old one, with these behind it
+abbrev pub AddsSelections : Vec rust-selection.SelectionPart → Vec rust-selection.SelectionPart → List SelectionPart → Type 0
+AddsSelections old new selections = map selection_part_of new.items ≡ map selection_part_of old.items ++ selections

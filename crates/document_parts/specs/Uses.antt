@@ -1,10 +1,12 @@
 -- The uses of variables in values, with their locations (section 5.8.5).
-use Rattle.std.specs.Prelude.{false, List, [], ◌∷◌, ◌++◌, Option, Some, None, is_some}
+use Rattle.std.specs.Prelude.{◌≡◌, false, List, [], ◌∷◌, ◌++◌, map, Option, Some, None, is_some}
 use Rattle.std.specs.Option.{option_and_then, option_map}
+use Rattle.std.specs.Global.{Vec}
 use Rattle.gq_parser.specs.Tree.{TypeTree, Named, ListOf, Value, Variable, Int, Float, Text, Boolean, Null, Enum, Array, Object, Values, no_value, and_value, Members, no_member, and_member}
 use Rattle.schema_syntax.specs.Tree as schema
 use Rattle.document_parts.specs.declared.part.Owner.{Owner}
-use Rattle.document_parts.specs.Pieces.{Location, VariableUse, ArgumentPart}
+use Rattle.document_parts.specs.declared.part.VariableUse as rust-use
+use Rattle.document_parts.specs.Pieces.{Location, VariableUse, ArgumentPart, use_of}
 
 -- the location of an argument's value
 abbrev pub argument_location : schema.Argument → Location
@@ -42,3 +44,7 @@ abbrev mutual
 -- those in an argument
 abbrev pub argument_uses : ArgumentPart → List VariableUse
 argument_uses a = uses_in a.owner (option_map argument_location a.definition) a.value
+
+-- the new list is the old one, with these behind it
+abbrev pub AddsUses : Vec rust-use.VariableUse → Vec rust-use.VariableUse → List VariableUse → Type 0
+AddsUses old new uses = map use_of new.items ≡ map use_of old.items ++ uses

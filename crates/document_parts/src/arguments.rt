@@ -6,7 +6,7 @@ ghost use Rattle.gq_parser.specs.Tree.{type_of, literal_of, values_of, members_o
 ghost use Rattle.schema_syntax.specs.Tree as schema;
 ghost use Rattle.gq_schema.specs.Implements.{argument_in};
 ghost use Rattle.document_parts.specs.Parts.{field_part_of, directive_list_of, argument_list_of, argument_part_of, location_of, use_of};
-ghost use Rattle.document_parts.specs.Uses.{argument_location, item_location, uses_in, uses_among, uses_within, argument_uses};
+ghost use Rattle.document_parts.specs.Uses.{argument_location, item_location, uses_in, uses_among, uses_within, argument_uses, AddsUses};
 ghost use Rattle.document_parts.specs.Listing.{condition_argument, directive_definitions, field_arguments, arguments_with, directive_arguments, argument_with, listed_arguments, argument_lists_in, arguments_in, uses_from};
 
 use crate::part::{
@@ -167,8 +167,7 @@ fn add_uses<'d>(
     literal: &'d Literal,
     uses: &mut Vec<VariableUse<'d>>,
 ) -> Result<(), AllocError>
-    ensures { OnOk result (map use_of uses.new.items
-        ≡ map use_of uses.old.items ++ uses_in owner (option_map location_of location.entry) (literal_of literal.now)) }
+    ensures { OnOk result (AddsUses uses.old uses.new (uses_in owner (option_map location_of location.entry) (literal_of literal.now))) }
 {
     match &literal.value {
         Value::Variable(name) => {
@@ -199,8 +198,7 @@ fn add_item_uses<'d>(
     items: &'d [Literal],
     uses: &mut Vec<VariableUse<'d>>,
 ) -> Result<(), AllocError>
-    ensures { OnOk result (map use_of uses.new.items
-        ≡ map use_of uses.old.items ++ uses_among owner (option_map location_of location.entry) (values_of (map literal_of items.now))) }
+    ensures { OnOk result (AddsUses uses.old uses.new (uses_among owner (option_map location_of location.entry) (values_of (map literal_of items.now)))) }
 {
     for item in items {
         add_uses(owner, location, item, uses)?;
@@ -215,7 +213,7 @@ fn add_member_uses<'d>(
     members: &'d [Argument],
     uses: &mut Vec<VariableUse<'d>>,
 ) -> Result<(), AllocError>
-    ensures { OnOk result (map use_of uses.new.items ≡ map use_of uses.old.items ++ uses_within owner (members_of (map argument_of members.now))) }
+    ensures { OnOk result (AddsUses uses.old uses.new (uses_within owner (members_of (map argument_of members.now)))) }
 {
     for member in members {
         add_uses(owner, None, &member.value, uses)?;
@@ -228,7 +226,7 @@ fn add_argument_uses<'d>(
     argument: &ArgumentPart<'d>,
     uses: &mut Vec<VariableUse<'d>>,
 ) -> Result<(), AllocError>
-    ensures { OnOk result (map use_of uses.new.items ≡ map use_of uses.old.items ++ argument_uses (argument_part_of argument.now)) }
+    ensures { OnOk result (AddsUses uses.old uses.new (argument_uses (argument_part_of argument.now))) }
 {
     let location = match argument.definition {
         Some(definition) => Some(Location {

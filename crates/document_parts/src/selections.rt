@@ -1,11 +1,11 @@
 //! The selections of a document.
 
-ghost use Rattle.std.specs.Prelude.{◌≡◌, ◌++◌, OnOk, IfOk, map};
+ghost use Rattle.std.specs.Prelude.{◌≡◌, OnOk, IfOk, map};
 ghost use Rattle.std.specs.Option.{option_copied};
 ghost use Rattle.gq_parser.specs.Tree.{set_of, selection_of, document_of};
 ghost use Rattle.gq_schema.specs.Types.{tree_of};
 ghost use Rattle.document_parts.specs.Parts.{selection_part_of};
-ghost use Rattle.document_parts.specs.Selections.{selections_in, selections_from, document_selections};
+ghost use Rattle.document_parts.specs.Selections.{selections_in, selections_from, document_selections, AddsSelections};
 
 use crate::parents::{
     inside_condition, inside_field, inside_inline, inside_operation, known_field,
@@ -24,8 +24,7 @@ fn add_set<'d>(
     set: &'d SelectionSet,
     parts: &mut Vec<SelectionPart<'d>>,
 ) -> Result<(), AllocError>
-    ensures { OnOk result (map selection_part_of parts.new.items
-        ≡ map selection_part_of parts.old.items ++ selections_in (tree_of schema.now) owner (option_copied parent.entry) (set_of set.now)) }
+    ensures { OnOk result (AddsSelections parts.old parts.new (selections_in (tree_of schema.now) owner (option_copied parent.entry) (set_of set.now))) }
 {
     for selection in &set.selections {
         add_selection(schema, owner, parent, selection, parts)?;
@@ -42,8 +41,7 @@ fn add_selection<'d>(
     selection: &'d Selection,
     parts: &mut Vec<SelectionPart<'d>>,
 ) -> Result<(), AllocError>
-    ensures { OnOk result (map selection_part_of parts.new.items
-        ≡ map selection_part_of parts.old.items ++ selections_from (tree_of schema.now) owner (option_copied parent.entry) (selection_of selection.now)) }
+    ensures { OnOk result (AddsSelections parts.old parts.new (selections_from (tree_of schema.now) owner (option_copied parent.entry) (selection_of selection.now))) }
 {
     match selection {
         Selection::Field(field) => {

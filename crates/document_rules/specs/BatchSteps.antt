@@ -1,8 +1,6 @@
 -- What the rules on variables learn of a batch of operations.
-use Rattle.std.specs.Prelude.{◌≡◌, ◌<◌, ◌+◌, ◌||◌, ◌&&◌, ℕ, Bool, false, not, List, Option, length, map, filter, drop, bytes_eq, nat_lt, slice_index, slice_index_or}
+use Rattle.std.specs.Prelude.{◌≡◌, ◌<◌, ◌+◌, ◌||◌, ◌&&◌, ℕ, Bool, false, not, List, Option, length, map, filter, drop, nat_lt, slice_index, slice_index_or}
 use Rattle.std.specs.List.{list_any}
-use Rattle.std.specs.HashMap.{HashMap, get_by}
-use Rattle.std.specs.Borrow.{Bor}
 use Rattle.gq_parser.specs.Tree.{Operation}
 use Rattle.document_parts.specs.declared.broken.Earliest.{Earliest}
 use Rattle.document_parts.specs.Broken.{BrokenOf}
@@ -21,10 +19,6 @@ use Rattle.document_rules.specs.UseTable.{is_numbered, has_if}
 use Rattle.document_rules.specs.UseRows.{use_at, IsUseTable, defines_at}
 
 -- ---- sets of a batch's operations, by the numbers of names
-
--- the numbers of names, as the table of uses has them
-abbrev pub number_by : {S : Type 0} → HashMap (Bor (List ℕ)) ℕ S → List ℕ → Option ℕ
-number_by names q = get_by (λ k. bytes_eq q k.now) names
 
 -- a variable of the operation has a name of the number n
 abbrev pub has_numbered : (List ℕ → Option ℕ) → ℕ → Operation → Bool

@@ -1,5 +1,7 @@
 -- Numbers of names. A use goes by its place in the document's list, from 0.
 use Rattle.std.specs.Prelude.{ℕ, ◌==◌, Bool, false, List, map, Option, Some, None, unwrap_or, bytes_eq}
+use Rattle.std.specs.HashMap.{HashMap, get_by}
+use Rattle.std.specs.Borrow.{Bor}
 use Rattle.gq_schema.specs.Places.{place_from}
 use Rattle.gq_parser.specs.Tree.{VariableDefinition}
 use Rattle.document_parts.specs.Parts.{VariableUse}
@@ -12,6 +14,10 @@ is_use name u = bytes_eq name u.name
 -- the number of a name: the place of its first use
 abbrev pub number_in : List VariableUse → List ℕ → Option ℕ
 number_in uses name = place_from 0 (is_use name) uses
+
+-- the numbers of names, as a map has them
+abbrev pub number_by : {S : Type 0} → HashMap (Bor (List ℕ)) ℕ S → List ℕ → Option ℕ
+number_by names q = get_by (λ k. bytes_eq q k.now) names
 
 -- of each use the number of its name
 abbrev pub numbers_by : (List ℕ → Option ℕ) → List VariableUse → List ℕ

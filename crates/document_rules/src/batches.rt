@@ -5,9 +5,9 @@ ghost use Rattle.std.specs.Prelude.{◌≡◌, ◌<◌, ◌==◌, ◌&&◌, ℕ,
 ghost use Rattle.gq_parser.specs.Tree.{operation_of};
 ghost use Rattle.spread_graph.specs.Batches.{has, set_at, any_below};
 ghost use Rattle.spread_graph.specs.Rows.{rows_in};
-ghost use Rattle.document_rules.specs.UseTable.{has_if};
+ghost use Rattle.document_rules.specs.UseTable.{number_by, has_if};
 ghost use Rattle.document_rules.specs.UseRows.{is_number_among, is_used_at, is_used_in, has_number};
-ghost use Rattle.document_rules.specs.BatchSteps.{number_by, has_numbered, Adds, AreDefiners, NotesLacking};
+ghost use Rattle.document_rules.specs.BatchSteps.{has_numbered, Adds, AreDefiners, NotesLacking};
 
 use crate::use_table::{Numbers, UseTable, number_at};
 use gq_parser::Operation;

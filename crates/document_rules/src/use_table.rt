@@ -1,11 +1,10 @@
 //! The uses of variables, by what they stand in and by their names.
 
 ghost use Rattle.std.specs.Prelude.{◌≡◌, ℕ, List, Some, None, IfOk, OnOk, bytes_eq, map, slice_index, if◌then◌else◌};
-ghost use Rattle.std.specs.HashMap.{get_by};
 ghost use Rattle.gq_schema.specs.Scan.{or_else};
 ghost use Rattle.document_parts.specs.Parts.{use_of};
 ghost use Rattle.spread_graph.specs.OwnerRows.{is_same_owner};
-ghost use Rattle.document_rules.specs.UseTable.{number_in, numbers_by};
+ghost use Rattle.document_rules.specs.UseTable.{number_in, number_by, numbers_by};
 ghost use Rattle.document_rules.specs.UseRows.{GoesOn, IsUseTable};
 
 use document_parts::{Owner, VariableUse};
@@ -18,15 +17,14 @@ pub type Numbers<'d> = HashMap<&'d str, usize>;
 
 // Notes the place of a use, unless its name was noted before.
 fn note_use<'d>(names: &mut Numbers<'d>, name: &'d str, place: usize) -> Result<(), AllocError>
-    ensures { (q : List ℕ) → OnOk result (get_by (λ k. bytes_eq q k.now) names.new
-        ≡ or_else (get_by (λ k. bytes_eq q k.now) names.old) (if bytes_eq q name.now then Some place else None)) }
+    ensures { (q : List ℕ) → OnOk result (number_by names.new q ≡ or_else (number_by names.old q) (if bytes_eq q name.now then Some place else None)) }
 {
     names.entry(name)?.or_insert(place);
     Ok(())
 }
 
 fn first_uses<'d>(alloc: Global, uses: &[VariableUse<'d>]) -> Result<Numbers<'d>, AllocError>
-    ensures { IfOk result (λ names. (q : List ℕ) → get_by (λ k. bytes_eq q k.now) names ≡ number_in (map use_of uses.now) q) }
+    ensures { IfOk result (λ names. (q : List ℕ) → number_by names q ≡ number_in (map use_of uses.now) q) }
 {
     let mut names: Numbers = HashMap::new(alloc);
     for (place, part) in uses.iter().enumerate() {
@@ -41,7 +39,7 @@ fn numbers_of(
     names: &Numbers,
     uses: &[VariableUse],
 ) -> Result<Vec<usize>, AllocError>
-    ensures { IfOk result (λ numbers. numbers.items ≡ numbers_by (λ q. get_by (λ k. bytes_eq q k.now) names.now) (map use_of uses.now)) }
+    ensures { IfOk result (λ numbers. numbers.items ≡ numbers_by (number_by names.now) (map use_of uses.now)) }
 {
     let mut numbers = Vec::with_capacity(alloc, uses.len())?;
     for part in uses {

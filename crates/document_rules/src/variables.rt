@@ -10,7 +10,8 @@ ghost use Rattle.document_rules.specs.VariableUniqueness.{variable_uniqueness};
 ghost use Rattle.document_rules.specs.AllVariableUsesDefined.{all_variable_uses_defined};
 ghost use Rattle.document_rules.specs.Scans.{Tells};
 ghost use Rattle.document_rules.specs.AllVariablesUsed.{unused_variables, all_variables_used};
-ghost use Rattle.document_rules.specs.BatchSteps.{number_by, AreLacking, unused_by, TellsUnused};
+ghost use Rattle.document_rules.specs.UseTable.{number_by};
+ghost use Rattle.document_rules.specs.BatchSteps.{AreLacking, unused_by, TellsUnused};
 
 use crate::batches::{has_if, note_lacking, used};
 use crate::names::add_repeated;
@@ -70,7 +71,7 @@ pub fn all_variable_uses_defined<'d>(
     uses: &VariableUses<'_, 'd>,
     graph: &Graph,
 ) -> Result<Option<Broken<'d>>, AllocError>
-    requires graph { graph.now ≡ graph_of (parts_in uses.now.parts.now) }
+    requires { graph.now ≡ graph_of (parts_in uses.now.parts.now) }
     ensures { IfOk result (λ broken. option_map broken_of broken ≡ earliest (all_variable_uses_defined (parts_in uses.now.parts.now))) }
 {
     let parts = uses.parts;
@@ -141,7 +142,7 @@ pub fn all_variables_used<'d>(
     uses: &VariableUses<'_, 'd>,
     graph: &Graph,
 ) -> Result<Option<Broken<'d>>, AllocError>
-    requires graph { graph.now ≡ graph_of (parts_in uses.now.parts.now) }
+    requires { graph.now ≡ graph_of (parts_in uses.now.parts.now) }
     ensures { IfOk result (λ broken. option_map broken_of broken ≡ earliest (all_variables_used (parts_in uses.now.parts.now))) }
 {
     let operations = uses.parts.document.operations.as_slice();

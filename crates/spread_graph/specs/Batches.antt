@@ -100,9 +100,13 @@ abbrev pub any_below : (ℕ → Bool) → ℕ → Bool
 any_below test zero = false
 any_below test (suc n) = any_below test n || test n
 
--- the place s stands in the row of a fragment that operations reach which are not all in the set
+-- the place s stands in the row of the fragment j, which operations reach that are not all in the set
 abbrev pub is_missing_in : List (List ℕ) → List BatchSet → BatchSet → ℕ → ℕ → Bool
 is_missing_in rows reached set s j = is_among s (row_at rows j) && not (is_within (set_at reached j) set)
+
+-- it stands in the row of such a fragment
+abbrev pub is_missing_in_fragments : List (List ℕ) → List BatchSet → BatchSet → ℕ → Bool
+is_missing_in_fragments rows reached set s = any_below (is_missing_in rows reached set s) (length reached)
 
 -- it stands in the row of the operation of the number i in the batch, which is not in the set
 abbrev pub is_missing_at : List (List ℕ) → ℕ → BatchSet → ℕ → ℕ → Bool

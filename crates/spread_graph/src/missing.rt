@@ -1,9 +1,9 @@
 //! Places that an operation of a batch reaches, where the place's set lacks that operation.
 
-ghost use Rattle.std.specs.Prelude.{◌≡◌, ◌&&◌, not, length, OnOk};
+ghost use Rattle.std.specs.Prelude.{◌≡◌, ◌&&◌, not, OnOk};
 ghost use Rattle.spread_graph.specs.Reach.{is_among};
 ghost use Rattle.spread_graph.specs.Rows.{rows_in};
-ghost use Rattle.spread_graph.specs.Batches.{set_at, set_for, is_within, any_below, is_missing_in, Notes};
+ghost use Rattle.spread_graph.specs.Batches.{set_at, set_for, is_within, is_missing_in_fragments, Notes};
 ghost use Rattle.spread_graph.specs.Operations.{is_missing_in_batch};
 
 use crate::batch::BatchSet;
@@ -48,8 +48,7 @@ pub fn note_missing_in_fragments(
     sets: &[BatchSet],
     noted: &mut Vec<bool>,
 ) -> Result<(), AllocError>
-    ensures { OnOk result (Notes (λ s. any_below (is_missing_in (rows_in rows.now) reached.now (set_for numbers.now sets.now s) s) (length reached.now))
-        noted.old.items noted.new.items) }
+    ensures { OnOk result (Notes (λ s. is_missing_in_fragments (rows_in rows.now) reached.now (set_for numbers.now sets.now s) s) noted.old.items noted.new.items) }
 {
     for fragment in 0..reached.len() {
         note_row(

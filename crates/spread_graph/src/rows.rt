@@ -1,8 +1,8 @@
 //! Lists and rows that grow to the places that are written.
 
-ghost use Rattle.std.specs.Prelude.{◌≡◌, ◌==◌, ◌++◌, ◌∷◌, [], ℕ, OnOk, slice_index_or, if◌then◌else◌};
+ghost use Rattle.std.specs.Prelude.{◌≡◌, ◌==◌, ℕ, OnOk, slice_index_or, if◌then◌else◌};
 ghost use Rattle.spread_graph.specs.Graphs.{row_at, row};
-ghost use Rattle.spread_graph.specs.Rows.{rows_in};
+ghost use Rattle.spread_graph.specs.Rows.{rows_in, with_number_if};
 ghost use Rattle.spread_graph.specs.OwnerRows.{owner_rows, is_same_owner};
 
 use document_parts::Owner;
@@ -36,8 +36,7 @@ fn add_to_row(
     row: usize,
     number: usize,
 ) -> Result<(), AllocError>
-    ensures { (i : ℕ) → OnOk result (row_at (rows_in rows.new.items) i
-        ≡ (if i == row then row_at (rows_in rows.old.items) i ++ number ∷ [] else row_at (rows_in rows.old.items) i)) }
+    ensures { (i : ℕ) → OnOk result (row_at (rows_in rows.new.items) i ≡ with_number_if (i == row) (row_at (rows_in rows.old.items) i) number) }
 {
     while rows.len() <= row {
         rows.push(Vec::new(alloc))?;
@@ -56,8 +55,7 @@ pub struct OwnerRows {
 impl OwnerRows {
     /// Puts a number at the end of the row of an operation or fragment.
     pub fn add(&mut self, alloc: Global, owner: Owner, number: usize) -> Result<(), AllocError>
-        ensures { (o : _) → OnOk result (row (owner_rows self.new) o
-            ≡ (if is_same_owner o owner then row (owner_rows self.old) o ++ number ∷ [] else row (owner_rows self.old) o)) }
+        ensures { (o : _) → OnOk result (row (owner_rows self.new) o ≡ with_number_if (is_same_owner o owner) (row (owner_rows self.old) o) number) }
     {
         match owner {
             Owner::Operation(i) => add_to_row(alloc, &mut self.operations, i, number)?,

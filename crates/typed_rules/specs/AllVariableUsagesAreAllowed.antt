@@ -16,7 +16,7 @@ is_variable name v = bytes_eq name v.name
 
 -- The variable may not stand at this location.
 abbrev pub is_forbidden_at : Location → VariableDefinition → Bool
-is_forbidden_at l v = not (is_allowed v.of_type v.default l.of_type l.has_default)
+is_forbidden_at l v = not (is_allowed v l)
 
 -- One of these variables is of this name, and the first that is may not stand at this location.
 abbrev pub forbids_at : List VariableDefinition → List ℕ → Location → Bool

@@ -1,5 +1,5 @@
 -- What is noted of a batch of operations: for each use of a variable those that allow it where it is.
-use Rattle.std.specs.Prelude.{◌≡◌, ◌<◌, ◌+◌, ◌==◌, ℕ, Bool, true, false, not, List, length, map, Some, slice_get, if◌then◌else◌}
+use Rattle.std.specs.Prelude.{◌≡◌, ◌<◌, ◌+◌, ◌==◌, ◌&&◌, ℕ, Bool, true, false, not, List, length, map, Some, slice_get, if◌then◌else◌}
 use Rattle.gq_parser.specs.Tree.{VariableDefinition, Operation}
 use Rattle.document_parts.specs.declared.part.VariableUse as rust-use
 use Rattle.document_parts.specs.Parts.{use_of}
@@ -11,7 +11,7 @@ use Rattle.typed_rules.specs.declared.allowed_uses.Allowance.{Allowance}
 use Rattle.typed_rules.specs.declared.allowed_uses.Allowance.TheVariants.{Allowed, Forbidden}
 use Rattle.typed_rules.specs.declared.use_kinds.UseKinds.{UseKinds}
 use Rattle.typed_rules.specs.AllVariableUsagesAreAllowed.{forbids}
-use Rattle.typed_rules.specs.UseKinds.{use_at, IsKind, is_forbidden_use}
+use Rattle.typed_rules.specs.UseKinds.{is_listed, use_at, IsKind, is_forbidden_use}
 
 abbrev pub allows : Allowance → Bool
 allows Allowed = true
@@ -22,6 +22,11 @@ allows Forbidden = false
 abbrev pub AllowsWhere : (ℕ → ℕ → Bool) → VariableDefinition → List rust-use.VariableUse → List BatchSet → List BatchSet → Type 0
 AllowsWhere is_noted v uses old new = (r m : ℕ) → r < length uses → m < 64
     → has (set_at new r) m ≡ (if is_noted r m then not (is_forbidden_use v (use_at (map use_of uses) r)) else has (set_at old r) m)
+
+-- It is noted of each use of the variable's name that stands for others whether the operation of this number, which has the variable,
+-- allows it.
+abbrev pub AllowsByVariable : UseKinds → VariableDefinition → ℕ → List rust-use.VariableUse → List BatchSet → List BatchSet → Type 0
+AllowsByVariable kinds v number uses old new = AllowsWhere (λ r m. m == number && is_listed kinds.known v.name r) v uses old new
 
 -- It is noted of each use that stands for others whether these variables, which are all of the operation's, allow it; it was noted
 -- before that they do.

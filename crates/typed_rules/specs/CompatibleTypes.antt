@@ -1,7 +1,8 @@
 -- Which types of variables fit which locations (section 5.8.5).
 use Rattle.std.specs.Prelude.{Bool, true, false, ◌&&◌, ◌||◌, not, Option, Some, None, bytes_eq, if◌then◌else◌}
-use Rattle.gq_parser.specs.Tree.{TypeTree, Named, ListOf, Value, Null}
+use Rattle.gq_parser.specs.Tree.{TypeTree, Named, ListOf, Value, Null, VariableDefinition}
 use Rattle.gq_schema.specs.Types.{is_non_null}
+use Rattle.document_parts.specs.Parts.{Location}
 
 -- The type of a variable, which stands first, fits that of a location (AreTypesCompatible): a non-null location needs a
 -- non-null variable, a location that may be null takes either; list goes with list, and items likewise; else the names are equal.
@@ -21,10 +22,9 @@ is_non_null_default None = false
 is_non_null_default (Some (Null p)) = false
 is_non_null_default (Some _) = true
 
--- A variable of a type, with its default, may stand at a location of a type, which may have a default
--- (IsVariableUsageAllowed).
-abbrev pub is_allowed : TypeTree → Option Value → TypeTree → Bool → Bool
-is_allowed variable default location has_default =
-    if is_non_null location && not (is_non_null variable)
-    then (is_non_null_default default || has_default) && are_compatible variable (nullable location)
-    else are_compatible variable location
+-- The variable may stand at the location (IsVariableUsageAllowed).
+abbrev pub is_allowed : VariableDefinition → Location → Bool
+is_allowed v l =
+    if is_non_null l.of_type && not (is_non_null v.of_type)
+    then (is_non_null_default v.default || l.has_default) && are_compatible v.of_type (nullable l.of_type)
+    else are_compatible v.of_type l.of_type

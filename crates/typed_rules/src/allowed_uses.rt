@@ -1,11 +1,11 @@
 //! Which operations of a batch allow which uses of variables where they stand.
 
-ghost use Rattle.std.specs.Prelude.{◌≡◌, ◌<◌, ◌==◌, ◌&&◌, ℕ, IfOk, OnOk, not, string_bytes, if◌then◌else◌};
+ghost use Rattle.std.specs.Prelude.{◌≡◌, ◌<◌, ◌==◌, ◌&&◌, ℕ, IfOk, OnOk, not, if◌then◌else◌};
 ghost use Rattle.gq_parser.specs.Tree.{variable_of, variables_of};
 ghost use Rattle.document_parts.specs.Parts.{use_of};
 ghost use Rattle.spread_graph.specs.Batches.{has};
-ghost use Rattle.typed_rules.specs.Allowances.{allows, AllowsWhere, AllowsBy, KeepsOthers, AreAllowed};
-ghost use Rattle.typed_rules.specs.UseKinds.{is_listed, is_forbidden_use};
+ghost use Rattle.typed_rules.specs.Allowances.{allows, AllowsWhere, AllowsByVariable, AllowsBy, KeepsOthers, AreAllowed};
+ghost use Rattle.typed_rules.specs.UseKinds.{is_forbidden_use};
 
 use crate::compatible_types::is_allowed;
 use crate::use_kinds::UseKinds;
@@ -27,12 +27,7 @@ fn allowance_of(variable: &VariableDefinition, part: &VariableUse) -> Allowance
 {
     match part.location {
         Some(location) => {
-            if is_allowed(
-                &variable.of_type,
-                variable.default.as_ref(),
-                location.of_type,
-                location.has_default,
-            ) {
+            if is_allowed(variable, location) {
                 Allowance::Allowed
             } else {
                 Allowance::Forbidden
@@ -80,8 +75,7 @@ fn allow_by_variable(
     sets: &mut Vec<BatchSet>,
 ) -> Result<(), AllocError>
     requires { number < 64 }
-    ensures { OnOk result (AllowsWhere (λ r m. m == number && is_listed kinds.now.known (string_bytes variable.now.name) r)
-        (variable_of variable.now) uses.now sets.old.items sets.new.items) }
+    ensures { OnOk result (AllowsByVariable kinds.now (variable_of variable.now) number uses.now sets.old.items sets.new.items) }
 {
     for place in kinds.of(variable.name.as_str()) {
         allow_use(uses, *place, variable, number, sets)?;

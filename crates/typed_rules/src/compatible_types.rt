@@ -2,10 +2,12 @@
 
 ghost use Rattle.std.specs.Prelude.{◌≡◌, option_map};
 ghost use Rattle.std.specs.Option.{option_copied};
-ghost use Rattle.gq_parser.specs.Tree.{type_of, literal_of};
+ghost use Rattle.gq_parser.specs.Tree.{type_of, literal_of, variable_of};
+ghost use Rattle.document_parts.specs.Parts.{location_of};
 ghost use Rattle.typed_rules.specs.CompatibleTypes.{are_compatible, nullable, is_non_null_default, is_allowed};
 
-use gq_parser::{Literal, TypeRef, Value};
+use document_parts::Location;
+use gq_parser::{Literal, TypeRef, Value, VariableDefinition};
 
 /// Whether a variable's type fits a location's.
 pub fn are_compatible(variable: &TypeRef, location: &TypeRef) -> bool
@@ -65,19 +67,15 @@ fn is_non_null_default(default: Option<&Literal>) -> bool
     }
 }
 
-/// Whether a variable of a type, with its default, may stand at a location of a type, which may have a default.
-pub fn is_allowed(
-    variable: &TypeRef,
-    default: Option<&Literal>,
-    location: &TypeRef,
-    has_default: bool,
-) -> bool
-    ensures { result ≡ is_allowed (type_of variable.now) (option_map literal_of (option_copied default.entry)) (type_of location.now) has_default }
+/// Whether a variable may stand at a location.
+pub fn is_allowed(variable: &VariableDefinition, location: Location) -> bool
+    ensures { result ≡ is_allowed (variable_of variable.now) (location_of location.entry) }
 {
-    if location.is_non_null() && !variable.is_non_null() {
-        (has_default || is_non_null_default(default))
-            && is_compatible_with_nullable(variable, location)
+    let of_type = &variable.of_type;
+    if location.of_type.is_non_null() && !of_type.is_non_null() {
+        (location.has_default || is_non_null_default(variable.default.as_ref()))
+            && is_compatible_with_nullable(of_type, location.of_type)
     } else {
-        are_compatible(variable, location)
+        are_compatible(of_type, location.of_type)
     }
 }

@@ -24,4 +24,4 @@ loop-place-preserved c =
 
 pub returns : goal.returns
 returns c =
-    rw (← c.requires.graph, ← c.deref-part-items.ensures.value) (rw (drop_all c.loop-place.place c.deref-part-items.result.now (omega arith)) at c.loop-place.invariant)
+    rw (← c.requires, ← c.deref-part-items.ensures.value) (rw (drop_all c.loop-place.place c.deref-part-items.result.now (omega arith)) at c.loop-place.invariant)
