@@ -1,18 +1,17 @@
 -- Where fragments have ranks, no field is more than so many own selection sets deep.
-use Rattle.std.proofs.Common.{◌≡◌, ◌∙◌, sym, ap, subst, refl, ℕ, zero, suc, ◌+◌, ◌≤◌, ◌<◌, ◌-◌, ◌⊎◌, inl, inr, Bool, true, List, [], ◌∷◌, length, Option, Some, None, arith}
+use Rattle.std.proofs.Common.{◌≡◌, ◌∙◌, sym, ap, subst, refl, ℕ, zero, suc, ◌+◌, ◌≤◌, ◌<◌, ◌-◌, inl, inr, true, List, [], length, Option, Some, None, arith}
 use Rattle.std.specs.Prelude.{slice_get, nat_lt}
 use Rattle.std.specs.Option.{option_map_or}
 use Rattle.std.proofs.lemmas.Bool.{cases_lt, ltb-true}
 use Rattle.gq_parser.specs.Tree.{Fragment, Document}
 use Rattle.selection_members.specs.Fragments.{place_in}
-use Rattle.selection_members.specs.Members.{count_in, count_operations, count_fragments, starts_from, members_in, members_of_fragment}
+use Rattle.selection_members.specs.Members.{count_in, count_operations, count_fragments, starts_from, members_of_fragment}
 use Rattle.selection_members.specs.Placed.{IsOwn, Each}
-use Rattle.selection_members.specs.Ranked.{spreads_in, rank_of, is_under, IsRanked}
+use Rattle.selection_members.specs.Ranked.{rank_of, is_under, IsRanked}
 use Rattle.selection_members.specs.Walks.{IsFixed}
-use Rattle.selection_members.specs.Written.{written_fields, written_operations, written_fragments}
-use Rattle.selection_members.proofs.Adding.{operations-count}
+use Rattle.selection_members.specs.Written.{written_fields}
 use Rattle.selection_members.proofs.Learning.{named-at, fragment-there, entered-none, start-inside, starts-length}
-use Rattle.selection_members.proofs.Places.{in-either, fields-count}
+use Rattle.selection_members.proofs.Places.{fields-count}
 use Rattle.selection_members.proofs.Placing.{in-each, each-none, own-in-fragment, own-in-operations, fragment-of, got-below, there}
 
 -- a field whose own set has fields, whose own sets have fields, and so on, fewer than k times

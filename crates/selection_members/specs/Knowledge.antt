@@ -1,7 +1,7 @@
 -- What a walk knows of the fragments of a document, and what it finds by that. Where `spread` gives the members of the fragment of
 -- each name, `members` gives those of a part of the document.
 use Rattle.std.specs.Prelude.{◌≡◌, ◌++◌, ℕ, Bool, true, List, find, Option, Some, slice_get}
-use Rattle.gq_parser.specs.Tree.{Below, Fragment, Document, document_of}
+use Rattle.gq_parser.specs.Tree.{Below, Fragment, Document, document_of, set_of}
 use Rattle.merge_table.specs.declared.sets.Reached.{Reached}
 use Rattle.merge_table.specs.Entered.{IsReached}
 use Rattle.selection_members.specs.declared.known.Source.{Source}
@@ -10,9 +10,9 @@ use Rattle.selection_members.specs.declared.meeting.Met.{Met}
 use Rattle.selection_members.specs.declared.visiting.ClashingSet.{ClashingSet}
 use Rattle.selection_members.specs.Fragments.{place_in, target_at}
 use Rattle.selection_members.specs.Meeting.{IsMet, IsSpread}
-use Rattle.selection_members.specs.Members.{SetOf, count_operations, members_named}
+use Rattle.selection_members.specs.Members.{SetOf, count_operations, members_in, members_named}
 use Rattle.selection_members.specs.Ranked.{spreads_in}
-use Rattle.selection_members.specs.Walks.{renumbered, KnowsAt, KnowsSome, Knows, is_key, AreClashingAdded}
+use Rattle.selection_members.specs.Walks.{renumbered, KnowsAt, KnowsSome, Knows, IsFixed, is_key, AreClashingAdded}
 use Rattle.selection_members.specs.Written.{AreOwn, AreAdded}
 
 -- ---- what a walk knows
@@ -52,6 +52,10 @@ ReachesWhere w passes members reached = (spread : List ℕ → List ℕ) (test :
 abbrev pub GainsWhere : Walk → ((List ℕ → Bool) → Bool) → ((List ℕ → List ℕ) → List ℕ) → Reached → Reached → Type 0
 GainsWhere w passes members old new = (spread : List ℕ → List ℕ) (test : List ℕ → Bool) (ms : List ℕ) → IsKnownWhere w spread test → passes test ≡ true
     → Reaches w ms old → Reaches w (ms ++ members spread) new
+
+-- the members of the fragment of a name, which is known, are reached beside those that were
+abbrev pub GainsAt : Walk → List ℕ → Reached → Reached → Type 0
+GainsAt w name old new = (spread : List ℕ → List ℕ) (ms : List ℕ) → IsKnownAt w spread name → Reaches w ms old → Reaches w (ms ++ spread name) new
 
 -- ---- what it adds
 
@@ -97,6 +101,11 @@ members_at s spread name = members_named spread (count_operations (document_in s
 -- what a table says of each fragment is what `spread` gives
 abbrev pub IsTableKnown : Source → List Reached → (List ℕ → List ℕ) → Type 0
 IsTableKnown s table spread = Knows s.rows.now s.numbers.now table (place_in (document_in s).fragments) spread
+
+-- the first of a set's members is found that is among the keys, where a table has what each fragment has
+abbrev pub FindsFirst : Source → List Reached → List ℕ → ClashingSet → Option ℕ → Type 0
+FindsFirst s table keys set found = (spread : List ℕ → List ℕ) → IsTableKnown s table spread → IsFixed spread (document_in s)
+    → found ≡ find (is_key keys s.numbers.now) (members_in spread set.first (set_of set.set.now))
 
 -- This holds of the members of the fragment of a number, by their numbers in the table of pairs, where a table has what the
 -- fragments that it spreads have.

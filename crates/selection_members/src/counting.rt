@@ -19,7 +19,7 @@ fn sum(count: usize, more: usize) -> usize
 
 /// The fields in a set, with those below its fields, up to as many as can be counted.
 #[cycle(counting)]
-pub fn fields_in(set: &SelectionSet) -> usize
+pub(crate) fn fields_in(set: &SelectionSet) -> usize
     ensures { result ≡ capped (count_in (set_of set.now)) }
 {
     let mut count = 0;
@@ -31,7 +31,7 @@ pub fn fields_in(set: &SelectionSet) -> usize
 
 /// The fields that stand in a selection, up to as many as can be counted: a field itself, with those below it.
 #[cycle(counting)]
-pub fn fields_from(selection: &Selection) -> usize
+pub(crate) fn fields_from(selection: &Selection) -> usize
     ensures { result ≡ capped (count_from (selection_of selection.now)) }
 {
     match selection {

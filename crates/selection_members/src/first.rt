@@ -1,12 +1,11 @@
 //! The first member of a set that passes a test.
 
-ghost use Rattle.std.specs.Prelude.{◌≡◌, ◌≤◌, ◌+◌, ℕ, List, length, find};
+ghost use Rattle.std.specs.Prelude.{◌≡◌, ◌≤◌, ◌+◌, length};
 ghost use Rattle.gq_parser.specs.Tree.{set_of};
 ghost use Rattle.selection_members.specs.Fragments.{place_in};
-ghost use Rattle.selection_members.specs.Knowledge.{document_in, IsTableKnown};
-ghost use Rattle.selection_members.specs.Members.{count_in, members_in};
+ghost use Rattle.selection_members.specs.Knowledge.{document_in, FindsFirst};
+ghost use Rattle.selection_members.specs.Members.{count_in};
 ghost use Rattle.selection_members.specs.Ranked.{AreRanked};
-ghost use Rattle.selection_members.specs.Walks.{IsFixed, is_key};
 
 use crate::fragments::fragment_set;
 use crate::known::{Source, Walk};
@@ -25,8 +24,7 @@ pub fn first_member<'d>(
     requires len { length table.now ≡ length (document_in source.now).fragments }
     requires ranked { ∥ AreRanked (place_in (document_in source.now).fragments) (document_in source.now).fragments ∥₁ }
     requires inside { set.first + count_in (set_of set.set.now) ≤ length source.now.numbers.now }
-    ensures { (spread : List ℕ → List ℕ) → IsTableKnown source.now table.now spread → IsFixed spread (document_in source.now)
-        → result ≡ find (is_key keys.now source.now.numbers.now) (members_in spread set.entry.first (set_of set.entry.set.now)) }
+    ensures { FindsFirst source.now table.now keys.now set.entry result }
 {
     let walk = Walk {
         targets: source.targets,

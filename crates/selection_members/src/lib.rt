@@ -19,7 +19,7 @@ mod numbering;
 mod visiting;
 mod walk;
 
-pub use counting::{fields_from, fields_in, fragment_starts, operation_fields};
+pub use counting::{fragment_starts, operation_fields};
 pub use first::first_member;
 pub use fragments::known_fragments;
 pub use gathering::members_of_fields;

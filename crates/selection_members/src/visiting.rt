@@ -29,20 +29,21 @@ struct Visited {
     next: usize,
 }
 
-/// Adds those of this set and the sets inside it in which two fields conflict. The first field of this set has the number
-/// `first`. Each selection is visited once.
+/// Adds those of this set and the sets inside it in which two fields conflict, and returns the number after its fields. The first
+/// field of this set has the number `first`. Each selection is visited once.
 pub fn add_clashing<'d>(
     walk: &Walk,
     set: &'d SelectionSet,
     first: usize,
     clashing: &mut Vec<ClashingSet<'d>>,
-) -> Result<(), AllocError>
+) -> Result<usize, AllocError>
     requires inside { first + count_in (set_of set.now) ≤ length walk.now.numbers.now }
+    ensures next { IfOk result (λ next. next ≡ first + count_in (set_of set.now)) }
     ensures sets { OnOk result (AddsClashing walk.now (λ spread. sets_in spread first (set_of set.now)) clashing.old.items clashing.new.items) }
     ensures inside { AreInside (length walk.now.numbers.now) clashing.old.items → OnOk result (AreInside (length walk.now.numbers.now) clashing.new.items) }
 {
-    let _visited = visit_set(walk, set, first, clashing)?;
-    Ok(())
+    let visited = visit_set(walk, set, first, clashing)?;
+    Ok(visited.next)
 }
 
 // Adds a set if two of its fields conflict.

@@ -2,7 +2,7 @@
 
 ghost use Rattle.std.specs.Prelude.{◌≡◌, ◌<◌, ◌≤◌, ◌+◌, ◌++◌, ◌∷◌, [], ℕ, List, Some, length, slice_get};
 ghost use Rattle.gq_parser.specs.Tree.{set_of, selection_of};
-ghost use Rattle.selection_members.specs.Knowledge.{IsKnownAt, Reaches, ReachesWhere, GainsWhere};
+ghost use Rattle.selection_members.specs.Knowledge.{Reaches, ReachesWhere, GainsAt, GainsWhere};
 ghost use Rattle.selection_members.specs.Members.{count_in, count_from, members_in, members_from};
 ghost use Rattle.selection_members.specs.Ranked.{spreads_in, spreads_from};
 
@@ -29,8 +29,7 @@ pub(crate) fn known_at<'a>(walk: &Walk<'a, '_>, number: usize) -> &'a Reached
 
 /// Adds what the fragment of a name has.
 pub(crate) fn add_fragment(walk: &Walk, name: &str, reached: &mut Reached)
-    ensures { (spread : List ℕ → List ℕ) (ms : List ℕ) → IsKnownAt walk.now spread name.now → Reaches walk.now ms reached.old
-        → Reaches walk.now (ms ++ spread name.now) reached.new }
+    ensures { GainsAt walk.now name.now reached.old reached.new }
 {
     match walk.targets.get(name) {
         Some(target) => reached.add_all(known_at(walk, *target)),
