@@ -1,31 +1,42 @@
 //! Field merging over numbered fields.
-ghost use Rattle.std.specs.Prelude.{MatchBool};
-ghost use Rattle.merge_table.specs.Numbered.{AreBelow};
+ghost use Rattle.std.specs.Prelude.{◌≤◌, length};
+ghost use Rattle.merge_table.specs.Numbered.{AreInOrder};
+ghost use Rattle.merge_table.specs.Table.{IsBelow};
 
-use crate::fields::{field_of, numbers_of};
+use crate::fields::{fields_of, numbers_of};
 use anyhow::{Context, Result, bail};
-use merge_table::*;
+use merge_table::{Field, Reached, Row, failing_keys, failing_pairs};
 use std::alloc::Global;
 
-fn are_below(members: &[usize], n: usize) -> bool
-    ensures { MatchBool result (AreBelow members.now n) (AreBelow members.now n → ⊥) }
+/// Adds a field to a set.
+fn add_field(set: &mut Reached, rows: &[Row], field: usize) -> Result<()>
+    requires few { length rows.now ≤ 1024 }
+    requires below { IsBelow rows.now }
 {
-    match members {
-        [] => true,
-        [m, rest @ ..] => *m < n && are_below(rest, n),
+    if field >= rows.len() {
+        bail!("there is no field {field}");
     }
+    set.add_field(rows, field);
+    Ok(())
 }
 
-/// The first of the members whose response key has a failing pair.
-fn first_of(alloc: Global, fields: &[Field], members: &[usize]) -> Result<String> {
-    if fields.len() > 1024 || !is_in_order(fields) || !are_below(members, fields.len()) {
-        return Ok(String::from_str(alloc, "not in order")?);
-    }
+/// The first of the members whose response key has a conflict.
+fn first_of(alloc: Global, fields: &[Field], members: &[usize]) -> Result<String>
+    requires few { length fields.now ≤ 1024 }
+    requires order { AreInOrder fields.now }
+{
     let rows = failing_pairs(alloc, fields)?;
-    Ok(match first_failing(fields, &rows, members) {
-        Some(first) => format!(in alloc; "{first}")?,
-        None => String::from_str(alloc, "-")?,
-    })
+    let mut set = Reached::new();
+    for member in members {
+        add_field(&mut set, &rows, *member)?;
+    }
+    let keys = failing_keys(fields, &set);
+    for member in members {
+        if *member < 1024 && keys.has(*member) {
+            return Ok(format!(in alloc; "{member}")?);
+        }
+    }
+    Ok(String::from_str(alloc, "-")?)
 }
 
 /// The first member of a set whose response key has a failing pair. The first line has the members, and each other line a field.
@@ -33,57 +44,58 @@ pub fn table(alloc: Global, text: &str) -> Result<String> {
     let (members, lines) = text.split_once('\n').context("no fields")?;
     let members: Vec<&str> = members.split_whitespace().collect(alloc)?;
     let members = numbers_of(alloc, &members)?;
-    let mut met = Vec::new(alloc);
-    let mut fields = Vec::new(alloc);
-    for line in lines.lines() {
-        fields.push(field_of(alloc, &mut met, line)?)?;
-    }
+    let lines: Vec<&str> = lines.lines().collect(alloc)?;
+    let fields = fields_of(alloc, &lines)?;
     first_of(alloc, &fields, &members)
 }
 
-/// What a set has, as `field 2` or `set 0`.
-fn entry_of(entry: &str) -> Result<Entry> {
-    match entry.split_once(' ').context("no number")? {
-        ("field", number) => Ok(Entry::Field(number.parse()?)),
-        ("set", number) => Ok(Entry::Set(number.parse()?)),
-        _ => bail!("neither a field nor a set"),
-    }
-}
-
-/// What a set has, parted by commas.
-fn entries_of(alloc: Global, line: &str) -> Result<Vec<Entry>> {
-    let mut entries = Vec::new(alloc);
+/// What a set has, from a line as `field 2, set 0`, where what the sets before it have is known.
+fn set_of(rows: &[Row], known: &[Reached], line: &str) -> Result<Reached>
+    requires few { length rows.now ≤ 1024 }
+    requires below { IsBelow rows.now }
+{
+    let mut set = Reached::new();
     for entry in line.split(", ") {
-        entries.push(entry_of(entry)?)?;
-    }
-    Ok(entries)
-}
-
-/// The numbers of the sets that can't be merged.
-fn failing_sets(alloc: Global, fields: &[Field], sets: &[Vec<Entry>]) -> Result<String> {
-    if fields.len() > 1024 || !is_in_order(fields) || !are_known(sets, fields.len()) {
-        return Ok(String::from_str(alloc, "not in order")?);
-    }
-    let rows = failing_pairs(alloc, fields)?;
-    let mut failing = Vec::new(alloc);
-    for (number, set) in reached_sets(alloc, &rows, sets)?.iter().enumerate() {
-        if set.is_failing(fields, &rows) {
-            failing.push(number)?;
+        match entry.split_once(' ').context("no number")? {
+            ("field", number) => add_field(&mut set, rows, number.parse()?)?,
+            ("set", number) => {
+                let number: usize = number.parse()?;
+                set.add_all(known.get(number).context("no set before it")?);
+            }
+            _ => bail!("neither a field nor a set"),
         }
     }
-    Ok(format!(in alloc; "{failing:?}")?)
+    Ok(set)
 }
 
-/// The numbers of the sets that can't be merged. A line after `has` is a set, and each other line a field.
+/// The numbers of the sets in which two fields conflict.
+fn clashing_sets(alloc: Global, fields: &[Field], lines: &[&str]) -> Result<String>
+    requires few { length fields.now ≤ 1024 }
+    requires order { AreInOrder fields.now }
+{
+    let rows = failing_pairs(alloc, fields)?;
+    let mut known = Vec::new(alloc);
+    let mut clashing = Vec::new(alloc);
+    for (number, line) in lines.iter().enumerate() {
+        let set = set_of(&rows, &known, *line)?;
+        if set.has_clash() {
+            clashing.push(number)?;
+        }
+        known.push(set)?;
+    }
+    Ok(format!(in alloc; "{clashing:?}")?)
+}
+
+/// The numbers of the sets in which two fields conflict. A line after `has` is a set, and each other line a field.
 pub fn sets(alloc: Global, text: &str) -> Result<String> {
-    let mut met = Vec::new(alloc);
     let mut fields = Vec::new(alloc);
     let mut sets = Vec::new(alloc);
     for line in text.lines() {
         match line.strip_prefix("has ") {
-            Some(entries) => sets.push(entries_of(alloc, entries)?)?,
-            None => fields.push(field_of(alloc, &mut met, line)?)?,
+            Some(entries) => sets.push(entries)?,
+            None => fields.push(line)?,
         }
     }
-    failing_sets(alloc, &fields, &sets)
+    let fields = fields_of(alloc, &fields)?;
+    clashing_sets(alloc, &fields, &sets)
 }

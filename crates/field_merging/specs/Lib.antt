@@ -1,3 +1,4 @@
+pub mod Acyclic
 pub mod Agreeing
 pub mod Attributes
 pub mod Compare

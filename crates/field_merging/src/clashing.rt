@@ -9,7 +9,7 @@ ghost use Rattle.field_merging.specs.Knowledge.{IsCompared, set_in, clashing_in}
 
 use crate::known::Compared;
 use gq_parser::{Fragment, Operation};
-use selection_members::{ClashingSet, Walk, add_clashing, fields_in};
+use selection_members::{ClashingSet, Walk, add_clashing};
 use std::alloc::{AllocError, Global};
 
 // Adds the sets of operations in which two fields conflict. The first field has the number 0. Returns the number after the
@@ -19,16 +19,14 @@ fn add_operations<'d>(
     operations: &'d [Operation],
     clashing: &mut Vec<ClashingSet<'d>>,
 ) -> Result<usize, AllocError>
-    requires few { length walk.now.numbers.now ≤ 1024 }
     requires inside { count_operations (map operation_of operations.now) ≤ length walk.now.numbers.now }
     ensures sets { OnOk result (AddsClashing walk.now (λ spread. operation_sets spread 0 (map operation_of operations.now)) clashing.old.items clashing.new.items) }
     ensures inside { AreInside (length walk.now.numbers.now) clashing.old.items → OnOk result (AreInside (length walk.now.numbers.now) clashing.new.items) }
     ensures next { IfOk result (λ next. next ≡ count_operations (map operation_of operations.now)) }
 {
-    let mut next: usize = 0;
+    let mut next = 0;
     for operation in operations {
-        add_clashing(walk, &operation.selection_set, next, clashing)?;
-        next += fields_in(&operation.selection_set);
+        next = add_clashing(walk, &operation.selection_set, next, clashing)?;
     }
     Ok(next)
 }
@@ -40,15 +38,13 @@ fn add_fragments<'d>(
     first: usize,
     clashing: &mut Vec<ClashingSet<'d>>,
 ) -> Result<(), AllocError>
-    requires few { length walk.now.numbers.now ≤ 1024 }
     requires inside { first + count_fragments (map fragment_of fragments.now) ≤ length walk.now.numbers.now }
     ensures inside { AreInside (length walk.now.numbers.now) clashing.old.items → OnOk result (AreInside (length walk.now.numbers.now) clashing.new.items) }
     ensures sets { OnOk result (AddsClashing walk.now (λ spread. fragment_sets spread first (map fragment_of fragments.now)) clashing.old.items clashing.new.items) }
 {
     let mut next = first;
     for fragment in fragments {
-        add_clashing(walk, &fragment.selection_set, next, clashing)?;
-        next += fields_in(&fragment.selection_set);
+        next = add_clashing(walk, &fragment.selection_set, next, clashing)?;
     }
     Ok(())
 }

@@ -1,15 +1,15 @@
 //! What holds of the definition.
 
-ghost use Rattle.std.specs.Prelude.{◌≡◌, ◌≤◌, ℕ, List, [], Option, Some, length, map, slice_get};
+ghost use Rattle.std.specs.Prelude.{◌≡◌, ℕ, List, Option, Some, length, map, slice_get};
 ghost use Rattle.gq_parser.specs.Tree.{Document, Selection};
 ghost use Rattle.schema_syntax.specs.Tree.{Definition};
 ghost use Rattle.selection_members.specs.Members.{members_entered, members_of_fragment, sets_of};
 ghost use Rattle.selection_members.specs.Written.{written_fields};
 ghost use Rattle.document_parts.specs.Broken.{BrokenOf};
-ghost use Rattle.document_parts.specs.Listing.{fields_of, parts_of};
+ghost use Rattle.document_parts.specs.Listing.{fields_of};
 ghost use Rattle.document_parts.specs.Parts.{PartsOf};
 ghost use Rattle.spread_graph.specs.Levels.{levels_expanded};
-ghost use Rattle.spread_graph.specs.Rules.{fragment_cycles};
+ghost use Rattle.field_merging.specs.Acyclic.{ForAcyclic};
 ghost use Rattle.field_merging.specs.Numbered.{as_written};
 ghost use Rattle.field_merging.specs.Rule.{IsMerging};
 ghost use Rattle.field_merging.specs.Selected.{own_members, own_selected, selecting_sets, looked_up};
@@ -36,13 +36,11 @@ pub fn numbers_name_fields()
 /// Where no fragment reaches itself, a fragment has the same members however many fragments may be entered, one inside another: as
 /// many as there are cut nothing off.
 pub fn all_members_are_entered()
-    ensures { (definitions : List Definition) (d : Document) → fragment_cycles (parts_of definitions d) ≡ []
-        → (k : ℕ) → length d.fragments ≤ k → (name : List ℕ) → members_entered k d name ≡ members_of_fragment d name }
+    ensures { ForAcyclic (λ d k. (name : List ℕ) → members_entered k d name ≡ members_of_fragment d name) }
 {}
 
 /// Where no fragment reaches itself, a fragment has the same levels however many fragments a path may expand: as many as there are
 /// cut nothing off.
 pub fn all_levels_are_counted()
-    ensures { (definitions : List Definition) (d : Document) → fragment_cycles (parts_of definitions d) ≡ []
-        → (k : ℕ) → length d.fragments ≤ k → (j : ℕ) → levels_expanded k d.fragments j ≡ levels_expanded (length d.fragments) d.fragments j }
+    ensures { ForAcyclic (λ d k. (j : ℕ) → levels_expanded k d.fragments j ≡ levels_expanded (length d.fragments) d.fragments j) }
 {}

@@ -16,17 +16,6 @@ add_clashing-requires c =
     let counts : count_fragments (map fragment_of (drop i xs)) ≡ count_in (fragment_of x).selection_set + count_fragments rest = ap count_fragments left in
     record { inside = omega (arith, counts, c.loop-fragment.invariant.counted, c.requires.inside) }
 
-pub overflow_add-next : goal.overflow_add-next
-overflow_add-next c =
-    let i = c.loop-fragment.fragment-index in
-    let xs = c.args.fragments.now in
-    let x = c.fragment-item.result in
-    let rest = map fragment_of (drop (i + 1) xs) in
-    let left : map fragment_of (drop i xs) ≡ fragment_of x ∷ rest = next-of fragment_of xs i x c.loop-fragment-test.true c.fragment-item.is in
-    let counts : count_fragments (map fragment_of (drop i xs)) ≡ count_in (fragment_of x).selection_set + count_fragments rest = ap count_fragments left in
-    let from = c.fields_in-next.ensures in
-    omega (arith, counts, from, c.loop-fragment.invariant.counted, c.requires.inside, c.requires.few)
-
 pub loop-fragment-preserved : goal.loop-fragment-preserved
 loop-fragment-preserved c =
     let walk = c.args.walk.now in
@@ -38,15 +27,14 @@ loop-fragment-preserved c =
     let rest = map fragment_of (drop (i + 1) xs) in
     let left : map fragment_of (drop i xs) ≡ fragment_of x ∷ rest = next-of fragment_of xs i x c.loop-fragment-test.true c.fragment-item.is in
     let counts : count_fragments (map fragment_of (drop i xs)) ≡ count_in (fragment_of x).selection_set + count_fragments rest = ap count_fragments left in
-    let from = c.fields_in-next.ensures in
-    let next : n + c.fields_in-next.result ≡ n + count_in (fragment_of x).selection_set = omega (arith, counts, from, c.loop-fragment.invariant.counted, c.requires.inside, c.requires.few) in
+    let next = c.in_ok-next.ensures.next in
     record {
       sets = λ spread knows.
           let old = map (clashing_of spread) c.loop-fragment.clashing.items in
           let new = map (clashing_of spread) c.add_clashing.new.clashing.items in
           ap (λ (k : ℕ). new ++ filter test (fragment_sets spread k rest)) next
-          ∙ (more-sets test old new (sets_in spread n (fragment_of x).selection_set) (fragment_sets spread (n + count_in (fragment_of x).selection_set) rest) (c.in_ok-add_clashing.ensures.sets spread knows)
+          ∙ (more-sets test old new (sets_in spread n (fragment_of x).selection_set) (fragment_sets spread (n + count_in (fragment_of x).selection_set) rest) (c.in_ok-next.ensures.sets spread knows)
           ∙ (ap (λ (fs : List Fragment). old ++ filter test (fragment_sets spread n fs)) (sym left) ∙ c.loop-fragment.invariant.sets spread knows));
       counted = omega (arith, counts, next, c.loop-fragment.invariant.counted);
-      inside = λ all. c.in_ok-add_clashing.ensures.inside (c.loop-fragment.invariant.inside all);
+      inside = λ all. c.in_ok-next.ensures.inside (c.loop-fragment.invariant.inside all);
     }
