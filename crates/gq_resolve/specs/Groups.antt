@@ -154,6 +154,10 @@ pub record AreMade (old new : List Group) (ps : List PreparedOf) (ms : List Memb
   pub front : take (length old) new ≡ old
   pub makes : (plan : PlanOf) → Makes plan new ms ps
 
+-- what the plan asks of an object of this type below a group was prepared, with the groups that it needs
+abbrev pub Meets : PlanOf → ChildrenOf → List ℕ → List Group → List Group → List Member → Type 0
+Meets plan children ty old new ms = AreMade old new (type_prepared plan children ty) ms
+
 -- where the groups are right, these are the members of a type below a group
 abbrev pub AreKept : List Group → ℕ → List ℕ → List Member → Type 0
 AreKept gs group ty ms = (plan : PlanOf) → AreRight plan gs → Makes plan gs ms (type_prepared plan (children_at gs group) ty)

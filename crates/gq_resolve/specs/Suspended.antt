@@ -1,5 +1,5 @@
 -- *Suspended resolvers*: an execution that has stopped, and when it may go on.
-use Rattle.std.specs.Prelude.{◌≡◌, ◌≢◌, false, List, [], map, length, Option, Some, None}
+use Rattle.std.specs.Prelude.{◌≡◌, ◌≢◌, ℕ, false, List, [], map, length, Option, Some, None}
 use Rattle.indexmap.specs.IndexSet.{IndexSet}
 use Rattle.json.specs.Tree.{json_tokens}
 use Rattle.load_memory.specs.Keys.{key_of}
@@ -71,6 +71,10 @@ load_of b = record { loader = b.loader; key = key_of b.key }
 
 abbrev pub loads_of : List Blocked → List Load
 loads_of bs = map load_of bs
+
+-- what waits in a sink goes on at one of the groups of a root
+abbrev pub WaitsBelow : {S : Type 0} → (ℕ → S → Type 0) → Rooted → S → Type 0
+WaitsBelow below r s = below (length r.groups.items) s
 
 -- the whole plan was put, by what the groups do
 pub record GoesOver {S : Type 0} (goes : View → List Put → S → S → Type 0) (plan : PlanOf) (m : MemoryOf) (old : S) (r : Rooted × S) : Type 0 where

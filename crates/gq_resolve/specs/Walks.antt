@@ -1,14 +1,19 @@
 -- What a walk puts into its sink, and what it does to the groups on its way.
-use Rattle.std.specs.Prelude.{◌≡◌, ◌<◌, ◌≤◌, ◌⊎◌, ℕ, Bool, List, [], ◌∷◌, length, map, take}
+use Rattle.std.specs.Prelude.{◌≡◌, ◌<◌, ◌≤◌, ◌⊎◌, ℕ, Bool, false, List, [], ◌∷◌, length, map, take, Option}
+use Rattle.load_memory.specs.Keys.{KeyOf}
 use Rattle.load_memory.specs.Rows.{RowOf}
-use Rattle.execution.specs.Program.{Program}
+use Rattle.execution.specs.Program.{Program, Under, ListOf, ObjectOf}
 use Rattle.gq_check.specs.Plans.{PlanOf, plan_of}
-use Rattle.plan_program.specs.PlanPrograms.{list_of}
-use Rattle.gq_resolve.specs.Groups.{children_at, Covers, AreRight, Grows}
+use Rattle.plan_program.specs.PlanPrograms.{places, list_of, read_if, object_program}
+use Rattle.gq_resolve.specs.Groups.{children_at, Covers, AreRight, Grows, IsAsked, AreKnown, asks_seen, members_seen}
 use Rattle.gq_resolve.specs.Puts.{Put, OnwardOf, View, puts}
 use Rattle.gq_resolve.specs.Positions.{onward_of, later_of}
 use Rattle.gq_resolve.specs.Evaluated.{lookup}
+use Rattle.gq_resolve.specs.declared.groups.Asks.{Asks}
 use Rattle.gq_resolve.specs.declared.groups.Group.{Group}
+use Rattle.gq_resolve.specs.declared.groups.Member.{Member}
+use Rattle.gq_resolve.specs.declared.positions.Items.{Items}
+use Rattle.gq_resolve.specs.declared.positions.Onward.{Onward}
 use Rattle.gq_resolve.specs.declared.tour.Loading.{Loading}
 use Rattle.gq_resolve.specs.declared.tour.Progress.{Progress}
 use Rattle.gq_resolve.specs.declared.tour.Tour.{Tour}
@@ -24,10 +29,36 @@ pub record Goes {S : Type 0} (goes : View → List Put → S → S → Type 0) (
 abbrev pub Walks : {S : Type 0} (goes : View → List Put → S → S → Type 0) (below : ℕ → S → Type 0) → Tour → Type 0 → Bool → (View → Program) → Progress S → Progress S → Type 0
 Walks goes below tour known non_null program old new = Goes goes below tour.most (plan_of tour.plan.now) known (λ v. puts non_null (program v) (lookup tour.memory.now)) old new
 
+-- it puts an object of these members over a row
+abbrev pub WalksMembers : {S : Type 0} (goes : View → List Put → S → S → Type 0) (below : ℕ → S → Type 0) → Tour → ℕ → RowOf → List Member → Progress S → Progress S → Type 0
+WalksMembers goes below tour levels row ms old new =
+    Walks goes below tour (AreKnown (length old.groups.items) ms) false (λ v. Under ObjectOf (members_seen (plan_of tour.plan.now).definitions v levels row ms)) old new
+
+-- it puts what a position asks for over a row
+abbrev pub WalksAsks : {S : Type 0} (goes : View → List Put → S → S → Type 0) (below : ℕ → S → Type 0) → Tour → Bool → ℕ → RowOf → Asks → Progress S → Progress S → Type 0
+WalksAsks goes below tour non_null levels row asks old new =
+    Walks goes below tour (IsAsked (length old.groups.items) asks) non_null (λ v. asks_seen (plan_of tour.plan.now).definitions v levels row asks) old new
+
+-- it puts a program at a position that loads
+abbrev pub WalksAt : {S : Type 0} (goes : View → List Put → S → S → Type 0) (below : ℕ → S → Type 0) → Tour → Loading → (View → Program) → Progress S → Progress S → Type 0
+WalksAt goes below tour to program old new = Walks goes below tour (to.onward.group < length old.groups.items) to.non_null program old new
+
+-- it puts a list, whose items go on so
+abbrev pub WalksList : {S : Type 0} (goes : View → List Put → S → S → Type 0) (below : ℕ → S → Type 0) → Tour → Onward → (View → Program) → Progress S → Progress S → Type 0
+WalksList goes below tour onward program old new = Walks goes below tour (onward.group < length old.groups.items) false program old new
+
+-- it puts what so many later loaders come to from the first of some rows
+abbrev pub WalksLater : {S : Type 0} (goes : View → List Put → S → S → Type 0) (below : ℕ → S → Type 0) → Tour → Loading → ℕ → List RowOf → Progress S → Progress S → Type 0
+WalksLater goes below tour to left rows old new = WalksAt goes below tour to (λ v. v.after (later_of left (onward_of to.onward)) rows) old new
+
 -- it puts an object over a row, at a position that no later loader is left of
 abbrev pub WalksRow : {S : Type 0} (goes : View → List Put → S → S → Type 0) (below : ℕ → S → Type 0) → Tour → Loading → RowOf → Progress S → Progress S → Type 0
-WalksRow goes below tour to row old new =
-    Walks goes below tour (to.onward.group < length old.groups.items) to.non_null (λ v. v.after (later_of 0 (onward_of to.onward)) (row ∷ [])) old new
+WalksRow goes below tour to row old new = WalksLater goes below tour to 0 (row ∷ []) old new
+
+-- the same where the object's type is known
+abbrev pub WalksTyped : {S : Type 0} (goes : View → List Put → S → S → Type 0) (below : ℕ → S → Type 0) → Tour → Loading → List ℕ → RowOf → Progress S → Progress S → Type 0
+WalksTyped goes below tour to ty row old new =
+    WalksAt goes below tour to (λ v. object_program (plan_of tour.plan.now) to.onward.levels ty (children_at old.groups.items to.onward.group).fields row) old new
 
 -- Groups past the first so many were let go, where there were as many as are kept and no position more waits.
 pub record LetsGo {S : Type 0} (waits : S → ℕ) (most count held : ℕ) (old new : Progress S) : Type 0 where
@@ -37,3 +68,7 @@ pub record LetsGo {S : Type 0} (waits : S → ℕ) (most count held : ℕ) (old 
 -- a list with an item for each of the rows, from which so many later loaders go on
 abbrev pub items_after : View → List Group → OnwardOf → ℕ → List RowOf → Program
 items_after v gs onward left rows = list_of (children_at gs onward.group) (map (λ row. v.after (later_of left onward) (row ∷ [])) rows)
+
+-- a list with an item for each key, which goes on so with its rows
+abbrev pub items_read : View → Items → OnwardOf → ℕ → List (Option KeyOf) → Program
+items_read v items onward loader keys = Under ListOf (places items.non_null items.place 0 (map (read_if loader (v.after onward)) keys))

@@ -1,10 +1,10 @@
 //! Executions that begin, stop where a load is missing, and go on.
 
-ghost use Rattle.std.specs.Prelude.{IfOk, OnErr, length};
+ghost use Rattle.std.specs.Prelude.{IfOk, OnErr};
 ghost use Rattle.load_memory.specs.Pairs.{MemoryOf};
 ghost use Rattle.gq_check.specs.Plans.{plan_of};
 ghost use Rattle.gq_resolve.specs.Evaluated.{AddsPart, CanEvaluate, GrowsTo};
-ghost use Rattle.gq_resolve.specs.Suspended.{plan_on, IsRooted, GoesOver, IsResponse, MayGoOn, Advanced, FitsStopped, FitsTour, IsAdvanced, lacking};
+ghost use Rattle.gq_resolve.specs.Suspended.{plan_on, IsRooted, WaitsBelow, GoesOver, IsResponse, MayGoOn, Advanced, FitsStopped, FitsTour, IsAdvanced, lacking};
 ghost use Rattle.gq_resolve.specs.Limited.{RespondsWithin};
 
 use crate::answered::Answered;
@@ -59,7 +59,7 @@ fn gone_over<'p, S: Sink + Drop>(
     rooted: Rooted<'p>,
     out: S,
 ) -> Result<(Rooted<'p>, S), NoMemory>
-    ensures { IsRooted (plan_on tour.now) rooted.entry → S.below (length rooted.entry.groups.items) out
+    ensures { IsRooted (plan_on tour.now) rooted.entry → WaitsBelow S.below rooted.entry out
         → IfOk result (GoesOver S.goes (plan_on tour.now) tour.now.memory.now out) }
 {
     let Rooted { members, groups } = rooted;

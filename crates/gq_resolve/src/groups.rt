@@ -5,7 +5,7 @@ ghost use Rattle.gq_schema.specs.Types.{tree_of};
 ghost use Rattle.gq_schema.specs.BindingsSeen.{step_of};
 ghost use Rattle.gq_check.specs.Plans.{PlanOf, plan_of};
 ghost use Rattle.plan_program.specs.Prepared.{value_from_seen, all_prepared_seen, children_seen};
-ghost use Rattle.gq_resolve.specs.Groups.{children_in, children_at, then_at, steps_in, type_prepared, IsShape, Grows, IsNew, IsAsking, AreMade, AreKept, IsOnly, AreOnly, IsShaped};
+ghost use Rattle.gq_resolve.specs.Groups.{children_in, children_at, then_at, steps_in, IsShape, Grows, IsNew, IsAsking, AreMade, Meets, AreKept, IsOnly, AreOnly, IsShaped};
 
 use crate::cells::is_object_type;
 use crate::positions::{FieldPosition, Items, Onward};
@@ -274,7 +274,7 @@ fn meet<'p>(
     children: &Children<'p>,
     ty: &str,
 ) -> Result<Rc<Vec<Member<'p>>>, NoMemory>
-    ensures { IfOk result (λ members. AreMade groups.old.items groups.new.items (type_prepared (plan_of tour.now.plan.now) (children_seen children.now) ty.now) members.value.items) }
+    ensures { IfOk result (λ members. Meets (plan_of tour.now.plan.now) (children_seen children.now) ty.now groups.old.items groups.new.items members.value.items) }
 {
     let collected = collect_subfields(tour.alloc, tour.plan, ty, &children.fields)?;
     let all = prepare_groups(tour.alloc, tour.plan, ty, collected)?;

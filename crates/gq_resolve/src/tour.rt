@@ -1,15 +1,13 @@
 //! The walk over what a plan asks and what a memory says, which puts the answer into a sink.
 
-ghost use Rattle.std.specs.Prelude.{◌<◌, ◌∷◌, [], OnOk, false, length, map, option_map};
+ghost use Rattle.std.specs.Prelude.{◌∷◌, [], OnOk, option_map};
 ghost use Rattle.load_memory.specs.Keys.{key_of, borrowed_of};
 ghost use Rattle.load_memory.specs.Outcomes.{outcome_of};
-ghost use Rattle.execution.specs.Program.{Under, ListOf, ObjectOf};
-ghost use Rattle.gq_check.specs.Plans.{plan_of};
 ghost use Rattle.plan_program.specs.Prepared.{key_from_seen, keys_seen};
-ghost use Rattle.plan_program.specs.PlanPrograms.{places, with_rows, read_from, read_key, read_if, object_program};
-ghost use Rattle.gq_resolve.specs.Groups.{children_at, asks_seen, members_seen, IsAsked, AreKnown, AreOnly};
-ghost use Rattle.gq_resolve.specs.Positions.{onward_of, later_of};
-ghost use Rattle.gq_resolve.specs.Walks.{Walks, WalksRow, LetsGo, items_after};
+ghost use Rattle.plan_program.specs.PlanPrograms.{with_rows, read_from, read_key, read_if};
+ghost use Rattle.gq_resolve.specs.Groups.{AreOnly};
+ghost use Rattle.gq_resolve.specs.Positions.{onward_of};
+ghost use Rattle.gq_resolve.specs.Walks.{WalksMembers, WalksAsks, WalksAt, WalksList, WalksLater, WalksRow, WalksTyped, LetsGo, items_after, items_read};
 
 use crate::cells::{TypeOf, type_of_row};
 use crate::following::{Followed, follow_steps};
@@ -62,7 +60,7 @@ impl<'w, 'p, 'a> Tour<'w, 'p, 'a> {
         members: &[Member<'p>],
         row: &Row,
     ) -> Result<(), NoMemory>
-        ensures { OnOk result (Walks S.goes S.below self.now (AreKnown (length at.old.groups.items) members.now) false (λ v. Under ObjectOf (members_seen (plan_of self.now.plan.now).definitions v levels row.now members.now)) at.old at.new) }
+        ensures { OnOk result (WalksMembers S.goes S.below self.now levels row.now members.now at.old at.new) }
     {
         at.out.begin(Kind::Object)?;
         for member in members {
@@ -83,7 +81,7 @@ impl<'w, 'p, 'a> Tour<'w, 'p, 'a> {
         asks: &Asks<'p>,
         row: &Row,
     ) -> Result<(), NoMemory>
-        ensures { OnOk result (Walks S.goes S.below self.now (IsAsked (length at.old.groups.items) asks.now) non_null (λ v. asks_seen (plan_of self.now.plan.now).definitions v levels row.now asks.now) at.old at.new) }
+        ensures { OnOk result (WalksAsks S.goes S.below self.now non_null levels row.now asks.now at.old at.new) }
     {
         match asks {
             Asks::Known(leaf_value) => at.out.leaf_value(leaf_value, non_null),
@@ -133,7 +131,7 @@ impl<'w, 'p, 'a> Tour<'w, 'p, 'a> {
         key: &KeyFrom<'p>,
         row: &Row,
     ) -> Result<(), NoMemory>
-        ensures { OnOk result (Walks S.goes S.below self.now (to.onward.group < length at.old.groups.items) to.non_null (λ v. read_from loader (key_from_seen key.now) row.now (v.after (onward_of to.onward))) at.old at.new) }
+        ensures { OnOk result (WalksAt S.goes S.below self.now to (λ v. read_from loader (key_from_seen key.now) row.now (v.after (onward_of to.onward))) at.old at.new) }
     {
         match key_over(key, row) {
             KeyOver::Known(key) => self.read(at, to, loader, key),
@@ -154,7 +152,7 @@ impl<'w, 'p, 'a> Tour<'w, 'p, 'a> {
         loader: usize,
         key: KeyRef<'_>,
     ) -> Result<(), NoMemory>
-        ensures { OnOk result (Walks S.goes S.below self.now (to.onward.group < length at.old.groups.items) to.non_null (λ v. read_key loader (borrowed_of key.entry) (v.after (onward_of to.onward))) at.old at.new) }
+        ensures { OnOk result (WalksAt S.goes S.below self.now to (λ v. read_key loader (borrowed_of key.entry) (v.after (onward_of to.onward))) at.old at.new) }
     {
         match look_up(self.alloc, self.memory, &mut at.probe, loader, key)? {
             Some(outcome) => self.go_on(at, to, outcome),
@@ -170,7 +168,7 @@ impl<'w, 'p, 'a> Tour<'w, 'p, 'a> {
         to: Loading,
         outcome: &Outcome,
     ) -> Result<(), NoMemory>
-        ensures { OnOk result (Walks S.goes S.below self.now (to.onward.group < length at.old.groups.items) to.non_null (λ v. with_rows (v.after (onward_of to.onward)) (outcome_of outcome.now)) at.old at.new) }
+        ensures { OnOk result (WalksAt S.goes S.below self.now to (λ v. with_rows (v.after (onward_of to.onward)) (outcome_of outcome.now)) at.old at.new) }
     {
         match outcome {
             Outcome::Rows(rows) => self.rows(at, to, rows),
@@ -191,7 +189,7 @@ impl<'w, 'p, 'a> Tour<'w, 'p, 'a> {
         to: Loading,
         rows: &[Row],
     ) -> Result<(), NoMemory>
-        ensures { OnOk result (Walks S.goes S.below self.now (to.onward.group < length at.old.groups.items) to.non_null (λ v. v.after (onward_of to.onward) rows.now) at.old at.new) }
+        ensures { OnOk result (WalksAt S.goes S.below self.now to (λ v. v.after (onward_of to.onward) rows.now) at.old at.new) }
     {
         if let Some(left) = to.onward.later {
             return self.first(at, to, left, rows);
@@ -212,7 +210,7 @@ impl<'w, 'p, 'a> Tour<'w, 'p, 'a> {
         left: usize,
         rows: &[Row],
     ) -> Result<(), NoMemory>
-        ensures { OnOk result (Walks S.goes S.below self.now (to.onward.group < length at.old.groups.items) to.non_null (λ v. v.after (later_of left (onward_of to.onward)) rows.now) at.old at.new) }
+        ensures { OnOk result (WalksLater S.goes S.below self.now to left rows.now at.old at.new) }
     {
         match rows {
             [] => at.out.leaf_value(&LeafValue::Null, to.non_null),
@@ -229,7 +227,7 @@ impl<'w, 'p, 'a> Tour<'w, 'p, 'a> {
         left: usize,
         rows: &[Row],
     ) -> Result<(), NoMemory>
-        ensures { OnOk result (Walks S.goes S.below self.now (onward.group < length at.old.groups.items) false (λ v. items_after v at.old.groups.items (onward_of onward) left rows.now) at.old at.new) }
+        ensures { OnOk result (WalksList S.goes S.below self.now onward (λ v. items_after v at.old.groups.items (onward_of onward) left rows.now) at.old at.new) }
     {
         let items = items_of(&at.groups, onward.group);
         let to = Loading {
@@ -253,7 +251,7 @@ impl<'w, 'p, 'a> Tour<'w, 'p, 'a> {
         left: usize,
         row: &Row,
     ) -> Result<(), NoMemory>
-        ensures { OnOk result (Walks S.goes S.below self.now (to.onward.group < length at.old.groups.items) to.non_null (λ v. v.after (later_of left (onward_of to.onward)) (row.now ∷ [])) at.old at.new) }
+        ensures { OnOk result (WalksLater S.goes S.below self.now to left (row.now ∷ []) at.old at.new) }
     {
         if left == 0 {
             return self.row_object(at, to, row);
@@ -283,7 +281,7 @@ impl<'w, 'p, 'a> Tour<'w, 'p, 'a> {
         keys: &[Option<Key>],
         items: Items,
     ) -> Result<(), NoMemory>
-        ensures { OnOk result (Walks S.goes S.below self.now (onward.group < length at.old.groups.items) false (λ v. Under ListOf (places items.non_null items.place 0 (map (read_if loader (v.after (onward_of onward))) (keys_seen keys.now)))) at.old at.new) }
+        ensures { OnOk result (WalksList S.goes S.below self.now onward (λ v. items_read v items (onward_of onward) loader (keys_seen keys.now)) at.old at.new) }
     {
         let to = Loading {
             onward,
@@ -306,7 +304,7 @@ impl<'w, 'p, 'a> Tour<'w, 'p, 'a> {
         loader: usize,
         key: &Option<Key>,
     ) -> Result<(), NoMemory>
-        ensures { OnOk result (Walks S.goes S.below self.now (to.onward.group < length at.old.groups.items) to.non_null (λ v. read_if loader (v.after (onward_of to.onward)) (option_map key_of key.now)) at.old at.new) }
+        ensures { OnOk result (WalksAt S.goes S.below self.now to (λ v. read_if loader (v.after (onward_of to.onward)) (option_map key_of key.now)) at.old at.new) }
     {
         match key {
             Some(key) => self.read(at, to, loader, key.borrowed()),
@@ -361,7 +359,7 @@ impl<'w, 'p, 'a> Tour<'w, 'p, 'a> {
         ty: &str,
         row: &Row,
     ) -> Result<(), NoMemory>
-        ensures { OnOk result (Walks S.goes S.below self.now (to.onward.group < length at.old.groups.items) to.non_null (λ v. object_program (plan_of self.now.plan.now) to.onward.levels ty.now (children_at at.old.groups.items to.onward.group).fields row.now) at.old at.new) }
+        ensures { OnOk result (WalksTyped S.goes S.below self.now to ty.now row.now at.old at.new) }
     {
         let levels = to.onward.levels;
         if levels == 0 {
