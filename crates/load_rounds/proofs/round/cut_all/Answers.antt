@@ -50,8 +50,8 @@ returns-in_err-append-clause-lost g c =
     let more = c.in_ok-more.more.items in
     let size : length more ≡ vec_len c.in_ok-more.more = omega (arith, c.in_ok-more.more.ok.0) in
     let either : ((more ≢ []) × (c.if-not-is_empty.rounds ≡ c.args.round)) ⊎ ((more ≡ []) × (c.if-not-is_empty.rounds ≡ c.loop-loader.rounds)) = elim c.if-not-is_empty.branch [
-      | then-not-is_empty w ↦ inl (λ h. eqb-false (vec_len c.in_ok-more.more) 0 (sym c.is_empty.ensures ∙ w.if-not-is_empty.true) (sym size ∙ ap length h), w.rounds-is)
-      | else-not-is_empty w ↦ inr (none-left more (size ∙ eqb-true (vec_len c.in_ok-more.more) 0 (sym c.is_empty.ensures ∙ w.if-not-is_empty.false)), w.rounds-is)
+      | then-not-is_empty w ↦ inl (λ h. eqb-false (vec_len c.in_ok-more.more) 0 (sym c.is_empty-in-loop-loader.ensures ∙ w.if-not-is_empty.true) (sym size ∙ ap length h), w.rounds-is)
+      | else-not-is_empty w ↦ inr (none-left more (size ∙ eqb-true (vec_len c.in_ok-more.more) 0 (sym c.is_empty-in-loop-loader.ensures ∙ w.if-not-is_empty.false)), w.rounds-is)
     ] in
     let grown = enters-cut c.args.round i keys c.args.loaders.now.items c.loop-loader.loaders.items c.args.rounds.now c.loop-loader.rounds c.if-not-is_empty.rounds c.loop-loader.invariant.entered c.index_mut.result.now c.cut_owned.new.self lt c.index_mut.ensures.value
     (map key_of c.take_keys-keys.result.items) own_keys c.in_ok-more.ensures.entered more c.in_ok-more.ensures.orders either c.requires.next in
@@ -66,8 +66,8 @@ loop-loader-preserved g c =
     let more = c.in_ok-more.more.items in
     let size : length more ≡ vec_len c.in_ok-more.more = omega (arith, c.in_ok-more.more.ok.0) in
     let either : ((more ≢ []) × (c.if-not-is_empty.rounds ≡ c.args.round)) ⊎ ((more ≡ []) × (c.if-not-is_empty.rounds ≡ c.loop-loader.rounds)) = elim c.if-not-is_empty.branch [
-      | then-not-is_empty w ↦ inl (λ h. eqb-false (vec_len c.in_ok-more.more) 0 (sym c.is_empty.ensures ∙ w.if-not-is_empty.true) (sym size ∙ ap length h), w.rounds-is)
-      | else-not-is_empty w ↦ inr (none-left more (size ∙ eqb-true (vec_len c.in_ok-more.more) 0 (sym c.is_empty.ensures ∙ w.if-not-is_empty.false)), w.rounds-is)
+      | then-not-is_empty w ↦ inl (λ h. eqb-false (vec_len c.in_ok-more.more) 0 (sym c.is_empty-in-loop-loader.ensures ∙ w.if-not-is_empty.true) (sym size ∙ ap length h), w.rounds-is)
+      | else-not-is_empty w ↦ inr (none-left more (size ∙ eqb-true (vec_len c.in_ok-more.more) 0 (sym c.is_empty-in-loop-loader.ensures ∙ w.if-not-is_empty.false)), w.rounds-is)
     ] in
     let grown = enters-cut c.args.round i keys c.args.loaders.now.items c.loop-loader.loaders.items c.args.rounds.now c.loop-loader.rounds c.if-not-is_empty.rounds c.loop-loader.invariant.entered c.index_mut.result.now c.cut_owned.new.self lt c.index_mut.ensures.value
     (map key_of c.take_keys-keys.result.items) own_keys c.in_ok-more.ensures.entered more c.in_ok-more.ensures.orders either c.requires.next in
