@@ -58,6 +58,14 @@ pub record IsGiven (plan : PlanOf) (ty : List ℕ) (f : FieldOf) (a : Argument) 
   pub argument : argument_in definition.arguments name ≡ Some a
   pub given : given_to f.arguments name ≡ Some v
 
+-- execution can meet a field that is given this literal for this argument
+pub record CanHave (plan : PlanOf) (a : Argument) (v : Value) : Type 0 where
+  pub ty : List ℕ
+  pub group : GroupOf
+  pub field : FieldOf
+  pub met : IsMetBy plan ty group field
+  pub given : IsGiven plan ty field a v
+
 -- ---- what answers them
 
 abbrev pub StepsThere : ℕ → List StepOf → Type 0

@@ -11,7 +11,7 @@ ghost use Rattle.plan_program.specs.PlanPrograms.{most_levels, plan_program};
 ghost use Rattle.plan_program.specs.Arguments.{literal_value};
 ghost use Rattle.world.specs.Worlds.{WorldOf};
 ghost use Rattle.plan_laws.specs.Levels.{program_with};
-ghost use Rattle.plan_laws.specs.Met.{CanBeMet, IsMetBy, HasFirst, IsGiven, AreThere, IsBound, AsksItsBinding, AreRead, IsOverSchema, IsOverOne};
+ghost use Rattle.plan_laws.specs.Met.{CanBeMet, IsMetBy, HasFirst, CanHave, AreThere, IsBound, AsksItsBinding, AreRead, IsOverSchema, IsOverOne};
 ghost use Rattle.plan_laws.specs.OfWorlds.{IsMade, IsPlanOver};
 ghost use Rattle.plan_laws.specs.Unset.{has_unset};
 ghost use Rattle.plan_program.specs.Groups.{FieldOf, GroupOf, Collected, has_entered, enter_fragment, entering, collect_all, collect_from};
@@ -55,8 +55,8 @@ pub fn met_fields_are_answered()
 /// A literal that is given for an argument of a field that execution can meet is right at the argument's type, unless a
 /// variable in it has no value or null. So no other literal is a field error.
 pub fn literals_are_right()
-    ensures { (plan : PlanOf) (ty : List ℕ) (g : GroupOf) (f : FieldOf) (a : Argument) (v : Value) → IsOverSchema plan → IsMetBy plan ty g f
-        → IsGiven plan ty f a v → has_unset plan v ≡ false → is_some (literal_value plan a.of_type v) ≡ true }
+    ensures { (plan : PlanOf) (a : Argument) (v : Value) → IsOverSchema plan → CanHave plan a v → has_unset plan v ≡ false
+        → is_some (literal_value plan a.of_type v) ≡ true }
 {}
 
 /// A world reads its bindings over its own schema, so each plan of its requests is over one schema, as
