@@ -7,7 +7,7 @@ pub returns-then-are_all_marked : goal.returns-then-are_all_marked
 returns-then-are_all_marked c =
     let g = c.args.graph.now in
     let marks = c.loop.taken.items in
-    let taken : c.deref-in-loop.result.now ≡ marks = c.deref-in-loop.ensures.value in
+    let taken : c.deref.result.now ≡ marks = c.deref.ensures.value in
     let len = c.loop.invariant.part.len in
     let many = ap length taken in
     part-all g c.loop.order.items marks c.loop.invariant.part
