@@ -10,7 +10,7 @@ use Rattle.load_queue.specs.Orders.{order_of}
 use Rattle.load_queue.specs.Wanted.{keys_wanted}
 use Rattle.execution.specs.Rounds.{rule_of}
 use Rattle.load_rounds.specs.Rounds.{orders_by, first_keys}
-use Rattle.load_rounds.proofs.Cutting.{orders-past, logged-past, length-logged, enters-kept, enters-cut, more-orders, enters-all, orders-same, first-some}
+use Rattle.load_rounds.proofs.Cutting.{orders-past, logged-past, length-logged, enters-kept, enters-cut, more-orders, orders-skipped, enters-skipped, enters-all, orders-same, first-some}
 use Rattle.load_rounds.proofs.round.cut_all.Goals as goal
 use Rattle.load_rounds.proofs.round.cut_all.Goals.{then-not-is_empty, else-not-is_empty}
 
@@ -28,6 +28,21 @@ loop-loader-init g c =
       entered = record { loaders = sym (logged-past false c.args.round 0 0 keys old (omega arith)); rounds = rw none (omega arith) };
       lined = refl;
       rest = λ m le. refl;
+    }
+
+pub loop-loader-preserved-then-is_empty : goal.loop-loader-preserved-then-is_empty
+loop-loader-preserved-then-is_empty g c =
+    let keys = keys_wanted c.args.wants.now in
+    let i = c.loop-loader.loader in
+    let old = c.args.loaders.now.items in
+    let was = c.loop-loader.invariant in
+    let own = none-left c.keys.result.now (eqb-true (length c.keys.result.now) 0 (sym c.is_empty.ensures ∙ c.if-is_empty.true)) in
+    let none : keys i ≡ [] = sym (was.rest i (omega arith)) ∙ sym c.keys.ensures ∙ ap (map key_of) own in
+    record {
+      orders = was.orders ∙ sym (orders-skipped i keys (map rule_of old) none);
+      entered = enters-skipped c.args.round i keys old c.loop-loader.loaders.items c.args.rounds.now c.loop-loader.rounds none was.entered;
+      lined = was.lined;
+      rest = λ m le. was.rest m (omega (arith, le));
     }
 
 pub take_keys-keys-requires : goal.take_keys-keys-requires
