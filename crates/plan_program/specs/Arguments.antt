@@ -28,8 +28,8 @@ name_value plan name non_null (Variable p v) = variable_value non_null (value_in
 name_value plan name non_null v = named_value None plan.definitions name non_null v
 
 -- the input is what a literal gives at a type, where that is a name
-abbrev pub IsValueAtName : PlanOf → TypeTree → Bool → Value → Option Input → Type 0
-IsValueAtName plan t non_null v input = (p : Place) (name : List ℕ) → t ≡ Named p name non_null → input ≡ name_value plan name non_null v
+abbrev pub IsValueAtName : PlanOf → TypeTree → Value → Option Input → Type 0
+IsValueAtName plan t v input = (p : Place) (name : List ℕ) (non_null : Bool) → t ≡ Named p name non_null → input ≡ name_value plan name non_null v
 
 -- the same at a list, where item says what a literal gives at its items
 abbrev pub list_value : PlanOf → (Value → Option Input) → Bool → Value → Option Input

@@ -3,6 +3,7 @@
 ghost use Rattle.std.specs.Prelude.{◌≡◌, List, IfOk, IfErr, Some, map};
 ghost use Rattle.std.specs.Option.{option_map};
 ghost use Rattle.gq_parser.specs.Tree.{type_of, literal_of, map_literals, arguments_of as arguments_seen};
+ghost use Rattle.gq_parser.specs.Types.{is_non_null};
 ghost use Rattle.schema_syntax.specs.Tree.{argument_of, arguments_of as arguments_defined};
 ghost use Rattle.gq_schema.specs.Inputs.{input_of};
 ghost use Rattle.gq_schema.specs.Coercion.{list_input, all_items, one_item};
@@ -92,18 +93,18 @@ fn all_copied(inputs: &Vec<Input>) -> Result<Vec<Input>, AllocError>
     Ok(copies)
 }
 
-fn null_input(non_null: bool) -> Option<Input>
-    ensures { option_map input_of result ≡ null_input non_null }
+fn null_input(ty: &TypeRef) -> Option<Input>
+    ensures { option_map input_of result ≡ null_input (is_non_null (type_of ty.now)) }
 {
-    (!non_null).then_some(Input::Null)
+    (!ty.is_non_null()).then_some(Input::Null)
 }
 
 // The value of a variable that has one.
-fn value_of_variable(non_null: bool, value: &Input) -> Result<Option<Input>, AllocError>
-    ensures { IfOk result (λ input. option_map input_of input ≡ variable_value non_null (Some (input_of value.now))) }
+fn value_of_variable(ty: &TypeRef, value: &Input) -> Result<Option<Input>, AllocError>
+    ensures { IfOk result (λ i. option_map input_of i ≡ variable_value (is_non_null (type_of ty.now)) (Some (input_of value.now))) }
 {
     match value {
-        Input::Null => Ok(null_input(non_null)),
+        Input::Null => Ok(null_input(ty)),
         Input::Int(number) => Ok(Some(Input::Int(*number))),
         Input::Text(text) => Ok(Some(Input::Text(text.clone()?))),
         Input::Bool(value) => Ok(Some(Input::Bool(*value))),
@@ -112,12 +113,13 @@ fn value_of_variable(non_null: bool, value: &Input) -> Result<Option<Input>, All
 }
 
 // The value of a variable; an absent one is null.
-fn variable_value(plan: &Plan<'_>, non_null: bool, name: &str) -> Result<Option<Input>, AllocError>
-    ensures { IfOk result (λ input. option_map input_of input ≡ variable_value non_null (value_in (plan_of plan.now).variables name.now)) }
+fn variable_value(plan: &Plan<'_>, ty: &TypeRef, name: &str) -> Result<Option<Input>, AllocError>
+    ensures { IfOk result (λ i. option_map input_of i
+        ≡ variable_value (is_non_null (type_of ty.now)) (value_in (plan_of plan.now).variables name.now)) }
 {
     match plan.variable(name) {
-        Some(value) => value_of_variable(non_null, value),
-        None => Ok(null_input(non_null)),
+        Some(value) => value_of_variable(ty, value),
+        None => Ok(null_input(ty)),
     }
 }
 
@@ -126,14 +128,12 @@ fn name_value(
     alloc: Global,
     plan: &Plan<'_>,
     ty: &TypeRef,
-    non_null: bool,
     literal: &Literal,
 ) -> Result<Option<Input>, AllocError>
-    ensures { IfOk result (λ i. IsValueAtName (plan_of plan.now) (type_of ty.now) non_null (literal_of literal.now)
-        (option_map input_of i)) }
+    ensures { IfOk result (λ i. IsValueAtName (plan_of plan.now) (type_of ty.now) (literal_of literal.now) (option_map input_of i)) }
 {
     match &literal.value {
-        Value::Variable(name) => Ok(variable_value(plan, non_null, name.as_str())?),
+        Value::Variable(name) => Ok(variable_value(plan, ty, name.as_str())?),
         Value::Null => Ok(coerce(alloc, plan.schema(), ty, literal)?),
         Value::Int(_) => Ok(coerce(alloc, plan.schema(), ty, literal)?),
         Value::Float(_) => Ok(coerce(alloc, plan.schema(), ty, literal)?),
@@ -156,10 +156,10 @@ fn literal_value(
     ensures { IfOk result (λ input. option_map input_of input ≡ literal_value (plan_of plan.now) (type_of ty.now) (literal_of literal.now)) }
 {
     match ty {
-        TypeRef::Named { non_null, .. } => Ok(name_value(alloc, plan, ty, *non_null, literal)?),
-        TypeRef::List { item, non_null, .. } => match &literal.value {
-            Value::Null => Ok(null_input(*non_null)),
-            Value::Variable(name) => Ok(variable_value(plan, *non_null, name.as_str())?),
+        TypeRef::Named { .. } => Ok(name_value(alloc, plan, ty, literal)?),
+        TypeRef::List { item, .. } => match &literal.value {
+            Value::Null => Ok(null_input(ty)),
+            Value::Variable(name) => Ok(variable_value(plan, ty, name.as_str())?),
             Value::List(items) => Ok(list_value(alloc, plan, item, items)?),
             Value::Int(_) => one_value(alloc, plan, item, literal),
             Value::Float(_) => one_value(alloc, plan, item, literal),
@@ -245,10 +245,7 @@ fn by_variable(
         ≡ by_variable (plan_of plan.now) (argument_of argument.now) (value_in (plan_of plan.now).variables name.now)) }
 {
     match plan.variable(name) {
-        Some(value) => {
-            let non_null = argument.of_type.is_non_null();
-            Ok(or_refused(value_of_variable(non_null, value)?))
-        }
+        Some(value) => Ok(or_refused(value_of_variable(&argument.of_type, value)?)),
         None => default_value(alloc, plan, argument),
     }
 }

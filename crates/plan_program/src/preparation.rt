@@ -2,7 +2,6 @@
 
 ghost use Rattle.std.specs.Prelude.{◌≡◌, IfOk, Some, false, map, string_bytes};
 ghost use Rattle.std.specs.Option.{option_map, option_copied};
-ghost use Rattle.std.specs.Arc.{arc_value};
 ghost use Rattle.gq_parser.specs.Tree.{type_of};
 ghost use Rattle.gq_parser.specs.Types.{is_non_null};
 ghost use Rattle.schema_syntax.specs.Tree.{field_of};
@@ -130,10 +129,10 @@ fn keys_of(alloc: Global, inputs: &Vec<Input>) -> Result<Vec<Option<Key>>, Alloc
 fn each_asked<'p>(
     alloc: Global,
     loader: usize,
-    children: Arc<Children<'p>>,
+    children: Children<'p>,
     input: Option<&Input>,
 ) -> Result<ValueFrom<'p>, AllocError>
-    ensures { IfOk result (λ asked. value_from_seen asked ≡ each_asked loader (children_seen (arc_value children.entry)) (option_map input_of (option_copied input.entry))) }
+    ensures { IfOk result (λ asked. value_from_seen asked ≡ each_asked loader (children_seen children.entry) (option_map input_of (option_copied input.entry))) }
 {
     match input {
         Some(Input::List(inputs)) => {
@@ -141,7 +140,7 @@ fn each_asked<'p>(
             Ok(ValueFrom::Each {
                 loader,
                 keys,
-                children,
+                children: Arc::new(alloc, children)?,
             })
         }
         Some(Input::Null) => Ok(ValueFrom::Known(LeafValue::Null)),
@@ -181,12 +180,12 @@ fn bound_asked<'p>(
     alloc: Global,
     plan: &Plan<'_>,
     ty: &'p TypeRef,
-    children: Arc<Children<'p>>,
+    children: Children<'p>,
     args: &Args,
     binding: &'p Binding,
 ) -> Result<ValueFrom<'p>, AllocError>
     ensures { IfOk result (λ a. value_from_seen a
-        ≡ bound_by (plan_of plan.now) (type_of ty.now) (children_seen (arc_value children.entry)) (values_of args.now) binding.now) }
+        ≡ bound_by (plan_of plan.now) (type_of ty.now) (children_seen children.entry) (values_of args.now) binding.now) }
 {
     let null = ValueFrom::Known(LeafValue::Null);
     Ok(match binding {
@@ -198,7 +197,7 @@ fn bound_asked<'p>(
             Some(key) => ValueFrom::First {
                 loader: *loader,
                 key,
-                children,
+                children: Arc::new(alloc, children)?,
             },
             None => null,
         },
@@ -206,7 +205,7 @@ fn bound_asked<'p>(
             Some(key) => ValueFrom::All {
                 loader: *loader,
                 key,
-                children,
+                children: Arc::new(alloc, children)?,
             },
             None => null,
         },
@@ -230,7 +229,7 @@ fn bound_asked<'p>(
                     loader: *loader,
                     key,
                     steps: steps.as_slice(),
-                    children,
+                    children: Arc::new(alloc, children)?,
                 },
                 None => null,
             }
@@ -283,7 +282,6 @@ fn defined_asked<'p>(
         return Ok(ValueFrom::Known(LeafValue::Null));
     };
     let children = children_of(&definition.of_type, first.place, group.fields);
-    let children = Arc::new(alloc, children)?;
     bound_asked(alloc, plan, &definition.of_type, children, &args, binding)
 }
 

@@ -2,7 +2,6 @@ use Rattle.std.proofs.Common.{◌≡◌, ◌∙◌, ◌+◌, sym, ap, arith, map
 use Rattle.std.specs.Option.{option_map}
 use Rattle.std.proofs.lemmas.List.{drop_all}
 use Rattle.gq_parser.specs.declared.tree.Value.{Value}
-use Rattle.gq_parser.specs.declared.tree.TypeRef.{TypeRef}
 use Rattle.gq_parser.specs.Tree.{Array, type_of, literal_of, map_literals, values_of}
 use Rattle.gq_parser.proofs.Views.{the_literal, type_named, type_list, literal_list}
 use Rattle.gq_schema.specs.declared.input.Input.{Input}
@@ -17,7 +16,7 @@ use Rattle.plan_program.proofs.arguments.+literal.Goals as goal
 pub literal_value-returns-in_ok-name_value-in-Named : goal.literal_value-returns-in_ok-name_value-in-Named
 literal_value-returns-in_ok-name_value-in-Named t c =
     let named = ap type_of c.in-Named.is ∙ type_named c.in-Named.place c.in-Named.name c.in-Named.non_null in
-    rw named (c.in_ok-name_value-in-Named.ensures _ _ named)
+    rw named (c.in_ok-name_value-in-Named.ensures _ _ _ named)
 
 pub literal_value-returns-in_ok-list_value-in-List-value : goal.literal_value-returns-in_ok-list_value-in-List-value
 literal_value-returns-in_ok-list_value-in-List-value t c =

@@ -1,4 +1,4 @@
-use Rattle.std.proofs.Common.{◌≡◌, drop, map}
+use Rattle.std.proofs.Common.{◌≡◌, drop}
 use Rattle.gq_parser.specs.Tree.{arguments_of}
 use Rattle.schema_syntax.specs.Tree.{arguments_of as arguments_defined}
 use Rattle.gq_check.specs.Plans.{plan_of}

@@ -1,4 +1,4 @@
-use Rattle.std.proofs.Common.{ap, ◌∙◌, sym}
+use Rattle.std.proofs.Common.{ap, ◌∙◌}
 use Rattle.std.specs.Prelude.{not}
 use Rattle.plan_program.proofs.Grouping.{any_texts}
 use Rattle.plan_program.proofs.collected.Collected.enter.Goals as goal
