@@ -1,4 +1,3 @@
--- load_rounds/proofs/restart/restart_all/Answers.antt
 use Rattle.std.proofs.Common.{◌≡◌, ◌<◌, ◌+◌, length, arith, ◌∙◌, ap}
 use Rattle.load_queue.specs.Loaders.{unasked}
 use Rattle.load_rounds.proofs.Running.{replaced-more, length-replaced}

@@ -1,4 +1,3 @@
--- load_rounds/proofs/restart/restart_all/Invariants.antt
 use Rattle.std.proofs.Common.{◌≡◌, ◌++◌, map, take, drop}
 use Rattle.load_queue.specs.Loaders.{unasked}
 use Rattle.load_rounds.proofs.restart.restart_all.Given as goal
