@@ -5,4 +5,5 @@ pub mod Loading
 pub mod OneFault
 pub mod OneAnswer
 pub mod Requests
+pub mod Restarting
 pub mod Together

@@ -1,5 +1,5 @@
 -- The session of a world.
-use Rattle.std.specs.Prelude.{ℕ, List, [], ◌∷◌, Option}
+use Rattle.std.specs.Prelude.{◌≡◌, ℕ, List, [], ◌∷◌, Option, length}
 use Rattle.gq_schema.specs.BindingsTree as bindings
 use Rattle.csv_source.specs.Tables.{SourceOf}
 use Rattle.load_queue.specs.Loaders.{LoaderOf}
@@ -19,3 +19,8 @@ loaders_over limit (line ∷ lines) (source ∷ sources) = loader_over limit lin
 -- the session of a world: the loaders of its bindings over its sources, and nothing is known
 abbrev pub session_over : WorldOf → SessionOf SourceOf
 session_over w = record { loaders = loaders_over w.limit w.bindings.loaders w.sources; pairs = []; rounds = 0 }
+
+-- the session is that of a world, in which each loader of the bindings has a source
+pub record IsOver (w : WorldOf) (s : SessionOf SourceOf) : Type 0 where
+  pub same : s ≡ session_over w
+  pub each : length w.sources ≡ length w.bindings.loaders

@@ -8,9 +8,10 @@ ghost use Rattle.world_answers.specs.Arrays.{AnswersTogether, array_text};
 ghost use Rattle.world_answers.specs.Planning.{PlansArray, AddsPlan, AnswersArrayPlan, AreLimited, refusals_of, plans_of, in_places};
 ghost use Rattle.world_answers.specs.Services.{service_of};
 
+use crate::kept_session::KeptSession;
 use crate::planning::RequestPlan;
+use crate::run::Served;
 use crate::service::Service;
-use crate::sessions::Sessions;
 use csv_source::CsvSource;
 use gq_check::Plan;
 use line_serving::NoMemory;
@@ -102,19 +103,21 @@ impl<'w> ArrayPlan<'w> {
 }
 
 // The answers of an array's plans by a service, and the session that they share.
-fn answer_plans<'w>(
+fn answer_plans<'w, B: Served>(
     alloc: Global,
     service: &Service<'w>,
+    kept: &mut KeptSession<'w, B>,
     array: &ArrayPlan<'_>,
 ) -> Result<(Session<CsvSource<'w>>, Vec<Answer>), NoMemory>
-    requires { All (λ plan. plan.bindings ≡ service.now.world.now.bindings) (plans_of array.now) }
+    requires world { service.now.world.now ≡ B.world }
+    requires plans { All (λ plan. plan.bindings ≡ service.now.world.now.bindings) (plans_of array.now) }
     ensures anew { IfOk result (λ given. AnswersTogether (service_of service.now) (plans_of array.now) (state_of given.0)
         (map report_of given.1.items)) }
     // Each loader of the bindings has a source.
     ensures each { OnOk result (length service.now.world.now.sources ≡ length service.now.world.now.bindings.loaders) }
 {
     let plans = array.limited(alloc, service.max_answer)?;
-    let Ok(mut session) = service.world.session(alloc) else {
+    let Ok(mut session) = kept.open(alloc, service.world) else {
         return Err(NoMemory);
     };
     match session.answer_all(&plans) {
@@ -123,17 +126,22 @@ fn answer_plans<'w>(
     }
 }
 
-/// The text of the answer of an array by a service.
-pub(crate) fn array_answer(
+/// The text of the answer of an array by a service. Its session is kept.
+pub(crate) fn array_answer<'w, B: Served>(
     alloc: Global,
-    service: &Service<'_>,
+    service: &Service<'w>,
+    kept: &mut KeptSession<'w, B>,
     array: &ArrayPlan<'_>,
 ) -> Result<String, NoMemory>
-    requires { All (λ plan. plan.bindings ≡ service.now.world.now.bindings) (plans_of array.now) }
+    requires world { service.now.world.now ≡ B.world }
+    requires plans { All (λ plan. plan.bindings ≡ service.now.world.now.bindings) (plans_of array.now) }
     ensures { IfOk result (λ text. AnswersArrayPlan (service_of service.now) array.now (string_bytes text)) }
 {
-    match answer_plans(alloc, service, array) {
-        Ok((_, answers)) => Ok(array.text(alloc, &answers)?),
+    match answer_plans(alloc, service, kept, array) {
+        Ok((session, answers)) => {
+            kept.keep(session);
+            Ok(array.text(alloc, &answers)?)
+        }
         Err(want) => Err(want),
     }
 }

@@ -7,8 +7,8 @@ ghost use Rattle.world_answers.specs.Lines.{IsAnswer};
 ghost use Rattle.world_answers.specs.Services.{within, service_of};
 ghost use Rattle.world_answers.specs.Serving.{devices, ServesAll, StopsServing};
 
-use crate::answers::answer_in_run;
-use crate::run::{RunDocuments, Served};
+use crate::answers::{Run, answer_in_run};
+use crate::run::Served;
 use crate::service::Service;
 use line_serving::{Counted, NoMemory, ServeFault, serve as serve_lines};
 use std::alloc::Global;
@@ -33,14 +33,11 @@ fn serve_run<B: Served, R: Read, W: Write>(
     ensures bounded { OnOk result ((calls_of reader.new ≤ bound) × (given_of reader.new < bound)) }
     ensures grown { (calls_of reader.old ≤ calls_of reader.new) × (given_of reader.old ≤ given_of reader.new) }
 {
-    let documents: RefCell<RunDocuments<'_, B>> = RefCell::new(RunDocuments::new(
-        alloc,
-        service.world,
-    ));
+    let run: RefCell<Run<'_, B>> = RefCell::new(Run::new(alloc, service.world));
     let answer = |line: &[u8]| -> Result<String, NoMemory>
         requires { service.now.world.now ≡ B.world }
         ensures { IfOk result (λ text. IsAnswer (service_of service.entry.now) line.now (string_bytes text)) }
-    { answer_in_run(alloc, service, &documents, line) };
+    { answer_in_run(alloc, service, &run, line) };
     match serve_lines(alloc, reader, writer, answer) {
         Ok(count) => Ok(count),
         Err(fault) => Err(fault),
@@ -52,7 +49,8 @@ fn serve_run<B: Served, R: Read, W: Write>(
 /// after a fault of the reader, after a line that is too long, and when out of memory.
 ///
 /// The documents of valid queries are kept until it returns, within the bounds of [`KeptDocuments`](world::KeptDocuments), so
-/// that a query that comes again is neither parsed nor checked again. That changes no answer.
+/// that a query that comes again is neither parsed nor checked again. So is one session, which starts again after each line: no
+/// line sees what another loaded. That changes no answer.
 ///
 /// # Errors
 ///

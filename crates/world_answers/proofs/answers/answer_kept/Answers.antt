@@ -3,8 +3,8 @@ use Rattle.std.proofs.lemmas.Result.{IfOk-weaker}
 use Rattle.world_answers.specs.Planning.{PlansLine}
 use Rattle.world_answers.proofs.answers.answer_kept.Goals as goal
 
-pub line_answer-requires : goal.line_answer-requires
-line_answer-requires g c = (c.args.line.now, subst (λ w. PlansLine w c.args.line.now c.in-Ok.plan) (sym c.requires) c.in-Ok.ensures)
+pub line_answer-requires-clause-plan : goal.line_answer-requires-clause-plan
+line_answer-requires-clause-plan g c = (c.args.line.now, subst (λ w. PlansLine w c.args.line.now c.in-Ok.plan) (sym c.requires) c.in-Ok.ensures)
 
 pub returns-in-Ok : goal.returns-in-Ok
 returns-in-Ok g c =

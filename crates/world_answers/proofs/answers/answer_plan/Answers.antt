@@ -7,9 +7,9 @@ use Rattle.world_answers.proofs.Loading.{enough}
 use Rattle.world_answers.proofs.answers.answer_plan.Goals as goal
 
 pub answer-requires : goal.answer-requires
-answer-requires c = λ κs. ((refl, tt), enough c.args.service.now.world.now c.in-Ok.session (plan_of c.args.plan.now).bindings c.requires c.in-Ok.ensures.each c.in-Ok.ensures.opened)
+answer-requires g c = λ κs. ((refl, tt), enough c.args.service.now.world.now c.in-Ok.session (plan_of c.args.plan.now).bindings c.requires.plan c.in-Ok.ensures.each c.in-Ok.ensures.opened)
 
 pub returns-in-Ok-answer-clause-anew : goal.returns-in-Ok-answer-clause-anew
-returns-in-Ok-answer-clause-anew c =
+returns-in-Ok-answer-clause-anew g c =
     answer-anew (service_of c.args.service.now) c.in-Ok.session (state_of c.answer.new.self) (plan_of c.args.plan.now) (string_bytes c.in-Ok-answer.answer.text) c.in-Ok-answer.answer.rounds c.in-Ok.ensures.opened c.operation.ensures.prepared
     c.in-Ok-answer.ensures.answer

@@ -8,14 +8,14 @@ use Rattle.world_answers.proofs.Together.{together-anew}
 use Rattle.world_answers.proofs.arrays.answer_plans.Goals as goal
 
 pub answer_all-requires : goal.answer_all-requires
-answer_all-requires c =
+answer_all-requires g c =
     let most = c.args.service.now.max_answer in
     let plans = plans_of c.args.array.now in
     let limited = subst (AreLimited most plans) (sym c.deref.ensures.value) c.in_ok-plans.ensures in
-    λ κs. ((refl, tt), enough-each c.args.service.now.world.now c.in-Ok.session most plans c.deref.result.now c.requires limited c.in-Ok.ensures.each c.in-Ok.ensures.opened)
+    λ κs. ((refl, tt), enough-each c.args.service.now.world.now c.in-Ok.session most plans c.deref.result.now c.requires.plans limited c.in-Ok.ensures.each c.in-Ok.ensures.opened)
 
 pub returns-in-Ok-answer_all-clause-anew : goal.returns-in-Ok-answer_all-clause-anew
-returns-in-Ok-answer_all-clause-anew c =
+returns-in-Ok-answer_all-clause-anew g c =
     let plans = plans_of c.args.array.now in
     let limited = subst (AreLimited c.args.service.now.max_answer plans) (sym c.deref.ensures.value) c.in_ok-plans.ensures in
     together-anew (service_of c.args.service.now) c.in-Ok.session (state_of c.answer_all.new.self) plans c.deref.result.now (map report_of c.in-Ok-answer_all.answers.items) c.in-Ok.ensures.opened limited c.in-Ok-answer_all.ensures.answers

@@ -1,0 +1,71 @@
+//! The session of a run, which one line after another uses.
+
+ghost use Rattle.std.specs.Prelude.{◌≡◌, IfOk, OnOk, length};
+ghost use Rattle.load_rounds.specs.Sessions.{restarted};
+ghost use Rattle.world_answers.specs.Sessions.{IsOver, session_over};
+
+use crate::run::Served;
+use crate::sessions::Sessions;
+use csv_source::CsvSource;
+use load_memory::NoMemory;
+use load_rounds::Session;
+use std::alloc::Global;
+use std::marker::{Model, PhantomData};
+use world::World;
+
+/// Between lines, a session over the sources of a run's world, once there was one. It is as a new one: it started again when its
+/// line was answered, so that no line sees what another asked, and nothing of an answer is kept.
+#[derive(Drop)]
+pub(crate) struct KeptSession<'w, B: Served> {
+    session: Option<Session<CsvSource<'w>>>,
+    of: PhantomData<B>,
+}
+
+impl<'w, B: Served> Model for KeptSession<'w, B> {
+    ghost use Rattle.std.specs.Prelude.{Option, IfSome};
+    ghost use Rattle.csv_source.specs.Tables.{SourceOf};
+    ghost use Rattle.load_rounds.specs.Sessions.{SessionOf};
+    ghost use Rattle.world_answers.specs.Sessions.{IsOver};
+
+    ghost Value = { Option (SessionOf SourceOf) };
+
+    ghost view = { λ k. k.session };
+
+    ghost invariant = { λ k. IfSome k.session (IsOver B.world) };
+}
+
+impl<'w, B: Served> KeptSession<'w, B> {
+    /// None yet.
+    pub(crate) fn new() -> KeptSession<'w, B> {
+        KeptSession {
+            session: None,
+            of: PhantomData,
+        }
+    }
+
+    /// Takes the session out, or makes a new one. A contract doesn't tell which it was.
+    pub(crate) fn open(
+        &mut self,
+        alloc: Global,
+        world: &'w World,
+    ) -> Result<Session<CsvSource<'w>>, NoMemory>
+        requires { world.now ≡ B.world }
+        ensures opened { IfOk result (λ session. session ≡ session_over world.now) }
+        ensures each { OnOk result (length world.now.sources ≡ length world.now.bindings.loaders) }
+    {
+        match self.session.take() {
+            Some(session) => Ok(session),
+            None => world.session(alloc),
+        }
+    }
+
+    /// Lets a session start again, and keeps it for the next line. When out of memory, it is let go.
+    pub(crate) fn keep(&mut self, session: Session<CsvSource<'w>>)
+        requires { IsOver B.world (restarted session) }
+    {
+        let mut session = session;
+        if session.restart().is_ok() {
+            self.session = Some(session);
+        }
+    }
+}
