@@ -9,7 +9,6 @@
 mod arrays;
 mod gate;
 mod gated;
-mod kept_session;
 mod limited;
 mod serving;
 mod sessions;
