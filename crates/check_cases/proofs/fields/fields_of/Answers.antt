@@ -22,8 +22,7 @@ loop-line-init c = rw c.new-fields.ensures.items (record { few = omega arith; or
 
 pub loop-line-preserved : goal.loop-line-preserved
 loop-line-preserved c =
-    let old = λ (b k : ℕ) e. let lt = c.loop-line.invariant.order b k e in omega (arith, lt) in
-    let more = in-order 0 c.loop-line.fields.items c.in_ok-field.field old (λ k h. let lt = c.in_ok-field.ensures k h in omega (arith, lt)) in
+    let more = in-order 0 c.loop-line.fields.items c.in_ok-field.field (λ b k e. let lt = c.loop-line.invariant.order b k e in omega (arith, lt)) (λ k h. let lt = c.in_ok-field.ensures k h in omega (arith, lt)) in
     rw c.in_ok-push.ensures.items (record {
       few = omega (arith, length-append {A = Field}, c.if-number-ge1024.false);
       order = λ b k e. let lt = more b k e in omega (arith, lt);
