@@ -1,6 +1,7 @@
 -- The names of a document are those of its tokens.
 use Rattle.std.proofs.Common.{ℕ, Bool, List, [], ◌∷◌, Option, Some, None}
 use Rattle.gq_lexer.specs.declared.place.Place.{Place}
+use Rattle.gq_parser.specs.declared.value.Constness.{Constness}
 use Rattle.gq_parser.specs.Word.{Token, at, Name}
 use Rattle.gq_parser.specs.Tree as tree
 use Rattle.gq_parser.specs.Tree.{Value, Values, Members, TypeTree, Argument, Directive, Condition, Selection, Below, SelectionSet, Selections, VariableDefinition, Operation, Fragment, Document}
@@ -81,7 +82,7 @@ module _ (P : List ℕ → Type 0) where
   -- ---- from tokens to trees
 
   mutual
-    value : {c : Bool} {v : Value} {before after : List Token} → IsValue c v before after → Each TokenNames before → ValueNames v × Each TokenNames after
+    value : {c : Constness} {v : Value} {before after : List Token} → IsValue c v before after → Each TokenNames before → ValueNames v × Each TokenNames after
     value variable h = (h.1.0, h.1.1)
     value int h = (tt, h.1)
     value float h = (tt, h.1)
@@ -93,11 +94,11 @@ module _ (P : List ℕ → Type 0) where
     value (array vs) h = values vs h.1
     value (object ms) h = members ms h.1
 
-    values : {c : Bool} {vs : Values} {before after : List Token} → AreValues c vs before after → Each TokenNames before → ValuesNames vs × Each TokenNames after
+    values : {c : Constness} {vs : Values} {before after : List Token} → AreValues c vs before after → Each TokenNames before → ValuesNames vs × Each TokenNames after
     values no_more_values h = (tt, h.1)
     values (next_value v vs) h = let x = value v h in let xs = values vs x.1 in ((x.0, xs.0), xs.1)
 
-    members : {c : Bool} {ms : Members} {before after : List Token} → AreMembers c ms before after → Each TokenNames before → MembersNames ms × Each TokenNames after
+    members : {c : Constness} {ms : Members} {before after : List Token} → AreMembers c ms before after → Each TokenNames before → MembersNames ms × Each TokenNames after
     members no_more_members h = (tt, h.1)
     members (next_member v ms) h = let x = value v h.1.1 in let xs = members ms x.1 in ((x.0, xs.0), xs.1)
 
@@ -109,21 +110,21 @@ module _ (P : List ℕ → Type 0) where
   a_type (named b) h = a_bang b h.1
   a_type (list_of t b) h = a_bang b (a_type t h.1).1
 
-  an_argument : {c : Bool} {a : Argument} {before after : List Token} → IsArgument c a before after → Each TokenNames before → ArgumentNames a × Each TokenNames after
+  an_argument : {c : Constness} {a : Argument} {before after : List Token} → IsArgument c a before after → Each TokenNames before → ArgumentNames a × Each TokenNames after
   an_argument (argument v) h = let x = value v h.1.1 in ((h.0, x.0), x.1)
 
-  some_arguments : {c : Bool} {as' : List Argument} {before after : List Token} → AreArguments c as' before after → Each TokenNames before → Each ArgumentNames as' × Each TokenNames after
+  some_arguments : {c : Constness} {as' : List Argument} {before after : List Token} → AreArguments c as' before after → Each TokenNames before → Each ArgumentNames as' × Each TokenNames after
   some_arguments no_more_arguments h = (tt, h.1)
   some_arguments (next_argument a others) h = let x = an_argument a h in let xs = some_arguments others x.1 in ((x.0, xs.0), xs.1)
 
-  optional_arguments : {c : Bool} {as' : List Argument} {before after : List Token} → AreOptionalArguments c as' before after → Each TokenNames before → Each ArgumentNames as' × Each TokenNames after
+  optional_arguments : {c : Constness} {as' : List Argument} {before after : List Token} → AreOptionalArguments c as' before after → Each TokenNames before → Each ArgumentNames as' × Each TokenNames after
   optional_arguments no_arguments h = (tt, h)
   optional_arguments (arguments a others) h = let x = an_argument a h.1 in let xs = some_arguments others x.1 in ((x.0, xs.0), xs.1)
 
-  a_directive : {c : Bool} {d : Directive} {before after : List Token} → IsDirective c d before after → Each TokenNames before → DirectiveNames d × Each TokenNames after
+  a_directive : {c : Constness} {d : Directive} {before after : List Token} → IsDirective c d before after → Each TokenNames before → DirectiveNames d × Each TokenNames after
   a_directive (directive as') h = let x = optional_arguments as' h.1.1 in ((h.1.0, x.0), x.1)
 
-  directives : {c : Bool} {ds : List Directive} {before after : List Token} → AreDirectives c ds before after → Each TokenNames before → Each DirectiveNames ds × Each TokenNames after
+  directives : {c : Constness} {ds : List Directive} {before after : List Token} → AreDirectives c ds before after → Each TokenNames before → Each DirectiveNames ds × Each TokenNames after
   directives no_directives h = (tt, h)
   directives (next_directive d others) h = let x = a_directive d h in let xs = directives others x.1 in ((x.0, xs.0), xs.1)
 

@@ -53,27 +53,6 @@ fn says_nothing(line: &str) -> bool
     line.is_empty() || line.starts_with('#')
 }
 
-/// The first line that counts, and what stands behind it. `passed` is the number of lines before the
-/// text.
-fn first_kept(text: &str, passed: u64) -> Option<(NumberedLine<'_>, &str)>
-    requires { passed + length text.now < 2 ^ 64 }
-    ensures line { MatchOption result (kept_from (passed + 1) (statement_lines text.now) ≡ [])
-        (λ p. kept_from (passed + 1) (statement_lines text.now)
-        ≡ record { number = p.0.number; text = p.0.text.now } ∷ kept_from (p.0.number + 1) (statement_lines p.1.now)) }
-    ensures count { IfSome result (λ p. p.0.number + length p.1.now < 2 ^ 64) }
-{
-    let mut rest = text;
-    let mut number = passed;
-    while let Some((line, after)) = first_line(rest) {
-        rest = after;
-        number += 1;
-        if !says_nothing(line) {
-            return Some((NumberedLine { number, text: line }, rest));
-        }
-    }
-    None
-}
-
 impl<'text> Lines<'text> {
     pub(crate) fn of(text: &'text str) -> Self
         ensures { result ≡ kept_lines text.now }
@@ -88,9 +67,16 @@ impl<'text> Lines<'text> {
     pub(crate) fn next(&mut self) -> Option<NumberedLine<'text>>
         ensures { MatchOption result (self.old ≡ []) (λ line. self.old ≡ record { number = line.number; text = line.text.now } ∷ self.new) }
     {
-        let (line, rest) = first_kept(self.rest, self.passed)?;
-        self.rest = rest;
-        self.passed = line.number;
-        Some(line)
+        while let Some((text, rest)) = first_line(self.rest) {
+            self.rest = rest;
+            self.passed += 1;
+            if !says_nothing(text) {
+                return Some(NumberedLine {
+                    number: self.passed,
+                    text,
+                });
+            }
+        }
+        None
     }
 }

@@ -59,13 +59,12 @@ impl<'text> Words<'text> {
         ensures taken { behind wanted.now self.old ≡ (if result then Some self.new else None) }
         ensures left { result ≡ false → self.new ≡ self.old }
     {
-        let Some((word, rest)) = first_word(self.rest) else {
-            return false;
-        };
-        if word != wanted {
-            return false;
+        match first_word(self.rest) {
+            Some((word, rest)) if word == wanted => {
+                self.rest = rest;
+                true
+            }
+            _ => false,
         }
-        self.rest = rest;
-        true
     }
 }

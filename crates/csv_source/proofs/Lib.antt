@@ -1,5 +1,6 @@
 pub mod Behind
 pub mod Columns
+pub mod Fields
 pub mod Links
 pub mod Names
 pub mod Unique

@@ -5,7 +5,7 @@ use Rattle.load_memory.specs.Keys.{KeyOf, all, text, pair, fold_text, folded}
 use Rattle.load_memory.specs.Outcomes.{rows}
 use Rattle.load_memory.specs.Rows.{RowOf}
 use Rattle.load_memory.specs.declared.key.KeyMode.{KeyMode}
-use Rattle.csv_source.specs.Tables.{SourceOf, ColumnsOf, no_column, one_column, two_columns, has_text, has_pair, rows_by, item_of_key}
+use Rattle.csv_source.specs.Tables.{SourceOf, ColumnsOf, no_column, one_column, two_columns, has_text, rows_by, item_of_key}
 
 text-same : (s t : List ℕ) → text s ≡ text t → s ≡ t
 text-same s t e = cc e

@@ -20,6 +20,7 @@ fn mixed(hash: u64, byte: u8) -> u64
 
 // A hash that is equal for texts that are one key. It depends on the text alone, so whoever picks
 // the keys can make them collide.
+#[tactic(auto, unfolding(crate::specs::Hashes::text_hash))]
 fn hash(mode: KeyMode, text: &str) -> u64
     ensures { result ≡ text_hash mode (fold_text mode text.now) }
 {
@@ -29,13 +30,10 @@ fn hash(mode: KeyMode, text: &str) -> u64
             hasher.write(text.as_bytes());
             hasher.finish()
         }
-        KeyMode::FoldAscii => {
-            let mut hash = FNV_OFFSET;
-            for byte in text.as_bytes() {
-                hash = mixed(hash, byte.to_ascii_lowercase());
-            }
-            hash
-        }
+        KeyMode::FoldAscii => text
+            .bytes()
+            .map(|byte| byte.to_ascii_lowercase())
+            .fold(FNV_OFFSET, mixed),
     }
 }
 

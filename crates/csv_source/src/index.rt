@@ -1,8 +1,8 @@
 //! The index of a column, by which the rows of a text are found.
-ghost use Rattle.std.specs.Prelude.{◌≡◌, ◌<◌, ◌+◌, ◌≤◌, ◌++◌, ◌∷◌, [], IfOk, IfErr, OnOk, IsTrue, ◌↔◌, Some, bytes_eq, get_or, length, Contains, filter, position};
+ghost use Rattle.std.specs.Prelude.{◌≡◌, ◌<◌, ◌+◌, ◌++◌, ◌∷◌, [], IfOk, IfErr, OnOk, Some, bytes_eq, length, Contains, filter};
 ghost use Rattle.std.specs.Arc.{arc_value};
 ghost use Rattle.load_memory.specs.Keys.{fold_text};
-ghost use Rattle.load_memory.specs.Rows.{SheetOf, IsRectangular};
+ghost use Rattle.load_memory.specs.Rows.{IsRectangular};
 ghost use Rattle.csv_source.specs.Chains.{IsLinkedIn, IsColumn};
 ghost use Rattle.csv_source.specs.Faults.{ColumnFault};
 ghost use Rattle.csv_source.specs.Tables.{rows_of, has_text};
@@ -15,11 +15,18 @@ use std::alloc::{AllocError, Global};
 use std::marker::Model;
 use std::sync::Arc;
 
+/// For each bucket its first row, and for each row the next one of its bucket. A place past the
+/// last row ends a bucket.
+#[derive(Drop)]
+pub(crate) struct Links {
+    pub(crate) first: Vec<u32>,
+    pub(crate) next: Vec<u32>,
+}
+
 /// The rows of a table by the text that they have in a column.
 ///
-/// The texts are spread over as many buckets as there are rows. Of each bucket the index knows the
-/// first row, and of each row the next one of its bucket, so that a text's rows are found in file
-/// order and the index takes eight bytes a row. A place past the last row ends a bucket.
+/// The texts are spread over as many buckets as there are rows. The rows of a bucket are linked, so
+/// that a text's rows are found in file order and the index takes eight bytes a row.
 ///
 /// A contract sees it as the rows, the column's name, and the mode by which texts are compared.
 #[derive(Drop)]
@@ -27,8 +34,7 @@ pub struct ColumnIndex {
     sheet: Arc<Sheet>,
     column: usize,
     mode: KeyMode,
-    first: Vec<u32>,
-    next: Vec<u32>,
+    links: Links,
 }
 
 impl Model for ColumnIndex {
@@ -40,53 +46,43 @@ impl Model for ColumnIndex {
 
     ghost view = { λ x. index_of (arc_value x.sheet) x.column x.mode };
 
-    ghost invariant = { λ x. IsIndex (arc_value x.sheet) x.column x.mode x.first.items x.next.items };
+    ghost invariant = { λ x. IsIndex (arc_value x.sheet) x.column x.mode x.links.first.items x.links.next.items };
 }
 
 // Puts a row before the rows that come after it.
-fn link(
-    sheet: &Sheet,
-    column: usize,
-    mode: KeyMode,
-    row: u32,
-    first: &mut Vec<u32>,
-    next: &mut Vec<u32>,
-)
+fn link(sheet: &Sheet, column: usize, mode: KeyMode, row: u32, links: &mut Links)
     requires row { row < length sheet.now.rows }
     requires rectangular { IsRectangular sheet.now }
     requires column { IsColumn sheet.now column }
-    requires buckets { 0 < length first.old.items }
-    requires linked { IsLinkedIn sheet.now column mode first.old.items next.old.items (row + 1) }
-    ensures linked { IsLinkedIn sheet.now column mode first.new.items next.new.items row }
-    ensures buckets { length first.new.items ≡ length first.old.items }
+    requires buckets { 0 < length links.old.first.items }
+    requires linked { IsLinkedIn sheet.now column mode links.old.first.items links.old.next.items (row + 1) }
+    ensures linked { IsLinkedIn sheet.now column mode links.new.first.items links.new.next.items row }
+    ensures buckets { length links.new.first.items ≡ length links.old.first.items }
 {
     let text = sheet.field(row, column);
     if !text.is_empty() {
-        let bucket = bucket(mode, first.len(), text);
-        next[row as usize] = first[bucket];
-        first[bucket] = row;
+        let bucket = bucket(mode, links.first.len(), text);
+        links.next[row as usize] = links.first[bucket];
+        links.first[bucket] = row;
     }
 }
 
-// For each bucket its first row, and for each row the next one of its bucket.
-fn links(
-    alloc: Global,
-    sheet: &Sheet,
-    column: usize,
-    mode: KeyMode,
-) -> Result<(Vec<u32>, Vec<u32>), NoMemory>
+// The links of all rows.
+fn link_rows(alloc: Global, sheet: &Sheet, column: usize, mode: KeyMode) -> Result<Links, NoMemory>
     requires { IsColumn sheet.now column }
     ensures rectangular { IsRectangular sheet.now }
-    ensures buckets { IfOk result (λ p. 0 < length p.0.items) }
-    ensures linked { IfOk result (λ p. IsLinkedIn sheet.now column mode p.0.items p.1.items 0) }
+    ensures buckets { IfOk result (λ l. 0 < length l.first.items) }
+    ensures linked { IfOk result (λ l. IsLinkedIn sheet.now column mode l.first.items l.next.items 0) }
 {
     let rows = sheet.len();
-    let mut first = vec![in alloc; rows; (rows as usize).max(1)]?;
-    let mut next = vec![in alloc; rows; rows as usize]?;
-    for done in 0..rows {
-        link(sheet, column, mode, rows - 1 - done, &mut first, &mut next);
+    let mut links = Links {
+        first: vec![in alloc; rows; (rows as usize).max(1)]?,
+        next: vec![in alloc; rows; rows as usize]?,
+    };
+    for row in (0..rows).rev() {
+        link(sheet, column, mode, row, &mut links);
     }
-    Ok((first, next))
+    Ok(links)
 }
 
 /// Whether a field equals a text under the mode.
@@ -132,13 +128,12 @@ impl ColumnIndex {
             return Err(TableFault::NoSuchColumn);
         };
         let sheet = Arc::try_clone(&table.sheet)?;
-        let (first, next) = links(alloc, &sheet, column, mode)?;
+        let links = link_rows(alloc, &sheet, column, mode)?;
         Ok(ColumnIndex {
             sheet,
             column,
             mode,
-            first,
-            next,
+            links,
         })
     }
 
@@ -155,12 +150,13 @@ impl ColumnIndex {
             ≡ filter (has_text self.now.mode self.now.column (fold_text self.now.mode text.now)) self.now.rows) }
     {
         let mut found = Vec::new(alloc);
-        let mut place = self.first[bucket(self.mode, self.first.len(), text)];
-        while (place as usize) < self.next.len() {
+        let Links { first, next } = &self.links;
+        let mut place = first[bucket(self.mode, first.len(), text)];
+        while let Some(after) = next.get(place as usize) {
             if is_same(self.mode, self.sheet.field(place, self.column), text) {
                 add(&mut found, Row::of_sheet(&self.sheet, place)?)?;
             }
-            place = self.next[place as usize];
+            place = *after;
         }
         Ok(found)
     }

@@ -9,7 +9,7 @@ ghost use Rattle.csv_source.specs.Tables.{rows_of, rows_by, two_columns, equals_
 
 use crate::fault::TableFault;
 use crate::hash::pair_bucket;
-use crate::index::{add, is_same};
+use crate::index::{Links, add, is_same};
 use crate::table::Table;
 use load_memory::{KeyMode, NoMemory, Row, Sheet};
 use std::alloc::Global;
@@ -33,8 +33,7 @@ pub(crate) struct Pairing {
 pub struct PairIndex {
     sheet: Arc<Sheet>,
     by: Pairing,
-    first: Vec<u32>,
-    next: Vec<u32>,
+    links: Links,
 }
 
 impl Model for PairIndex {
@@ -46,18 +45,18 @@ impl Model for PairIndex {
 
     ghost view = { λ x. pair_index_of (arc_value x.sheet) x.by.column x.by.second x.by.mode };
 
-    ghost invariant = { λ x. IsPairIndex (arc_value x.sheet) x.by.column x.by.second x.by.mode x.first.items x.next.items };
+    ghost invariant = { λ x. IsPairIndex (arc_value x.sheet) x.by.column x.by.second x.by.mode x.links.first.items x.links.next.items };
 }
 
 // Puts a row before the rows that come after it.
-fn link(sheet: &Sheet, by: Pairing, row: u32, first: &mut Vec<u32>, next: &mut Vec<u32>)
+fn link(sheet: &Sheet, by: Pairing, row: u32, links: &mut Links)
     requires row { row < length sheet.now.rows }
     requires rectangular { IsRectangular sheet.now }
     requires columns { AreColumns sheet.now by.column by.second }
-    requires buckets { 0 < length first.old.items }
-    requires linked { IsPairLinkedIn sheet.now by.column by.second by.mode first.old.items next.old.items (row + 1) }
-    ensures linked { IsPairLinkedIn sheet.now by.column by.second by.mode first.new.items next.new.items row }
-    ensures buckets { length first.new.items ≡ length first.old.items }
+    requires buckets { 0 < length links.old.first.items }
+    requires linked { IsPairLinkedIn sheet.now by.column by.second by.mode links.old.first.items links.old.next.items (row + 1) }
+    ensures linked { IsPairLinkedIn sheet.now by.column by.second by.mode links.new.first.items links.new.next.items row }
+    ensures buckets { length links.new.first.items ≡ length links.old.first.items }
 {
     let one = sheet.field(row, by.column);
     if one.is_empty() {
@@ -67,25 +66,27 @@ fn link(sheet: &Sheet, by: Pairing, row: u32, first: &mut Vec<u32>, next: &mut V
     if two.is_empty() {
         return;
     }
-    let bucket = pair_bucket(by.mode, first.len(), one, two);
-    next[row as usize] = first[bucket];
-    first[bucket] = row;
+    let bucket = pair_bucket(by.mode, links.first.len(), one, two);
+    links.next[row as usize] = links.first[bucket];
+    links.first[bucket] = row;
 }
 
-// For each bucket its first row, and for each row the next one of its bucket.
-fn links(alloc: Global, sheet: &Sheet, by: Pairing) -> Result<(Vec<u32>, Vec<u32>), NoMemory>
+// The links of all rows.
+fn link_rows(alloc: Global, sheet: &Sheet, by: Pairing) -> Result<Links, NoMemory>
     requires { AreColumns sheet.now by.column by.second }
     ensures rectangular { IsRectangular sheet.now }
-    ensures buckets { IfOk result (λ p. 0 < length p.0.items) }
-    ensures linked { IfOk result (λ p. IsPairLinkedIn sheet.now by.column by.second by.mode p.0.items p.1.items 0) }
+    ensures buckets { IfOk result (λ l. 0 < length l.first.items) }
+    ensures linked { IfOk result (λ l. IsPairLinkedIn sheet.now by.column by.second by.mode l.first.items l.next.items 0) }
 {
     let rows = sheet.len();
-    let mut first = vec![in alloc; rows; (rows as usize).max(1)]?;
-    let mut next = vec![in alloc; rows; rows as usize]?;
-    for done in 0..rows {
-        link(sheet, by, rows - 1 - done, &mut first, &mut next);
+    let mut links = Links {
+        first: vec![in alloc; rows; (rows as usize).max(1)]?,
+        next: vec![in alloc; rows; rows as usize]?,
+    };
+    for row in (0..rows).rev() {
+        link(sheet, by, row, &mut links);
     }
-    Ok((first, next))
+    Ok(links)
 }
 
 impl PairIndex {
@@ -117,13 +118,8 @@ impl PairIndex {
             second,
             mode,
         };
-        let (first, next) = links(alloc, &sheet, by)?;
-        Ok(PairIndex {
-            sheet,
-            by,
-            first,
-            next,
-        })
+        let links = link_rows(alloc, &sheet, by)?;
+        Ok(PairIndex { sheet, by, links })
     }
 
     /// The mode by which texts are compared.
@@ -140,12 +136,13 @@ impl PairIndex {
             ≡ rows_by self.now.mode self.now.rows (two_columns self.now.column self.now.second) (pair one.now two.now)) }
     {
         let mut found = Vec::new(alloc);
-        let mut place = self.first[pair_bucket(self.by.mode, self.first.len(), one, two)];
-        while (place as usize) < self.next.len() {
+        let Links { first, next } = &self.links;
+        let mut place = first[pair_bucket(self.by.mode, first.len(), one, two)];
+        while let Some(after) = next.get(place as usize) {
             if is_same_pair(&self.sheet, self.by, place, one, two) {
                 add(&mut found, Row::of_sheet(&self.sheet, place)?)?;
             }
-            place = self.next[place as usize];
+            place = *after;
         }
         Ok(found)
     }

@@ -1,9 +1,8 @@
 //! The reading of a table.
-ghost use Rattle.std.specs.Prelude.{◌≡◌, ◌<◌, ◌+◌, ◌^◌, ◌∷◌, ◌++◌, [], IfOk, IfErr, List, MatchResult, IsTrue, ◌↔◌, OnOk, Some, get_or, length, ℕ, true, false};
+ghost use Rattle.std.specs.Prelude.{◌≡◌, ◌<◌, ◌+◌, ◌^◌, [], IfOk, IfErr, List, IsTrue, ◌↔◌, OnOk, Some, length, ℕ, true, false};
 ghost use Rattle.std.specs.Arc.{arc_value};
-ghost use Rattle.csv.specs.Reading.{AreRecords, default_config, strip_bom, error_kind, has_failed};
+ghost use Rattle.csv.specs.Reading.{strip_bom, error_kind, has_failed};
 ghost use Rattle.csv.specs.Records.{AllText, fields_of};
-ghost use Rattle.csv.specs.declared.parser.State.TheVariants as st;
 ghost use Rattle.load_memory.specs.Rows.{draft_with_names, draft_with_row};
 ghost use Rattle.csv_source.specs.Reading.{IsPlain, StandsBehind, ReadsMore, HasEnded, IsDevice, IsStopped, reported_fault};
 ghost use Rattle.csv_source.specs.Reading.{IsHeader, HeaderFault, RowFault, ReadIs, Repeats};
@@ -58,24 +57,13 @@ fn text_of(raw: ByteRecord) -> Result<StringRecord, TableFault>
     }
 }
 
-// A field that is there.
-fn field(fields: &StringRecord, i: usize) -> &str
-    requires { i < length (fields_of fields.now) }
-    ensures { result.now ≡ get_or (fields_of fields.now) i [] }
-{
-    match fields.get(i) {
-        Some(text) => text,
-        None => unreachable!(),
-    }
-}
-
 // Whether a name stands twice.
 fn repeats(alloc: Global, names: &StringRecord) -> Result<bool, NoMemory>
     ensures { IfOk result (λ b. IsTrue b ↔ Repeats (fields_of names.now)) }
 {
     let mut seen = HashSet::new(alloc);
-    for i in 0..names.len() {
-        if !seen.insert(field(names, i))? {
+    for name in names {
+        if !seen.insert(name)? {
             return Ok(true);
         }
     }
@@ -87,24 +75,22 @@ fn columns(alloc: Global, names: &StringRecord) -> Result<SheetBuilder, NoMemory
     ensures { IfOk result (λ b. b ≡ draft_with_names (fields_of names.now)) }
 {
     let mut sheet = SheetBuilder::new(alloc);
-    for i in 0..names.len() {
-        sheet.add_column(field(names, i))?;
+    for name in names {
+        sheet.add_column(name)?;
     }
     Ok(sheet)
 }
 
-// A sheet with the header that is the table's first record, and the record's memory.
-fn header(alloc: Global, raw: ByteRecord) -> Result<(SheetBuilder, ByteRecord), TableFault>
-    ensures ok { IfOk result (λ p. (p.0 ≡ draft_with_names (fields_of raw))
-        × IsHeader (fields_of raw)) }
-    ensures err { IfErr result (HeaderFault (fields_of raw)) }
+// A sheet with this header and no row.
+fn header(alloc: Global, names: &StringRecord) -> Result<SheetBuilder, TableFault>
+    requires { AllText (fields_of names.now) }
+    ensures ok { let head = fields_of names.now in IfOk result (λ b. (b ≡ draft_with_names head) × IsHeader head) }
+    ensures err { IfErr result (HeaderFault (fields_of names.now)) }
 {
-    let names = text_of(raw)?;
-    if repeats(alloc, &names)? {
+    if repeats(alloc, names)? {
         return Err(TableFault::DuplicateColumn);
     }
-    let sheet = columns(alloc, &names)?;
-    Ok((sheet, names.into_byte_record()))
+    Ok(columns(alloc, names)?)
 }
 
 // Adds a row of these fields.
@@ -114,8 +100,8 @@ fn add_fields(sheet: &mut SheetBuilder, fields: &StringRecord) -> Result<(), NoM
     requires room { length sheet.old.rows + 1 < 2 ^ 32 }
     ensures { OnOk result (sheet.new ≡ draft_with_row sheet.old (fields_of fields.now)) }
 {
-    for i in 0..fields.len() {
-        sheet.add_field(field(fields, i))?;
+    for field in fields {
+        sheet.add_field(field)?;
     }
     sheet.end_row();
     Ok(())
@@ -154,7 +140,9 @@ fn read_all<R: Read>(alloc: Global, reader: &mut Reader<R>) -> Result<Table, Tab
     if !next(reader, &mut record)? {
         return Err(TableFault::NoHeader);
     }
-    let (mut builder, mut record) = header(alloc, record)?;
+    let names = text_of(record)?;
+    let mut builder = header(alloc, &names)?;
+    let mut record = names.into_byte_record();
     for rows in 0..MAX_ROWS + 1 {
         if !next(reader, &mut record)? {
             let sheet = shared(alloc, builder.finish())?;

@@ -1,7 +1,6 @@
 //! A table, as its reader gave it.
 ghost use Rattle.std.specs.Prelude.{◌≡◌, ◌≤◌, length};
 ghost use Rattle.std.specs.Arc.{arc_value};
-ghost use Rattle.load_memory.specs.Rows.{IsRectangular};
 
 use load_memory::Sheet;
 use std::marker::Model;

@@ -1,6 +1,6 @@
 -- All parts of a document: those of its operations first, and then those of its fragments, each in the order of the text.
 -- What stands for arguments and directives goes by fields first, and then by directives.
-use Rattle.std.specs.Prelude.{ℕ, ◌+◌, Bool, true, ◌||◌, List, [], ◌∷◌, ◌++◌, map, flat_map, filter_map, Option, Some, None, is_some, codes, bytes_eq, if◌then◌else◌}
+use Rattle.std.specs.Prelude.{ℕ, ◌+◌, true, ◌||◌, List, [], ◌∷◌, ◌++◌, map, flat_map, filter_map, Option, Some, None, is_some, codes, bytes_eq, if◌then◌else◌}
 use Rattle.std.specs.Option.{option_map, option_and_then}
 use Rattle.gq_lexer.specs.declared.place.Place.{Place}
 use Rattle.gq_parser.specs.Tree.{Named, Argument, Directive, Selection, Field, Spread, Inline, nothing_below, below, SelectionSet, VariableDefinition, Operation, Fragment, Document}

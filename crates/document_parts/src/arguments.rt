@@ -88,12 +88,9 @@ pub fn argument_lists<'d>(
 fn definition<'d>(definitions: &'d [ArgDef], name: &str) -> Option<&'d ArgDef>
     ensures { option_map schema.argument_of (option_copied result) ≡ argument_in (schema.arguments_of definitions.now) name.now }
 {
-    for definition in definitions {
-        if definition.name.text.as_str() == name {
-            return Some(definition);
-        }
-    }
-    None
+    definitions
+        .iter()
+        .find(|definition| definition.name.text.as_str() == name)
 }
 
 fn argument_with<'d>(

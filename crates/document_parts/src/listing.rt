@@ -44,9 +44,8 @@ pub fn fields<'d>(
 {
     let mut fields = Vec::new(alloc);
     for part in selections {
-        match field_part(part) {
-            Some(field) => fields.push(field)?,
-            None => {}
+        if let Some(field) = field_part(part) {
+            fields.push(field)?;
         }
     }
     Ok(fields)
@@ -86,9 +85,8 @@ pub fn spreads<'d>(
 {
     let mut spreads = Vec::new(alloc);
     for part in selections {
-        match spread_part(numbers, fragments, part) {
-            Some(spread) => spreads.push(spread)?,
-            None => {}
+        if let Some(spread) = spread_part(numbers, fragments, part) {
+            spreads.push(spread)?;
         }
     }
     Ok(spreads)
@@ -119,9 +117,8 @@ pub fn inlines<'d>(
 {
     let mut inlines = Vec::new(alloc);
     for part in selections {
-        match inline_part(part) {
-            Some(inline) => inlines.push(inline)?,
-            None => {}
+        if let Some(inline) = inline_part(part) {
+            inlines.push(inline)?;
         }
     }
     Ok(inlines)
@@ -174,9 +171,8 @@ pub fn sets<'d>(
         })?;
     }
     for part in selections {
-        match set_part(part) {
-            Some(set) => sets.push(set)?,
-            None => {}
+        if let Some(set) = set_part(part) {
+            sets.push(set)?;
         }
     }
     Ok(sets)

@@ -93,8 +93,8 @@ fn add_uses_in_fragments(
 ) -> Result<(), AllocError>
     ensures { OnOk result (Adds (λ n m. any_below (is_used_in numbers.now n (rows_in rows.now) reached.now m) (length reached.now)) sets.old.items sets.new.items) }
 {
-    for fragment in 0..reached.len() {
-        add_uses(row_of(rows, fragment), reached[fragment], numbers, sets)?;
+    for (fragment, reached_by) in reached.iter().enumerate() {
+        add_uses(row_of(rows, fragment), *reached_by, numbers, sets)?;
     }
     Ok(())
 }

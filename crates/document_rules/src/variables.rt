@@ -128,12 +128,9 @@ fn add_unused_of_batch<'d>(
 fn has_no_variables(operations: &[Operation]) -> bool
     ensures { IsTrue result → (g : GraphOf) (uses : List Use) (i : ℕ) → unused_variables g uses i (map operation_of operations.now) ≡ [] }
 {
-    for operation in operations {
-        if !operation.variables.is_empty() {
-            return false;
-        }
-    }
-    true
+    operations
+        .iter()
+        .all(|operation| operation.variables.is_empty())
 }
 
 /// All Variables Used (section 5.8.4): a variable of an operation that reaches no use of it, in itself or in fragments.

@@ -169,10 +169,6 @@ fn are_same(schema: &Schema, attribute: Attribute, one: &FieldPart, other: &Fiel
 pub fn number_of(parts: &Parts, attribute: Attribute, field: &FieldPart) -> usize
     ensures { result ≡ number_of attribute (parts_in parts.now).definitions (parts_in parts.now).fields (field_part_of field.now) }
 {
-    for (i, other) in parts.fields.iter().enumerate() {
-        if are_same(parts.schema, attribute, field, other) {
-            return i;
-        }
-    }
-    0
+    let is_same = |other| are_same(parts.schema, attribute, field, other);
+    parts.fields.iter().position(is_same).unwrap_or(0)
 }

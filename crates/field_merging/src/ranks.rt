@@ -20,23 +20,13 @@ fn is_marked(taken: &[bool], fragment: usize) -> bool
 fn are_marked(taken: &[bool], fragments: &[usize]) -> bool
     ensures { result ≡ are_marked taken.now fragments.now }
 {
-    for fragment in fragments {
-        if !is_marked(taken, *fragment) {
-            return false;
-        }
-    }
-    true
+    fragments.iter().all(|fragment| is_marked(taken, *fragment))
 }
 
 fn are_all_marked(taken: &[bool]) -> bool
     ensures { IsTrue result → (x : ℕ) → x < length taken.now → IsMarked taken.now x }
 {
-    for i in 0..taken.len() {
-        if !taken[i] {
-            return false;
-        }
-    }
-    true
+    taken.iter().all(|is_taken| *is_taken)
 }
 
 // Takes a fragment into an order, where all that it spreads are taken.

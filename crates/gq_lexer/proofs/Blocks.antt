@@ -1,7 +1,7 @@
 -- Block strings: raw values, lines and indents.
-use Rattle.std.proofs.Common.{◌≡◌, ℕ, suc, zero, ◌+◌, ◌-◌, ◌<◌, ◌≤◌, Bool, true, false, cond, not, ◌&&◌, List, [], ◌∷◌, ◌++◌, length, get_or, set, take, drop, map, reverse, min, Option, Some, None, Result, Ok, Err, IfOk, IsUtf8, refl, sym, ap, subst, ◌∙◌, arith, append_assoc, eqb, ltb, inl, inr}
-use Rattle.std.specs.Prelude.{nat_eq}
-use Rattle.std.specs.List.{prefix_len, starts_with, join_with_byte, AllByRecursion}
+use Rattle.std.proofs.Common.{◌≡◌, ℕ, suc, zero, ◌+◌, ◌-◌, ◌<◌, ◌≤◌, Bool, true, false, cond, not, ◌&&◌, List, [], ◌∷◌, ◌++◌, length, get_or, set, take, drop, map, reverse, min, Bor, Option, Some, None, Result, Ok, Err, IfOk, IsUtf8, refl, sym, ap, subst, ◌∙◌, arith, append_assoc, eqb, ltb, inl, inr}
+use Rattle.std.specs.Prelude.{nat_eq, option_map}
+use Rattle.std.specs.List.{prefix_len, starts_with, join_with_byte, AllByRecursion, fold, reduce, filter_map, cons_option}
 use Rattle.std.specs.Str.{IsCharBoundary}
 use Rattle.std.proofs.iter.FirstChar.{cut, beside_ascii, at_start}
 use Rattle.std.proofs.lemmas.Bool.{cases_Bool, and_parts, eqb-true, ne_eqb, ltb-true, ltb-false, true≢false}
@@ -11,7 +11,7 @@ use Rattle.std.proofs.Math.ListN.{get_or-map}
 use borrow.Rule.Slice.PartMut.{put_mid}
 use Rattle.std.proofs.lemmas.Bool.Decides.{nat_tests}
 use Rattle.gq_lexer.specs.Place.{ends_no_line}
-use Rattle.gq_lexer.specs.Block.{raw_of, is_blank, is_blank_line, lines_of, least, common_indent, without_indent, unindented, drop_blank, trimmed, block_value}
+use Rattle.gq_lexer.specs.Block.{raw_of, is_blank, is_blank_line, lines_of, indent_of, least, common_indent, without_indent, unindented, drop_blank, trimmed, block_value}
 use Rattle.gq_lexer.specs.Lines.{line_end_len}
 use Rattle.gq_lexer.specs.Unescape.{is_plain}
 use Rattle.gq_lexer.specs.Grammar.{NoneNext}
@@ -375,3 +375,25 @@ pub block_done : {S E : Type 0} (bytes : S → List ℕ) (r : Result S E) (lines
 unfolding block_value
 block_done bytes (Ok s) lines raw h e = h ∙ ap (join_with_byte 10) e
 block_done bytes (Err x) lines raw h e = tt
+
+-- ---- the least indent
+
+min_assoc : (a b c : ℕ) → min (min a b) c ≡ min a (min b c)
+min_assoc a b c = omega arith
+
+fold_min : (a n : ℕ) (ns : List ℕ) → fold min (min a n) ns ≡ min a (fold min n ns)
+fold_min a n [] = refl
+fold_min a n (m ∷ ns) = ap (λ (x : ℕ). fold min x ns) (min_assoc a n m) ∙ fold_min a (min n m) ns
+
+least_first : (o : Option ℕ) (ns : List ℕ) → reduce min (cons_option o ns) ≡ least o (reduce min ns)
+least_first None ns = refl
+least_first (Some a) [] = refl
+least_first (Some a) (n ∷ ns) = ap (λ (x : ℕ). Some x) (fold_min a n ns)
+
+pub least_indent : (lines : List (Bor (List ℕ))) → reduce min (filter_map (λ line. indent_of line.now) lines) ≡ common_indent (map (λ line. line.now) lines)
+least_indent [] = refl
+least_indent (line ∷ lines) = least_first (indent_of line.now) _ ∙ ap (least (indent_of line.now)) (least_indent lines)
+
+pub same_option : {A : Type 0} (o : Option A) → o ≡ option_map (λ x. x) o
+same_option None = refl
+same_option (Some x) = refl

@@ -4,7 +4,7 @@ ghost use Rattle.std.specs.Prelude.{◌≡◌, ◌≤◌, length, map, drop, rev
 ghost use Rattle.std.specs.List.{prefix_len, join_with_byte};
 ghost use Rattle.std.specs.String.{string_bytes};
 ghost use Rattle.gq_lexer.specs.Place.{ends_no_line};
-ghost use Rattle.gq_lexer.specs.Block.{raw_of, is_blank, is_blank_line, lines_of, indent_of, least, common_indent, unindented, trimmed, block_value};
+ghost use Rattle.gq_lexer.specs.Block.{raw_of, is_blank, is_blank_line, lines_of, indent_of, common_indent, unindented, trimmed, block_value};
 ghost use Rattle.gq_lexer.specs.Lines.{line_end_len};
 
 use crate::unescape::plain_len;
@@ -115,25 +115,11 @@ fn indent_of(line: &str) -> Option<usize>
     }
 }
 
-fn least(one: Option<usize>, other: Option<usize>) -> Option<usize>
-    ensures { result ≡ least one other }
-{
-    match (one, other) {
-        (Some(m), Some(n)) => Some(m.min(n)),
-        (Some(m), None) => Some(m),
-        (None, _) => other,
-    }
-}
-
 /// The least indent of the lines that have one.
 fn common_indent(lines: &[&str]) -> Option<usize>
     ensures { result ≡ common_indent (map (λ line. line.now) lines.now) }
 {
-    let mut indent = None;
-    for line in lines {
-        indent = least(indent, indent_of(line));
-    }
-    indent
+    lines.iter().filter_map(|line| indent_of(line)).min()
 }
 
 /// A line without this many of its tabs and spaces at the front, or without all of them.

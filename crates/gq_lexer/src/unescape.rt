@@ -41,13 +41,22 @@ fn is_escaped(letter: u8) -> bool
     )
 }
 
-/// The character that the digits after `\u` stand for, and how many bytes the escape has behind its backslash.
-fn unit_value(digits: &[u8]) -> Option<(u32, usize)>
+/// What an escape says.
+#[derive(Clone, Copy, Debug, PartialEq, Eq)]
+struct EscapeValue {
+    /// The character that it stands for.
+    code: u32,
+    /// How many bytes it has behind its backslash.
+    len: usize,
+}
+
+/// What the escape says whose `u` these digits follow.
+fn unit_value(digits: &[u8]) -> Option<EscapeValue>
     ensures { result ≡ unit_value (code_unit digits.now) digits.now }
 {
     let unit = code_unit(digits)?;
     if !is_high_surrogate(unit) {
-        return Some((unit, 5));
+        return Some(EscapeValue { code: unit, len: 5 });
     }
     if digits.len() < 6 {
         return None;
@@ -56,18 +65,20 @@ fn unit_value(digits: &[u8]) -> Option<(u32, usize)>
     if !is_low_surrogate(low) {
         return None;
     }
-    Some((0x10000 + (unit - 0xD800) * 0x400 + (low - 0xDC00), 11))
+    let code = 0x10000 + (unit - 0xD800) * 0x400 + (low - 0xDC00);
+    Some(EscapeValue { code, len: 11 })
 }
 
-/// The character that an escape stands for, and how many bytes it has behind its backslash.
-fn escape_value(bytes: &[u8]) -> Option<(u32, usize)>
+/// What the escape says whose backslash these bytes follow.
+fn escape_value(bytes: &[u8]) -> Option<EscapeValue>
     ensures { result ≡ escape_value bytes.now }
 {
     let [letter, digits @ ..] = bytes else {
         return None;
     };
     if is_escaped(*letter) {
-        return Some((escaped_code(*letter), 1));
+        let code = escaped_code(*letter);
+        return Some(EscapeValue { code, len: 1 });
     }
     unit_value(digits)
 }
@@ -84,7 +95,7 @@ pub fn unescaped(alloc: Global, body: &str) -> Result<String, AllocError>
         value.push_str(plain)?;
         rest = after;
         if let [_, escape @ ..] = after.as_bytes() {
-            let (code, len) = escape_value(escape).unwrap();
+            let EscapeValue { code, len } = escape_value(escape).unwrap();
             value.push(char::from_u32(code).unwrap())?;
             rest = after.split_at(1 + len).1;
         }

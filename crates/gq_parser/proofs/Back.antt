@@ -4,6 +4,8 @@ use Rattle.std.proofs.Common.{◌≡◌, ℕ, Bool, true, false, List, [], ◌�
 use Rattle.gq_lexer.specs.declared.place.Place.{Place}
 use Rattle.gq_lexer.specs.declared.token.Punct.TheVariants.{Bang, Dollar, ParenLeft, ParenRight, Colon, Equals, At, BracketLeft, BracketRight, BraceLeft, BraceRight}
 use Rattle.gq_lexer.specs.declared.token.Punct.TheVariants as punct
+use Rattle.gq_parser.specs.declared.value.Constness.{Constness}
+use Rattle.gq_parser.specs.declared.value.Constness.TheVariants.{Const, NotConst}
 use Rattle.gq_parser.specs.declared.keyword.Keyword.{Keyword}
 use Rattle.gq_parser.specs.declared.keyword.Keyword.TheVariants.{Query, Mutation, Subscription, Fragment, On, True, False, Null, Other}
 use Rattle.gq_parser.specs.declared.tree.OperationKind.{OperationKind}
@@ -26,7 +28,7 @@ use Rattle.gq_parser.proofs.Means.{d_spread, d_inline, d_no_set, d_maybe_set, d_
 -- ---- from the symbols to the grammar
 
 -- the value that a name is
-name_value : (c : Bool) (p : Place) (k : Keyword) (n : List ℕ) (after : List Token) → (v : tree.Value) × IsValue c v (at p (Name k n) ∷ after) after
+name_value : (c : Constness) (p : Place) (k : Keyword) (n : List ℕ) (after : List Token) → (v : tree.Value) × IsValue c v (at p (Name k n) ∷ after) after
 name_value c p True n after = (_, yes)
 name_value c p False n after = (_, no)
 name_value c p Null n after = (_, null)
@@ -53,11 +55,11 @@ field_name_back : {p : Place} {k : Keyword} {n : List ℕ} {tokens mid : List To
 field_name_back (d_no_alias h) = (None, _, unaliased)
 field_name_back {n = n} d_alias = (Some n, _, aliased)
 
-arguments_back : {c : Bool} {tokens mid : List Token} → Derives (MaybeArguments c) tokens mid → (as' : List tree.Argument) × AreOptionalArguments c as' tokens mid
+arguments_back : {c : Constness} {tokens mid : List Token} → Derives (MaybeArguments c) tokens mid → (as' : List tree.Argument) × AreOptionalArguments c as' tokens mid
 arguments_back (d_no_arguments h) = ([], no_arguments)
 arguments_back (d_arguments a others) = (_, arguments a others)
 
-directives_back : {c : Bool} {tokens mid : List Token} → Derives (MaybeDirectives c) tokens mid → (ds : List tree.Directive) × AreDirectives c ds tokens mid
+directives_back : {c : Constness} {tokens mid : List Token} → Derives (MaybeDirectives c) tokens mid → (ds : List tree.Directive) × AreDirectives c ds tokens mid
 directives_back (d_no_directives h) = ([], no_directives)
 directives_back (d_directive as' ds) = (_, next_directive (directive (arguments_back as').1) (directives_back ds).1)
 
@@ -78,7 +80,7 @@ record FieldBack (p : Place) (k : Keyword) (n : List ℕ) (tokens : List Token) 
   more : AreSelections others mid after
   rest : Means stack after
 
-field_back : (p : Place) (k : Keyword) (n : List ℕ) (tokens : List Token) (stack : List Symbol) → Means (AfterName ∷ MaybeArguments false ∷ MaybeDirectives false ∷ MaybeSet ∷ MoreSelections ∷ stack) tokens → FieldBack p k n tokens stack
+field_back : (p : Place) (k : Keyword) (n : List ℕ) (tokens : List Token) (stack : List Symbol) → Means (AfterName ∷ MaybeArguments NotConst ∷ MaybeDirectives NotConst ∷ MaybeSet ∷ MoreSelections ∷ stack) tokens → FieldBack p k n tokens stack
 field_back p k n tokens stack (then' name (then' as' (then' ds (then' b (then' (d_more others) rest))))) = record {
   selection = tree.Field p (field_name_back {p = p} {k = k} {n = n} name).0 (field_name_back {p = p} {k = k} {n = n} name).1 (arguments_back as').0 (directives_back ds).0 (set_back b).0;
   others = _;
@@ -98,7 +100,7 @@ record VariableBack (p : Place) (tokens : List Token) (stack : List Symbol) : Ty
   more : AreVariables others mid after
   rest : Means stack after
 
-variable_back : (p : Place) (tokens : List Token) (stack : List Symbol) → Means (AName ∷ AColon ∷ AType ∷ MaybeDefault ∷ MaybeDirectives true ∷ MoreVariables ∷ stack) tokens → VariableBack p tokens stack
+variable_back : (p : Place) (tokens : List Token) (stack : List Symbol) → Means (AName ∷ AColon ∷ AType ∷ MaybeDefault ∷ MaybeDirectives Const ∷ MoreVariables ∷ stack) tokens → VariableBack p tokens stack
 variable_back p tokens stack (then' (d_name {n = n}) (then' d_colon (then' t (then' d (then' ds (then' (d_more_variables others) rest)))))) = record {
   definition = record { place = p; name = n; of_type = (type_back t).0; default = (default_back d).0; directives = (directives_back ds).0 };
   others = _;
@@ -204,8 +206,8 @@ shifts_back (AValue c ∷ stack) p (Int n) tokens h = then' (d_value int) h
 shifts_back (AValue c ∷ stack) p (Float n) tokens h = then' (d_value float) h
 shifts_back (AValue c ∷ stack) p (Text n) tokens h = then' (d_value text) h
 shifts_back (AValue c ∷ stack) p (Name k n) tokens h = then' (d_value (name_value c p k n tokens).1) h
-shifts_back (AValue true ∷ stack) p (Punct Dollar) tokens h = absurd h
-shifts_back (AValue false ∷ stack) p (Punct Dollar) tokens (then' d_name rest) = then' (d_value variable) rest
+shifts_back (AValue Const ∷ stack) p (Punct Dollar) tokens h = absurd h
+shifts_back (AValue NotConst ∷ stack) p (Punct Dollar) tokens (then' d_name rest) = then' (d_value variable) rest
 shifts_back (AValue c ∷ stack) p (Punct BracketLeft) tokens (then' (d_values vs) rest) = then' (d_value (array vs)) rest
 shifts_back (AValue c ∷ stack) p (Punct BraceLeft) tokens (then' (d_members ms) rest) = then' (d_value (object ms)) rest
 shifts_back (AValue c ∷ stack) p _ tokens h = absurd h
@@ -214,8 +216,8 @@ shifts_back (MoreValues c ∷ stack) p (Int n) tokens (then' (d_values vs) rest)
 shifts_back (MoreValues c ∷ stack) p (Float n) tokens (then' (d_values vs) rest) = then' (d_values (next_value float vs)) rest
 shifts_back (MoreValues c ∷ stack) p (Text n) tokens (then' (d_values vs) rest) = then' (d_values (next_value text vs)) rest
 shifts_back (MoreValues c ∷ stack) p (Name k n) tokens (then' (d_values vs) rest) = then' (d_values (next_value (name_value c p k n tokens).1 vs)) rest
-shifts_back (MoreValues true ∷ stack) p (Punct Dollar) tokens h = absurd h
-shifts_back (MoreValues false ∷ stack) p (Punct Dollar) tokens (then' d_name (then' (d_values vs) rest)) = then' (d_values (next_value variable vs)) rest
+shifts_back (MoreValues Const ∷ stack) p (Punct Dollar) tokens h = absurd h
+shifts_back (MoreValues NotConst ∷ stack) p (Punct Dollar) tokens (then' d_name (then' (d_values vs) rest)) = then' (d_values (next_value variable vs)) rest
 shifts_back (MoreValues c ∷ stack) p (Punct BracketLeft) tokens (then' (d_values ws) (then' (d_values vs) rest)) = then' (d_values (next_value (array ws) vs)) rest
 shifts_back (MoreValues c ∷ stack) p (Punct BraceLeft) tokens (then' (d_members ms) (then' (d_values vs) rest)) = then' (d_values (next_value (object ms) vs)) rest
 shifts_back (MoreValues c ∷ stack) p _ tokens h = absurd h

@@ -1,8 +1,9 @@
 -- Lists between parentheses or braces, of which there is at least one item.
-use Rattle.std.proofs.Common.{◌≡◌, ℕ, suc, ◌<◌, List, [], ◌∷◌, ◌++◌, length, map, Bool, true, ap, ◌∙◌, subst, arith}
+use Rattle.std.proofs.Common.{◌≡◌, ℕ, suc, ◌<◌, List, [], ◌∷◌, ◌++◌, length, map, true, ap, ◌∙◌, subst, arith}
 use Rattle.std.proofs.lemmas.List.{append-nil}
 use Rattle.gq_lexer.specs.declared.place.Place.{Place}
 use Rattle.gq_lexer.specs.declared.token.Punct.TheVariants.{ParenLeft, ParenRight, BraceLeft}
+use Rattle.gq_parser.specs.declared.value.Constness.{Constness}
 use Rattle.gq_parser.specs.declared.tree.Argument as rust
 use Rattle.gq_parser.specs.declared.tree.Selection as rust-selection
 use Rattle.gq_parser.specs.declared.tree.VariableDefinition as rust-variable
@@ -13,7 +14,7 @@ use Rattle.gq_parser.specs.Machine.{Symbol, MaybeArguments, MoreArguments, an_ar
 use Rattle.gq_parser.specs.Parsing.{Eats, IsFront}
 use Rattle.gq_parser.proofs.Steps.{arguments_open, variables_open, room_back}
 
-pub first_argument : (c : Bool) (p : Place) (room r : ℕ) (before mid now : List Token) (a : rust.Argument) (xs : List rust.Argument)
+pub first_argument : (c : Constness) (p : Place) (room r : ℕ) (before mid now : List Token) (a : rust.Argument) (xs : List rust.Argument)
     → room ≡ suc r → before ≡ at p (Punct ParenLeft) ∷ mid → IsArgument c (argument_of a) mid now → ((stack : List Symbol) → read r (an_argument c ++ stack) mid ≡ read r stack now) → length now < length mid → xs ≡ a ∷ []
     → IsFront (AreArguments c) (AreOptionalArguments c) (λ others. arguments_of xs ++ others) room (one (MaybeArguments c)) r (one (MoreArguments c)) before now
 first_argument c p room r before mid now a xs e e' is goes shorter first = record {
@@ -22,7 +23,7 @@ first_argument c p room r before mid now a xs e e' is goes shorter first = recor
   shrinks = omega (arith, ap length e');
 }
 
-pub arguments_end : (c : Bool) (room r : ℕ) (before now after : List Token) (xs : List rust.Argument)
+pub arguments_end : (c : Constness) (room r : ℕ) (before now after : List Token) (xs : List rust.Argument)
     → room ≡ suc r → IsFront (AreArguments c) (AreOptionalArguments c) (λ others. arguments_of xs ++ others) room (one (MaybeArguments c)) r (one (MoreArguments c)) before now
     → Eats (Punct ParenRight) now after true
     → AreOptionalArguments c (arguments_of xs) before after × ((stack : List Symbol) → read room (MaybeArguments c ∷ stack) before ≡ read room stack after)

@@ -1,7 +1,9 @@
 -- What may come where a list of symbols is expected, and that a word changes it as the machine says.
-use Rattle.std.proofs.Common.{ℕ, Bool, true, false, List, [], ◌∷◌, ◌++◌, Option, Some, None, refl}
+use Rattle.std.proofs.Common.{ℕ, Bool, List, [], ◌∷◌, ◌++◌, Option, Some, None, refl}
 use Rattle.gq_lexer.specs.declared.place.Place.{Place}
 use Rattle.gq_lexer.specs.declared.token.Punct.TheVariants.{Bang, ParenLeft, Colon, Equals, At, BracketLeft, BracketRight, BraceLeft}
+use Rattle.gq_parser.specs.declared.value.Constness.{Constness}
+use Rattle.gq_parser.specs.declared.value.Constness.TheVariants.{Const, NotConst}
 use Rattle.gq_parser.specs.declared.keyword.Keyword.{Keyword}
 use Rattle.gq_parser.specs.declared.keyword.Keyword.TheVariants.{On}
 use Rattle.gq_parser.specs.Keywords.{IsFragmentName}
@@ -23,30 +25,30 @@ pub data Derives : Symbol → List Token → List Token → Type 0 where
   d_fragment_name : {p : Place} {k : Keyword} {n : List ℕ} {after : List Token} → IsFragmentName k → Derives AFragmentName (at p (Name k n) ∷ after) after
   d_on : {p : Place} {n : List ℕ} {after : List Token} → Derives AnOn (at p (Name On n) ∷ after) after
   d_colon : {p : Place} {after : List Token} → Derives AColon (at p (Punct Colon) ∷ after) after
-  d_value : {c : Bool} {v : tree.Value} {before after : List Token} → IsValue c v before after → Derives (AValue c) before after
-  d_values : {c : Bool} {vs : tree.Values} {before after : List Token} → AreValues c vs before after → Derives (MoreValues c) before after
-  d_members : {c : Bool} {ms : tree.Members} {before after : List Token} → AreMembers c ms before after → Derives (MoreMembers c) before after
+  d_value : {c : Constness} {v : tree.Value} {before after : List Token} → IsValue c v before after → Derives (AValue c) before after
+  d_values : {c : Constness} {vs : tree.Values} {before after : List Token} → AreValues c vs before after → Derives (MoreValues c) before after
+  d_members : {c : Constness} {ms : tree.Members} {before after : List Token} → AreMembers c ms before after → Derives (MoreMembers c) before after
   d_type : {p : Place} {k : Keyword} {n : List ℕ} {mid after : List Token} → Derives MaybeBang mid after → Derives AType (at p (Name k n) ∷ mid) after
   d_list_type : {p : Place} {mid mid' mid'' after : List Token} → Derives AType mid mid' → Derives ABracket mid' mid'' → Derives MaybeBang mid'' after → Derives AType (at p (Punct BracketLeft) ∷ mid) after
   d_bracket : {p : Place} {after : List Token} → Derives ABracket (at p (Punct BracketRight) ∷ after) after
   d_no_bang : {after : List Token} → IsNotNext (Punct Bang) after → Derives MaybeBang after after
   d_bang : {p : Place} {after : List Token} → Derives MaybeBang (at p (Punct Bang) ∷ after) after
-  d_no_arguments : {c : Bool} {after : List Token} → IsNotNext (Punct ParenLeft) after → Derives (MaybeArguments c) after after
-  d_arguments : {c : Bool} {p : Place} {a : tree.Argument} {others : List tree.Argument} {mid mid' after : List Token} → IsArgument c a mid mid' → AreArguments c others mid' after → Derives (MaybeArguments c) (at p (Punct ParenLeft) ∷ mid) after
-  d_more_arguments : {c : Bool} {others : List tree.Argument} {before after : List Token} → AreArguments c others before after → Derives (MoreArguments c) before after
-  d_no_directives : {c : Bool} {after : List Token} → IsNotNext (Punct At) after → Derives (MaybeDirectives c) after after
-  d_directive : {c : Bool} {p q : Place} {k : Keyword} {n : List ℕ} {mid mid' after : List Token} → Derives (MaybeArguments c) mid mid' → Derives (MaybeDirectives c) mid' after → Derives (MaybeDirectives c) (at p (Punct At) ∷ at q (Name k n) ∷ mid) after
+  d_no_arguments : {c : Constness} {after : List Token} → IsNotNext (Punct ParenLeft) after → Derives (MaybeArguments c) after after
+  d_arguments : {c : Constness} {p : Place} {a : tree.Argument} {others : List tree.Argument} {mid mid' after : List Token} → IsArgument c a mid mid' → AreArguments c others mid' after → Derives (MaybeArguments c) (at p (Punct ParenLeft) ∷ mid) after
+  d_more_arguments : {c : Constness} {others : List tree.Argument} {before after : List Token} → AreArguments c others before after → Derives (MoreArguments c) before after
+  d_no_directives : {c : Constness} {after : List Token} → IsNotNext (Punct At) after → Derives (MaybeDirectives c) after after
+  d_directive : {c : Constness} {p q : Place} {k : Keyword} {n : List ℕ} {mid mid' after : List Token} → Derives (MaybeArguments c) mid mid' → Derives (MaybeDirectives c) mid' after → Derives (MaybeDirectives c) (at p (Punct At) ∷ at q (Name k n) ∷ mid) after
   d_no_alias : {after : List Token} → IsNotNext (Punct Colon) after → Derives AfterName after after
   d_alias : {p q : Place} {k : Keyword} {n : List ℕ} {after : List Token} → Derives AfterName (at p (Punct Colon) ∷ at q (Name k n) ∷ after) after
-  d_spread : {p : Place} {k : Keyword} {n : List ℕ} {mid after : List Token} → IsFragmentName k → Derives (MaybeDirectives false) mid after → Derives AfterDots (at p (Name k n) ∷ mid) after
-  d_inline : {c : Option tree.Condition} {before mid mid' after : List Token} → IsCondition c before mid → Derives (MaybeDirectives false) mid mid' → Derives ASet mid' after → Derives AfterDots before after
+  d_spread : {p : Place} {k : Keyword} {n : List ℕ} {mid after : List Token} → IsFragmentName k → Derives (MaybeDirectives NotConst) mid after → Derives AfterDots (at p (Name k n) ∷ mid) after
+  d_inline : {c : Option tree.Condition} {before mid mid' after : List Token} → IsCondition c before mid → Derives (MaybeDirectives NotConst) mid mid' → Derives ASet mid' after → Derives AfterDots before after
   d_no_set : {after : List Token} → IsNotNext (Punct BraceLeft) after → Derives MaybeSet after after
   d_maybe_set : {s : tree.SelectionSet} {before after : List Token} → IsSelectionSet s before after → Derives MaybeSet before after
   d_set : {s : tree.SelectionSet} {before after : List Token} → IsSelectionSet s before after → Derives ASet before after
   d_first : {s : tree.Selection} {others : tree.Selections} {before mid after : List Token} → IsSelection s before mid → AreSelections others mid after → Derives FirstSelection before after
   d_more : {others : tree.Selections} {before after : List Token} → AreSelections others before after → Derives MoreSelections before after
   d_no_default : {after : List Token} → IsNotNext (Punct Equals) after → Derives MaybeDefault after after
-  d_default : {p : Place} {mid after : List Token} → Derives (AValue true) mid after → Derives MaybeDefault (at p (Punct Equals) ∷ mid) after
+  d_default : {p : Place} {mid after : List Token} → Derives (AValue Const) mid after → Derives MaybeDefault (at p (Punct Equals) ∷ mid) after
   d_first_variable : {v : tree.VariableDefinition} {others : List tree.VariableDefinition} {before mid after : List Token} → IsVariable v before mid → AreVariables others mid after → Derives FirstVariable before after
   d_more_variables : {others : List tree.VariableDefinition} {before after : List Token} → AreVariables others before after → Derives MoreVariables before after
   d_no_variables : {after : List Token} → IsNotNext (Punct ParenLeft) after → Derives MaybeVariables after after
@@ -101,11 +103,11 @@ pub record IsAfterArguments (tokens : List Token) : Type 0 where
   pub no_parenthesis : IsNotNext (Punct ParenLeft) tokens
   pub no_colon : IsNotNext (Punct Colon) tokens
 
-pub after_arguments : {c : Bool} {ds : List tree.Directive} {before mid : List Token} → AreDirectives c ds before mid → IsAfterDirectives mid → IsAfterArguments before
+pub after_arguments : {c : Constness} {ds : List tree.Directive} {before mid : List Token} → AreDirectives c ds before mid → IsAfterDirectives mid → IsAfterArguments before
 after_arguments no_directives h = record { no_parenthesis = h.no_parenthesis; no_colon = h.no_colon }
 after_arguments (next_directive (directive as') others) h = record { no_parenthesis = λ e. cc; no_colon = λ e. cc }
 
-pub after_name : {c : Bool} {as' : List tree.Argument} {before mid : List Token} → AreOptionalArguments c as' before mid → IsAfterArguments mid → IsNotNext (Punct Colon) before
+pub after_name : {c : Constness} {as' : List tree.Argument} {before mid : List Token} → AreOptionalArguments c as' before mid → IsAfterArguments mid → IsNotNext (Punct Colon) before
 after_name no_arguments h = h.no_colon
 after_name (arguments a others) h = λ e. cc
 
@@ -120,7 +122,7 @@ after_variable no_more_variables = record { directives = record { no_parenthesis
 after_variable (next_variable (variable_definition t d ds) others) = record { directives = record { no_parenthesis = λ e. cc; no_colon = λ e. cc; no_at = λ e. cc }; no_equals = λ e. cc; no_bang = λ e. cc }
 
 -- what comes after a default, and after a type
-pub after_default : {ds : List tree.Directive} {before mid : List Token} → AreDirectives true ds before mid → IsAfterVariable mid → IsNotNext (Punct Equals) before × IsNotNext (Punct Bang) before
+pub after_default : {ds : List tree.Directive} {before mid : List Token} → AreDirectives Const ds before mid → IsAfterVariable mid → IsNotNext (Punct Equals) before × IsNotNext (Punct Bang) before
 after_default no_directives h = (h.no_equals, h.no_bang)
 after_default (next_directive (directive as') others) h = (λ e. cc, λ e. cc)
 
@@ -129,12 +131,12 @@ after_type no_default h = h
 after_type (default v) h = λ e. cc
 
 -- what comes after an operation's name, and after its variables
-pub directives_first : {c : Bool} {ds : List tree.Directive} {s : tree.SelectionSet} {before mid after : List Token} → AreDirectives c ds before mid → IsSelectionSet s mid after → IsNotNext (Punct ParenLeft) before
+pub directives_first : {c : Constness} {ds : List tree.Directive} {s : tree.SelectionSet} {before mid after : List Token} → AreDirectives c ds before mid → IsSelectionSet s mid after → IsNotNext (Punct ParenLeft) before
 directives_first no_directives s = (set_follows s).no_parenthesis
 directives_first (next_directive (directive as') others) s = λ e. cc
 
 -- no directives and no braces begin with a name
-pub nameless : {c : Bool} {ds : List tree.Directive} {s : tree.SelectionSet} {before mid after : List Token} → AreDirectives c ds before mid → IsSelectionSet s mid after → IsNoName before
+pub nameless : {c : Constness} {ds : List tree.Directive} {s : tree.SelectionSet} {before mid after : List Token} → AreDirectives c ds before mid → IsSelectionSet s mid after → IsNoName before
 nameless no_directives (selection_set s others) = tt
 nameless (next_directive (directive as') others) s = tt
 
@@ -148,11 +150,11 @@ set_derives : {b : tree.Below} {before mid : List Token} → IsOptionalSet b bef
 set_derives no_set h = d_no_set h.no_brace
 set_derives (a_set s) h = d_maybe_set s
 
-arguments_derive : {c : Bool} {as' : List tree.Argument} {before mid : List Token} → AreOptionalArguments c as' before mid → IsAfterArguments mid → Derives (MaybeArguments c) before mid
+arguments_derive : {c : Constness} {as' : List tree.Argument} {before mid : List Token} → AreOptionalArguments c as' before mid → IsAfterArguments mid → Derives (MaybeArguments c) before mid
 arguments_derive no_arguments h = d_no_arguments h.no_parenthesis
 arguments_derive (arguments a others) h = d_arguments a others
 
-directives_derive : {c : Bool} {ds : List tree.Directive} {before mid : List Token} → AreDirectives c ds before mid → IsAfterDirectives mid → Derives (MaybeDirectives c) before mid
+directives_derive : {c : Constness} {ds : List tree.Directive} {before mid : List Token} → AreDirectives c ds before mid → IsAfterDirectives mid → Derives (MaybeDirectives c) before mid
 directives_derive no_directives h = d_no_directives h.no_at
 directives_derive (next_directive (directive as') others) h = d_directive (arguments_derive as' (after_arguments others h)) (directives_derive others h)
 
@@ -178,7 +180,7 @@ variables_derive (variables v others) h = d_variables (d_first_variable v others
 
 -- ---- from the tokens to the machine
 
-value_shifts : {c : Bool} {v : tree.Value} {p : Place} {w : Word} {tokens mid : List Token} {stack : List Symbol} → IsValue c v (at p w ∷ tokens) mid → Means stack mid → Shifted (shift (AValue c ∷ stack) w) tokens
+value_shifts : {c : Constness} {v : tree.Value} {p : Place} {w : Word} {tokens mid : List Token} {stack : List Symbol} → IsValue c v (at p w ∷ tokens) mid → Means stack mid → Shifted (shift (AValue c ∷ stack) w) tokens
 value_shifts int rest = rest
 value_shifts float rest = rest
 value_shifts text rest = rest
@@ -190,7 +192,7 @@ value_shifts variable rest = then' d_name rest
 value_shifts (array vs) rest = then' (d_values vs) rest
 value_shifts (object ms) rest = then' (d_members ms) rest
 
-values_shift : {c : Bool} {vs : tree.Values} {p : Place} {w : Word} {tokens mid : List Token} {stack : List Symbol} → AreValues c vs (at p w ∷ tokens) mid → Means stack mid → Shifted (shift (MoreValues c ∷ stack) w) tokens
+values_shift : {c : Constness} {vs : tree.Values} {p : Place} {w : Word} {tokens mid : List Token} {stack : List Symbol} → AreValues c vs (at p w ∷ tokens) mid → Means stack mid → Shifted (shift (MoreValues c ∷ stack) w) tokens
 values_shift no_more_values rest = rest
 values_shift (next_value int vs) rest = then' (d_values vs) rest
 values_shift (next_value float vs) rest = then' (d_values vs) rest
@@ -203,20 +205,20 @@ values_shift (next_value variable vs) rest = then' d_name (then' (d_values vs) r
 values_shift (next_value (array ws) vs) rest = then' (d_values ws) (then' (d_values vs) rest)
 values_shift (next_value (object ms) vs) rest = then' (d_members ms) (then' (d_values vs) rest)
 
-members_shift : {c : Bool} {ms : tree.Members} {p : Place} {w : Word} {tokens mid : List Token} {stack : List Symbol} → AreMembers c ms (at p w ∷ tokens) mid → Means stack mid → Shifted (shift (MoreMembers c ∷ stack) w) tokens
+members_shift : {c : Constness} {ms : tree.Members} {p : Place} {w : Word} {tokens mid : List Token} {stack : List Symbol} → AreMembers c ms (at p w ∷ tokens) mid → Means stack mid → Shifted (shift (MoreMembers c ∷ stack) w) tokens
 members_shift no_more_members rest = rest
 members_shift (next_member v ms) rest = then' d_colon (then' (d_value v) (then' (d_members ms) rest))
 
-argument_means : {c : Bool} {a : tree.Argument} {others : List tree.Argument} {before mid after : List Token} {stack : List Symbol} → IsArgument c a before mid → AreArguments c others mid after → Means stack after
+argument_means : {c : Constness} {a : tree.Argument} {others : List tree.Argument} {before mid after : List Token} {stack : List Symbol} → IsArgument c a before mid → AreArguments c others mid after → Means stack after
     → Means (AName ∷ AColon ∷ AValue c ∷ MoreArguments c ∷ stack) before
 argument_means (argument v) others rest = then' d_name (then' d_colon (then' (d_value v) (then' (d_more_arguments others) rest)))
 
-arguments_shift : {c : Bool} {others : List tree.Argument} {p : Place} {w : Word} {tokens mid : List Token} {stack : List Symbol} → AreArguments c others (at p w ∷ tokens) mid → Means stack mid → Shifted (shift (MoreArguments c ∷ stack) w) tokens
+arguments_shift : {c : Constness} {others : List tree.Argument} {p : Place} {w : Word} {tokens mid : List Token} {stack : List Symbol} → AreArguments c others (at p w ∷ tokens) mid → Means stack mid → Shifted (shift (MoreArguments c ∷ stack) w) tokens
 arguments_shift no_more_arguments rest = rest
 arguments_shift (next_argument (argument v) others) rest = then' d_colon (then' (d_value v) (then' (d_more_arguments others) rest))
 
 -- a spread's name is not `on`
-spread_shifts : (k : Keyword) (n : List ℕ) (tokens : List Token) (stack : List Symbol) → IsFragmentName k → Means (MaybeDirectives false ∷ stack) tokens → Shifted (shift (AfterDots ∷ stack) (Name k n)) tokens
+spread_shifts : (k : Keyword) (n : List ℕ) (tokens : List Token) (stack : List Symbol) → IsFragmentName k → Means (MaybeDirectives NotConst ∷ stack) tokens → Shifted (shift (AfterDots ∷ stack) (Name k n)) tokens
 spread_shifts On n tokens stack h rest = absurd h
 spread_shifts _ n tokens stack h rest = rest
 
@@ -248,8 +250,8 @@ selections_shift {p = p} (next_selection (inline c ds s) others) rest = selectio
 
 -- a variable's definition, and what comes after it
 variable_means : {t : tree.TypeTree} {d : Option tree.Value} {ds : List tree.Directive} {others : List tree.VariableDefinition} {p q : Place} {k : Keyword} {n : List ℕ} {mid mid' mid'' mid''' after : List Token} {stack : List Symbol}
-    → IsType t mid mid' → IsDefault d mid' mid'' → AreDirectives true ds mid'' mid''' → AreVariables others mid''' after → Means stack after
-    → Means (AName ∷ AColon ∷ AType ∷ MaybeDefault ∷ MaybeDirectives true ∷ MoreVariables ∷ stack) (at p (Name k n) ∷ at q (Punct Colon) ∷ mid)
+    → IsType t mid mid' → IsDefault d mid' mid'' → AreDirectives Const ds mid'' mid''' → AreVariables others mid''' after → Means stack after
+    → Means (AName ∷ AColon ∷ AType ∷ MaybeDefault ∷ MaybeDirectives Const ∷ MoreVariables ∷ stack) (at p (Name k n) ∷ at q (Punct Colon) ∷ mid)
 variable_means t d ds others rest =
     let f = after_variable others in
     let g = after_default ds f in
@@ -265,7 +267,7 @@ variables_shift (next_variable (variable_definition t d ds) others) rest = varia
 
 -- a definition
 operation_means : {n : Option (List ℕ)} {vs : List tree.VariableDefinition} {ds : List tree.Directive} {s : tree.SelectionSet} {before mid mid' mid'' after : List Token} {stack : List Symbol}
-    → IsOptionalName n before mid → AreOptionalVariables vs mid mid' → AreDirectives false ds mid' mid'' → IsSelectionSet s mid'' after → Means stack after → Means (an_operation_then ++ stack) before
+    → IsOptionalName n before mid → AreOptionalVariables vs mid mid' → AreDirectives NotConst ds mid' mid'' → IsSelectionSet s mid'' after → Means stack after → Means (an_operation_then ++ stack) before
 operation_means n vs ds s rest =
     then' (name_derives n (nameless_variables vs (nameless ds s))) (then' (variables_derive vs (directives_first ds s)) (then' (directives_derive ds (set_follows s)) (then' (d_set s) rest)))
 

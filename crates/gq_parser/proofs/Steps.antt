@@ -3,6 +3,8 @@ use Rattle.std.proofs.Common.{◌≡◌, ℕ, zero, suc, List, [], ◌∷◌, �
 use Rattle.gq_lexer.specs.declared.place.Place.{Place}
 use Rattle.gq_lexer.specs.declared.token.Punct.TheVariants.{Bang, Dollar, ParenLeft, ParenRight, Colon, Equals, At, BracketLeft, BracketRight, BraceLeft, BraceRight}
 use Rattle.gq_lexer.specs.declared.token.Punct.TheVariants as punct
+use Rattle.gq_parser.specs.declared.value.Constness.{Constness}
+use Rattle.gq_parser.specs.declared.value.Constness.TheVariants.{Const, NotConst}
 use Rattle.gq_parser.specs.declared.keyword.Keyword.{Keyword}
 use Rattle.gq_parser.specs.declared.keyword.Keyword.TheVariants.{Query, Mutation, Subscription, Fragment, On, True, False, Null, Other}
 use Rattle.gq_parser.specs.Keywords.{IsFragmentName, IsEnumName}
@@ -20,13 +22,13 @@ taken {new = new} {p = p} e h = e ∙ ap (λ x. at p x ∷ new) h
 
 -- ---- an opening bracket takes room
 
-pub list_opens : (c : Bool) {p : Place} {room r : ℕ} {before mid : List Token} (stack : List Symbol) → room ≡ suc r → before ≡ at p (Punct BracketLeft) ∷ mid → read room (AValue c ∷ stack) before ≡ read r (MoreValues c ∷ stack) mid
+pub list_opens : (c : Constness) {p : Place} {room r : ℕ} {before mid : List Token} (stack : List Symbol) → room ≡ suc r → before ≡ at p (Punct BracketLeft) ∷ mid → read room (AValue c ∷ stack) before ≡ read r (MoreValues c ∷ stack) mid
 list_opens c stack e e' = rw (e, e') refl
 
-pub object_opens : (c : Bool) {p : Place} {room r : ℕ} {before mid : List Token} (stack : List Symbol) → room ≡ suc r → before ≡ at p (Punct BraceLeft) ∷ mid → read room (AValue c ∷ stack) before ≡ read r (MoreMembers c ∷ stack) mid
+pub object_opens : (c : Constness) {p : Place} {room r : ℕ} {before mid : List Token} (stack : List Symbol) → room ≡ suc r → before ≡ at p (Punct BraceLeft) ∷ mid → read room (AValue c ∷ stack) before ≡ read r (MoreMembers c ∷ stack) mid
 object_opens c stack e e' = rw (e, e') refl
 
-pub arguments_open : (c : Bool) {p : Place} {room r : ℕ} {before mid : List Token} (stack : List Symbol) → room ≡ suc r → before ≡ at p (Punct ParenLeft) ∷ mid → read room (MaybeArguments c ∷ stack) before ≡ read r (an_argument c ++ (MoreArguments c ∷ stack)) mid
+pub arguments_open : (c : Constness) {p : Place} {room r : ℕ} {before mid : List Token} (stack : List Symbol) → room ≡ suc r → before ≡ at p (Punct ParenLeft) ∷ mid → read room (MaybeArguments c ∷ stack) before ≡ read r (an_argument c ++ (MoreArguments c ∷ stack)) mid
 arguments_open c stack e e' = rw (e, e') refl
 
 pub type_opens : {p : Place} {room r : ℕ} {before mid : List Token} (stack : List Symbol) → room ≡ suc r → before ≡ at p (Punct BracketLeft) ∷ mid → read room (AType ∷ stack) before ≡ read r (AType ∷ ABracket ∷ MaybeBang ∷ stack) mid
@@ -50,23 +52,23 @@ room_back stack tokens e = ap (λ k. read k stack tokens) (sym e)
 
 -- ---- what closes a list is not next
 
-pub value_comes : (c : Bool) (room : ℕ) (tokens : List Token) (stack : List Symbol) → IsNotNext (Punct BracketRight) tokens → read room (MoreValues c ∷ stack) tokens ≡ read room (AValue c ∷ MoreValues c ∷ stack) tokens
+pub value_comes : (c : Constness) (room : ℕ) (tokens : List Token) (stack : List Symbol) → IsNotNext (Punct BracketRight) tokens → read room (MoreValues c ∷ stack) tokens ≡ read room (AValue c ∷ MoreValues c ∷ stack) tokens
 value_comes c room [] stack h = refl
 value_comes c room (at p (Punct BracketRight) ∷ tokens) stack h = absurd (h refl)
 value_comes c zero (at p (Punct BracketLeft) ∷ tokens) stack h = refl
 value_comes c (suc r) (at p (Punct BracketLeft) ∷ tokens) stack h = refl
 value_comes c zero (at p (Punct BraceLeft) ∷ tokens) stack h = refl
 value_comes c (suc r) (at p (Punct BraceLeft) ∷ tokens) stack h = refl
-value_comes true room (at p (Punct Dollar) ∷ tokens) stack h = refl
-value_comes false room (at p (Punct Dollar) ∷ tokens) stack h = refl
+value_comes Const room (at p (Punct Dollar) ∷ tokens) stack h = refl
+value_comes NotConst room (at p (Punct Dollar) ∷ tokens) stack h = refl
 value_comes c room (at p _ ∷ tokens) stack h = refl
 
-pub member_comes : (c : Bool) (room : ℕ) (tokens : List Token) (stack : List Symbol) → IsNotNext (Punct BraceRight) tokens → read room (MoreMembers c ∷ stack) tokens ≡ read room (an_argument c ++ (MoreMembers c ∷ stack)) tokens
+pub member_comes : (c : Constness) (room : ℕ) (tokens : List Token) (stack : List Symbol) → IsNotNext (Punct BraceRight) tokens → read room (MoreMembers c ∷ stack) tokens ≡ read room (an_argument c ++ (MoreMembers c ∷ stack)) tokens
 member_comes c room [] stack h = refl
 member_comes c room (at p (Punct BraceRight) ∷ tokens) stack h = absurd (h refl)
 member_comes c room (at p _ ∷ tokens) stack h = refl
 
-pub argument_comes : (c : Bool) (room : ℕ) (tokens : List Token) (stack : List Symbol) → IsNotNext (Punct ParenRight) tokens → read room (MoreArguments c ∷ stack) tokens ≡ read room (an_argument c ++ (MoreArguments c ∷ stack)) tokens
+pub argument_comes : (c : Constness) (room : ℕ) (tokens : List Token) (stack : List Symbol) → IsNotNext (Punct ParenRight) tokens → read room (MoreArguments c ∷ stack) tokens ≡ read room (an_argument c ++ (MoreArguments c ∷ stack)) tokens
 argument_comes c room [] stack h = refl
 argument_comes c room (at p (Punct ParenRight) ∷ tokens) stack h = absurd (h refl)
 argument_comes c room (at p _ ∷ tokens) stack h = refl
@@ -83,12 +85,12 @@ variable_comes room (at p _ ∷ tokens) stack h = refl
 
 -- ---- what may be left out is not next
 
-pub no_arguments_come : (c : Bool) (room : ℕ) (tokens : List Token) (stack : List Symbol) → IsNotNext (Punct ParenLeft) tokens → read room (MaybeArguments c ∷ stack) tokens ≡ read room stack tokens
+pub no_arguments_come : (c : Constness) (room : ℕ) (tokens : List Token) (stack : List Symbol) → IsNotNext (Punct ParenLeft) tokens → read room (MaybeArguments c ∷ stack) tokens ≡ read room stack tokens
 no_arguments_come c room [] stack h = refl
 no_arguments_come c room (at p (Punct ParenLeft) ∷ tokens) stack h = absurd (h refl)
 no_arguments_come c room (at p _ ∷ tokens) stack h = refl
 
-pub no_directives_come : (c : Bool) (room : ℕ) (tokens : List Token) (stack : List Symbol) → IsNotNext (Punct At) tokens → read room (MaybeDirectives c ∷ stack) tokens ≡ read room stack tokens
+pub no_directives_come : (c : Constness) (room : ℕ) (tokens : List Token) (stack : List Symbol) → IsNotNext (Punct At) tokens → read room (MaybeDirectives c ∷ stack) tokens ≡ read room stack tokens
 no_directives_come c room [] stack h = refl
 no_directives_come c room (at p (Punct At) ∷ tokens) stack h = absurd (h refl)
 no_directives_come c room (at p _ ∷ tokens) stack h = refl
@@ -132,7 +134,7 @@ pub bang_comes : (b : Bool) (room : ℕ) (old new : List Token) (stack : List Sy
 bang_comes true room old new stack h = rw h.1 refl
 bang_comes false room old new stack h = no_bang_comes room old stack h.1 ∙ ap (read room stack) (sym h.0)
 
-pub inline_comes : (room : ℕ) (tokens : List Token) (stack : List Symbol) → IsNoName tokens → read room (AfterDots ∷ stack) tokens ≡ read room (MaybeDirectives false ∷ ASet ∷ stack) tokens
+pub inline_comes : (room : ℕ) (tokens : List Token) (stack : List Symbol) → IsNoName tokens → read room (AfterDots ∷ stack) tokens ≡ read room (MaybeDirectives NotConst ∷ ASet ∷ stack) tokens
 inline_comes room [] stack h = refl
 inline_comes room (at p (Name k n) ∷ tokens) stack h = absurd h
 inline_comes room (at p (Punct At) ∷ tokens) stack h = refl
@@ -179,7 +181,7 @@ operation_comes room p o k n tokens stack subscription = refl
 
 -- ---- names
 
-pub spread_comes : (room : ℕ) (p : Place) (k : Keyword) (n : List ℕ) (tokens : List Token) (stack : List Symbol) → IsFragmentName k → read room (AfterDots ∷ stack) (at p (Name k n) ∷ tokens) ≡ read room (MaybeDirectives false ∷ stack) tokens
+pub spread_comes : (room : ℕ) (p : Place) (k : Keyword) (n : List ℕ) (tokens : List Token) (stack : List Symbol) → IsFragmentName k → read room (AfterDots ∷ stack) (at p (Name k n) ∷ tokens) ≡ read room (MaybeDirectives NotConst ∷ stack) tokens
 spread_comes room p On n tokens stack h = absurd h
 spread_comes room p _ n tokens stack h = refl
 
@@ -207,11 +209,15 @@ not_words Fragment a b c = tt
 not_words On a b c = tt
 not_words Other a b c = tt
 
+pub not_const : (c : Constness) → (c ≡ Const → ⊥) → c ≡ NotConst
+not_const Const h = absurd (h refl)
+not_const NotConst h = refl
+
 -- an argument is a field of an object
-pub member_then : {c : Bool} {a : tree.Argument} {ms : tree.Members} {before mid after : List Token} → IsArgument c a before mid → AreMembers c ms mid after → AreMembers c (tree.and_member a.place a.name a.value ms) before after
+pub member_then : {c : Constness} {a : tree.Argument} {ms : tree.Members} {before mid after : List Token} → IsArgument c a before mid → AreMembers c ms mid after → AreMembers c (tree.and_member a.place a.name a.value ms) before after
 member_then (argument v) rest = next_member v rest
 
-pub condition_comes : {p : Place} {k : Keyword} {n : List ℕ} {before mid : List Token} (room : ℕ) (stack : List Symbol) → k ≡ On → before ≡ at p (Name k n) ∷ mid → read room (AfterDots ∷ stack) before ≡ read room (AName ∷ MaybeDirectives false ∷ ASet ∷ stack) mid
+pub condition_comes : {p : Place} {k : Keyword} {n : List ℕ} {before mid : List Token} (room : ℕ) (stack : List Symbol) → k ≡ On → before ≡ at p (Name k n) ∷ mid → read room (AfterDots ∷ stack) before ≡ read room (AName ∷ MaybeDirectives NotConst ∷ ASet ∷ stack) mid
 condition_comes room stack is e = rw (e, is) refl
 
 -- a selection set is an operation

@@ -1,7 +1,9 @@
 -- A list of tokens has at most one tree.
-use Rattle.std.proofs.Common.{◌≡◌, ℕ, Bool, true, false, List, [], ◌∷◌, Option, Some, None, refl, sym, ap, subst, ◌∙◌}
+use Rattle.std.proofs.Common.{◌≡◌, ℕ, Bool, List, [], ◌∷◌, Option, Some, None, refl, sym, ap, subst, ◌∙◌}
 use Rattle.gq_lexer.specs.declared.place.Place.{Place}
 use Rattle.gq_lexer.specs.declared.token.Punct.TheVariants.{Bang, ParenLeft, Colon, Equals, BracketRight}
+use Rattle.gq_parser.specs.declared.value.Constness.{Constness}
+use Rattle.gq_parser.specs.declared.value.Constness.TheVariants.{Const, NotConst}
 use Rattle.gq_parser.specs.declared.keyword.Keyword.{Keyword}
 use Rattle.gq_parser.specs.declared.tree.OperationKind.{OperationKind}
 use Rattle.gq_parser.specs.declared.tree.OperationKind.TheVariants as kind
@@ -20,7 +22,7 @@ both : {A B C : Type 0} (f : A → B → C) {a a' : A} {b b' : B} → a ≡ a' �
 both f {a' = a'} {b = b} p q = ap (λ x. f x b) p ∙ ap (λ y. f a' y) q
 
 mutual
-  value_one : {c : Bool} {v w : tree.Value} {before after after' : List Token} → IsValue c v before after → IsValue c w before after' → (v ≡ w) × (after ≡ after')
+  value_one : {c : Constness} {v w : tree.Value} {before after after' : List Token} → IsValue c v before after → IsValue c w before after' → (v ≡ w) × (after ≡ after')
   value_one int int = (refl, refl)
   value_one float float = (refl, refl)
   value_one text text = (refl, refl)
@@ -38,7 +40,7 @@ mutual
   value_one (array {p = p} vs) (array ws) = let r = values_one vs ws in (ap (tree.Array p) r.0, r.1)
   value_one (object {p = p} vs) (object ws) = let r = members_one vs ws in (ap (tree.Object p) r.0, r.1)
 
-  values_one : {c : Bool} {vs ws : tree.Values} {before after after' : List Token} → AreValues c vs before after → AreValues c ws before after' → (vs ≡ ws) × (after ≡ after')
+  values_one : {c : Constness} {vs ws : tree.Values} {before after after' : List Token} → AreValues c vs before after → AreValues c ws before after' → (vs ≡ ws) × (after ≡ after')
   values_one no_more_values no_more_values = (refl, refl)
   values_one no_more_values (next_value w ws) = elim w [ ]
   values_one (next_value v vs) no_more_values = elim v [ ]
@@ -47,7 +49,7 @@ mutual
       let s = values_one vs (subst (λ m. AreValues c ys m k) (sym r.1) ws) in
       (both tree.and_value r.0 s.0, s.1)
 
-  members_one : {c : Bool} {vs ws : tree.Members} {before after after' : List Token} → AreMembers c vs before after → AreMembers c ws before after' → (vs ≡ ws) × (after ≡ after')
+  members_one : {c : Constness} {vs ws : tree.Members} {before after after' : List Token} → AreMembers c vs before after → AreMembers c ws before after' → (vs ≡ ws) × (after ≡ after')
   members_one no_more_members no_more_members = (refl, refl)
   members_one {c = c} (next_member {p = p} {n = n} v vs) (next_member {ms = ys} {after = k} w ws) =
       let r = value_one v w in
@@ -70,10 +72,10 @@ type_one (list_of {p = p} t b) (list_of {non_null = non_null} {after = k} u b') 
     tails : {p q : Place} {xs ys : List Token} → at p (Punct BracketRight) ∷ xs ≡ at q (Punct BracketRight) ∷ ys → xs ≡ ys
     tails e = cc
 
-argument_one : {c : Bool} {a b : tree.Argument} {before after after' : List Token} → IsArgument c a before after → IsArgument c b before after' → (a ≡ b) × (after ≡ after')
+argument_one : {c : Constness} {a b : tree.Argument} {before after after' : List Token} → IsArgument c a before after → IsArgument c b before after' → (a ≡ b) × (after ≡ after')
 argument_one (argument {p = p} {n = n} v) (argument w) = let r = value_one v w in (ap (λ x. record { place = p; name = n; value = x }) r.0, r.1)
 
-arguments_one : {c : Bool} {as' bs : List tree.Argument} {before after after' : List Token} → AreArguments c as' before after → AreArguments c bs before after' → (as' ≡ bs) × (after ≡ after')
+arguments_one : {c : Constness} {as' bs : List tree.Argument} {before after after' : List Token} → AreArguments c as' before after → AreArguments c bs before after' → (as' ≡ bs) × (after ≡ after')
 arguments_one no_more_arguments no_more_arguments = (refl, refl)
 arguments_one no_more_arguments (next_argument b bs) = elim b [ ]
 arguments_one (next_argument a as') no_more_arguments = elim a [ ]
@@ -82,7 +84,7 @@ arguments_one {c = c} (next_argument a as') (next_argument {others = ys} {after 
     let s = arguments_one as' (subst (λ m. AreArguments c ys m k) (sym r.1) bs) in
     (both (λ x xs. x ∷ xs) r.0 s.0, s.1)
 
-optional_arguments_one : {c : Bool} {as' bs : List tree.Argument} {before after after' : List Token} → AreOptionalArguments c as' before after → AreOptionalArguments c bs before after'
+optional_arguments_one : {c : Constness} {as' bs : List tree.Argument} {before after after' : List Token} → AreOptionalArguments c as' before after → AreOptionalArguments c bs before after'
     → IsNotNext (Punct ParenLeft) after → IsNotNext (Punct ParenLeft) after' → (as' ≡ bs) × (after ≡ after')
 optional_arguments_one no_arguments no_arguments h h' = (refl, refl)
 optional_arguments_one no_arguments (arguments b bs) h h' = absurd (h refl)
@@ -92,10 +94,10 @@ optional_arguments_one {c = c} (arguments a as') (arguments {others = ys} {after
     let s = arguments_one as' (subst (λ m. AreArguments c ys m k) (sym r.1) bs) in
     (both (λ x xs. x ∷ xs) r.0 s.0, s.1)
 
-directive_one : {c : Bool} {d d' : tree.Directive} {before after after' : List Token} → IsDirective c d before after → IsDirective c d' before after' → IsNotNext (Punct ParenLeft) after → IsNotNext (Punct ParenLeft) after' → (d ≡ d') × (after ≡ after')
+directive_one : {c : Constness} {d d' : tree.Directive} {before after after' : List Token} → IsDirective c d before after → IsDirective c d' before after' → IsNotNext (Punct ParenLeft) after → IsNotNext (Punct ParenLeft) after' → (d ≡ d') × (after ≡ after')
 directive_one (directive {p = p} {n = n} as') (directive bs) h h' = let r = optional_arguments_one as' bs h h' in (ap (λ x. record { place = p; name = n; arguments = x }) r.0, r.1)
 
-directives_one : {c : Bool} {ds ds' : List tree.Directive} {before after after' : List Token} → AreDirectives c ds before after → AreDirectives c ds' before after' → IsAfterDirectives after → IsAfterDirectives after'
+directives_one : {c : Constness} {ds ds' : List tree.Directive} {before after after' : List Token} → AreDirectives c ds before after → AreDirectives c ds' before after' → IsAfterDirectives after → IsAfterDirectives after'
     → (ds ≡ ds') × (after ≡ after')
 directives_one no_directives no_directives h h' = (refl, refl)
 directives_one no_directives (next_directive (directive as') others) h h' = absurd (h.no_at refl)
@@ -113,7 +115,7 @@ field_name_one aliased unaliased h h' = absurd (h' refl)
 field_name_one aliased aliased h h' = (refl, refl, refl, refl)
 
 condition_one : {c c' : Option tree.Condition} {ds ds' : List tree.Directive} {s s' : tree.SelectionSet} {before m1 m1' m2 m2' after after' : List Token} → IsCondition c before m1 → IsCondition c' before m1'
-    → AreDirectives false ds m1 m2 → AreDirectives false ds' m1' m2' → IsSelectionSet s m2 after → IsSelectionSet s' m2' after' → (c ≡ c') × (m1 ≡ m1')
+    → AreDirectives NotConst ds m1 m2 → AreDirectives NotConst ds' m1' m2' → IsSelectionSet s m2 after → IsSelectionSet s' m2' after' → (c ≡ c') × (m1 ≡ m1')
 condition_one no_condition no_condition d d' b b' = (refl, refl)
 condition_one no_condition condition d d' b b' = absurd (nameless d b)
 condition_one condition no_condition d d' b b' = absurd (nameless d' b')
@@ -139,7 +141,7 @@ mutual
   selection_one (field name as' ds b) (inline c ds' s) f f' = elim name [ ]
   selection_one (inline {p = p} c ds s) (inline {ds = es} {s = t} {mid'' = i} {after = k} c' ds' s') f f' =
       let n = condition_one c c' ds ds' s s' in
-      let q = directives_one ds (subst (λ m. AreDirectives false es m i) (sym n.1) ds') (set_follows s) (set_follows s') in
+      let q = directives_one ds (subst (λ m. AreDirectives NotConst es m i) (sym n.1) ds') (set_follows s) (set_follows s') in
       let r = set_one s (subst (λ m. IsSelectionSet t m k) (sym q.1) s') in
       (inline_is p n.0 q.0 r.0, r.1)
   selection_one (field name as' ds b) (field {as' = bs} {ds = es} {b = c} {mid' = j} {mid'' = i} {after = k} name' as'' ds' b') f f' =
@@ -148,8 +150,8 @@ mutual
       let h = after_arguments ds g in
       let h' = after_arguments ds' g' in
       let n = field_name_one name name' (after_name as' h) (after_name as'' h') in
-      let a = optional_arguments_one as' (subst (λ m. AreOptionalArguments false bs m j) (sym n.3) as'') h.no_parenthesis h'.no_parenthesis in
-      let d = directives_one ds (subst (λ m. AreDirectives false es m i) (sym a.1) ds') g g' in
+      let a = optional_arguments_one as' (subst (λ m. AreOptionalArguments NotConst bs m j) (sym n.3) as'') h.no_parenthesis h'.no_parenthesis in
+      let d = directives_one ds (subst (λ m. AreDirectives NotConst es m i) (sym a.1) ds') g g' in
       let u = optional_set_one b (subst (λ m. IsOptionalSet c m k) (sym d.1) b') f f' in
       (field_is n.0 n.1 n.2 a.0 d.0 u.0, u.1)
 
@@ -190,7 +192,7 @@ variable_one (variable_definition {p = p} {n = n} t d ds) (variable_definition {
     let g' = after_default ds' f' in
     let u = type_one t t' (after_type d g.1) (after_type d' g'.1) in
     let w = default_one d (subst (λ m. IsDefault e m i) (sym u.1) d') g.0 g'.0 in
-    let x = directives_one ds (subst (λ m. AreDirectives true es m k) (sym w.1) ds') f.directives f'.directives in
+    let x = directives_one ds (subst (λ m. AreDirectives Const es m k) (sym w.1) ds') f.directives f'.directives in
     (variable_is p n u.0 w.0 x.0, x.1)
 
 variables_one : {vs vs' : List tree.VariableDefinition} {before after after' : List Token} → AreVariables vs before after → AreVariables vs' before after' → (vs ≡ vs') × (after ≡ after')
@@ -237,7 +239,7 @@ operation_one (operation k n vs ds t) (shorthand s) = elim s [ ]
 operation_one (operation {p = p} k n vs ds s) (operation {vs = ws} {ds = es} {s = t} {mid'' = i} {mid''' = j} {after = l} k' n' vs' ds' s') =
     let a = name_one n n' (nameless_variables vs (nameless ds s)) (nameless_variables vs' (nameless ds' s')) in
     let b = optional_variables_one vs (subst (λ m. AreOptionalVariables ws m i) (sym a.1) vs') (directives_first ds s) (directives_first ds' s') in
-    let d = directives_one ds (subst (λ m. AreDirectives false es m j) (sym b.1) ds') (set_follows s) (set_follows s') in
+    let d = directives_one ds (subst (λ m. AreDirectives NotConst es m j) (sym b.1) ds') (set_follows s) (set_follows s') in
     let e = set_one s (subst (λ m. IsSelectionSet t m l) (sym d.1) s') in
     (operation_is p (kind_one k k') a.0 b.0 d.0 e.0, e.1)
 

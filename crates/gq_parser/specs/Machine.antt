@@ -1,26 +1,28 @@
 -- Reading by what is still expected, a token at a time. No promise to a caller speaks of it: the parser's own methods are proved against it.
-use Rattle.std.specs.Prelude.{ℕ, zero, suc, Bool, true, false, List, [], ◌∷◌, ◌++◌, Option, Some, None}
+use Rattle.std.specs.Prelude.{ℕ, zero, suc, List, [], ◌∷◌, ◌++◌, Option, Some, None}
 use Rattle.gq_lexer.specs.declared.place.Place.{Place}
 use Rattle.gq_lexer.specs.declared.token.Punct.TheVariants.{Bang, Dollar, ParenLeft, ParenRight, Spread, Colon, Equals, At, BracketLeft, BracketRight, BraceLeft, BraceRight}
+use Rattle.gq_parser.specs.declared.value.Constness.{Constness}
+use Rattle.gq_parser.specs.declared.value.Constness.TheVariants.{Const, NotConst}
 use Rattle.gq_parser.specs.declared.keyword.Keyword.TheVariants.{Query, Mutation, Subscription, Fragment, On}
 use Rattle.gq_parser.specs.Word.{Word, Punct, Name, Int, Float, Text, Token, at}
 use Rattle.gq_parser.specs.Fault.{Bracket, Opening, Closing, Neither, bracket}
 
--- what is expected; where a `Bool` stands, whether it has to be constant
+-- what is expected; a value that is `Const` has no variables
 pub data Symbol : Type 0 where
   AName : Symbol
   AFragmentName : Symbol
   AnOn : Symbol
   AColon : Symbol
-  AValue : Bool → Symbol
-  MoreValues : Bool → Symbol
-  MoreMembers : Bool → Symbol
+  AValue : Constness → Symbol
+  MoreValues : Constness → Symbol
+  MoreMembers : Constness → Symbol
   AType : Symbol
   ABracket : Symbol
   MaybeBang : Symbol
-  MaybeArguments : Bool → Symbol
-  MoreArguments : Bool → Symbol
-  MaybeDirectives : Bool → Symbol
+  MaybeArguments : Constness → Symbol
+  MoreArguments : Constness → Symbol
+  MaybeDirectives : Constness → Symbol
   AfterName : Symbol
   AfterDots : Symbol
   MaybeSet : Symbol
@@ -45,20 +47,20 @@ abbrev pub one : Symbol → List Symbol
 one s = s ∷ []
 
 -- Name `:` Value
-abbrev pub an_argument : Bool → List Symbol
-an_argument constant = AName ∷ AColon ∷ one (AValue constant)
+abbrev pub an_argument : Constness → List Symbol
+an_argument constness = AName ∷ AColon ∷ one (AValue constness)
 
 -- a field, after its first name
 abbrev pub a_field_then : List Symbol
-a_field_then = AfterName ∷ MaybeArguments false ∷ MaybeDirectives false ∷ one MaybeSet
+a_field_then = AfterName ∷ MaybeArguments NotConst ∷ MaybeDirectives NotConst ∷ one MaybeSet
 
 -- an inline fragment, after its condition
 abbrev pub an_inline_then : List Symbol
-an_inline_then = MaybeDirectives false ∷ one ASet
+an_inline_then = MaybeDirectives NotConst ∷ one ASet
 
 -- a variable's definition, after its `$`
 abbrev pub a_variable_then : List Symbol
-a_variable_then = AName ∷ AColon ∷ AType ∷ MaybeDefault ∷ one (MaybeDirectives true)
+a_variable_then = AName ∷ AColon ∷ AType ∷ MaybeDefault ∷ one (MaybeDirectives Const)
 
 -- an operation, after its kind
 abbrev pub an_operation_then : List Symbol
@@ -68,10 +70,10 @@ an_operation_then = MaybeName ∷ MaybeVariables ∷ an_inline_then
 abbrev pub a_fragment_then : List Symbol
 a_fragment_then = AFragmentName ∷ AnOn ∷ AName ∷ an_inline_then
 
--- a variable may not be part of what is constant
-abbrev pub unless : Bool → List Symbol → Move
-unless true symbols = Refuses
-unless false symbols = Takes symbols
+-- a variable may not be part of what is `Const`
+abbrev pub unless : Constness → List Symbol → Move
+unless Const symbols = Refuses
+unless NotConst symbols = Takes symbols
 
 abbrev pub move : Symbol → Word → Move
 move AName (Name k n) = Takes []
@@ -120,26 +122,26 @@ move (MaybeDirectives c) _ = Skips
 move AfterName (Punct Colon) = Takes (one AName)
 move AfterName _ = Skips
 move AfterDots (Name On n) = Takes (AName ∷ an_inline_then)
-move AfterDots (Name k n) = Takes (one (MaybeDirectives false))
-move AfterDots (Punct At) = Takes (AName ∷ MaybeArguments false ∷ an_inline_then)
+move AfterDots (Name k n) = Takes (one (MaybeDirectives NotConst))
+move AfterDots (Punct At) = Takes (AName ∷ MaybeArguments NotConst ∷ an_inline_then)
 move AfterDots (Punct BraceLeft) = Takes (one FirstSelection)
 move AfterDots _ = Refuses
 move MaybeSet (Punct BraceLeft) = Takes (one FirstSelection)
 move MaybeSet _ = Skips
 move ASet (Punct BraceLeft) = Takes (one FirstSelection)
 move ASet _ = Refuses
-move FirstSelection (Name k n) = Takes (AfterName ∷ MaybeArguments false ∷ MaybeDirectives false ∷ MaybeSet ∷ one MoreSelections)
+move FirstSelection (Name k n) = Takes (AfterName ∷ MaybeArguments NotConst ∷ MaybeDirectives NotConst ∷ MaybeSet ∷ one MoreSelections)
 move FirstSelection (Punct Spread) = Takes (AfterDots ∷ one MoreSelections)
 move FirstSelection _ = Refuses
-move MoreSelections (Name k n) = Takes (AfterName ∷ MaybeArguments false ∷ MaybeDirectives false ∷ MaybeSet ∷ one MoreSelections)
+move MoreSelections (Name k n) = Takes (AfterName ∷ MaybeArguments NotConst ∷ MaybeDirectives NotConst ∷ MaybeSet ∷ one MoreSelections)
 move MoreSelections (Punct Spread) = Takes (AfterDots ∷ one MoreSelections)
 move MoreSelections (Punct BraceRight) = Takes []
 move MoreSelections _ = Refuses
-move MaybeDefault (Punct Equals) = Takes (one (AValue true))
+move MaybeDefault (Punct Equals) = Takes (one (AValue Const))
 move MaybeDefault _ = Skips
-move FirstVariable (Punct Dollar) = Takes (AName ∷ AColon ∷ AType ∷ MaybeDefault ∷ MaybeDirectives true ∷ one MoreVariables)
+move FirstVariable (Punct Dollar) = Takes (AName ∷ AColon ∷ AType ∷ MaybeDefault ∷ MaybeDirectives Const ∷ one MoreVariables)
 move FirstVariable _ = Refuses
-move MoreVariables (Punct Dollar) = Takes (AName ∷ AColon ∷ AType ∷ MaybeDefault ∷ MaybeDirectives true ∷ one MoreVariables)
+move MoreVariables (Punct Dollar) = Takes (AName ∷ AColon ∷ AType ∷ MaybeDefault ∷ MaybeDirectives Const ∷ one MoreVariables)
 move MoreVariables (Punct ParenRight) = Takes []
 move MoreVariables _ = Refuses
 move MaybeVariables (Punct ParenLeft) = Takes (one FirstVariable)

@@ -21,6 +21,8 @@ use Rattle.gq_parser.specs.declared.tree.Operation as rust-operation
 use Rattle.gq_parser.specs.declared.tree.Fragment as rust-fragment
 use Rattle.gq_lexer.specs.Place.{place_of}
 use Rattle.gq_parser.specs.declared.keyword.Keyword.{Keyword}
+use Rattle.gq_parser.specs.declared.selection.FieldName.{FieldName}
+use Rattle.gq_parser.specs.declared.value.Constness.{Constness}
 use Rattle.gq_parser.specs.declared.lexeme.Lexeme as rust-lexeme
 use Rattle.gq_parser.specs.declared.lexeme.Lexeme.TheVariants as lexeme
 use Rattle.gq_parser.specs.declared.definition.Definition as rust-definition
@@ -95,7 +97,7 @@ IsDefinition (definition.Fragment f) before after = IsFragment (fragment_of f) b
 
 -- the value that a name says
 abbrev pub IsNamedValue : Place → List ℕ → rust-literal.Literal → Type 0
-IsNamedValue p n v = (constant : Bool) (after : List Token) → IsValue constant (literal_of v) (at p (Name (keyword_of n) n) ∷ after) after
+IsNamedValue p n v = (constness : Constness) (after : List Token) → IsValue constness (literal_of v) (at p (Name (keyword_of n) n) ∷ after) after
 
 abbrev pub IsTypeAfterName : Place → Keyword → List ℕ → rust-type.TypeRef → List Token → List Token → Type 0
 IsTypeAfterName p k n t before after = IsType (type_of t) (at p (Name k n) ∷ before) after
@@ -104,8 +106,8 @@ abbrev pub IsTypeAfterBracket : Place → rust-type.TypeRef → List Token → L
 IsTypeAfterBracket p t before after = IsType (type_of t) (at p (Punct BracketLeft) ∷ before) after
 
 -- the alias and the name of a field, whose first name was read
-abbrev pub AreNamesAfterFirst : Place → Keyword → String Global → Option (String Global) × String Global → List Token → List Token → Type 0
-AreNamesAfterFirst p k first names before after = IsFieldName p (text_if names.0) (string_bytes names.1) (at p (Name k (string_bytes first)) ∷ before) after
+abbrev pub AreNamesAfterFirst : Place → Keyword → String Global → FieldName → List Token → List Token → Type 0
+AreNamesAfterFirst p k first names before after = IsFieldName p (text_if names.alias) (string_bytes names.name) (at p (Name k (string_bytes first)) ∷ before) after
 
 abbrev pub IsFieldAfterName : Place → Keyword → String Global → rust-field.Field → List Token → List Token → Type 0
 IsFieldAfterName p k first f before after = IsSelection (field_of f) (at p (Name k (string_bytes first)) ∷ before) after

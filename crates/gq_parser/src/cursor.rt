@@ -13,7 +13,7 @@ ghost use Rattle.gq_parser.specs.Parsing.{Reads, Takes, Eats, IsName, IsPunct, I
 use crate::fault::Fault;
 use crate::keyword::{Keyword, keyword_of};
 use crate::lexeme::Lexeme;
-use gq_lexer::{Kind, LexFault, Place, Punct, Token, string_value};
+use gq_lexer::{Kind, LexFault, Located, Place, Punct, Token, string_value};
 use std::alloc::Global;
 use std::marker::Model;
 
@@ -66,15 +66,16 @@ impl<'a> Parser<'a> {
     }
 
     /// Takes the next token; a fault if there is none.
-    pub(crate) fn next(&mut self) -> Result<(Place, Lexeme<'a>), Fault>
-        ensures { MatchResult result (λ t. self.old ≡ at t.0 (says t.1) ∷ self.new) (λ f. IsMissing f self.old) }
+    pub(crate) fn next(&mut self) -> Result<Located<Lexeme<'a>>, Fault>
+        ensures { MatchResult result (λ t. self.old ≡ at t.place (says t.value) ∷ self.new) (λ f. IsMissing f self.old) }
     {
         let Some((token, rest)) = self.rest.split_first() else {
             return Err(Fault::Unexpected(None));
         };
-        let lexeme = lexeme_of(self.alloc, self.text, token)?;
+        let value = lexeme_of(self.alloc, self.text, token)?;
+        let place = token.place();
         self.rest = rest;
-        Ok((token.place(), lexeme))
+        Ok(Located { place, value })
     }
 
     /// The place of the next token, which is taken if it is this one.
@@ -98,14 +99,15 @@ impl<'a> Parser<'a> {
     }
 
     /// The name that is next, if one is.
-    pub(crate) fn take_name(&mut self) -> Option<(Place, &'a str)>
-        ensures { MatchOption result ((self.new ≡ self.old) × IsNoName self.old) (λ n. self.old ≡ at n.0 (words.Name (keyword_of n.1.now) n.1.now) ∷ self.new) }
+    pub(crate) fn take_name(&mut self) -> Option<Located<&'a str>>
+        ensures { MatchOption result ((self.new ≡ self.old) × IsNoName self.old) (λ n. self.old ≡ at n.place (words.Name (keyword_of n.value.now) n.value.now) ∷ self.new) }
     {
         match self.rest.split_first() {
             Some((token, rest)) if token.kind == Kind::Name => {
-                let text = self.text;
+                let place = token.place();
+                let value = token.text(self.text);
                 self.rest = rest;
-                Some((token.place(), token.text(text)))
+                Some(Located { place, value })
             }
             _ => None,
         }
@@ -130,15 +132,16 @@ fn lexeme_of<'a>(alloc: Global, text: &'a str, token: &Token) -> Result<Lexeme<'
 }
 
 impl<'a> Parser<'a> {
-    /// A name, and its place.
-    pub(crate) fn name(&mut self) -> Result<(Place, String), Fault>
-        ensures reads { (room : _) → Reads (λ n. IsName n.0 (string_bytes n.1)) room (one AName) room [] self.old self.new result }
+    pub(crate) fn name(&mut self) -> Result<Located<String>, Fault>
+        ensures reads { (room : _) → Reads (λ n. IsName n.place (string_bytes n.value)) room (one AName) room [] self.old self.new result }
         ensures shrinks { OnOk result (length self.new < length self.old) }
     {
-        match self.next()? {
-            (place, Lexeme::Name(name)) => Ok((place, String::from_str(self.alloc, name)?)),
-            (place, _) => Err(Fault::Unexpected(Some(place))),
-        }
+        let Located { place, value } = self.next()?;
+        let Lexeme::Name(name) = value else {
+            return Err(Fault::Unexpected(Some(place)));
+        };
+        let value = String::from_str(self.alloc, name)?;
+        Ok(Located { place, value })
     }
 
     /// A name that is not `on`.
@@ -146,14 +149,12 @@ impl<'a> Parser<'a> {
         ensures reads { (room : _) → Reads (λ n. IsFragmentNameTaken (string_bytes n)) room (one AFragmentName) room [] self.old self.new result }
         ensures shrinks { OnOk result (length self.new < length self.old) }
     {
-        match self.next()? {
-            (place, Lexeme::Name(name)) => {
-                if keyword_of(name) == Keyword::On {
-                    return Err(Fault::Unexpected(Some(place)));
-                }
+        let Located { place, value } = self.next()?;
+        match value {
+            Lexeme::Name(name) if keyword_of(name) != Keyword::On => {
                 Ok(String::from_str(self.alloc, name)?)
             }
-            (place, _) => Err(Fault::Unexpected(Some(place))),
+            _ => Err(Fault::Unexpected(Some(place))),
         }
     }
 
@@ -162,14 +163,10 @@ impl<'a> Parser<'a> {
         ensures reads { (room : _) → Reads (λ _. IsOnTaken) room (one AnOn) room [] self.old self.new result }
         ensures shrinks { OnOk result (length self.new < length self.old) }
     {
-        match self.next()? {
-            (place, Lexeme::Name(name)) => {
-                if keyword_of(name) == Keyword::On {
-                    return Ok(());
-                }
-                Err(Fault::Unexpected(Some(place)))
-            }
-            (place, _) => Err(Fault::Unexpected(Some(place))),
+        let Located { place, value } = self.next()?;
+        match value {
+            Lexeme::Name(name) if keyword_of(name) == Keyword::On => Ok(()),
+            _ => Err(Fault::Unexpected(Some(place))),
         }
     }
 
@@ -177,9 +174,10 @@ impl<'a> Parser<'a> {
         ensures reads { (room : _) → Reads (λ _. IsPunct (words.Punct Punct.Colon)) room (one AColon) room [] self.old self.new result }
         ensures shrinks { OnOk result (length self.new < length self.old) }
     {
-        match self.next()? {
-            (_, Lexeme::Punct(Punct::Colon)) => Ok(()),
-            (place, _) => Err(Fault::Unexpected(Some(place))),
+        let Located { place, value } = self.next()?;
+        match value {
+            Lexeme::Punct(Punct::Colon) => Ok(()),
+            _ => Err(Fault::Unexpected(Some(place))),
         }
     }
 
@@ -188,9 +186,10 @@ impl<'a> Parser<'a> {
         ensures reads { (room : _) → Reads IsDollarTaken room (one FirstVariable) room (a_variable_then ++ one MoreVariables) self.old self.new result }
         ensures shrinks { OnOk result (length self.new < length self.old) }
     {
-        match self.next()? {
-            (place, Lexeme::Punct(Punct::Dollar)) => Ok(place),
-            (place, _) => Err(Fault::Unexpected(Some(place))),
+        let Located { place, value } = self.next()?;
+        match value {
+            Lexeme::Punct(Punct::Dollar) => Ok(place),
+            _ => Err(Fault::Unexpected(Some(place))),
         }
     }
 
@@ -199,9 +198,10 @@ impl<'a> Parser<'a> {
         ensures reads { (room : _) → Reads (λ _. IsPunct (words.Punct Punct.BracketRight)) room (one ABracket) (suc room) [] self.old self.new result }
         ensures shrinks { OnOk result (length self.new < length self.old) }
     {
-        match self.next()? {
-            (_, Lexeme::Punct(Punct::BracketRight)) => Ok(()),
-            (place, _) => Err(Fault::Unexpected(Some(place))),
+        let Located { place, value } = self.next()?;
+        match value {
+            Lexeme::Punct(Punct::BracketRight) => Ok(()),
+            _ => Err(Fault::Unexpected(Some(place))),
         }
     }
 
@@ -210,9 +210,9 @@ impl<'a> Parser<'a> {
         ensures reads { (room : _) → Reads (λ n. IsOptionalName (text_if n)) room (one MaybeName) room [] self.old self.new result }
         ensures shrinks { OnOk result (length self.new ≤ length self.old) }
     {
-        let Some((_, name)) = self.take_name() else {
+        let Some(name) = self.take_name() else {
             return Ok(None);
         };
-        Ok(Some(String::from_str(self.alloc, name)?))
+        Ok(Some(String::from_str(self.alloc, name.value)?))
     }
 }

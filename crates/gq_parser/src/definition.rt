@@ -11,7 +11,8 @@ use crate::cursor::Parser;
 use crate::fault::Fault;
 use crate::keyword::{Keyword, keyword_of};
 use crate::tree::{Fragment, Literal, Operation, OperationKind, VariableDefinition};
-use gq_lexer::{Place, Punct};
+use crate::value::Constness;
+use gq_lexer::{Located, Place, Punct};
 
 /// An operation or a fragment.
 #[derive(Drop)]
@@ -41,7 +42,7 @@ impl Parser<'_> {
         if !self.eat(Punct::Equals) {
             return Ok(None);
         }
-        Ok(Some(self.value(true, room)?))
+        Ok(Some(self.value(Constness::Const, room)?))
     }
 
     fn variable(&mut self, room: u32) -> Result<VariableDefinition, Fault>
@@ -49,11 +50,11 @@ impl Parser<'_> {
         ensures shrinks { OnOk result (length self.new < length self.old) }
     {
         let place = self.dollar()?;
-        let (_, name) = self.name()?;
+        let name = self.name()?.value;
         self.colon()?;
         let of_type = self.type_ref(room)?;
         let default = self.default_value(room)?;
-        let directives = self.directives(true, room)?;
+        let directives = self.directives(Constness::Const, room)?;
         Ok(VariableDefinition {
             place,
             name,
@@ -94,7 +95,7 @@ impl Parser<'_> {
     {
         let name = self.name_if()?;
         let variables = self.variables(room)?;
-        let directives = self.directives(false, room)?;
+        let directives = self.directives(Constness::NotConst, room)?;
         let selection_set = self.set(room)?;
         Ok(Operation {
             place,
@@ -114,7 +115,7 @@ impl Parser<'_> {
         let name = self.fragment_name()?;
         self.on()?;
         let condition = self.condition()?;
-        let directives = self.directives(false, room)?;
+        let directives = self.directives(Constness::NotConst, room)?;
         let selection_set = self.set(room)?;
         Ok(Fragment {
             place,
@@ -145,7 +146,7 @@ impl Parser<'_> {
         ensures reads { Reads IsDefinition room (one ADefinition) room [] self.old self.new result }
         ensures shrinks { OnOk result (length self.new < length self.old) }
     {
-        if let Some((place, word)) = self.take_name() {
+        if let Some(Located { place, value: word }) = self.take_name() {
             let keyword = keyword_of(word);
             if keyword == Keyword::Fragment {
                 return Ok(Definition::Fragment(self.fragment(place, room)?));

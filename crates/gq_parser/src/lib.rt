@@ -4,7 +4,8 @@
 //! text's tokens, or the first fault of the text with its place; no text has two trees ([`one_tree`]). The tree holds
 //! all that the text says, with the place of each part, and opens no bracket while 128 are open, so that a recursion
 //! over it is that deep at most. Its views without memory are in `specs/Tree.antt`; those of types and values
-//! (`IsType`, `IsValue`) stand on their own, for other texts in which types and constant values are written so.
+//! (`IsType`, `IsValue`) stand on their own, for other texts in which types and constant values are written so; [`Constness`]
+//! is public for these.
 #![tactic(auto)]
 
 mod cursor;
@@ -26,3 +27,4 @@ pub use tree::{
     Argument, Directive, Document, Field, Fragment, Inline, Literal, Operation, OperationKind,
     Selection, SelectionSet, Spread, TypeCondition, TypeRef, Value, VariableDefinition,
 };
+pub use value::Constness;

@@ -11,19 +11,33 @@ use crate::cursor::Parser;
 use crate::fault::Fault;
 use crate::keyword::{Keyword, keyword_of};
 use crate::tree::{Field, Inline, Selection, SelectionSet, Spread, TypeCondition};
-use gq_lexer::{Place, Punct};
+use crate::value::Constness;
+use gq_lexer::{Located, Place, Punct};
+
+/// What a field is called.
+#[derive(Drop)]
+struct FieldName {
+    alias: Option<String>,
+    name: String,
+}
 
 impl Parser<'_> {
     /// What a field is called, whose first name was read.
-    fn field_name(&mut self, first: String) -> Result<(Option<String>, String), Fault>
+    fn field_name(&mut self, first: String) -> Result<FieldName, Fault>
         ensures reads { (room : _) (place : _) (k : keywords.Keyword) → Reads (AreNamesAfterFirst place k first) room (one AfterName) room [] self.old self.new result }
         ensures shrinks { OnOk result (length self.new ≤ length self.old) }
     {
         if !self.eat(Punct::Colon) {
-            return Ok((None, first));
+            return Ok(FieldName {
+                alias: None,
+                name: first,
+            });
         }
-        let (_, name) = self.name()?;
-        Ok((Some(first), name))
+        let name = self.name()?.value;
+        Ok(FieldName {
+            alias: Some(first),
+            name,
+        })
     }
 
     #[cycle(selection)]
@@ -31,8 +45,8 @@ impl Parser<'_> {
         ensures reads { Reads (λ s. IsSelection (selection_of s)) room (one FirstSelection) room (one MoreSelections) self.old self.new result }
         ensures shrinks { OnOk result (length self.new < length self.old) }
     {
-        if let Some((place, first)) = self.take_name() {
-            let first = String::from_str(self.alloc, first)?;
+        if let Some(Located { place, value }) = self.take_name() {
+            let first = String::from_str(self.alloc, value)?;
             return Ok(Selection::Field(self.field(place, first, room)?));
         }
         let Some(place) = self.take(Punct::Spread) else {
@@ -47,9 +61,9 @@ impl Parser<'_> {
         ensures reads { (k : keywords.Keyword) → Reads (IsFieldAfterName place k first) room a_field_then room [] self.old self.new result }
         ensures shrinks { OnOk result (length self.new ≤ length self.old) }
     {
-        let (alias, name) = self.field_name(first)?;
-        let arguments = self.arguments(false, room)?;
-        let directives = self.directives(false, room)?;
+        let FieldName { alias, name } = self.field_name(first)?;
+        let arguments = self.arguments(Constness::NotConst, room)?;
+        let directives = self.directives(Constness::NotConst, room)?;
         let selection_set = self.maybe_set(room)?;
         Ok(Field {
             place,
@@ -67,15 +81,15 @@ impl Parser<'_> {
         ensures reads { Reads (IsSelectionAfterDots place) room (one AfterDots) room [] self.old self.new result }
         ensures shrinks { OnOk result (length self.new ≤ length self.old) }
     {
-        let Some((_, name)) = self.take_name() else {
+        let Some(name) = self.take_name() else {
             return Ok(Selection::Inline(self.inline(place, None, room)?));
         };
-        if keyword_of(name) == Keyword::On {
+        if keyword_of(name.value) == Keyword::On {
             let condition = self.condition()?;
             return Ok(Selection::Inline(self.inline(place, Some(condition), room)?));
         }
-        let name = String::from_str(self.alloc, name)?;
-        let directives = self.directives(false, room)?;
+        let name = String::from_str(self.alloc, name.value)?;
+        let directives = self.directives(Constness::NotConst, room)?;
         Ok(Selection::Spread(Spread {
             place,
             name,
@@ -88,7 +102,7 @@ impl Parser<'_> {
         ensures reads { (room : _) → Reads (λ c. IsName c.place (string_bytes c.name)) room (one AName) room [] self.old self.new result }
         ensures shrinks { OnOk result (length self.new < length self.old) }
     {
-        let (place, name) = self.name()?;
+        let Located { place, value: name } = self.name()?;
         Ok(TypeCondition { place, name })
     }
 
@@ -103,7 +117,7 @@ impl Parser<'_> {
         ensures reads { Reads (IsInlineAfterCondition place condition) room an_inline_then room [] self.old self.new result }
         ensures shrinks { OnOk result (length self.new ≤ length self.old) }
     {
-        let directives = self.directives(false, room)?;
+        let directives = self.directives(Constness::NotConst, room)?;
         let selection_set = self.set(room)?;
         Ok(Inline {
             place,

@@ -13,8 +13,15 @@ use crate::fault::Fault;
 use crate::keyword::{Keyword, keyword_of};
 use crate::lexeme::Lexeme;
 use crate::tree::{Argument, Directive, Literal, TypeRef, Value};
-use gq_lexer::{Place, Punct};
+use gq_lexer::{Located, Place, Punct};
 use std::alloc::Global;
+
+/// Whether a value may have variables in it: where the grammar says `[Const]`, it has none (section 2.9).
+#[derive(Clone, Copy, Debug, PartialEq, Eq)]
+pub enum Constness {
+    Const,
+    NotConst,
+}
 
 /// What a name says where a value is wanted.
 fn named_value(alloc: Global, place: Place, name: &str) -> Result<Literal, Fault>
@@ -42,14 +49,13 @@ fn named_value(alloc: Global, place: Place, name: &str) -> Result<Literal, Fault
 }
 
 impl Parser<'_> {
-    /// A value; a constant one has no variables.
     #[cycle(value)]
-    pub(crate) fn value(&mut self, constant: bool, room: u32) -> Result<Literal, Fault>
-        ensures reads { Reads (λ v. IsValue constant (literal_of v)) room (one (AValue constant)) room [] self.old self.new result }
+    pub(crate) fn value(&mut self, constness: Constness, room: u32) -> Result<Literal, Fault>
+        ensures reads { Reads (λ v. IsValue constness (literal_of v)) room (one (AValue constness)) room [] self.old self.new result }
         ensures shrinks { OnOk result (length self.new < length self.old) }
     {
-        let (place, lexeme) = self.next()?;
-        match lexeme {
+        let Located { place, value } = self.next()?;
+        match value {
             Lexeme::Int(number) => {
                 let text = String::from_str(self.alloc, number)?;
                 Ok(Literal {
@@ -70,10 +76,10 @@ impl Parser<'_> {
             }),
             Lexeme::Name(name) => named_value(self.alloc, place, name),
             Lexeme::Punct(Punct::Dollar) => {
-                if constant {
+                if constness == Constness::Const {
                     return Err(Fault::Unexpected(Some(place)));
                 }
-                let (_, name) = self.name()?;
+                let name = self.name()?.value;
                 Ok(Literal {
                     place,
                     value: Value::Variable(name),
@@ -83,7 +89,7 @@ impl Parser<'_> {
                 if room == 0 {
                     return Err(Fault::TooDeep(place));
                 }
-                let items = self.values(constant, room - 1)?;
+                let items = self.values(constness, room - 1)?;
                 Ok(Literal {
                     place,
                     value: Value::List(items),
@@ -93,7 +99,7 @@ impl Parser<'_> {
                 if room == 0 {
                     return Err(Fault::TooDeep(place));
                 }
-                let members = self.members(constant, room - 1)?;
+                let members = self.members(constness, room - 1)?;
                 Ok(Literal {
                     place,
                     value: Value::Object(members),
@@ -105,45 +111,49 @@ impl Parser<'_> {
 
     /// The values up to the bracket that closes them.
     #[cycle(value)]
-    fn values(&mut self, constant: bool, room: u32) -> Result<Vec<Literal>, Fault>
-        ensures reads { Reads (λ vs. AreValues constant (map_literals vs.items)) room (one (MoreValues constant)) (suc room) [] self.old self.new result }
+    fn values(&mut self, constness: Constness, room: u32) -> Result<Vec<Literal>, Fault>
+        ensures reads { Reads (λ vs. AreValues constness (map_literals vs.items)) room (one (MoreValues constness)) (suc room) [] self.old self.new result }
         ensures shrinks { OnOk result (length self.new < length self.old) }
     {
         let mut values = Vec::new(self.alloc);
         while !self.eat(Punct::BracketRight) {
-            values.push(self.value(constant, room)?)?;
+            values.push(self.value(constness, room)?)?;
         }
         Ok(values)
     }
 
     /// The fields of an object up to the brace that closes them.
     #[cycle(value)]
-    fn members(&mut self, constant: bool, room: u32) -> Result<Vec<Argument>, Fault>
-        ensures reads { Reads (λ ms. AreMembers constant (map_members ms.items)) room (one (MoreMembers constant)) (suc room) [] self.old self.new result }
+    fn members(&mut self, constness: Constness, room: u32) -> Result<Vec<Argument>, Fault>
+        ensures reads { Reads (λ ms. AreMembers constness (map_members ms.items)) room (one (MoreMembers constness)) (suc room) [] self.old self.new result }
         ensures shrinks { OnOk result (length self.new < length self.old) }
     {
         let mut members = Vec::new(self.alloc);
         while !self.eat(Punct::BraceRight) {
-            members.push(self.argument(constant, room)?)?;
+            members.push(self.argument(constness, room)?)?;
         }
         Ok(members)
     }
 
     /// A name and its value.
     #[cycle(value)]
-    fn argument(&mut self, constant: bool, room: u32) -> Result<Argument, Fault>
-        ensures reads { Reads (λ a. IsArgument constant (argument_of a)) room (an_argument constant) room [] self.old self.new result }
+    fn argument(&mut self, constness: Constness, room: u32) -> Result<Argument, Fault>
+        ensures reads { Reads (λ a. IsArgument constness (argument_of a)) room (an_argument constness) room [] self.old self.new result }
         ensures shrinks { OnOk result (length self.new < length self.old) }
     {
-        let (place, name) = self.name()?;
+        let Located { place, value: name } = self.name()?;
         self.colon()?;
-        let value = self.value(constant, room)?;
+        let value = self.value(constness, room)?;
         Ok(Argument { place, name, value })
     }
 
     /// The arguments, where a parenthesis opens them.
-    pub(crate) fn arguments(&mut self, constant: bool, room: u32) -> Result<Vec<Argument>, Fault>
-        ensures reads { Reads (λ args. AreOptionalArguments constant (arguments_of args.items)) room (one (MaybeArguments constant)) room [] self.old self.new result }
+    pub(crate) fn arguments(
+        &mut self,
+        constness: Constness,
+        room: u32,
+    ) -> Result<Vec<Argument>, Fault>
+        ensures reads { Reads (λ args. AreOptionalArguments constness (arguments_of args.items)) room (one (MaybeArguments constness)) room [] self.old self.new result }
         ensures shrinks { OnOk result (length self.new ≤ length self.old) }
     {
         let mut arguments = Vec::new(self.alloc);
@@ -153,22 +163,26 @@ impl Parser<'_> {
         if room == 0 {
             return Err(Fault::TooDeep(place));
         }
-        arguments.push(self.argument(constant, room - 1)?)?;
+        arguments.push(self.argument(constness, room - 1)?)?;
         while !self.eat(Punct::ParenRight) {
-            arguments.push(self.argument(constant, room - 1)?)?;
+            arguments.push(self.argument(constness, room - 1)?)?;
         }
         Ok(arguments)
     }
 
     /// The directives, as many as come.
-    pub(crate) fn directives(&mut self, constant: bool, room: u32) -> Result<Vec<Directive>, Fault>
-        ensures reads { Reads (λ ds. AreDirectives constant (directives_of ds.items)) room (one (MaybeDirectives constant)) room [] self.old self.new result }
+    pub(crate) fn directives(
+        &mut self,
+        constness: Constness,
+        room: u32,
+    ) -> Result<Vec<Directive>, Fault>
+        ensures reads { Reads (λ ds. AreDirectives constness (directives_of ds.items)) room (one (MaybeDirectives constness)) room [] self.old self.new result }
         ensures shrinks { OnOk result (length self.new ≤ length self.old) }
     {
         let mut directives = Vec::new(self.alloc);
         while let Some(place) = self.take(Punct::At) {
-            let (_, name) = self.name()?;
-            let arguments = self.arguments(constant, room)?;
+            let name = self.name()?.value;
+            let arguments = self.arguments(constness, room)?;
             directives.push(Directive {
                 place,
                 name,
@@ -184,7 +198,7 @@ impl Parser<'_> {
         ensures reads { Reads (λ t. IsType (type_of t)) room (one AType) room [] self.old self.new result }
         ensures shrinks { OnOk result (length self.new < length self.old) }
     {
-        if let Some((place, name)) = self.take_name() {
+        if let Some(Located { place, value: name }) = self.take_name() {
             return self.named_type(place, name);
         }
         let Some(place) = self.take(Punct::BracketLeft) else {

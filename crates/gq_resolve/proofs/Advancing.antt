@@ -1,5 +1,5 @@
 -- How far an execution comes: what waits is what the plan still asks.
-use Rattle.std.proofs.Common.{◌≡◌, ℕ, ◌<◌, ◌≤◌, true, false, List, [], ◌∷◌, ◌++◌, Vec, Global, length, refl, sym, ap, subst, ◌∙◌, arith, append_assoc, append-nil, length-append, codes}
+use Rattle.std.proofs.Common.{◌≡◌, ℕ, ◌<◌, true, false, List, [], ◌∷◌, ◌++◌, Vec, Global, length, refl, sym, ap, subst, ◌∙◌, arith, append_assoc, append-nil, length-append, codes}
 use Rattle.std.specs.List.{flat_map}
 use Rattle.std.proofs.lemmas.Bool.{and_parts}
 use Rattle.std.proofs.lemmas.Grind.{flat_map-append}
@@ -31,9 +31,10 @@ use Rattle.gq_resolve.specs.Composing.{puts-more, within-rises, asks-narrow}
 use Rattle.gq_resolve.specs.Written.{is_plain, put_tokens, asks, put_asks, thinned, left_of, all_asks, AreWithin, IsWithin, IsWriting, Puts}
 use Rattle.gq_resolve.specs.declared.groups.Group.{Group}
 use Rattle.gq_resolve.specs.declared.groups.Member.{Member}
-use Rattle.gq_resolve.specs.declared.output.Blocked.{Blocked}
+use Rattle.gq_resolve.specs.declared.waiting.Blocked.{Blocked}
 use Rattle.gq_resolve.specs.declared.output.Output.{Output}
 use Rattle.gq_resolve.specs.declared.advance.Rooted.{Rooted}
+use Rattle.gq_resolve.specs.declared.advance.Walked.{Walked}
 use Rattle.gq_resolve.specs.declared.tour.Progress.{Progress}
 use Rattle.gq_resolve.proofs.Grouping.{covers-view, makes-more}
 use Rattle.gq_resolve.proofs.Touring.{Putting, Below, Laws, goes-then, goes-as}
@@ -52,7 +53,7 @@ rooted-more plan r gs grows is = record { root = makes-more plan r.groups.items 
 -- the walk over the root object, which has no row
 pub over-root : {S : Type 0} {goes : Putting S} {below : Below S} {most : ℕ} (plan : PlanOf) (m : MemoryOf) (r : Rooted) (row : RowOf) (ms : List Member) (a b : Progress S) → a.groups ≡ r.groups → row ≡ [] → ms ≡ r.members.items → IsRooted plan r
     → below (length r.groups.items) a.out → Goes goes below most plan (AreKnown (length a.groups.items) ms) (λ v. puts false (Under ObjectOf (members_seen plan.definitions v most_levels row ms)) (lookup m)) a b
-    → GoesOver goes plan m a.out (record { members = r.members; groups = b.groups }, b.out)
+    → GoesOver goes plan m a.out (record { rooted = record { members = r.members; groups = b.groups }; out = b.out })
 over-root {goes = goes} {below = below} plan m r row ms a b start none same rooted wait p =
     let v : View = view_of plan b.groups.items in
     let is : IsRooted plan (record { members = r.members; groups = a.groups }) = rw start rooted in
@@ -73,19 +74,19 @@ loads-asked v [] = refl
 loads-asked v (b ∷ bs) = ap (λ ls. load_of b ∷ ls) (loads-asked v bs)
 
 -- nothing waited, and what is put asks what the plan asks, over a larger memory too
-left-over : (plan : PlanOf) (m : MemoryOf) (r : Rooted) (ps : List Put) (a b : Output) → IsRooted plan r → a.blocked.keys ≡ [] → Puts (view_of plan r.groups.items) ps a b
+left-over : (plan : PlanOf) (m : MemoryOf) (r : Rooted) (ps : List Put) (a b : Output) → IsRooted plan r → a.blocked ≡ [] → Puts (view_of plan r.groups.items) ps a b
     → ((Q : Reader) → AnswersMore (lookup m) Q → thinned [] (puts_ask Q ps) ≡ thinned [] (asks (plan_program plan) Q)) → thinned [] (puts_ask unanswered ps) ≡ thinned [] (asks (plan_program plan) (lookup m))
-    → (IsWriting b → b.writer.tokens ≡ json_tokens (answered_json (completed (tree (plan_program plan) (lookup m))))) → Advanced plan m (r, b)
+    → (IsWriting b → b.writer.tokens ≡ json_tokens (answered_json (completed (tree (plan_program plan) (lookup m))))) → Advanced plan m (record { rooted = r; out = b })
 left-over plan m r ps a b rooted none put later now written =
     let v : View = view_of plan r.groups.items in
-    let asked : (Q : Reader) → thinned [] (all_asks v b.blocked.keys Q) ≡ thinned [] (puts_ask Q ps) = λ Q. put.asked Q ∙ ap (λ xs. thinned (thinned [] (all_asks v xs Q)) (puts_ask Q ps)) none in
+    let asked : (Q : Reader) → thinned [] (all_asks v b.blocked Q) ≡ thinned [] (puts_ask Q ps) = λ Q. put.asked Q ∙ ap (λ xs. thinned (thinned [] (all_asks v xs Q)) (puts_ask Q ps)) none in
     record {
       goes_on = record {
         rooted = rooted;
         within = put.within (subst (AreWithin v.count) (sym none) (λ k d lt. absurd (omega (arith, lt))));
         ask = λ Q more. asked Q ∙ later Q more;
       };
-      lacks = ap (thinned []) (sym (loads-asked v b.blocked.keys)) ∙ asked unanswered ∙ now;
+      lacks = ap (thinned []) (sym (loads-asked v b.blocked)) ∙ asked unanswered ∙ now;
       written = written;
     }
 
@@ -116,17 +117,17 @@ answer-tokens plan m v a b none put writing =
     ∙ ap (λ ts. begin_object ∷ key (codes "data") ∷ (ts ++ end_object ∷ [])) here.tokens)
 
 -- the whole answer was put, one thing after another
-pub answer-written : (plan : PlanOf) (m : MemoryOf) (old : Rooted) (r : Rooted × Output) (a b c d : Output) → a.blocked.keys ≡ [] → a.writer.tokens ≡ [] → ((v : View) → Puts v (Begins ObjectOf ∷ []) a b) → ((v : View) → Puts v (Enters ObjectOf data_position ∷ []) b c)
-    → (IsWithin (length old.groups.items) c → GoesOver Puts plan m c r) → ((v : View) → Puts v (Ends ObjectOf ∷ []) r.1 d) → Advanced plan m (r.0, d)
-answer-written plan m old r a b c d none empty begun entered over ended =
-    let v : View = view_of plan r.0.groups.items in
+pub answer-written : (plan : PlanOf) (m : MemoryOf) (old : Rooted) (w : Walked Output) (a b c d : Output) → a.blocked ≡ [] → a.writer.tokens ≡ [] → ((v : View) → Puts v (Begins ObjectOf ∷ []) a b) → ((v : View) → Puts v (Enters ObjectOf data_position ∷ []) b c)
+    → (IsWithin (length old.groups.items) c → GoesOver Puts plan m c w) → ((v : View) → Puts v (Ends ObjectOf ∷ []) w.out d) → Advanced plan m (record { rooted = w.rooted; out = d })
+answer-written plan m old w a b c d none empty begun entered over ended =
+    let v : View = view_of plan w.rooted.groups.items in
     let at : View = view_of plan old.groups.items in
-    let over' : GoesOver Puts plan m c r = over ((entered at).within ((begun at).within (subst (AreWithin at.count) (sym none) (λ k d lt. absurd (omega (arith, lt)))))) in
+    let over' : GoesOver Puts plan m c w = over ((entered at).within ((begun at).within (subst (AreWithin at.count) (sym none) (λ k d lt. absurd (omega (arith, lt)))))) in
     let inner : List Put = puts false (plan_program plan) (lookup m) in
     let put : Puts v (answer_puts plan m) a d =
     puts-more v (Begins ObjectOf ∷ []) (Enters ObjectOf data_position ∷ (inner ++ Ends ObjectOf ∷ [])) a b d (begun v)
-    (puts-more v (Enters ObjectOf data_position ∷ []) (inner ++ Ends ObjectOf ∷ []) b c d (entered v) (puts-more v inner (Ends ObjectOf ∷ []) c r.1 d over'.put (ended v))) in
-    left-over plan m r.0 (answer_puts plan m) a d over'.rooted none put (λ Q more. ap (thinned []) (answer-asks plan m Q ∙ asks-puts false (plan_program plan) (lookup m) Q more))
+    (puts-more v (Enters ObjectOf data_position ∷ []) (inner ++ Ends ObjectOf ∷ []) b c d (entered v) (puts-more v inner (Ends ObjectOf ∷ []) c w.out d over'.put (ended v))) in
+    left-over plan m w.rooted (answer_puts plan m) a d over'.rooted none put (λ Q more. ap (thinned []) (answer-asks plan m Q ∙ asks-puts false (plan_program plan) (lookup m) Q more))
     (ap (thinned []) (answer-asks plan m unanswered ∙ waits-puts false (plan_program plan) (lookup m))) (answer-tokens plan m v a d empty put)
 
 -- ---- positions that go on
@@ -173,8 +174,8 @@ resumed-one {m = m} {all = all} {after = after} {start = start} {now = now} b as
     }
 
 -- all of them went on, and nothing was written
-pub all-resumed : {most : ℕ} {plan : PlanOf} {m : MemoryOf} {all left : List Blocked} {start now : Progress Output} (r : Rooted) → r.groups ≡ start.groups → start.out.blocked.keys ≡ [] → start.out.is_plain ≡ false → left ≡ []
-    → AreResumed most plan m all left start now → MayGoOn plan m r all → Advanced plan m (record { members = r.members; groups = now.groups }, now.out)
+pub all-resumed : {most : ℕ} {plan : PlanOf} {m : MemoryOf} {all left : List Blocked} {start now : Progress Output} (r : Rooted) → r.groups ≡ start.groups → start.out.blocked ≡ [] → start.out.is_plain ≡ false → left ≡ []
+    → AreResumed most plan m all left start now → MayGoOn plan m r all → Advanced plan m (record { rooted = record { members = r.members; groups = now.groups }; out = now.out })
 all-resumed {plan = plan} {m = m} {all = all} {start = start} {now = now} r same none blind ended h may =
     let v : View = view_of plan now.groups.items in
     let old : View = view_of plan r.groups.items in

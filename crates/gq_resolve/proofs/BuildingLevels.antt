@@ -1,14 +1,14 @@
 -- What contracts see of what a builder has, as its lists grow.
-use Rattle.std.proofs.Common.{◌≡◌, ℕ, suc, ◌<◌, ◌≤◌, ◌-◌, ◌+◌, Bool, true, false, List, [], ◌∷◌, ◌++◌, map, take, drop, set, length, get_or, sym, ◌∙◌, ap, refl, arith}
+use Rattle.std.proofs.Common.{◌≡◌, ℕ, suc, ◌<◌, ◌≤◌, ◌-◌, ◌+◌, true, List, [], ◌∷◌, ◌++◌, map, take, drop, set, length, get_or, sym, ◌∙◌, ap, refl, arith}
 use Rattle.std.specs.Prelude.{reverse, String, string_bytes}
 use Rattle.std.specs.declared.alloc.Global.{Global}
-use Rattle.std.proofs.lemmas.List.{append-nil, map-append, reverse-append, reverse-reverse, set_split, drop_all, take_more, take_all, take_rest, drop_more}
+use Rattle.std.proofs.lemmas.List.{map-append, reverse-append, reverse-reverse, set_split, drop_all, take_more, take_all, take_rest, drop_more}
 use Rattle.answer_json.specs.declared.response.Response.{Response, fold-roll-Response}
 use Rattle.answer_json.specs.declared.response.Response.TheVariants as response
 use Rattle.answer_json.specs.declared.response.Response.TheOpen.{Null as Null-F}
 use Rattle.answer_json.specs.declared.response.PathPart.{PathPart}
 use Rattle.execution.specs.Program.{Null, At, ListOf, ObjectOf, Part, Key, Item, FieldPosition}
-use Rattle.execution.specs.Completion.{ResponseOf, NullResponse, ErrorOf, null_message, own_errors}
+use Rattle.execution.specs.Completion.{ResponseOf, NullResponse, null_message, own_errors}
 use Rattle.gq_resolve.specs.Answered.{part_of, items_from, members_of, response_step, response_of}
 use Rattle.gq_resolve.specs.Built.{LevelOf, BuiltOf, root_position, at_root, level_with, placed_in, placed, with_errors, with_error, path_in, count_of, step_in, put_part, member_seen, level_seen, levels_seen}
 use Rattle.gq_resolve.specs.Bounded.{without_parts, levels_without, without_last_parts}
@@ -93,14 +93,9 @@ path-ended xs ls root i path new last part same some at before ended e p =
 
 -- ---- own values
 
-errors-none : (b : BuiltOf) → with_errors [] b ≡ b
-errors-none b = ap (λ (es : List ErrorOf). record b { errors = es }) (append-nil b.errors)
-
-pub null-errors : (non_null : Bool) (message : List ℕ) (b after : BuiltOf) → non_null ≡ true → message ≡ null_message → after ≡ with_error message b → after ≡ with_errors (own_errors non_null b.position.place (path_in b.levels b.position.part) (At Null)) b
-null-errors non_null message b after s m e = rw s (e ∙ ap (λ m. with_error m b) m)
-
-pub no-errors : (non_null : Bool) (b : BuiltOf) → non_null ≡ false → b ≡ with_errors (own_errors non_null b.position.place (path_in b.levels b.position.part) (At Null)) b
-no-errors non_null b s = rw s (sym (errors-none b))
+-- a null at a non-null type has one error
+pub null-errors : (message : List ℕ) (b after : BuiltOf) → message ≡ null_message → after ≡ with_error message b → after ≡ with_errors (own_errors true b.position.place (path_in b.levels b.position.part) (At Null)) b
+null-errors message b after m e = e ∙ ap (λ m. with_error m b) m
 
 pub placed-null : (b after : BuiltOf) → after ≡ b → placed (response_of response.Null) after ≡ placed NullResponse b
 placed-null b after e = ap (placed (response_of response.Null)) e ∙ ap (λ r. placed r b) response-null

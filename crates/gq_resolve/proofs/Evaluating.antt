@@ -14,7 +14,7 @@ use Rattle.execution.proofs.Monotone.{front-open}
 use Rattle.execution.proofs.Wanting.{wanting-firsts}
 use Rattle.gq_resolve.specs.Evaluated.{reader, front_over, AddsPart}
 use Rattle.gq_resolve.specs.Suspended.{load_of, loads_of}
-use Rattle.gq_resolve.specs.declared.output.Blocked.{Blocked}
+use Rattle.gq_resolve.specs.declared.waiting.Blocked.{Blocked}
 
 -- ---- what is left of a program waits for what is missing
 

@@ -7,6 +7,7 @@ pub mod Grouping
 pub mod Stepping
 pub mod Touring
 pub mod Putting
+pub mod Noting
 pub mod Blocking
 pub mod Advancing
 pub mod Polling

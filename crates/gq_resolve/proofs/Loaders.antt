@@ -19,7 +19,7 @@ use Rattle.execution.specs.Residual.{rest, all_rest}
 use Rattle.gq_check.specs.Plans.{PlanOf}
 use Rattle.plan_program.specs.Groups.{FieldOf, GroupOf, nothing_collected, collect_subfields}
 use Rattle.plan_program.specs.Arguments.{ArgumentsOf, ValueOf, all_values, null_argument, arguments_of}
-use Rattle.plan_program.specs.FieldValues.{KeyFrom, fixed, of_column, of_pair, ChildrenOf, ValueFrom, known as settled, cell, first_row, all_rows, each_row, joined_rows, PreparedOf, key_from, with_loader, have_loaders, with_steps, with_key, each_asked, input_named, bound_asked, children_of, with_arguments, defined_asked, field_asked, first_asked, all_prepared, position_of}
+use Rattle.plan_program.specs.FieldValues.{KeyFrom, fixed, of_column, of_pair, ChildrenOf, ValueFrom, known as settled, cell, first_row, all_rows, each_row, joined_rows, PreparedOf, key_from, with_loader, have_loaders, with_steps, with_key, each_asked, input_named, bound_asked, children_of, with_arguments, defined_asked, first_asked, all_prepared, position_of}
 use Rattle.plan_program.specs.PlanPrograms.{TypeOf, object_type, type_fault, type_of_row, places, fields_of, Objects, typed_object, row_object, with_rows, PartOver, known_part, lacking, part_over, read_pair, read_key, read_cell, read_from, read_if, first_of, first_object, joined_object, asked_program, object_program, most_levels, root_prepared, plan_program}
 use Rattle.gq_resolve.specs.Built.{step_in, IsNumbered, AreNumbered}
 

@@ -1,13 +1,12 @@
 -- What a poll answers, and that it may go on over each larger memory.
 use Rattle.std.proofs.Common.{◌≡◌, ◌≢◌, ◌≤◌, false, List, [], ◌∷◌, length, refl, sym, ap, ◌∙◌, subst, Option, Some, None, IfSome}
-use Rattle.indexmap.specs.IndexSet.{IndexSet}
 use Rattle.load_memory.specs.Pairs.{MemoryOf}
 use Rattle.load_queue.specs.Wanted.{WantedOf}
 use Rattle.execution.specs.Loads.{Load}
 use Rattle.execution.specs.Program.{tree, needs}
 use Rattle.execution.specs.Completion.{AnsweredOf, is_open}
 use Rattle.execution.specs.Executed.{completed, exec}
-use Rattle.execution.specs.Front.{wanting, modes_wanted}
+use Rattle.execution.specs.Front.{wanting}
 use Rattle.execution.specs.Residual.{rest, unanswered}
 use Rattle.execution.proofs.Fitting.{held-rest}
 use Rattle.execution.proofs.Monotone.{exec-whole}
@@ -16,9 +15,9 @@ use Rattle.plan_program.specs.PlanPrograms.{plan_program}
 use Rattle.gq_resolve.specs.Evaluated.{reader, front_over, AddsPart, CanEvaluate, GrowsTo, lookup}
 use Rattle.gq_resolve.specs.Suspended.{FitsWaiting, FitsStopped, loads_of, Advanced, lacking}
 use Rattle.gq_resolve.specs.Written.{asks, thinned}
-use Rattle.gq_resolve.specs.declared.advance.Rooted.{Rooted}
 use Rattle.gq_resolve.specs.declared.advance.Stopped.{Stopped}
-use Rattle.gq_resolve.specs.declared.output.Blocked.{Blocked}
+use Rattle.gq_resolve.specs.declared.advance.Walked.{Walked}
+use Rattle.gq_resolve.specs.declared.waiting.Blocked.{Blocked}
 use Rattle.gq_resolve.specs.declared.output.Output.{Output}
 use Rattle.gq_resolve.proofs.Evaluating.{needs-rest, front-none, front-there, closed-tree, wants-front}
 use Rattle.gq_resolve.proofs.Loaders.{same-rest, plan-fits}
@@ -28,10 +27,10 @@ use Rattle.gq_resolve.proofs.Lookups.{lookup-same, lookup-more}
 -- ---- larger memories
 
 -- positions that are kept fit each larger memory, and so does a root
-pub still-fits : {S : Type 0} (plan : PlanOf) (m n : MemoryOf) (r : Rooted × Output) (bs : IndexSet Blocked S) (waiting : Option (IndexSet Blocked S)) → Advanced plan m r → bs.keys ≡ r.1.blocked.keys → IfSome waiting (λ ws. ws ≡ bs) → GrowsTo m n
-    → FitsWaiting plan n r.0 waiting
-still-fits plan m n r bs None a same h grown = a.goes_on.rooted
-still-fits plan m n r bs (Some ws) a same h grown = rw (h, same) (record {
+pub still-fits : (plan : PlanOf) (m n : MemoryOf) (w : Walked Output) (waiting : Option (List Blocked)) → Advanced plan m w → IfSome waiting (λ bs. bs ≡ w.out.blocked) → GrowsTo m n
+    → FitsWaiting plan n w.rooted waiting
+still-fits plan m n w None a h grown = a.goes_on.rooted
+still-fits plan m n w (Some bs) a h grown = rw h (record {
   rooted = a.goes_on.rooted;
   within = a.goes_on.within;
   ask = λ R more. a.goes_on.ask R (λ load outcome e. more load outcome (lookup-more m n grown load outcome e));
@@ -53,16 +52,16 @@ lookup-asks plan m le = sym (needs-rest (plan_program plan) (lookup m)) ∙ ap (
 lookup-tree : (plan : PlanOf) (m : MemoryOf) → length plan.bindings.loaders ≤ length m.modes → tree (plan_program plan) (lookup m) ≡ tree (plan_program plan) (reader m)
 lookup-tree plan m le = sym (held-rest (plan_program plan) (lookup m)) ∙ ap (λ q. tree q unanswered) (left-same plan m le) ∙ held-rest (plan_program plan) (reader m)
 
-module _ (plan : PlanOf) (m : MemoryOf) (old : List WantedOf) (r : Rooted × Output) (can : CanEvaluate plan m old) (a : Advanced plan m r) where
+module _ (plan : PlanOf) (m : MemoryOf) (old : List WantedOf) (w : Walked Output) (can : CanEvaluate plan m old) (a : Advanced plan m w) where
   -- the loads of what waits are those that are missing, each once
-  same-loads : thinned [] (loads_of r.1.blocked.keys) ≡ thinned [] (lacking plan m)
+  same-loads : thinned [] (loads_of w.out.blocked) ≡ thinned [] (lacking plan m)
   same-loads = a.lacks ∙ ap (thinned []) (lookup-asks plan m can.loaders)
 
   -- something waits, and the front was added
-  pub front-added : (new : List WantedOf) → (r.1.blocked.keys ≡ [] → ⊥) → new ≡ wanting old (loads_of r.1.blocked.keys) → (front_over m (plan_program plan) ≢ []) × (new ≡ wanting old (front_over m (plan_program plan)))
+  pub front-added : (new : List WantedOf) → (w.out.blocked ≡ [] → ⊥) → new ≡ wanting old (loads_of w.out.blocked) → (front_over m (plan_program plan) ≢ []) × (new ≡ wanting old (front_over m (plan_program plan)))
   front-added new some is = (
-    front-there m (plan_program plan) (λ none. some (no-loads r.1.blocked.keys (thinned-none (loads_of r.1.blocked.keys) (same-loads ∙ ap (thinned []) none)))),
-    is ∙ sym (wanting-thinned old (loads_of r.1.blocked.keys)) ∙ ap (wanting old) same-loads ∙ wanting-thinned old (lacking plan m) ∙ wants-front m (plan_program plan) old can.modes,
+    front-there m (plan_program plan) (λ none. some (no-loads w.out.blocked (thinned-none (loads_of w.out.blocked) (same-loads ∙ ap (thinned []) none)))),
+    is ∙ sym (wanting-thinned old (loads_of w.out.blocked)) ∙ ap (wanting old) same-loads ∙ wanting-thinned old (lacking plan m) ∙ wants-front m (plan_program plan) old can.modes,
   )
     where
       no-loads : (bs : List Blocked) → loads_of bs ≡ [] → bs ≡ []
@@ -70,17 +69,17 @@ module _ (plan : PlanOf) (m : MemoryOf) (old : List WantedOf) (r : Rooted × Out
       no-loads (b ∷ bs) e = absurd (cc e)
 
   -- the first of the loads of what waits are the first of what is missing
-  pub part-wanted : (new : List WantedOf) → AddsPart old new (loads_of r.1.blocked.keys) → AddsPart old new (lacking plan m)
-  part-wanted new h = part-thinned old new (lacking plan m) (subst (λ (ls : List Load). AddsPart old new ls) same-loads (thinned-part old new (loads_of r.1.blocked.keys) h))
+  pub part-wanted : (new : List WantedOf) → AddsPart old new (loads_of w.out.blocked) → AddsPart old new (lacking plan m)
+  part-wanted new h = part-thinned old new (lacking plan m) (subst (λ (ls : List Load). AddsPart old new ls) same-loads (thinned-part old new (loads_of w.out.blocked) h))
 
   -- nothing waits, and nothing is open
-  pub answer-shut : r.1.blocked.keys ≡ [] → is_open (tree (plan_program plan) (lookup m)) ≡ false
+  pub answer-shut : w.out.blocked ≡ [] → is_open (tree (plan_program plan) (lookup m)) ≡ false
   answer-shut none =
       let front : front_over m (plan_program plan) ≡ [] = front-none m (plan_program plan) (thinned-none (lacking plan m) (sym same-loads ∙ ap (λ bs. thinned [] (loads_of bs)) none)) in
       ap is_open (lookup-tree plan m can.loaders) ∙ closed-tree m (plan_program plan) front
 
   -- nothing waits, and this is the answer
-  pub answer-done : (answer : AnsweredOf) → r.1.blocked.keys ≡ [] → (is_open (tree (plan_program plan) (lookup m)) ≡ false → answer ≡ completed (tree (plan_program plan) (lookup m)))
+  pub answer-done : (answer : AnsweredOf) → w.out.blocked ≡ [] → (is_open (tree (plan_program plan) (lookup m)) ≡ false → answer ≡ completed (tree (plan_program plan) (lookup m)))
       → (front_over m (plan_program plan) ≡ []) × (exec (plan_program plan) (reader m) ≡ Some answer)
   answer-done answer none h =
       let front : front_over m (plan_program plan) ≡ [] = front-none m (plan_program plan) (thinned-none (lacking plan m) (sym same-loads ∙ ap (λ bs. thinned [] (loads_of bs)) none)) in

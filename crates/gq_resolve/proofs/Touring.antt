@@ -8,13 +8,13 @@ use Rattle.gq_schema.specs.BindingsTree.{StepOf}
 use Rattle.load_memory.specs.Rows.{RowOf}
 use Rattle.load_memory.specs.declared.key.CacheKey.{CacheKey}
 use Rattle.execution.specs.Loads.{Reader}
-use Rattle.execution.specs.Program.{Kind, ListOf, ObjectOf, Item, FieldPosition, Null, Program, Is, Under, Programs, End, With}
+use Rattle.execution.specs.Program.{Kind, ListOf, ObjectOf, Item, Null, Program, Is, Under, Programs, End, With}
 use Rattle.gq_check.specs.Plans.{PlanOf}
 use Rattle.plan_program.specs.FieldValues.{ChildrenOf}
 use Rattle.plan_program.specs.PlanPrograms.{object_type, type_of_row, places, list_of, first_of, typed_object, row_object, joined_object, joined_objects, object_program}
 use Rattle.gq_resolve.specs.Puts.{Put, Begins, Ends, Enters, OnwardOf, View, puts, all_puts}
-use Rattle.gq_resolve.specs.Positions.{position_seen, later_of}
-use Rattle.gq_resolve.specs.Groups.{children_at, then_at, then_rows, next_rows, steps_in, Covers, IsAsked, AreKnown, asks_seen, members_seen, AreRight, Grows, IsWhole, AreOnly, IsShaped}
+use Rattle.gq_resolve.specs.Positions.{is_non_null, position_seen, later_of}
+use Rattle.gq_resolve.specs.Groups.{children_at, then_at, then_rows, next_rows, steps_in, Covers, IsAsked, AreKnown, asks_seen, members_seen, Grows, IsWhole, AreOnly, IsShaped}
 use Rattle.gq_resolve.specs.Suspended.{view_of}
 use Rattle.gq_resolve.specs.Steps.{last_steps}
 use Rattle.gq_resolve.specs.Following.{FollowsTo, followed_puts}
@@ -151,9 +151,9 @@ fields_put defs levels row R ms v = Begins ObjectOf ∷ all_puts ObjectOf (membe
 
 -- one more
 pub fields-more : (defs : List Definition) (levels : ℕ) (row : RowOf) (R : Reader) (ms : List Member) (i : ℕ) (m : Member) (v : View) → i < length ms → m ≡ get_or ms i m
-    → fields_put defs levels row R (take i ms) v ++ Enters ObjectOf (position_seen m.position) ∷ puts m.position.non_null (asks_seen defs v levels row m.asks) R ≡ fields_put defs levels row R (take (i + 1) ms) v
+    → fields_put defs levels row R (take i ms) v ++ Enters ObjectOf (position_seen m.position) ∷ puts (is_non_null m.position.nullability) (asks_seen defs v levels row m.asks) R ≡ fields_put defs levels row R (take (i + 1) ms) v
 fields-more defs levels row R ms i m v lt is =
-    ap (λ us. fields_put defs levels row R (take i ms) v ++ Enters ObjectOf (position_seen m.position) ∷ us) (sym (append-nil (puts m.position.non_null (asks_seen defs v levels row m.asks) R)))
+    ap (λ us. fields_put defs levels row R (take i ms) v ++ Enters ObjectOf (position_seen m.position) ∷ us) (sym (append-nil (puts (is_non_null m.position.nullability) (asks_seen defs v levels row m.asks) R)))
     ∙ ap (λ us. Begins ObjectOf ∷ us) (sym (puts-chained ObjectOf (members_seen defs v levels row (take i ms)) (members_seen defs v levels row (m ∷ [])) R))
     ∙ ap (λ ps. Begins ObjectOf ∷ all_puts ObjectOf ps R) (sym (members-append defs v levels row (take i ms) (m ∷ [])))
     ∙ ap (λ xs. fields_put defs levels row R xs v) (sym (take_more ms i m lt ∙ ap (λ x. take i ms ++ x ∷ []) (sym is)))

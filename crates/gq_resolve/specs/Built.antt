@@ -10,6 +10,7 @@ use Rattle.execution.specs.Executed.{response}
 use Rattle.load_memory.specs.Outcomes.{OutcomeOf}
 use Rattle.gq_resolve.specs.Answered.{part_of, response_of, is_null_response, errors_of, items_from, members_of}
 use Rattle.gq_resolve.specs.Puts.{Put, Begins, Ends, Enters, Has, Waits, puts}
+use Rattle.gq_resolve.specs.Positions.{is_non_null}
 use Rattle.gq_resolve.specs.declared.level.Position.{Position}
 use Rattle.gq_resolve.specs.declared.level.Parts.{Parts}
 use Rattle.gq_resolve.specs.declared.level.Parts.TheVariants as parts
@@ -141,7 +142,7 @@ abbrev pub member_seen : (String Global × Response) → (String Global × Respo
 member_seen m = (m.0, response_of m.1)
 
 abbrev pub position_held : Position → FieldPosition
-position_held p = record { part = part_of p.step; non_null = p.non_null; place = p.place }
+position_held p = record { part = part_of p.step; non_null = is_non_null p.nullability; place = p.place }
 
 abbrev pub kind_held : Parts → Kind
 kind_held (parts.Items rs) = ListOf

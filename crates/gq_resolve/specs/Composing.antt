@@ -1,5 +1,5 @@
 -- What is put into an output, one part after another. These are proofs, which the laws of its sink need here.
-use Rattle.std.proofs.Common.{◌≡◌, ◌<◌, ◌≤◌, ℕ, Bool, true, ◌&&◌, List, [], ◌∷◌, ◌++◌, refl, sym, ap, ◌∙◌, subst, append_assoc, append-nil, length, take}
+use Rattle.std.proofs.Common.{◌≡◌, ◌<◌, ◌≤◌, ℕ, List, [], ◌∷◌, ◌++◌, refl, sym, ap, ◌∙◌, subst, append_assoc, append-nil, length, take}
 use Rattle.std.specs.List.{list_all, flat_map}
 use Rattle.std.proofs.lemmas.Grind.{flat_map-append}
 use Rattle.std.proofs.lemmas.List.Folds.{list_all-append}
@@ -15,7 +15,7 @@ use Rattle.plan_program.specs.PlanPrograms.{read_key}
 use Rattle.gq_resolve.specs.Puts.{Put, OnwardOf, View}
 use Rattle.gq_resolve.specs.Positions.{onward_of}
 use Rattle.gq_resolve.specs.Written.{is_plain, put_tokens, asks, put_asks, thinned, with_load, left_of, all_asks, AreWithin, IsWithin, count_waiting, Puts}
-use Rattle.gq_resolve.specs.declared.output.Blocked.{Blocked}
+use Rattle.gq_resolve.specs.declared.waiting.Blocked.{Blocked}
 use Rattle.gq_resolve.specs.declared.output.Output.{Output}
 
 pub thinned-append : (noted xs ys : List Load) → thinned noted (xs ++ ys) ≡ thinned (thinned noted xs) ys
@@ -24,7 +24,7 @@ thinned-append noted (x ∷ xs) ys = thinned-append (with_load noted x) xs ys
 
 pub puts-none : (v : View) (o : Output) → Puts v [] o o
 puts-none v o = record {
-  first = ([], sym (append-nil o.blocked.keys));
+  first = ([], sym (append-nil o.blocked));
   within = λ h. h;
   asked = λ R. refl;
   written = λ w. (w, refl, sym (append-nil o.writer.tokens));
@@ -32,11 +32,11 @@ puts-none v o = record {
 
 pub puts-more : (v : View) (ps qs : List Put) (a b c : Output) → Puts v ps a b → Puts v qs b c → Puts v (ps ++ qs) a c
 puts-more v ps qs a b c p q = record {
-  first = (p.first.0 ++ q.first.0, q.first.1 ∙ ap (λ bs. bs ++ q.first.0) p.first.1 ∙ append_assoc a.blocked.keys p.first.0 q.first.0);
+  first = (p.first.0 ++ q.first.0, q.first.1 ∙ ap (λ bs. bs ++ q.first.0) p.first.1 ∙ append_assoc a.blocked p.first.0 q.first.0);
   within = λ h. q.within (p.within h);
   asked = λ R. q.asked R ∙ ap (λ ls. thinned ls (flat_map (put_asks R) qs)) (p.asked R)
-      ∙ sym (thinned-append (thinned [] (all_asks v a.blocked.keys R)) (flat_map (put_asks R) ps) (flat_map (put_asks R) qs))
-      ∙ ap (thinned (thinned [] (all_asks v a.blocked.keys R))) (sym (flat_map-append (put_asks R) ps qs));
+      ∙ sym (thinned-append (thinned [] (all_asks v a.blocked R)) (flat_map (put_asks R) ps) (flat_map (put_asks R) qs))
+      ∙ ap (thinned (thinned [] (all_asks v a.blocked R))) (sym (flat_map-append (put_asks R) ps qs));
   written = λ w.
       let u = q.written w in
       let t = p.written u.0 in (
@@ -68,12 +68,12 @@ asks-narrow v w n (b ∷ bs) R same h =
 
 pub puts-narrow : (v w : View) (n : ℕ) (ps : List Put) (a b : Output) → n ≤ v.count → ((o : OnwardOf) → o.group < n → v.after o ≡ w.after o) → IsWithin n a → count_waiting a ≡ count_waiting b → Puts w ps a b → Puts v ps a b
 puts-narrow v w n ps a b le same within count p =
-    let keys : b.blocked.keys ≡ a.blocked.keys = same-keys a.blocked.keys b.blocked.keys p.first.0 p.first.1 count in
+    let keys : b.blocked ≡ a.blocked = same-keys a.blocked b.blocked p.first.0 p.first.1 count in
     record {
       first = p.first;
       within = λ h. subst (AreWithin v.count) (sym keys) h;
       asked = λ R.
-          let alike : all_asks v a.blocked.keys R ≡ all_asks w a.blocked.keys R = asks-narrow v w n a.blocked.keys R same within in
+          let alike : all_asks v a.blocked R ≡ all_asks w a.blocked R = asks-narrow v w n a.blocked R same within in
           ap (λ bs. thinned [] (all_asks v bs R)) keys ∙ ap (thinned []) alike ∙ ap (λ bs. thinned [] (all_asks w bs R)) (sym keys)
           ∙ p.asked R ∙ ap (λ ls. thinned (thinned [] ls) (flat_map (put_asks R) ps)) (sym alike);
       written = p.written;

@@ -20,7 +20,7 @@ use Rattle.plan_program.specs.PlanPrograms.{cell_value, places, fields_of, read_
 use Rattle.plan_program.specs.declared.prepared.Children.{Children}
 use Rattle.gq_resolve.specs.Steps.{last_steps}
 use Rattle.gq_resolve.specs.Puts.{OnwardOf, View}
-use Rattle.gq_resolve.specs.Positions.{position_seen}
+use Rattle.gq_resolve.specs.Positions.{is_non_null, position_seen}
 use Rattle.gq_resolve.specs.declared.groups.Asks.{Asks}
 use Rattle.gq_resolve.specs.declared.groups.Asks.TheVariants as asks
 use Rattle.gq_resolve.specs.declared.groups.Member.{Member}
@@ -76,7 +76,7 @@ asks_seen defs v levels row (asks.Known leaf_value) = Is (leaf_value_seen leaf_v
 asks_seen defs v levels row (asks.Cell column ty) = Is (cell_value defs column.now (type_of ty.now) (cell_of row column.now))
 asks_seen defs v levels row (asks.Load loader key group) = read_from loader (key_from_seen key) row (v.after (record { group = group; later = None; levels = levels }))
 asks_seen defs v levels row (asks.Each loader keys items group) =
-    Under ListOf (places items.non_null items.place 0 (map (read_if loader (v.after (record { group = group; later = None; levels = levels }))) (keys_seen keys.items)))
+    Under ListOf (places (is_non_null items.nullability) items.place 0 (map (read_if loader (v.after (record { group = group; later = None; levels = levels }))) (keys_seen keys.items)))
 
 abbrev pub members_seen : List Definition → View → ℕ → RowOf → List Member → Programs
 members_seen defs v levels row [] = End

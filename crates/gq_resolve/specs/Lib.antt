@@ -9,6 +9,7 @@ pub mod Positions
 pub mod Following
 pub mod Groups
 pub mod Walks
+pub mod Noted
 pub mod Written
 pub mod Composing
 pub mod Suspended

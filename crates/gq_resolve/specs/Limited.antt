@@ -14,7 +14,7 @@ use Rattle.gq_check.specs.Plans.{PlanOf}
 use Rattle.plan_program.specs.PlanPrograms.{plan_program}
 use Rattle.gq_resolve.specs.Answered.{answer_text}
 use Rattle.gq_resolve.specs.Suspended.{IsResponse, Advanced}
-use Rattle.gq_resolve.specs.declared.advance.Rooted.{Rooted}
+use Rattle.gq_resolve.specs.declared.advance.Walked.{Walked}
 use Rattle.gq_resolve.specs.declared.answered.Answered.{Answered}
 use Rattle.gq_resolve.specs.declared.output.Output.{Output}
 use Rattle.gq_resolve.specs.Evaluated.{reader, front_over, lookup}
@@ -43,8 +43,8 @@ RespondsWithin most plan m (Some a) = IsResponse plan m a
 RespondsWithin most plan m None = is_open (tree (plan_program plan) (lookup m)) ≡ false → most < length (answer_text (completed (tree (plan_program plan) (lookup m))))
 
 -- the execution has come to its end
-abbrev pub IsDone : PlanOf → MemoryOf → Rooted → Output → Type 0
-IsDone plan m rooted out = Advanced plan m (rooted, out) × (out.blocked.keys ≡ [])
+abbrev pub IsDone : PlanOf → MemoryOf → Walked Output → Type 0
+IsDone plan m w = Advanced plan m w × (w.out.blocked ≡ [])
 
 -- the limited text of a plan's answer, of which nothing is missing
 abbrev pub IsLimitedAnswer : ℕ → PlanOf → MemoryOf → String Global → Type 0

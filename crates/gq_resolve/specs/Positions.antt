@@ -1,9 +1,11 @@
 -- What contracts see of a position.
-use Rattle.std.specs.Prelude.{ℕ, Some}
+use Rattle.std.specs.Prelude.{ℕ, Bool, false, true, Some}
 use Rattle.execution.specs.Program as program
 use Rattle.gq_resolve.specs.Puts.{OnwardOf}
 use Rattle.gq_resolve.specs.declared.positions.Kind as rust-kind
 use Rattle.gq_resolve.specs.declared.positions.Kind.TheVariants as kind
+use Rattle.gq_resolve.specs.declared.positions.Nullability as rust-nullability
+use Rattle.gq_resolve.specs.declared.positions.Nullability.TheVariants as nullability
 use Rattle.gq_resolve.specs.declared.positions.FieldPosition as rust-position
 use Rattle.gq_resolve.specs.declared.positions.Items as rust-items
 use Rattle.gq_resolve.specs.declared.positions.Onward as rust-onward
@@ -12,8 +14,13 @@ abbrev pub kind_of : rust-kind.Kind → program.Kind
 kind_of kind.List = program.ListOf
 kind_of kind.Object = program.ObjectOf
 
+-- a null is an error there
+abbrev pub is_non_null : rust-nullability.Nullability → Bool
+is_non_null nullability.Nullable = false
+is_non_null nullability.NonNull = true
+
 abbrev pub position_seen : rust-position.FieldPosition → program.FieldPosition
-position_seen s = record { part = program.Key s.key.now; non_null = s.non_null; place = s.place }
+position_seen s = record { part = program.Key s.key.now; non_null = is_non_null s.nullability; place = s.place }
 
 abbrev pub onward_of : rust-onward.Onward → OnwardOf
 onward_of o = record { group = o.group; later = o.later; levels = o.levels }
@@ -24,4 +31,4 @@ later_of left o = record { group = o.group; later = Some left; levels = o.levels
 
 -- the item of a number, from 0
 abbrev pub item_position : rust-items.Items → ℕ → program.FieldPosition
-item_position items n = record { part = program.Item n; non_null = items.non_null; place = items.place }
+item_position items n = record { part = program.Item n; non_null = is_non_null items.nullability; place = items.place }

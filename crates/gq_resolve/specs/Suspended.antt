@@ -1,6 +1,5 @@
 -- *Suspended resolvers*: an execution that has stopped, and when it may go on.
 use Rattle.std.specs.Prelude.{◌≡◌, ◌≢◌, ℕ, false, List, [], map, length, Option, Some, None}
-use Rattle.indexmap.specs.IndexSet.{IndexSet}
 use Rattle.json.specs.Tree.{json_tokens}
 use Rattle.load_memory.specs.Keys.{key_of}
 use Rattle.load_memory.specs.Pairs.{MemoryOf}
@@ -18,10 +17,11 @@ use Rattle.gq_resolve.specs.Groups.{after_at, Makes, AreRight}
 use Rattle.gq_resolve.specs.Puts.{Put, View, puts}
 use Rattle.gq_resolve.specs.Written.{asks, thinned, all_asks, AreWithin, IsWriting}
 use Rattle.gq_resolve.specs.declared.groups.Group.{Group}
-use Rattle.gq_resolve.specs.declared.output.Blocked.{Blocked}
+use Rattle.gq_resolve.specs.declared.waiting.Blocked.{Blocked}
 use Rattle.gq_resolve.specs.declared.output.Output.{Output}
 use Rattle.gq_resolve.specs.declared.advance.Rooted.{Rooted}
 use Rattle.gq_resolve.specs.declared.advance.Stopped.{Stopped}
+use Rattle.gq_resolve.specs.declared.advance.Walked.{Walked}
 use Rattle.gq_resolve.specs.declared.answered.Answered.{Answered}
 use Rattle.gq_resolve.specs.declared.root_state.RootState.{RootState}
 use Rattle.gq_resolve.specs.declared.tour.Tour.{Tour}
@@ -42,9 +42,9 @@ pub record MayGoOn (plan : PlanOf) (m : MemoryOf) (r : Rooted) (bs : List Blocke
   pub ask : (R : Reader) → AnswersMore (lookup m) R → thinned [] (all_asks (view_of plan r.groups.items) bs R) ≡ thinned [] (asks (plan_program plan) R)
 
 -- an execution that begins at its root again fits every memory
-abbrev pub FitsWaiting : {S : Type 0} → PlanOf → MemoryOf → Rooted → Option (IndexSet Blocked S) → Type 0
+abbrev pub FitsWaiting : PlanOf → MemoryOf → Rooted → Option (List Blocked) → Type 0
 FitsWaiting plan m r None = IsRooted plan r
-FitsWaiting plan m r (Some bs) = MayGoOn plan m r bs.keys
+FitsWaiting plan m r (Some bs) = MayGoOn plan m r bs
 
 abbrev pub FitsStopped : PlanOf → MemoryOf → Option Stopped → Type 0
 FitsStopped plan m None = Unit {0}
@@ -77,20 +77,20 @@ abbrev pub WaitsBelow : {S : Type 0} → (ℕ → S → Type 0) → Rooted → S
 WaitsBelow below r s = below (length r.groups.items) s
 
 -- the whole plan was put, by what the groups do
-pub record GoesOver {S : Type 0} (goes : View → List Put → S → S → Type 0) (plan : PlanOf) (m : MemoryOf) (old : S) (r : Rooted × S) : Type 0 where
-  pub rooted : IsRooted plan r.0
-  pub put : goes (view_of plan r.0.groups.items) (puts false (plan_program plan) (lookup m)) old r.1
+pub record GoesOver {S : Type 0} (goes : View → List Put → S → S → Type 0) (plan : PlanOf) (m : MemoryOf) (old : S) (w : Walked S) : Type 0 where
+  pub rooted : IsRooted plan w.rooted
+  pub put : goes (view_of plan w.rooted.groups.items) (puts false (plan_program plan) (lookup m)) old w.out
 
 -- What waits is what the plan still asks: now the loads that it lacks, and later what it then lacks. Where nothing waits and
 -- no error was met, the answer was written.
-pub record Advanced (plan : PlanOf) (m : MemoryOf) (r : Rooted × Output) : Type 0 where
-  pub goes_on : MayGoOn plan m r.0 r.1.blocked.keys
-  pub lacks : thinned [] (loads_of r.1.blocked.keys) ≡ thinned [] (asks (plan_program plan) (lookup m))
-  pub written : IsWriting r.1 → r.1.writer.tokens ≡ json_tokens (answered_json (completed (tree (plan_program plan) (lookup m))))
+pub record Advanced (plan : PlanOf) (m : MemoryOf) (w : Walked Output) : Type 0 where
+  pub goes_on : MayGoOn plan m w.rooted w.out.blocked
+  pub lacks : thinned [] (loads_of w.out.blocked) ≡ thinned [] (asks (plan_program plan) (lookup m))
+  pub written : IsWriting w.out → w.out.writer.tokens ≡ json_tokens (answered_json (completed (tree (plan_program plan) (lookup m))))
 
 -- It came to the end, and the wants are as they were. Else something is missing, and the wants got it.
-abbrev pub IsAdvanced : List WantedOf → List WantedOf → PlanOf → MemoryOf → Option (Rooted × Output) → Type 0
-IsAdvanced old new plan m (Some r) = Advanced plan m r × (r.1.blocked.keys ≡ []) × (new ≡ old)
+abbrev pub IsAdvanced : List WantedOf → List WantedOf → PlanOf → MemoryOf → Option (Walked Output) → Type 0
+IsAdvanced old new plan m (Some w) = Advanced plan m w × (w.out.blocked ≡ []) × (new ≡ old)
 IsAdvanced old new plan m None = (front_over m (plan_program plan) ≢ []) × (new ≡ wanting old (front_over m (plan_program plan)))
 
 -- the loads that the plan needs and the memory lacks

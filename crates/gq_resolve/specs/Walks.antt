@@ -7,7 +7,7 @@ use Rattle.gq_check.specs.Plans.{PlanOf, plan_of}
 use Rattle.plan_program.specs.PlanPrograms.{places, list_of, read_if, object_program}
 use Rattle.gq_resolve.specs.Groups.{children_at, Covers, AreRight, Grows, IsAsked, AreKnown, asks_seen, members_seen}
 use Rattle.gq_resolve.specs.Puts.{Put, OnwardOf, View, puts}
-use Rattle.gq_resolve.specs.Positions.{onward_of, later_of}
+use Rattle.gq_resolve.specs.Positions.{is_non_null, onward_of, later_of}
 use Rattle.gq_resolve.specs.Evaluated.{lookup}
 use Rattle.gq_resolve.specs.declared.groups.Asks.{Asks}
 use Rattle.gq_resolve.specs.declared.groups.Group.{Group}
@@ -41,7 +41,7 @@ WalksAsks goes below tour non_null levels row asks old new =
 
 -- it puts a program at a position that loads
 abbrev pub WalksAt : {S : Type 0} (goes : View → List Put → S → S → Type 0) (below : ℕ → S → Type 0) → Tour → Loading → (View → Program) → Progress S → Progress S → Type 0
-WalksAt goes below tour to program old new = Walks goes below tour (to.onward.group < length old.groups.items) to.non_null program old new
+WalksAt goes below tour to program old new = Walks goes below tour (to.onward.group < length old.groups.items) (is_non_null to.nullability) program old new
 
 -- it puts a list, whose items go on so
 abbrev pub WalksList : {S : Type 0} (goes : View → List Put → S → S → Type 0) (below : ℕ → S → Type 0) → Tour → Onward → (View → Program) → Progress S → Progress S → Type 0
@@ -71,4 +71,4 @@ items_after v gs onward left rows = list_of (children_at gs onward.group) (map (
 
 -- a list with an item for each key, which goes on so with its rows
 abbrev pub items_read : View → Items → OnwardOf → ℕ → List (Option KeyOf) → Program
-items_read v items onward loader keys = Under ListOf (places items.non_null items.place 0 (map (read_if loader (v.after onward)) keys))
+items_read v items onward loader keys = Under ListOf (places (is_non_null items.nullability) items.place 0 (map (read_if loader (v.after onward)) keys))

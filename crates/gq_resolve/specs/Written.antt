@@ -10,7 +10,7 @@ use Rattle.execution.specs.Front.{missing}
 use Rattle.gq_resolve.specs.Answered.{leaf_json}
 use Rattle.gq_resolve.specs.Puts.{Put, Begins, Ends, Enters, Has, Waits, View, waiting}
 use Rattle.gq_resolve.specs.Positions.{onward_of}
-use Rattle.gq_resolve.specs.declared.output.Blocked.{Blocked}
+use Rattle.gq_resolve.specs.declared.waiting.Blocked.{Blocked}
 use Rattle.gq_resolve.specs.declared.output.Output.{Output}
 
 -- ---- text
@@ -93,29 +93,29 @@ AreWithin count bs = All (λ (b : Blocked). b.onward.group < count) bs
 
 -- an output whose positions that wait are of the first so many groups
 abbrev pub IsWithin : ℕ → Output → Type 0
-IsWithin count o = AreWithin count o.blocked.keys
+IsWithin count o = AreWithin count o.blocked
 
 abbrev pub count_waiting : Output → ℕ
-count_waiting o = length o.blocked.keys
+count_waiting o = length o.blocked
 
 -- ---- what is put
 
 -- an output is written while nothing waits and no error was met
 pub record IsWriting (o : Output) : Type 0 where
   pub plain : o.is_plain ≡ true
-  pub whole : o.blocked.keys ≡ []
+  pub whole : o.blocked ≡ []
 
 -- Over each memory the positions that wait ask what they asked, and what is put, each load once. Where the output is still
 -- written, all was plain, and its tokens were written.
 pub record Puts (v : View) (ps : List Put) (old new : Output) : Type 0 where
-  pub first : (rest : List Blocked) × (new.blocked.keys ≡ old.blocked.keys ++ rest)
-  pub within : AreWithin v.count old.blocked.keys → AreWithin v.count new.blocked.keys
-  pub asked : (R : Reader) → thinned [] (all_asks v new.blocked.keys R) ≡ thinned (thinned [] (all_asks v old.blocked.keys R)) (flat_map (put_asks R) ps)
+  pub first : (rest : List Blocked) × (new.blocked ≡ old.blocked ++ rest)
+  pub within : AreWithin v.count old.blocked → AreWithin v.count new.blocked
+  pub asked : (R : Reader) → thinned [] (all_asks v new.blocked R) ≡ thinned (thinned [] (all_asks v old.blocked R)) (flat_map (put_asks R) ps)
   pub written : IsWriting new → IsWriting old × (list_all is_plain ps ≡ true) × (new.writer.tokens ≡ old.writer.tokens ++ flat_map put_tokens ps)
 
 -- These tokens and nothing else are put, which are plain or not.
 pub record Adds (plain : Bool) (ts : List Token) (old new : Output) : Type 0 where
-  pub blocked : new.blocked.keys ≡ old.blocked.keys
+  pub blocked : new.blocked ≡ old.blocked
   pub written : IsWriting new → IsWriting old × (plain ≡ true) × (new.writer.tokens ≡ old.writer.tokens ++ ts)
 
 abbrev pub AddsLeafValue : Bool → LeafValue → Output → Output → Type 0

@@ -11,13 +11,13 @@ use crate::answered::Answered;
 use crate::bounded::BoundedBuilder;
 use crate::builder::Builder;
 use crate::groups::{Group, Member, members_of};
-use crate::output::{Blocked, Output};
-use crate::positions::{FieldPosition, Kind};
+use crate::output::Output;
+use crate::positions::{FieldPosition, Kind, Nullability};
 use crate::sink::Sink;
 use crate::tour::{Loading, Progress, Tour};
+use crate::waiting::Waiting;
 use crate::wanting::wanted;
 use gq_lexer::Place;
-use indexmap::IndexSet;
 use load_memory::{CacheKey, NoMemory, Row};
 use load_queue::Wants;
 use plan_program::{collect, prepare_groups};
@@ -32,12 +32,19 @@ pub struct Rooted<'p> {
     pub groups: Vec<Group<'p>>,
 }
 
+/// A walk over a plan that came to its end: the root, whose groups may be more than before, and what it was put into.
+#[derive(Drop)]
+pub struct Walked<'p, S> {
+    pub rooted: Rooted<'p>,
+    pub out: S,
+}
+
 /// Where an execution stopped: what was prepared, and the positions that wait. It begins at its root again where none are
 /// kept.
 #[derive(Drop)]
 pub struct Stopped<'p> {
     pub rooted: Rooted<'p>,
-    pub waiting: Option<IndexSet<Blocked>>,
+    pub waiting: Option<Waiting>,
 }
 
 // The root object (section 6.2.1).
@@ -58,7 +65,7 @@ fn gone_over<'p, S: Sink + Drop>(
     tour: &Tour<'_, 'p, '_>,
     rooted: Rooted<'p>,
     out: S,
-) -> Result<(Rooted<'p>, S), NoMemory>
+) -> Result<Walked<'p, S>, NoMemory>
     ensures { IsRooted (plan_on tour.now) rooted.entry → WaitsBelow S.below rooted.entry out
         → IfOk result (GoesOver S.goes (plan_on tour.now) tour.now.memory.now out) }
 {
@@ -71,7 +78,10 @@ fn gone_over<'p, S: Sink + Drop>(
     let row = Row::new(tour.alloc, &[])?;
     tour.object(&mut at, MOST_LEVELS, &members, &row)?;
     let groups = at.groups;
-    Ok((Rooted { members, groups }, at.out))
+    Ok(Walked {
+        rooted: Rooted { members, groups },
+        out: at.out,
+    })
 }
 
 // Goes over the whole plan, and writes as long as nothing is missing and the text isn't too long.
@@ -79,27 +89,27 @@ fn written<'p>(
     tour: &Tour<'_, 'p, '_>,
     most: usize,
     rooted: Rooted<'p>,
-) -> Result<(Rooted<'p>, Output), NoMemory>
+) -> Result<Walked<'p, Output>, NoMemory>
     ensures { IsRooted (plan_on tour.now) rooted.entry → IfOk result (Advanced (plan_on tour.now) tour.now.memory.now) }
 {
     let mut out = Output::new(tour.alloc, most)?;
     out.begin(Kind::Object)?;
     out.field(FieldPosition {
         key: "data",
-        non_null: false,
+        nullability: Nullability::Nullable,
         place: Place { line: 1, column: 1 },
     })?;
-    let (rooted, mut out) = gone_over(tour, rooted, out)?;
-    out.end(Kind::Object)?;
-    Ok((rooted, out))
+    let mut walked = gone_over(tour, rooted, out)?;
+    walked.out.end(Kind::Object)?;
+    Ok(walked)
 }
 
 /// The response of a plan over a memory that has all that it needs.
 pub fn responded<'p>(tour: &Tour<'_, 'p, '_>, rooted: Rooted<'p>) -> Result<Answered, NoMemory>
     ensures { IsRooted (plan_on tour.now) rooted.entry → IfOk result (IsResponse (plan_on tour.now) tour.now.memory.now) }
 {
-    let (_, out) = gone_over(tour, rooted, Builder::new(tour.alloc))?;
-    Ok(out.finish())
+    let walked = gone_over(tour, rooted, Builder::new(tour.alloc))?;
+    Ok(walked.out.finish())
 }
 
 /// The same where its text may have so many bytes. None where it is certain that it is longer.
@@ -111,17 +121,17 @@ pub fn responded_within<'p>(
     ensures { IsRooted (plan_on tour.now) rooted.entry → IfOk result (RespondsWithin most (plan_on tour.now) tour.now.memory.now) }
 {
     let builder = BoundedBuilder::new(tour.alloc, most);
-    let (_, builder) = gone_over(tour, rooted, builder)?;
-    Ok(builder.finish())
+    let walked = gone_over(tour, rooted, builder)?;
+    Ok(walked.out.finish())
 }
 
 // Goes on at the positions that wait, and looks for loads alone.
 fn searched<'p>(
     tour: &Tour<'_, 'p, '_>,
     rooted: Rooted<'p>,
-    waiting: IndexSet<Blocked>,
-) -> Result<(Rooted<'p>, Output), NoMemory>
-    ensures { MayGoOn (plan_on tour.now) tour.now.memory.now rooted.entry waiting.keys → IfOk result (Advanced (plan_on tour.now) tour.now.memory.now) }
+    waiting: Waiting,
+) -> Result<Walked<'p, Output>, NoMemory>
+    ensures { MayGoOn (plan_on tour.now) tour.now.memory.now rooted.entry waiting → IfOk result (Advanced (plan_on tour.now) tour.now.memory.now) }
 {
     let Rooted { members, groups } = rooted;
     let mut at = Progress {
@@ -132,12 +142,15 @@ fn searched<'p>(
     for position in waiting {
         let to = Loading {
             onward: position.onward,
-            non_null: false,
+            nullability: Nullability::Nullable,
         };
         tour.read(&mut at, to, position.loader, position.key.borrowed())?;
     }
     let groups = at.groups;
-    Ok((Rooted { members, groups }, at.out))
+    Ok(Walked {
+        rooted: Rooted { members, groups },
+        out: at.out,
+    })
 }
 
 // Goes on from where an execution stopped, or begins it.
@@ -145,7 +158,7 @@ fn advanced<'p>(
     tour: &Tour<'_, 'p, '_>,
     most: usize,
     stopped: Option<Stopped<'p>>,
-) -> Result<(Rooted<'p>, Output), NoMemory>
+) -> Result<Walked<'p, Output>, NoMemory>
     ensures { FitsTour tour.now stopped.entry → IfOk result (Advanced (plan_on tour.now) tour.now.memory.now) }
 {
     let Some(Stopped { rooted, waiting }) = stopped else {
@@ -154,11 +167,11 @@ fn advanced<'p>(
     let Some(waiting) = waiting else {
         return written(tour, most, rooted);
     };
-    let (rooted, out) = searched(tour, rooted, waiting)?;
-    if out.blocked.is_empty() {
-        return written(tour, most, rooted);
+    let walked = searched(tour, rooted, waiting)?;
+    if walked.out.blocked.is_empty() {
+        return written(tour, most, walked.rooted);
     }
-    Ok((rooted, out))
+    Ok(walked)
 }
 
 /// Goes on with each load that the memory has. Where nothing is missing, it comes to the end, and has written an answer without
@@ -168,16 +181,17 @@ pub fn advance<'p>(
     most: usize,
     stopped: &mut Option<Stopped<'p>>,
     wants: &mut Wants,
-) -> Result<Option<(Rooted<'p>, Output)>, NoMemory>
+) -> Result<Option<Walked<'p, Output>>, NoMemory>
     requires { CanEvaluate (plan_on tour.now) tour.now.memory.now wants.old }
     ensures ok { FitsTour tour.now stopped.old → IfOk result (IsAdvanced wants.old wants.new (plan_on tour.now) tour.now.memory.now) }
     ensures err { FitsTour tour.now stopped.old → OnErr result (AddsPart wants.old wants.new (lacking (plan_on tour.now) tour.now.memory.now)) }
     ensures grown { (m : MemoryOf) → FitsTour tour.now stopped.old → GrowsTo tour.now.memory.now m → FitsStopped (plan_on tour.now) m stopped.new }
 {
-    let (rooted, out) = advanced(tour, most, stopped.take())?;
-    if out.blocked.is_empty() {
-        return Ok(Some((rooted, out)));
+    let walked = advanced(tour, most, stopped.take())?;
+    if walked.out.blocked.is_empty() {
+        return Ok(Some(walked));
     }
+    let Walked { rooted, out } = walked;
     let waiting = wanted(
         &rooted.groups,
         out.blocked,

@@ -1,16 +1,18 @@
 //! The response that a walk builds where its text may be too long.
 
-ghost use Rattle.std.specs.Prelude.{◌≡◌, ◌≤◌, OnOk, reverse};
+ghost use Rattle.std.specs.Prelude.{◌≡◌, ◌≤◌, ◌∷◌, [], OnOk, reverse};
 ghost use Rattle.execution.specs.Executed.{response};
 ghost use Rattle.execution.specs.Program.{At};
 ghost use Rattle.plan_program.specs.Prepared.{leaf_value_seen};
-ghost use Rattle.gq_resolve.specs.Built.{BuiltOf, given_leaf_value, nothing_built};
-ghost use Rattle.gq_resolve.specs.Bounded.{size_of, bytes_in, Bounds, CountsPut, CountsErrors, AreErrorBytes, FinishesWhole, FinishesOver};
+ghost use Rattle.gq_resolve.specs.Puts.{Has};
+ghost use Rattle.gq_resolve.specs.Positions.{is_non_null};
+ghost use Rattle.gq_resolve.specs.Built.{nothing_built};
+ghost use Rattle.gq_resolve.specs.Bounded.{size_of, bytes_in, Bounds, BoundsPuts, CountsPut, CountsErrors, AreErrorBytes, FinishesWhole, FinishesOver};
 
 use crate::answered::Answered;
 use crate::builder::{Builder, copied_leaf_value};
 use crate::cells::cell_value;
-use crate::positions::{FieldPosition, Items, Kind, Leaf, Onward};
+use crate::positions::{FieldPosition, Items, Kind, Leaf, Nullability, Onward};
 use crate::sink::Sink;
 use load_memory::{KeyRef, NoMemory};
 use plan_program::LeafValue;
@@ -55,12 +57,12 @@ fn leaf_value_size(leaf_value: &LeafValue) -> usize
 }
 
 // How many bytes the error of an own value has at least, so deep in the answer.
-fn error_size(leaf_value: &LeafValue, non_null: bool, depth: usize) -> usize
-    ensures { AreErrorBytes (leaf_value_seen leaf_value.now) non_null depth result }
+fn error_size(leaf_value: &LeafValue, nullability: Nullability, depth: usize) -> usize
+    ensures { AreErrorBytes (leaf_value_seen leaf_value.now) (is_non_null nullability) depth result }
 {
-    match leaf_value {
-        LeafValue::Null => { if non_null { depth.saturating_add(1) } else { 0 } }
-        LeafValue::Fault(message) => message.len().saturating_add(depth).saturating_add(1),
+    match (leaf_value, nullability) {
+        (LeafValue::Null, Nullability::NonNull) => depth.saturating_add(1),
+        (LeafValue::Fault(message), _) => message.len().saturating_add(depth).saturating_add(1),
         _ => 0,
     }
 }
@@ -129,14 +131,17 @@ impl BoundedBuilder {
         }
     }
 
-    fn put_leaf_value(&mut self, leaf_value: LeafValue, non_null: bool) -> Result<(), NoMemory>
-        ensures bounds { OnOk result ((all : BuiltOf) → Bounds all self.old → Bounds (given_leaf_value non_null (leaf_value_seen leaf_value) all) self.new) }
-        ensures most { OnOk result (self.new.most ≡ self.old.most) }
+    fn put_leaf_value(
+        &mut self,
+        leaf_value: LeafValue,
+        nullability: Nullability,
+    ) -> Result<(), NoMemory>
+        ensures { OnOk result (BoundsPuts (Has (is_non_null nullability) (leaf_value_seen leaf_value) ∷ []) self.old self.new) }
     {
-        let added = error_size(&leaf_value, non_null, self.levels.len());
+        let added = error_size(&leaf_value, nullability, self.levels.len());
         let size = leaf_value_size(&leaf_value);
         let key = self.builder.key_size();
-        self.builder.put_leaf_value(leaf_value, non_null)?;
+        self.builder.put_leaf_value(leaf_value, nullability)?;
         self.count_errors(added);
         self.count(key, size);
         Ok(())
@@ -145,7 +150,7 @@ impl BoundedBuilder {
 
 impl Sink for BoundedBuilder {
     ghost use Rattle.std.specs.Prelude.{refl};
-    ghost use Rattle.gq_resolve.specs.Bounded.{BoundsPuts, goes-more};
+    ghost use Rattle.gq_resolve.specs.Bounded.{goes-more};
 
     ghost goes = { λ v ps old new. BoundsPuts ps old new };
 
@@ -194,14 +199,18 @@ impl Sink for BoundedBuilder {
         self.builder.item(items, number)
     }
 
-    fn leaf_value(&mut self, leaf_value: &LeafValue, non_null: bool) -> Result<(), NoMemory> {
+    fn leaf_value(
+        &mut self,
+        leaf_value: &LeafValue,
+        nullability: Nullability,
+    ) -> Result<(), NoMemory> {
         let leaf_value = copied_leaf_value(self.alloc, leaf_value)?;
-        self.put_leaf_value(leaf_value, non_null)
+        self.put_leaf_value(leaf_value, nullability)
     }
 
-    fn cell(&mut self, leaf: Leaf<'_>, non_null: bool) -> Result<(), NoMemory> {
+    fn cell(&mut self, leaf: Leaf<'_>, nullability: Nullability) -> Result<(), NoMemory> {
         let leaf_value = cell_value(self.alloc, leaf.schema, leaf.column, leaf.ty, leaf.row)?;
-        self.put_leaf_value(leaf_value, non_null)
+        self.put_leaf_value(leaf_value, nullability)
     }
 
     fn waiting(&self) -> usize {

@@ -7,12 +7,13 @@ ghost use Rattle.execution.specs.Executed.{completed};
 ghost use Rattle.plan_program.specs.Prepared.{leaf_value_seen};
 ghost use Rattle.gq_resolve.specs.Answered.{part_of, response_of, answered_of};
 ghost use Rattle.gq_resolve.specs.Bounded.{key_size, without_last_parts, without_errors, is_pulled};
+ghost use Rattle.gq_resolve.specs.Positions.{is_non_null};
 ghost use Rattle.gq_resolve.specs.Built.{path_in, placed, given_leaf_value, at_root, with_error, built, nothing_built, IsWhole, position_held, built_of, goes-append};
 
 use crate::answered::Answered;
 use crate::cells::cell_value;
-use crate::level::{Level, Parts, Position};
-use crate::positions::{FieldPosition, Items, Kind, Leaf, Onward};
+use crate::level::{Ended, Level, Parts, Position};
+use crate::positions::{FieldPosition, Items, Kind, Leaf, Nullability, Onward};
 use crate::sink::Sink;
 use answer_json::{FieldError, PathPart, Response};
 use load_memory::{KeyRef, NoMemory};
@@ -156,14 +157,18 @@ impl Builder {
     }
 
     /// Puts an own value, and its error.
-    pub fn put_leaf_value(&mut self, leaf_value: LeafValue, non_null: bool) -> Result<(), NoMemory>
-        ensures { OnOk result (built_of self.new ≡ given_leaf_value non_null (leaf_value_seen leaf_value) (built_of self.old)) }
+    pub fn put_leaf_value(
+        &mut self,
+        leaf_value: LeafValue,
+        nullability: Nullability,
+    ) -> Result<(), NoMemory>
+        ensures { OnOk result (built_of self.new ≡ given_leaf_value (is_non_null nullability) (leaf_value_seen leaf_value) (built_of self.old)) }
     {
         match leaf_value {
             LeafValue::Text(text) => self.put(Response::Text(text)),
             LeafValue::Int(number) => self.put(Response::Int(number)),
             LeafValue::Bool(value) => self.put(Response::Bool(value)),
-            LeafValue::Null => self.put_null(non_null),
+            LeafValue::Null => self.put_null(nullability),
             LeafValue::Fault(message) => {
                 self.put_error(message)?;
                 self.put(Response::Null)
@@ -172,14 +177,17 @@ impl Builder {
     }
 
     // Puts a null, which is an error at a non-null type.
-    fn put_null(&mut self, non_null: bool) -> Result<(), NoMemory>
-        ensures { OnOk result (built_of self.new ≡ given_leaf_value non_null Null (built_of self.old)) }
+    fn put_null(&mut self, nullability: Nullability) -> Result<(), NoMemory>
+        ensures { OnOk result (built_of self.new ≡ given_leaf_value (is_non_null nullability) Null (built_of self.old)) }
     {
-        if non_null {
-            let message = String::from_str(self.alloc, "null where the type is non-null")?;
-            self.put_error(message)?;
+        match nullability {
+            Nullability::Nullable => self.put(Response::Null),
+            Nullability::NonNull => {
+                let message = String::from_str(self.alloc, "null where the type is non-null")?;
+                self.put_error(message)?;
+                self.put(Response::Null)
+            }
         }
-        self.put(Response::Null)
     }
 }
 
@@ -218,7 +226,7 @@ impl Sink for Builder {
         let Some(level) = self.levels.pop() else {
             return Ok(());
         };
-        let (position, response) = level.ended();
+        let Ended { position, response } = level.ended();
         self.position = position;
         self.put(response)
     }
@@ -227,7 +235,7 @@ impl Sink for Builder {
         let key = String::from_str(self.alloc, position.key)?;
         self.position = Position {
             step: PathPart::Key(key),
-            non_null: position.non_null,
+            nullability: position.nullability,
             place: position.place,
         };
         Ok(())
@@ -236,20 +244,24 @@ impl Sink for Builder {
     fn item(&mut self, items: Items, number: usize) -> Result<(), NoMemory> {
         self.position = Position {
             step: PathPart::Item(number),
-            non_null: items.non_null,
+            nullability: items.nullability,
             place: items.place,
         };
         Ok(())
     }
 
-    fn leaf_value(&mut self, leaf_value: &LeafValue, non_null: bool) -> Result<(), NoMemory> {
+    fn leaf_value(
+        &mut self,
+        leaf_value: &LeafValue,
+        nullability: Nullability,
+    ) -> Result<(), NoMemory> {
         let leaf_value = copied_leaf_value(self.alloc, leaf_value)?;
-        self.put_leaf_value(leaf_value, non_null)
+        self.put_leaf_value(leaf_value, nullability)
     }
 
-    fn cell(&mut self, leaf: Leaf<'_>, non_null: bool) -> Result<(), NoMemory> {
+    fn cell(&mut self, leaf: Leaf<'_>, nullability: Nullability) -> Result<(), NoMemory> {
         let leaf_value = cell_value(self.alloc, leaf.schema, leaf.column, leaf.ty, leaf.row)?;
-        self.put_leaf_value(leaf_value, non_null)
+        self.put_leaf_value(leaf_value, nullability)
     }
 
     fn waiting(&self) -> usize {

@@ -4,11 +4,12 @@ ghost use Rattle.std.specs.Prelude.{◌≡◌, ◌<◌, ◌≤◌, IfOk, IfSome,
 ghost use Rattle.gq_schema.specs.Types.{tree_of};
 ghost use Rattle.gq_schema.specs.BindingsSeen.{step_of};
 ghost use Rattle.gq_check.specs.Plans.{PlanOf, plan_of};
-ghost use Rattle.plan_program.specs.Prepared.{value_from_seen, all_prepared_seen, children_seen};
+ghost use Rattle.plan_program.specs.Prepared.{value_from_seen, prepared_seen, all_prepared_seen, children_seen};
+ghost use Rattle.gq_resolve.specs.Positions.{is_non_null, position_seen};
 ghost use Rattle.gq_resolve.specs.Groups.{children_in, children_at, then_at, steps_in, IsShape, Grows, IsNew, IsAsking, AreMade, Meets, AreKept, IsOnly, AreOnly, IsShaped};
 
 use crate::cells::is_object_type;
-use crate::positions::{FieldPosition, Items, Onward};
+use crate::positions::{FieldPosition, Items, Nullability, Onward};
 use crate::tour::Tour;
 use gq_lexer::Place;
 use gq_parser::{Field, Selection, TypeRef};
@@ -112,25 +113,31 @@ pub fn type_name_of<'p>(groups: &[Group<'p>], group: usize) -> &'p str
     }
 }
 
+// The items of a list with these children.
 fn child_items(children: &Children<'_>) -> Items
-    ensures non_null { result.non_null ≡ (children_seen children.now).item_non_null }
+    ensures nullability { is_non_null result.nullability ≡ (children_seen children.now).item_non_null }
     ensures place { result.place ≡ (children_seen children.now).place }
 {
+    let nullability = if children.item_non_null {
+        Nullability::NonNull
+    } else {
+        Nullability::Nullable
+    };
     Items {
-        non_null: children.item_non_null,
+        nullability,
         place: children.place,
     }
 }
 
 /// The items of the list of a group.
 pub fn items_of(groups: &[Group<'_>], group: usize) -> Items
-    ensures non_null { result.non_null ≡ (children_at groups.now group).item_non_null }
+    ensures nullability { is_non_null result.nullability ≡ (children_at groups.now group).item_non_null }
     ensures place { result.place ≡ (children_at groups.now group).place }
 {
     match groups.get(group) {
         Some(group) => child_items(&group.children),
         None => Items {
-            non_null: false,
+            nullability: Nullability::Nullable,
             place: Place { line: 1, column: 1 },
         },
     }
@@ -203,6 +210,22 @@ fn asks_of<'p>(groups: &mut Vec<Group<'p>>, asked: ValueFrom<'p>) -> Result<Asks
     }
 }
 
+// The position of what was prepared.
+fn position_of<'p>(prepared: &Prepared<'p>) -> FieldPosition<'p>
+    ensures { position_seen result ≡ (prepared_seen prepared.now).position }
+{
+    let nullability = if prepared.non_null {
+        Nullability::NonNull
+    } else {
+        Nullability::Nullable
+    };
+    FieldPosition {
+        key: prepared.key,
+        nullability,
+        place: prepared.place,
+    }
+}
+
 /// The members that these groups make.
 pub fn members_of<'p>(
     alloc: Global,
@@ -213,11 +236,7 @@ pub fn members_of<'p>(
 {
     let mut members = Vec::with_capacity(alloc, all.len())?;
     for prepared in all {
-        let position = FieldPosition {
-            key: prepared.key,
-            non_null: prepared.non_null,
-            place: prepared.place,
-        };
+        let position = position_of(&prepared);
         let asks = asks_of(groups, prepared.asked)?;
         members.push(Member { position, asks })?;
     }

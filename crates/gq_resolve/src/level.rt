@@ -7,16 +7,17 @@ ghost use Rattle.gq_resolve.specs.Bounded.{part_size, without_parts};
 ghost use Rattle.gq_resolve.specs.Built.{root_position, step_in, level_with, level_response, position_held, level_seen};
 
 use crate::completing::is_null;
+use crate::positions::Nullability;
 use answer_json::{PathPart, Response};
 use gq_lexer::Place;
 use load_memory::NoMemory;
 use std::alloc::{AllocError, Global};
 
-/// A position: the last step of its path, its type, and where its errors are.
+/// A position: the last step of its path, whether it may be null, and where its errors are.
 #[derive(Drop)]
 pub struct Position {
     pub step: PathPart,
-    pub non_null: bool,
+    pub nullability: Nullability,
     pub place: Place,
 }
 
@@ -36,6 +37,13 @@ pub struct Level {
     pub pulled: bool,
 }
 
+/// The position and the response of an object or a list that has ended.
+#[derive(Drop)]
+pub struct Ended {
+    pub position: Position,
+    pub response: Response,
+}
+
 impl Position {
     /// The root, which no step leads to. An error there has the place of a text's first character.
     pub fn root() -> Position
@@ -43,7 +51,7 @@ impl Position {
     {
         Position {
             step: PathPart::Item(0),
-            non_null: false,
+            nullability: Nullability::Nullable,
             place: Place { line: 1, column: 1 },
         }
     }
@@ -79,7 +87,7 @@ impl Level {
     ) -> Result<(), NoMemory>
         ensures { OnOk result (level_seen self.new ≡ level_with (position_held position) (response_of response) (level_seen self.old)) }
     {
-        self.pulled = self.pulled || (position.non_null && is_null(&response));
+        self.pulled = self.pulled || (position.nullability.is_non_null() && is_null(&response));
         match &mut self.parts {
             Parts::Items(items) => items.push(response)?,
             Parts::Fields(fields) => fields.push((position.into_key(alloc), response))?,
@@ -108,17 +116,16 @@ impl Level {
     }
 
     /// Its position and its response, now that it ends.
-    pub fn ended(self) -> (Position, Response)
-        ensures position { position_held result.0 ≡ (level_seen self).position }
-        ensures response { response_of result.1 ≡ level_response (level_seen self) }
+    pub fn ended(self) -> Ended
+        ensures position { position_held result.position ≡ (level_seen self).position }
+        ensures response { response_of result.response ≡ level_response (level_seen self) }
     {
         let position = self.position;
-        if self.pulled {
-            return (position, Response::Null);
-        }
-        match self.parts {
-            Parts::Items(items) => (position, Response::List(items)),
-            Parts::Fields(fields) => (position, Response::Object(fields)),
-        }
+        let response = match self.parts {
+            _ if self.pulled => Response::Null,
+            Parts::Items(items) => Response::List(items),
+            Parts::Fields(fields) => Response::Object(fields),
+        };
+        Ended { position, response }
     }
 }

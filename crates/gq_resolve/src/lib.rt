@@ -26,6 +26,7 @@ mod resolve;
 mod root_state;
 mod sink;
 mod tour;
+mod waiting;
 mod wanting;
 
 pub use answered::{Answered, answer_text};

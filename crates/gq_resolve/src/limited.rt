@@ -4,7 +4,7 @@ ghost use Rattle.std.specs.Prelude.{◌≡◌, IfOk, string_bytes};
 ghost use Rattle.gq_resolve.specs.Limited.{too_long_text, limited_text, IsDone, IsLimitedAnswer};
 ghost use Rattle.gq_resolve.specs.Suspended.{plan_on};
 
-use crate::advance::{Rooted, responded_within};
+use crate::advance::{Walked, responded_within};
 use crate::answered::answer_text;
 use crate::output::Output;
 use crate::tour::Tour;
@@ -36,12 +36,12 @@ fn limited(alloc: Global, text: String, most: usize) -> Result<String, NoMemory>
 /// written, if it isn't too long. Any other is built first.
 pub fn limited_answer<'p>(
     tour: &Tour<'_, 'p, '_>,
-    rooted: Rooted<'p>,
-    out: Output,
+    walked: Walked<'p, Output>,
     most: usize,
 ) -> Result<String, NoMemory>
-    ensures { IsDone (plan_on tour.now) tour.now.memory.now rooted.entry out → IfOk result (IsLimitedAnswer most (plan_on tour.now) tour.now.memory.now) }
+    ensures { IsDone (plan_on tour.now) tour.now.memory.now walked.entry → IfOk result (IsLimitedAnswer most (plan_on tour.now) tour.now.memory.now) }
 {
+    let Walked { rooted, out } = walked;
     if out.is_plain {
         return limited(tour.alloc, out.into_text(), most);
     }

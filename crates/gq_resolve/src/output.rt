@@ -8,13 +8,14 @@ ghost use Rattle.json.specs.Token.{number};
 ghost use Rattle.execution.specs.Program.{Null};
 ghost use Rattle.plan_program.specs.Prepared.{leaf_value_seen};
 ghost use Rattle.gq_resolve.specs.Cells.{value_seen};
+ghost use Rattle.gq_resolve.specs.Positions.{is_non_null};
 
 use crate::cells::{CellValue, leaf_of};
-use crate::positions::{FieldPosition, Items, Kind, Leaf, Onward};
+use crate::positions::{FieldPosition, Items, Kind, Leaf, Nullability, Onward};
 use crate::sink::Sink;
-use indexmap::IndexSet;
+use crate::waiting::{Blocked, Waiting};
 use json::{Token, Writer};
-use load_memory::{Cell, Key, KeyRef, NoMemory};
+use load_memory::{Cell, KeyRef, NoMemory};
 use plan_program::LeafValue;
 use std::alloc::Global;
 
@@ -24,22 +25,13 @@ const FIRST_ROOM: usize = 128;
 /// A limit that no text reaches.
 pub const NO_LIMIT: usize = usize::MAX;
 
-/// A position that waits for a load: how it goes on, and the load.
-#[derive(PartialEq, Eq, Hash, Drop)]
-pub struct Blocked {
-    pub onward: Onward,
-    pub loader: usize,
-    pub key: Key,
-}
-
 /// What a walk over a plan has written, and the positions that wait. It writes only while nothing waits, no error was met and
 /// the text isn't longer than its limit.
 #[derive(Drop)]
 pub struct Output {
     pub alloc: Global,
     pub writer: Writer,
-    /// Each of them once, however often it is met.
-    pub blocked: IndexSet<Blocked>,
+    pub blocked: Waiting,
     /// Whether no error was met, and the limit wasn't passed.
     pub is_plain: bool,
     /// How many bytes the text may grow. An escape in it counts as the character that it stands for.
@@ -61,12 +53,12 @@ impl Output {
     /// Nothing yet. It writes up to so many bytes, and one token more.
     pub fn new(alloc: Global, most: usize) -> Result<Output, NoMemory>
         ensures tokens { IfOk result (λ out. out.writer.tokens ≡ []) }
-        ensures blocked { IfOk result (λ out. out.blocked.keys ≡ []) }
+        ensures blocked { IfOk result (λ out. out.blocked ≡ []) }
     {
         Ok(Output {
             alloc,
             writer: Writer::new(Vec::with_capacity(alloc, FIRST_ROOM)?),
-            blocked: IndexSet::new(alloc),
+            blocked: Waiting::new(alloc),
             is_plain: true,
             left: most,
         })
@@ -75,12 +67,12 @@ impl Output {
     /// Nothing yet, and nothing is written: only the positions that wait are noted.
     pub fn unwritten(alloc: Global) -> Output
         ensures plain { result.is_plain ≡ false }
-        ensures blocked { result.blocked.keys ≡ [] }
+        ensures blocked { result.blocked ≡ [] }
     {
         Output {
             alloc,
             writer: Writer::new(Vec::new(alloc)),
-            blocked: IndexSet::new(alloc),
+            blocked: Waiting::new(alloc),
             is_plain: false,
             left: 0,
         }
@@ -144,14 +136,16 @@ impl Output {
     }
 
     // Writes a null, which is an error at a non-null type.
-    fn put_null(&mut self, non_null: bool) -> Result<(), NoMemory>
-        ensures { OnOk result (AddsLeafValue non_null Null self.old self.new) }
+    fn put_null(&mut self, nullability: Nullability) -> Result<(), NoMemory>
+        ensures { OnOk result (AddsLeafValue (is_non_null nullability) Null self.old self.new) }
     {
-        if non_null {
-            self.fault();
-            return Ok(());
+        match nullability {
+            Nullability::Nullable => self.put(Token::Null),
+            Nullability::NonNull => {
+                self.fault();
+                Ok(())
+            }
         }
-        self.put(Token::Null)
     }
 
     // Writes the value of a leaf. None is an error.
@@ -202,12 +196,16 @@ impl Sink for Output {
         Ok(())
     }
 
-    fn leaf_value(&mut self, leaf_value: &LeafValue, non_null: bool) -> Result<(), NoMemory> {
+    fn leaf_value(
+        &mut self,
+        leaf_value: &LeafValue,
+        nullability: Nullability,
+    ) -> Result<(), NoMemory> {
         match leaf_value {
             LeafValue::Text(text) => self.put(Token::String(text.as_str())),
             LeafValue::Int(number) => self.put_number(*number),
             LeafValue::Bool(value) => self.put(Token::Bool(*value)),
-            LeafValue::Null => self.put_null(non_null),
+            LeafValue::Null => self.put_null(nullability),
             LeafValue::Fault(_) => {
                 self.fault();
                 Ok(())
@@ -216,7 +214,7 @@ impl Sink for Output {
     }
 
     // It is written straight from its row.
-    fn cell(&mut self, leaf: Leaf<'_>, non_null: bool) -> Result<(), NoMemory> {
+    fn cell(&mut self, leaf: Leaf<'_>, nullability: Nullability) -> Result<(), NoMemory> {
         if !self.is_writing() {
             return Ok(());
         }
@@ -225,7 +223,7 @@ impl Sink for Output {
                 self.fault();
                 Ok(())
             }
-            Cell::Null => self.put_null(non_null),
+            Cell::Null => self.put_null(nullability),
             Cell::Text(text) => self.put_leaf(leaf_of(leaf.schema, leaf.ty, text)),
         }
     }
@@ -236,12 +234,11 @@ impl Sink for Output {
 
     fn wait(&mut self, onward: Onward, loader: usize, key: KeyRef<'_>) -> Result<(), NoMemory> {
         let key = key.to_key(self.alloc)?;
-        self.blocked.insert(Blocked {
+        self.blocked.note(Blocked {
             onward,
             loader,
             key,
-        })?;
-        Ok(())
+        })
     }
 
     ghost none = { puts-none };

@@ -1,5 +1,8 @@
 //! Positions of an answer, and what is put at them.
 
+ghost use Rattle.std.specs.Prelude.{◌≡◌};
+ghost use Rattle.gq_resolve.specs.Positions.{is_non_null};
+
 use gq_lexer::Place;
 use gq_parser::TypeRef;
 use gq_schema::Schema;
@@ -12,18 +15,25 @@ pub enum Kind {
     Object,
 }
 
-/// A field of an object: its response key, its type, and where its errors are.
+/// Whether a position may be null (section 3.12, Non-Null).
+#[derive(Clone, Copy, PartialEq, Eq, Debug, Drop)]
+pub enum Nullability {
+    Nullable,
+    NonNull,
+}
+
+/// A field of an object: its response key, whether it may be null, and where its errors are.
 #[derive(Clone, Copy, Drop)]
 pub struct FieldPosition<'p> {
     pub key: &'p str,
-    pub non_null: bool,
+    pub nullability: Nullability,
     pub place: Place,
 }
 
-/// The items of a list: their type, and where their errors are.
+/// The items of a list: whether they may be null, and where their errors are.
 #[derive(Clone, Copy, Drop)]
 pub struct Items {
-    pub non_null: bool,
+    pub nullability: Nullability,
     pub place: Place,
 }
 
@@ -45,4 +55,16 @@ pub struct Onward {
     pub later: Option<usize>,
     /// How many levels of objects there may be below it.
     pub levels: u32,
+}
+
+impl Nullability {
+    /// Whether a null is an error there.
+    pub fn is_non_null(self) -> bool
+        ensures { result ≡ is_non_null self }
+    {
+        match self {
+            Nullability::Nullable => false,
+            Nullability::NonNull => true,
+        }
+    }
 }

@@ -10,7 +10,7 @@ ghost use Rattle.gq_resolve.specs.Evaluated.{reader, IsWritten, AddsPart, CanEva
 ghost use Rattle.gq_resolve.specs.Limited.{IsLimited};
 ghost use Rattle.gq_resolve.specs.Suspended.{plan_in, FitsMemory};
 
-use crate::advance::{Stopped, advance, responded};
+use crate::advance::{Stopped, Walked, advance, responded};
 use crate::answered::{Answered, answer_text};
 use crate::kept::most_kept;
 use crate::limited::limited_answer;
@@ -70,7 +70,8 @@ impl<'p, 'a> RootState<'p, 'a> {
             memory,
             most: self.most,
         };
-        let Some((rooted, out)) = advance(&tour, NO_LIMIT, &mut self.stopped, wants)? else {
+        let walked = advance(&tour, NO_LIMIT, &mut self.stopped, wants)?;
+        let Some(Walked { rooted, out }) = walked else {
             return Ok(Poll::Pending);
         };
         if out.is_plain {
@@ -107,7 +108,7 @@ impl<'p, 'a> RootState<'p, 'a> {
             most: self.most,
         };
         match advance(&tour, most, &mut self.stopped, wants)? {
-            Some((rooted, out)) => Ok(Poll::Ready(limited_answer(&tour, rooted, out, most)?)),
+            Some(walked) => Ok(Poll::Ready(limited_answer(&tour, walked, most)?)),
             None => Ok(Poll::Pending),
         }
     }
@@ -133,7 +134,7 @@ impl<'p, 'a> Resolve for RootState<'p, 'a> {
             most: self.most,
         };
         match advance(&tour, NO_LIMIT, &mut self.stopped, wants)? {
-            Some((rooted, _)) => Ok(Poll::Ready(responded(&tour, rooted)?)),
+            Some(walked) => Ok(Poll::Ready(responded(&tour, walked.rooted)?)),
             None => Ok(Poll::Pending),
         }
     }

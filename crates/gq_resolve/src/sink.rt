@@ -6,9 +6,9 @@ ghost use Rattle.execution.specs.Program.{ObjectOf, ListOf};
 ghost use Rattle.plan_program.specs.Prepared.{leaf_value_seen};
 ghost use Rattle.gq_resolve.specs.Cells.{leaf_seen};
 ghost use Rattle.gq_resolve.specs.Puts.{Put, Begins, Ends, Enters, Has, Waits, OnwardOf, View, waiting};
-ghost use Rattle.gq_resolve.specs.Positions.{kind_of, position_seen, item_position, onward_of};
+ghost use Rattle.gq_resolve.specs.Positions.{kind_of, is_non_null, position_seen, item_position, onward_of};
 
-use crate::positions::{FieldPosition, Items, Kind, Leaf, Onward};
+use crate::positions::{FieldPosition, Items, Kind, Leaf, Nullability, Onward};
 use load_memory::{KeyRef, NoMemory};
 use plan_program::LeafValue;
 
@@ -39,13 +39,17 @@ pub trait Sink {
     fn item(&mut self, items: Items, number: usize) -> Result<(), NoMemory>
         ensures { OnOk result ((v : View) → goes v (Enters ListOf (item_position items number) ∷ []) self.old self.new) };
 
-    /// A position with nothing below it, at a type that is non-null or not.
-    fn leaf_value(&mut self, leaf_value: &LeafValue, non_null: bool) -> Result<(), NoMemory>
-        ensures { OnOk result ((v : View) → goes v (Has non_null (leaf_value_seen leaf_value.now) ∷ []) self.old self.new) };
+    /// A position with nothing below it, which may be null or not.
+    fn leaf_value(
+        &mut self,
+        leaf_value: &LeafValue,
+        nullability: Nullability,
+    ) -> Result<(), NoMemory>
+        ensures { OnOk result ((v : View) → goes v (Has (is_non_null nullability) (leaf_value_seen leaf_value.now) ∷ []) self.old self.new) };
 
-    /// A position that is bound to a column, at a type that is non-null or not.
-    fn cell(&mut self, leaf: Leaf<'_>, non_null: bool) -> Result<(), NoMemory>
-        ensures { OnOk result ((v : View) → goes v (Has non_null (leaf_seen leaf.entry) ∷ []) self.old self.new) };
+    /// A position that is bound to a column, which may be null or not.
+    fn cell(&mut self, leaf: Leaf<'_>, nullability: Nullability) -> Result<(), NoMemory>
+        ensures { OnOk result ((v : View) → goes v (Has (is_non_null nullability) (leaf_seen leaf.entry) ∷ []) self.old self.new) };
 
     /// A position waits for a load, and then goes on so.
     fn wait(&mut self, onward: Onward, loader: usize, key: KeyRef<'_>) -> Result<(), NoMemory>

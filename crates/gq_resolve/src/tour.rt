@@ -6,7 +6,7 @@ ghost use Rattle.load_memory.specs.Outcomes.{outcome_of};
 ghost use Rattle.plan_program.specs.Prepared.{key_from_seen, keys_seen};
 ghost use Rattle.plan_program.specs.PlanPrograms.{with_rows, read_from, read_key, read_if};
 ghost use Rattle.gq_resolve.specs.Groups.{AreOnly};
-ghost use Rattle.gq_resolve.specs.Positions.{onward_of};
+ghost use Rattle.gq_resolve.specs.Positions.{is_non_null, onward_of};
 ghost use Rattle.gq_resolve.specs.Walks.{WalksMembers, WalksAsks, WalksAt, WalksList, WalksLater, WalksRow, WalksTyped, LetsGo, items_after, items_read};
 
 use crate::cells::{TypeOf, type_of_row};
@@ -15,7 +15,7 @@ use crate::groups::{
     Asks, Group, Member, Then, items_of, only_members, shape_of, steps_of, then_of, type_name_of,
 };
 use crate::keys::{KeyOver, key_over};
-use crate::positions::{Items, Kind, Leaf, Onward};
+use crate::positions::{Items, Kind, Leaf, Nullability, Onward};
 use crate::reading::look_up;
 use crate::sink::Sink;
 use gq_check::Plan;
@@ -43,11 +43,11 @@ pub struct Progress<'p, S> {
     pub out: S,
 }
 
-/// A position that loads: how it goes on, and whether its type is non-null.
+/// A position that loads: how it goes on, and whether it may be null.
 #[derive(Clone, Copy, Drop)]
 pub struct Loading {
     pub onward: Onward,
-    pub non_null: bool,
+    pub nullability: Nullability,
 }
 
 impl<'w, 'p, 'a> Tour<'w, 'p, 'a> {
@@ -65,8 +65,8 @@ impl<'w, 'p, 'a> Tour<'w, 'p, 'a> {
         at.out.begin(Kind::Object)?;
         for member in members {
             at.out.field(member.position)?;
-            let non_null = member.position.non_null;
-            self.ask(at, levels, non_null, &member.asks, row)?;
+            let nullability = member.position.nullability;
+            self.ask(at, levels, nullability, &member.asks, row)?;
         }
         at.out.end(Kind::Object)
     }
@@ -77,14 +77,14 @@ impl<'w, 'p, 'a> Tour<'w, 'p, 'a> {
         &self,
         at: &mut Progress<'p, S>,
         levels: u32,
-        non_null: bool,
+        nullability: Nullability,
         asks: &Asks<'p>,
         row: &Row,
     ) -> Result<(), NoMemory>
-        ensures { OnOk result (WalksAsks S.goes S.below self.now non_null levels row.now asks.now at.old at.new) }
+        ensures { OnOk result (WalksAsks S.goes S.below self.now (is_non_null nullability) levels row.now asks.now at.old at.new) }
     {
         match asks {
-            Asks::Known(leaf_value) => at.out.leaf_value(leaf_value, non_null),
+            Asks::Known(leaf_value) => at.out.leaf_value(leaf_value, nullability),
             Asks::Cell { column, ty } => {
                 let schema = self.plan.schema();
                 at.out.cell(
@@ -94,7 +94,7 @@ impl<'w, 'p, 'a> Tour<'w, 'p, 'a> {
                         ty,
                         row,
                     },
-                    non_null,
+                    nullability,
                 )
             }
             Asks::Load { loader, key, group } => {
@@ -103,7 +103,16 @@ impl<'w, 'p, 'a> Tour<'w, 'p, 'a> {
                     later: None,
                     levels,
                 };
-                self.read_from(at, Loading { onward, non_null }, *loader, key, row)
+                self.read_from(
+                    at,
+                    Loading {
+                        onward,
+                        nullability,
+                    },
+                    *loader,
+                    key,
+                    row,
+                )
             }
             Asks::Each {
                 loader,
@@ -135,10 +144,10 @@ impl<'w, 'p, 'a> Tour<'w, 'p, 'a> {
     {
         match key_over(key, row) {
             KeyOver::Known(key) => self.read(at, to, loader, key),
-            KeyOver::Null => at.out.leaf_value(&LeafValue::Null, to.non_null),
+            KeyOver::Null => at.out.leaf_value(&LeafValue::Null, to.nullability),
             KeyOver::Lacking(column) => {
                 let fault = LeafValue::Fault(no_column_message(self.alloc, column)?);
-                at.out.leaf_value(&fault, to.non_null)
+                at.out.leaf_value(&fault, to.nullability)
             }
         }
     }
@@ -174,10 +183,10 @@ impl<'w, 'p, 'a> Tour<'w, 'p, 'a> {
             Outcome::Rows(rows) => self.rows(at, to, rows),
             Outcome::KeyFault(text) => at
                 .out
-                .leaf_value(&LeafValue::Fault(text.clone()?), to.non_null),
+                .leaf_value(&LeafValue::Fault(text.clone()?), to.nullability),
             Outcome::BatchFault(text) => at
                 .out
-                .leaf_value(&LeafValue::Fault(text.clone()?), to.non_null),
+                .leaf_value(&LeafValue::Fault(text.clone()?), to.nullability),
         }
     }
 
@@ -213,7 +222,7 @@ impl<'w, 'p, 'a> Tour<'w, 'p, 'a> {
         ensures { OnOk result (WalksLater S.goes S.below self.now to left rows.now at.old at.new) }
     {
         match rows {
-            [] => at.out.leaf_value(&LeafValue::Null, to.non_null),
+            [] => at.out.leaf_value(&LeafValue::Null, to.nullability),
             [row, ..] => self.follow(at, to, left, row),
         }
     }
@@ -232,7 +241,7 @@ impl<'w, 'p, 'a> Tour<'w, 'p, 'a> {
         let items = items_of(&at.groups, onward.group);
         let to = Loading {
             onward,
-            non_null: items.non_null,
+            nullability: items.nullability,
         };
         at.out.begin(Kind::List)?;
         for (number, row) in rows.iter().enumerate() {
@@ -259,7 +268,7 @@ impl<'w, 'p, 'a> Tour<'w, 'p, 'a> {
         let steps = steps_of(&at.groups, to.onward.group);
         match follow_steps(self.alloc, self.memory, &mut at.probe, steps, left, row)? {
             Followed::Row(row) => self.row_object(at, to, row),
-            Followed::LeafValue(leaf_value) => at.out.leaf_value(&leaf_value, to.non_null),
+            Followed::LeafValue(leaf_value) => at.out.leaf_value(&leaf_value, to.nullability),
             Followed::Missing { left, loader, key } => {
                 let onward = Onward {
                     group: to.onward.group,
@@ -285,7 +294,7 @@ impl<'w, 'p, 'a> Tour<'w, 'p, 'a> {
     {
         let to = Loading {
             onward,
-            non_null: items.non_null,
+            nullability: items.nullability,
         };
         at.out.begin(Kind::List)?;
         for (number, key) in keys.iter().enumerate() {
@@ -308,7 +317,7 @@ impl<'w, 'p, 'a> Tour<'w, 'p, 'a> {
     {
         match key {
             Some(key) => self.read(at, to, loader, key.borrowed()),
-            None => at.out.leaf_value(&LeafValue::Null, to.non_null),
+            None => at.out.leaf_value(&LeafValue::Null, to.nullability),
         }
     }
 
@@ -328,7 +337,7 @@ impl<'w, 'p, 'a> Tour<'w, 'p, 'a> {
         let name = type_name_of(&at.groups, to.onward.group);
         match type_of_row(self.alloc, self.plan.schema(), name, row)? {
             TypeOf::Object(ty) => self.typed_object(at, to, ty, row),
-            TypeOf::Fault(text) => at.out.leaf_value(&LeafValue::Fault(text), to.non_null),
+            TypeOf::Fault(text) => at.out.leaf_value(&LeafValue::Fault(text), to.nullability),
         }
     }
 
@@ -345,7 +354,7 @@ impl<'w, 'p, 'a> Tour<'w, 'p, 'a> {
     {
         let levels = to.onward.levels;
         if levels == 0 {
-            return at.out.leaf_value(&LeafValue::Null, to.non_null);
+            return at.out.leaf_value(&LeafValue::Null, to.nullability);
         }
         self.object(at, levels - 1, members, row)
     }
@@ -363,7 +372,7 @@ impl<'w, 'p, 'a> Tour<'w, 'p, 'a> {
     {
         let levels = to.onward.levels;
         if levels == 0 {
-            return at.out.leaf_value(&LeafValue::Null, to.non_null);
+            return at.out.leaf_value(&LeafValue::Null, to.nullability);
         }
         let count = at.groups.len();
         let held = at.out.waiting();

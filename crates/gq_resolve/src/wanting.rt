@@ -8,8 +8,7 @@ ghost use Rattle.gq_resolve.specs.Evaluated.{AddsPart};
 ghost use Rattle.gq_resolve.specs.Suspended.{loads_of};
 
 use crate::groups::{Group, may_load};
-use crate::output::Blocked;
-use indexmap::IndexSet;
+use crate::waiting::Waiting;
 use load_memory::{Key, NoMemory};
 use load_queue::Wants;
 
@@ -27,10 +26,10 @@ fn want(loader: usize, key: Key, loaders: usize, wants: &mut Wants) -> Result<()
 }
 
 // Adds their loads, and keeps them.
-fn want_each(waiting: &IndexSet<Blocked>, loaders: usize, wants: &mut Wants) -> Result<(), NoMemory>
+fn want_each(waiting: &Waiting, loaders: usize, wants: &mut Wants) -> Result<(), NoMemory>
     requires { loaders ≡ length wants.old }
-    ensures ok { OnOk result (wants.new ≡ wanting wants.old (loads_of waiting.now.keys)) }
-    ensures part { OnErr result (AddsPart wants.old wants.new (loads_of waiting.now.keys)) }
+    ensures ok { OnOk result (wants.new ≡ wanting wants.old (loads_of waiting.now)) }
+    ensures part { OnErr result (AddsPart wants.old wants.new (loads_of waiting.now)) }
 {
     for position in waiting {
         want(position.loader, position.key.clone()?, loaders, wants)?;
@@ -39,10 +38,10 @@ fn want_each(waiting: &IndexSet<Blocked>, loaders: usize, wants: &mut Wants) -> 
 }
 
 // Adds their loads.
-fn want_all(waiting: IndexSet<Blocked>, loaders: usize, wants: &mut Wants) -> Result<(), NoMemory>
+fn want_all(waiting: Waiting, loaders: usize, wants: &mut Wants) -> Result<(), NoMemory>
     requires { loaders ≡ length wants.old }
-    ensures ok { OnOk result (wants.new ≡ wanting wants.old (loads_of waiting.keys)) }
-    ensures part { OnErr result (AddsPart wants.old wants.new (loads_of waiting.keys)) }
+    ensures ok { OnOk result (wants.new ≡ wanting wants.old (loads_of waiting)) }
+    ensures part { OnErr result (AddsPart wants.old wants.new (loads_of waiting)) }
 {
     for position in waiting {
         want(position.loader, position.key, loaders, wants)?;
@@ -51,7 +50,7 @@ fn want_all(waiting: IndexSet<Blocked>, loaders: usize, wants: &mut Wants) -> Re
 }
 
 // Whether something below one of them may load.
-fn any_may_load(groups: &[Group<'_>], waiting: &IndexSet<Blocked>) -> bool {
+fn any_may_load(groups: &[Group<'_>], waiting: &Waiting) -> bool {
     waiting
         .iter()
         .any(|position| may_load(groups, position.onward))
@@ -61,14 +60,14 @@ fn any_may_load(groups: &[Group<'_>], waiting: &IndexSet<Blocked>) -> bool {
 /// below them can load, that walk is the last one anyway.
 pub fn wanted(
     groups: &[Group<'_>],
-    waiting: IndexSet<Blocked>,
+    waiting: Waiting,
     loaders: usize,
     wants: &mut Wants,
-) -> Result<Option<IndexSet<Blocked>>, NoMemory>
+) -> Result<Option<Waiting>, NoMemory>
     requires { loaders ≡ length wants.old }
-    ensures ok { OnOk result (wants.new ≡ wanting wants.old (loads_of waiting.keys)) }
+    ensures ok { OnOk result (wants.new ≡ wanting wants.old (loads_of waiting)) }
     ensures kept { IfOk result (λ kept. IfSome kept (λ positions. positions ≡ waiting)) }
-    ensures part { OnErr result (AddsPart wants.old wants.new (loads_of waiting.keys)) }
+    ensures part { OnErr result (AddsPart wants.old wants.new (loads_of waiting)) }
 {
     if any_may_load(groups, &waiting) {
         want_each(&waiting, loaders, wants)?;

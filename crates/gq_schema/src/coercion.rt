@@ -1,8 +1,9 @@
 //! The coercion of literals to types (section 3, Input Coercion).
 
-ghost use Rattle.std.specs.Prelude.{◌≡◌, Some, None, IfOk, is_some, map, string_bytes};
+ghost use Rattle.std.specs.Prelude.{◌≡◌, Some, None, IfOk, is_some, string_bytes};
 ghost use Rattle.std.specs.Option.{option_map};
-ghost use Rattle.gq_parser.specs.Tree.{type_of, literal_of, map_literals, values_of};
+ghost use Rattle.gq_parser.specs.Tree.{type_of, literal_of, map_literals};
+ghost use Rattle.gq_parser.specs.Types.{is_non_null};
 ghost use Rattle.gq_schema.specs.Types.{tree_of};
 ghost use Rattle.gq_schema.specs.Inputs.{Null, input_of};
 ghost use Rattle.gq_schema.specs.Coercion.{int_of, from_int, from_text, from_enum, named_value, value_with, all_items, list_input, one_item, coerced, accepts, place_of};
@@ -38,11 +39,11 @@ fn accepts_int(name: &str, text: &str) -> bool
 }
 
 // Whether a literal is right at the type of this name. Variables are passed over.
-fn accepts_named(schema: &Schema, name: &str, non_null: bool, literal: &Literal) -> bool
-    ensures { result ≡ is_some (named_value (Some Null) (tree_of schema.now) name.now non_null (literal_of literal.now)) }
+fn accepts_named(schema: &Schema, ty: &TypeRef, name: &str, literal: &Literal) -> bool
+    ensures { result ≡ is_some (named_value (Some Null) (tree_of schema.now) name.now (is_non_null (type_of ty.now)) (literal_of literal.now)) }
 {
     match &literal.value {
-        Value::Null => !non_null,
+        Value::Null => !ty.is_non_null(),
         Value::Variable(_) => true,
         Value::Int(text) => accepts_int(name, text.as_str()),
         Value::Float(_) => false,
@@ -64,9 +65,7 @@ pub fn accepts(schema: &Schema, ty: &TypeRef, literal: &Literal) -> bool
     ensures { result ≡ accepts (tree_of schema.now) (type_of ty.now) (literal_of literal.now) }
 {
     match ty {
-        TypeRef::Named { name, non_null, .. } => {
-            accepts_named(schema, name.as_str(), *non_null, literal)
-        }
+        TypeRef::Named { name, .. } => accepts_named(schema, ty, name.as_str(), literal),
         TypeRef::List { item, non_null, .. } => match &literal.value {
             Value::Null => !*non_null,
             Value::Variable(_) => true,
@@ -83,7 +82,7 @@ pub fn accepts(schema: &Schema, ty: &TypeRef, literal: &Literal) -> bool
 
 #[cycle(accepts)]
 fn accepts_all(schema: &Schema, ty: &TypeRef, literals: &[Literal]) -> bool
-    ensures { result ≡ is_some (list_input (all_items (value_with (Some Null) (tree_of schema.now) (type_of ty.now)) (values_of (map literal_of literals.now)))) }
+    ensures { result ≡ is_some (list_input (all_items (value_with (Some Null) (tree_of schema.now) (type_of ty.now)) (map_literals literals.now))) }
 {
     for literal in literals {
         if !accepts(schema, ty, literal) {
@@ -125,14 +124,15 @@ fn coerce_enum(schema: &Schema, name: &str, value: &String) -> Result<Option<Inp
 
 fn coerce_named(
     schema: &Schema,
+    ty: &TypeRef,
     name: &str,
-    non_null: bool,
     literal: &Literal,
 ) -> Result<Option<Input>, AllocError>
-    ensures { IfOk result (λ input. option_map input_of input ≡ named_value None (tree_of schema.now) name.now non_null (literal_of literal.now)) }
+    ensures { IfOk result (λ input. option_map input_of input
+        ≡ named_value None (tree_of schema.now) name.now (is_non_null (type_of ty.now)) (literal_of literal.now)) }
 {
     match &literal.value {
-        Value::Null => Ok((!non_null).then_some(Input::Null)),
+        Value::Null => Ok((!ty.is_non_null()).then_some(Input::Null)),
         Value::Variable(_) => Ok(None),
         Value::Int(text) => Ok(coerce_int(name, text)?),
         Value::Float(_) => Ok(None),
@@ -172,9 +172,7 @@ pub fn coerce(
     ensures { IfOk result (λ input. option_map input_of input ≡ coerced (tree_of schema.now) (type_of ty.now) (literal_of literal.now)) }
 {
     match ty {
-        TypeRef::Named { name, non_null, .. } => {
-            Ok(coerce_named(schema, name.as_str(), *non_null, literal)?)
-        }
+        TypeRef::Named { name, .. } => Ok(coerce_named(schema, ty, name.as_str(), literal)?),
         TypeRef::List { item, non_null, .. } => match &literal.value {
             Value::Null => Ok((!*non_null).then_some(Input::Null)),
             Value::Variable(_) => Ok(None),

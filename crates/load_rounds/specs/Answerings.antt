@@ -35,7 +35,7 @@ pub record AnsweringOf (S P E : Type 0) : Type 0 where
 -- No public clause names it. What contracts see of how far a future is.
 abbrev pub far_of : {S E : Type 0} → Far S E → FarOf S E
 far_of (Unpolled s) = handed s
-far_of (Polled s rounds progress) = polled s rounds progress
+far_of (Polled at) = polled at.session at.rounds at.progress
 far_of Over = over
 
 module _ {S : Type 0} (may : S → List KeyOf → AnswerOf → Type 0) where

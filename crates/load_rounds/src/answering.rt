@@ -19,13 +19,21 @@ use load_queue::Asks;
 use std::marker::Model;
 use std::mem;
 
+/// An answer that is under way: its session, its rounds so far, and the execution that goes on from there.
+#[derive(Drop)]
+struct Underway<S, E> {
+    session: Session<S>,
+    rounds: u32,
+    progress: E,
+}
+
 /// How far an answering future is.
 #[derive(Drop)]
 enum Far<S, E> {
     /// It wasn't polled yet.
     Unpolled(Session<S>),
-    /// It has made this many rounds, one per poll, and its execution goes on from there.
-    Polled(Session<S>, u32, E),
+    /// It has made a round per poll.
+    Polled(Underway<S, E>),
     /// It has answered, and has returned the session.
     Over,
 }
@@ -67,24 +75,27 @@ impl<S, E> Far<S, E> {
     ghost use Rattle.load_rounds.specs.Sessions.{state_of, rules_of, memory_of};
     ghost use Rattle.load_rounds.specs.Answerings.{far_of, begun, rounds_of, FitsFar};
 
-    // The session where the next poll begins, its rounds so far, and the execution. At first failed batches are forgotten. A
-    // contract also sees here that no loader's limit is 0.
-    fn begin<'p, P: Execute<'p, Progress = E>>(self, plan: &'p P) -> (Session<S>, u32, E)
+    // Where the next poll begins. At first failed batches are forgotten. A contract also sees here that no loader's limit is 0.
+    fn begin<'p, P: Execute<'p, Progress = E>>(self, plan: &'p P) -> Underway<S, E>
         requires can { IsSome (begun (far_of self)) }
         requires fits { FitsFar (P.fits plan.now) (far_of self) }
-        ensures state { begun (far_of self) ≡ Some (state_of result.0) }
-        ensures rounds { result.1 ≡ rounds_of (far_of self) }
-        ensures fits { P.fits plan.now result.2 (memory_of result.0) }
-        ensures limited { AreLimited (rules_of (state_of result.0)) }
+        ensures state { begun (far_of self) ≡ Some (state_of result.session) }
+        ensures rounds { result.rounds ≡ rounds_of (far_of self) }
+        ensures fits { P.fits plan.now result.progress (memory_of result.session) }
+        ensures limited { AreLimited (rules_of (state_of result.session)) }
     {
         match self {
             Far::Unpolled(mut session) => {
                 session.forget();
-                (session, 0, plan.start())
+                Underway {
+                    session,
+                    rounds: 0,
+                    progress: plan.start(),
+                }
             }
-            Far::Polled(session, rounds, progress) => {
-                session.limits();
-                (session, rounds, progress)
+            Far::Polled(underway) => {
+                underway.session.limits();
+                underway
             }
             Far::Over => unreachable!(),
         }
@@ -120,14 +131,20 @@ impl<'p, S: Asks + Drop, E: Drop, P: Execute<'p, Progress = E> + Drop> Future
         ensures counted { IfReady result (λ out. IfOk out.1 (λ a. a.rounds ≡ rounds_of self.old.far)) }
         ensures asks_nothing { IfReady result (λ out. IfOk out.1 (λ _. begun self.old.far ≡ Some (state_of out.0))) }
     {
-        let (mut session, rounds, mut progress) = mem::replace(&mut self.far, Far::Over).begin(
-            self.plan,
-        );
+        let Underway {
+            mut session,
+            rounds,
+            mut progress,
+        } = mem::replace(&mut self.far, Far::Over).begin(self.plan);
         match session.turn(self.plan, &mut progress) {
             Ok(Poll::Ready(text)) => Poll::Ready((session, Ok(Answer { text, rounds }))),
             Ok(Poll::Pending) => match rounds.checked_add(1) {
                 Some(rounds) => {
-                    self.far = Far::Polled(session, rounds, progress);
+                    self.far = Far::Polled(Underway {
+                        session,
+                        rounds,
+                        progress,
+                    });
                     cx.yield_now()
                 }
                 None => Poll::Ready((session, Err(NoMemory))),

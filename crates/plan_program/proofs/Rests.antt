@@ -1,12 +1,13 @@
 -- What is left to collect, as selections are put there and taken from there.
-use Rattle.std.proofs.Common.{◌≡◌, ap, refl, ℕ, zero, suc, ◌+◌, ◌-◌, ◌<◌, ◌≤◌, Bool, true, false, List, [], ◌∷◌, ◌++◌, Option, Some, None, bytes_eq, append-nil, arith}
+use Rattle.std.proofs.Common.{◌≡◌, ◌∙◌, sym, ap, refl, ℕ, zero, suc, ◌+◌, ◌-◌, ◌<◌, ◌≤◌, Bool, true, false, List, [], ◌∷◌, ◌++◌, length, Option, Some, None, bytes_eq, append-nil, arith}
 use Rattle.std.specs.Prelude.{option_to_list}
 use Rattle.gq_lexer.specs.declared.place.Place.{Place}
+use Rattle.gq_parser.specs.declared.tree.Selection as rust
 use Rattle.gq_parser.specs.Tree.{Selection, Field, Spread, Inline, set_at, Selections, and_selection, Fragment, map_selections}
 use Rattle.gq_check.specs.Plans.{PlanOf, fragment_in}
 use Rattle.plan_program.specs.declared.collection.Rest.{Rest}
-use Rattle.plan_program.specs.Groups.{Collected, collect_one, entering}
-use Rattle.plan_program.specs.Collecting.{collect_rest, collect_rest_if, collect_rests}
+use Rattle.plan_program.specs.Groups.{Collected, Entering, collect_one, collect_all, entering}
+use Rattle.plan_program.specs.Collecting.{collect_rest, collect_rests, collect_left}
 use Rattle.plan_program.specs.Steps.{steps_one, steps_set, steps_all, steps_inside, most_steps, steps_rest, steps_if, all_steps}
 
 -- what is put last comes first
@@ -48,28 +49,48 @@ steps-first : (fs : List Fragment) (r others : Rest) (s : Selection)
     → map_selections r.selections.now ≡ and_selection s (map_selections others.selections.now) → r.enterable ≡ others.enterable → steps_rest fs r ≡ steps_one (steps_inside fs r.enterable) s + steps_rest fs others
 steps-first fs r others s first same = rw (first, ← same) refl
 
--- the first of what is left is collected, and what is inside it comes before the others
-pub rests-next : (plan : PlanOf) (ty : List ℕ) (c d : Collected) (old new : List Rest) (r others : Rest) (inner : Option Rest) (s : Selection)
-    → collect_rest_if plan ty d inner ≡ collect_one plan ty (entering plan ty r.enterable) c s
-    → map_selections r.selections.now ≡ and_selection s (map_selections others.selections.now) → r.enterable ≡ others.enterable → new ≡ (old ++ others ∷ []) ++ option_to_list inner
-    → collect_rests plan ty d new ≡ collect_rests plan ty (collect_rest plan ty c r) old
-rests-next plan ty c d old new r others None s one first same is =
-    rw (is, append-nil, rests-push plan ty d old others) (ap (λ (e : Collected). collect_rests plan ty e old) (rests-first plan ty c d r others s one first same))
-rests-next plan ty c d old new r others (Some inner) s one first same is =
-    rw (is, rests-push plan ty d (old ++ others ∷ []) inner, rests-push plan ty (collect_rest plan ty d inner) old others)
+-- where no selection is left, nothing more is collected
+collects-none : (plan : PlanOf) (ty : List ℕ) (enter : Entering) (c : Collected) (ss : List rust.Selection) → length ss ≡ 0 → collect_all plan ty enter c (map_selections ss) ≡ c
+collects-none plan ty enter c [] none = refl
+collects-none plan ty enter c (s ∷ ss) none = absurd (omega (arith, none))
+
+steps-none : (inside : ℕ) (ss : List rust.Selection) → length ss ≡ 0 → steps_all inside (map_selections ss) ≡ 1
+steps-none inside [] none = refl
+steps-none inside (s ∷ ss) none = absurd (omega (arith, none))
+
+-- what comes next is the last that is left, where there is one
+pub rests-last : (plan : PlanOf) (ty : List ℕ) (c : Collected) (old new : List Rest) (r : Rest) (next : Option Rest) → length r.selections.now ≡ 0
+    → old ≡ new ++ option_to_list next → (next ≡ None → length old ≡ 0) → collect_left plan ty c next new ≡ collect_left plan ty c (Some r) old
+rests-last plan ty c [] new r None none is nothing = sym (collects-none plan ty (entering plan ty r.enterable) c r.selections.now none)
+rests-last plan ty c (q ∷ qs) new r None none is nothing = absurd (omega (arith, nothing refl))
+rests-last plan ty c old new r (Some q) none is nothing =
+    sym (rests-push plan ty c new q) ∙ (ap (λ (rs : List Rest). collect_rests plan ty c rs) (sym is)
+    ∙ ap (λ (e : Collected). collect_rests plan ty e old) (sym (collects-none plan ty (entering plan ty r.enterable) c r.selections.now none)))
+
+pub steps-last : (fs : List Fragment) (old new : List Rest) (r : Rest) (next : Option Rest) → length r.selections.now ≡ 0 → old ≡ new ++ option_to_list next
+    → all_steps fs new + steps_if fs next < all_steps fs old + steps_rest fs r
+steps-last fs old new r None none is =
+    let one : steps_rest fs r ≡ 1 = steps-none (steps_inside fs r.enterable) r.selections.now none in
+    let same : all_steps fs old ≡ all_steps fs new = ap (all_steps fs) (is ∙ append-nil new) in
+    omega (arith, one, same)
+steps-last fs old new r (Some q) none is =
+    let one : steps_rest fs r ≡ 1 = steps-none (steps_inside fs r.enterable) r.selections.now none in
+    let same : all_steps fs old ≡ all_steps fs new + steps_rest fs q = ap (all_steps fs) is ∙ steps-push fs new q in
+    omega (arith, one, same)
+
+-- the first selection is collected but for what is inside it, which comes before the others
+pub rests-inside : (plan : PlanOf) (ty : List ℕ) (c d : Collected) (old new : List Rest) (r others inner : Rest) (s : Selection)
+    → collect_rest plan ty d inner ≡ collect_one plan ty (entering plan ty r.enterable) c s
+    → map_selections r.selections.now ≡ and_selection s (map_selections others.selections.now) → r.enterable ≡ others.enterable → new ≡ old ++ others ∷ []
+    → collect_left plan ty d (Some inner) new ≡ collect_left plan ty c (Some r) old
+rests-inside plan ty c d old new r others inner s one first same is =
+    rw (is, rests-push plan ty (collect_rest plan ty d inner) old others)
     (ap (λ (e : Collected). collect_rests plan ty e old) (rests-first plan ty c (collect_rest plan ty d inner) r others s one first same))
 
--- the same takes one step less
-pub steps-next : (fs : List Fragment) (old new : List Rest) (r others : Rest) (inner : Option Rest) (s : Selection)
-    → steps_if fs inner < steps_one (steps_inside fs r.enterable) s
-    → map_selections r.selections.now ≡ and_selection s (map_selections others.selections.now) → r.enterable ≡ others.enterable → new ≡ (old ++ others ∷ []) ++ option_to_list inner
-    → all_steps fs new < all_steps fs old + steps_rest fs r
-steps-next fs old new r others None s one first same is =
-    let a = steps-push fs old others in
+pub steps-inside : (fs : List Fragment) (old new : List Rest) (r others inner : Rest) (s : Selection) → steps_rest fs inner < steps_one (steps_inside fs r.enterable) s
+    → map_selections r.selections.now ≡ and_selection s (map_selections others.selections.now) → r.enterable ≡ others.enterable → new ≡ old ++ others ∷ []
+    → all_steps fs new + steps_rest fs inner < all_steps fs old + steps_rest fs r
+steps-inside fs old new r others inner s one first same is =
+    let a : all_steps fs new ≡ all_steps fs old + steps_rest fs others = ap (all_steps fs) is ∙ steps-push fs old others in
     let b = steps-first fs r others s first same in
-    rw (is, append-nil) (omega (arith, a, b, one))
-steps-next fs old new r others (Some inner) s one first same is =
-    let a = steps-push fs old others in
-    let b = steps-first fs r others s first same in
-    let c = steps-push fs (old ++ others ∷ []) inner in
-    rw is (omega (arith, a, b, c, one))
+    omega (arith, a, b, one)

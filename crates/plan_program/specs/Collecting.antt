@@ -28,6 +28,11 @@ abbrev pub collect_rests : PlanOf → List ℕ → Collected → List Rest → C
 collect_rests plan ty so_far [] = so_far
 collect_rests plan ty so_far (r ∷ rs) = collect_rest plan ty (collect_rests plan ty so_far rs) r
 
--- what is left, after some of one more rest was collected, collects the same as before
-abbrev pub CollectsFirst : PlanOf → List ℕ → Rest → rust.Collected → rust.Collected → List Rest → List Rest → Type 0
-CollectsFirst plan ty rest old new left after = collect_rests plan ty (collected_of new) after ≡ collect_rests plan ty (collect_rest plan ty (collected_of old) rest) left
+-- what comes next collects, and then what is left; with nothing next, nothing is left
+abbrev pub collect_left : PlanOf → List ℕ → Collected → Option Rest → List Rest → Collected
+collect_left plan ty so_far None left = so_far
+collect_left plan ty so_far (Some r) left = collect_rests plan ty (collect_rest plan ty so_far r) left
+
+-- after some of rest was collected, what comes next and what is left then collect the same as before
+abbrev pub CollectsFirst : PlanOf → List ℕ → Rest → rust.Collected → rust.Collected → List Rest → List Rest → Option Rest → Type 0
+CollectsFirst plan ty rest old new left after next = collect_left plan ty (collected_of new) next after ≡ collect_left plan ty (collected_of old) (Some rest) left

@@ -94,7 +94,8 @@ fn collect_one<'p>(
     }
 }
 
-// Collects the first of the selections that are left, and puts back what is left then: what is inside it comes first.
+// Collects the first of these selections. Gives those that come next: what is inside it, else the others, else the last that
+// are left.
 fn collect_first<'p>(
     alloc: Global,
     plan: &'p Plan<'_>,
@@ -102,27 +103,30 @@ fn collect_first<'p>(
     rest: Rest<'p>,
     left: &mut Vec<Rest<'p>>,
     so_far: &mut Collected<'p>,
-) -> Result<(), AllocError>
-    ensures collected { OnOk result (CollectsFirst (plan_of plan.now) ty.now rest.entry so_far.old so_far.new
+) -> Result<Option<Rest<'p>>, AllocError>
+    ensures collected { IfOk result (CollectsFirst (plan_of plan.now) ty.now rest.entry so_far.old so_far.new
         left.old.items left.new.items) }
     ensures steps { let fs = (plan_of plan.now).fragments in
-        OnOk result (all_steps fs left.new.items < all_steps fs left.old.items + steps_rest fs rest.entry) }
+        IfOk result (λ next. all_steps fs left.new.items + steps_if fs next < all_steps fs left.old.items + steps_rest fs rest.entry) }
 {
     let Some((selection, selections)) = rest.selections.split_first() else {
-        return Ok(());
+        return Ok(left.pop());
     };
-    left.push(Rest {
+    let others = Rest {
         selections,
         enterable: rest.enterable,
-    })?;
+    };
     match collect_one(alloc, plan, ty, rest.enterable, selection, so_far)? {
-        Some(inner) => Ok(left.push(inner)?),
-        None => Ok(()),
+        Some(inner) => {
+            left.push(others)?;
+            Ok(Some(inner))
+        }
+        None => Ok(Some(others)),
     }
 }
 
 // Collects what selections choose. However long the chains of fragments and inline fragments are, what is left to collect is
-// kept in a list.
+// kept in a list. Where nothing is inside a selection, the list stays empty.
 fn collect_from<'p>(
     alloc: Global,
     plan: &'p Plan<'_>,
@@ -132,13 +136,13 @@ fn collect_from<'p>(
 ) -> Result<(), AllocError>
     ensures { OnOk result (collected_of so_far.new ≡ collect_from (plan_of plan.now) ty.now (collected_of so_far.old) (map_selections selections.now)) }
 {
-    let mut left = Vec::with_capacity(alloc, 1)?;
-    left.push(Rest {
+    let mut left = Vec::new(alloc);
+    let mut rest = Rest {
         selections,
         enterable: plan.fragments().len(),
-    })?;
-    while let Some(rest) = left.pop() {
-        collect_first(alloc, plan, ty, rest, &mut left, so_far)?;
+    };
+    while let Some(next) = collect_first(alloc, plan, ty, rest, &mut left, so_far)? {
+        rest = next;
     }
     Ok(())
 }

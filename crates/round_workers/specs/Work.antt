@@ -1,5 +1,5 @@
--- What a worker's call hands back.
-use Rattle.std.specs.Prelude.{◌≡◌, List, ◌++◌, Result, IfOk}
+-- What workers are started with, and what a worker's call hands back.
+use Rattle.std.specs.Prelude.{◌≡◌, ◌<◌, ◌≤◌, ℕ, List, ◌++◌, Result, IfOk}
 use Rattle.std.specs.Global.{Vec}
 use Rattle.load_memory.specs.Keys.{KeyOf}
 use Rattle.load_memory.specs.declared.shelf.Shelf.{Shelf}
@@ -9,7 +9,11 @@ use Rattle.load_queue.specs.Orders.{OrderOf}
 use Rattle.load_queue.specs.Loaders.{LoaderOf}
 use Rattle.load_memory.specs.declared.no_memory.NoMemory.{NoMemory}
 use Rattle.round_workers.specs.declared.desk.Hand.{Hand}
-use Rattle.round_workers.specs.Round.{EachShown}
+use Rattle.round_workers.specs.Round.{EachShown, HaveLoaders}
+
+-- a part for each of so many workers, one or more, and a loader for each order
+abbrev pub CanShare : {S : Type 0} → List (LoaderOf S) → Hand → ℕ → Type 0
+CanShare loaders hand workers = (0 < workers) × (workers ≤ hand.parts) × HaveLoaders loaders hand.all
 
 -- more orders were taken, and at Ok the receipts show replies to these, in order
 pub record Worked {S : Type 0} (may : S → List KeyOf → AnswerOf → Type 0) (loaders : List (LoaderOf S)) (shelf : Shelf) (old new : Hand) (result : Result (Vec Receipt) NoMemory) : Type 0 where

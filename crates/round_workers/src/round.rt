@@ -5,14 +5,14 @@ ghost use Rattle.crossbeam_queue.specs.Passes.{view, IsPassOf, ruled_capacity};
 ghost use Rattle.load_memory.specs.Shelves.{IsOn};
 ghost use Rattle.round_workers.specs.Desk.{hand};
 ghost use Rattle.round_workers.specs.Round.{HaveLoaders, Shows, AllAnswered};
-ghost use Rattle.round_workers.specs.Work.{Worked};
+ghost use Rattle.round_workers.specs.Work.{CanShare, Worked};
 
 use crate::desk::{Desk, Halves, Put, Taken, Worker};
 use load_memory::{NoMemory, Receipt, Shelf};
 use load_queue::{Loader, Order, Source};
 use std::alloc::Global;
 use std::sync::Wait;
-use std::thread::{Threads, join};
+use std::thread::{Threads, join_mut};
 
 /// The most workers that a round may have.
 pub const MOST_WORKERS: usize = 16;
@@ -46,27 +46,21 @@ fn serve<S: Source, R: Wait>(
 fn work<S: Source, R: Wait>(
     rt: &R,
     bench: &Bench<'_, S>,
-    mut worker: Worker,
-) -> (Worker, Result<Vec<Receipt>, NoMemory>)
-    requires desk { IsPassOf bench.now.desk.now worker }
-    requires part { 0 < (view worker).parts }
-    requires loaders { HaveLoaders bench.now.loaders.now (view worker).all }
-    ensures desk { IsPassOf bench.now.desk.now result.0 }
-    ensures worked { Worked S.may_answer bench.now.loaders.now bench.now.shelf.now (view worker) (view result.0) result.1 }
-    ensures whole { (view result.0).parts ≡ 16 → IfOk result.1 (λ _. IsPermutation (view result.0).all (view result.0).taken) }
+    worker: &mut Worker,
+) -> Result<Vec<Receipt>, NoMemory>
+    requires desk { IsPassOf bench.now.desk.now worker.old }
+    requires part { 0 < (view worker.old).parts }
+    requires loaders { HaveLoaders bench.now.loaders.now (view worker.old).all }
+    ensures desk { IsPassOf bench.now.desk.now worker.new }
+    ensures worked { Worked S.may_answer bench.now.loaders.now bench.now.shelf.now (view worker.old) (view worker.new) result }
+    ensures whole { (view worker.new).parts ≡ 16 → IfOk result (λ _. IsPermutation (view worker.new).all (view worker.new).taken) }
 {
     let mut receipts = Vec::new(bench.alloc);
     for _ in rt.forever() {
-        let Some(order) = bench.desk.pop_as::<Taken, R>(rt, &mut worker) else {
-            return (worker, Ok(receipts));
+        let Some(order) = bench.desk.pop_as::<Taken, R>(rt, worker) else {
+            return Ok(receipts);
         };
-        let receipt = match serve(rt, bench, order) {
-            Ok(receipt) => receipt,
-            Err(e) => return (worker, Err(e)),
-        };
-        if receipts.push(receipt).is_err() {
-            return (worker, Err(NoMemory));
-        }
+        receipts.push(serve(rt, bench, order)?)?;
     }
     unreachable!()
 }
@@ -75,14 +69,14 @@ fn work<S: Source, R: Wait>(
 fn share<S: Source, R: Threads + Wait + Sync>(
     rt: &R,
     bench: &Bench<'_, S>,
-    mut worker: Worker,
+    worker: &mut Worker,
     workers: usize,
-) -> (Worker, Result<Vec<Receipt>, NoMemory>)
-    requires desk { IsPassOf bench.now.desk.now worker }
-    requires part { (0 < workers) × (workers ≤ (view worker).parts) }
-    requires loaders { HaveLoaders bench.now.loaders.now (view worker).all }
-    ensures desk { IsPassOf bench.now.desk.now result.0 }
-    ensures worked { Worked S.may_answer bench.now.loaders.now bench.now.shelf.now (view worker) (view result.0) result.1 }
+) -> Result<Vec<Receipt>, NoMemory>
+    requires desk { IsPassOf bench.now.desk.now worker.old }
+    requires part { (0 < workers) × (workers ≤ (view worker.old).parts) }
+    requires loaders { HaveLoaders bench.now.loaders.now (view worker.old).all }
+    ensures desk { IsPassOf bench.now.desk.now worker.new }
+    ensures worked { Worked S.may_answer bench.now.loaders.now bench.now.shelf.now (view worker.old) (view worker.new) result }
 {
     if workers < 2 {
         return work(rt, bench, worker);
@@ -95,12 +89,12 @@ fn share<S: Source, R: Threads + Wait + Sync>(
         shelf,
         desk,
     } = *bench;
-    let other = desk.another::<Halves>(&mut worker);
-    let ((mut worker, mine), (other, theirs)) = join(
+    let mut other = desk.another::<Halves>(worker);
+    let (mine, theirs) = join_mut(
         rt,
-        move || -> (Worker, Result<Vec<Receipt>, NoMemory>)
-            requires { IsSync R.row × IsSync S.row × IsPassOf desk.now worker × (0 < rest) × (rest ≤ (view worker).parts) × HaveLoaders loaders.now (view worker).all }
-            ensures { IsPassOf desk.entry.now result.0 × Worked S.may_answer loaders.entry.now shelf.entry.now (view worker) (view result.0) result.1 }
+        &mut || -> Result<Vec<Receipt>, NoMemory>
+            requires { IsSync R.row × IsSync S.row × IsPassOf desk.now worker.now × CanShare loaders.now (view worker.now) rest }
+            ensures { IsPassOf desk.entry.now worker.exit.now × Worked S.may_answer loaders.entry.now shelf.entry.now (view worker.entry.now) (view worker.exit.now) result }
         {
             share(
                 rt,
@@ -114,9 +108,9 @@ fn share<S: Source, R: Threads + Wait + Sync>(
                 rest,
             )
         },
-        move || -> (Worker, Result<Vec<Receipt>, NoMemory>)
-            requires { IsSync R.row × IsSync S.row × IsPassOf desk.now other × (0 < half) × (half ≤ (view other).parts) × HaveLoaders loaders.now (view other).all }
-            ensures { IsPassOf desk.entry.now result.0 × Worked S.may_answer loaders.entry.now shelf.entry.now (view other) (view result.0) result.1 }
+        &mut || -> Result<Vec<Receipt>, NoMemory>
+            requires { IsSync R.row × IsSync S.row × IsPassOf desk.now other × CanShare loaders.now (view other) half }
+            ensures { IsPassOf desk.entry.now other.exit × Worked S.may_answer loaders.entry.now shelf.entry.now (view other.entry) (view other.exit) result }
         {
             share(
                 rt,
@@ -126,13 +120,13 @@ fn share<S: Source, R: Threads + Wait + Sync>(
                     shelf,
                     desk,
                 },
-                other,
+                &mut other,
                 half,
             )
         },
     );
-    desk.absorb::<Halves>(&mut worker, other);
-    (worker, joined(mine, theirs))
+    desk.absorb::<Halves>(worker, other);
+    joined(mine, theirs)
 }
 
 // The receipts of both, unless one is out of memory.
@@ -150,18 +144,17 @@ fn joined(
 }
 
 // Puts all orders into the queue.
-fn put_all<R: Wait>(rt: &R, desk: &Desk, mut worker: Worker, orders: Vec<Order>) -> Worker
-    requires desk { IsPassOf desk.now worker × (view worker ≡ hand 16 [] []) }
+fn put_all<R: Wait>(rt: &R, desk: &Desk, worker: &mut Worker, orders: Vec<Order>)
+    requires desk { IsPassOf desk.now worker.old × (view worker.old ≡ hand 16 [] []) }
     requires room { ruled_capacity desk.now ≡ length orders.items }
-    ensures { IsPassOf desk.now result × (view result ≡ hand 16 orders.items []) }
+    ensures { IsPassOf desk.now worker.new × (view worker.new ≡ hand 16 orders.items []) }
 {
     for order in orders {
-        match desk.push_as::<Put, R>(rt, &mut worker, order) {
+        match desk.push_as::<Put, R>(rt, worker, order) {
             Ok(()) => {}
             Err(_) => unreachable!(),
         }
     }
-    worker
 }
 
 /// Runs each order once, by this many workers at the same time, and gives one receipt for each, in any order. The orders go
@@ -188,16 +181,15 @@ pub fn run_round<S: Source, R: Threads + Wait + Sync>(
         return Ok(Vec::new(alloc));
     }
     let busy = workers.min(orders.len());
-    let (desk, worker) = Desk::ruled(alloc, orders.len())?;
-    let worker = put_all(rt, &desk, worker, orders);
+    let (desk, mut worker) = Desk::ruled(alloc, orders.len())?;
+    put_all(rt, &desk, &mut worker, orders);
     let bench = Bench {
         alloc,
         loaders,
         shelf,
         desk: &desk,
     };
-    let (worker, most) = share(rt, &bench, worker, busy);
-    let most = most?;
-    let (_worker, last) = work(rt, &bench, worker);
+    let most = share(rt, &bench, &mut worker, busy)?;
+    let last = work(rt, &bench, &mut worker);
     joined(Ok(most), last)
 }

@@ -4,6 +4,7 @@ use Rattle.std.proofs.Common.{◌≡◌, ◌≢◌, ℕ, Bool, true, false, List
 use Rattle.gq_lexer.specs.declared.place.Place.{Place}
 use Rattle.gq_lexer.specs.declared.token.Punct as lexer
 use Rattle.gq_lexer.specs.declared.token.Punct.TheVariants.{Bang, Amp, ParenLeft, ParenRight, Colon, Equals, At, BracketLeft, BracketRight, BraceLeft, BraceRight, Pipe}
+use Rattle.gq_parser.specs.declared.value.Constness.TheVariants.{Const}
 use Rattle.gq_parser.specs.declared.keyword.Keyword.{Keyword}
 use Rattle.gq_parser.specs.declared.keyword.Keyword.TheVariants.{Query, True, False, Null}
 use Rattle.gq_parser.specs.Word.{Word, Punct, Name, Text, Token, at}
@@ -313,7 +314,7 @@ top_means b = top_then b.is b.rest
 described_top : {p : Place} {s : List ℕ} {tokens : List Token} → Means (ADefinition ∷ []) tokens → Means [] (at p (Text s) ∷ tokens)
 described_top (then' (d_definition b h) (ends others)) = ends (next_definition (definition description b) others)
 
-any_name : (p : Place) (k : Keyword) (n : List ℕ) (tokens : List Token) → (v : Value) × IsValue true v (at p (Name k n) ∷ tokens) tokens
+any_name : (p : Place) (k : Keyword) (n : List ℕ) (tokens : List Token) → (v : Value) × IsValue Const v (at p (Name k n) ∷ tokens) tokens
 any_name p True n tokens = (_, value.yes)
 any_name p False n tokens = (_, value.no)
 any_name p Null n tokens = (_, value.null)
@@ -324,7 +325,7 @@ any_name p Fragment n tokens = (_, value.enum tt)
 any_name p On n tokens = (_, value.enum tt)
 any_name p Other n tokens = (_, value.enum tt)
 
-next_means : {v : Value} {before mid : List Token} {stack : List Symbol} → IsValue true v before mid → Means (MoreValues ∷ stack) mid → Means (MoreValues ∷ stack) before
+next_means : {v : Value} {before mid : List Token} {stack : List Symbol} → IsValue Const v before mid → Means (MoreValues ∷ stack) mid → Means (MoreValues ∷ stack) before
 next_means v (then' (d_more_values vs) rest) = then' (d_more_values (value.next_value v vs)) rest
 
 object_field_means : {p : Place} {k : Keyword} {n : List ℕ} {tokens : List Token} {stack : List Symbol} → Means (A AColon ∷ AValue ∷ MoreObjectFields ∷ stack) tokens → Means (MoreObjectFields ∷ stack) (at p (Name k n) ∷ tokens)

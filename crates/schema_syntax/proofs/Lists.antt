@@ -3,6 +3,7 @@ use Rattle.std.proofs.Common.{◌≡◌, ℕ, ◌<◌, Bool, true, false, List, 
 use Rattle.std.proofs.lemmas.List.{append-nil}
 use Rattle.gq_lexer.specs.declared.place.Place.{Place}
 use Rattle.gq_lexer.specs.declared.token.Punct.TheVariants.{ParenLeft, ParenRight, Colon, Equals, BraceRight}
+use Rattle.gq_parser.specs.declared.value.Constness.TheVariants.{Const}
 use Rattle.gq_parser.specs.declared.keyword.Keyword.{Keyword}
 use Rattle.gq_parser.specs.declared.tree.Literal.{Literal}
 use Rattle.gq_parser.specs.Keywords.{IsEnumName}
@@ -80,7 +81,7 @@ no_default_read room before after h = (rw h.0 no_default, λ stack. no_default_c
 pub default_opens : (room : ℕ) (before mid : List Token) (stack : List Symbol) → IsTaken (Punct Equals) before mid → read room (MaybeDefault ∷ stack) before ≡ read room (AValue ∷ stack) mid
 default_opens room before mid stack h = rw h.is refl
 
-pub default_read : (room : ℕ) (l : Literal) (before mid after : List Token) → IsTaken (Punct Equals) before mid → Reads (λ v. IsValue true (literal_of v)) room (one AValue) room [] mid after (Ok l)
+pub default_read : (room : ℕ) (l : Literal) (before mid after : List Token) → IsTaken (Punct Equals) before mid → Reads (λ v. IsValue Const (literal_of v)) room (one AValue) room [] mid after (Ok l)
     → IsDefault (Some (literal_of l)) before after × ((stack : List Symbol) → read room (MaybeDefault ∷ stack) before ≡ read room stack after)
 default_read room l before mid after h v = (rw h.is (default v.0), λ stack. default_opens room before mid stack h ∙ v.1 stack)
 

@@ -2,6 +2,7 @@
 use Rattle.std.proofs.Common.{◌≡◌, ◌≢◌, ℕ, Bool, true, false, List, [], ◌∷◌, ◌++◌, Option, refl, ap}
 use Rattle.gq_lexer.specs.declared.place.Place.{Place}
 use Rattle.gq_lexer.specs.declared.token.Punct.TheVariants.{Bang, ParenLeft, ParenRight, Colon, Equals, At, BracketLeft, BracketRight, BraceLeft, BraceRight, Pipe}
+use Rattle.gq_parser.specs.declared.value.Constness.TheVariants.{Const}
 use Rattle.gq_parser.specs.declared.keyword.Keyword.{Keyword}
 use Rattle.gq_parser.specs.declared.keyword.Keyword.TheVariants.{Query, True, False, Null}
 use Rattle.gq_parser.specs.Word.{Word, Punct, Name, Text, Token, at}
@@ -46,7 +47,7 @@ pub data Derives : Symbol → List Token → List Token → Type 0 where
   d_some_arguments : {p : Place} {as' : List tree.Argument} {mid after : List Token} → AreArguments false as' mid after → Derives MaybeArguments (at p (Punct ParenLeft) ∷ mid) after
   d_arguments : {none : Bool} {as' : List tree.Argument} {before after : List Token} → AreArguments none as' before after → Derives (Arguments none) before after
   d_no_default : {after : List Token} → IsNotNext (Punct Equals) after → Derives MaybeDefault after after
-  d_default : {p : Place} {v : Value} {mid after : List Token} → IsValue true v mid after → Derives MaybeDefault (at p (Punct Equals) ∷ mid) after
+  d_default : {p : Place} {v : Value} {mid after : List Token} → IsValue Const v mid after → Derives MaybeDefault (at p (Punct Equals) ∷ mid) after
   d_type : {p : Place} {k : Keyword} {n : List ℕ} {mid after : List Token} → IsServedName n → Derives MaybeBang mid after → Derives AType (at p (Name k n) ∷ mid) after
   d_list_type : {p q r : Place} {k : Keyword} {n : List ℕ} {mid mid' after : List Token} → IsServedName n → Derives MaybeBang mid (at r (Punct BracketRight) ∷ mid') → Derives MaybeBang mid' after
       → Derives AType (at p (Punct BracketLeft) ∷ at q (Name k n) ∷ mid) after
@@ -60,9 +61,9 @@ pub data Derives : Symbol → List Token → List Token → Type 0 where
   d_no_pipe : {after : List Token} → IsNotNext (Punct Pipe) after → Derives MaybePipe after after
   d_pipe : {p : Place} {after : List Token} → Derives MaybePipe (at p (Punct Pipe) ∷ after) after
   d_members : {ms : List tree.Name} {before after : List Token} → AreMoreMembers ms before after → IsNotNext (Punct Pipe) after → Derives MoreMembers before after
-  d_value : {v : Value} {before after : List Token} → IsValue true v before after → Derives AValue before after
-  d_more_values : {vs : Values} {before after : List Token} → AreValues true vs before after → Derives MoreValues before after
-  d_object_fields : {ms : Members} {before after : List Token} → AreMembers true ms before after → Derives MoreObjectFields before after
+  d_value : {v : Value} {before after : List Token} → IsValue Const v before after → Derives AValue before after
+  d_more_values : {vs : Values} {before after : List Token} → AreValues Const vs before after → Derives MoreValues before after
+  d_object_fields : {ms : Members} {before after : List Token} → AreMembers Const ms before after → Derives MoreObjectFields before after
 
 pub data Means : List Symbol → List Token → Type 0 where
   ends : {ds : List Definition} {tokens : List Token} → IsDocument ds tokens → Means [] tokens

@@ -2,6 +2,7 @@
 use Rattle.std.proofs.Common.{◌≡◌, Bool, true, false, List, ◌∷◌, Option, Some, refl, sym, ap, subst, ◌∙◌}
 use Rattle.gq_lexer.specs.declared.place.Place.{Place}
 use Rattle.gq_lexer.specs.declared.token.Punct.TheVariants.{Bang, ParenLeft, Colon, Equals, BracketRight, BraceLeft, Pipe}
+use Rattle.gq_parser.specs.declared.value.Constness.TheVariants.{Const}
 use Rattle.gq_parser.specs.Word.{Punct, Token, at}
 use Rattle.gq_parser.specs.Word as words
 use Rattle.gq_parser.specs.Tree as gq
@@ -19,7 +20,7 @@ both : {A B C : Type 0} (f : A → B → C) {a a' : A} {b b' : B} → a ≡ a' �
 both f {a' = a'} {b = b} p q = ap (λ x. f x b) p ∙ ap (λ y. f a' y) q
 
 mutual
-  value_one : {v w : gq.Value} {before after after' : List Token} → IsValue true v before after → IsValue true w before after' → (v ≡ w) × (after ≡ after')
+  value_one : {v w : gq.Value} {before after after' : List Token} → IsValue Const v before after → IsValue Const w before after' → (v ≡ w) × (after ≡ after')
   value_one value.int value.int = (refl, refl)
   value_one value.float value.float = (refl, refl)
   value_one value.text value.text = (refl, refl)
@@ -36,20 +37,20 @@ mutual
   value_one (value.array {p = p} vs) (value.array ws) = let r = values_one vs ws in (ap (gq.Array p) r.0, r.1)
   value_one (value.object {p = p} vs) (value.object ws) = let r = members_one vs ws in (ap (gq.Object p) r.0, r.1)
 
-  values_one : {vs ws : gq.Values} {before after after' : List Token} → AreValues true vs before after → AreValues true ws before after' → (vs ≡ ws) × (after ≡ after')
+  values_one : {vs ws : gq.Values} {before after after' : List Token} → AreValues Const vs before after → AreValues Const ws before after' → (vs ≡ ws) × (after ≡ after')
   values_one value.no_more_values value.no_more_values = (refl, refl)
   values_one value.no_more_values (value.next_value w ws) = elim w [ ]
   values_one (value.next_value v vs) value.no_more_values = elim v [ ]
   values_one (value.next_value v vs) (value.next_value {vs = ys} {after = k} w ws) =
       let r = value_one v w in
-      let s = values_one vs (subst (λ m. AreValues true ys m k) (sym r.1) ws) in
+      let s = values_one vs (subst (λ m. AreValues Const ys m k) (sym r.1) ws) in
       (both gq.and_value r.0 s.0, s.1)
 
-  members_one : {vs ws : gq.Members} {before after after' : List Token} → AreMembers true vs before after → AreMembers true ws before after' → (vs ≡ ws) × (after ≡ after')
+  members_one : {vs ws : gq.Members} {before after after' : List Token} → AreMembers Const vs before after → AreMembers Const ws before after' → (vs ≡ ws) × (after ≡ after')
   members_one value.no_more_members value.no_more_members = (refl, refl)
   members_one (value.next_member {p = p} {n = n} v vs) (value.next_member {ms = ys} {after = k} w ws) =
       let r = value_one v w in
-      let s = members_one vs (subst (λ m. AreMembers true ys m k) (sym r.1) ws) in
+      let s = members_one vs (subst (λ m. AreMembers Const ys m k) (sym r.1) ws) in
       (both (gq.and_member p n) r.0 s.0, s.1)
 
 bang_one : {b b' : Bool} {before after after' : List Token} → IsBang b before after → IsBang b' before after' → IsNotNext (Punct Bang) after → IsNotNext (Punct Bang) after' → (b ≡ b') × (after ≡ after')

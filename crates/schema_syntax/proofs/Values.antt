@@ -5,6 +5,7 @@ use Rattle.std.specs.Prelude.{string_bytes}
 use Rattle.std.specs.declared.string.String.{String}
 use Rattle.gq_lexer.specs.declared.place.Place.{Place}
 use Rattle.gq_lexer.specs.declared.token.Punct.TheVariants.{Colon, BracketLeft, BracketRight, BraceLeft, BraceRight}
+use Rattle.gq_parser.specs.declared.value.Constness.TheVariants.{Const}
 use Rattle.gq_parser.specs.declared.keyword.Keyword.{Keyword}
 use Rattle.gq_parser.specs.declared.keyword.Keyword.TheVariants.{True, False, Null}
 use Rattle.gq_parser.specs.declared.tree.Literal.{Literal}
@@ -31,13 +32,13 @@ use Rattle.schema_syntax.proofs.Views.{the_literal, literal_int, literal_float, 
 -- ---- names
 
 pub true_value : (n : List ℕ) → True ≡ keyword_of n → IsNameValue n (rust-value.Boolean true)
-true_value n e p after = subst (λ v. IsValue true v (at p (Name (keyword_of n) n) ∷ after) after) (sym (literal_boolean p true)) (subst (λ k. IsValue true (Boolean p true) (at p (Name k n) ∷ after) after) e value.yes)
+true_value n e p after = subst (λ v. IsValue Const v (at p (Name (keyword_of n) n) ∷ after) after) (sym (literal_boolean p true)) (subst (λ k. IsValue Const (Boolean p true) (at p (Name k n) ∷ after) after) e value.yes)
 
 pub false_value : (n : List ℕ) → False ≡ keyword_of n → IsNameValue n (rust-value.Boolean false)
-false_value n e p after = subst (λ v. IsValue true v (at p (Name (keyword_of n) n) ∷ after) after) (sym (literal_boolean p false)) (subst (λ k. IsValue true (Boolean p false) (at p (Name k n) ∷ after) after) e value.no)
+false_value n e p after = subst (λ v. IsValue Const v (at p (Name (keyword_of n) n) ∷ after) after) (sym (literal_boolean p false)) (subst (λ k. IsValue Const (Boolean p false) (at p (Name k n) ∷ after) after) e value.no)
 
 pub null_value : (n : List ℕ) → Null ≡ keyword_of n → IsNameValue n rust-value.Null
-null_value n e p after = subst (λ v. IsValue true v (at p (Name (keyword_of n) n) ∷ after) after) (sym (literal_null p)) (subst (λ k. IsValue true (gq.Null p) (at p (Name k n) ∷ after) after) e value.null)
+null_value n e p after = subst (λ v. IsValue Const v (at p (Name (keyword_of n) n) ∷ after) after) (sym (literal_null p)) (subst (λ k. IsValue Const (gq.Null p) (at p (Name k n) ∷ after) after) e value.null)
 
 is_enum_name : (k : Keyword) → (k ≡ True → ⊥) → (k ≡ False → ⊥) → (k ≡ Null → ⊥) → IsEnumName k
 is_enum_name True t f n = t refl
@@ -48,16 +49,16 @@ is_enum_name _ t f n = tt
 pub enum_value : (n : List ℕ) (s : String Global) (k : Keyword) → k ≡ keyword_of n → (k ≡ True → ⊥) → (k ≡ False → ⊥) → (k ≡ Null → ⊥) → string_bytes s ≡ n → IsNameValue n (rust-value.Enum s)
 enum_value n s k e t f g h p after =
     let named : IsEnumName (keyword_of n) = subst IsEnumName e (is_enum_name k t f g) in
-    subst (λ v. IsValue true v (at p (Name (keyword_of n) n) ∷ after) after) (sym (literal_enum p s)) (rw h (value.enum named))
+    subst (λ v. IsValue Const v (at p (Name (keyword_of n) n) ∷ after) after) (sym (literal_enum p s)) (rw h (value.enum named))
 
 pub name_read : (room : ℕ) (p : Place) (n : List ℕ) (v : rust.Value) (s0 s1 after : List Token) → s1 ≡ s0 → s1 ≡ at p (Name (keyword_of n) n) ∷ after → IsNameValue n v
-    → IsValue true (literal_of (the_literal p v)) s0 after × ((stack : List Symbol) → read room (AValue ∷ stack) s0 ≡ read room stack after)
+    → IsValue Const (literal_of (the_literal p v)) s0 after × ((stack : List Symbol) → read room (AValue ∷ stack) s0 ≡ read room stack after)
 name_read room p n v s0 s1 after e e1 h = rw (← e, e1) (h p after, λ stack. refl)
 
 -- ---- strings and numbers
 
 pub text_read : (room : ℕ) (p : Place) (s : String Global) (s0 after : List Token) → s0 ≡ at p (Text (string_bytes s)) ∷ after
-    → IsValue true (literal_of (the_literal p (rust-value.Text s))) s0 after × ((stack : List Symbol) → read room (AValue ∷ stack) s0 ≡ read room stack after)
+    → IsValue Const (literal_of (the_literal p (rust-value.Text s))) s0 after × ((stack : List Symbol) → read room (AValue ∷ stack) s0 ≡ read room stack after)
 text_read room p s s0 after e = rw (e, literal_text) (value.text, λ stack. refl)
 
 pub int_read : (p : Place) (s : String Global) (n : List ℕ) (old new : List Token) → old ≡ at p (words.Int n) ∷ new → string_bytes s ≡ n → IsNumberRead (the_literal p (rust-value.Int s)) old new
@@ -80,14 +81,14 @@ value_fails room before stop stack e t n b c m f =
     fails_here room before stop (AValue ∷ stack) e refl (λ p w rest is. value_shift p w rest stack (subst IsNoText is t) (subst IsNoName is n) (subst (IsNotNext (Punct BracketLeft)) is b) (subst (IsNotNext (Punct BraceLeft)) is c) (subst IsNoInt is m) (subst IsNoFloat is f))
 
 number_reads : (room : ℕ) (before after : List Token) (res : Result Literal Stop) → IsNoText before → IsNoName before → IsNotNext (Punct BracketLeft) before → IsNotNext (Punct BraceLeft) before → NumberReads before after res
-    → Reads (λ v. IsValue true (literal_of v)) room (one AValue) room [] before after res
+    → Reads (λ v. IsValue Const (literal_of v)) room (one AValue) room [] before after res
 number_reads room before after (Ok l) t n b c h = (h.is, h.reads room)
 number_reads room before after (Err NoMemory) t n b c h = λ stack. tt
 number_reads room before after (Err (Unexpected p)) t n b c h = λ stack. value_fails room before (Unexpected p) stack h.0 t n b c h.1 h.2
 number_reads room before after (Err (NotServed p)) t n b c h = λ stack. value_fails room before (NotServed p) stack h.0 t n b c h.1 h.2
 
 pub number_value : (room : ℕ) (s0 s1 s2 s3 s4 after : List Token) (res : Result Literal Stop) → (s1 ≡ s0) × IsNoText s0 → (s2 ≡ s1) × IsNoName s1 → (s3 ≡ s2) × IsNotNext (Punct BracketLeft) s2 → (s4 ≡ s3) × IsNotNext (Punct BraceLeft) s3 → NumberReads s4 after res
-    → Reads (λ v. IsValue true (literal_of v)) room (one AValue) room [] s0 after res
+    → Reads (λ v. IsValue Const (literal_of v)) room (one AValue) room [] s0 after res
 number_value room s0 s1 s2 s3 s4 after res t n b c h =
     let e2 : s2 ≡ s0 = n.0 ∙ t.0 in
     let e3 : s3 ≡ s0 = b.0 ∙ e2 in
@@ -102,10 +103,10 @@ pub list_deep : (room : ℕ) (p : Place) (s0 s1 s2 mid : List Token) (stack : Li
 list_deep room p s0 s1 s2 mid stack e e1 e2 h = rw (← e, ← e1, e2, h) refl
 
 pub list_value : (room r : ℕ) (p : Place) (vs : Vec Literal) (s0 s1 s2 mid after : List Token) → s1 ≡ s0 → s2 ≡ s1 → s2 ≡ at p (Punct BracketLeft) ∷ mid → room ≡ suc r
-    → Reads (λ vs. AreValues true (map_literals vs.items)) r (one MoreValues) (suc r) [] mid after (Ok vs)
-    → IsValue true (literal_of (the_literal p (rust-value.List vs))) s0 after × ((stack : List Symbol) → read room (AValue ∷ stack) s0 ≡ read room stack after)
+    → Reads (λ vs. AreValues Const (map_literals vs.items)) r (one MoreValues) (suc r) [] mid after (Ok vs)
+    → IsValue Const (literal_of (the_literal p (rust-value.List vs))) s0 after × ((stack : List Symbol) → read room (AValue ∷ stack) s0 ≡ read room stack after)
 list_value room r p vs s0 s1 s2 mid after e e1 e2 h reads = (
-  subst (λ v. IsValue true v s0 after) (sym (literal_list p vs)) (subst (λ b. IsValue true (Array p (map_literals vs.items)) b after) (sym e2 ∙ e1 ∙ e) (value.array reads.0)),
+  subst (λ v. IsValue Const v s0 after) (sym (literal_list p vs)) (subst (λ b. IsValue Const (Array p (map_literals vs.items)) b after) (sym e2 ∙ e1 ∙ e) (value.array reads.0)),
   λ stack. list_opens room r p s0 s1 s2 mid stack e e1 e2 h ∙ reads.1 stack ∙ ap (λ k. read k stack after) (sym h),
 )
 
@@ -116,10 +117,10 @@ pub object_deep : (room : ℕ) (p : Place) (s0 s1 s2 s3 mid : List Token) (stack
 object_deep room p s0 s1 s2 s3 mid stack e e1 e2 e3 h = rw (← e, ← e1, ← e2, e3, h) refl
 
 pub object_value : (room r : ℕ) (p : Place) (ms : Vec rust-argument.Argument) (s0 s1 s2 s3 mid after : List Token) → s1 ≡ s0 → s2 ≡ s1 → s3 ≡ s2 → s3 ≡ at p (Punct BraceLeft) ∷ mid → room ≡ suc r
-    → Reads (λ ms. AreMembers true (map_members ms.items)) r (one MoreObjectFields) (suc r) [] mid after (Ok ms)
-    → IsValue true (literal_of (the_literal p (rust-value.Object ms))) s0 after × ((stack : List Symbol) → read room (AValue ∷ stack) s0 ≡ read room stack after)
+    → Reads (λ ms. AreMembers Const (map_members ms.items)) r (one MoreObjectFields) (suc r) [] mid after (Ok ms)
+    → IsValue Const (literal_of (the_literal p (rust-value.Object ms))) s0 after × ((stack : List Symbol) → read room (AValue ∷ stack) s0 ≡ read room stack after)
 object_value room r p ms s0 s1 s2 s3 mid after e e1 e2 e3 h reads = (
-  subst (λ v. IsValue true v s0 after) (sym (literal_object p ms)) (subst (λ b. IsValue true (Object p (map_members ms.items)) b after) (sym e3 ∙ e2 ∙ e1 ∙ e) (value.object reads.0)),
+  subst (λ v. IsValue Const v s0 after) (sym (literal_object p ms)) (subst (λ b. IsValue Const (Object p (map_members ms.items)) b after) (sym e3 ∙ e2 ∙ e1 ∙ e) (value.object reads.0)),
   λ stack. object_opens room r p s0 s1 s2 s3 mid stack e e1 e2 e3 h ∙ reads.1 stack ∙ ap (λ k. read k stack after) (sym h),
 )
 
@@ -144,12 +145,12 @@ member_comes room (at p _ ∷ tokens) stack h = refl
 name_begins : {n : tree.Name} {before after : List Token} → IsName n before after → (k : Keyword) × (before ≡ at n.place (Name k n.text) ∷ after)
 name_begins (a_name {k = k}) = (k, refl)
 
-pub member_read : (p : Place) (s : String Global) (l : Literal) (s0 s1 s2 after : List Token) → IsName (record { text = string_bytes s; place = p }) s0 s1 → IsTaken (Punct Colon) s1 s2 → IsValue true (literal_of l) s2 after
+pub member_read : (p : Place) (s : String Global) (l : Literal) (s0 s1 s2 after : List Token) → IsName (record { text = string_bytes s; place = p }) s0 s1 → IsTaken (Punct Colon) s1 s2 → IsValue Const (literal_of l) s2 after
     → IsMemberRead (argument_of (roll-Argument (record { place = p; name = s; value = l }))) s0 after
 member_read p s l s0 s1 s2 after n c v =
     let b = name_begins n in
     let m : IsMemberRead (record { place = p; name = string_bytes s; value = literal_of l }) s0 after = record { keyword = b.0; colon = c.place; rest = s2; begins = b.1 ∙ ap (λ x. at p (Name b.0 (string_bytes s)) ∷ x) c.is; is = v } in
     subst (λ a. IsMemberRead a s0 after) (sym (of_argument p s l)) m
 
-pub next_member : {a : Argument} {ms : Members} {before mid after : List Token} → IsMemberRead a before mid → AreMembers true ms mid after → AreMembers true (and_member a.place a.name a.value ms) before after
+pub next_member : {a : Argument} {ms : Members} {before mid after : List Token} → IsMemberRead a before mid → AreMembers Const ms mid after → AreMembers Const (and_member a.place a.name a.value ms) before after
 next_member m ms = rw m.begins (value.next_member m.is ms)

@@ -1,7 +1,9 @@
 -- What a method of the parser does with the tokens that are left.
 use Rattle.std.specs.Prelude.{◌≡◌, ◌≢◌, ◌≤◌, ℕ, Bool, true, false, List, [], ◌∷◌, ◌++◌, length, Result, Ok, Err, Option, Some, None, string_bytes, ◌<◌}
 use Rattle.gq_lexer.specs.declared.place.Place.{Place}
+use Rattle.gq_lexer.specs.declared.place.Located.{Located}
 use Rattle.gq_lexer.specs.declared.token.Punct.TheVariants.{BraceLeft, Colon}
+use Rattle.gq_parser.specs.declared.value.Constness.TheVariants.{Const}
 use Rattle.gq_parser.specs.declared.keyword.Keyword.{Keyword}
 use Rattle.gq_parser.specs.Word.{Word, Punct, Name, Int, Float, Text, Token, at}
 use Rattle.gq_parser.specs.Keywords.{keyword_of, IsEnumName}
@@ -89,8 +91,8 @@ Describes old new true = IsTextTaken old new
 Describes old new false = (new ≡ old) × IsNoText old
 
 -- the string that was next was taken with its place and its value, if one was
-abbrev pub TakesText : List Token → List Token → Option (Place × String Global) → Type 0
-TakesText old new (Some t) = old ≡ at t.0 (Text (string_bytes t.1)) ∷ new
+abbrev pub TakesText : List Token → List Token → Option (Located (String Global)) → Type 0
+TakesText old new (Some t) = old ≡ at t.place (Text (string_bytes t.value)) ∷ new
 TakesText old new None = (new ≡ old) × IsNoText old
 
 -- no number is next
@@ -106,11 +108,11 @@ IsNoFloat (at p _ ∷ rest) = Unit {0}
 
 -- a name is this value
 abbrev pub IsNameValue : List ℕ → Value → Type 0
-IsNameValue name v = (p : Place) (after : List Token) → IsValue true (literal_of (record { place = p; value = v })) (at p (Name (keyword_of name) name) ∷ after) after
+IsNameValue name v = (p : Place) (after : List Token) → IsValue Const (literal_of (record { place = p; value = v })) (at p (Name (keyword_of name) name) ∷ after) after
 
 -- the value of the number that was next, if one was; else the fault
 pub record IsNumberRead (l : Literal) (old new : List Token) : Type 0 where
-  pub is : IsValue true (literal_of l) old new
+  pub is : IsValue Const (literal_of l) old new
   pub reads : (room : ℕ) (stack : List Symbol) → read room (AValue ∷ stack) old ≡ read room stack new
   pub shrinks : length new < length old
 
@@ -135,7 +137,7 @@ pub record IsMemberRead (a : values.Argument) (before after : List Token) : Type
   pub colon : Place
   pub rest : List Token
   pub begins : before ≡ at a.place (Name keyword a.name) ∷ at colon (Punct Colon) ∷ rest
-  pub is : IsValue true a.value rest after
+  pub is : IsValue Const a.value rest after
 
 -- a name that an enum's value may have
 pub record IsEnumNameRead (n : tree.Name) (before after : List Token) : Type 0 where

@@ -1,8 +1,6 @@
 -- The words of the grammar of schema texts. Words and tokens are those of documents: this adds what a name is here.
-use Rattle.std.specs.Prelude.{◌≢◌, ℕ, Bool, true, false, Option, Some, None, List, codes, if◌then◌else◌}
+use Rattle.std.specs.Prelude.{◌≢◌, ℕ, List, codes, if◌then◌else◌}
 use Rattle.std.specs.Str.{bytes_eq}
-use Rattle.gq_parser.specs.declared.keyword.Keyword.{Keyword}
-use Rattle.gq_parser.specs.declared.keyword.Keyword.TheVariants.{Query, Mutation, Subscription}
 use Rattle.schema_syntax.specs.declared.word.SchemaWord.{SchemaWord}
 use Rattle.schema_syntax.specs.declared.word.SchemaWord.TheVariants as word
 
@@ -27,10 +25,3 @@ word_of name =
 -- a type name that is served: any but `Float`
 abbrev pub IsServedName : List ℕ → Type 0
 IsServedName name = word_of name ≢ word.Float
-
--- how an operation type is judged in `schema`: `query` is served, the others aren't
-abbrev pub operation_of : Keyword → Option Bool
-operation_of Query = Some true
-operation_of Mutation = Some false
-operation_of Subscription = Some false
-operation_of _ = None

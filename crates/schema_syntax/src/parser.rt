@@ -3,6 +3,7 @@
 ghost use Rattle.std.specs.Prelude.{◌≡◌, ◌<◌, ◌≤◌, ◌∷◌, [], suc, length, MatchOption, MatchResult, OnOk, IfOk, IfErr, All, List, true, false};
 ghost use Rattle.gq_lexer.specs.declared.token.Punct.TheVariants as punct;
 ghost use Rattle.gq_lexer.specs.Tokens.{IsToken};
+ghost use Rattle.gq_parser.specs.declared.value.Constness.TheVariants.{Const};
 ghost use Rattle.gq_parser.specs.Fault.{IsShallow, most_brackets};
 ghost use Rattle.gq_parser.specs.Word.{tokens_of, at, Punct as a_mark, Int as an_int, Float as a_float};
 ghost use Rattle.gq_parser.specs.Tree.{literal_of, type_of, map_literals, map_members, default_of, argument_of as member_of};
@@ -20,9 +21,9 @@ use crate::tree::{
     ArgumentDefinition, Definition, EnumDefinition, FieldDefinition, InterfaceDefinition, Name,
     ObjectDefinition, SchemaDefinition, SchemaDocument, UnionDefinition,
 };
-use crate::word::{SchemaWord, is_enum_name, is_served_name, name_value, operation, word_of};
-use gq_lexer::{Kind, Place, Punct, Token, string_value};
-use gq_parser::{Argument, Literal, TypeRef, Value};
+use crate::word::{SchemaWord, is_enum_name, is_served_name, name_value, word_of};
+use gq_lexer::{Kind, Located, Place, Punct, Token, string_value};
+use gq_parser::{Argument, Keyword, Literal, TypeRef, Value, keyword_of};
 use std::alloc::Global;
 use std::marker::Model;
 
@@ -69,14 +70,15 @@ impl<'a> Parser<'a> {
     }
 
     /// The name that is next, if one is.
-    fn word(&mut self) -> Option<(Place, &'a str)>
-        ensures { MatchOption result ((self.new ≡ self.old) × IsNoName self.old) (λ t. IsNameTaken t.0 t.1.now self.old self.new) }
+    fn word(&mut self) -> Option<Located<&'a str>>
+        ensures { MatchOption result ((self.new ≡ self.old) × IsNoName self.old) (λ t. IsNameTaken t.place t.value.now self.old self.new) }
     {
         match self.rest.split_first() {
             Some((first, rest)) if first.kind == Kind::Name => {
-                let text = self.text;
+                let place = first.place();
+                let value = first.text(self.text);
                 self.rest = rest;
-                Some((first.place(), first.text(text)))
+                Some(Located { place, value })
             }
             _ => None,
         }
@@ -128,7 +130,7 @@ impl<'a> Parser<'a> {
         ensures reads { (room : _) → Reads (λ n. IsName (name_of n)) room (one (A AName)) room [] self.old self.new result }
         ensures shrinks { OnOk result (length self.new < length self.old) }
     {
-        let Some((place, text)) = self.word() else {
+        let Some(Located { place, value: text }) = self.word() else {
             return Err(self.stop());
         };
         let text = String::from_str(self.alloc, text)?;
@@ -139,7 +141,7 @@ impl<'a> Parser<'a> {
         ensures reads { (room : _) → Reads (λ n. IsTypeName (name_of n)) room (one (A ATypeName)) room [] self.old self.new result }
         ensures shrinks { OnOk result (length self.new < length self.old) }
     {
-        let Some((place, text)) = self.word() else {
+        let Some(Located { place, value: text }) = self.word() else {
             return Err(self.stop());
         };
         if !is_served_name(text) {
@@ -201,7 +203,7 @@ impl<'a> Parser<'a> {
         if !self.eat(Punct::ParenLeft) {
             return Ok(());
         }
-        let Some((place, name)) = self.word() else {
+        let Some(Located { place, value: name }) = self.word() else {
             return Err(self.stop());
         };
         let SchemaWord::Reason = word_of(name) else {
@@ -222,17 +224,17 @@ impl<'a> Parser<'a> {
         let Some(place) = self.take(Punct::At) else {
             return Ok(());
         };
-        let Some((_, name)) = self.word() else {
+        let Some(name) = self.word() else {
             return Err(self.stop());
         };
-        let SchemaWord::Deprecated = word_of(name) else {
+        let SchemaWord::Deprecated = word_of(name.value) else {
             return Err(Stop::NotServed(place));
         };
         self.reason()
     }
 
-    /// The string that is next, if one is: its place and its value.
-    fn string(&mut self) -> Result<Option<(Place, String)>, Stop>
+    /// The value of the string that is next, if one is.
+    fn string(&mut self) -> Result<Option<Located<String>>, Stop>
         ensures { MatchResult result (TakesText self.old self.new) (λ e. e ≡ Stop.NoMemory) }
     {
         match self.rest.split_first() {
@@ -241,36 +243,39 @@ impl<'a> Parser<'a> {
                     Ok(value) => value,
                     Err(_) => return Err(Stop::NoMemory),
                 };
+                let place = first.place();
                 self.rest = rest;
-                Ok(Some((first.place(), value)))
+                Ok(Some(Located { place, value }))
             }
             _ => Ok(None),
         }
     }
 
     /// The integer that is next, if one is.
-    fn int(&mut self) -> Option<(Place, &'a str)>
-        ensures { MatchOption result ((self.new ≡ self.old) × IsNoInt self.old) (λ t. self.old ≡ at t.0 (an_int t.1.now) ∷ self.new) }
+    fn int(&mut self) -> Option<Located<&'a str>>
+        ensures { MatchOption result ((self.new ≡ self.old) × IsNoInt self.old) (λ t. self.old ≡ at t.place (an_int t.value.now) ∷ self.new) }
     {
         match self.rest.split_first() {
             Some((first, rest)) if first.kind == Kind::Int => {
-                let text = self.text;
+                let place = first.place();
+                let value = first.text(self.text);
                 self.rest = rest;
-                Some((first.place(), first.text(text)))
+                Some(Located { place, value })
             }
             _ => None,
         }
     }
 
     /// The number with a fraction or an exponent that is next, if one is.
-    fn float(&mut self) -> Option<(Place, &'a str)>
-        ensures { MatchOption result ((self.new ≡ self.old) × IsNoFloat self.old) (λ t. self.old ≡ at t.0 (a_float t.1.now) ∷ self.new) }
+    fn float(&mut self) -> Option<Located<&'a str>>
+        ensures { MatchOption result ((self.new ≡ self.old) × IsNoFloat self.old) (λ t. self.old ≡ at t.place (a_float t.value.now) ∷ self.new) }
     {
         match self.rest.split_first() {
             Some((first, rest)) if first.kind == Kind::Float => {
-                let text = self.text;
+                let place = first.place();
+                let value = first.text(self.text);
                 self.rest = rest;
-                Some((first.place(), first.text(text)))
+                Some(Located { place, value })
             }
             _ => None,
         }
@@ -279,12 +284,12 @@ impl<'a> Parser<'a> {
     fn number(&mut self) -> Result<Literal, Stop>
         ensures { NumberReads self.old self.new result }
     {
-        if let Some((place, text)) = self.int() {
+        if let Some(Located { place, value: text }) = self.int() {
             let number = String::from_str(self.alloc, text)?;
             let value = Value::Int(number);
             return Ok(Literal { place, value });
         }
-        if let Some((place, text)) = self.float() {
+        if let Some(Located { place, value: text }) = self.float() {
             let number = String::from_str(self.alloc, text)?;
             let value = Value::Float(number);
             return Ok(Literal { place, value });
@@ -294,14 +299,14 @@ impl<'a> Parser<'a> {
 
     #[cycle(value)]
     fn value(&mut self, room: u32) -> Result<Literal, Stop>
-        ensures reads { Reads (λ v. IsValue true (literal_of v)) room (one AValue) room [] self.old self.new result }
+        ensures reads { Reads (λ v. IsValue Const (literal_of v)) room (one AValue) room [] self.old self.new result }
         ensures shrinks { OnOk result (length self.new < length self.old) }
     {
-        if let Some((place, text)) = self.string()? {
+        if let Some(Located { place, value: text }) = self.string()? {
             let value = Value::Text(text);
             return Ok(Literal { place, value });
         }
-        if let Some((place, name)) = self.word() {
+        if let Some(Located { place, value: name }) = self.word() {
             let value = name_value(self.alloc, name)?;
             return Ok(Literal { place, value });
         }
@@ -325,7 +330,7 @@ impl<'a> Parser<'a> {
     /// The values up to the bracket that closes them.
     #[cycle(value)]
     fn values(&mut self, room: u32) -> Result<Vec<Literal>, Stop>
-        ensures reads { Reads (λ vs. AreValues true (map_literals vs.items)) room (one MoreValues) (suc room) [] self.old self.new result }
+        ensures reads { Reads (λ vs. AreValues Const (map_literals vs.items)) room (one MoreValues) (suc room) [] self.old self.new result }
         ensures shrinks { OnOk result (length self.new < length self.old) }
     {
         let mut values = Vec::new(self.alloc);
@@ -353,7 +358,7 @@ impl<'a> Parser<'a> {
     /// The fields of an object value up to the brace that closes them.
     #[cycle(value)]
     fn object_fields(&mut self, room: u32) -> Result<Vec<Argument>, Stop>
-        ensures reads { Reads (λ ms. AreMembers true (map_members ms.items)) room (one MoreObjectFields) (suc room) [] self.old self.new result }
+        ensures reads { Reads (λ ms. AreMembers Const (map_members ms.items)) room (one MoreObjectFields) (suc room) [] self.old self.new result }
         ensures shrinks { OnOk result (length self.new < length self.old) }
     {
         let mut fields = Vec::new(self.alloc);
@@ -464,7 +469,7 @@ impl<'a> Parser<'a> {
         ensures reads { (room : _) → Reads (λ n. IsEnumNameRead (name_of n)) room (one (A AnEnumName)) room [] self.old self.new result }
         ensures shrinks { OnOk result (length self.new < length self.old) }
     {
-        let Some((place, text)) = self.word() else {
+        let Some(Located { place, value: text }) = self.word() else {
             return Err(self.stop());
         };
         if !is_enum_name(text) {
@@ -479,7 +484,7 @@ impl<'a> Parser<'a> {
         ensures reads { Reads (λ is. AreInterfacesRead (names_of is.items)) 128 (one ObjectBody) 127 (one (Fields false)) self.old self.new result }
         ensures shrinks { OnOk result (length self.new ≤ length self.old) }
     {
-        let Some((place, name)) = self.word() else {
+        let Some(Located { place, value: name }) = self.word() else {
             self.expect(Punct::BraceLeft)?;
             return Ok(Vec::new(self.alloc));
         };
@@ -511,7 +516,7 @@ impl<'a> Parser<'a> {
         ensures reads { Reads (λ _. IsTaken (a_mark punct.BraceLeft)) 128 (one InterfaceBody) 127 (one (Fields false)) self.old self.new result }
         ensures shrinks { OnOk result (length self.new < length self.old) }
     {
-        if let Some((place, name)) = self.word() {
+        if let Some(Located { place, value: name }) = self.word() {
             return match word_of(name) {
                 SchemaWord::Implements => Err(Stop::NotServed(place)),
                 _ => Err(Stop::Unexpected(Some(place))),
@@ -539,13 +544,13 @@ impl<'a> Parser<'a> {
         ensures reads { (room : _) → Reads (λ _. IsQueryTaken) room (one (A AQuery)) room [] self.old self.new result }
         ensures shrinks { OnOk result (length self.new < length self.old) }
     {
-        let Some((place, name)) = self.word() else {
+        let Some(Located { place, value: name }) = self.word() else {
             return Err(self.stop());
         };
-        match operation(name) {
-            Some(true) => Ok(()),
-            Some(false) => Err(Stop::NotServed(place)),
-            None => Err(Stop::Unexpected(Some(place))),
+        match keyword_of(name) {
+            Keyword::Query => Ok(()),
+            Keyword::Mutation | Keyword::Subscription => Err(Stop::NotServed(place)),
+            _ => Err(Stop::Unexpected(Some(place))),
         }
     }
 
@@ -554,9 +559,9 @@ impl<'a> Parser<'a> {
         ensures reads { Reads (λ _. IsTaken (a_mark punct.BraceRight)) 127 (one (A ARootEnd)) 128 [] self.old self.new result }
         ensures shrinks { OnOk result (length self.new < length self.old) }
     {
-        if let Some((place, name)) = self.word() {
-            return match operation(name) {
-                Some(false) => Err(Stop::NotServed(place)),
+        if let Some(Located { place, value: name }) = self.word() {
+            return match keyword_of(name) {
+                Keyword::Mutation | Keyword::Subscription => Err(Stop::NotServed(place)),
                 _ => Err(Stop::Unexpected(Some(place))),
             };
         }
@@ -624,7 +629,7 @@ impl<'a> Parser<'a> {
         ensures reads { Reads (λ d. IsDefinitionRead (definition_of d)) 128 (one ADefinition) 128 [] self.old self.new result }
         ensures shrinks { OnOk result (length self.new < length self.old) }
     {
-        let Some((place, name)) = self.word() else {
+        let Some(Located { place, value: name }) = self.word() else {
             return Err(self.stop());
         };
         match word_of(name) {

@@ -3,7 +3,7 @@
 ghost use Rattle.std.specs.Prelude.{◌≡◌, MatchBool, MatchResult};
 ghost use Rattle.gq_parser.specs.Keywords.{keyword_of, IsEnumName};
 ghost use Rattle.schema_syntax.specs.Parsing.{IsNameValue};
-ghost use Rattle.schema_syntax.specs.Word.{word_of, IsServedName, operation_of};
+ghost use Rattle.schema_syntax.specs.Word.{word_of, IsServedName};
 ghost use Rattle.schema_syntax.specs.declared.word.SchemaWord.TheVariants as words;
 
 use crate::fault::Stop;
@@ -55,34 +55,17 @@ pub(crate) fn word_of(name: &str) -> SchemaWord
 pub(crate) fn is_served_name(name: &str) -> bool
     ensures { MatchBool result (IsServedName name.now) (word_of name.now ≡ words.Float) }
 {
-    match word_of(name) {
-        SchemaWord::Float => false,
-        _ => true,
-    }
+    word_of(name) != SchemaWord::Float
 }
 
 /// Whether an enum's value may have this name.
 pub(crate) fn is_enum_name(name: &str) -> bool
     ensures { MatchBool result (IsEnumName (keyword_of name.now)) (IsEnumName (keyword_of name.now) → ⊥) }
 {
-    match keyword_of(name) {
-        Keyword::True => false,
-        Keyword::False => false,
-        Keyword::Null => false,
-        _ => true,
-    }
-}
-
-/// Of an operation type, whether it is served.
-pub(crate) fn operation(name: &str) -> Option<bool>
-    ensures { result ≡ operation_of (keyword_of name.now) }
-{
-    match keyword_of(name) {
-        Keyword::Query => Some(true),
-        Keyword::Mutation => Some(false),
-        Keyword::Subscription => Some(false),
-        _ => None,
-    }
+    !matches!(
+        keyword_of(name),
+        Keyword::True | Keyword::False | Keyword::Null
+    )
 }
 
 /// The value that a name is.

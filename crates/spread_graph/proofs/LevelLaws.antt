@@ -1,11 +1,11 @@
 -- What is known of levels is what they are, counted up to one too many.
-use Rattle.std.proofs.Common.{◌≡◌, ◌∙◌, sym, ap, subst, ℕ, zero, suc, ◌+◌, ◌<◌, ◌≤◌, ◌⊎◌, inl, inr, Bool, true, false, List, [], ◌∷◌, length, map, get_or, set, replicate, cond, Option, Some, None, refl, add-one, arith}
-use Rattle.std.specs.Prelude.{max, min, nat_lt, is_some, IsSome, slice_get}
+use Rattle.std.proofs.Common.{◌≡◌, ◌∙◌, sym, ap, subst, ℕ, zero, suc, ◌+◌, ◌<◌, ◌≤◌, ◌⊎◌, inl, inr, Bool, true, false, List, [], ◌∷◌, length, map, set, replicate, cond, Option, Some, None, refl, add-one, arith}
+use Rattle.std.specs.Prelude.{max, nat_lt, is_some, slice_get}
 use Rattle.std.specs.List.{list_all}
 use Rattle.std.specs.Option.{option_map, option_map_or, option_and_then}
 use Rattle.std.proofs.lemmas.Bool.{and_parts, cases_eq, both_ways, lt-ltb, le-ltb}
 use Rattle.gq_schema.specs.Places.{place_from}
-use Rattle.gq_parser.specs.Tree.{Field, Spread, Inline, Below, nothing_below, below, SelectionSet, set_at, Selection, Selections, no_selection, and_selection, Operation, Fragment}
+use Rattle.gq_parser.specs.Tree.{Field, Spread, Inline, Below, nothing_below, below, SelectionSet, set_at, Selection, Selections, no_selection, and_selection, Fragment}
 use Rattle.document_parts.specs.Fragments.{is_fragment, fragment_place}
 use Rattle.spread_graph.specs.Levels.{levels_in, levels_among, levels_from, levels_below, levels_named, levels_expanded}
 use Rattle.spread_graph.specs.Known.{one_more, greater_known, known_in, known_among, known_from, known_below, known_at, known_named}

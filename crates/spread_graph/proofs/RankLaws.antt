@@ -1,10 +1,10 @@
 -- Fragments that are above all that they spread.
-use Rattle.std.proofs.Common.{◌≡◌, ◌∙◌, sym, ap, subst, ℕ, zero, suc, ◌<◌, ◌≤◌, ◌⊎◌, inl, inr, Bool, true, false, List, [], ◌∷◌, length, get_or, refl, arith}
+use Rattle.std.proofs.Common.{◌≡◌, sym, subst, ℕ, zero, suc, ◌+◌, ◌<◌, ◌≤◌, ◌⊎◌, inl, inr, Bool, true, false, List, [], ◌∷◌, length, refl, arith}
 use Rattle.std.specs.Prelude.{◌==◌, nat_le, nat_lt}
-use Rattle.std.specs.List.{list_all}
+use Rattle.std.specs.List.{list_all, range_with_len}
 use Rattle.std.proofs.lemmas.Bool.{and_parts, or_cases, both_ways}
 use Rattle.document_parts.specs.declared.part.Owner.TheVariants as owner
-use Rattle.spread_graph.specs.Graphs.{GraphOf, row}
+use Rattle.spread_graph.specs.Graphs.{GraphOf, row, row_at}
 use Rattle.spread_graph.specs.Reach.{is_among, is_cyclic, Reaches, start, along}
 use Rattle.spread_graph.specs.Ranks.{rank_of, are_at_most, are_under, IsOrdered}
 use Rattle.spread_graph.proofs.ReachLaws.{through_sound}
@@ -41,3 +41,24 @@ alike g x = go (row g (owner.Fragment x))
     go : (ys : List ℕ) → are_at_most [] 0 ys ≡ true
     go [] = refl
     go (y ∷ ys) = go ys
+
+range-all : (p : ℕ → Bool) (a n k j : ℕ) → list_all p (range_with_len a n) ≡ true → k < n → a + k ≡ j → p j ≡ true
+range-all p a zero k j h lt e = absurd (omega (arith, lt))
+range-all p a (suc n) zero j h lt e = let P : ℕ → Type 0 = λ m. p m ≡ true in let same : a ≡ j = omega (arith, e) in subst P same (and_parts (p a) (list_all p (range_with_len (a + 1) n)) h).0
+range-all p a (suc n) (suc k) j h lt e = range-all p (a + 1) n k j (and_parts (p a) (list_all p (range_with_len (a + 1) n)) h).1 (omega (arith, lt)) (omega (arith, e))
+
+no-row : (rows : List (List ℕ)) (x : ℕ) → length rows ≤ x → row_at rows x ≡ []
+no-row [] x h = refl
+no-row (row ∷ rows) zero h = absurd (omega (arith, h))
+no-row (row ∷ rows) (suc x) h = no-row rows x (omega (arith, h))
+
+-- ranks are ordered where they are so for each fragment that there is
+pub each-ordered : (ranks : List ℕ) (g : GraphOf) → list_all (λ x. are_at_most ranks (rank_of ranks x) (row g (owner.Fragment x))) (range_with_len 0 (length g.fragments)) ≡ true → IsOrdered ranks g
+each-ordered ranks g h x = go (nat_lt x (length g.fragments)) refl
+  where
+    go : (b : Bool) → nat_lt x (length g.fragments) ≡ b → are_at_most ranks (rank_of ranks x) (row g (owner.Fragment x)) ≡ true
+    go true e = let lt : x < length g.fragments = grind arith in range-all (λ y. are_at_most ranks (rank_of ranks y) (row g (owner.Fragment y))) 0 (length g.fragments) x x h lt (omega arith)
+    go false e =
+        let ge : length g.fragments ≤ x = grind arith in
+        let P : List ℕ → Type 0 = λ ys. are_at_most ranks (rank_of ranks x) ys ≡ true in
+        subst P (sym (no-row g.fragments x ge)) refl

@@ -1,5 +1,5 @@
 -- Tables of the levels of fragments.
-use Rattle.std.specs.Prelude.{◌≡◌, ℕ, min, ◌<◌, ◌≤◌, List, length, map, Option, Some, IsSome}
+use Rattle.std.specs.Prelude.{◌≡◌, ℕ, min, ◌<◌, ◌≤◌, List, map, Option, Some, IsSome}
 use Rattle.gq_parser.specs.Tree.{Fragment}
 use Rattle.spread_graph.specs.Known.{too_many, known_at, known_named, known_in}
 use Rattle.spread_graph.specs.Levels.{levels_expanded}

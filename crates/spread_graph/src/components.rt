@@ -113,11 +113,9 @@ impl Search {
 
 // More steps than a search takes: one for each spread, one back from each fragment, and one for each to begin with.
 fn most_steps(rows: &[Vec<usize>]) -> usize {
-    let mut steps = rows.len().saturating_mul(2);
-    for row in rows {
-        steps = steps.saturating_add(row.len());
-    }
-    steps
+    let steps = rows.len().saturating_mul(2);
+    rows.iter()
+        .fold(steps, |steps, row| steps.saturating_add(row.len()))
 }
 
 /// A number for each fragment, where `rows` has what each spreads: one number for those that reach one another, and no less than

@@ -27,36 +27,27 @@ fn rank_of(ranks: &[usize], fragment: usize) -> usize
 fn are_at_most(ranks: &[usize], rank: usize, fragments: &[usize]) -> bool
     ensures { result ≡ are_at_most ranks.now rank fragments.now }
 {
-    for fragment in fragments {
-        if rank_of(ranks, *fragment) > rank {
-            return false;
-        }
-    }
-    true
+    fragments
+        .iter()
+        .all(|fragment| rank_of(ranks, *fragment) <= rank)
 }
 
 fn are_under(ranks: &[usize], rank: usize, fragments: &[usize]) -> bool
     ensures { result ≡ are_under ranks.now rank fragments.now }
 {
-    for fragment in fragments {
-        if rank_of(ranks, *fragment) >= rank {
-            return false;
-        }
-    }
-    true
+    fragments
+        .iter()
+        .all(|fragment| rank_of(ranks, *fragment) < rank)
 }
 
 // Whether what each fragment spreads has at most its rank.
 fn is_ordered(ranks: &[usize], graph: &Graph) -> bool
     ensures { IsTrue result → IsOrdered ranks.now graph.now }
 {
-    for fragment in 0..graph.len() {
+    (0..graph.len()).all(|fragment| {
         let row = graph.row(Owner::Fragment(fragment));
-        if !are_at_most(ranks, rank_of(ranks, fragment), row) {
-            return false;
-        }
-    }
-    true
+        are_at_most(ranks, rank_of(ranks, fragment), row)
+    })
 }
 
 // Whether a fragment reaches itself. One that ranks above everything that it spreads doesn't; for any other it

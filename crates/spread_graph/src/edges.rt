@@ -42,9 +42,9 @@ pub fn edges_of(
             add_edges(&mut edges, row_of(rows, *fragment), *fragment)?;
         }
     }
-    for fragment in 0..rows.len() {
+    for (fragment, row) in rows.iter().enumerate() {
         if !taken[fragment] {
-            add_edges(&mut edges, row_of(rows, fragment), fragment)?;
+            add_edges(&mut edges, row, fragment)?;
         }
     }
     Ok(edges)

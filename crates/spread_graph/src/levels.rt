@@ -139,12 +139,7 @@ fn expanded_table(alloc: Global, parts: &Parts) -> Result<Table, AllocError>
 fn is_full(table: &[Option<usize>]) -> bool
     ensures { result ≡ list_all is_some table.now }
 {
-    for levels in table {
-        if levels.is_none() {
-            return false;
-        }
-    }
-    true
+    table.iter().all(Option::is_some)
 }
 
 // The levels of all fragments.

@@ -50,14 +50,9 @@ pub fn note_missing_in_fragments(
 ) -> Result<(), AllocError>
     ensures { OnOk result (Notes (λ s. is_missing_in_fragments (rows_in rows.now) reached.now (set_for numbers.now sets.now s) s) noted.old.items noted.new.items) }
 {
-    for fragment in 0..reached.len() {
-        note_row(
-            row_of(rows, fragment),
-            reached[fragment],
-            numbers,
-            sets,
-            noted,
-        )?;
+    for (fragment, reached_by) in reached.iter().enumerate() {
+        let row = row_of(rows, fragment);
+        note_row(row, *reached_by, numbers, sets, noted)?;
     }
     Ok(())
 }

@@ -2,3 +2,4 @@ pub mod Keeping
 pub mod PlaceLaws
 pub mod KindLaws
 pub mod AllowLaws
+pub mod FindLaws

@@ -96,10 +96,8 @@ fn allow_by_operation(
     ensures own { OnOk result (AllowsBy kinds.now (variables_of variables.now) number uses.now sets.old.items sets.new.items) }
     ensures others { OnOk result (KeepsOthers number uses.now sets.old.items sets.new.items) }
 {
-    let mut left = variables.len();
-    while left > 0 {
-        left -= 1;
-        allow_by_variable(kinds, uses, &variables[left], number, sets)?;
+    for variable in variables.iter().rev() {
+        allow_by_variable(kinds, uses, variable, number, sets)?;
     }
     Ok(())
 }

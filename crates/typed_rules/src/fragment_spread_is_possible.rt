@@ -16,12 +16,7 @@ use gq_schema::Schema;
 fn can_be_any(schema: &Schema, ty: &str, names: &[String]) -> bool
     ensures { result ≡ list_any (can_be (tree_of schema.now) ty.now) (map string_bytes names.now) }
 {
-    for name in names {
-        if schema.can_be(ty, name.as_str()) {
-            return true;
-        }
-    }
-    false
+    names.iter().any(|name| schema.can_be(ty, name.as_str()))
 }
 
 /// Whether an object type is a possible type of both.

@@ -1,13 +1,13 @@
 //! Required Arguments (section 5.4.2.1).
 
-ghost use Rattle.std.specs.Prelude.{◌≡◌};
+ghost use Rattle.std.specs.Prelude.{◌≡◌, not};
 ghost use Rattle.std.specs.Option.{option_map, option_copied};
-ghost use Rattle.gq_parser.specs.Tree.{literal_of, arguments_of};
+ghost use Rattle.gq_parser.specs.Tree.{literal_of, argument_of, arguments_of};
 ghost use Rattle.schema_syntax.specs.Tree as schema;
 ghost use Rattle.gq_schema.specs.Implements.{is_required};
 ghost use Rattle.document_parts.specs.Broken.{broken_of, earliest};
 ghost use Rattle.document_parts.specs.Parts.{argument_list_of, parts_in};
-ghost use Rattle.typed_rules.specs.RequiredArguments.{is_null, is_given, is_missing, first_missing, missing_argument, missing_arguments};
+ghost use Rattle.typed_rules.specs.RequiredArguments.{is_null, is_called, is_given, is_missing, first_missing, missing_argument, missing_arguments};
 
 use document_parts::{ArgumentList, Broken, Earliest, Parts};
 use gq_parser::{Argument, Literal, Value};
@@ -25,16 +25,26 @@ fn is_required(argument: &ArgDef) -> bool
     argument.of_type.is_non_null() && argument.default.is_none()
 }
 
+fn is_called(argument: &Argument, name: &str) -> bool
+    ensures { result ≡ is_called name.now (argument_of argument.now) }
+{
+    name == argument.name.as_str()
+}
+
+fn has_value(argument: &Argument) -> bool
+    ensures { result ≡ not (is_null (argument_of argument.now).value) }
+{
+    !is_null(&argument.value)
+}
+
 // Whether an argument of a name is given, and the first of the name isn't the literal `null`.
 fn is_given(arguments: &[Argument], name: &str) -> bool
     ensures { result ≡ is_given (arguments_of arguments.now) name.now }
 {
-    for argument in arguments {
-        if name == argument.name.as_str() {
-            return !is_null(&argument.value);
-        }
-    }
-    false
+    arguments
+        .iter()
+        .find(|argument| is_called(argument, name))
+        .is_some_and(has_value)
 }
 
 fn is_missing(arguments: &[Argument], argument: &ArgDef) -> bool
@@ -47,12 +57,10 @@ fn is_missing(arguments: &[Argument], argument: &ArgDef) -> bool
 fn first_missing<'d>(defined: &'d [ArgDef], arguments: &[Argument]) -> Option<&'d str>
     ensures { option_copied result ≡ first_missing (schema.arguments_of defined.now) (arguments_of arguments.now) }
 {
-    for argument in defined {
-        if is_missing(arguments, argument) {
-            return Some(argument.name.text.as_str());
-        }
-    }
-    None
+    defined
+        .iter()
+        .find(|argument| is_missing(arguments, argument))
+        .map(|argument| argument.name.text.as_str())
 }
 
 fn missing_argument<'d>(list: &ArgumentList<'d>) -> Option<Broken<'d>>

@@ -65,14 +65,11 @@ fn stand_in(uses: &[VariableUse], places: &[usize], part: &VariableUse) -> Optio
     ensures { IfSome result (λ k. (list_any (nat_eq k) places.now ≡ true)
         × (same_location (use_at (map use_of uses.now) k).location (use_of part.now).location ≡ true)) }
 {
-    for place in places {
-        if let Some(other) = uses.get(*place) {
-            if same_location(other.location, part.location) {
-                return Some(*place);
-            }
-        }
-    }
-    None
+    let is_like = |place: &usize| match uses.get(*place) {
+        Some(other) => same_location(other.location, part.location),
+        None => false,
+    };
+    places.iter().copied().find(is_like)
 }
 
 impl<'d> UseKinds<'d> {

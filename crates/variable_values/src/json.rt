@@ -4,6 +4,7 @@ ghost use Rattle.std.specs.Prelude.{◌≡◌, IfOk, pos, map, string_bytes};
 ghost use Rattle.std.specs.Option.{option_map};
 ghost use Rattle.serde_json.specs.View.{view, number_view, items_view};
 ghost use Rattle.gq_parser.specs.Tree.{type_of};
+ghost use Rattle.gq_parser.specs.Types.{is_non_null};
 ghost use Rattle.gq_schema.specs.Types.{tree_of};
 ghost use Rattle.gq_schema.specs.Inputs.{input_of};
 ghost use Rattle.gq_schema.specs.Coercion.{list_input, one_item};
@@ -62,14 +63,15 @@ fn coerce_string(schema: &Schema, name: &str, text: &String) -> Result<Option<In
 fn coerce_named(
     alloc: Global,
     schema: &Schema,
+    ty: &TypeRef,
     name: &str,
-    non_null: bool,
     value: &Value,
 ) -> Result<Option<Input>, AllocError>
-    ensures { IfOk result (λ input. option_map input_of input ≡ named_data (tree_of schema.now) name.now non_null (view value.now)) }
+    ensures { IfOk result (λ input. option_map input_of input
+        ≡ named_data (tree_of schema.now) name.now (is_non_null (type_of ty.now)) (view value.now)) }
 {
     match value {
-        Value::Null => Ok((!non_null).then_some(Input::Null)),
+        Value::Null => Ok((!ty.is_non_null()).then_some(Input::Null)),
         Value::Bool(b) => Ok((name == "Boolean").then_some(Input::Bool(*b))),
         Value::Number(number) => Ok(coerce_number(alloc, name, number)?),
         Value::String(text) => Ok(coerce_string(schema, name, text)?),
@@ -92,8 +94,8 @@ pub fn coerce_json(
     ensures { IfOk result (λ input. option_map input_of input ≡ data_input (tree_of schema.now) (type_of ty.now) (view value.now)) }
 {
     match ty {
-        TypeRef::Named { name, non_null, .. } => {
-            Ok(coerce_named(alloc, schema, name.as_str(), *non_null, value)?)
+        TypeRef::Named { name, .. } => {
+            Ok(coerce_named(alloc, schema, ty, name.as_str(), value)?)
         }
         TypeRef::List { item, non_null, .. } => match value {
             Value::Null => Ok((!*non_null).then_some(Input::Null)),

@@ -9,6 +9,7 @@ ghost use Rattle.world_answers.specs.Planning.{PlansLine, AnswersLinePlan};
 ghost use Rattle.world_answers.specs.Services.{service_of};
 
 use crate::arrays::array_answer;
+use crate::in_session::InSession;
 use crate::kept_session::KeptSession;
 use crate::planning::{LinePlan, RequestPlan, plan_line};
 use crate::run::{RunDocuments, Served};
@@ -16,24 +17,24 @@ use crate::service::Service;
 use csv_source::CsvSource;
 use gq_check::Plan;
 use line_serving::NoMemory;
-use load_rounds::{Answer, Limited, Session};
+use load_rounds::{Answer, Limited};
 use std::alloc::Global;
 use std::cell::RefCell;
 use std::marker::Brand;
 use world::World;
 
-// The answer of a plan by a service, and the session of its own in which it was given: only its own calls write its log, so
-// the contract says what was asked, and in which batches.
+// The answer of a plan by a service, in a session of its own: only its own calls write its log, so the contract says what was
+// asked, and in which batches.
 fn answer_plan<'w, B: Served>(
     alloc: Global,
     service: &Service<'w>,
     kept: &mut KeptSession<'w, B>,
     plan: &Plan<'_>,
-) -> Result<(Session<CsvSource<'w>>, Answer), NoMemory>
+) -> Result<InSession<CsvSource<'w>, Answer>, NoMemory>
     requires world { service.now.world.now ≡ B.world }
     requires plan { (plan_of plan.now).bindings ≡ service.now.world.now.bindings }
-    ensures anew { IfOk result (λ given. AnswersAnew (service_of service.now) (plan_of plan.now) (state_of given.0)
-        (string_bytes given.1.text) given.1.rounds) }
+    ensures anew { IfOk result (λ given. AnswersAnew (service_of service.now) (plan_of plan.now) (state_of given.session)
+        (string_bytes given.answered.text) given.answered.rounds) }
     // Each loader of the bindings has a source.
     ensures each { OnOk result (length service.now.world.now.sources ≡ length service.now.world.now.bindings.loaders) }
 {
@@ -47,7 +48,7 @@ fn answer_plan<'w, B: Served>(
         most: service.max_answer,
     };
     match session.answer(&limited) {
-        Ok(answer) => Ok((session, answer)),
+        Ok(answered) => Ok(InSession { session, answered }),
         Err(_) => Err(NoMemory),
     }
 }
@@ -64,9 +65,9 @@ fn plan_text<'w, B: Served>(
     ensures { IfOk result (λ text. IsAnsweredAnew (service_of service.now) (plan_of plan.now) (string_bytes text)) }
 {
     match answer_plan(alloc, service, kept, plan) {
-        Ok((session, answer)) => {
+        Ok(InSession { session, answered }) => {
             kept.keep(session);
-            Ok(answer.text)
+            Ok(answered.text)
         }
         Err(want) => Err(want),
     }

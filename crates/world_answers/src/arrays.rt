@@ -8,6 +8,7 @@ ghost use Rattle.world_answers.specs.Arrays.{AnswersTogether, array_text};
 ghost use Rattle.world_answers.specs.Planning.{PlansArray, AddsPlan, AnswersArrayPlan, AreLimited, refusals_of, plans_of, in_places};
 ghost use Rattle.world_answers.specs.Services.{service_of};
 
+use crate::in_session::InSession;
 use crate::kept_session::KeptSession;
 use crate::planning::RequestPlan;
 use crate::run::Served;
@@ -15,7 +16,7 @@ use crate::service::Service;
 use csv_source::CsvSource;
 use gq_check::Plan;
 use line_serving::NoMemory;
-use load_rounds::{Answer, Limited, Session};
+use load_rounds::{Answer, Limited};
 use std::alloc::{AllocError, Global};
 
 /// What the values of an array ask.
@@ -102,17 +103,17 @@ impl<'w> ArrayPlan<'w> {
     }
 }
 
-// The answers of an array's plans by a service, and the session that they share.
+// The answers of an array's plans by a service, in a session of their own.
 fn answer_plans<'w, B: Served>(
     alloc: Global,
     service: &Service<'w>,
     kept: &mut KeptSession<'w, B>,
     array: &ArrayPlan<'_>,
-) -> Result<(Session<CsvSource<'w>>, Vec<Answer>), NoMemory>
+) -> Result<InSession<CsvSource<'w>, Vec<Answer>>, NoMemory>
     requires world { service.now.world.now ≡ B.world }
     requires plans { All (λ plan. plan.bindings ≡ service.now.world.now.bindings) (plans_of array.now) }
-    ensures anew { IfOk result (λ given. AnswersTogether (service_of service.now) (plans_of array.now) (state_of given.0)
-        (map report_of given.1.items)) }
+    ensures anew { IfOk result (λ given. AnswersTogether (service_of service.now) (plans_of array.now) (state_of given.session)
+        (map report_of given.answered.items)) }
     // Each loader of the bindings has a source.
     ensures each { OnOk result (length service.now.world.now.sources ≡ length service.now.world.now.bindings.loaders) }
 {
@@ -121,7 +122,7 @@ fn answer_plans<'w, B: Served>(
         return Err(NoMemory);
     };
     match session.answer_all(&plans) {
-        Ok(answers) => Ok((session, answers)),
+        Ok(answered) => Ok(InSession { session, answered }),
         Err(_) => Err(NoMemory),
     }
 }
@@ -138,9 +139,9 @@ pub(crate) fn array_answer<'w, B: Served>(
     ensures { IfOk result (λ text. AnswersArrayPlan (service_of service.now) array.now (string_bytes text)) }
 {
     match answer_plans(alloc, service, kept, array) {
-        Ok((session, answers)) => {
+        Ok(InSession { session, answered }) => {
             kept.keep(session);
-            Ok(array.text(alloc, &answers)?)
+            Ok(array.text(alloc, &answered)?)
         }
         Err(want) => Err(want),
     }

@@ -13,6 +13,7 @@
 
 mod answers;
 mod arrays;
+mod in_session;
 mod kept_session;
 mod law;
 mod planning;
@@ -23,6 +24,7 @@ mod sessions;
 
 pub use answers::answer_line;
 pub use arrays::ArrayPlan;
+pub use in_session::InSession;
 pub use law::one_answer;
 pub use planning::{LinePlan, RequestPlan, plan_line};
 pub use run::{RunDocuments, Served};

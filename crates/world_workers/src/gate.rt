@@ -7,6 +7,13 @@ pub trait Gate: Sync {
     fn enter(&self, loader: usize);
 }
 
+impl<'g, G: Gate> Gate for &'g G {
+    /// Enters the gate that it refers to.
+    fn enter(&self, loader: usize) {
+        (**self).enter(loader);
+    }
+}
+
 /// A gate that stands open.
 #[derive(Clone, Copy, Debug, Drop)]
 pub struct NoGate;

@@ -12,17 +12,17 @@ use load_queue::{FetchFault, PerKey, Source};
 use std::alloc::Global;
 use std::marker::Model;
 
-/// A source of a table behind a gate: each fetch first enters the gate with the number of the loader.
+/// A source of a table behind a gate, which is often a reference to one: each fetch first enters it with the number of the loader.
 ///
 /// A contract sees it as the source.
 #[derive(Drop)]
-pub struct Gated<'w, 'g, G> {
+pub struct Gated<'w, G> {
     source: CsvSource<'w>,
-    gate: &'g G,
+    gate: G,
     loader: usize,
 }
 
-impl<'w, 'g, G> Model for Gated<'w, 'g, G> {
+impl<'w, G> Model for Gated<'w, G> {
     ghost use Rattle.csv_source.specs.Tables.{SourceOf};
 
     ghost Value = { SourceOf };
@@ -30,9 +30,9 @@ impl<'w, 'g, G> Model for Gated<'w, 'g, G> {
     ghost view = { λ s. s.source };
 }
 
-impl<'w, 'g, G> Gated<'w, 'g, G> {
+impl<'w, G> Gated<'w, G> {
     /// The source of the loader of this number, behind a gate.
-    pub fn new(source: CsvSource<'w>, gate: &'g G, loader: usize) -> Gated<'w, 'g, G>
+    pub fn new(source: CsvSource<'w>, gate: G, loader: usize) -> Gated<'w, G>
         ensures { result ≡ source.entry }
     {
         Gated {
@@ -43,7 +43,7 @@ impl<'w, 'g, G> Gated<'w, 'g, G> {
     }
 }
 
-impl<'w, 'g, G: Gate> Source for Gated<'w, 'g, G> {
+impl<'w, G: Gate> Source for Gated<'w, G> {
     ghost may_answer = { λ s keys answer. answer ≡ given (map (item_of_key s) keys) };
 
     fn fetch(&self, alloc: Global, keys: &[Key]) -> Result<Vec<Item>, FetchFault> {
@@ -52,7 +52,7 @@ impl<'w, 'g, G: Gate> Source for Gated<'w, 'g, G> {
     }
 }
 
-impl<'w, 'g, G: Gate> PerKey for Gated<'w, 'g, G> {
+impl<'w, G: Gate> PerKey for Gated<'w, G> {
     ghost mode_of = { λ s. s.mode };
 
     ghost item_at = { item_of_key };

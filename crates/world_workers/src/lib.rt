@@ -9,6 +9,7 @@
 mod arrays;
 mod gate;
 mod gated;
+mod kept_session;
 mod limited;
 mod serving;
 mod sessions;

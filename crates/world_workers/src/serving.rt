@@ -16,12 +16,12 @@ ghost use Rattle.world_workers.specs.Serving.{StopsCounted};
 use crate::arrays::array_answer;
 use crate::gate::Gate;
 use crate::gated::Gated;
+use crate::kept_session::KeptSession;
 use crate::limited::answer_within;
-use crate::sessions::gated_session;
 use batch_workers::WorkFault;
 use gq_check::Plan;
 use line_serving::{Counted, NoMemory, ServeFault, serve as serve_lines};
-use load_rounds::{Answer, Limited, Session};
+use load_rounds::{Answer, Limited};
 use round_workers::round::MOST_WORKERS;
 use std::alloc::{AllocGlobal, Global};
 use std::cell::RefCell;
@@ -30,26 +30,27 @@ use std::marker::Brand;
 use std::sync::Wait;
 use std::thread::Threads;
 use world::World;
-use world_answers::{LinePlan, RequestPlan, RunDocuments, Served, Service, plan_line};
+use world_answers::{InSession, LinePlan, RequestPlan, RunDocuments, Served, Service, plan_line};
 
-// The answer of a plan by a service, and the session of its own in which it was given, by so many workers.
-fn answer_plan<'w, 'g, R: Threads + Wait + AllocGlobal + Sync, G: Gate>(
+// The answer of a plan by a service, in a session of its own, by so many workers.
+fn answer_plan<'w, R: Threads + Wait + AllocGlobal + Sync, G: Gate + Copy, B: Served>(
     rt: &R,
     service: &Service<'w>,
-    gate: &'g G,
+    kept: &mut KeptSession<'w, G, B>,
     plan: &Plan<'_>,
     workers: usize,
-) -> Result<(Session<Gated<'w, 'g, G>>, Answer), NoMemory>
+) -> Result<InSession<Gated<'w, G>, Answer>, NoMemory>
+    requires world { service.now.world.now ≡ B.world }
     requires plan { (plan_of plan.now).bindings ≡ service.now.world.now.bindings }
     requires count { ¬ (IsBadCount workers) }
-    ensures anew { IfOk result (λ given. AnswersAnew (service_of service.now) (plan_of plan.now) (state_of given.0)
-        (string_bytes given.1.text) given.1.rounds) }
+    ensures anew { IfOk result (λ given. AnswersAnew (service_of service.now) (plan_of plan.now) (state_of given.session)
+        (string_bytes given.answered.text) given.answered.rounds) }
     // Each loader of the bindings has a source.
     ensures each { OnOk result (length service.now.world.now.sources ≡ length service.now.world.now.bindings.loaders) }
 {
     // A contract sees here that the plan is of a valid document.
     let _ = plan.operation();
-    let Ok(mut session) = gated_session(rt.alloc(), service.world, gate) else {
+    let Ok(mut session) = kept.open(rt.alloc(), service.world) else {
         return Err(NoMemory);
     };
     let limited = Limited {
@@ -57,72 +58,97 @@ fn answer_plan<'w, 'g, R: Threads + Wait + AllocGlobal + Sync, G: Gate>(
         most: service.max_answer,
     };
     match answer_within(rt, &mut session, &limited, workers) {
-        Ok(answer) => Ok((session, answer)),
+        Ok(answered) => Ok(InSession { session, answered }),
         Err(WorkFault::NoMemory) => Err(NoMemory),
         Err(WorkFault::BadCount) => unreachable!(),
     }
 }
 
-// The text of the answer of a plan by a service, by so many workers.
-fn plan_text<R: Threads + Wait + AllocGlobal + Sync, G: Gate>(
+// The text of the answer of a plan by a service, by so many workers. Its session is kept.
+fn plan_text<'w, R: Threads + Wait + AllocGlobal + Sync, G: Gate + Copy, B: Served>(
     rt: &R,
-    service: &Service<'_>,
-    gate: &G,
+    service: &Service<'w>,
+    kept: &mut KeptSession<'w, G, B>,
     plan: &Plan<'_>,
     workers: usize,
 ) -> Result<String, NoMemory>
+    requires world { service.now.world.now ≡ B.world }
     requires plan { (plan_of plan.now).bindings ≡ service.now.world.now.bindings }
     requires count { ¬ (IsBadCount workers) }
     ensures { IfOk result (λ text. IsAnsweredAnew (service_of service.now) (plan_of plan.now) (string_bytes text)) }
 {
-    match answer_plan(rt, service, gate, plan, workers) {
-        Ok((_, answer)) => Ok(answer.text),
+    match answer_plan(rt, service, kept, plan, workers) {
+        Ok(InSession { session, answered }) => {
+            kept.keep(session);
+            Ok(answered.text)
+        }
         Err(want) => Err(want),
     }
 }
 
-// The answer of what a line asks, by a service and so many workers.
-fn line_answer<R: Threads + Wait + AllocGlobal + Sync, G: Gate>(
+// The answer of what a line asks, by a service and so many workers. If it needs a session, that is kept.
+fn line_answer<'w, R: Threads + Wait + AllocGlobal + Sync, G: Gate + Copy, B: Served>(
     rt: &R,
-    service: &Service<'_>,
-    gate: &G,
+    service: &Service<'w>,
+    kept: &mut KeptSession<'w, G, B>,
     plan: LinePlan<'_>,
     workers: usize,
 ) -> Result<String, NoMemory>
+    requires world { service.now.world.now ≡ B.world }
     requires plan { (line : List ℕ) × PlansLine service.now.world.now line plan }
     requires count { ¬ (IsBadCount workers) }
     ensures { IfOk result (λ text. AnswersLinePlan (service_of service.now) plan.entry (string_bytes text)) }
 {
     match plan {
         LinePlan::One(RequestPlan::Refused(text)) => Ok(text),
-        LinePlan::One(RequestPlan::Planned(plan)) => plan_text(rt, service, gate, &plan, workers),
-        LinePlan::Several(array) => array_answer(rt, service, gate, &array, workers),
+        LinePlan::One(RequestPlan::Planned(plan)) => plan_text(rt, service, kept, &plan, workers),
+        LinePlan::Several(array) => array_answer(rt, service, kept, &array, workers),
     }
 }
 
-// The answer of a line by a service, both without a line feed, by so many workers.
-fn answer_line<R: Threads + Wait + AllocGlobal + Sync, G: Gate>(
+// The answer of a line by a service, both without a line feed, by so many workers and with nothing that is kept.
+fn answer_line<R: Threads + Wait + AllocGlobal + Sync, G: Gate + Copy, B: Served>(
     rt: &R,
     service: &Service<'_>,
-    gate: &G,
+    gate: G,
     line: &[u8],
     workers: usize,
 ) -> Result<String, NoMemory>
-    requires { ¬ (IsBadCount workers) }
+    requires world { service.now.world.now ≡ B.world }
+    requires count { ¬ (IsBadCount workers) }
     ensures { IfOk result (λ text. IsAnswer (service_of service.now) line.now (string_bytes text)) }
 {
+    let mut kept: KeptSession<'_, G, B> = KeptSession::new(gate);
     match plan_line(rt.alloc(), service.world, line) {
-        Ok(plan) => line_answer(rt, service, gate, plan, workers),
+        Ok(plan) => line_answer(rt, service, &mut kept, plan, workers),
         Err(want) => Err(want),
     }
 }
 
-// The answer of a line by the service of a run, by its kept documents and so many workers.
-fn answer_kept<R: Threads + Wait + AllocGlobal + Sync, G: Gate, B: Served>(
+// What a run keeps from line to line: documents by their texts, and a session that starts again before each line.
+#[derive(Drop)]
+struct Run<'w, G, B: Served> {
+    documents: RunDocuments<'w, B>,
+    session: KeptSession<'w, G, B>,
+}
+
+impl<'w, G: Gate + Copy, B: Served> Run<'w, G, B> {
+    // Nothing is kept yet.
+    fn new(alloc: Global, world: &'w World, gate: G) -> Run<'w, G, B>
+        requires { world.now ≡ B.world }
+    {
+        Run {
+            documents: RunDocuments::new(alloc, world),
+            session: KeptSession::new(gate),
+        }
+    }
+}
+
+// The answer of a line by the service of a run, by what it keeps and so many workers.
+fn answer_kept<'w, R: Threads + Wait + AllocGlobal + Sync, G: Gate + Copy, B: Served>(
     rt: &R,
-    service: &Service<'_>,
-    gate: &G,
-    documents: &mut RunDocuments<'_, B>,
+    service: &Service<'w>,
+    run: &mut Run<'w, G, B>,
     line: &[u8],
     workers: usize,
 ) -> Result<String, NoMemory>
@@ -130,19 +156,19 @@ fn answer_kept<R: Threads + Wait + AllocGlobal + Sync, G: Gate, B: Served>(
     requires count { ¬ (IsBadCount workers) }
     ensures { IfOk result (λ text. IsAnswer (service_of service.now) line.now (string_bytes text)) }
 {
-    match documents.plan_line(rt.alloc(), line) {
-        Ok(plan) => line_answer(rt, service, gate, plan, workers),
+    match run.documents.plan_line(rt.alloc(), line) {
+        Ok(plan) => line_answer(rt, service, &mut run.session, plan, workers),
         Err(want) => Err(want),
     }
 }
 
-// The answer of a line by the service of a run, whose kept documents are in a cell, by so many workers. If the cell is in use,
-// the line is answered without them.
-fn answer_in_run<R: Threads + Wait + AllocGlobal + Sync, G: Gate, B: Served>(
+// The answer of a line by the service of a run, where what it keeps is in a cell, by so many workers. If the cell is in use,
+// the line is answered without it.
+fn answer_in_run<'w, R: Threads + Wait + AllocGlobal + Sync, G: Gate + Copy, B: Served>(
     rt: &R,
-    service: &Service<'_>,
-    gate: &G,
-    documents: &RefCell<RunDocuments<'_, B>>,
+    service: &Service<'w>,
+    gate: G,
+    run: &RefCell<Run<'w, G, B>>,
     line: &[u8],
     workers: usize,
 ) -> Result<String, NoMemory>
@@ -150,17 +176,17 @@ fn answer_in_run<R: Threads + Wait + AllocGlobal + Sync, G: Gate, B: Served>(
     requires count { ¬ (IsBadCount workers) }
     ensures { IfOk result (λ text. IsAnswer (service_of service.now) line.now (string_bytes text)) }
 {
-    match documents.try_borrow_mut() {
-        Ok(mut documents) => answer_kept(rt, service, gate, &mut documents, line, workers),
-        Err(_) => answer_line(rt, service, gate, line, workers),
+    match run.try_borrow_mut() {
+        Ok(mut run) => answer_kept(rt, service, &mut run, line, workers),
+        Err(_) => answer_line::<R, G, B>(rt, service, gate, line, workers),
     }
 }
 
 // As [`serve_limited_with`], for a world that a type names. No clause knows what is in a cell but what its type says.
-fn serve_run<R: Threads + Wait + AllocGlobal + Sync, G: Gate, B: Served, I: Read, W: Write>(
+fn serve_run<R: Threads + Wait + AllocGlobal + Sync, G: Gate + Copy, B: Served, I: Read, W: Write>(
     rt: &R,
     service: &Service<'_>,
-    gate: &G,
+    gate: G,
     reader: &mut Counted<I>,
     writer: &mut Counted<W>,
     workers: usize,
@@ -180,15 +206,12 @@ fn serve_run<R: Threads + Wait + AllocGlobal + Sync, G: Gate, B: Served, I: Read
     if workers == 0 || workers > MOST_WORKERS {
         return Err(ServeFault::BadCount);
     }
-    let documents: RefCell<RunDocuments<'_, B>> = RefCell::new(RunDocuments::new(
-        rt.alloc(),
-        service.world,
-    ));
+    let run: RefCell<Run<'_, G, B>> = RefCell::new(Run::new(rt.alloc(), service.world, gate));
     let answer = |line: &[u8]| -> Result<String, NoMemory>
         requires world { service.now.world.now ≡ B.world }
         requires count { ¬ (IsBadCount workers) }
         ensures { IfOk result (λ text. IsAnswer (service_of service.entry.now) line.now (string_bytes text)) }
-    { answer_in_run(rt, service, gate, &documents, line, workers) };
+    { answer_in_run(rt, service, gate, &run, line, workers) };
     match serve_lines(rt.alloc(), reader, writer, answer) {
         Ok(count) => Ok(count),
         Err(fault) => Err(fault),
@@ -197,7 +220,8 @@ fn serve_run<R: Threads + Wait + AllocGlobal + Sync, G: Gate, B: Served, I: Read
 
 /// Answers each request line of the reader by a line to the writer, as [`serve`](world_answers::serve) does, and says how many
 /// there were. The batches of a round are run by this many workers at the same time, 1 to 16, and each enters the gate first.
-/// All workers have ended before the next line is read. Documents are kept as `serve` keeps them, by the calling thread alone.
+/// All workers have ended before the next line is read. Documents and a session are kept as `serve` keeps them, by the calling
+/// thread alone.
 ///
 /// # Errors
 ///
@@ -265,5 +289,5 @@ pub fn serve_limited_with<R: Threads + Wait + AllocGlobal + Sync, G: Gate, I: Re
     ensures bounded { OnOk result ((calls_of reader.new ≤ bound) × (given_of reader.new < bound)) }
     ensures grown { (calls_of reader.old ≤ calls_of reader.new) × (given_of reader.old ≤ given_of reader.new) }
 {
-    serve_run::<R, G, Brand, I, W>(rt, service, gate, reader, writer, workers)
+    serve_run::<R, &G, Brand, I, W>(rt, service, gate, reader, writer, workers)
 }

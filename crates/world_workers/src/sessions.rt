@@ -13,11 +13,11 @@ use std::alloc::Global;
 use world::World;
 
 /// A new session of the world, whose sources are behind the gate.
-pub fn gated_session<'w, 'g, G: Gate>(
+pub fn gated_session<'w, G: Gate + Copy>(
     alloc: Global,
     world: &'w World,
-    gate: &'g G,
-) -> Result<Session<Gated<'w, 'g, G>>, NoMemory>
+    gate: G,
+) -> Result<Session<Gated<'w, G>>, NoMemory>
     ensures opened { IfOk result (λ session. session ≡ session_over world.now) }
     // Each loader of the bindings is there.
     ensures each { OnOk result (length world.now.sources ≡ length world.now.bindings.loaders) }
@@ -30,13 +30,13 @@ pub fn gated_session<'w, 'g, G: Gate>(
 }
 
 // The loader of this number, under its name, whose source stands behind the gate.
-fn gated_loader<'w, 'g, G: Gate>(
+fn gated_loader<'w, G: Gate + Copy>(
     alloc: Global,
     world: &'w World,
-    gate: &'g G,
+    gate: G,
     number: usize,
     name: &str,
-) -> Result<Loader<Gated<'w, 'g, G>>, NoMemory>
+) -> Result<Loader<Gated<'w, G>>, NoMemory>
     requires { number < length world.now.sources }
     ensures { (d : SourceOf) → IfOk result (λ l. l ≡ loader_over world.now.limit name.now (get_or world.now.sources number d)) }
 {

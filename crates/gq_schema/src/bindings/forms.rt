@@ -11,7 +11,7 @@ ghost use Rattle.gq_schema.specs.BindingsForms.{keyed_loader, paired_loader, who
 ghost use Rattle.gq_schema.specs.BindingsTargets.{Gives};
 
 use super::binding::{Binding, KeyPart, KeySource, Step};
-use super::loaders::Loaders;
+use super::loaders::{Loaders, NumberedLoader};
 use super::types::{
     is_composite_list, is_composite_type, is_leaf_type, is_object_type, is_root_type, takes_key,
     takes_keys,
@@ -27,7 +27,7 @@ use std::alloc::{AllocError, Global};
 fn keyed_loader(loaders: &Loaders, name: &str) -> Option<usize>
     ensures { result ≡ keyed_loader loaders.now name.now }
 {
-    let (number, line) = loaders.find(name)?;
+    let NumberedLoader { number, line } = loaders.find(name)?;
     match &line.by {
         Some(by) if by.second.is_none() => Some(number),
         _ => None,
@@ -38,7 +38,7 @@ fn keyed_loader(loaders: &Loaders, name: &str) -> Option<usize>
 fn paired_loader(loaders: &Loaders, name: &str) -> Option<usize>
     ensures { result ≡ paired_loader loaders.now name.now }
 {
-    let (number, line) = loaders.find(name)?;
+    let NumberedLoader { number, line } = loaders.find(name)?;
     match &line.by {
         Some(by) if by.second.is_some() => Some(number),
         _ => None,
@@ -49,7 +49,7 @@ fn paired_loader(loaders: &Loaders, name: &str) -> Option<usize>
 fn whole_loader(loaders: &Loaders, name: &str) -> Option<usize>
     ensures { result ≡ whole_loader loaders.now name.now }
 {
-    let (number, line) = loaders.find(name)?;
+    let NumberedLoader { number, line } = loaders.find(name)?;
     if line.by.is_some() {
         None
     } else {

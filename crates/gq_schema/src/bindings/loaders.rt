@@ -44,6 +44,13 @@ impl Model for Loaders {
     ghost invariant = { λ s. (q : List ℕ) → get_by_text s.numbers q ≡ number_of (loader_in (map loader_of s.lines.items) q) };
 }
 
+/// A loader with its number.
+#[derive(Clone, Copy)]
+pub struct NumberedLoader<'a> {
+    pub number: usize,
+    pub line: &'a LoaderLine,
+}
+
 impl Loaders {
     ghost use Rattle.gq_schema.specs.BindingsSeen.{loader_of};
 
@@ -57,11 +64,12 @@ impl Loaders {
     }
 
     /// The loader of this name, with its number.
-    pub fn find(&self, name: &str) -> Option<(usize, &LoaderLine)>
-        ensures { option_map (λ p. (p.0, loader_of p.1.now)) result ≡ loader_in self.now name.now }
+    pub fn find(&self, name: &str) -> Option<NumberedLoader<'_>>
+        ensures { option_map (λ found. (found.number, loader_of found.line.now)) result ≡ loader_in self.now name.now }
     {
         let number = *self.numbers.get(name)?;
-        Some((number, &self.lines[number]))
+        let line = &self.lines[number];
+        Some(NumberedLoader { number, line })
     }
 
     /// The loaders in order.

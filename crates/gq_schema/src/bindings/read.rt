@@ -1,13 +1,12 @@
 //! Bindings, and how a text is read to them.
 
-ghost use Rattle.std.specs.Prelude.{◌≡◌, None, Some, IfOk, IfErr, OnOk, map, string_bytes, if◌then◌else◌};
+ghost use Rattle.std.specs.Prelude.{◌≡◌, None, Some, IfOk, IfErr, OnOk, map, string_bytes};
 ghost use Rattle.std.specs.Option.{option_map, option_copied};
 ghost use Rattle.bindings_syntax.specs.Seen.{statement_seen, numbered_seen, form_seen, by_seen};
 ghost use Rattle.bindings_syntax.specs.Statements.{field_line};
 ghost use Rattle.schema_syntax.specs.Tree.{field_of, fields_of};
 ghost use Rattle.gq_schema.specs.Types.{tree_of};
 ghost use Rattle.gq_schema.specs.BindingsTree.{binding_in};
-ghost use Rattle.gq_schema.specs.BindingsTypes.{is_root_type};
 ghost use Rattle.gq_schema.specs.BindingsSeen.{by_of, loader_of, binding_of, bound_of};
 
 use super::binding::{Binding, BoundField, By, LoaderLine};
@@ -257,9 +256,8 @@ impl Bindings {
     ) -> Result<bool, AllocError>
         ensures { IfOk result (AreNewIf (settled_fields (tree_of schema.now) type_name.now self.old (fields_of fields.now)) self.new) }
     {
-        let of_root = is_root_type(schema, type_name);
         for field in fields {
-            if !self.settle_field(alloc, schema, type_name, of_root, field)? {
+            if !self.settle_field(alloc, schema, type_name, field)? {
                 return Ok(false);
             }
         }
@@ -272,16 +270,14 @@ impl Bindings {
         alloc: Global,
         schema: &Schema,
         type_name: &str,
-        of_root: bool,
         field: &FieldDefinition,
     ) -> Result<bool, AllocError>
-        requires { of_root ≡ is_root_type (tree_of schema.now) type_name.now }
         ensures { IfOk result (AreNewIf (settled_field (tree_of schema.now) type_name.now self.old (field_of field.now)) self.new) }
     {
         if self.fields.get(type_name, &field.name.text).is_some() {
             return Ok(true);
         }
-        if of_root || !is_leaf_type(schema, &field.of_type) {
+        if is_root_type(schema, type_name) || !is_leaf_type(schema, &field.of_type) {
             return Ok(false);
         }
         let column = Binding::Column(String::from_str(alloc, &field.name.text)?);

@@ -7,15 +7,22 @@ use Rattle.csv_source.proofs.read.read_all.Goals as goal
 pub returns-then-not-branch-clause-reads : goal.returns-then-not-branch-clause-reads
 returns-then-not-branch-clause-reads g c = λ text start. no_records text (c.in_ok-next.ensures.ended c.if-not-branch.true text [] start)
 
+pub returns-in_err-names-clause-reads : goal.returns-in_err-names-clause-reads
+returns-in_err-names-clause-reads g c = λ text start.
+    let p = err_from_is_err_and c.from_residual-in_err-names.result c.from_residual-in_err-names.ensures.1 in
+    let behind = c.in_ok-next.ensures.more c.if-not-branch.false text [] start in
+    let fault = c.in_err-names.ensures.err in
+    rw (p.1, p.2) (header-fault text (fields_of c.next.new.raw) _ (begins_with g.R.Read.remaining c.next.new.reader text _ behind) (rw fault.0 fault.1))
+
 pub returns-in_err-builder-clause-reads : goal.returns-in_err-builder-clause-reads
 returns-in_err-builder-clause-reads g c = λ text start.
     let p = err_from_is_err_and c.from_residual-in_err-builder.result c.from_residual-in_err-builder.ensures.1 in
     let behind = c.in_ok-next.ensures.more c.if-not-branch.false text [] start in
-    rw (p.1, p.2) (header-fault text (fields_of c.next.new.raw) _ (begins_with g.R.Read.remaining c.next.new.reader text _ behind) c.in_err-builder.ensures.err)
+    rw (p.1, p.2) (header-fault text (fields_of c.next.new.raw) _ (begins_with g.R.Read.remaining c.next.new.reader text _ behind) (rw c.in_ok-names.ensures.ok.0 at c.in_err-builder.ensures.err))
 
 pub loop-rows-init : goal.loop-rows-init
 loop-rows-init g c =
-    let (sheet, lawful) = c.in_ok-builder.ensures.ok in
+    let (sheet, lawful) = rw c.in_ok-names.ensures.ok.0 at c.in_ok-builder.ensures.ok in
     rw sheet (record {
       plain = c.in_ok-next.ensures.plain;
       begun = refl;

@@ -2,7 +2,7 @@ use Rattle.std.proofs.Common.{◌≡◌, ◌++◌, drop, map}
 use Rattle.std.specs.Prelude.{flat_map}
 use Rattle.gq_parser.specs.Tree.{operation_of, fragment_of, document_of}
 use Rattle.document_parts.specs.Parts.{selection_part_of, variable_part_of, directive_list_of}
-use Rattle.document_parts.specs.Listing.{variables_in, variable_directives, operation_directives, fragment_directives, selection_directives, directives_in}
+use Rattle.document_parts.specs.Listing.{variable_directives, operation_directives, fragment_directives, selection_directives, directives_in}
 use Rattle.document_parts.proofs.listing.directive_lists.Given as goal
 
 abbrev pub invariant-loop-variable : goal.invariant-loop-variable

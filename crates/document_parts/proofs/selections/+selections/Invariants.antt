@@ -1,7 +1,6 @@
 use Rattle.std.proofs.Common.{◌≡◌, ◌++◌, drop, map}
 use Rattle.std.specs.Option.{option_copied}
 use Rattle.gq_parser.specs.Tree.{map_selections}
-use Rattle.gq_parser.specs.declared.tree.Selection.TheViews.{out-SelectionSet}
 use Rattle.gq_schema.specs.Types.{tree_of}
 use Rattle.document_parts.specs.Parts.{selection_part_of}
 use Rattle.document_parts.specs.Selections.{selections_among}

@@ -1,9 +1,8 @@
-use Rattle.std.proofs.Common.{List, length, refl, sym, ap, subst}
+use Rattle.std.proofs.Common.{sym, subst}
 use Rattle.load_memory.specs.Pairs.{MemoryOf}
 use Rattle.gq_check.specs.Plans.{PlanOf, plan_of}
 use Rattle.gq_resolve.specs.Evaluated.{AddsPart}
 use Rattle.gq_resolve.specs.Suspended.{Advanced, FitsStopped, lacking}
-use Rattle.gq_resolve.specs.declared.output.Blocked.{Blocked}
 use Rattle.gq_resolve.proofs.Evaluating.{on_err}
 use Rattle.gq_resolve.proofs.Polling.{still-fits, front-added, part-wanted}
 use Rattle.gq_resolve.proofs.advance.advance.Goals as goal
@@ -12,21 +11,21 @@ pub returns-in_err-waiting-clause-err : goal.returns-in_err-waiting-clause-err
 returns-in_err-waiting-clause-err c = λ fits.
     let plan : PlanOf = plan_of c.args.tour.now.plan.now in
     let m : MemoryOf = c.args.tour.now.memory.now in
-    let far : Advanced plan m (c.in_ok-rooted.rooted, c.in_ok-rooted.out) = c.in_ok-rooted.ensures (subst (FitsStopped plan m) (sym c.take.ensures.value) fits) in
+    let far : Advanced plan m c.in_ok-walked.walked = c.in_ok-walked.ensures (subst (FitsStopped plan m) (sym c.take.ensures.value) fits) in
     on_err {P = AddsPart c.args.wants.now c.wanted.new.wants (lacking plan m)} _
-    (part-wanted plan m c.args.wants.now (c.in_ok-rooted.rooted, c.in_ok-rooted.out) c.requires far c.wanted.new.wants c.in_err-waiting.ensures.part)
+    (part-wanted plan m c.args.wants.now c.in_ok-walked.walked c.requires far c.wanted.new.wants c.in_err-waiting.ensures.part)
 
 pub returns-clause-ok : goal.returns-clause-ok
 returns-clause-ok c = λ fits.
     let plan : PlanOf = plan_of c.args.tour.now.plan.now in
     let m : MemoryOf = c.args.tour.now.memory.now in
-    let far : Advanced plan m (c.in_ok-rooted.rooted, c.in_ok-rooted.out) = c.in_ok-rooted.ensures (subst (FitsStopped plan m) (sym c.take.ensures.value) fits) in
-    front-added plan m c.args.wants.now (c.in_ok-rooted.rooted, c.in_ok-rooted.out) c.requires far c.wanted.new.wants
-    (λ none. cc (c.if-is_empty.ensures.1 (ap (λ (bs : List Blocked). length bs) none))) c.in_ok-waiting.ensures.ok
+    let far : Advanced plan m c.in_ok-walked.walked = c.in_ok-walked.ensures (subst (FitsStopped plan m) (sym c.take.ensures.value) fits) in
+    front-added plan m c.args.wants.now c.in_ok-walked.walked c.requires far c.wanted.new.wants
+    (λ none. cc (c.if-is_empty.ensures.1 none)) c.in_ok-waiting.ensures.ok
 
 pub returns-clause-grown : goal.returns-clause-grown
 returns-clause-grown c = λ n fits grown.
     let plan : PlanOf = plan_of c.args.tour.now.plan.now in
     let m : MemoryOf = c.args.tour.now.memory.now in
-    let far : Advanced plan m (c.in_ok-rooted.rooted, c.in_ok-rooted.out) = c.in_ok-rooted.ensures (subst (FitsStopped plan m) (sym c.take.ensures.value) fits) in
-    still-fits plan m n (c.in_ok-rooted.rooted, c.in_ok-rooted.out) c.in_ok-rooted.out.blocked c.in_ok-waiting.waiting far refl c.in_ok-waiting.ensures.kept grown
+    let far : Advanced plan m c.in_ok-walked.walked = c.in_ok-walked.ensures (subst (FitsStopped plan m) (sym c.take.ensures.value) fits) in
+    still-fits plan m n c.in_ok-walked.walked c.in_ok-waiting.waiting far c.in_ok-waiting.ensures.kept grown

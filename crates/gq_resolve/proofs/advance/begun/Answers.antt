@@ -1,4 +1,4 @@
-use Rattle.std.proofs.Common.{◌≡◌, ℕ, ◌∙◌, ap, sym, subst, List}
+use Rattle.std.proofs.Common.{◌≡◌, ℕ, ◌∙◌, ap, sym, List}
 use Rattle.gq_parser.specs.declared.tree.SelectionSet.{SelectionSet}
 use Rattle.gq_parser.specs.declared.tree.Operation.{Operation}
 use Rattle.gq_parser.specs.Tree.{Selections, set_of, map_selections}
@@ -6,11 +6,10 @@ use Rattle.gq_parser.proofs.Views.{of_set}
 use Rattle.schema_syntax.specs.declared.tree.Definition.{Definition}
 use Rattle.gq_schema.specs.Types.{tree_of, root_in}
 use Rattle.gq_check.specs.Plans.{PlanOf, plan_of}
-use Rattle.plan_program.specs.FieldValues.{PreparedOf, all_prepared}
+use Rattle.plan_program.specs.FieldValues.{all_prepared}
 use Rattle.plan_program.specs.Groups.{selections_in, collect}
 use Rattle.plan_program.specs.Prepared.{all_prepared_seen}
 use Rattle.plan_program.specs.PlanPrograms.{root_prepared}
-use Rattle.gq_resolve.specs.Groups.{AreMade}
 use Rattle.gq_resolve.proofs.Advancing.{begun-rooted}
 use Rattle.gq_resolve.proofs.advance.begun.Goals as goal
 

@@ -13,4 +13,4 @@ returns c = λ rooted closed.
     let plan : PlanOf = plan_of c.args.tour.now.plan.now in
     let m : MemoryOf = c.args.tour.now.memory.now in
     c.finish.ensures (plan_program plan) (lookup m)
-    (record { numbered = numbered-plan plan; closed = closed; put = (c.in_ok-out.ensures rooted tt).put ∙ ap (built (puts false (plan_program plan) (lookup m))) c.new.ensures })
+    (record { numbered = numbered-plan plan; closed = closed; put = (c.in_ok-walked.ensures rooted tt).put ∙ ap (built (puts false (plan_program plan) (lookup m))) c.new.ensures })

@@ -18,7 +18,7 @@ returns c = λ rooted.
     let m : MemoryOf = c.args.tour.now.memory.now in
     let p : Program = plan_program plan in
     let all : BuiltOf = built (puts false p (lookup m)) nothing_built in
-    let over = c.in_ok-builder.ensures rooted tt in
+    let over = c.in_ok-walked.ensures rooted tt in
     let held = over.put.1 nothing_built c.new-builder.ensures.bounds in
     let same = over.put.0 ∙ c.new-builder.ensures.most in
     responds c.args.most plan m _

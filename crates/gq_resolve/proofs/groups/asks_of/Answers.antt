@@ -1,5 +1,4 @@
 use Rattle.std.proofs.Common.{refl}
-use Rattle.plan_program.specs.Prepared.{value_from_seen}
 use Rattle.gq_resolve.specs.Groups.{children_in}
 use Rattle.gq_resolve.specs.declared.groups.Then.TheVariants.{Joined}
 use Rattle.gq_resolve.proofs.Grouping.{load-asking}

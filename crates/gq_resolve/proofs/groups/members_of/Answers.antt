@@ -1,4 +1,3 @@
-use Rattle.std.proofs.Common.{refl}
 use Rattle.gq_resolve.proofs.Grouping.{made-none, made-more}
 use Rattle.gq_resolve.proofs.groups.members_of.Goals as goal
 
@@ -8,4 +7,4 @@ loop-prepared-init c = rw c.in_ok-members.ensures.items (made-none c.args.groups
 pub loop-prepared-preserved : goal.loop-prepared-preserved
 loop-prepared-preserved c =
     rw c.in_ok-push.ensures.items
-    (made-more c.args.groups.now.items c.loop-prepared.groups.items c.asks_of.new.groups.items c.loop-prepared.yielded c.in-Some.prepared c.loop-prepared.members.items _ c.loop-prepared.invariant c.in_ok-asks.ensures refl)
+    (made-more c.args.groups.now.items c.loop-prepared.groups.items c.asks_of.new.groups.items c.loop-prepared.yielded c.in-Some.prepared c.loop-prepared.members.items _ c.loop-prepared.invariant c.in_ok-asks.ensures c.position_of-position.ensures)

@@ -7,6 +7,6 @@ ruled-requires-clause-rule g c = begins
 
 pub returns : goal.returns
 returns g c =
-    let most = rw c.in_ok-most.was at c.share-worker.ensures.worked in
-    let whole = answered _ _ _ _ _ _ _ _ _ _ c.put_all-worker.ensures.1 most c.work-worker.ensures.worked c.work-worker.ensures.whole c.joined.ensures.items c.joined.ensures.both in
+    let most = rw c.in_ok-most.was at c.share.ensures.worked in
+    let whole = answered _ _ _ _ _ _ _ _ _ _ c.put_all.ensures.1 most c.work-last.ensures.worked c.work-last.ensures.whole c.joined.ensures.items c.joined.ensures.both in
     record { answered = whole; shelved = answers_on _ _ _ _ _ whole }

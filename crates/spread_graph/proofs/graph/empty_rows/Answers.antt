@@ -1,5 +1,4 @@
-use Rattle.std.proofs.Common.{◌∙◌, [], arith, replicate, ap, ℕ, List}
-use Rattle.spread_graph.specs.Rows.{rows_in}
+use Rattle.std.proofs.Common.{[], arith, replicate}
 use Rattle.spread_graph.proofs.RowLaws.{rows-added}
 use Rattle.spread_graph.proofs.graph.empty_rows.Goals as goal
 

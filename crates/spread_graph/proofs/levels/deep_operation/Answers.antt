@@ -1,4 +1,4 @@
-use Rattle.std.proofs.Common.{◌≡◌, ◌∙◌, sym, Some, Option, length, map, ℕ, subst, refl, true}
+use Rattle.std.proofs.Common.{◌≡◌, ◌∙◌, sym, Option, length, map, ℕ, subst, refl, true}
 use Rattle.std.specs.Prelude.{is_some}
 use Rattle.std.proofs.lemmas.Bool.{both_ways}
 use Rattle.gq_parser.specs.Tree.{operation_of, fragment_of}

@@ -1,4 +1,4 @@
-use Rattle.std.proofs.Common.{◌≡◌, ◌∙◌, sym, ◌<◌, ◌≤◌, [], length, get_or, arith}
+use Rattle.std.proofs.Common.{◌∙◌, ◌<◌, [], length, arith}
 use Rattle.std.proofs.lemmas.List.{get_or_default}
 use Rattle.document_parts.specs.declared.part.Owner.TheVariants as owner
 use Rattle.spread_graph.specs.Graphs.{row}

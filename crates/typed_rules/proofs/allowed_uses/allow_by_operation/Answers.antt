@@ -1,33 +1,45 @@
-use Rattle.std.proofs.Common.{◌≡◌, ◌∙◌, ◌-◌, ◌+◌, ◌<◌, ◌∷◌, length, drop, map, string_bytes, arith}
+use Rattle.std.proofs.Common.{◌≡◌, ◌∙◌, ◌++◌, ◌∷◌, [], sym, ap, refl, false, not, Option, Some, None, List, map, string_bytes}
+use Rattle.std.specs.Slice.Iter.{iter_rest}
+use Rattle.std.specs.Iterator.Adapters.{rev_source}
+use Rattle.std.specs.Option.{option_map_or}
+use Rattle.std.proofs.lemmas.List.{append-nil, append_assoc}
+use Rattle.gq_parser.specs.declared.tree.VariableDefinition.{VariableDefinition}
 use Rattle.gq_parser.specs.Tree.{variable_of}
-use Rattle.gq_schema.proofs.Walks.{drop-next}
-use Rattle.document_parts.specs.Parts.{use_of}
+use Rattle.document_parts.specs.Parts.{Location, VariableUse, use_of}
 use Rattle.spread_graph.specs.Batches.{has, set_at}
+use Rattle.typed_rules.specs.AllVariableUsagesAreAllowed.{forbids_at, forbids}
 use Rattle.typed_rules.specs.UseKinds.{is_listed, use_at}
 use Rattle.typed_rules.proofs.AllowLaws.{variable_more, variable_other}
 use Rattle.typed_rules.proofs.allowed_uses.allow_by_operation.Goals as goal
 
-pub loop-left-preserved : goal.loop-left-preserved
-loop-left-preserved c =
-    let all = c.args.variables.now in
-    let left = c.loop-left.left in
+forbids_none : (u : VariableUse) → forbids [] u ≡ false
+forbids_none u = at u.location where
+  at : (l : Option Location) → option_map_or (forbids_at [] u.name) l false ≡ false
+  at None = refl
+  at (Some l) = refl
+
+pub loop-variable-init : goal.loop-variable-init
+loop-variable-init c = record {
+  behind = [];
+  all = append-nil (iter_rest (rev_source c.into_iter-variable-iterator.result)) ∙ cc;
+  own = λ r lt kind before. before ∙ sym (ap (λ b. not b) (forbids_none (use_at (map use_of c.args.uses.now) r)));
+  others = λ r m lt below other. refl;
+}
+
+pub loop-variable-preserved : goal.loop-variable-preserved
+loop-variable-preserved c =
     let n = c.args.number in
-    let item = c.index-variables-left.result in
+    let item = c.in-Some.variable.now in
     let uses = map use_of c.args.uses.now in
     let known = c.args.kinds.now.known in
-    let old = c.loop-left.sets.items in
+    let old = c.loop-variable.sets.items in
     let new = c.allow_by_variable.new.sets.items in
-    let less : left - 1 < length all = omega (arith, c.loop-left.invariant.within, c.loop-left-test.true) in
-    let back : (left - 1) + 1 ≡ left = omega (arith, c.loop-left-test.true) in
-    let next : drop (left - 1) all ≡ item ∷ drop left all = rw back at (drop-next all (left - 1) item less c.index-variables-left.is) in
+    let before = c.loop-variable.invariant in
+    let left = iter_rest (rev_source c.next.new.self) in
     record {
-      within = omega (arith, c.loop-left.invariant.within);
-      own = λ r lt kind before. rw next (variable_more (variable_of item) (map variable_of (drop left all)) (use_at uses r) n (is_listed known (string_bytes item.name) r) (has (set_at old r) n) (has (set_at new r) n)
-          (kind (string_bytes item.name)) (c.loop-left.invariant.own r lt kind before) (c.in_ok-allow_by_variable.ensures r n lt c.requires));
-      others = λ r m lt below other. variable_other m n _ _ (has (set_at old r) m) (has (set_at new r) m) other (c.in_ok-allow_by_variable.ensures r m lt below) ∙ c.loop-left.invariant.others r m lt below other;
+      behind = item ∷ before.behind;
+      all = sym (append_assoc left (item ∷ []) before.behind) ∙ (ap (λ (xs : List VariableDefinition). xs ++ before.behind) (sym c.in-Some.ensures.steps) ∙ before.all);
+      own = λ r lt kind allowed. variable_more (variable_of item) (map variable_of before.behind) (use_at uses r) n (is_listed known (string_bytes item.name) r) (has (set_at old r) n) (has (set_at new r) n)
+          (kind (string_bytes item.name)) (before.own r lt kind allowed) (c.in_ok-allow_by_variable.ensures r n lt c.requires);
+      others = λ r m lt below other. variable_other m n _ _ (has (set_at old r) m) (has (set_at new r) m) other (c.in_ok-allow_by_variable.ensures r m lt below) ∙ before.others r m lt below other;
     }
-
-pub returns-clause-own : goal.returns-clause-own
-returns-clause-own c = λ r lt kind before.
-    let none : c.loop-left.left ≡ 0 = omega arith in
-    rw none at (c.loop-left.invariant.own r lt kind before)

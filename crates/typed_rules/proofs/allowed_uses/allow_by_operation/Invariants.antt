@@ -1,4 +1,7 @@
-use Rattle.std.proofs.Common.{◌≡◌, ◌<◌, ◌≤◌, ℕ, true, false, not, eqb, drop, length, map}
+use Rattle.std.proofs.Common.{◌≡◌, ◌++◌, ◌<◌, ℕ, List, true, false, not, eqb, length, map}
+use Rattle.std.specs.Slice.Iter.{iter_rest}
+use Rattle.std.specs.Iterator.Adapters.{rev_source}
+use Rattle.gq_parser.specs.declared.tree.VariableDefinition.{VariableDefinition}
 use Rattle.gq_parser.specs.Tree.{variable_of}
 use Rattle.document_parts.specs.Parts.{use_of}
 use Rattle.spread_graph.specs.Batches.{has, set_at}
@@ -6,13 +9,11 @@ use Rattle.typed_rules.specs.AllVariableUsagesAreAllowed.{forbids}
 use Rattle.typed_rules.specs.UseKinds.{use_at, IsKind}
 use Rattle.typed_rules.proofs.allowed_uses.allow_by_operation.Given as goal
 
-abbrev pub invariant-loop-left : goal.invariant-loop-left
-invariant-loop-left l = record {
-  within : l.left ≤ length l.variables;
+abbrev pub invariant-loop-variable : goal.invariant-loop-variable
+invariant-loop-variable l = record {
+  behind : List VariableDefinition;
+  all : iter_rest (rev_source l.variable-iterator) ++ behind ≡ l.variables;
   own : (r : ℕ) → r < length l.uses → IsKind l.kinds.known (map use_of l.uses) r → has (set_at l.initial.sets.items r) l.number ≡ true →
-      has (set_at l.sets.items r) l.number ≡ not (forbids (map variable_of (drop l.left l.variables)) (use_at (map use_of l.uses) r));
+      has (set_at l.sets.items r) l.number ≡ not (forbids (map variable_of behind) (use_at (map use_of l.uses) r));
   others : (r m : ℕ) → r < length l.uses → m < 64 → eqb m l.number ≡ false → has (set_at l.sets.items r) m ≡ has (set_at l.initial.sets.items r) m;
 }
-
-abbrev pub decreases-loop-left : goal.decreases-loop-left
-decreases-loop-left l = l.left

@@ -11,5 +11,5 @@ answer-requires g c = λ κs. ((refl, tt), enough c.args.service.now.world.now c
 
 pub returns-in-Ok-answer-clause-anew : goal.returns-in-Ok-answer-clause-anew
 returns-in-Ok-answer-clause-anew g c =
-    answer-anew (service_of c.args.service.now) c.in-Ok.session (state_of c.answer.new.self) (plan_of c.args.plan.now) (string_bytes c.in-Ok-answer.answer.text) c.in-Ok-answer.answer.rounds c.in-Ok.ensures.opened c.operation.ensures.prepared
+    answer-anew (service_of c.args.service.now) c.in-Ok.session (state_of c.answer.new.self) (plan_of c.args.plan.now) (string_bytes c.in-Ok-answer.answered.text) c.in-Ok-answer.answered.rounds c.in-Ok.ensures.opened c.operation.ensures.prepared
     c.in-Ok-answer.ensures.answer

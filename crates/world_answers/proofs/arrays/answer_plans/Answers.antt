@@ -18,4 +18,4 @@ pub returns-in-Ok-answer_all-clause-anew : goal.returns-in-Ok-answer_all-clause-
 returns-in-Ok-answer_all-clause-anew g c =
     let plans = plans_of c.args.array.now in
     let limited = subst (AreLimited c.args.service.now.max_answer plans) (sym c.deref.ensures.value) c.in_ok-plans.ensures in
-    together-anew (service_of c.args.service.now) c.in-Ok.session (state_of c.answer_all.new.self) plans c.deref.result.now (map report_of c.in-Ok-answer_all.answers.items) c.in-Ok.ensures.opened limited c.in-Ok-answer_all.ensures.answers
+    together-anew (service_of c.args.service.now) c.in-Ok.session (state_of c.answer_all.new.self) plans c.deref.result.now (map report_of c.in-Ok-answer_all.answered.items) c.in-Ok.ensures.opened limited c.in-Ok-answer_all.ensures.answers

@@ -13,5 +13,5 @@ answer_within-requires-clause-loaders g c =
 
 pub returns-in-Ok-answer_within-clause-anew : goal.returns-in-Ok-answer_within-clause-anew
 returns-in-Ok-answer_within-clause-anew g c =
-    answer-anew (service_of c.args.service.now) c.in-Ok.session (state_of c.answer_within.new.session) (plan_of c.args.plan.now) (string_bytes c.in-Ok-answer_within.answer.text) c.in-Ok-answer_within.answer.rounds c.in-Ok.ensures.opened
+    answer-anew (service_of c.args.service.now) c.in-Ok.session (state_of c.answer_within.new.session) (plan_of c.args.plan.now) (string_bytes c.in-Ok-answer_within.answered.text) c.in-Ok-answer_within.answered.rounds c.in-Ok.ensures.opened
     c.operation.ensures.prepared c.in-Ok-answer_within.ensures.answer

@@ -12,20 +12,20 @@ returns-in_err-sheet-clause-err c =
     let p = err_from_is_err_and c.from_residual.result c.from_residual.ensures.1 in
     rw (p.1, p.2, ← c.table.view_is) (found _ _ c.in-Some.column (rw c.deref.ensures at c.in-Some.ensures))
 
-pub links-requires : goal.links-requires
-links-requires c = rw (c.deref-2.ensures, c.in_ok-sheet.ensures) (IsColumn-found (arc_value c.table.inside.sheet) _ c.in-Some.column (rw c.deref.ensures at c.in-Some.ensures))
+pub link_rows-requires : goal.link_rows-requires
+link_rows-requires c = rw (c.deref-2.ensures, c.in_ok-sheet.ensures) (IsColumn-found (arc_value c.table.inside.sheet) _ c.in-Some.column (rw c.deref.ensures at c.in-Some.ensures))
 
-pub returns-in_err-first-clause-err : goal.returns-in_err-first-clause-err
-returns-in_err-first-clause-err c =
-    let p = err_from_is_err_and c.from_residual-in_err-first.result c.from_residual-in_err-first.ensures.1 in
+pub returns-in_err-links-clause-err : goal.returns-in_err-links-clause-err
+returns-in_err-links-clause-err c =
+    let p = err_from_is_err_and c.from_residual-in_err-links.result c.from_residual-in_err-links.ensures.1 in
     rw (p.1, p.2, ← c.table.view_is) (found _ _ c.in-Some.column (rw c.deref.ensures at c.in-Some.ensures))
 
 pub invariant_of-result : goal.invariant_of-result
 invariant_of-result c = record {
-  rectangular = rw c.deref-2.ensures at c.in_ok-first.ensures.rectangular;
+  rectangular = rw c.deref-2.ensures at c.in_ok-links.ensures.rectangular;
   named = rw c.in_ok-sheet.ensures (IsColumn-found (arc_value c.table.inside.sheet) _ c.in-Some.column (rw c.deref.ensures at c.in-Some.ensures));
-  buckets = c.in_ok-first.ensures.buckets;
-  linked = rw c.deref-2.ensures at c.in_ok-first.ensures.linked;
+  buckets = c.in_ok-links.ensures.buckets;
+  linked = rw c.deref-2.ensures at c.in_ok-links.ensures.linked;
 }
 
 pub returns-clause-ok : goal.returns-clause-ok

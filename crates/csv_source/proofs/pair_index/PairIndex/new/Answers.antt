@@ -16,15 +16,15 @@ returns-in_err-sheet-clause-err c =
     rw (p.1, p.2, ← c.table.view_is)
     (found _ _ c.in-Some.column (rw c.deref.ensures at c.in-Some.ensures), found _ _ c.in-Some-column.second (rw c.deref-2.ensures at c.in-Some-column.ensures))
 
-pub links-requires : goal.links-requires
-links-requires c =
+pub link_rows-requires : goal.link_rows-requires
+link_rows-requires c =
     let sheet = arc_value c.table.inside.sheet in
     rw (c.deref-3.ensures, c.in_ok-sheet.ensures)
     (IsColumn-found sheet _ c.in-Some.column (rw c.deref.ensures at c.in-Some.ensures), IsColumn-found sheet _ c.in-Some-column.second (rw c.deref-2.ensures at c.in-Some-column.ensures))
 
-pub returns-in_err-first-clause-err : goal.returns-in_err-first-clause-err
-returns-in_err-first-clause-err c =
-    let p = err_from_is_err_and c.from_residual-in_err-first.result c.from_residual-in_err-first.ensures.1 in
+pub returns-in_err-links-clause-err : goal.returns-in_err-links-clause-err
+returns-in_err-links-clause-err c =
+    let p = err_from_is_err_and c.from_residual-in_err-links.result c.from_residual-in_err-links.ensures.1 in
     rw (p.1, p.2, ← c.table.view_is)
     (found _ _ c.in-Some.column (rw c.deref.ensures at c.in-Some.ensures), found _ _ c.in-Some-column.second (rw c.deref-2.ensures at c.in-Some-column.ensures))
 
@@ -32,10 +32,10 @@ pub invariant_of-result : goal.invariant_of-result
 invariant_of-result c =
     let sheet = arc_value c.table.inside.sheet in
     record {
-      rectangular = rw c.deref-3.ensures at c.in_ok-first.ensures.rectangular;
+      rectangular = rw c.deref-3.ensures at c.in_ok-links.ensures.rectangular;
       named = rw c.in_ok-sheet.ensures (IsColumn-found sheet _ c.in-Some.column (rw c.deref.ensures at c.in-Some.ensures), IsColumn-found sheet _ c.in-Some-column.second (rw c.deref-2.ensures at c.in-Some-column.ensures));
-      buckets = c.in_ok-first.ensures.buckets;
-      linked = rw c.deref-3.ensures at c.in_ok-first.ensures.linked;
+      buckets = c.in_ok-links.ensures.buckets;
+      linked = rw c.deref-3.ensures at c.in_ok-links.ensures.linked;
     }
 
 pub returns-clause-ok : goal.returns-clause-ok

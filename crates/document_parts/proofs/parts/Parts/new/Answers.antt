@@ -1,10 +1,10 @@
-use Rattle.std.proofs.Common.{◌≡◌, ◌∙◌, ap, map, List}
-use Rattle.gq_parser.specs.Tree.{Fragment, document_of, fragment_of}
+use Rattle.std.proofs.Common.{◌∙◌, ap, map, List}
+use Rattle.gq_parser.specs.Tree.{fragment_of}
 use Rattle.gq_parser.specs.declared.tree.Fragment as rust-fragment
 use Rattle.document_parts.specs.declared.part.SelectionPart as rust-selection
-use Rattle.document_parts.specs.Fragments.{fragment_place, number_at}
+use Rattle.document_parts.specs.Fragments.{fragment_place}
 use Rattle.document_parts.specs.Listing.{fields_in}
-use Rattle.document_parts.specs.Pieces.{SelectionPart, selection_part_of}
+use Rattle.document_parts.specs.Pieces.{selection_part_of}
 use Rattle.document_parts.proofs.parts.Parts.new.Goals as goal
 
 pub invariant_of-result : goal.invariant_of-result

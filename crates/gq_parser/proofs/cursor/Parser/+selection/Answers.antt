@@ -1,6 +1,7 @@
-use Rattle.std.proofs.Common.{◌≡◌, ◌∙◌, [], ◌∷◌, suc, ◌-◌, false, refl, sym, ap, arith, rules}
+use Rattle.std.proofs.Common.{◌≡◌, ◌∙◌, [], ◌∷◌, suc, ◌-◌, refl, sym, ap, arith, rules}
 use Rattle.std.proofs.lemmas.Result.{err_from_is_err_and}
 use Rattle.gq_lexer.specs.declared.token.Punct.TheVariants.{BraceLeft}
+use Rattle.gq_parser.specs.declared.value.Constness.TheVariants.{NotConst}
 use Rattle.gq_parser.specs.declared.keyword.Keyword.TheVariants.{On}
 use Rattle.gq_parser.specs.Keywords.{keyword_of}
 use Rattle.gq_parser.specs.Word.{Punct, at}
@@ -17,7 +18,7 @@ pub dots-returns-in_err-inline-clause-reads : goal.dots-returns-in_err-inline-cl
 dots-returns-in_err-inline-clause-reads t c =
     let p = err_from_is_err_and c.from_residual.result c.from_residual.ensures.1 in
     let none = c.in_default.ensures in
-    rw (p.1, p.2) (λ stack. fails_earlier _ _ _ (inline_comes _ _ stack none.1 ∙ ap (read c.args.room (MaybeDirectives false ∷ ASet ∷ stack)) (sym none.0)) (c.in_err-inline.ensures.reads stack))
+    rw (p.1, p.2) (λ stack. fails_earlier _ _ _ (inline_comes _ _ stack none.1 ∙ ap (read c.args.room (MaybeDirectives NotConst ∷ ASet ∷ stack)) (sym none.0)) (c.in_err-inline.ensures.reads stack))
 
 pub dots-returns-in_default-clause-reads : goal.dots-returns-in_default-clause-reads
 dots-returns-in_default-clause-reads t c =
@@ -28,23 +29,23 @@ dots-returns-in_default-clause-reads t c =
 pub dots-returns-in_err-inline-2-clause-reads : goal.dots-returns-in_err-inline-2-clause-reads
 dots-returns-in_err-inline-2-clause-reads t c =
     let p = err_from_is_err_and c.from_residual-in_err-inline-2.result c.from_residual-in_err-inline-2.ensures.1 in
-    let is : keyword_of c.in-Some.name.now ≡ On = search rules in
-    let e = rw c.in-Some.name-is at c.in-Some.ensures in
+    let is : keyword_of c.in-Some.name.value.now ≡ On = search rules in
+    let e = c.in-Some.ensures in
     let name = c.in_ok-condition.ensures.reads c.args.room in
     rw (p.1, p.2) (λ stack. fails_earlier _ _ _ (condition_comes _ stack is e ∙ name.1 (MaybeDirectives _ ∷ ASet ∷ stack)) (c.in_err-inline-2.ensures.reads stack))
 
 pub dots-returns-then-eq-clause-reads : goal.dots-returns-then-eq-clause-reads
 dots-returns-then-eq-clause-reads t c =
-    let is : keyword_of c.in-Some.name.now ≡ On = search rules in
-    let e = rw c.in-Some.name-is at c.in-Some.ensures in
+    let is : keyword_of c.in-Some.name.value.now ≡ On = search rules in
+    let e = c.in-Some.ensures in
     let name = c.in_ok-condition.ensures.reads c.args.room in
     let inner = c.in_ok-inline-2.ensures.reads in
     (rw (selection_inline, e, is, name.0.1) (inner.0 _ condition), λ stack. condition_comes _ stack is e ∙ name.1 (MaybeDirectives _ ∷ ASet ∷ stack) ∙ inner.1 stack)
 
 pub dots-returns-clause-reads : goal.dots-returns-clause-reads
 dots-returns-clause-reads t c =
-    let other = not_on (keyword_of c.in-Some.name.now) (search rules) in
-    let e = rw c.in-Some.name-is at c.in-Some.ensures in
+    let other = not_on (keyword_of c.in-Some.name.value.now) (search rules) in
+    let e = c.in-Some.ensures in
     let inner = c.in_ok-directives.ensures.reads in
     (rw (selection_spread, e, c.in_ok-name.ensures.ok) (spread other inner.0), λ stack. rw e (spread_comes _ _ _ _ _ stack other ∙ inner.1 stack))
 
@@ -99,12 +100,12 @@ maybe_set-returns-clause-reads t c =
 pub selection-returns-in_err-field-clause-reads : goal.selection-returns-in_err-field-clause-reads
 selection-returns-in_err-field-clause-reads t c =
     let p = err_from_is_err_and c.from_residual-in_err-field.result c.from_residual-in_err-field.ensures.1 in
-    let e = rw (c.in-Some.place-is, c.in-Some.first-is) at c.in-Some.ensures in
-    rw (p.1, p.2) (λ stack. rw e (c.in_err-field.ensures.reads (keyword_of c.in-Some.first.now) (MoreSelections ∷ stack)))
+    let e = rw (c.in-Some.place-is, c.in-Some.value-is) at c.in-Some.ensures in
+    rw (p.1, p.2) (λ stack. rw e (c.in_err-field.ensures.reads (keyword_of c.in-Some.value.now) (MoreSelections ∷ stack)))
 
 pub selection-returns-in-Some-clause-reads : goal.selection-returns-in-Some-clause-reads
 selection-returns-in-Some-clause-reads t c =
-    let e = rw (c.in-Some.place-is, c.in-Some.first-is) at c.in-Some.ensures in
+    let e = c.in-Some.ensures in
     (rw (selection_field, e, ← c.in_ok-first.ensures.ok) (c.in_ok-field.ensures.reads _).0, λ stack. rw e ((c.in_ok-field.ensures.reads On).1 (MoreSelections ∷ stack)))
 
 pub selections-loop-selections-init : goal.selections-loop-selections-init

@@ -20,9 +20,9 @@ list_type-returns-clause-reads t c =
 
 pub type_ref-returns-in-Some-clause-reads : goal.type_ref-returns-in-Some-clause-reads
 type_ref-returns-in-Some-clause-reads t c =
-    let n = c.in-Some.name.now in
-    let e = rw (c.in-Some.place-is, c.in-Some.name-is) at c.in-Some.ensures in
-    earlier (λ t. IsType (type_of t)) (λ t before. IsType (type_of t) (at c.in-Some.place (Name (keyword_of n) n) ∷ before)) c.args.room c.args.room c.args.room c.args.room (one AType) (one MaybeBang) [] [] c.args.self.now c.take_name.new.self c.named_type.new.self c.named_type.result
+    let n = c.in-Some.field-0.value.now in
+    let e = c.in-Some.ensures in
+    earlier (λ t. IsType (type_of t)) (λ t before. IsType (type_of t) (at c.in-Some.field-0.place (Name (keyword_of n) n) ∷ before)) c.args.room c.args.room c.args.room c.args.room (one AType) (one MaybeBang) [] [] c.args.self.now c.take_name.new.self c.named_type.new.self c.named_type.result
     (λ t h. rw e h) (λ stack. rw e refl) (λ stack. refl) (c.named_type.ensures.reads c.args.room (keyword_of n))
 
 pub type_ref-returns-clause-reads : goal.type_ref-returns-clause-reads

@@ -1,4 +1,4 @@
-use Rattle.std.proofs.Common.{◌≡◌, ◌∙◌, ◌∷◌, suc, ◌-◌, refl, ap, arith}
+use Rattle.std.proofs.Common.{◌≡◌, ◌∙◌, ◌∷◌, suc, ◌-◌, refl, ap, arith, rules}
 use Rattle.std.proofs.lemmas.Result.{err_from_is_err_and}
 use Rattle.gq_parser.specs.Word.{Punct}
 use Rattle.gq_parser.specs.Tree.{and_value, no_value, and_member, no_member, literal_of, argument_of}
@@ -7,44 +7,44 @@ use Rattle.gq_parser.specs.Grammar.{AreValues, AreMembers, variable, int, float,
 use Rattle.gq_parser.specs.Parsing.{says}
 use Rattle.gq_parser.proofs.Front.{fails_earlier, front_more, front_fails}
 use Rattle.gq_parser.proofs.Views.{literal_int, literal_float, literal_text, literal_variable, literal_list, literal_object, of_argument, values_push, members_push}
-use Rattle.gq_parser.proofs.Steps.{taken, list_opens, object_opens, room_back, value_comes, member_comes, member_then}
+use Rattle.gq_parser.proofs.Steps.{taken, list_opens, object_opens, room_back, value_comes, member_comes, member_then, not_const}
 use Rattle.gq_parser.proofs.cursor.Parser.+value.Goals as goal
 
 pub argument-returns-in_err-colon-clause-reads : goal.argument-returns-in_err-colon-clause-reads
 argument-returns-in_err-colon-clause-reads t c =
     let p = err_from_is_err_and c.from_residual-in_err-colon.result c.from_residual-in_err-colon.ensures.1 in
-    rw (p.1, p.2) (λ stack. fails_earlier _ _ _ ((c.in_ok-place.ensures.reads c.args.room).1 (AColon ∷ AValue c.args.constant ∷ stack)) (c.in_err-colon.ensures.reads c.args.room (AValue c.args.constant ∷ stack)))
+    rw (p.1, p.2) (λ stack. fails_earlier _ _ _ ((c.in_ok-place.ensures.reads c.args.room).1 (AColon ∷ AValue c.args.constness ∷ stack)) (c.in_err-colon.ensures.reads c.args.room (AValue c.args.constness ∷ stack)))
 
 pub argument-returns-in_err-value-clause-reads : goal.argument-returns-in_err-value-clause-reads
 argument-returns-in_err-value-clause-reads t c =
     let p = err_from_is_err_and c.from_residual-in_err-value.result c.from_residual-in_err-value.ensures.1 in
-    rw (p.1, p.2) (λ stack. fails_earlier _ _ _ ((c.in_ok-place.ensures.reads c.args.room).1 (AColon ∷ AValue c.args.constant ∷ stack) ∙ (c.in_ok-colon.ensures.reads c.args.room).1 (AValue c.args.constant ∷ stack)) (c.in_err-value.ensures.reads stack))
+    rw (p.1, p.2) (λ stack. fails_earlier _ _ _ ((c.in_ok-place.ensures.reads c.args.room).1 (AColon ∷ AValue c.args.constness ∷ stack) ∙ (c.in_ok-colon.ensures.reads c.args.room).1 (AValue c.args.constness ∷ stack)) (c.in_err-value.ensures.reads stack))
 
 pub argument-returns-clause-reads : goal.argument-returns-clause-reads
 argument-returns-clause-reads t c = (
   rw (of_argument, (c.in_ok-place.ensures.reads c.args.room).0.1, (c.in_ok-colon.ensures.reads c.args.room).0.1) (argument c.in_ok-value.ensures.reads.0),
-  λ stack. (c.in_ok-place.ensures.reads c.args.room).1 (AColon ∷ AValue c.args.constant ∷ stack) ∙ (c.in_ok-colon.ensures.reads c.args.room).1 (AValue c.args.constant ∷ stack) ∙ c.in_ok-value.ensures.reads.1 stack,
+  λ stack. (c.in_ok-place.ensures.reads c.args.room).1 (AColon ∷ AValue c.args.constness ∷ stack) ∙ (c.in_ok-colon.ensures.reads c.args.room).1 (AValue c.args.constness ∷ stack) ∙ c.in_ok-value.ensures.reads.1 stack,
 )
 
 pub members-returns-in_err-argument-clause-reads : goal.members-returns-in_err-argument-clause-reads
 members-returns-in_err-argument-clause-reads t c =
     let p = err_from_is_err_and c.from_residual.result c.from_residual.ensures.1 in
-    rw (p.1, p.2) (front_fails (AreMembers c.args.constant) (AreMembers c.args.constant) _ _ _ _ _ _ _ _ _ _ c.loop-members.invariant c.loop-members-test.ensures
-    (λ h stack. fails_earlier _ _ _ (member_comes _ _ _ stack h) (c.in_err-argument.ensures.reads (MoreMembers c.args.constant ∷ stack))))
+    rw (p.1, p.2) (front_fails (AreMembers c.args.constness) (AreMembers c.args.constness) _ _ _ _ _ _ _ _ _ _ c.loop-constness.invariant c.loop-constness-test.ensures
+    (λ h stack. fails_earlier _ _ _ (member_comes _ _ _ stack h) (c.in_err-argument.ensures.reads (MoreMembers c.args.constness ∷ stack))))
 
-pub members-loop-members-preserved : goal.members-loop-members-preserved
-members-loop-members-preserved t c =
+pub members-loop-constness-preserved : goal.members-loop-constness-preserved
+members-loop-constness-preserved t c =
     let a = argument_of c.in_ok-argument.field-0 in
-    front_more (AreMembers c.args.constant) (AreMembers c.args.constant) _ _ _ _ _ _ _ _ _ _ _ (and_member a.place a.name a.value) c.loop-members.invariant c.loop-members-test.ensures
+    front_more (AreMembers c.args.constness) (AreMembers c.args.constness) _ _ _ _ _ _ _ _ _ _ _ (and_member a.place a.name a.value) c.loop-constness.invariant c.loop-constness-test.ensures
     (λ others end rest. member_then c.in_ok-argument.ensures.reads.0 rest)
-    (λ h stack. member_comes _ _ _ stack h ∙ c.in_ok-argument.ensures.reads.1 (MoreMembers c.args.constant ∷ stack))
+    (λ h stack. member_comes _ _ _ stack h ∙ c.in_ok-argument.ensures.reads.1 (MoreMembers c.args.constness ∷ stack))
     c.in_ok-argument.ensures.shrinks
     (λ others. rw c.in_ok-push.ensures.items (members_push _ _ others))
 
 pub members-returns-clause-reads : goal.members-returns-clause-reads
 members-returns-clause-reads t c =
-    let eaten = c.loop-members-test.ensures in
-    (c.loop-members.invariant.joins no_member _ (rw eaten.1 no_more_members), λ stack. c.loop-members.invariant.reads stack ∙ rw eaten.1 refl)
+    let eaten = c.loop-constness-test.ensures in
+    (c.loop-constness.invariant.joins no_member _ (rw eaten.1 no_more_members), λ stack. c.loop-constness.invariant.reads stack ∙ rw eaten.1 refl)
 
 pub value-returns-in_err-items-in-Punct-BracketLeft-clause-reads : goal.value-returns-in_err-items-in-Punct-BracketLeft-clause-reads
 value-returns-in_err-items-in-Punct-BracketLeft-clause-reads t c =
@@ -77,7 +77,8 @@ pub value-returns-in_ok-name-in-Punct-Dollar-clause-reads : goal.value-returns-i
 value-returns-in_ok-name-in-Punct-Dollar-clause-reads t c =
     let e = taken c.in_ok-place.ensures (ap says c.in-Punct-Dollar.is ∙ ap Punct (rw c.in-Punct-Dollar.is at c.in-Punct-Dollar.field-0-is)) in
     let name = c.in_ok-name-in-Punct-Dollar.ensures.reads c.args.room in
-    (rw (e, name.0.1, literal_variable, c.if-constant.false) variable, λ stack. rw (e, c.if-constant.false) (name.1 stack))
+    let other = not_const c.args.constness (search rules) in
+    (rw (e, name.0.1, literal_variable, other) variable, λ stack. rw (e, other) (name.1 stack))
 
 pub value-returns-in_ok-items-in-Punct-BracketLeft-clause-reads : goal.value-returns-in_ok-items-in-Punct-BracketLeft-clause-reads
 value-returns-in_ok-items-in-Punct-BracketLeft-clause-reads t c =
@@ -94,18 +95,18 @@ value-returns-in_ok-members-in-Punct-BraceLeft-clause-reads t c =
 pub values-returns-in_err-value-clause-reads : goal.values-returns-in_err-value-clause-reads
 values-returns-in_err-value-clause-reads t c =
     let p = err_from_is_err_and c.from_residual.result c.from_residual.ensures.1 in
-    rw (p.1, p.2) (front_fails (AreValues c.args.constant) (AreValues c.args.constant) _ _ _ _ _ _ _ _ _ _ c.loop-values.invariant c.loop-values-test.ensures
-    (λ h stack. fails_earlier _ _ _ (value_comes _ _ _ stack h) (c.in_err-value.ensures.reads (MoreValues c.args.constant ∷ stack))))
+    rw (p.1, p.2) (front_fails (AreValues c.args.constness) (AreValues c.args.constness) _ _ _ _ _ _ _ _ _ _ c.loop-constness.invariant c.loop-constness-test.ensures
+    (λ h stack. fails_earlier _ _ _ (value_comes _ _ _ stack h) (c.in_err-value.ensures.reads (MoreValues c.args.constness ∷ stack))))
 
-pub values-loop-values-preserved : goal.values-loop-values-preserved
-values-loop-values-preserved t c =
-    front_more (AreValues c.args.constant) (AreValues c.args.constant) _ _ _ _ _ _ _ _ _ _ _ (and_value (literal_of c.in_ok-value.field-0)) c.loop-values.invariant c.loop-values-test.ensures
+pub values-loop-constness-preserved : goal.values-loop-constness-preserved
+values-loop-constness-preserved t c =
+    front_more (AreValues c.args.constness) (AreValues c.args.constness) _ _ _ _ _ _ _ _ _ _ _ (and_value (literal_of c.in_ok-value.field-0)) c.loop-constness.invariant c.loop-constness-test.ensures
     (λ others end rest. next_value c.in_ok-value.ensures.reads.0 rest)
-    (λ h stack. value_comes _ _ _ stack h ∙ c.in_ok-value.ensures.reads.1 (MoreValues c.args.constant ∷ stack))
+    (λ h stack. value_comes _ _ _ stack h ∙ c.in_ok-value.ensures.reads.1 (MoreValues c.args.constness ∷ stack))
     c.in_ok-value.ensures.shrinks
     (λ others. rw c.in_ok-push.ensures.items (values_push _ _ others))
 
 pub values-returns-clause-reads : goal.values-returns-clause-reads
 values-returns-clause-reads t c =
-    let eaten = c.loop-values-test.ensures in
-    (c.loop-values.invariant.joins no_value _ (rw eaten.1 no_more_values), λ stack. c.loop-values.invariant.reads stack ∙ rw eaten.1 refl)
+    let eaten = c.loop-constness-test.ensures in
+    (c.loop-constness.invariant.joins no_value _ (rw eaten.1 no_more_values), λ stack. c.loop-constness.invariant.reads stack ∙ rw eaten.1 refl)

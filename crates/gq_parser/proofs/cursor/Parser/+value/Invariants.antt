@@ -17,16 +17,16 @@ decreases-values l = l.room * 3 + 2
 abbrev pub decreases-members : goal.decreases-members
 decreases-members l = l.room * 3 + 2
 
-abbrev pub invariant-values-loop-values : goal.invariant-values-loop-values
-invariant-values-loop-values l =
-    IsFront (AreValues l.constant) (AreValues l.constant) (values_then (map literal_of l.values.items)) l.room (one (MoreValues l.constant)) l.room (one (MoreValues l.constant)) l.fn.self l.self
+abbrev pub invariant-values-loop-constness : goal.invariant-values-loop-constness
+invariant-values-loop-constness l =
+    IsFront (AreValues l.constness) (AreValues l.constness) (values_then (map literal_of l.values.items)) l.room (one (MoreValues l.constness)) l.room (one (MoreValues l.constness)) l.fn.self l.self
 
-abbrev pub decreases-values-loop-values : goal.decreases-values-loop-values
-decreases-values-loop-values l = length l.self
+abbrev pub decreases-values-loop-constness : goal.decreases-values-loop-constness
+decreases-values-loop-constness l = length l.self
 
-abbrev pub invariant-members-loop-members : goal.invariant-members-loop-members
-invariant-members-loop-members l =
-    IsFront (AreMembers l.constant) (AreMembers l.constant) (members_then (map argument_of l.members.items)) l.room (one (MoreMembers l.constant)) l.room (one (MoreMembers l.constant)) l.fn.self l.self
+abbrev pub invariant-members-loop-constness : goal.invariant-members-loop-constness
+invariant-members-loop-constness l =
+    IsFront (AreMembers l.constness) (AreMembers l.constness) (members_then (map argument_of l.members.items)) l.room (one (MoreMembers l.constness)) l.room (one (MoreMembers l.constness)) l.fn.self l.self
 
-abbrev pub decreases-members-loop-members : goal.decreases-members-loop-members
-decreases-members-loop-members l = length l.self
+abbrev pub decreases-members-loop-constness : goal.decreases-members-loop-constness
+decreases-members-loop-constness l = length l.self

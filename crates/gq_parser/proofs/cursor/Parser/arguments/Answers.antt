@@ -17,24 +17,24 @@ returns-in_default-clause-reads c =
 pub returns-in_err-argument-clause-reads : goal.returns-in_err-argument-clause-reads
 returns-in_err-argument-clause-reads c =
     let p = err_from_is_err_and c.from_residual.result c.from_residual.ensures.1 in
-    rw (p.1, p.2) (λ stack. fails_earlier _ _ _ (arguments_open _ stack (omega arith) c.in-Some.ensures) (c.in_err-argument.ensures.reads (MoreArguments c.args.constant ∷ stack)))
+    rw (p.1, p.2) (λ stack. fails_earlier _ _ _ (arguments_open _ stack (omega arith) c.in-Some.ensures) (c.in_err-argument.ensures.reads (MoreArguments c.args.constness ∷ stack)))
 
-pub loop-arguments-init : goal.loop-arguments-init
-loop-arguments-init c = first_argument _ _ _ _ _ _ _ c.in_ok-argument.field-0 _ (omega arith) c.in-Some.ensures c.in_ok-argument.ensures.reads.0 c.in_ok-argument.ensures.reads.1 c.in_ok-argument.ensures.shrinks (c.in_ok-push.ensures.items ∙ rw c.new-arguments.ensures.items refl)
+pub loop-constness-init : goal.loop-constness-init
+loop-constness-init c = first_argument _ _ _ _ _ _ _ c.in_ok-argument.field-0 _ (omega arith) c.in-Some.ensures c.in_ok-argument.ensures.reads.0 c.in_ok-argument.ensures.reads.1 c.in_ok-argument.ensures.shrinks (c.in_ok-push.ensures.items ∙ rw c.new-arguments.ensures.items refl)
 
 pub returns-in_err-argument-2-clause-reads : goal.returns-in_err-argument-2-clause-reads
 returns-in_err-argument-2-clause-reads c =
     let p = err_from_is_err_and c.from_residual-in_err-argument-2.result c.from_residual-in_err-argument-2.ensures.1 in
-    rw (p.1, p.2) (front_fails (AreArguments c.args.constant) (AreOptionalArguments c.args.constant) _ _ _ _ _ _ _ _ _ _ c.loop-arguments.invariant c.loop-arguments-test.ensures
-    (λ h stack. fails_earlier _ _ _ (argument_comes _ _ _ stack h) (c.in_err-argument-2.ensures.reads (MoreArguments c.args.constant ∷ stack))))
+    rw (p.1, p.2) (front_fails (AreArguments c.args.constness) (AreOptionalArguments c.args.constness) _ _ _ _ _ _ _ _ _ _ c.loop-constness.invariant c.loop-constness-test.ensures
+    (λ h stack. fails_earlier _ _ _ (argument_comes _ _ _ stack h) (c.in_err-argument-2.ensures.reads (MoreArguments c.args.constness ∷ stack))))
 
-pub loop-arguments-preserved : goal.loop-arguments-preserved
-loop-arguments-preserved c =
-    front_more (AreArguments c.args.constant) (AreOptionalArguments c.args.constant) _ _ _ _ _ _ _ _ _ _ _ (λ others. argument_of c.in_ok-argument-2.field-0 ∷ others) c.loop-arguments.invariant c.loop-arguments-test.ensures
+pub loop-constness-preserved : goal.loop-constness-preserved
+loop-constness-preserved c =
+    front_more (AreArguments c.args.constness) (AreOptionalArguments c.args.constness) _ _ _ _ _ _ _ _ _ _ _ (λ others. argument_of c.in_ok-argument-2.field-0 ∷ others) c.loop-constness.invariant c.loop-constness-test.ensures
     (λ others end rest. next_argument c.in_ok-argument-2.ensures.reads.0 rest)
-    (λ h stack. argument_comes _ _ _ stack h ∙ c.in_ok-argument-2.ensures.reads.1 (MoreArguments c.args.constant ∷ stack))
+    (λ h stack. argument_comes _ _ _ stack h ∙ c.in_ok-argument-2.ensures.reads.1 (MoreArguments c.args.constness ∷ stack))
     c.in_ok-argument-2.ensures.shrinks
     (λ others. rw c.in_ok-push-2.ensures.items (map_push argument_of _ _ others))
 
 pub returns-clause-reads : goal.returns-clause-reads
-returns-clause-reads c = arguments_end _ _ _ _ _ _ _ (omega arith) c.loop-arguments.invariant c.loop-arguments-test.ensures
+returns-clause-reads c = arguments_end _ _ _ _ _ _ _ (omega arith) c.loop-constness.invariant c.loop-constness-test.ensures

@@ -7,4 +7,4 @@ pub returns-in_default-clause-reads : goal.returns-in_default-clause-reads
 returns-in_default-clause-reads c = λ room. rw c.in_default.ensures.0 (no_name, λ stack. no_name_comes room _ stack c.in_default.ensures.1)
 
 pub returns-clause-reads : goal.returns-clause-reads
-returns-clause-reads c = λ room. let e = rw c.in-Some.name-is at c.in-Some.ensures in rw (e, c.in_ok-from_str.ensures.ok) (a_name, λ stack. refl)
+returns-clause-reads c = λ room. rw (c.in-Some.ensures, c.in_ok-from_str.ensures.ok) (a_name, λ stack. refl)

@@ -13,7 +13,7 @@ pub returns-in_ok-limited_answer-in-Some-clause-ok : goal.returns-in_ok-limited_
 returns-in_ok-limited_answer-in-Some-clause-ok c = λ fits.
     let plan : PlanOf = plan_of c.args.self.now.plan.now in
     let m : MemoryOf = c.args.memory.now in
-    let far = rw c.in-Some.is at (c.in_ok-rooted.ensures.ok fits) in
+    let far = rw c.in-Some.is at (c.in_ok-walked.ensures.ok fits) in
     let answer : AnsweredOf = completed (tree (plan_program plan) (lookup m)) in
     let done = answer-done plan m c.args.wants.now _ c.requires far.0 answer far.1 (λ shut. refl) in
     (done.0, answer, done.1, c.in_ok-limited_answer-in-Some.ensures (far.0, far.1) (answer-shut plan m c.args.wants.now _ c.requires far.0 far.1), far.2)

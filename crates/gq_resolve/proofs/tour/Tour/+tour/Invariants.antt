@@ -1,4 +1,4 @@
-use Rattle.std.proofs.Common.{ℕ, ◌+◌, ◌*◌, ◌<◌, [], ◌∷◌, take, length, Option}
+use Rattle.std.proofs.Common.{◌+◌, ◌*◌, ◌<◌, [], ◌∷◌, take, length, Option}
 use Rattle.std.specs.Option.{option_map}
 use Rattle.load_memory.specs.Keys.{key_of}
 use Rattle.load_memory.specs.Rows.{RowOf}
@@ -6,7 +6,7 @@ use Rattle.load_memory.specs.declared.key.Key.{Key}
 use Rattle.gq_check.specs.Plans.{plan_of}
 use Rattle.plan_program.specs.PlanPrograms.{read_if}
 use Rattle.gq_resolve.specs.Puts.{View}
-use Rattle.gq_resolve.specs.Positions.{onward_of, later_of}
+use Rattle.gq_resolve.specs.Positions.{is_non_null, onward_of, later_of}
 use Rattle.gq_resolve.specs.Groups.{AreKnown}
 use Rattle.gq_resolve.specs.Evaluated.{lookup}
 use Rattle.gq_resolve.specs.Walks.{Goes}
@@ -63,9 +63,9 @@ invariant-object-loop-member g l =
 abbrev pub invariant-all-loop-number : goal.invariant-all-loop-number
 invariant-all-loop-number g l =
     Goes g.S.Sink.goes g.S.Sink.below l.self.most (plan_of l.self.plan.now) (l.fn.onward.group < length l.fn.at.groups.items)
-    (items_put l.items.non_null l.items.place (lookup l.self.memory.now) (λ (v : View) (row : RowOf). v.after (later_of l.left (onward_of l.fn.onward)) (row ∷ [])) (take l.number l.rows)) l.fn.at l.at
+    (items_put (is_non_null l.items.nullability) l.items.place (lookup l.self.memory.now) (λ (v : View) (row : RowOf). v.after (later_of l.left (onward_of l.fn.onward)) (row ∷ [])) (take l.number l.rows)) l.fn.at l.at
 
 abbrev pub invariant-each-loop-number : goal.invariant-each-loop-number
 invariant-each-loop-number g l =
     Goes g.S.Sink.goes g.S.Sink.below l.self.most (plan_of l.self.plan.now) (l.fn.onward.group < length l.fn.at.groups.items)
-    (items_put l.items.non_null l.items.place (lookup l.self.memory.now) (λ (v : View) (k : Option Key). read_if l.loader (v.after (onward_of l.fn.onward)) (option_map key_of k)) (take l.number l.keys)) l.fn.at l.at
+    (items_put (is_non_null l.items.nullability) l.items.place (lookup l.self.memory.now) (λ (v : View) (k : Option Key). read_if l.loader (v.after (onward_of l.fn.onward)) (option_map key_of k)) (take l.number l.keys)) l.fn.at l.at

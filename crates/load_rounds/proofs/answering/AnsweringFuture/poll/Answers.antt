@@ -19,7 +19,7 @@ turn-requires g c =
     let plan = c.self.inside.plan.now in
     let far = far_of c.self.inside.far in
     let can = rw (← c.self.view_is) at c.requires in
-    let cur = state_of c.begin-session.result.0 in
+    let cur = state_of c.begin-session.result.session in
     let at : begun far ≡ Some cur = rw c.replace.ensures.value at c.begin-session.ensures.state in
     λ κs. ((refl, tt), (can-ask may (g.P.Execute.fits plan) (g.P.Execute.loaders plan) (g.P.Execute.program plan) far cur at can, c.begin-session.ensures.fits))
 
@@ -29,12 +29,12 @@ returns-in-Ok-Ready-clause-value g c =
     let plan = c.self.inside.plan.now in
     let far = far_of c.self.inside.far in
     let can = rw (← c.self.view_is) at c.requires in
-    let cur = state_of c.begin-session.result.0 in
+    let cur = state_of c.begin-session.result.session in
     let at : begun far ≡ Some cur = rw c.replace.ensures.value at c.begin-session.ensures.state in
-    let is : c.begin-session.result.1 ≡ rounds_of far = rw c.replace.ensures.value at c.begin-session.ensures.rounds in
+    let is : c.begin-session.result.rounds ≡ rounds_of far = rw c.replace.ensures.value at c.begin-session.ensures.rounds in
     let done = rw c.in-Ok-Ready.field-0-is at c.in-Ok-Ready.ensures.turned in
-    rw (← c.self.view_is) (gives-answer may (g.P.Execute.fits plan) (g.P.Execute.loaders plan) (g.P.Execute.program plan) far cur c.begin-session.result.1 at is can
-    c.in-Ok-Ready.ensures.within (g.P.Execute.text_of plan) c.turn.new.self (record { text = c.in-Ok-Ready.text; rounds = c.begin-session.result.1 }) c.begin-session.ensures.limited refl done.0 done.1 done.2)
+    rw (← c.self.view_is) (gives-answer may (g.P.Execute.fits plan) (g.P.Execute.loaders plan) (g.P.Execute.program plan) far cur c.begin-session.result.rounds at is can
+    c.in-Ok-Ready.ensures.within (g.P.Execute.text_of plan) c.turn.new.self (record { text = c.in-Ok-Ready.text; rounds = c.begin-session.result.rounds }) c.begin-session.ensures.limited refl done.0 done.1 done.2)
 
 pub returns-in-Some-clause-again : goal.returns-in-Some-clause-again
 returns-in-Some-clause-again g c =
@@ -42,12 +42,12 @@ returns-in-Some-clause-again g c =
     let plan = c.self.inside.plan.now in
     let far = far_of c.self.inside.far in
     let can = rw (← c.self.view_is) at c.requires in
-    let cur = state_of c.begin-session.result.0 in
+    let cur = state_of c.begin-session.result.session in
     let at : begun far ≡ Some cur = rw c.replace.ensures.value at c.begin-session.ensures.state in
-    let is : c.begin-session.result.1 ≡ rounds_of far = rw c.replace.ensures.value at c.begin-session.ensures.rounds in
+    let is : c.begin-session.result.rounds ≡ rounds_of far = rw c.replace.ensures.value at c.begin-session.ensures.rounds in
     let done = rw c.in-Ok-Pending.field-0-is at c.in-Ok-Pending.ensures.turned in
-    let next : c.in-Some.rounds ≡ c.begin-session.result.1 + 1 = SomeIff-at c.checked_add.result _ _ _ c.in-Some.is c.checked_add.ensures in
-    rw c.yield_now.ensures.pending (can-again may (g.P.Execute.fits plan) (g.P.Execute.loaders plan) (g.P.Execute.program plan) far cur c.begin-session.result.1 at is can c.turn.new.self c.in-Some.rounds c.turn.new.progress next done.0 done.1 c.in-Ok-Pending.ensures.fits)
+    let next : c.in-Some.rounds ≡ c.begin-session.result.rounds + 1 = SomeIff-at c.checked_add.result _ _ _ c.in-Some.is c.checked_add.ensures in
+    rw c.yield_now.ensures.pending (can-again may (g.P.Execute.fits plan) (g.P.Execute.loaders plan) (g.P.Execute.program plan) far cur c.begin-session.result.rounds at is can c.turn.new.self c.in-Some.rounds c.turn.new.progress next done.0 done.1 c.in-Ok-Pending.ensures.fits)
 
 pub returns-in-Some-clause-same : goal.returns-in-Some-clause-same
 returns-in-Some-clause-same g c =
@@ -55,12 +55,12 @@ returns-in-Some-clause-same g c =
     let plan = c.self.inside.plan.now in
     let far = far_of c.self.inside.far in
     let can = rw (← c.self.view_is) at c.requires in
-    let cur = state_of c.begin-session.result.0 in
+    let cur = state_of c.begin-session.result.session in
     let at : begun far ≡ Some cur = rw c.replace.ensures.value at c.begin-session.ensures.state in
-    let is : c.begin-session.result.1 ≡ rounds_of far = rw c.replace.ensures.value at c.begin-session.ensures.rounds in
+    let is : c.begin-session.result.rounds ≡ rounds_of far = rw c.replace.ensures.value at c.begin-session.ensures.rounds in
     let done = rw c.in-Ok-Pending.field-0-is at c.in-Ok-Pending.ensures.turned in
-    let next : c.in-Some.rounds ≡ c.begin-session.result.1 + 1 = SomeIff-at c.checked_add.result _ _ _ c.in-Some.is c.checked_add.ensures in
-    rw (← c.self.view_is, c.yield_now.ensures.pending) (gives-same may (g.P.Execute.fits plan) (g.P.Execute.loaders plan) (g.P.Execute.program plan) far cur c.begin-session.result.1 at is can c.turn.new.self c.in-Some.rounds c.turn.new.progress next done.0 done.1 (g.P.Execute.text_of plan))
+    let next : c.in-Some.rounds ≡ c.begin-session.result.rounds + 1 = SomeIff-at c.checked_add.result _ _ _ c.in-Some.is c.checked_add.ensures in
+    rw (← c.self.view_is, c.yield_now.ensures.pending) (gives-same may (g.P.Execute.fits plan) (g.P.Execute.loaders plan) (g.P.Execute.program plan) far cur c.begin-session.result.rounds at is can c.turn.new.self c.in-Some.rounds c.turn.new.progress next done.0 done.1 (g.P.Execute.text_of plan))
 
 pub returns-in-Some-clause-round : goal.returns-in-Some-clause-round
 returns-in-Some-clause-round g c =
@@ -68,12 +68,12 @@ returns-in-Some-clause-round g c =
     let plan = c.self.inside.plan.now in
     let far = far_of c.self.inside.far in
     let can = rw (← c.self.view_is) at c.requires in
-    let cur = state_of c.begin-session.result.0 in
+    let cur = state_of c.begin-session.result.session in
     let at : begun far ≡ Some cur = rw c.replace.ensures.value at c.begin-session.ensures.state in
-    let is : c.begin-session.result.1 ≡ rounds_of far = rw c.replace.ensures.value at c.begin-session.ensures.rounds in
+    let is : c.begin-session.result.rounds ≡ rounds_of far = rw c.replace.ensures.value at c.begin-session.ensures.rounds in
     let done = rw c.in-Ok-Pending.field-0-is at c.in-Ok-Pending.ensures.turned in
-    let next : c.in-Some.rounds ≡ c.begin-session.result.1 + 1 = SomeIff-at c.checked_add.result _ _ _ c.in-Some.is c.checked_add.ensures in
-    rw (← c.self.view_is, c.yield_now.ensures.pending) (poll-ran may (g.P.Execute.fits plan) (g.P.Execute.loaders plan) (g.P.Execute.program plan) far cur c.begin-session.result.1 at is can c.turn.new.self c.in-Some.rounds c.turn.new.progress next done.0 done.1 c.in-Ok-Pending.ensures.within c.begin-session.ensures.limited)
+    let next : c.in-Some.rounds ≡ c.begin-session.result.rounds + 1 = SomeIff-at c.checked_add.result _ _ _ c.in-Some.is c.checked_add.ensures in
+    rw (← c.self.view_is, c.yield_now.ensures.pending) (poll-ran may (g.P.Execute.fits plan) (g.P.Execute.loaders plan) (g.P.Execute.program plan) far cur c.begin-session.result.rounds at is can c.turn.new.self c.in-Some.rounds c.turn.new.progress next done.0 done.1 c.in-Ok-Pending.ensures.within c.begin-session.ensures.limited)
 
 pub returns-in-None-clause-value : goal.returns-in-None-clause-value
 returns-in-None-clause-value g c =
@@ -81,11 +81,11 @@ returns-in-None-clause-value g c =
     let plan = c.self.inside.plan.now in
     let far = far_of c.self.inside.far in
     let can = rw (← c.self.view_is) at c.requires in
-    let cur = state_of c.begin-session.result.0 in
+    let cur = state_of c.begin-session.result.session in
     let at : begun far ≡ Some cur = rw c.replace.ensures.value at c.begin-session.ensures.state in
-    let is : c.begin-session.result.1 ≡ rounds_of far = rw c.replace.ensures.value at c.begin-session.ensures.rounds in
+    let is : c.begin-session.result.rounds ≡ rounds_of far = rw c.replace.ensures.value at c.begin-session.ensures.rounds in
     let done = rw c.in-Ok-Pending.field-0-is at c.in-Ok-Pending.ensures.turned in
-    rw (← c.self.view_is) (gives-none-more may (g.P.Execute.fits plan) (g.P.Execute.loaders plan) (g.P.Execute.program plan) far cur c.begin-session.result.1 at is can c.turn.new.self (c.begin-session.result.1 + 1) c.turn.new.progress refl done.0 done.1 (g.P.Execute.text_of plan) (record {}))
+    rw (← c.self.view_is) (gives-none-more may (g.P.Execute.fits plan) (g.P.Execute.loaders plan) (g.P.Execute.program plan) far cur c.begin-session.result.rounds at is can c.turn.new.self (c.begin-session.result.rounds + 1) c.turn.new.progress refl done.0 done.1 (g.P.Execute.text_of plan) (record {}))
 
 pub returns-in-Err-clause-value : goal.returns-in-Err-clause-value
 returns-in-Err-clause-value g c =
@@ -93,7 +93,7 @@ returns-in-Err-clause-value g c =
     let plan = c.self.inside.plan.now in
     let far = far_of c.self.inside.far in
     let can = rw (← c.self.view_is) at c.requires in
-    let cur = state_of c.begin-session.result.0 in
+    let cur = state_of c.begin-session.result.session in
     let at : begun far ≡ Some cur = rw c.replace.ensures.value at c.begin-session.ensures.state in
-    let is : c.begin-session.result.1 ≡ rounds_of far = rw c.replace.ensures.value at c.begin-session.ensures.rounds in
-    rw (← c.self.view_is) (gives-none may (g.P.Execute.fits plan) (g.P.Execute.loaders plan) (g.P.Execute.program plan) far cur c.begin-session.result.1 at is can (g.P.Execute.text_of plan) c.turn.new.self c.in-Err.fault c.in-Err.ensures.stopped)
+    let is : c.begin-session.result.rounds ≡ rounds_of far = rw c.replace.ensures.value at c.begin-session.ensures.rounds in
+    rw (← c.self.view_is) (gives-none may (g.P.Execute.fits plan) (g.P.Execute.loaders plan) (g.P.Execute.program plan) far cur c.begin-session.result.rounds at is can (g.P.Execute.text_of plan) c.turn.new.self c.in-Err.fault c.in-Err.ensures.stopped)

@@ -1,5 +1,6 @@
-use Rattle.std.proofs.Common.{◌∙◌, ◌∷◌, refl, arith, true}
+use Rattle.std.proofs.Common.{◌∙◌, ◌∷◌, refl, arith}
 use Rattle.std.proofs.lemmas.Result.{err_from_is_err_and}
+use Rattle.gq_parser.specs.declared.value.Constness.TheVariants.{Const}
 use Rattle.gq_parser.specs.Tree.{and_value, no_value, and_member, no_member, literal_of, argument_of}
 use Rattle.gq_parser.specs.Grammar.{AreValues, AreMembers, next_value, no_more_values, no_more_members}
 use Rattle.schema_syntax.specs.Machine.{A, AColon, AValue, MoreValues, MoreObjectFields}
@@ -28,12 +29,12 @@ object_field-returns-clause-reads t c = (
 pub object_fields-returns-in_err-object_field-clause-reads : goal.object_fields-returns-in_err-object_field-clause-reads
 object_fields-returns-in_err-object_field-clause-reads t c =
     let p = err_from_is_err_and c.from_residual.result c.from_residual.ensures.1 in
-    rw (p.1, p.2) (front_fails (AreMembers true) (AreMembers true) _ _ _ _ _ _ _ _ _ _ c.loop-fields.invariant c.loop-fields-test.ensures
+    rw (p.1, p.2) (front_fails (AreMembers Const) (AreMembers Const) _ _ _ _ _ _ _ _ _ _ c.loop-fields.invariant c.loop-fields-test.ensures
     (λ h stack. fails_earlier _ _ _ (member_comes _ _ stack h) (c.in_err-object_field.ensures.reads (MoreObjectFields ∷ stack))))
 
 pub object_fields-loop-fields-preserved : goal.object_fields-loop-fields-preserved
 object_fields-loop-fields-preserved t c =
-    front_more (AreMembers true) (AreMembers true) _ _ _ _ _ _ _ _ _ _ _ (and_member (argument_of c.in_ok-object_field.field-0).place (argument_of c.in_ok-object_field.field-0).name (argument_of c.in_ok-object_field.field-0).value) c.loop-fields.invariant c.loop-fields-test.ensures
+    front_more (AreMembers Const) (AreMembers Const) _ _ _ _ _ _ _ _ _ _ _ (and_member (argument_of c.in_ok-object_field.field-0).place (argument_of c.in_ok-object_field.field-0).name (argument_of c.in_ok-object_field.field-0).value) c.loop-fields.invariant c.loop-fields-test.ensures
     (λ others end rest. next_member c.in_ok-object_field.ensures.reads.0 rest)
     (λ h stack. member_comes _ _ stack h ∙ c.in_ok-object_field.ensures.reads.1 (MoreObjectFields ∷ stack))
     c.in_ok-object_field.ensures.shrinks
@@ -45,7 +46,7 @@ object_fields-returns-clause-reads t c =
     (c.loop-fields.invariant.joins no_member _ (rw eaten.is no_more_members), λ stack. c.loop-fields.invariant.reads stack ∙ rw eaten.is refl)
 
 pub value-returns-in-Some-clause-reads : goal.value-returns-in-Some-clause-reads
-value-returns-in-Some-clause-reads t c = text_read _ _ c.in-Some.text _ _ (rw c.in-Some.is at c.in_ok-place.ensures)
+value-returns-in-Some-clause-reads t c = text_read _ _ c.in-Some.field-0.value _ _ (rw c.in-Some.is at c.in_ok-place.ensures)
 
 pub value-returns-in_err-values-clause-reads : goal.value-returns-in_err-values-clause-reads
 value-returns-in_err-values-clause-reads t c =
@@ -72,12 +73,12 @@ value-returns-in-Some-take-2-clause-reads t c =
 pub values-returns-in_err-value-clause-reads : goal.values-returns-in_err-value-clause-reads
 values-returns-in_err-value-clause-reads t c =
     let p = err_from_is_err_and c.from_residual.result c.from_residual.ensures.1 in
-    rw (p.1, p.2) (front_fails (AreValues true) (AreValues true) _ _ _ _ _ _ _ _ _ _ c.loop-values.invariant c.loop-values-test.ensures
+    rw (p.1, p.2) (front_fails (AreValues Const) (AreValues Const) _ _ _ _ _ _ _ _ _ _ c.loop-values.invariant c.loop-values-test.ensures
     (λ h stack. fails_earlier _ _ _ (value_comes _ _ stack h) (c.in_err-value.ensures.reads (MoreValues ∷ stack))))
 
 pub values-loop-values-preserved : goal.values-loop-values-preserved
 values-loop-values-preserved t c =
-    front_more (AreValues true) (AreValues true) _ _ _ _ _ _ _ _ _ _ _ (and_value (literal_of c.in_ok-value.field-0)) c.loop-values.invariant c.loop-values-test.ensures
+    front_more (AreValues Const) (AreValues Const) _ _ _ _ _ _ _ _ _ _ _ (and_value (literal_of c.in_ok-value.field-0)) c.loop-values.invariant c.loop-values-test.ensures
     (λ others end rest. next_value c.in_ok-value.ensures.reads.0 rest)
     (λ h stack. value_comes _ _ stack h ∙ c.in_ok-value.ensures.reads.1 (MoreValues ∷ stack))
     c.in_ok-value.ensures.shrinks

@@ -1,4 +1,5 @@
-use Rattle.std.proofs.Common.{◌+◌, ◌*◌, length, map, true}
+use Rattle.std.proofs.Common.{◌+◌, ◌*◌, length, map}
+use Rattle.gq_parser.specs.declared.value.Constness.TheVariants.{Const}
 use Rattle.gq_parser.specs.Tree.{values_then, members_then, literal_of, argument_of}
 use Rattle.gq_parser.specs.Grammar.{AreValues, AreMembers}
 use Rattle.schema_syntax.specs.Machine.{MoreValues, MoreObjectFields, one}
@@ -19,14 +20,14 @@ decreases-object_fields l = l.room * 3 + 2
 
 abbrev pub invariant-values-loop-values : goal.invariant-values-loop-values
 invariant-values-loop-values l =
-    IsFront (AreValues true) (AreValues true) (values_then (map literal_of l.values.items)) l.room (one MoreValues) l.room (one MoreValues) l.fn.self l.self
+    IsFront (AreValues Const) (AreValues Const) (values_then (map literal_of l.values.items)) l.room (one MoreValues) l.room (one MoreValues) l.fn.self l.self
 
 abbrev pub decreases-values-loop-values : goal.decreases-values-loop-values
 decreases-values-loop-values l = length l.self
 
 abbrev pub invariant-object_fields-loop-fields : goal.invariant-object_fields-loop-fields
 invariant-object_fields-loop-fields l =
-    IsFront (AreMembers true) (AreMembers true) (members_then (map argument_of l.fields.items)) l.room (one MoreObjectFields) l.room (one MoreObjectFields) l.fn.self l.self
+    IsFront (AreMembers Const) (AreMembers Const) (members_then (map argument_of l.fields.items)) l.room (one MoreObjectFields) l.room (one MoreObjectFields) l.fn.self l.self
 
 abbrev pub decreases-object_fields-loop-fields : goal.decreases-object_fields-loop-fields
 decreases-object_fields-loop-fields l = length l.self

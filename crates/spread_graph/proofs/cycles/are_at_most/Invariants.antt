@@ -1,6 +1,0 @@
-use Rattle.std.proofs.Common.{◌≡◌, drop}
-use Rattle.spread_graph.specs.Ranks.{are_at_most}
-use Rattle.spread_graph.proofs.cycles.are_at_most.Given as goal
-
-abbrev pub invariant-loop-fragment : goal.invariant-loop-fragment
-invariant-loop-fragment l = are_at_most l.ranks l.rank (drop l.fragment-index l.fragments) ≡ are_at_most l.ranks l.rank l.fragments
