@@ -31,6 +31,7 @@ use Rattle.load_rounds.specs.KeyByKey.{CompareAlike, item_of_loader, item_over}
 use Rattle.load_rounds.specs.PlanLoads.{plan-loads}
 use Rattle.load_rounds.specs.Within.{text_within}
 use Rattle.load_rounds.proofs.Following.{InRounds, in-none, in-more, in-all}
+use Rattle.load_rounds.proofs.Holding.{rounds-held}
 use Rattle.load_rounds.proofs.Numbering.{orders-below, orders-loads}
 use Rattle.world.specs.Worlds.{WorldOf, IsLimit, HasSources}
 use Rattle.world_answers.specs.Answers.{may_tell, IsAnsweredAnew}
@@ -38,7 +39,7 @@ use Rattle.world_answers.specs.Services.{ServiceOf}
 use Rattle.world_answers.specs.Sessions.{loader_over, loaders_over, session_over}
 use Rattle.world_answers.proofs.Direct.{compare-alike, nothing-held, answer-direct}
 use Rattle.world_answers.proofs.Loading.{length-over}
-use Rattle.world_answers.proofs.Together.{respects-over, rounds-held, rounds-by-key}
+use Rattle.world_answers.proofs.Together.{respects-over, rounds-by-key}
 use Rattle.answer_laws.proofs.Logs.{chain-more}
 
 there : {A : Type 0} (xs : List A) (a : ℕ) → a < length xs → (x : A) × (slice_get xs a ≡ Some x)

@@ -18,7 +18,7 @@ use Rattle.execution.specs.Executed.{exec, completed}
 use Rattle.execution.specs.Rounds.{RuleOf, modes_of, key_by_key, round_orders, IsReply, AreReplies, reply_pairs, pairs_of, after_round, AreRounds, IsLawful, direct, RespectsCacheKeys, HoldsItems, AreLimited, HasLoaders}
 use Rattle.execution.proofs.Monotone.{exec-whole}
 use Rattle.execution.proofs.RoundLaws.{rounds-chain}
-use Rattle.world_answers.proofs.Together.{rounds-held}
+use Rattle.load_rounds.proofs.Holding.{rounds-held}
 
 -- ---- a larger reader reads a chain as long
 

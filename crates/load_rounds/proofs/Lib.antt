@@ -4,6 +4,7 @@ pub mod Gaining
 pub mod GoingOn
 pub mod Growing
 pub mod Histories
+pub mod Holding
 pub mod KeyByKey
 pub mod Keyed
 pub mod Lacking

@@ -1,5 +1,5 @@
 -- A plan's text, as what is executed has it.
-use Rattle.std.specs.Prelude.{ℕ, List, String}
+use Rattle.std.proofs.Common.{ℕ, List, String, Result, Ok, Err, IfOk, OnOk}
 use Rattle.std.specs.declared.alloc.Global.{Global}
 use Rattle.load_memory.specs.Pairs.{MemoryOf}
 use Rattle.load_queue.specs.Wanted.{WantedOf}
@@ -11,10 +11,20 @@ use Rattle.gq_resolve.specs.Evaluated.{IsWritten}
 use Rattle.gq_resolve.specs.Limited.{limited_answer, IsLimited}
 use Rattle.load_rounds.specs.Executes.{IsExecuted}
 
-pub executed : (old new : List WantedOf) (p : Program) (m : MemoryOf) (polled : Poll (String Global)) → IsWritten old new p m polled → IsExecuted answer_text old new p m polled
-executed old new p m (Ready text) h = (h.0, record { answered = h.1; executed = h.2; report = h.3 }, h.4)
-executed old new p m Pending h = h
+-- ---- an execution without a limit, and one with it
 
-pub executed-within : (most : ℕ) (old new : List WantedOf) (p : Program) (m : MemoryOf) (polled : Poll (String Global)) → IsLimited most old new p m polled → IsExecuted (limited_answer most) old new p m polled
-executed-within most old new p m (Ready text) h = (h.0, record { answered = h.1; executed = h.2; report = h.3 }, h.4)
-executed-within most old new p m Pending h = h
+pub executed : {E : Type 0} (old new : List WantedOf) (p : Program) (m : MemoryOf) (r : Result (Poll (String Global)) E) → IfOk r (IsWritten old new p m) → IfOk r (IsExecuted answer_text old new p m)
+executed old new p m (Ok (Ready text)) h = (h.0, record { answered = h.1; executed = h.2; report = h.3 }, h.4)
+executed old new p m (Ok Pending) h = h
+executed old new p m (Err e) h = h
+
+pub executed-within : {E : Type 0} (most : ℕ) (old new : List WantedOf) (p : Program) (m : MemoryOf) (r : Result (Poll (String Global)) E) → IfOk r (IsLimited most old new p m) → IfOk r (IsExecuted (limited_answer most) old new p m)
+executed-within most old new p m (Ok (Ready text)) h = (h.0, record { answered = h.1; executed = h.2; report = h.3 }, h.4)
+executed-within most old new p m (Ok Pending) h = h
+executed-within most old new p m (Err e) h = h
+
+-- ---- what holds in any case
+
+pub if-any : {T E P : Type 0} (r : Result T E) → P → OnOk r P
+if-any (Ok x) p = p
+if-any (Err e) p = tt

@@ -1,19 +1,15 @@
 -- Answers to several requests over sources that answer key by key.
-use Rattle.std.proofs.Common.{◌≡◌, ℕ, suc, false, ◌⊎◌, List, [], ◌∷◌, map, length, Some, refl, sym, ap, subst, ◌∙◌, inl, inr, eq-eqb}
-use Rattle.std.proofs.lemmas.List.{length-map}
+use Rattle.std.proofs.Common.{◌≡◌, ℕ, suc, false, List, [], ◌∷◌, map, Some, refl, sym, ap, subst, ◌∙◌}
 use Rattle.load_memory.specs.Keys.{KeyOf, folded}
-use Rattle.load_memory.specs.Outcomes.{ItemOf, known}
-use Rattle.load_memory.specs.Pairs.{PairOf}
-use Rattle.load_memory.specs.Replies.{ReplyOf, reply_pairs}
+use Rattle.load_memory.specs.Outcomes.{ItemOf}
+use Rattle.load_memory.specs.Replies.{ReplyOf}
 use Rattle.load_memory.specs.declared.key.KeyMode.{KeyMode}
-use Rattle.load_queue.specs.Answers.{AnswerOf, given, outcomes_of}
-use Rattle.load_queue.specs.Orders.{OrderOf}
-use Rattle.execution.specs.Loads.{Reader, Memory, mode_at, read, AnswersMore, IsOneOf}
-use Rattle.execution.specs.Program.{Program, tree, trees}
+use Rattle.load_queue.specs.Answers.{AnswerOf, given}
+use Rattle.execution.specs.Loads.{Reader, read, AnswersMore}
+use Rattle.execution.specs.Program.{tree, trees}
 use Rattle.execution.specs.Completion.{is_open, any_open}
-use Rattle.execution.specs.Front.{front}
-use Rattle.execution.specs.Rounds.{RuleOf, modes_of, may_at, key_by_key, round_orders, IsReply, AreReplies, AreRounds, IsLawful, after_round, without_failed, direct, RespectsCacheKeys, HoldsItems}
-use Rattle.execution.specs.Sessions.{Forgot, IsAnsweredIn}
+use Rattle.execution.specs.Rounds.{may_at, key_by_key, AreRounds, IsLawful, without_failed, direct, HoldsItems}
+use Rattle.execution.specs.Sessions.{Forgot}
 use Rattle.execution.proofs.Monotone.{front-open, exec-stays}
 use Rattle.execution.proofs.OneLog.{one-log}
 use Rattle.load_rounds.specs.Sessions.{StateOf, rules_of, session_modes, after_steps}
@@ -22,52 +18,8 @@ use Rattle.load_rounds.specs.KeyByKey.{item_over}
 use Rattle.load_rounds.specs.SharedRounds.{RequestOf, ReportOf, items_from, together, IsShared, AreShared, AreTexts, SharedHeadline}
 use Rattle.load_rounds.specs.SharedKeyByKey.{AreAnsweredAlike, AreAnsweredDirectly}
 use Rattle.load_rounds.proofs.GoingOn.{or-left}
+use Rattle.load_rounds.proofs.Holding.{rounds-held}
 use Rattle.load_rounds.proofs.KeyByKey.{rounds-weaker, some-same, may-report, respects-alike}
-
-module _ (item : ℕ → KeyOf → ItemOf) where
-  outcomes-report : (loader : ℕ) (keys : List KeyOf) (a : AnswerOf) → a ≡ given (map (item loader) keys) → outcomes_of (length keys) a ≡ map known (map (item loader) keys)
-  outcomes-report loader keys a e =
-      ap (outcomes_of (length keys)) e ∙ (rw (eq-eqb (length (map (item loader) keys)) (length keys) (length-map keys (item loader))) refl)
-
-  -- a pair of a reply is of one of its keys
-  pair-report : (mode : KeyMode) (n : ℕ) (keys : List KeyOf) (p : PairOf) → IsOneOf p (reply_pairs mode n keys (map known (map (item n) keys)))
-      → (n ≡ p.loader) × (k : KeyOf) × (folded mode k ≡ p.key) × (p.outcome ≡ known (item n k))
-  pair-report mode n [] p one = absurd one
-  pair-report mode n (k ∷ ks) p (inl e) = (sym (ap (λ (q : PairOf). q.loader) e), k, sym (ap (λ (q : PairOf). q.key) e), ap (λ (q : PairOf). q.outcome) e)
-  pair-report mode n (k ∷ ks) p (inr rest) = pair-report mode n ks p rest
-
-  reply-pair : (modes : List KeyMode) (o : OrderOf) (r : ReplyOf) (p : PairOf) → IsReply (key_by_key item) o r → IsOneOf p (reply_pairs (mode_at modes r.loader) r.loader r.keys r.outcomes)
-      → (k : KeyOf) × (folded (mode_at modes p.loader) k ≡ p.key) × (p.outcome ≡ known (item p.loader k))
-  reply-pair modes o r p h one =
-      let outcomes : r.outcomes ≡ map known (map (item r.loader) r.keys) = rw (h.loader, h.keys) (h.outcomes ∙ outcomes-report o.loader o.keys h.answer h.may_be) in
-      let t = pair-report (mode_at modes r.loader) r.loader r.keys p (subst (λ os. IsOneOf p (reply_pairs (mode_at modes r.loader) r.loader r.keys os)) outcomes one) in
-      (t.1, ap (λ n. folded (mode_at modes n) t.1) (sym t.0) ∙ t.2, t.3 ∙ ap (λ n. known (item n t.1)) t.0)
-
-  replies-pair : (modes : List KeyMode) (os : List OrderOf) (rs : List ReplyOf) (r : ReplyOf) (p : PairOf) → AreReplies (key_by_key item) os rs → IsOneOf r rs → IsOneOf p (reply_pairs (mode_at modes r.loader) r.loader r.keys r.outcomes)
-      → (k : KeyOf) × (folded (mode_at modes p.loader) k ≡ p.key) × (p.outcome ≡ known (item p.loader k))
-  replies-pair modes [] [] r p h one at = absurd one
-  replies-pair modes [] (s ∷ ss) r p h one at = absurd h
-  replies-pair modes (o ∷ os) [] r p h one at = absurd one
-  replies-pair modes (o ∷ os) (s ∷ ss) r p h (inl e) at = reply-pair modes o s p h.0 (subst (λ (q : ReplyOf). IsOneOf p (reply_pairs (mode_at modes q.loader) q.loader q.keys q.outcomes)) e at)
-  replies-pair modes (o ∷ os) (s ∷ ss) r p h (inr rest) at = replies-pair modes os ss r p h.1 rest at
-
-  module _ (rules : List RuleOf) (q : Program) where
-    log-pair : (M : Memory) (log : List (List ReplyOf)) (end : Memory) (round : List ReplyOf) (r : ReplyOf) (p : PairOf) → AreRounds (key_by_key item) rules q M log end → IsOneOf round log → IsOneOf r round
-        → IsOneOf p (reply_pairs (mode_at (modes_of rules) r.loader) r.loader r.keys r.outcomes) → (k : KeyOf) × (folded (mode_at (modes_of rules) p.loader) k ≡ p.key) × (p.outcome ≡ known (item p.loader k))
-    log-pair M [] end round r p h one among at = absurd one
-    log-pair M (first ∷ log) end round r p h (inl e) among at = replies-pair (modes_of rules) (round_orders rules (front (modes_of rules) q M)) first r p h.1 (subst (λ (rs : List ReplyOf). IsOneOf r rs) e among) at
-    log-pair M (first ∷ log) end round r p h (inr rest) among at = log-pair (after_round rules M first) log end round r p h.2 rest among at
-
-    -- what is known at the end is what asking key by key gives
-    pub holds-items : (M : Memory) (log : List (List ReplyOf)) (end : Memory) → RespectsCacheKeys (modes_of rules) item → HoldsItems (modes_of rules) item M → AreRounds (key_by_key item) rules q M log end
-        → ((pair : PairOf) → end pair.loader pair.key ≡ Some pair.outcome → (M pair.loader pair.key ≡ Some pair.outcome) ⊎ IsAnsweredIn (modes_of rules) pair log) → HoldsItems (modes_of rules) item end
-    holds-items M log end alike first h pairs = λ loader key o e.
-        elim (pairs (record { loader = loader; key = folded (mode_at (modes_of rules) loader) key; outcome = o }) e) [
-          | inl old ↦ first loader key o old
-          | inr a ↦
-              let t = log-pair M log end a.0 a.2 (record { loader = loader; key = folded (mode_at (modes_of rules) loader) key; outcome = o }) h a.1 a.3 a.4 in
-              t.2 ∙ ap known (alike loader t.0 key t.1)
-        ]
 
 module _ {S : Type 0} (old new : StateOf S) where
   -- the texts by a reader that answers at least as much as the memory
@@ -117,6 +69,6 @@ module _ {S : Type 0} (may : S → List KeyOf → AnswerOf → Type 0) (item : S
       let items : ℕ → KeyOf → ItemOf = item_over item old.loaders in
       let R : Reader = read (session_modes old) new.memory in
       let held : HoldsItems (session_modes old) items new.memory =
-      holds-items items (rules_of old) (together rs) (without_failed old.memory) h.log new.memory (respects-alike may item by_key mode_of respects old.loaders alike) first (shared-rounds old new rs ts h) h.pairs in
+      rounds-held items (rules_of old) (together rs) (respects-alike may item by_key mode_of respects old.loaders alike) (without_failed old.memory) h.log new.memory first (shared-rounds old new rs ts h) in
       let more : AnswersMore R (direct items) = λ load o e. ap (λ x. Some x) (sym (held load.loader load.key o e)) in
       texts-by old new h.log (direct items) 0 rs ts more ((front-open (session_modes old) (together rs) new.memory).0 h.complete) h.answers

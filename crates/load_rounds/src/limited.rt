@@ -45,14 +45,8 @@ impl<'p, 'a: 'p> Execute<'p> for Limited<'p, 'a> {
         wants: &mut Wants,
     ) -> Result<Poll<String>, NoMemory> {
         match self.most {
-            Some(most) => match progress.poll_text_within(alloc, memory, wants, most) {
-                Ok(polled) => Ok(polled),
-                Err(_) => Err(NoMemory),
-            },
-            None => match progress.poll_text(alloc, memory, wants) {
-                Ok(polled) => Ok(polled),
-                Err(_) => Err(NoMemory),
-            },
+            Some(most) => progress.poll_text_within(alloc, memory, wants, most),
+            None => progress.poll_text(alloc, memory, wants),
         }
     }
 }

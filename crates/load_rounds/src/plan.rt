@@ -35,9 +35,6 @@ impl<'p, 'a: 'p> Execute<'p> for Plan<'a> {
         memory: &Memory,
         wants: &mut Wants,
     ) -> Result<Poll<String>, NoMemory> {
-        match progress.poll_text(alloc, memory, wants) {
-            Ok(polled) => Ok(polled),
-            Err(_) => Err(NoMemory),
-        }
+        progress.poll_text(alloc, memory, wants)
     }
 }

@@ -1,13 +1,15 @@
 //! Rounds that the caller runs, and runs that are dropped.
 
-ghost use Rattle.std.specs.Prelude.{◌≡◌, ◌≤◌, ◌<◌, All, map, length, IfOk, string_bytes};
+ghost use Rattle.std.specs.Prelude.{◌≡◌, ◌≤◌, ◌<◌, All, map, length, IfOk, OnOk, string_bytes};
 ghost use Rattle.load_memory.specs.Replies.{reply_of};
 ghost use Rattle.load_memory.specs.Shelves.{IsOn, shown};
 ghost use Rattle.load_queue.specs.Orders.{OrderOf};
 ghost use Rattle.execution.specs.Rounds.{may_at, AreReplies};
-ghost use Rattle.load_rounds.specs.Sessions.{state_of};
+ghost use Rattle.gq_resolve.specs.Evaluated.{GrowsTo};
+ghost use Rattle.load_rounds.specs.Sessions.{state_of, memory_of};
 ghost use Rattle.load_rounds.specs.Headline.{Headline};
-ghost use Rattle.load_rounds.specs.Runs.{AreReceived};
+ghost use Rattle.load_rounds.specs.Runs.{AreReceived, RunsOnFrom, orders_in, run_of};
+ghost use Rattle.load_rounds.specs.declared.run.Stage.TheVariants.{Ready, Out};
 
 use crate::logs::push_batch;
 use crate::sources::CountingSource;
@@ -15,7 +17,7 @@ use anyhow::{Result, bail};
 use gq_check::Plan;
 use load_memory::{NoMemory, Receipt, Reply, Shelf};
 use load_queue::{Asks, Loader, Order};
-use load_rounds::{Answer, Execute, Next, Session, Stage};
+use load_rounds::{Answer, Execute, Next, Run, Session, Stage};
 use std::alloc::{AllocError, AllocGlobal, Global};
 use std::sync::Wait;
 use world::World;
@@ -80,6 +82,26 @@ pub fn received<S: Asks, R: Wait + AllocGlobal>(
     Ok(receipts)
 }
 
+/// Runs the orders of the round that is out, and has their replies stored.
+pub fn run_round<'p, P: Execute<'p>, S: Asks, R: Wait + AllocGlobal>(
+    rt: &R,
+    run: &mut Run<'p, P>,
+    session: &mut Session<S>,
+    orders: Vec<Order>,
+) -> Result<()>
+    requires out { run.old.stage ≡ Out }
+    requires batches { orders.items ≡ orders_in (state_of session.old) (P.program run.old.plan) }
+    requires below { All (λ (o : OrderOf). o.loader < length session.old.loaders) orders.items }
+    ensures ready { OnOk result (run.new ≡ run_of run.old.plan run.old.rounds Ready) }
+    ensures run { OnOk result (RunsOnFrom S.may_tell (P.program run.old.plan) Out (state_of session.old) (state_of session.new) run.old run.new) }
+    ensures grown { OnOk result (GrowsTo (memory_of session.old) (memory_of session.new)) }
+{
+    let shelf = Shelf::new(rt.alloc())?;
+    let receipts = received(rt, orders, session.loaders(), &shelf)?;
+    run.take(session, &shelf, receipts.as_slice())?;
+    Ok(())
+}
+
 /// Notes the orders of a round, each as a batch.
 fn note(orders: &[Order], noted: &mut Noted<'_>) -> Result<(), AllocError> {
     noted.rounds = noted.rounds.saturating_add(1);
@@ -110,9 +132,7 @@ pub fn answered<'p, P: Execute<'p>, S: Asks, R: Wait + AllocGlobal>(
             Next::Finished(answer) => return Ok(answer),
             Next::Round(orders) => {
                 note(orders.as_slice(), noted)?;
-                let shelf = Shelf::new(rt.alloc())?;
-                let receipts = received(rt, orders, session.loaders(), &shelf)?;
-                run.take(session, &shelf, receipts.as_slice())?;
+                run_round(rt, &mut run, session, orders)?;
             }
         }
     }

@@ -6,14 +6,14 @@ ghost use Rattle.gq_check.specs.Plans.{plan_of};
 ghost use Rattle.gq_resolve.specs.Evaluated.{GrowsTo};
 ghost use Rattle.gq_resolve.specs.Suspended.{plan_in, FitsMemory};
 
-use crate::by_hand::received;
+use crate::by_hand::run_round;
 use crate::known;
 use crate::logs::push_keys;
 use anyhow::{Result, bail};
 use futures::task::Poll;
 use gq_check::Plan;
 use gq_resolve::{Resolve, RootState, answer_text};
-use load_memory::{Memory, Shelf};
+use load_memory::Memory;
 use load_queue::{Asks, Order, Wants};
 use load_rounds::{Answer, Execute, Next, Session};
 use std::alloc::{AllocGlobal, Global};
@@ -61,6 +61,44 @@ fn ordered(alloc: Global, world: &World, orders: &[Order]) -> Result<String> {
     Ok(text)
 }
 
+/// What an execution that goes on gives, which has to be what an evaluation from scratch gives.
+fn compared(
+    alloc: Global,
+    world: &World,
+    plan: &Plan<'_>,
+    state: &mut RootState<'_, '_>,
+    memory: &Memory,
+) -> Result<String>
+    requires loaders { length (plan_in state.old).bindings.loaders ≤ length memory.now.modes }
+    requires fits { FitsMemory state.old memory.now }
+    ensures fits { OnOk result ((m : MemoryOf) → GrowsTo memory.now m → FitsMemory state.new m) }
+    ensures same_plan { plan_in state.new ≡ plan_in state.old }
+{
+    let anew = known::report(alloc, world, plan, memory)?;
+    let kept = polled(alloc, world, state, memory)?;
+    if kept != anew {
+        bail!("anew {anew}, going on {kept}");
+    }
+    Ok(anew)
+}
+
+/// An answer, whose text has to be the one that was found anew.
+fn finished(answer: Answer, anew: &str) -> Result<Answer> {
+    if answer.text.as_str() != anew {
+        bail!("anew {anew}, at last {}", answer.text);
+    }
+    Ok(answer)
+}
+
+/// Orders of a round, which have to ask for what was found anew to be missing.
+fn check_orders(alloc: Global, world: &World, orders: &[Order], anew: &str) -> Result<()> {
+    let asked = ordered(alloc, world, orders)?;
+    if asked.as_str() != anew {
+        bail!("anew {anew}, in a round {asked}");
+    }
+    Ok(())
+}
+
 /// Answers a plan in rounds over executions that are kept through them. In each round they have to answer, or to wait for,
 /// what an evaluation from scratch does.
 pub fn answered<S: Asks, R: Wait + AllocGlobal>(
@@ -76,26 +114,12 @@ pub fn answered<S: Asks, R: Wait + AllocGlobal>(
     let mut written = plan.start();
     let mut built = RootState::new(plan);
     loop {
-        let anew = known::report(alloc, world, plan, session.memory())?;
-        let kept = polled(alloc, world, &mut built, session.memory())?;
-        if kept != anew {
-            bail!("anew {anew}, going on {kept}");
-        }
+        let anew = compared(alloc, world, plan, &mut built, session.memory())?;
         match run.resume(session, &mut written)? {
-            Next::Finished(answer) => {
-                if answer.text != anew {
-                    bail!("anew {anew}, at last {}", answer.text);
-                }
-                return Ok(answer);
-            }
+            Next::Finished(answer) => return finished(answer, &anew),
             Next::Round(orders) => {
-                let asked = ordered(alloc, world, orders.as_slice())?;
-                if asked != anew {
-                    bail!("anew {anew}, in a round {asked}");
-                }
-                let shelf = Shelf::new(alloc)?;
-                let receipts = received(rt, orders, session.loaders(), &shelf)?;
-                run.take(session, &shelf, receipts.as_slice())?;
+                check_orders(alloc, world, orders.as_slice(), &anew)?;
+                run_round(rt, &mut run, session, orders)?;
             }
         }
     }

@@ -1,9 +1,7 @@
-use Rattle.std.proofs.Common.{◌≡◌, ◌<◌, ◌≤◌, ◌+◌, ◌∙◌, ℕ, map, length, ap, sym, arith, refl}
-use Rattle.load_memory.specs.Shelves.{shown}
-use Rattle.load_queue.specs.Orders.{OrderOf}
+use Rattle.std.proofs.Common.{◌≡◌, ◌+◌, ap, sym, arith, refl}
 use Rattle.execution.specs.Program.{Program}
 use Rattle.load_rounds.specs.Sessions.{state_of}
-use Rattle.load_rounds.specs.Runs.{RunOf, IsRound}
+use Rattle.load_rounds.specs.Runs.{RunOf}
 use Rattle.load_rounds.proofs.Runs.{between-loaders, round-below, round-orders}
 use Rattle.request_cases.proofs.by_hand.answered.Goals as goal
 
@@ -20,24 +18,18 @@ returns-in-Finished g c =
     let done = c.in_ok-answer.ensures.answer (state_of c.args.session.now) between in
     rw (c.in-Finished.is, same) at done
 
-pub received-requires : goal.received-requires
-received-requires g c =
-    let p : Program = g.P.Execute.program c.loop-answer.run.plan in
-    let next = rw c.in-Round.is at c.in_ok-answer.ensures.next in
-    rw c.loaders.ensures (round-below p (state_of c.loop-answer.session) (state_of c.next_round.new.session) c.in-Round.orders.items next.0)
-
-pub take-requires : goal.take-requires
-take-requires g c =
+pub run_round-requires : goal.run_round-requires
+run_round-requires g c =
     let p : Program = g.P.Execute.program c.loop-answer.run.plan in
     let next = rw c.in-Round.is at c.in_ok-answer.ensures.next in
     let same : c.next_round.new.self.plan ≡ c.loop-answer.run.plan = ap (λ (r : RunOf _). r.plan) next.1 in
-    let out = ap (λ (r : RunOf _). r.stage) next.1 in
     let orders = round-orders p (state_of c.loop-answer.session) (state_of c.next_round.new.session) c.in-Round.orders.items next.0 in
-    λ κs. ((refl, tt), (out, (rw c.as_slice-in-Round.ensures.value c.in_ok-receipts-in-Round.ensures.shelf, rw (same, orders, c.as_slice-in-Round.ensures.value, ← c.loaders.ensures) c.in_ok-receipts-in-Round.ensures.received)))
+    let below = round-below p (state_of c.loop-answer.session) (state_of c.next_round.new.session) c.in-Round.orders.items next.0 in
+    λ κs. ((refl, tt), (ap (λ (r : RunOf _). r.stage) next.1, (rw same (sym orders), below)))
 
 pub loop-answer-smaller : goal.loop-answer-smaller
 loop-answer-smaller g c =
     let next = rw c.in-Round.is at c.in_ok-answer.ensures.next in
     let more : c.next_round.new.self.rounds ≡ c.loop-answer.run.rounds + 1 = ap (λ (r : RunOf _). r.rounds) next.1 in
-    let kept : c.take.new.self.rounds ≡ c.next_round.new.self.rounds = ap (λ (r : RunOf _). r.rounds) c.in_ok-take-in-Round.ensures.ready in
+    let kept : c.run_round.new.run.rounds ≡ c.next_round.new.self.rounds = ap (λ (r : RunOf _). r.rounds) c.in_ok-run_round-in-Round.ensures.ready in
     omega (arith, more, kept, c.next_round.ensures.bounded)

@@ -1,4 +1,4 @@
-use Rattle.std.proofs.Common.{◌≡◌, ◌≤◌, ◌-◌, ◌^◌, length}
+use Rattle.std.proofs.Common.{◌≡◌, ◌-◌, ◌^◌}
 use Rattle.load_rounds.specs.declared.run.Stage.TheVariants.{Ready}
 use Rattle.load_rounds.specs.Sessions.{state_of}
 use Rattle.load_rounds.specs.Runs.{run_of, IsBetween}

@@ -1,4 +1,4 @@
-use Rattle.std.proofs.Common.{◌≡◌, ◌≤◌, ◌-◌, ◌^◌, length}
+use Rattle.std.proofs.Common.{◌≡◌, ◌-◌, ◌^◌}
 use Rattle.gq_check.specs.Plans.{plan_of}
 use Rattle.plan_program.specs.PlanPrograms.{plan_program}
 use Rattle.gq_resolve.specs.Suspended.{plan_in, FitsMemory}
