@@ -1,9 +1,9 @@
 -- Response text: the JSON value of an answer, and its bytes.
-use Rattle.std.specs.Prelude.{ℕ, List, [], ◌∷◌, Option, Some, None, option_and_then, decimal, codes, string_bytes}
+use Rattle.std.specs.Prelude.{◌≡◌, ◌≤◌, ℕ, List, [], ◌∷◌, Option, Some, None, option_and_then, decimal, codes, string_bytes}
 use Rattle.json.specs.Json.{Json, number, string, array, object, Items, no_items, item, Members, no_members, member, value, if_last}
 use Rattle.json.specs.Lex.{tokens}
 use Rattle.json.specs.Print.{print}
-use Rattle.json.specs.Tree.{json_tokens}
+use Rattle.json.specs.Tree.{depth, json_tokens}
 use Rattle.gq_lexer.specs.declared.place.Place.{Place}
 use Rattle.answer_json.specs.declared.response.FieldError.{FieldError}
 use Rattle.answer_json.specs.declared.response.PathPart.{PathPart}
@@ -66,3 +66,7 @@ json_text j = print (json_tokens j)
 -- the value that a text is, for a reader that goes no deeper than this limit
 abbrev pub read_within : ℕ → List ℕ → Option Json
 read_within limit text = option_and_then (λ p. if_last p.0 p.1) (value limit (tokens text))
+
+-- A reader finds this value in the text, where its limit is not below the value's depth.
+abbrev pub ReadsBack : Json → List ℕ → Type 0
+ReadsBack j text = (limit : ℕ) → depth j ≤ limit → read_within limit text ≡ Some j

@@ -1,10 +1,10 @@
 //! The texts of answers.
 
-ghost use Rattle.std.specs.Prelude.{◌≡◌, ◌≤◌, ◌++◌, ℕ, [], IfOk, OnOk, Some, string_bytes};
+ghost use Rattle.std.specs.Prelude.{◌≡◌, ◌++◌, [], IfOk, OnOk, Some, string_bytes};
 ghost use Rattle.json.specs.Lex.{tokens};
 ghost use Rattle.json.specs.Print.{print};
-ghost use Rattle.json.specs.Tree.{depth, json_tokens};
-ghost use Rattle.answer_json.specs.Answer.{answer_json, request_error_json, refusal_json, json_text, read_within};
+ghost use Rattle.json.specs.Tree.{json_tokens};
+ghost use Rattle.answer_json.specs.Answer.{answer_json, request_error_json, refusal_json, json_text, ReadsBack};
 
 use crate::memory::NoMemory;
 use crate::put::{put_errors, put_places, put_response, put_text};
@@ -92,8 +92,7 @@ pub fn write_answer(
 ) -> Result<String, NoMemory>
     ensures text { IfOk result (λ s. string_bytes s ≡ json_text (answer_json response.now errors.now)) }
     // A reader of JSON finds the same value, where its limit of nesting is not below the depth of the answer.
-    ensures reads_back { IfOk result (λ s. (limit : ℕ) → depth (answer_json response.now errors.now) ≤ limit
-        → read_within limit (string_bytes s) ≡ Some (answer_json response.now errors.now)) }
+    ensures reads_back { IfOk result (λ s. ReadsBack (answer_json response.now errors.now) (string_bytes s)) }
 {
     let mut writer = Writer::new(Vec::with_capacity(alloc, FIRST_ROOM)?);
     put_answer(&mut writer, response, errors)?;
@@ -108,8 +107,7 @@ pub fn write_answer(
 /// Only when out of memory.
 pub fn write_refusal(alloc: Global, message: &str, place: Option<Place>) -> Result<String, NoMemory>
     ensures text { IfOk result (λ s. string_bytes s ≡ json_text (refusal_json message.now place)) }
-    ensures reads_back { IfOk result (λ s. (limit : ℕ) → depth (refusal_json message.now place) ≤ limit
-        → read_within limit (string_bytes s) ≡ Some (refusal_json message.now place)) }
+    ensures reads_back { IfOk result (λ s. ReadsBack (refusal_json message.now place) (string_bytes s)) }
 {
     let mut writer = Writer::new(Vec::with_capacity(alloc, FIRST_ROOM)?);
     put_refusal(&mut writer, message, place)?;

@@ -8,12 +8,11 @@ ghost use Rattle.gq_parser.specs.Tree.{Document};
 ghost use Rattle.schema_syntax.specs.Tree.{Definition};
 ghost use Rattle.load_memory.specs.Keys.{KeyOf};
 ghost use Rattle.load_memory.specs.Outcomes.{ItemOf};
-ghost use Rattle.load_memory.specs.Replies.{ReplyOf};
 ghost use Rattle.execution.specs.Loads.{Memory};
 ghost use Rattle.execution.specs.Program.{Program};
 ghost use Rattle.execution.specs.Completion.{AnsweredOf};
 ghost use Rattle.execution.specs.Executed.{exec};
-ghost use Rattle.execution.specs.Rounds.{RuleOf, modes_of, AreLimited, HasLoaders, RespectsCacheKeys, HoldsItems, IsLawful, key_by_key, direct};
+ghost use Rattle.execution.specs.Rounds.{RuleOf, direct};
 ghost use Rattle.gq_check.specs.Plans.{PlanOf};
 ghost use Rattle.gq_check.specs.Planned.{IsPlan};
 ghost use Rattle.gq_check.specs.Verdict.{FaultOf, IsVerdict};
@@ -21,6 +20,7 @@ ghost use Rattle.world.specs.Worlds.{HasSources};
 ghost use Rattle.world_answers.specs.Answers.{IsAnsweredAnew};
 ghost use Rattle.world_answers.specs.Lines.{IsAnswer};
 ghost use Rattle.world_answers.specs.Services.{ServiceOf};
+ghost use Rattle.answer_laws.specs.Logs.{AnswersKeyByKey, HasLog};
 ghost use Rattle.answer_laws.specs.Requests.{IsRefusedOrAnswered};
 
 /// Each text is a document, or has a first fault. `NoMemory`, which says nothing of a text, isn't counted as one.
@@ -41,8 +41,8 @@ pub fn documents_have_verdicts()
 /// empty one has.
 pub fn answers_are_there()
     ensures direct { (p : Program) (item : ℕ → KeyOf → ItemOf) → (answered : AnsweredOf) × (exec p (direct item) ≡ Some answered) }
-    ensures log { (item : ℕ → KeyOf → ItemOf) (rules : List RuleOf) (p : Program) (M : Memory) → AreLimited rules → HasLoaders (length rules) p
-        → RespectsCacheKeys (modes_of rules) item → HoldsItems (modes_of rules) item M → (rounds : List (List ReplyOf)) × (end : Memory) × IsLawful (key_by_key item) rules p M rounds end }
+    ensures log { (item : ℕ → KeyOf → ItemOf) (rules : List RuleOf) (p : Program) (M : Memory)
+        → AnswersKeyByKey item rules p M → HasLog item rules p M }
 {}
 
 /// Each plan over the bindings of a world has an answer, whatever the limit: a text that is that of direct execution, and a session

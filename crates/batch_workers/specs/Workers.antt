@@ -4,7 +4,7 @@ use Rattle.load_memory.specs.Keys.{KeyOf}
 use Rattle.load_queue.specs.Answers.{AnswerOf}
 use Rattle.execution.specs.Program.{Program}
 use Rattle.execution.specs.Completion.{AnsweredOf}
-use Rattle.load_rounds.specs.Sessions.{StateOf}
+use Rattle.load_rounds.specs.Sessions.{SessionOf, StateOf, state_of}
 use Rattle.load_rounds.specs.Headline.{Headline, StopsAnswering}
 use Rattle.load_rounds.specs.Runs.{IsRun}
 use Rattle.load_rounds.specs.SharedRounds.{joint}
@@ -22,6 +22,10 @@ abbrev pub ChangeNothing : {S : Type 0} → (S → List KeyOf → AnswerOf → T
 ChangeNothing {S} may = (old turned worked : StateOf S) (p : Program) (text_of : AnsweredOf → List ℕ) (turn work : Answer)
     → Headline may old turned p text_of (string_bytes turn.text) turn.rounds → Headline may old worked p text_of (string_bytes work.text) work.rounds
     → (string_bytes work.text ≡ string_bytes turn.text) × (work.rounds ≡ turn.rounds) × (worked ≡ turned)
+
+-- After want of memory the finished rounds of a session stay, and perhaps one more was lost.
+abbrev pub Stops : {S : Type 0} → (S → List KeyOf → AnswerOf → Type 0) → SessionOf S → SessionOf S → Program → Type 0
+Stops may old new p = StopsAnswering may (state_of old) (state_of new) p
 
 -- No public clause names them. From whichever state a run was begun: its round that was out is stored; or it is lost.
 abbrev pub StoresRound : {S : Type 0} → (S → List KeyOf → AnswerOf → Type 0) → Program → StateOf S → StateOf S → ℕ → Type 0

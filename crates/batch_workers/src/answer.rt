@@ -1,13 +1,13 @@
 //! Answers with workers: round after round until nothing is missing, each by workers over a shelf of its own.
-ghost use Rattle.std.specs.Prelude.{◌≡◌, ◌<◌, ◌≤◌, ◌↔◌, length, IfOk, OnOk, OnErr, IsErrOf, string_bytes};
+ghost use Rattle.std.specs.Prelude.{◌≡◌, ◌<◌, ◌≤◌, ◌↔◌, length, IfOk, OnOk, OnErr, IsErrOf};
 ghost use Rattle.gq_check.specs.Plans.{plan_of};
 ghost use Rattle.plan_program.specs.PlanPrograms.{plan_program};
 ghost use Rattle.gq_resolve.specs.Answered.{answer_text};
 ghost use Rattle.gq_resolve.specs.Evaluated.{GrowsTo};
 ghost use Rattle.load_rounds.specs.Sessions.{state_of, memory_of};
-ghost use Rattle.load_rounds.specs.Headline.{Headline, StopsAnswering};
+ghost use Rattle.load_rounds.specs.Headline.{HasHeadline};
 ghost use Rattle.load_rounds.specs.Runs.{run_of, orders_in};
-ghost use Rattle.batch_workers.specs.Workers.{IsBadCount, StoresRound, LosesRound};
+ghost use Rattle.batch_workers.specs.Workers.{IsBadCount, Stops, StoresRound, LosesRound};
 
 use crate::fault::WorkFault;
 use gq_check::Plan;
@@ -37,10 +37,10 @@ pub fn answer_with<S: Source, R: Threads + Wait + Sync>(
     requires loaders { length (plan_of plan.now).bindings.loaders ≤ length session.old.loaders }
     ensures bad_count { IsErrOf result WorkFault.BadCount ↔ IsBadCount workers }
     ensures refused { IsErrOf result WorkFault.BadCount → session.new ≡ session.old }
-    ensures answer { IfOk result (λ a. Headline S.may_answer (state_of session.old) (state_of session.new)
-        (plan_program (plan_of plan.now)) answer_text (string_bytes a.text) a.rounds) }
+    ensures answer { IfOk result (HasHeadline S.may_answer (state_of session.old) (state_of session.new)
+        (plan_program (plan_of plan.now)) answer_text) }
     ensures stopped { IsErrOf result WorkFault.NoMemory
-        → StopsAnswering S.may_answer (state_of session.old) (state_of session.new) (plan_program (plan_of plan.now)) }
+        → Stops S.may_answer session.old session.new (plan_program (plan_of plan.now)) }
 {
     execute_with(rt, session, plan, workers)
 }
@@ -59,10 +59,10 @@ pub fn execute_with<'p, S: Source, P: Execute<'p>, R: Threads + Wait + Sync>(
     requires loaders { P.loaders plan.now ≤ length session.old.loaders }
     ensures bad_count { IsErrOf result WorkFault.BadCount ↔ IsBadCount workers }
     ensures refused { IsErrOf result WorkFault.BadCount → session.new ≡ session.old }
-    ensures answer { IfOk result (λ a. Headline S.may_answer (state_of session.old) (state_of session.new)
-        (P.program plan.now) (P.text_of plan.now) (string_bytes a.text) a.rounds) }
+    ensures answer { IfOk result (HasHeadline S.may_answer (state_of session.old) (state_of session.new)
+        (P.program plan.now) (P.text_of plan.now)) }
     ensures stopped { IsErrOf result WorkFault.NoMemory
-        → StopsAnswering S.may_answer (state_of session.old) (state_of session.new) (P.program plan.now) }
+        → Stops S.may_answer session.old session.new (P.program plan.now) }
 {
     if workers == 0 || workers > MOST_WORKERS {
         return Err(WorkFault::BadCount);
@@ -82,9 +82,9 @@ fn answered<'p, S: Source, P: Execute<'p>, R: Threads + Wait + Sync>(
 ) -> Result<Answer, NoMemory>
     requires count { (0 < workers) × (workers ≤ 16) }
     requires loaders { P.loaders plan.now ≤ length session.old.loaders }
-    ensures answer { IfOk result (λ a. Headline S.may_answer (state_of session.old) (state_of session.new)
-        (P.program plan.now) (P.text_of plan.now) (string_bytes a.text) a.rounds) }
-    ensures stopped { OnErr result (StopsAnswering S.may_answer (state_of session.old) (state_of session.new)
+    ensures answer { IfOk result (HasHeadline S.may_answer (state_of session.old) (state_of session.new)
+        (P.program plan.now) (P.text_of plan.now)) }
+    ensures stopped { OnErr result (Stops S.may_answer session.old session.new
         (P.program plan.now)) }
 {
     let mut run = session.begin(plan)?;

@@ -2,12 +2,11 @@
 ghost use Rattle.std.specs.Prelude.{◌≡◌, ◌<◌, ◌≤◌, ◌↔◌, All, length, IfOk, OnOk, OnErr, IsErrOf};
 ghost use Rattle.gq_check.specs.Plans.{plan_of};
 ghost use Rattle.load_rounds.specs.Sessions.{state_of, memory_of};
-ghost use Rattle.load_rounds.specs.Headline.{StopsAnswering};
 ghost use Rattle.load_rounds.specs.Runs.{orders_in};
 ghost use Rattle.load_rounds.specs.SharedRounds.{requests, joint, together, AreAnswers};
 ghost use Rattle.load_rounds.specs.PlanRequests.{plan_requests};
 ghost use Rattle.load_rounds.specs.SharedRuns.{FitsRun, FitsLater, GoesOnFrom};
-ghost use Rattle.batch_workers.specs.Workers.{IsBadCount, LosesShared};
+ghost use Rattle.batch_workers.specs.Workers.{IsBadCount, Stops, LosesShared};
 
 use crate::fault::WorkFault;
 use gq_check::Plan;
@@ -39,7 +38,7 @@ pub fn answer_all_with<S: Source, R: Threads + Wait + Sync>(
     ensures refused { IsErrOf result WorkFault.BadCount → session.new ≡ session.old }
     ensures answers { IfOk result (AreAnswers S.may_answer (state_of session.old) (state_of session.new) (plan_requests plans.now)) }
     ensures stopped { IsErrOf result WorkFault.NoMemory
-        → StopsAnswering S.may_answer (state_of session.old) (state_of session.new) (together (plan_requests plans.now)) }
+        → Stops S.may_answer session.old session.new (together (plan_requests plans.now)) }
 {
     execute_all_with(rt, session, plans, workers)
 }
@@ -60,7 +59,7 @@ pub fn execute_all_with<'p, S: Source, P: Execute<'p>, R: Threads + Wait + Sync>
     ensures refused { IsErrOf result WorkFault.BadCount → session.new ≡ session.old }
     ensures answers { IfOk result (AreAnswers S.may_answer (state_of session.old) (state_of session.new) (requests P.program P.text_of plans.now)) }
     ensures stopped { IsErrOf result WorkFault.NoMemory
-        → StopsAnswering S.may_answer (state_of session.old) (state_of session.new) (joint P.program P.text_of plans.now) }
+        → Stops S.may_answer session.old session.new (joint P.program P.text_of plans.now) }
 {
     if workers == 0 || workers > MOST_WORKERS {
         return Err(WorkFault::BadCount);
@@ -81,7 +80,7 @@ fn answered<'p, S: Source, P: Execute<'p>, R: Threads + Wait + Sync>(
     requires count { (0 < workers) × (workers ≤ 16) }
     requires loaders { All (λ plan. P.loaders plan ≤ length session.old.loaders) plans.now }
     ensures answers { IfOk result (AreAnswers S.may_answer (state_of session.old) (state_of session.new) (requests P.program P.text_of plans.now)) }
-    ensures stopped { OnErr result (StopsAnswering S.may_answer (state_of session.old) (state_of session.new) (joint P.program P.text_of plans.now)) }
+    ensures stopped { OnErr result (Stops S.may_answer session.old session.new (joint P.program P.text_of plans.now)) }
 {
     let mut run = session.begin_all(plans)?;
     loop {

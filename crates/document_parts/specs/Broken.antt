@@ -1,10 +1,12 @@
 -- What breaks a rule, and which of several such is reported.
-use Rattle.std.specs.Prelude.{ℕ, List, ◌++◌, Option, Some, None, codes, fold, if◌then◌else◌}
+use Rattle.std.specs.Prelude.{◌≡◌, ℕ, List, ◌++◌, Option, Some, None, codes, fold, if◌then◌else◌}
+use Rattle.std.specs.Option.{option_map}
 use Rattle.gq_lexer.specs.Place.{is_before}
 use Rattle.gq_lexer.specs.declared.place.Place.{Place}
 use Rattle.document_parts.specs.declared.broken.BrokenName.{BrokenName}
 use Rattle.document_parts.specs.declared.broken.BrokenName.TheVariants.{Plain, Variable}
 use Rattle.document_parts.specs.declared.broken.Broken as rust
+use Rattle.document_parts.specs.declared.broken.Earliest.{Earliest}
 
 -- what is named as broken, and where
 pub record BrokenOf : Type 0 where
@@ -32,6 +34,10 @@ with_broken (Some a) b = Some (earlier a b)
 abbrev pub with_broken_if : Option BrokenOf → Option BrokenOf → Option BrokenOf
 with_broken_if kept None = kept
 with_broken_if kept (Some b) = with_broken kept b
+
+-- what is kept is the earliest of what was and of these
+abbrev pub AddsBroken : Earliest → Earliest → List BrokenOf → Type 0
+AddsBroken old new broken = option_map broken_of new.found ≡ fold with_broken (option_map broken_of old.found) broken
 
 -- the one with the earliest place; of several at one place the first in the list
 abbrev pub earliest : List BrokenOf → Option BrokenOf

@@ -1,6 +1,7 @@
 -- All parts of a document: those of its operations first, and then those of its fragments, each in the order of the text.
 -- What stands for arguments and directives goes by fields first, and then by directives.
-use Rattle.std.specs.Prelude.{ℕ, ◌+◌, true, ◌||◌, List, [], ◌∷◌, ◌++◌, map, flat_map, filter_map, Option, Some, None, is_some, codes, bytes_eq, if◌then◌else◌}
+use Rattle.std.specs.Prelude.{◌≡◌, ℕ, ◌+◌, true, ◌||◌, List, [], ◌∷◌, ◌++◌, map, flat_map, filter_map, Option, Some, None, is_some, codes, bytes_eq, if◌then◌else◌}
+use Rattle.std.specs.Global.{Vec}
 use Rattle.std.specs.Option.{option_map, option_and_then}
 use Rattle.gq_lexer.specs.declared.place.Place.{Place}
 use Rattle.gq_parser.specs.Tree.{Named, Argument, Directive, Selection, Field, Spread, Inline, nothing_below, below, SelectionSet, VariableDefinition, Operation, Fragment, Document}
@@ -10,7 +11,9 @@ use Rattle.document_parts.specs.declared.part.Owner.{Owner}
 use Rattle.document_parts.specs.declared.part.Owner.TheVariants as owner
 use Rattle.document_parts.specs.declared.part.DirectiveLocation.{DirectiveLocation}
 use Rattle.document_parts.specs.declared.part.DirectiveLocation.TheVariants as location
-use Rattle.document_parts.specs.Pieces.{SelectionPart, FieldPart, SpreadPart, InlinePart, SetPart, VariablePart, DirectiveList, ArgumentList, ArgumentPart, VariableUse, PartsOf}
+use Rattle.document_parts.specs.declared.part.VariablePart as rust-variable
+use Rattle.document_parts.specs.declared.part.DirectiveList as rust-directives
+use Rattle.document_parts.specs.Pieces.{SelectionPart, FieldPart, SpreadPart, InlinePart, SetPart, VariablePart, DirectiveList, ArgumentList, ArgumentPart, VariableUse, PartsOf, variable_part_of, directive_list_of}
 use Rattle.document_parts.specs.Fragments.{fragment_place}
 use Rattle.document_parts.specs.Parents.{inside_operation, inside_condition}
 use Rattle.document_parts.specs.Selections.{document_selections}
@@ -98,7 +101,15 @@ abbrev pub operation_variables : ℕ → List Operation → List VariablePart
 operation_variables i [] = []
 operation_variables i (o ∷ os) = variables_from i o.variables ++ operation_variables (i + 1) os
 
+-- the new list is the old one, with these behind it
+abbrev pub AddsVariables : Vec rust-variable.VariablePart → Vec rust-variable.VariablePart → List VariablePart → Type 0
+AddsVariables old new variables = map variable_part_of new.items ≡ map variable_part_of old.items ++ variables
+
 -- ---- directives
+
+-- the new list is the old one, with these behind it
+abbrev pub AddsDirectives : Vec rust-directives.DirectiveList → Vec rust-directives.DirectiveList → List DirectiveList → Type 0
+AddsDirectives old new lists = map directive_list_of new.items ≡ map directive_list_of old.items ++ lists
 
 -- the directives at one location, where there are any
 abbrev pub directives_at : Owner → DirectiveLocation → List Directive → List DirectiveList
@@ -164,6 +175,9 @@ abbrev pub listed_arguments : ArgumentList → List ArgumentPart
 listed_arguments l = map (argument_with l.owner l.definitions) l.arguments
 
 -- ---- all of them
+
+abbrev pub spreads_in : List Fragment → List SelectionPart → List SpreadPart
+spreads_in fragments parts = filter_map (spread_part fragments) parts
 
 abbrev pub fields_in : List SelectionPart → List FieldPart
 fields_in parts = filter_map field_part parts

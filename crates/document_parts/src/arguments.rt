@@ -72,7 +72,8 @@ pub fn argument_lists<'d>(
     directives: &[DirectiveList<'d>],
 ) -> Result<Vec<ArgumentList<'d>>, AllocError>
     requires { schema.arguments_of condition.now ≡ condition_argument ∷ [] }
-    ensures { IfOk result (λ lists. map argument_list_of lists.items ≡ argument_lists_in (map field_part_of fields.now) (map directive_list_of directives.now)) }
+    ensures { IfOk result (λ lists. map argument_list_of lists.items
+        ≡ argument_lists_in (map field_part_of fields.now) (map directive_list_of directives.now)) }
 {
     let mut lists = Vec::with_capacity(alloc, fields.len())?;
     for field in fields {
@@ -121,7 +122,8 @@ fn add_arguments<'d>(
     list: &ArgumentList<'d>,
     arguments: &mut Vec<ArgumentPart<'d>>,
 ) -> Result<(), AllocError>
-    ensures { OnOk result (map argument_part_of arguments.new.items ≡ map argument_part_of arguments.old.items ++ listed_arguments (argument_list_of list.now)) }
+    ensures { OnOk result (map argument_part_of arguments.new.items
+        ≡ map argument_part_of arguments.old.items ++ listed_arguments (argument_list_of list.now)) }
 {
     for argument in list.arguments {
         arguments.push(argument_with(list.owner, list.definitions, argument))?;

@@ -1,12 +1,12 @@
 //! The parts of a document, from its selections.
 
-ghost use Rattle.std.specs.Prelude.{◌≡◌, ◌++◌, IfOk, OnOk, map, filter_map};
+ghost use Rattle.std.specs.Prelude.{◌≡◌, IfOk, OnOk, map, filter_map};
 ghost use Rattle.std.specs.Option.{option_map};
 ghost use Rattle.gq_parser.specs.Tree.{variables_of, directives_of, fragment_of, document_of};
 ghost use Rattle.gq_schema.specs.Types.{tree_of};
 ghost use Rattle.document_parts.specs.Fragments.{AreNumbers};
 ghost use Rattle.document_parts.specs.Parts.{selection_part_of, field_part_of, spread_part_of, inline_part_of, set_part_of, variable_part_of, directive_list_of};
-ghost use Rattle.document_parts.specs.Listing.{field_part, spread_part, inline_part, set_part, fields_in, sets_in, variables_from, variables_in, directives_at, selection_directives, directives_in};
+ghost use Rattle.document_parts.specs.Listing.{field_part, spread_part, inline_part, set_part, fields_in, spreads_in, sets_in, AddsVariables, variables_from, variables_in, AddsDirectives, directives_at, selection_directives, directives_in};
 
 use crate::fragments::Numbers;
 use crate::parents::{inside_condition, inside_operation};
@@ -81,7 +81,7 @@ pub fn spreads<'d>(
 ) -> Result<Vec<SpreadPart<'d>>, AllocError>
     requires { AreNumbers (map fragment_of fragments.now) numbers.now }
     ensures { IfOk result (λ spreads. map spread_part_of spreads.items
-        ≡ filter_map (spread_part (map fragment_of fragments.now)) (map selection_part_of selections.now)) }
+        ≡ spreads_in (map fragment_of fragments.now) (map selection_part_of selections.now)) }
 {
     let mut spreads = Vec::new(alloc);
     for part in selections {
@@ -153,7 +153,8 @@ pub fn sets<'d>(
     document: &'d Document,
     selections: &[SelectionPart<'d>],
 ) -> Result<Vec<SetPart<'d>>, AllocError>
-    ensures { IfOk result (λ sets. map set_part_of sets.items ≡ sets_in (tree_of schema.now) (document_of document.now) (map selection_part_of selections.now)) }
+    ensures { IfOk result (λ sets. map set_part_of sets.items
+        ≡ sets_in (tree_of schema.now) (document_of document.now) (map selection_part_of selections.now)) }
 {
     let mut sets = Vec::new(alloc);
     for (i, operation) in document.operations.iter().enumerate() {
@@ -184,8 +185,7 @@ fn add_variables<'d>(
     definitions: &'d [VariableDefinition],
     variables: &mut Vec<VariablePart<'d>>,
 ) -> Result<(), AllocError>
-    ensures { OnOk result (map variable_part_of variables.new.items
-        ≡ map variable_part_of variables.old.items ++ variables_from operation (variables_of definitions.now)) }
+    ensures { OnOk result (AddsVariables variables.old variables.new (variables_from operation (variables_of definitions.now))) }
 {
     for definition in definitions {
         variables.push(VariablePart {
@@ -217,8 +217,7 @@ fn add_directives<'d>(
     directives: &'d [Directive],
     lists: &mut Vec<DirectiveList<'d>>,
 ) -> Result<(), AllocError>
-    ensures { OnOk result (map directive_list_of lists.new.items
-        ≡ map directive_list_of lists.old.items ++ directives_at owner location (directives_of directives.now)) }
+    ensures { OnOk result (AddsDirectives lists.old lists.new (directives_at owner location (directives_of directives.now))) }
 {
     if !directives.is_empty() {
         lists.push(DirectiveList {
@@ -235,7 +234,7 @@ fn add_selection_directives<'d>(
     part: &SelectionPart<'d>,
     lists: &mut Vec<DirectiveList<'d>>,
 ) -> Result<(), AllocError>
-    ensures { OnOk result (map directive_list_of lists.new.items ≡ map directive_list_of lists.old.items ++ selection_directives (selection_part_of part.now)) }
+    ensures { OnOk result (AddsDirectives lists.old lists.new (selection_directives (selection_part_of part.now))) }
 {
     match part.selection {
         Selection::Field(field) => {

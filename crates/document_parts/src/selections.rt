@@ -1,11 +1,10 @@
 //! The selections of a document.
 
 ghost use Rattle.std.specs.Prelude.{◌≡◌, OnOk, IfOk, map};
-ghost use Rattle.std.specs.Option.{option_copied};
-ghost use Rattle.gq_parser.specs.Tree.{set_of, selection_of, document_of};
+ghost use Rattle.gq_parser.specs.Tree.{document_of};
 ghost use Rattle.gq_schema.specs.Types.{tree_of};
 ghost use Rattle.document_parts.specs.Parts.{selection_part_of};
-ghost use Rattle.document_parts.specs.Selections.{selections_in, selections_from, document_selections, AddsSelections};
+ghost use Rattle.document_parts.specs.Selections.{read_selections_in, read_selections_from, document_selections, AddsSelections};
 
 use crate::parents::{
     inside_condition, inside_field, inside_inline, inside_operation, known_field,
@@ -24,7 +23,7 @@ fn add_set<'d>(
     set: &'d SelectionSet,
     parts: &mut Vec<SelectionPart<'d>>,
 ) -> Result<(), AllocError>
-    ensures { OnOk result (AddsSelections parts.old parts.new (selections_in (tree_of schema.now) owner (option_copied parent.entry) (set_of set.now))) }
+    ensures { OnOk result (AddsSelections parts.old parts.new (read_selections_in schema.now owner parent.entry set.now)) }
 {
     for selection in &set.selections {
         add_selection(schema, owner, parent, selection, parts)?;
@@ -41,7 +40,7 @@ fn add_selection<'d>(
     selection: &'d Selection,
     parts: &mut Vec<SelectionPart<'d>>,
 ) -> Result<(), AllocError>
-    ensures { OnOk result (AddsSelections parts.old parts.new (selections_from (tree_of schema.now) owner (option_copied parent.entry) (selection_of selection.now))) }
+    ensures { OnOk result (AddsSelections parts.old parts.new (read_selections_from schema.now owner parent.entry selection.now)) }
 {
     match selection {
         Selection::Field(field) => {

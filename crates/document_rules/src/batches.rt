@@ -91,7 +91,8 @@ fn add_uses_in_fragments(
     numbers: &[usize],
     sets: &mut Sets,
 ) -> Result<(), AllocError>
-    ensures { OnOk result (Adds (λ n m. any_below (is_used_in numbers.now n (rows_in rows.now) reached.now m) (length reached.now)) sets.old.items sets.new.items) }
+    ensures { OnOk result (Adds (λ n m. any_below (is_used_in numbers.now n (rows_in rows.now) reached.now m) (length reached.now))
+        sets.old.items sets.new.items) }
 {
     for (fragment, reached_by) in reached.iter().enumerate() {
         add_uses(row_of(rows, fragment), *reached_by, numbers, sets)?;
@@ -106,7 +107,8 @@ fn add_uses_in_operations(
     numbers: &[usize],
     sets: &mut Sets,
 ) -> Result<(), AllocError>
-    ensures { OnOk result (Adds (λ n m. any_below (is_used_at numbers.now n (rows_in rows.now) batch.now.first m) batch.now.count) sets.old.items sets.new.items) }
+    ensures { OnOk result (Adds (λ n m. any_below (is_used_at numbers.now n (rows_in rows.now) batch.now.first m) batch.now.count)
+        sets.old.items sets.new.items) }
 {
     for number in 0..batch.count {
         let own = row_of(rows, batch.first + number);

@@ -28,7 +28,8 @@ pub fn completion()
 pub fn monotone_execution()
     ensures defined { (modes : List KeyMode) (p : Program) (M : Memory) → IsSome (exec p (read modes M)) ↔ (front modes p M ≡ []) }
     ensures same { (modes : List KeyMode) (p : Program) (M N : Memory) → Extends M N → front modes p M ≡ [] → exec p (read modes N) ≡ exec p (read modes M) }
-    ensures grows { (modes : _) (p : _) (M N : Memory) (load : _) → Extends M N → IsOneOf load (needs p (read modes M)) → IsOneOf load (needs p (read modes N)) }
+    ensures grows { (modes : _) (p : _) (M N : Memory) (load : _) → Extends M N
+        → IsOneOf load (needs p (read modes M)) → IsOneOf load (needs p (read modes N)) }
 {}
 
 /// A suspended program fits a reader if it has done only what the reader answers; a fresh program fits every reader. A

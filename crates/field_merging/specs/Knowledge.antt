@@ -1,21 +1,24 @@
 -- What is known of a document before its fields are compared, and once they are.
-use Rattle.std.specs.Prelude.{◌≡◌, ◌<◌, ℕ, Bool, true, List, length, filter}
-use Rattle.gq_parser.specs.Tree.{Document, document_of}
+use Rattle.std.specs.Prelude.{◌≡◌, ◌<◌, ℕ, Bool, true, List, length, filter, Option}
+use Rattle.gq_parser.specs.Tree.{Operation, Fragment, Document, document_of}
 use Rattle.merge_table.specs.declared.field.Field as table
 use Rattle.merge_table.specs.Merging.{Fields}
 use Rattle.merge_table.specs.Numbered.{is_in}
+use Rattle.selection_members.specs.declared.known.Walk.{Walk}
 use Rattle.selection_members.specs.declared.visiting.ClashingSet.{ClashingSet}
 use Rattle.selection_members.specs.Fragments.{place_in}
-use Rattle.selection_members.specs.Members.{SetOf, members_of_fragment, sets_of}
+use Rattle.selection_members.specs.Knowledge.{AddsClashing}
+use Rattle.selection_members.specs.Members.{SetOf, members_of_fragment, operation_sets, fragment_sets, sets_of}
 use Rattle.selection_members.specs.Ranked.{IsOrder}
 use Rattle.selection_members.specs.Walks.{clash, is_clashing, clashing_of}
+use Rattle.document_parts.specs.Broken.{BrokenOf}
 use Rattle.document_parts.specs.Parts.{PartsOf, parts_in}
 use Rattle.field_merging.specs.declared.known.Compared.{Compared}
 use Rattle.field_merging.specs.declared.known.Grounds.{Grounds}
 use Rattle.field_merging.specs.Members.{fields_of}
 use Rattle.field_merging.specs.Numbered.{AreNumbered}
 use Rattle.field_merging.specs.Rule.{key_of}
-use Rattle.field_merging.specs.Reports.{AreCompared}
+use Rattle.field_merging.specs.Reports.{AreCompared, report_of_set}
 
 -- ---- before
 
@@ -33,6 +36,16 @@ IsFragmentOrder order g = IsOrder order (place_in (document_in g).fragments) (do
 abbrev pub AreNumberedIn : Grounds → List table.Field → Type 0
 AreNumberedIn g fields = AreNumbered (parts_known g) g.numbers.now (members_of_fragment (document_in g)) g.order.now fields
 
+-- ---- while sets are gathered
+
+-- of the sets of these operations those are added in which two fields clash; the first field has the number 0
+abbrev pub AddsOfOperations : Walk → List Operation → List ClashingSet → List ClashingSet → Type 0
+AddsOfOperations w operations old new = AddsClashing w (λ spread. operation_sets spread 0 operations) old new
+
+-- the same of fragments; the first field has the number n
+abbrev pub AddsOfFragments : Walk → ℕ → List Fragment → List ClashingSet → List ClashingSet → Type 0
+AddsOfFragments w n fragments old new = AddsClashing w (λ spread. fragment_sets spread n fragments) old new
+
 -- ---- once they are compared
 
 abbrev pub IsCompared : Compared → Type 0
@@ -49,6 +62,10 @@ key_in c = key_of (parts_known c.grounds)
 -- two fields clash, by their numbers in the document
 abbrev pub clash_in : Compared → ℕ → ℕ → Bool
 clash_in c = clash c.rows.now c.grounds.numbers.now
+
+-- what is reported of a set: itself, with the first response key of a pair that clashes
+abbrev pub report_in : Compared → SetOf → Option BrokenOf
+report_in c s = report_of_set (fields_in c).one_key (clash_in c) (key_in c) s
 
 -- what a set of the document says
 abbrev pub set_in : Compared → ClashingSet → SetOf

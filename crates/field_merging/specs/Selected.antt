@@ -1,10 +1,10 @@
 -- The fields that selection sets have, as they are written and without any number, in the order of `selection_members`.
-use Rattle.std.specs.Prelude.{ℕ, zero, suc, ◌+◌, List, [], ◌∷◌, ◌++◌, map, length, Option, Some, slice_get, if◌then◌else◌}
+use Rattle.std.specs.Prelude.{◌≡◌, ℕ, zero, suc, ◌+◌, List, [], ◌∷◌, ◌++◌, map, length, Option, Some, slice_get, if◌then◌else◌}
 use Rattle.gq_lexer.specs.declared.place.Place.{Place}
 use Rattle.gq_parser.specs.Tree.{Field, Spread, Inline, Below, nothing_below, below, SelectionSet, set_at, Selection, Selections, no_selection, and_selection, Operation, Fragment, Document}
 use Rattle.selection_members.specs.Fragments.{is_named}
 use Rattle.selection_members.specs.Members.{SetOf, members_below, members_of_fragment}
-use Rattle.selection_members.specs.Written.{own_below}
+use Rattle.selection_members.specs.Written.{written_fields, own_below}
 
 -- `spread` gives those of the fragment of a name
 abbrev mutual
@@ -79,6 +79,14 @@ abbrev pub looked_up : List Selection → SetOf → SelectedBy
 looked_up all s = record { place = s.place; fields = map (slice_get all) s.members }
 
 -- ---- the own set of a field
+
+-- the field has this number among the fields as they are written
+abbrev pub HasNumber : Document → ℕ → Selection → Type 0
+HasNumber d a f = slice_get (written_fields d) a ≡ Some f
+
+-- what these numbers name among the fields as they are written
+abbrev pub named_fields : Document → List ℕ → List (Option Selection)
+named_fields d numbers = map (slice_get (written_fields d)) numbers
 
 -- its members, where the field has the number a
 abbrev pub own_members : Document → ℕ → Selection → List ℕ

@@ -2,10 +2,9 @@
 
 ghost use Rattle.std.specs.Prelude.{◌≡◌, ◌≤◌, ◌+◌, length, map, IfOk, OnOk};
 ghost use Rattle.gq_parser.specs.Tree.{operation_of, fragment_of};
-ghost use Rattle.selection_members.specs.Knowledge.{AddsClashing};
-ghost use Rattle.selection_members.specs.Members.{count_operations, count_fragments, operation_sets, fragment_sets};
+ghost use Rattle.selection_members.specs.Members.{count_operations, count_fragments};
 ghost use Rattle.selection_members.specs.Walks.{AreInside};
-ghost use Rattle.field_merging.specs.Knowledge.{IsCompared, set_in, clashing_in};
+ghost use Rattle.field_merging.specs.Knowledge.{AddsOfOperations, AddsOfFragments, IsCompared, set_in, clashing_in};
 
 use crate::known::Compared;
 use gq_parser::{Fragment, Operation};
@@ -20,7 +19,7 @@ fn add_operations<'d>(
     clashing: &mut Vec<ClashingSet<'d>>,
 ) -> Result<usize, AllocError>
     requires inside { count_operations (map operation_of operations.now) ≤ length walk.now.numbers.now }
-    ensures sets { OnOk result (AddsClashing walk.now (λ spread. operation_sets spread 0 (map operation_of operations.now)) clashing.old.items clashing.new.items) }
+    ensures sets { OnOk result (AddsOfOperations walk.now (map operation_of operations.now) clashing.old.items clashing.new.items) }
     ensures inside { AreInside (length walk.now.numbers.now) clashing.old.items → OnOk result (AreInside (length walk.now.numbers.now) clashing.new.items) }
     ensures next { IfOk result (λ next. next ≡ count_operations (map operation_of operations.now)) }
 {
@@ -40,7 +39,7 @@ fn add_fragments<'d>(
 ) -> Result<(), AllocError>
     requires inside { first + count_fragments (map fragment_of fragments.now) ≤ length walk.now.numbers.now }
     ensures inside { AreInside (length walk.now.numbers.now) clashing.old.items → OnOk result (AreInside (length walk.now.numbers.now) clashing.new.items) }
-    ensures sets { OnOk result (AddsClashing walk.now (λ spread. fragment_sets spread first (map fragment_of fragments.now)) clashing.old.items clashing.new.items) }
+    ensures sets { OnOk result (AddsOfFragments walk.now first (map fragment_of fragments.now) clashing.old.items clashing.new.items) }
 {
     let mut next = first;
     for fragment in fragments {

@@ -5,7 +5,7 @@ ghost use Rattle.gq_parser.specs.Tree.{document_of};
 ghost use Rattle.merge_table.specs.Numbered.{AreInOrder};
 ghost use Rattle.merge_table.specs.Table.{IsBelow};
 ghost use Rattle.selection_members.specs.Fragments.{AreTargets};
-ghost use Rattle.selection_members.specs.Members.{count_operations, members_of_fragment, starts_from};
+ghost use Rattle.selection_members.specs.Members.{members_of_fragment, fragment_starts};
 ghost use Rattle.selection_members.specs.Placed.{IsNumbering};
 ghost use Rattle.selection_members.specs.Walks.{IsFixed};
 ghost use Rattle.document_parts.specs.Parts.{parts_in};
@@ -27,7 +27,7 @@ pub fn grounds_of<'a, 'd>(
 ) -> Grounds<'a, 'd>
     requires few { length (parts_in parts.now).fields ≤ 1024 }
     requires named { AreTargets (document_of parts.now.document.now).fragments targets.now }
-    requires started { starts.now ≡ starts_from (count_operations (document_of parts.now.document.now).operations) (document_of parts.now.document.now).fragments }
+    requires started { starts.now ≡ fragment_starts (document_of parts.now.document.now) }
     requires fixed { IsFixed (members_of_fragment (document_of parts.now.document.now)) (document_of parts.now.document.now) }
     requires numbering { IsNumbering (document_of parts.now.document.now) numbering.now.order.items numbering.now.numbers.items }
     ensures { result.parts.now ≡ parts.now }

@@ -1,10 +1,10 @@
 //! What is known of a document before its fields are compared, and once they are.
 
-ghost use Rattle.std.specs.Prelude.{◌≡◌, ◌≤◌, ◌+◌, length};
+ghost use Rattle.std.specs.Prelude.{◌≡◌, ◌≤◌, length};
 ghost use Rattle.gq_parser.specs.Tree.{document_of};
 ghost use Rattle.merge_table.specs.Table.{IsBelow};
 ghost use Rattle.selection_members.specs.Fragments.{AreTargets};
-ghost use Rattle.selection_members.specs.Members.{count_operations, count_fragments, members_of_fragment, starts_from};
+ghost use Rattle.selection_members.specs.Members.{members_of_fragment, fragment_starts, count_fields};
 ghost use Rattle.selection_members.specs.Placed.{ArePlaced};
 ghost use Rattle.selection_members.specs.Walks.{IsFixed};
 ghost use Rattle.document_parts.specs.Parts.{parts_in};
@@ -28,8 +28,8 @@ pub struct Grounds<'a, 'd> {
     ghost inverse: { IsInverse order.now numbers.now (length order.now) },
     ghost placed: { ArePlaced (document_of parts.now.document.now) order.now numbers.now },
     ghost named: { AreTargets (document_of parts.now.document.now).fragments targets.now },
-    ghost started: { starts.now ≡ starts_from (count_operations (document_of parts.now.document.now).operations) (document_of parts.now.document.now).fragments },
-    ghost counted: { count_operations (document_of parts.now.document.now).operations + count_fragments (document_of parts.now.document.now).fragments ≡ length (parts_in parts.now).fields },
+    ghost started: { starts.now ≡ fragment_starts (document_of parts.now.document.now) },
+    ghost counted: { count_fields (document_of parts.now.document.now) ≡ length (parts_in parts.now).fields },
     ghost inside: { AreInside (parts_in parts.now).fields },
     ghost fixed: { IsFixed (members_of_fragment (document_of parts.now.document.now)) (document_of parts.now.document.now) },
 }

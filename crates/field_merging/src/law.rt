@@ -1,6 +1,6 @@
 //! What holds of the definition.
 
-ghost use Rattle.std.specs.Prelude.{◌≡◌, ℕ, List, Option, Some, length, map, slice_get};
+ghost use Rattle.std.specs.Prelude.{◌≡◌, ℕ, List, Option, Some, length, map};
 ghost use Rattle.gq_parser.specs.Tree.{Document, Selection};
 ghost use Rattle.schema_syntax.specs.Tree.{Definition};
 ghost use Rattle.selection_members.specs.Members.{members_entered, members_of_fragment, sets_of};
@@ -12,7 +12,7 @@ ghost use Rattle.spread_graph.specs.Levels.{levels_expanded};
 ghost use Rattle.field_merging.specs.Acyclic.{ForAcyclic};
 ghost use Rattle.field_merging.specs.Numbered.{as_written};
 ghost use Rattle.field_merging.specs.Rule.{IsMerging};
-ghost use Rattle.field_merging.specs.Selected.{own_members, own_selected, selecting_sets, looked_up};
+ghost use Rattle.field_merging.specs.Selected.{HasNumber, named_fields, own_members, own_selected, selecting_sets, looked_up};
 
 /// Of the selection sets of a document that can't be merged one is reported, with its first response key that has a failing pair.
 pub fn one_set_is_reported()
@@ -29,8 +29,8 @@ pub fn fields_are_listed_as_written()
 /// a document, and those of the own set of each field.
 pub fn numbers_name_fields()
     ensures sets { (d : Document) → map (looked_up (written_fields d)) (sets_of d) ≡ selecting_sets d }
-    ensures own { (d : Document) (a : ℕ) (f : Selection) → slice_get (written_fields d) a ≡ Some f
-        → map (slice_get (written_fields d)) (own_members d a f) ≡ map Some (own_selected d f) }
+    ensures own { (d : Document) (a : ℕ) (f : Selection) → HasNumber d a f
+        → named_fields d (own_members d a f) ≡ map Some (own_selected d f) }
 {}
 
 /// Where no fragment reaches itself, a fragment has the same members however many fragments may be entered, one inside another: as

@@ -11,9 +11,9 @@ ghost use Rattle.document_parts.specs.Listing.{parts_of};
 ghost use Rattle.document_parts.specs.Parts.{parts_in};
 ghost use Rattle.spread_graph.specs.Graphs.{graph_of};
 ghost use Rattle.spread_graph.specs.Rules.{fragment_cycles};
-ghost use Rattle.field_merging.specs.Knowledge.{document_in, IsFragmentOrder, IsCompared, fields_in, clash_in, key_in, set_in, HasFieldsOf};
+ghost use Rattle.field_merging.specs.Knowledge.{document_in, IsFragmentOrder, IsCompared, fields_in, clash_in, set_in, HasFieldsOf, report_in};
 ghost use Rattle.field_merging.specs.Rule.{IsMerging};
-ghost use Rattle.field_merging.specs.Reports.{report_of_set, earlier_set, earliest_set};
+ghost use Rattle.field_merging.specs.Reports.{earlier_set, earliest_set};
 
 use crate::agreeing::agree_by_key;
 use crate::attributes::response_key;
@@ -61,7 +61,7 @@ fn report<'d>(compared: &Compared<'_, 'd>, set: ClashingSet<'d>) -> Option<Broke
     requires compared { IsCompared compared.now }
     requires under { HasFieldsOf compared.now (set_in compared.now set) }
     requires inside { IsInside (length compared.now.grounds.numbers.now) set }
-    ensures { option_map broken_of result ≡ report_of_set (fields_in compared.now).one_key (clash_in compared.now) (key_in compared.now) (set_in compared.now set.entry) }
+    ensures { option_map broken_of result ≡ report_in compared.now (set_in compared.now set.entry) }
 {
     let number = first_clashing(compared, set)?;
     let field = &compared.grounds.parts.fields[number];

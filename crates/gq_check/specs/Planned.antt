@@ -10,7 +10,7 @@ use Rattle.schema_syntax.specs.declared.tree.Definition as rust-definition
 use Rattle.schema_syntax.specs.Tree.{Definition}
 use Rattle.gq_schema.specs.Types.{tree_of}
 use Rattle.gq_check.specs.Plans.{PlanParts, PlanOf, plan_of, operations_of}
-use Rattle.gq_check.specs.Prepared.{PreparedOf, FaultOf, asked_name, chosen_operation, prepared}
+use Rattle.gq_check.specs.Prepared.{PreparedOf, FaultOf, asked_name, chosen_operation, prepared_operation, prepared}
 use Rattle.gq_check.specs.Verdict.{IsValid}
 
 -- Some document is valid over the plan's definitions; the plan has its fragments, and one of its operations, with the values of
@@ -38,6 +38,10 @@ IsChosenAt os name place = (d : rust-operation.Operation) → chosen_operation (
 -- what preparing gives over these definitions, of an operation among these that may be asked for by its name, with these values
 abbrev pub preparation : List rust-definition.Definition → List rust-operation.Operation → Option (Bor (List ℕ)) → Value → Result PreparedOf FaultOf
 preparation defs os name given = prepared (tree_of defs) (operations_of os) (asked_name name) (view given)
+
+-- the same of an operation that was chosen
+abbrev pub preparation_of : List rust-definition.Definition → rust-operation.Operation → Value → Result PreparedOf FaultOf
+preparation_of defs operation given = prepared_operation (tree_of defs) (view given) (Ok (operation_of operation))
 
 -- the operation of a plan, and its variables that have a value
 abbrev pub prepared_in : PlanParts → PreparedOf

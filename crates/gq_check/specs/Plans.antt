@@ -58,6 +58,10 @@ operations_of os = map operation_of os
 abbrev pub fragments_of : List rust-fragment.Fragment → List Fragment
 fragments_of fs = map fragment_of fs
 
+-- a document of these operations and fragments
+abbrev pub document_with : List rust-operation.Operation → List rust-fragment.Fragment → Document
+document_with os fs = record { operations = map operation_of os; fragments = fragments_of fs }
+
 abbrev pub kept_document : KeptParts → Document
 kept_document k = record { operations = map operation_of k.operations; fragments = fragments_of k.fragments }
 

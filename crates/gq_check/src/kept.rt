@@ -35,12 +35,12 @@ impl<'a> Model for KeptDocument<'a> {
     ghost coded = { Prim.hlevel (codes, type_ref.the_row.coded, literal.the_row.coded, argument.the_row.coded, set.the_row.coded) };
 
     ghost use Rattle.gq_schema.specs.Types.{tree_of};
-    ghost use Rattle.gq_check.specs.Plans.{kept_document};
+    ghost use Rattle.gq_check.specs.Plans.{document_with};
     ghost use Rattle.gq_check.specs.Verdict.{IsValid};
 
     ghost view = { λ k. record { definitions = k.schema.now; operations = k.operations.items; fragments = k.fragments } };
 
-    ghost invariant = { λ k. IsValid (tree_of k.schema.now) (kept_document (record { definitions = k.schema.now; operations = k.operations.items; fragments = k.fragments })) };
+    ghost invariant = { λ k. IsValid (tree_of k.schema.now) (document_with k.operations.items k.fragments) };
 }
 
 impl<'a> KeptDocument<'a> {

@@ -1,13 +1,12 @@
 //! Preparing an operation (section 6.1).
 
 ghost use Rattle.std.specs.Prelude.{◌≡◌, Ok, IfOk, IfErr};
-ghost use Rattle.serde_json.specs.View.{view};
 ghost use Rattle.gq_parser.specs.Tree.{operation_of};
 ghost use Rattle.gq_schema.specs.Types.{tree_of};
 ghost use Rattle.gq_check.specs.Held.{held_of};
 ghost use Rattle.gq_check.specs.Plans.{fragments_of};
-ghost use Rattle.gq_check.specs.Planned.{IsChosen, preparation, prepared_in};
-ghost use Rattle.gq_check.specs.Prepared.{prepared_operation, prepare_fault, IsPrepareFault};
+ghost use Rattle.gq_check.specs.Planned.{IsChosen, preparation, preparation_of, prepared_in};
+ghost use Rattle.gq_check.specs.Prepared.{prepare_fault, IsPrepareFault};
 
 use crate::checked::Checked;
 use crate::fault::PrepareFault;
@@ -48,9 +47,8 @@ fn with_values<'a>(
     ensures schema { IfOk result (λ plan. plan.definitions ≡ schema.now) }
     ensures bindings { IfOk result (λ plan. plan.bindings ≡ bindings.now) }
     ensures fragments { IfOk result (λ plan. plan.fragments ≡ held_of fragments.entry) }
-    ensures ok { IfOk result (λ plan. prepared_operation (tree_of schema.now) (view variables.now) (Ok (operation_of (held_of operation.entry)))
-        ≡ Ok (prepared_in plan)) }
-    ensures err { IfErr result (IsPrepareFault (prepared_operation (tree_of schema.now) (view variables.now) (Ok (operation_of (held_of operation.entry))))) }
+    ensures ok { IfOk result (λ plan. preparation_of schema.now (held_of operation.entry) variables.now ≡ Ok (prepared_in plan)) }
+    ensures err { IfErr result (IsPrepareFault (preparation_of schema.now (held_of operation.entry) variables.now)) }
 {
     let definitions = &operation.get().variables;
     let variables = coerce_variables(alloc, schema, definitions, variables)?;
@@ -80,7 +78,8 @@ pub fn prepare<'a>(
     ensures schema { IfOk result (λ plan. plan.definitions ≡ schema.now) }
     ensures bindings { IfOk result (λ plan. plan.bindings ≡ bindings.now) }
     ensures fragments { IfOk result (λ plan. plan.fragments ≡ checked.entry.document.fragments.items) }
-    ensures ok { IfOk result (λ plan. preparation schema.now checked.entry.document.operations.items operation_name.entry variables.now ≡ Ok (prepared_in plan)) }
+    ensures ok { IfOk result (λ plan. preparation schema.now checked.entry.document.operations.items
+        operation_name.entry variables.now ≡ Ok (prepared_in plan)) }
     ensures err { IfErr result (IsPrepareFault (preparation schema.now checked.entry.document.operations.items operation_name.entry variables.now)) }
 {
     let Document {

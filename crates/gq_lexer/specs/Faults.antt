@@ -1,5 +1,5 @@
 -- The faults of a text, as `lex` answers them.
-use Rattle.std.specs.Prelude.{◌≡◌, ℕ, List, Option, Some, None}
+use Rattle.std.specs.Prelude.{◌≡◌, ◌⊎◌, ℕ, List, Option, Some, None, Result, MatchResult}
 use Rattle.gq_lexer.specs.declared.place.Place.{Place}
 use Rattle.gq_lexer.specs.declared.token.Token.{Token}
 use Rattle.gq_lexer.specs.declared.scan.Stop.{Stop}
@@ -32,6 +32,14 @@ place_of_fault (fault.UnterminatedString place) = Some place
 place_of_fault (fault.BadEscape place) = Some place
 place_of_fault (fault.BadNumber place) = Some place
 place_of_fault fault.NoMemory = None
+
+-- A value that this holds of, or memory ran out.
+abbrev pub OrNoMemory : {A : Type 0} → (A → Type 0) → Result A LexFault → Type 0
+OrNoMemory holds result = MatchResult result holds (λ f. f ≡ fault.NoMemory)
+
+-- No value: this fault, or memory ran out.
+abbrev pub IsRefusedWith : {A : Type 0} → LexFault → Result A LexFault → Type 0
+IsRefusedWith f result = MatchResult result (λ _. ⊥) (λ g. (g ≡ f) ⊎ (g ≡ fault.NoMemory))
 
 -- These are the tokens of the text up to its first fault, which is this one.
 pub record AreTokensBefore (text : List ℕ) (tokens : List Token) (f : LexFault) : Type 0 where

@@ -1,8 +1,10 @@
 -- What a method of the parser does with the tokens that are left.
-use Rattle.std.specs.Prelude.{◌≡◌, ◌≢◌, ◌≤◌, ℕ, Bool, true, false, List, [], ◌∷◌, ◌++◌, length, Result, Ok, Err, Option, Some, None, string_bytes}
+use Rattle.std.specs.Prelude.{◌≡◌, ◌≢◌, ◌≤◌, ℕ, Bool, true, false, List, [], ◌∷◌, ◌++◌, length, Result, Ok, Err, Option, Some, None, MatchOption, string_bytes}
+use Rattle.std.specs.Borrow.{Bor}
 use Rattle.std.specs.declared.string.String.{String}
 use Rattle.std.specs.declared.alloc.Global.{Global}
 use Rattle.gq_lexer.specs.declared.place.Place.{Place}
+use Rattle.gq_lexer.specs.declared.place.Located.{Located}
 use Rattle.gq_lexer.specs.declared.token.Punct.TheVariants.{Dollar, Spread, BracketLeft, BraceLeft}
 use Rattle.gq_parser.specs.declared.fault.Fault as rust
 use Rattle.gq_parser.specs.declared.fault.Fault.TheVariants.{Unexpected, TooDeep, NoMemory}
@@ -46,6 +48,10 @@ abbrev pub Reads : {T : Type 0} → (T → List Token → List Token → Type 0)
 Reads IsTree room symbols room_after symbols_after before after (Ok tree) = IsTree tree before after × ((stack : List Symbol) → read room (symbols ++ stack) before ≡ read room_after (symbols_after ++ stack) after)
 Reads IsTree room symbols room_after symbols_after before after (Err fault) = (stack : List Symbol) → Fails fault (read room (symbols ++ stack) before)
 
+-- A tree was read that one symbol expects, and the room for brackets is what it was.
+abbrev pub ReadsOne : {T : Type 0} → (T → List Token → List Token → Type 0) → Symbol → (room : ℕ) → List Token → List Token → Result T rust.Fault → Type 0
+ReadsOne IsTree symbol room before after result = Reads IsTree room (one symbol) room [] before after result
+
 -- the word is not next
 abbrev pub IsNotNext : Word → List Token → Type 0
 IsNotNext w [] = Unit {0}
@@ -80,6 +86,10 @@ abbrev pub IsNoName : List Token → Type 0
 IsNoName [] = Unit {0}
 IsNoName (at p (Name k n) ∷ rest) = ⊥
 IsNoName (at p _ ∷ rest) = Unit {0}
+
+-- the name was taken, if one was next
+abbrev pub TakesName : List Token → List Token → Option (Located (Bor (List ℕ))) → Type 0
+TakesName old new result = MatchOption result ((new ≡ old) × IsNoName old) (λ n. old ≡ at n.place (Name (keyword_of n.value.now) n.value.now) ∷ new)
 
 -- the word begins no operation
 abbrev pub IsNoKind : Keyword → Type 0

@@ -1,14 +1,13 @@
 //! The tokens that are left, and the steps that take one of them.
 
-ghost use Rattle.std.specs.Prelude.{◌≡◌, ◌<◌, ◌≤◌, ◌∷◌, ◌++◌, [], suc, length, List, MatchOption, MatchResult, OnOk, OnSome, IfOk, IfErr, All, string_bytes, IsTrue, ◌↔◌};
+ghost use Rattle.std.specs.Prelude.{◌≡◌, ◌<◌, ◌≤◌, ◌∷◌, ◌++◌, [], suc, length, List, MatchResult, OnOk, All, string_bytes, IsTrue, ◌↔◌};
 ghost use Rattle.gq_lexer.specs.Tokens.{IsToken, bytes_of};
-ghost use Rattle.gq_parser.specs.Keywords.{keyword_of};
 ghost use Rattle.gq_parser.specs.Word.{Token, at, place_of_next};
 ghost use Rattle.gq_parser.specs.Word as words;
 ghost use Rattle.gq_parser.specs.Tree.{text_if};
 ghost use Rattle.gq_parser.specs.Grammar.{IsOptionalName};
 ghost use Rattle.gq_parser.specs.Machine.{AName, AFragmentName, AnOn, AColon, ABracket, MaybeName, FirstVariable, MoreVariables, a_variable_then, one};
-ghost use Rattle.gq_parser.specs.Parsing.{Reads, Takes, Eats, IsName, IsPunct, IsFragmentNameTaken, IsOnTaken, IsDollarTaken, IsNoName, IsMissing, says};
+ghost use Rattle.gq_parser.specs.Parsing.{Reads, ReadsOne, Takes, TakesName, Eats, IsName, IsPunct, IsFragmentNameTaken, IsOnTaken, IsDollarTaken, IsMissing, says};
 
 use crate::fault::Fault;
 use crate::keyword::{Keyword, keyword_of};
@@ -100,7 +99,7 @@ impl<'a> Parser<'a> {
 
     /// The name that is next, if one is.
     pub(crate) fn take_name(&mut self) -> Option<Located<&'a str>>
-        ensures { MatchOption result ((self.new ≡ self.old) × IsNoName self.old) (λ n. self.old ≡ at n.place (words.Name (keyword_of n.value.now) n.value.now) ∷ self.new) }
+        ensures { TakesName self.old self.new result }
     {
         match self.rest.split_first() {
             Some((token, rest)) if token.kind == Kind::Name => {
@@ -133,7 +132,7 @@ fn lexeme_of<'a>(alloc: Global, text: &'a str, token: &Token) -> Result<Lexeme<'
 
 impl<'a> Parser<'a> {
     pub(crate) fn name(&mut self) -> Result<Located<String>, Fault>
-        ensures reads { (room : _) → Reads (λ n. IsName n.place (string_bytes n.value)) room (one AName) room [] self.old self.new result }
+        ensures reads { (room : _) → ReadsOne (λ n. IsName n.place (string_bytes n.value)) AName room self.old self.new result }
         ensures shrinks { OnOk result (length self.new < length self.old) }
     {
         let Located { place, value } = self.next()?;
@@ -146,7 +145,7 @@ impl<'a> Parser<'a> {
 
     /// A name that is not `on`.
     pub(crate) fn fragment_name(&mut self) -> Result<String, Fault>
-        ensures reads { (room : _) → Reads (λ n. IsFragmentNameTaken (string_bytes n)) room (one AFragmentName) room [] self.old self.new result }
+        ensures reads { (room : _) → ReadsOne (λ n. IsFragmentNameTaken (string_bytes n)) AFragmentName room self.old self.new result }
         ensures shrinks { OnOk result (length self.new < length self.old) }
     {
         let Located { place, value } = self.next()?;
@@ -160,7 +159,7 @@ impl<'a> Parser<'a> {
 
     /// The word `on`.
     pub(crate) fn on(&mut self) -> Result<(), Fault>
-        ensures reads { (room : _) → Reads (λ _. IsOnTaken) room (one AnOn) room [] self.old self.new result }
+        ensures reads { (room : _) → ReadsOne (λ _. IsOnTaken) AnOn room self.old self.new result }
         ensures shrinks { OnOk result (length self.new < length self.old) }
     {
         let Located { place, value } = self.next()?;
@@ -171,7 +170,7 @@ impl<'a> Parser<'a> {
     }
 
     pub(crate) fn colon(&mut self) -> Result<(), Fault>
-        ensures reads { (room : _) → Reads (λ _. IsPunct (words.Punct Punct.Colon)) room (one AColon) room [] self.old self.new result }
+        ensures reads { (room : _) → ReadsOne (λ _. IsPunct (words.Punct Punct.Colon)) AColon room self.old self.new result }
         ensures shrinks { OnOk result (length self.new < length self.old) }
     {
         let Located { place, value } = self.next()?;
@@ -207,7 +206,7 @@ impl<'a> Parser<'a> {
 
     /// The name that is next, if one is.
     pub(crate) fn name_if(&mut self) -> Result<Option<String>, Fault>
-        ensures reads { (room : _) → Reads (λ n. IsOptionalName (text_if n)) room (one MaybeName) room [] self.old self.new result }
+        ensures reads { (room : _) → ReadsOne (λ n. IsOptionalName (text_if n)) MaybeName room self.old self.new result }
         ensures shrinks { OnOk result (length self.new ≤ length self.old) }
     {
         let Some(name) = self.take_name() else {

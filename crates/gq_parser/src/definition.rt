@@ -1,11 +1,10 @@
 //! Operations and fragments.
 
-ghost use Rattle.std.specs.Prelude.{◌≡◌, ◌<◌, ◌≤◌, [], suc, length, OnOk, MatchOption, string_bytes};
-ghost use Rattle.gq_parser.specs.Word.{Token};
+ghost use Rattle.std.specs.Prelude.{◌<◌, ◌≤◌, [], suc, length, OnOk, MatchOption};
 ghost use Rattle.gq_parser.specs.Tree.{default_of, variable_of, variables_of};
 ghost use Rattle.gq_parser.specs.Grammar.{IsDefault, IsVariable, AreOptionalVariables, IsKind};
 ghost use Rattle.gq_parser.specs.Machine.{FirstSelection, MaybeDefault, FirstVariable, MoreVariables, MaybeVariables, an_operation_then, a_fragment_then, ADefinition, one};
-ghost use Rattle.gq_parser.specs.Parsing.{Reads, IsDefinition, IsOperationAfterKind, IsOperationAfterBrace, IsFragmentAfterWord, IsNoKind};
+ghost use Rattle.gq_parser.specs.Parsing.{Reads, ReadsOne, IsDefinition, IsOperationAfterKind, IsOperationAfterBrace, IsFragmentAfterWord, IsNoKind};
 
 use crate::cursor::Parser;
 use crate::fault::Fault;
@@ -36,7 +35,7 @@ fn kind_of(keyword: Keyword) -> Option<OperationKind>
 impl Parser<'_> {
     /// The default of a variable, where an equals sign begins it.
     fn default_value(&mut self, room: u32) -> Result<Option<Literal>, Fault>
-        ensures reads { Reads (λ d. IsDefault (default_of d)) room (one MaybeDefault) room [] self.old self.new result }
+        ensures reads { ReadsOne (λ d. IsDefault (default_of d)) MaybeDefault room self.old self.new result }
         ensures shrinks { OnOk result (length self.new ≤ length self.old) }
     {
         if !self.eat(Punct::Equals) {
@@ -66,7 +65,7 @@ impl Parser<'_> {
 
     /// The variables of an operation, where a parenthesis opens them.
     fn variables(&mut self, room: u32) -> Result<Vec<VariableDefinition>, Fault>
-        ensures reads { Reads (λ vs. AreOptionalVariables (variables_of vs.items)) room (one MaybeVariables) room [] self.old self.new result }
+        ensures reads { ReadsOne (λ vs. AreOptionalVariables (variables_of vs.items)) MaybeVariables room self.old self.new result }
         ensures shrinks { OnOk result (length self.new ≤ length self.old) }
     {
         let mut variables = Vec::new(self.alloc);
@@ -143,7 +142,7 @@ impl Parser<'_> {
     }
 
     pub(crate) fn definition(&mut self, room: u32) -> Result<Definition, Fault>
-        ensures reads { Reads IsDefinition room (one ADefinition) room [] self.old self.new result }
+        ensures reads { ReadsOne IsDefinition ADefinition room self.old self.new result }
         ensures shrinks { OnOk result (length self.new < length self.old) }
     {
         if let Some(Located { place, value: word }) = self.take_name() {

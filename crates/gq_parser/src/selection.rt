@@ -1,11 +1,11 @@
 //! Selections and selection sets.
 
-ghost use Rattle.std.specs.Prelude.{◌≡◌, ◌<◌, ◌≤◌, [], suc, length, OnOk, string_bytes};
+ghost use Rattle.std.specs.Prelude.{◌<◌, ◌≤◌, [], suc, length, OnOk, string_bytes};
 ghost use Rattle.gq_parser.specs.declared.keyword.Keyword as keywords;
-ghost use Rattle.gq_parser.specs.Tree.{condition_of, selection_of, set_of, below_of, set_at, map_selections};
+ghost use Rattle.gq_parser.specs.Tree.{selection_of, set_of, below_of};
 ghost use Rattle.gq_parser.specs.Grammar.{IsSelection, IsOptionalSet, IsSelectionSet};
 ghost use Rattle.gq_parser.specs.Machine.{AName, AfterName, AfterDots, a_field_then, an_inline_then, MaybeSet, ASet, FirstSelection, MoreSelections, one};
-ghost use Rattle.gq_parser.specs.Parsing.{Reads, IsName, AreNamesAfterFirst, IsFieldAfterName, IsSelectionAfterDots, IsInlineAfterCondition, IsSetAfterBrace};
+ghost use Rattle.gq_parser.specs.Parsing.{Reads, ReadsOne, IsName, AreNamesAfterFirst, IsFieldAfterName, IsSelectionAfterDots, IsInlineAfterCondition, IsSetAfterBrace};
 
 use crate::cursor::Parser;
 use crate::fault::Fault;
@@ -24,7 +24,7 @@ struct FieldName {
 impl Parser<'_> {
     /// What a field is called, whose first name was read.
     fn field_name(&mut self, first: String) -> Result<FieldName, Fault>
-        ensures reads { (room : _) (place : _) (k : keywords.Keyword) → Reads (AreNamesAfterFirst place k first) room (one AfterName) room [] self.old self.new result }
+        ensures reads { (room : _) (place : _) (k : keywords.Keyword) → ReadsOne (AreNamesAfterFirst place k first) AfterName room self.old self.new result }
         ensures shrinks { OnOk result (length self.new ≤ length self.old) }
     {
         if !self.eat(Punct::Colon) {
@@ -78,7 +78,7 @@ impl Parser<'_> {
     /// A spread or an inline fragment, whose dots were read.
     #[cycle(selection)]
     fn dots(&mut self, place: Place, room: u32) -> Result<Selection, Fault>
-        ensures reads { Reads (IsSelectionAfterDots place) room (one AfterDots) room [] self.old self.new result }
+        ensures reads { ReadsOne (IsSelectionAfterDots place) AfterDots room self.old self.new result }
         ensures shrinks { OnOk result (length self.new ≤ length self.old) }
     {
         let Some(name) = self.take_name() else {
@@ -99,7 +99,7 @@ impl Parser<'_> {
 
     /// The type that a fragment is for.
     pub(crate) fn condition(&mut self) -> Result<TypeCondition, Fault>
-        ensures reads { (room : _) → Reads (λ c. IsName c.place (string_bytes c.name)) room (one AName) room [] self.old self.new result }
+        ensures reads { (room : _) → ReadsOne (λ c. IsName c.place (string_bytes c.name)) AName room self.old self.new result }
         ensures shrinks { OnOk result (length self.new < length self.old) }
     {
         let Located { place, value: name } = self.name()?;
@@ -130,7 +130,7 @@ impl Parser<'_> {
     /// A selection set, where a brace opens it.
     #[cycle(selection)]
     fn maybe_set(&mut self, room: u32) -> Result<Option<SelectionSet>, Fault>
-        ensures reads { Reads (λ s. IsOptionalSet (below_of s)) room (one MaybeSet) room [] self.old self.new result }
+        ensures reads { ReadsOne (λ s. IsOptionalSet (below_of s)) MaybeSet room self.old self.new result }
         ensures shrinks { OnOk result (length self.new ≤ length self.old) }
     {
         let Some(place) = self.take(Punct::BraceLeft) else {
@@ -145,7 +145,7 @@ impl Parser<'_> {
     /// A selection set.
     #[cycle(selection)]
     pub(crate) fn set(&mut self, room: u32) -> Result<SelectionSet, Fault>
-        ensures reads { Reads (λ s. IsSelectionSet (set_of s)) room (one ASet) room [] self.old self.new result }
+        ensures reads { ReadsOne (λ s. IsSelectionSet (set_of s)) ASet room self.old self.new result }
         ensures shrinks { OnOk result (length self.new < length self.old) }
     {
         let Some(place) = self.take(Punct::BraceLeft) else {

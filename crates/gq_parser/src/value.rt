@@ -1,12 +1,12 @@
 //! Values, types, arguments and directives.
 
-ghost use Rattle.std.specs.Prelude.{◌≡◌, ◌<◌, ◌≤◌, ◌∷◌, [], suc, length, List, OnOk, IfOk, IfErr, string_bytes};
+ghost use Rattle.std.specs.Prelude.{◌≡◌, ◌<◌, ◌≤◌, ◌∷◌, [], suc, length, List, OnOk, IfOk, IfErr};
 ghost use Rattle.gq_parser.specs.declared.keyword.Keyword as keywords;
 ghost use Rattle.gq_parser.specs.Keywords.{keyword_of};
 ghost use Rattle.gq_parser.specs.Tree.{literal_of, map_literals, map_members, argument_of, arguments_of, directives_of, type_of};
 ghost use Rattle.gq_parser.specs.Grammar.{IsValue, AreValues, AreMembers, IsType, IsArgument, AreOptionalArguments, AreDirectives};
 ghost use Rattle.gq_parser.specs.Machine.{AValue, MoreValues, MoreMembers, AType, ABracket, MaybeBang, an_argument, MaybeArguments, MaybeDirectives, one};
-ghost use Rattle.gq_parser.specs.Parsing.{Reads, IsNamedValue, IsTypeAfterName, IsTypeAfterBracket};
+ghost use Rattle.gq_parser.specs.Parsing.{Reads, ReadsOne, IsNamedValue, IsTypeAfterName, IsTypeAfterBracket};
 
 use crate::cursor::Parser;
 use crate::fault::Fault;
@@ -51,7 +51,7 @@ fn named_value(alloc: Global, place: Place, name: &str) -> Result<Literal, Fault
 impl Parser<'_> {
     #[cycle(value)]
     pub(crate) fn value(&mut self, constness: Constness, room: u32) -> Result<Literal, Fault>
-        ensures reads { Reads (λ v. IsValue constness (literal_of v)) room (one (AValue constness)) room [] self.old self.new result }
+        ensures reads { ReadsOne (λ v. IsValue constness (literal_of v)) (AValue constness) room self.old self.new result }
         ensures shrinks { OnOk result (length self.new < length self.old) }
     {
         let Located { place, value } = self.next()?;
@@ -153,7 +153,7 @@ impl Parser<'_> {
         constness: Constness,
         room: u32,
     ) -> Result<Vec<Argument>, Fault>
-        ensures reads { Reads (λ args. AreOptionalArguments constness (arguments_of args.items)) room (one (MaybeArguments constness)) room [] self.old self.new result }
+        ensures reads { ReadsOne (λ args. AreOptionalArguments constness (arguments_of args.items)) (MaybeArguments constness) room self.old self.new result }
         ensures shrinks { OnOk result (length self.new ≤ length self.old) }
     {
         let mut arguments = Vec::new(self.alloc);
@@ -176,7 +176,7 @@ impl Parser<'_> {
         constness: Constness,
         room: u32,
     ) -> Result<Vec<Directive>, Fault>
-        ensures reads { Reads (λ ds. AreDirectives constness (directives_of ds.items)) room (one (MaybeDirectives constness)) room [] self.old self.new result }
+        ensures reads { ReadsOne (λ ds. AreDirectives constness (directives_of ds.items)) (MaybeDirectives constness) room self.old self.new result }
         ensures shrinks { OnOk result (length self.new ≤ length self.old) }
     {
         let mut directives = Vec::new(self.alloc);
@@ -195,7 +195,7 @@ impl Parser<'_> {
     /// A type.
     #[cycle(type_ref)]
     pub(crate) fn type_ref(&mut self, room: u32) -> Result<TypeRef, Fault>
-        ensures reads { Reads (λ t. IsType (type_of t)) room (one AType) room [] self.old self.new result }
+        ensures reads { ReadsOne (λ t. IsType (type_of t)) AType room self.old self.new result }
         ensures shrinks { OnOk result (length self.new < length self.old) }
     {
         if let Some(Located { place, value: name }) = self.take_name() {
@@ -212,7 +212,7 @@ impl Parser<'_> {
 
     /// A type whose name was read.
     fn named_type(&mut self, place: Place, name: &str) -> Result<TypeRef, Fault>
-        ensures reads { (room : _) (k : keywords.Keyword) → Reads (IsTypeAfterName place k name.now) room (one MaybeBang) room [] self.old self.new result }
+        ensures reads { (room : _) (k : keywords.Keyword) → ReadsOne (IsTypeAfterName place k name.now) MaybeBang room self.old self.new result }
         ensures shrinks { OnOk result (length self.new ≤ length self.old) }
     {
         let name = String::from_str(self.alloc, name)?;

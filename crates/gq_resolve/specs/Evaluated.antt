@@ -4,10 +4,10 @@ use Rattle.std.specs.declared.alloc.Global.{Global}
 use Rattle.load_memory.specs.Pairs.{MemoryOf, look}
 use Rattle.load_queue.specs.Wanted.{WantedOf}
 use Rattle.execution.specs.Loads.{Load, Reader, read, Extends}
-use Rattle.execution.specs.Program.{Program}
+use Rattle.execution.specs.Program.{Program, needs}
 use Rattle.execution.specs.Completion.{AnsweredOf}
 use Rattle.execution.specs.Executed.{exec}
-use Rattle.execution.specs.Front.{front, wanting, modes_wanted}
+use Rattle.execution.specs.Front.{front, missing, wanting, modes_wanted}
 use Rattle.futures.specs.declared.task.Poll.{Poll}
 use Rattle.futures.specs.declared.task.Poll.TheVariants.{Ready, Pending}
 use Rattle.gq_check.specs.Plans.{PlanOf}
@@ -25,6 +25,10 @@ lookup m load = if nat_lt load.loader (length m.modes) then reader m load else N
 -- the loads that are needed and that the memory lacks
 abbrev pub front_over : MemoryOf → Program → List Load
 front_over m p = front m.modes p (look m.pairs)
+
+-- all loads that the program needs and the memory lacks, equal cache keys too
+abbrev pub missing_over : MemoryOf → Program → List Load
+missing_over m p = missing (reader m) (needs p (reader m))
 
 -- Ready with the execution exactly where the front is empty, and the wants are as they were. Else the front was added.
 abbrev pub IsEvaluated : List WantedOf → List WantedOf → Program → MemoryOf → Poll Answered → Type 0

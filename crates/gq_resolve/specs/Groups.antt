@@ -131,6 +131,10 @@ pub record Grows (plan : PlanOf) (old new : List Group) : Type 0 where
   pub covers : (v : View) → Covers plan new v → Covers plan old v
   pub right : AreRight plan old → AreRight plan new
 
+-- the groups grow, where the shape is right below the group of this number, or that is none of the first so many
+abbrev pub GrowsByShape : ℕ → ℕ → Shape → List Group → List Group → Type 0
+GrowsByShape count group shape old new = (plan : PlanOf) → (group < count → IsShape plan old (children_at old group) shape) → Grows plan old new
+
 -- ---- what is made
 
 -- a group more, of this number

@@ -43,3 +43,7 @@ pub record View : Type 0 where
 -- the program of a position that waits
 abbrev pub waiting : View → OnwardOf → ℕ → KeyOf → Program
 waiting v onward loader key = read_key loader key (v.after onward)
+
+-- a position that waits for a load, and then goes on so
+abbrev pub a_wait : View → OnwardOf → ℕ → KeyOf → List Put
+a_wait v onward loader key = Waits (waiting v onward loader key) ∷ []

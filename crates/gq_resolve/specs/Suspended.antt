@@ -5,14 +5,14 @@ use Rattle.load_memory.specs.Keys.{key_of}
 use Rattle.load_memory.specs.Pairs.{MemoryOf}
 use Rattle.load_queue.specs.Wanted.{WantedOf}
 use Rattle.execution.specs.Loads.{Load, Reader, AnswersMore}
-use Rattle.execution.specs.Program.{tree, needs}
+use Rattle.execution.specs.Program.{tree}
 use Rattle.execution.specs.Completion.{is_open}
 use Rattle.execution.specs.Executed.{completed}
-use Rattle.execution.specs.Front.{missing, wanting}
+use Rattle.execution.specs.Front.{wanting}
 use Rattle.gq_check.specs.Plans.{PlanOf, plan_of}
 use Rattle.plan_program.specs.PlanPrograms.{root_prepared, plan_program}
 use Rattle.gq_resolve.specs.Answered.{answered_of, answered_json}
-use Rattle.gq_resolve.specs.Evaluated.{reader, front_over, lookup}
+use Rattle.gq_resolve.specs.Evaluated.{front_over, missing_over, lookup}
 use Rattle.gq_resolve.specs.Groups.{after_at, Makes, AreRight}
 use Rattle.gq_resolve.specs.Puts.{Put, View, puts}
 use Rattle.gq_resolve.specs.Written.{asks, thinned, all_asks, AreWithin, IsWriting}
@@ -81,6 +81,10 @@ pub record GoesOver {S : Type 0} (goes : View → List Put → S → S → Type 
   pub rooted : IsRooted plan w.rooted
   pub put : goes (view_of plan w.rooted.groups.items) (puts false (plan_program plan) (lookup m)) old w.out
 
+-- the same of a tour's plan and memory
+abbrev pub GoesOverTour : {S : Type 0} → (View → List Put → S → S → Type 0) → Tour → S → Walked S → Type 0
+GoesOverTour goes tour old w = GoesOver goes (plan_on tour) tour.memory.now old w
+
 -- What waits is what the plan still asks: now the loads that it lacks, and later what it then lacks. Where nothing waits and
 -- no error was met, the answer was written.
 pub record Advanced (plan : PlanOf) (m : MemoryOf) (w : Walked Output) : Type 0 where
@@ -95,7 +99,7 @@ IsAdvanced old new plan m None = (front_over m (plan_program plan) ≢ []) × (n
 
 -- the loads that the plan needs and the memory lacks
 abbrev pub lacking : PlanOf → MemoryOf → List Load
-lacking plan m = missing (reader m) (needs (plan_program plan) (reader m))
+lacking plan m = missing_over m (plan_program plan)
 
 -- the answer of a plan of which nothing is missing
 abbrev pub IsResponse : PlanOf → MemoryOf → Answered → Type 0

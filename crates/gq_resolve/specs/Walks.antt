@@ -43,6 +43,10 @@ WalksAsks goes below tour non_null levels row asks old new =
 abbrev pub WalksAt : {S : Type 0} (goes : View → List Put → S → S → Type 0) (below : ℕ → S → Type 0) → Tour → Loading → (View → Program) → Progress S → Progress S → Type 0
 WalksAt goes below tour to program old new = Walks goes below tour (to.onward.group < length old.groups.items) (is_non_null to.nullability) program old new
 
+-- what a position that loads goes on to, with the rows of its load
+abbrev pub after_load : Loading → View → List RowOf → Program
+after_load to v = v.after (onward_of to.onward)
+
 -- it puts a list, whose items go on so
 abbrev pub WalksList : {S : Type 0} (goes : View → List Put → S → S → Type 0) (below : ℕ → S → Type 0) → Tour → Onward → (View → Program) → Progress S → Progress S → Type 0
 WalksList goes below tour onward program old new = Walks goes below tour (onward.group < length old.groups.items) false program old new

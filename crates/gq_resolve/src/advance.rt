@@ -4,7 +4,7 @@ ghost use Rattle.std.specs.Prelude.{IfOk, OnErr};
 ghost use Rattle.load_memory.specs.Pairs.{MemoryOf};
 ghost use Rattle.gq_check.specs.Plans.{plan_of};
 ghost use Rattle.gq_resolve.specs.Evaluated.{AddsPart, CanEvaluate, GrowsTo};
-ghost use Rattle.gq_resolve.specs.Suspended.{plan_on, IsRooted, WaitsBelow, GoesOver, IsResponse, MayGoOn, Advanced, FitsStopped, FitsTour, IsAdvanced, lacking};
+ghost use Rattle.gq_resolve.specs.Suspended.{plan_on, IsRooted, WaitsBelow, GoesOverTour, IsResponse, MayGoOn, Advanced, FitsStopped, FitsTour, IsAdvanced, lacking};
 ghost use Rattle.gq_resolve.specs.Limited.{RespondsWithin};
 
 use crate::answered::Answered;
@@ -67,7 +67,7 @@ fn gone_over<'p, S: Sink + Drop>(
     out: S,
 ) -> Result<Walked<'p, S>, NoMemory>
     ensures { IsRooted (plan_on tour.now) rooted.entry → WaitsBelow S.below rooted.entry out
-        → IfOk result (GoesOver S.goes (plan_on tour.now) tour.now.memory.now out) }
+        → IfOk result (GoesOverTour S.goes tour.now out) }
 {
     let Rooted { members, groups } = rooted;
     let mut at = Progress {

@@ -124,7 +124,8 @@ pub fn cell_value(
     ty: &TypeRef,
     row: &Row,
 ) -> Result<LeafValue, AllocError>
-    ensures { IfOk result (λ leaf_value. leaf_value_seen leaf_value ≡ cell_value (tree_of schema.now) column.now (type_of ty.now) (cell_of row.now column.now)) }
+    ensures { IfOk result (λ leaf_value. leaf_value_seen leaf_value
+        ≡ cell_value (tree_of schema.now) column.now (type_of ty.now) (cell_of row.now column.now)) }
 {
     match row.get(column) {
         Cell::NoColumn => Ok(LeafValue::Fault(no_column_message(alloc, column)?)),

@@ -1,11 +1,9 @@
 //! Evaluation from scratch.
 
 ghost use Rattle.std.specs.Prelude.{IfOk, OnErr};
-ghost use Rattle.execution.specs.Program.{needs};
-ghost use Rattle.execution.specs.Front.{missing};
 ghost use Rattle.gq_check.specs.Plans.{plan_of};
 ghost use Rattle.plan_program.specs.PlanPrograms.{plan_program};
-ghost use Rattle.gq_resolve.specs.Evaluated.{reader, IsEvaluated, AddsPart, CanEvaluate};
+ghost use Rattle.gq_resolve.specs.Evaluated.{missing_over, IsEvaluated, AddsPart, CanEvaluate};
 
 use crate::answered::Answered;
 use crate::resolve::Resolve;
@@ -32,7 +30,7 @@ pub fn evaluate(
 ) -> Result<Poll<Answered>, NoMemory>
     requires { CanEvaluate (plan_of plan.now) memory.now wants.old }
     ensures ok { IfOk result (λ polled. IsEvaluated wants.old wants.new (plan_program (plan_of plan.now)) memory.now polled) }
-    ensures err { OnErr result (AddsPart wants.old wants.new (missing (reader memory.now) (needs (plan_program (plan_of plan.now)) (reader memory.now)))) }
+    ensures err { OnErr result (AddsPart wants.old wants.new (missing_over memory.now (plan_program (plan_of plan.now)))) }
 {
     let mut state = RootState::new(plan);
     state.poll(alloc, memory, wants)

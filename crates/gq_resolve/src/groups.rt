@@ -3,10 +3,10 @@
 ghost use Rattle.std.specs.Prelude.{◌≡◌, ◌<◌, ◌≤◌, IfOk, IfSome, IsTrue, OnOk, map};
 ghost use Rattle.gq_schema.specs.Types.{tree_of};
 ghost use Rattle.gq_schema.specs.BindingsSeen.{step_of};
-ghost use Rattle.gq_check.specs.Plans.{PlanOf, plan_of};
+ghost use Rattle.gq_check.specs.Plans.{plan_of};
 ghost use Rattle.plan_program.specs.Prepared.{value_from_seen, prepared_seen, all_prepared_seen, children_seen};
 ghost use Rattle.gq_resolve.specs.Positions.{is_non_null, position_seen};
-ghost use Rattle.gq_resolve.specs.Groups.{children_in, children_at, then_at, steps_in, IsShape, Grows, IsNew, IsAsking, AreMade, Meets, AreKept, IsOnly, AreOnly, IsShaped};
+ghost use Rattle.gq_resolve.specs.Groups.{children_in, children_at, then_at, steps_in, GrowsByShape, IsNew, IsAsking, AreMade, Meets, AreKept, IsOnly, AreOnly, IsShaped};
 
 use crate::cells::is_object_type;
 use crate::positions::{FieldPosition, Items, Nullability, Onward};
@@ -293,7 +293,8 @@ fn meet<'p>(
     children: &Children<'p>,
     ty: &str,
 ) -> Result<Rc<Vec<Member<'p>>>, NoMemory>
-    ensures { IfOk result (λ members. Meets (plan_of tour.now.plan.now) (children_seen children.now) ty.now groups.old.items groups.new.items members.value.items) }
+    ensures { IfOk result (λ members. Meets (plan_of tour.now.plan.now) (children_seen children.now) ty.now
+        groups.old.items groups.new.items members.value.items) }
 {
     let collected = collect_subfields(tour.alloc, tour.plan, ty, &children.fields)?;
     let all = prepare_groups(tour.alloc, tour.plan, ty, collected)?;
@@ -309,7 +310,7 @@ fn keep<'p>(
     group: usize,
     shape: Shape<'p>,
 ) -> Result<(), NoMemory>
-    ensures grows { OnOk result ((plan : PlanOf) → (group < count → IsShape plan groups.old.items (children_at groups.old.items group) shape.entry) → Grows plan groups.old.items groups.new.items) }
+    ensures grows { OnOk result (GrowsByShape count group shape.entry groups.old.items groups.new.items) }
     ensures most { OnOk result (most ≤ count → groups.new.items ≡ groups.old.items) }
 {
     if group < count && count < most && group < groups.len() {

@@ -18,7 +18,8 @@ pub fn look_up<'m>(
     loader: usize,
     key: KeyRef<'_>,
 ) -> Result<Option<&'m Outcome>, NoMemory>
-    ensures { IfOk result (λ outcome. option_map outcome_of (option_copied outcome) ≡ lookup memory.now (record { loader = loader; key = borrowed_of key.entry })) }
+    ensures { IfOk result (λ outcome. option_map outcome_of (option_copied outcome)
+        ≡ lookup memory.now (record { loader = loader; key = borrowed_of key.entry })) }
 {
     if memory.is_empty() {
         return Ok(None);

@@ -2,10 +2,9 @@
 
 ghost use Rattle.std.specs.Prelude.{◌≡◌, IfOk, OnErr};
 ghost use Rattle.load_memory.specs.Pairs.{MemoryOf};
-ghost use Rattle.execution.specs.Program.{Program, needs};
-ghost use Rattle.execution.specs.Front.{missing};
+ghost use Rattle.execution.specs.Program.{Program};
 ghost use Rattle.gq_check.specs.Plans.{PlanOf};
-ghost use Rattle.gq_resolve.specs.Evaluated.{reader, IsEvaluated, AddsPart, CanEvaluate, GrowsTo};
+ghost use Rattle.gq_resolve.specs.Evaluated.{missing_over, IsEvaluated, AddsPart, CanEvaluate, GrowsTo};
 
 use crate::answered::Answered;
 use futures::task::Poll;
@@ -42,7 +41,7 @@ pub trait Resolve {
     ) -> Result<Poll<Answered>, NoMemory>
         requires { CanEvaluate (plan self.old) memory.now wants.old }
         ensures ok { fits self.old memory.now → IfOk result (λ polled. IsEvaluated wants.old wants.new (program self.old) memory.now polled) }
-        ensures err { fits self.old memory.now → OnErr result (AddsPart wants.old wants.new (missing (reader memory.now) (needs (program self.old) (reader memory.now)))) }
+        ensures err { fits self.old memory.now → OnErr result (AddsPart wants.old wants.new (missing_over memory.now (program self.old))) }
         ensures grown { (m : MemoryOf) → fits self.old memory.now → GrowsTo memory.now m → fits self.new m }
         ensures same_plan { plan self.new ≡ plan self.old }
         ensures executes { program self.new ≡ program self.old };

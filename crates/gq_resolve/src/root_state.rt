@@ -2,11 +2,9 @@
 
 ghost use Rattle.std.specs.Prelude.{◌≡◌, IfOk, OnErr};
 ghost use Rattle.load_memory.specs.Pairs.{MemoryOf};
-ghost use Rattle.execution.specs.Program.{needs};
-ghost use Rattle.execution.specs.Front.{missing};
 ghost use Rattle.gq_check.specs.Plans.{plan_of};
 ghost use Rattle.plan_program.specs.PlanPrograms.{plan_program};
-ghost use Rattle.gq_resolve.specs.Evaluated.{reader, IsWritten, AddsPart, CanEvaluate, GrowsTo};
+ghost use Rattle.gq_resolve.specs.Evaluated.{missing_over, IsWritten, AddsPart, CanEvaluate, GrowsTo};
 ghost use Rattle.gq_resolve.specs.Limited.{IsLimited};
 ghost use Rattle.gq_resolve.specs.Suspended.{plan_in, FitsMemory};
 
@@ -59,8 +57,9 @@ impl<'p, 'a> RootState<'p, 'a> {
         wants: &mut Wants,
     ) -> Result<Poll<String>, NoMemory>
         requires { CanEvaluate (plan_in self.old) memory.now wants.old }
-        ensures ok { FitsMemory self.old memory.now → IfOk result (λ polled. IsWritten wants.old wants.new (plan_program (plan_in self.old)) memory.now polled) }
-        ensures err { FitsMemory self.old memory.now → OnErr result (AddsPart wants.old wants.new (missing (reader memory.now) (needs (plan_program (plan_in self.old)) (reader memory.now)))) }
+        ensures ok { FitsMemory self.old memory.now
+            → IfOk result (λ polled. IsWritten wants.old wants.new (plan_program (plan_in self.old)) memory.now polled) }
+        ensures err { FitsMemory self.old memory.now → OnErr result (AddsPart wants.old wants.new (missing_over memory.now (plan_program (plan_in self.old)))) }
         ensures grown { (m : MemoryOf) → FitsMemory self.old memory.now → GrowsTo memory.now m → FitsMemory self.new m }
         ensures same_plan { plan_in self.new ≡ plan_in self.old }
     {
@@ -96,8 +95,9 @@ impl<'p, 'a> RootState<'p, 'a> {
         most: usize,
     ) -> Result<Poll<String>, NoMemory>
         requires { CanEvaluate (plan_in self.old) memory.now wants.old }
-        ensures ok { FitsMemory self.old memory.now → IfOk result (λ polled. IsLimited most wants.old wants.new (plan_program (plan_in self.old)) memory.now polled) }
-        ensures err { FitsMemory self.old memory.now → OnErr result (AddsPart wants.old wants.new (missing (reader memory.now) (needs (plan_program (plan_in self.old)) (reader memory.now)))) }
+        ensures ok { FitsMemory self.old memory.now → IfOk result (λ polled.
+            IsLimited most wants.old wants.new (plan_program (plan_in self.old)) memory.now polled) }
+        ensures err { FitsMemory self.old memory.now → OnErr result (AddsPart wants.old wants.new (missing_over memory.now (plan_program (plan_in self.old)))) }
         ensures grown { (m : MemoryOf) → FitsMemory self.old memory.now → GrowsTo memory.now m → FitsMemory self.new m }
         ensures same_plan { plan_in self.new ≡ plan_in self.old }
     {

@@ -5,7 +5,7 @@ ghost use Rattle.load_memory.specs.Keys.{borrowed_of};
 ghost use Rattle.execution.specs.Program.{ObjectOf, ListOf};
 ghost use Rattle.plan_program.specs.Prepared.{leaf_value_seen};
 ghost use Rattle.gq_resolve.specs.Cells.{leaf_seen};
-ghost use Rattle.gq_resolve.specs.Puts.{Put, Begins, Ends, Enters, Has, Waits, OnwardOf, View, waiting};
+ghost use Rattle.gq_resolve.specs.Puts.{Put, Begins, Ends, Enters, Has, OnwardOf, View, a_wait};
 ghost use Rattle.gq_resolve.specs.Positions.{kind_of, is_non_null, position_seen, item_position, onward_of};
 
 use crate::positions::{FieldPosition, Items, Kind, Leaf, Nullability, Onward};
@@ -53,7 +53,7 @@ pub trait Sink {
 
     /// A position waits for a load, and then goes on so.
     fn wait(&mut self, onward: Onward, loader: usize, key: KeyRef<'_>) -> Result<(), NoMemory>
-        ensures { OnOk result ((v : View) → onward.group < v.count → goes v (Waits (waiting v (onward_of onward) loader (borrowed_of key.entry)) ∷ []) self.old self.new) };
+        ensures { OnOk result ((v : View) → onward.group < v.count → goes v (a_wait v (onward_of onward) loader (borrowed_of key.entry)) self.old self.new) };
 
     /// How many positions wait in it.
     fn waiting(&self) -> usize

@@ -1,5 +1,6 @@
 -- Coerced values, without where they lie in memory.
-use Rattle.std.specs.Prelude.{ℕ, ℤ, Bool, List, [], ◌∷◌, Option, Some, None, string_bytes}
+use Rattle.std.specs.Prelude.{◌≡◌, ℕ, ℤ, Bool, List, [], ◌∷◌, Option, Some, None, Result, IfOk, string_bytes}
+use Rattle.std.specs.Option.{option_map}
 use Rattle.gq_schema.specs.declared.input.Input as rust
 use Rattle.gq_schema.specs.declared.input.Input.TheOpen as open-input
 use Rattle.gq_schema.specs.declared.input.Input.TheFolds.{fold-Input}
@@ -33,6 +34,10 @@ input_step (open-input.List is) = Items (inputs_of is.items)
 
 abbrev pub input_of : rust.Input → Input
 input_of = fold-Input Input input_step
+
+-- the result is this value, if there is one
+abbrev pub Coerces : {E : Type 0} → Option Input → Result (Option rust.Input) E → Type 0
+Coerces want result = IfOk result (λ input. option_map input_of input ≡ want)
 
 -- these inputs before others, where there are such
 abbrev pub before : List Input → Option Inputs → Option Inputs

@@ -1,11 +1,11 @@
 //! The coercion of literals to types (section 3, Input Coercion).
 
-ghost use Rattle.std.specs.Prelude.{◌≡◌, Some, None, IfOk, is_some, string_bytes};
+ghost use Rattle.std.specs.Prelude.{◌≡◌, Some, None, is_some, string_bytes};
 ghost use Rattle.std.specs.Option.{option_map};
 ghost use Rattle.gq_parser.specs.Tree.{type_of, literal_of, map_literals};
 ghost use Rattle.gq_parser.specs.Types.{is_non_null};
 ghost use Rattle.gq_schema.specs.Types.{tree_of};
-ghost use Rattle.gq_schema.specs.Inputs.{Null, input_of};
+ghost use Rattle.gq_schema.specs.Inputs.{Null, input_of, Coerces};
 ghost use Rattle.gq_schema.specs.Coercion.{int_of, from_int, from_text, from_enum, named_value, value_with, all_items, list_input, one_item, coerced, accepts, place_of};
 
 use crate::input::Input;
@@ -93,7 +93,7 @@ fn accepts_all(schema: &Schema, ty: &TypeRef, literals: &[Literal]) -> bool
 }
 
 fn coerce_int(name: &str, text: &String) -> Result<Option<Input>, AllocError>
-    ensures { IfOk result (λ input. option_map input_of input ≡ from_int name.now (string_bytes text.now)) }
+    ensures { Coerces (from_int name.now (string_bytes text.now)) result }
 {
     if name == "Int" {
         return Ok(int_of(text.as_str()).map(Input::Int));
@@ -105,7 +105,7 @@ fn coerce_int(name: &str, text: &String) -> Result<Option<Input>, AllocError>
 }
 
 fn coerce_text(name: &str, text: &String) -> Result<Option<Input>, AllocError>
-    ensures { IfOk result (λ input. option_map input_of input ≡ from_text name.now (string_bytes text.now)) }
+    ensures { Coerces (from_text name.now (string_bytes text.now)) result }
 {
     if name == "ID" || name == "String" {
         return Ok(Some(Input::Text(text.clone()?)));
@@ -114,7 +114,7 @@ fn coerce_text(name: &str, text: &String) -> Result<Option<Input>, AllocError>
 }
 
 fn coerce_enum(schema: &Schema, name: &str, value: &String) -> Result<Option<Input>, AllocError>
-    ensures { IfOk result (λ input. option_map input_of input ≡ from_enum (tree_of schema.now) name.now (string_bytes value.now)) }
+    ensures { Coerces (from_enum (tree_of schema.now) name.now (string_bytes value.now)) result }
 {
     if schema.has_value(name, value.as_str()) {
         return Ok(Some(Input::Text(value.clone()?)));
@@ -128,8 +128,7 @@ fn coerce_named(
     name: &str,
     literal: &Literal,
 ) -> Result<Option<Input>, AllocError>
-    ensures { IfOk result (λ input. option_map input_of input
-        ≡ named_value None (tree_of schema.now) name.now (is_non_null (type_of ty.now)) (literal_of literal.now)) }
+    ensures { Coerces (named_value None (tree_of schema.now) name.now (is_non_null (type_of ty.now)) (literal_of literal.now)) result }
 {
     match &literal.value {
         Value::Null => Ok((!ty.is_non_null()).then_some(Input::Null)),
@@ -146,7 +145,7 @@ fn coerce_named(
 
 /// A list of one item, where there is one.
 pub fn list_of_one(alloc: Global, item: Option<Input>) -> Result<Option<Input>, AllocError>
-    ensures { IfOk result (λ input. option_map input_of input ≡ one_item (option_map input_of item)) }
+    ensures { Coerces (one_item (option_map input_of item)) result }
 {
     match item {
         Some(item) => {
@@ -169,7 +168,7 @@ pub fn coerce(
     ty: &TypeRef,
     literal: &Literal,
 ) -> Result<Option<Input>, AllocError>
-    ensures { IfOk result (λ input. option_map input_of input ≡ coerced (tree_of schema.now) (type_of ty.now) (literal_of literal.now)) }
+    ensures { Coerces (coerced (tree_of schema.now) (type_of ty.now) (literal_of literal.now)) result }
 {
     match ty {
         TypeRef::Named { name, .. } => Ok(coerce_named(schema, ty, name.as_str(), literal)?),
@@ -195,7 +194,7 @@ fn coerce_one(
     ty: &TypeRef,
     literal: &Literal,
 ) -> Result<Option<Input>, AllocError>
-    ensures { IfOk result (λ input. option_map input_of input ≡ one_item (coerced (tree_of schema.now) (type_of ty.now) (literal_of literal.now))) }
+    ensures { Coerces (one_item (coerced (tree_of schema.now) (type_of ty.now) (literal_of literal.now))) result }
 {
     let item = coerce(alloc, schema, ty, literal)?;
     Ok(list_of_one(alloc, item)?)
@@ -209,8 +208,7 @@ fn coerce_all(
     ty: &TypeRef,
     literals: &[Literal],
 ) -> Result<Option<Input>, AllocError>
-    ensures { IfOk result (λ i. option_map input_of i
-        ≡ list_input (all_items (coerced (tree_of schema.now) (type_of ty.now)) (map_literals literals.now))) }
+    ensures { Coerces (list_input (all_items (coerced (tree_of schema.now) (type_of ty.now)) (map_literals literals.now))) result }
 {
     let mut inputs = Vec::with_capacity(alloc, literals.len())?;
     for literal in literals {

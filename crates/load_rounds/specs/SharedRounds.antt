@@ -107,3 +107,7 @@ module _ {S : Type 0} where
   -- the longest load chain of all requests, over the memory of a state
   abbrev pub longest_chain : List KeyMode → List RequestOf → StateOf S → ℕ
   longest_chain modes rs s = chain (together rs) (read modes s.memory)
+
+  -- so many rounds are no more than that chain is long
+  abbrev pub AreWithinChain : StateOf S → StateOf S → List RequestOf → ℕ → Type 0
+  AreWithinChain old new rs rounds = rounds ≤ longest_chain (session_modes old) rs new

@@ -1,17 +1,17 @@
 //! What holds of the calls of a session, one after another. Each function does nothing: its contract is the law.
-ghost use Rattle.std.specs.Prelude.{◌≡◌, ◌≤◌, ◌⊎◌, ◌∷◌, [], List, true, length, map};
+ghost use Rattle.std.specs.Prelude.{◌≡◌, ◌⊎◌, ◌∷◌, [], List, true, length, map};
 ghost use Rattle.std.specs.List.{list_any};
 ghost use Rattle.load_queue.specs.Loaders.{unasked};
 ghost use Rattle.execution.specs.Front.{front};
 ghost use Rattle.execution.specs.Logs.{HasPair};
 ghost use Rattle.execution.specs.Loads.{Memory};
 ghost use Rattle.execution.specs.Rounds.{AreLimited};
-ghost use Rattle.execution.specs.Sessions.{Forgot, Primed, AreApart};
+ghost use Rattle.execution.specs.Sessions.{Forgot, AreApart};
 ghost use Rattle.execution.specs.Rounds.{direct};
 ghost use Rattle.gq_check.specs.Plans.{plan_of};
-ghost use Rattle.load_rounds.specs.Sessions.{StateOf, rules_of, session_modes};
+ghost use Rattle.load_rounds.specs.Sessions.{StateOf, rules_of};
 ghost use Rattle.load_rounds.specs.Headline.{ExecutesPlan, AnswersPlan};
-ghost use Rattle.load_rounds.specs.SharedRounds.{RequestOf, front_of_all, together, SharedHeadline, IsAnsweredAlone, longest_chain};
+ghost use Rattle.load_rounds.specs.SharedRounds.{RequestOf, front_of_all, together, SharedHeadline, IsAnsweredAlone, AreWithinChain};
 ghost use Rattle.load_memory.specs.Keys.{KeyOf};
 ghost use Rattle.load_memory.specs.Outcomes.{ItemOf};
 ghost use Rattle.load_memory.specs.declared.key.KeyMode.{KeyMode};
@@ -60,7 +60,7 @@ pub fn requests_share_rounds<S: Asks>()
     ensures front { (modes : List KeyMode) (rs : List RequestOf) (M : Memory)
         → front modes (together rs) M ≡ front_of_all modes (map (λ r. r.program) rs) M }
     ensures chain { (old new : _) (rs : _) (report : _) → (h : SharedHeadline S.may_tell old new rs report)
-        → length h.log ≤ longest_chain (session_modes old) rs new }
+        → AreWithinChain old new rs (length h.log) }
     ensures one { (old new : _) (r : _) (report : _) → SharedHeadline S.may_tell old new (r ∷ []) (report ∷ [])
         → IsAnsweredAlone S.may_tell old new r report }
     ensures alone { (old new : _) (r : _) (report : _) → IsAnsweredAlone S.may_tell old new r report

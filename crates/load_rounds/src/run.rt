@@ -97,7 +97,8 @@ impl<'p, P: Execute<'p>> Run<'p, P> {
     pub fn next_round<S: Asks>(&mut self, session: &mut Session<S>) -> Result<Next, NoMemory>
         requires ready { self.old.stage ≡ Stage.Ready }
         requires loaders { P.loaders self.old.plan ≤ length session.old.loaders }
-        ensures next { IfOk result (IsNext (P.program self.old.plan) (P.text_of self.old.plan) self.old self.new (state_of session.old) (state_of session.new)) }
+        ensures next { IfOk result (IsNext (P.program self.old.plan) (P.text_of self.old.plan) self.old self.new
+            (state_of session.old) (state_of session.new)) }
         ensures bounded { self.new.rounds < 2 ^ 32 }
         ensures failed { OnErr result (self.new ≡ run_of self.old.plan self.old.rounds Stage.Failed) }
         ensures lost { OnErr result (IsUnasked (P.program self.old.plan) (state_of session.old) (state_of session.new)) }
@@ -120,7 +121,8 @@ impl<'p, P: Execute<'p>> Run<'p, P> {
         requires loaders { P.loaders self.old.plan ≤ length session.old.loaders }
         requires fits { P.fits self.old.plan progress.old (memory_of session.old) }
         ensures fits { OnOk result (FitsFrom (P.fits self.old.plan progress.new) (memory_of session.new)) }
-        ensures next { IfOk result (IsNext (P.program self.old.plan) (P.text_of self.old.plan) self.old self.new (state_of session.old) (state_of session.new)) }
+        ensures next { IfOk result (IsNext (P.program self.old.plan) (P.text_of self.old.plan) self.old self.new
+            (state_of session.old) (state_of session.new)) }
         ensures bounded { self.new.rounds < 2 ^ 32 }
         ensures failed { OnErr result (self.new ≡ run_of self.old.plan self.old.rounds Stage.Failed) }
         ensures lost { OnErr result (IsUnasked (P.program self.old.plan) (state_of session.old) (state_of session.new)) }
@@ -157,7 +159,8 @@ impl<'p, P: Execute<'p>> Run<'p, P> {
     ) -> Result<(), NoMemory>
         requires out { self.old.stage ≡ Stage.Out }
         requires shelf { All (IsOn shelf.now) receipts.now }
-        requires round { AreReceived (may_at S.may_tell session.old.loaders) (orders_in (state_of session.old) (P.program self.old.plan)) (map shown receipts.now) }
+        requires round { AreReceived (may_at S.may_tell session.old.loaders)
+            (orders_in (state_of session.old) (P.program self.old.plan)) (map shown receipts.now) }
         ensures taken { OnOk result (state_of session.new ≡ received (state_of session.old) (map shown receipts.now)) }
         ensures ordered { OnOk result (TakesReceipts S.may_tell (P.program self.old.plan)
             (state_of session.old) (state_of session.new) receipts.now) }

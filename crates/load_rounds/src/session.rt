@@ -236,7 +236,8 @@ impl<S: Asks> Session<S> {
         ensures refused { IsErrOf result SessionFault.NoSuchLoader → self.new ≡ self.old }
         ensures no_memory { IsErrOf result SessionFault.NoMemory
             → IsCallOf S.may_tell (StoppedLoading loader (map key_of keys.now)) self.old self.new }
-        ensures loaded { IfOk result (λ outcomes. IsCallOf S.may_tell (Loading loader (map key_of keys.now) (map outcome_of outcomes.items)) self.old self.new) }
+        ensures loaded { IfOk result (λ outcomes. IsCallOf S.may_tell
+            (Loading loader (map key_of keys.now) (map outcome_of outcomes.items)) self.old self.new) }
     {
         if loader >= self.loaders.len() {
             return Err(SessionFault::NoSuchLoader);

@@ -1,3 +1,4 @@
+pub mod Collecting
 pub mod Levels
 pub mod Met
 pub mod OfWorlds

@@ -1,10 +1,11 @@
 -- The fields that the execution of a plan can meet, and what answers each.
-use Rattle.std.specs.Prelude.{◌≡◌, ◌<◌, ℕ, Bool, false, List, [], ◌∷◌, length, Some, None, codes, bytes_eq}
+use Rattle.std.specs.Prelude.{◌≡◌, ◌<◌, ℕ, Bool, true, false, List, [], ◌∷◌, length, Some, None, codes, bytes_eq}
 use Rattle.gq_parser.specs.Tree.{TypeTree, Value}
 use Rattle.schema_syntax.specs.Tree.{Argument, Definition, Field}
 use Rattle.gq_schema.specs.Types.{root_in, field_in, core_of}
 use Rattle.gq_schema.specs.Fault.{fault_of}
 use Rattle.gq_schema.specs.Implements.{argument_in}
+use Rattle.gq_schema.specs.BindingsTypes.{is_object_type}
 use Rattle.gq_schema.specs.BindingsTree.{BindingsOf, StepOf, BindingOf, by_column, by_one, by_many, by_each, by_via, binding_in}
 use Rattle.gq_schema.specs.BindingsReading.{bindings_of, accepted}
 use Rattle.load_memory.specs.Rows.{RowOf}
@@ -102,6 +103,18 @@ pub record AsksItsBinding (plan : PlanOf) (ty : List ℕ) (g : GroupOf) (f : Fie
   pub bound : IsBound plan.bindings ty f.name
   pub asks : (prepared plan ty g).asked ≡ with_arguments (arguments_of plan ty g)
       (λ values. asked_by_binding definition.of_type (children_of definition.of_type f.place g.fields) values bound.binding)
+
+-- a type has a definition of a field
+abbrev pub IsDefined : List Definition → List ℕ → List ℕ → Type 0
+IsDefined defs ty name = (d : Field) × (field_in defs ty name ≡ Some d)
+
+-- each field of each object type is bound
+abbrev pub BindsFields : List Definition → BindingsOf → Type 0
+BindsFields defs b = (ty name : List ℕ) (d : Field) → is_object_type defs ty ≡ true → field_in defs ty name ≡ Some d → IsBound b ty name
+
+-- the loaders that bindings name are defined there
+abbrev pub NamesItsLoaders : BindingsOf → Type 0
+NamesItsLoaders b = (ty name : List ℕ) (binding : BindingOf) → binding_in b.fields ty name ≡ Some binding → AreThere (length b.loaders) binding
 
 -- ---- plans over one schema
 

@@ -1,29 +1,25 @@
 //! What holds of collection, of levels, and of what execution can meet.
-ghost use Rattle.std.specs.Prelude.{◌≡◌, ◌≤◌, ℕ, List, length, true, false, Some, is_some};
-ghost use Rattle.gq_parser.specs.Tree.{Selections, Value};
-ghost use Rattle.schema_syntax.specs.Tree.{Argument, Definition, Field};
-ghost use Rattle.gq_schema.specs.Types.{field_in};
-ghost use Rattle.gq_schema.specs.BindingsTypes.{is_object_type};
-ghost use Rattle.gq_schema.specs.BindingsTree.{BindingsOf, BindingOf, binding_in};
-ghost use Rattle.gq_check.specs.Plans.{PlanOf, fragment_in};
+ghost use Rattle.std.specs.Prelude.{◌≡◌, ◌≤◌, ℕ, List, length, false};
+ghost use Rattle.gq_parser.specs.Tree.{Value};
+ghost use Rattle.schema_syntax.specs.Tree.{Argument, Definition};
+ghost use Rattle.gq_schema.specs.BindingsTree.{BindingsOf};
+ghost use Rattle.gq_check.specs.Plans.{PlanOf};
 ghost use Rattle.gq_check.specs.Planned.{IsPlan};
 ghost use Rattle.plan_program.specs.PlanPrograms.{most_levels, plan_program};
-ghost use Rattle.plan_program.specs.Arguments.{literal_value};
 ghost use Rattle.world.specs.Worlds.{WorldOf};
+ghost use Rattle.plan_laws.specs.Collecting.{CollectsTheSame, CollectsBySelections};
 ghost use Rattle.plan_laws.specs.Levels.{program_with};
-ghost use Rattle.plan_laws.specs.Met.{CanBeMet, IsMetBy, HasFirst, CanHave, AreThere, IsBound, AsksItsBinding, AreRead, IsOverSchema, IsOverOne};
+ghost use Rattle.plan_laws.specs.Met.{CanBeMet, IsMetBy, HasFirst, CanHave, IsDefined, BindsFields, NamesItsLoaders, AsksItsBinding, AreRead, IsOverSchema, IsOverOne};
 ghost use Rattle.plan_laws.specs.OfWorlds.{IsMade, IsPlanOver};
-ghost use Rattle.plan_laws.specs.Unset.{has_unset};
-ghost use Rattle.plan_program.specs.Groups.{FieldOf, GroupOf, Collected, has_entered, enter_fragment, entering, collect_all, collect_from};
+ghost use Rattle.plan_laws.specs.Unset.{IsRight, has_unset};
+ghost use Rattle.plan_program.specs.Groups.{FieldOf, GroupOf};
 
 /// Collection ends (section 6.3.2 of the GraphQL specification of October 2021): no more fragments are entered one inside
 /// another than the plan has, so a higher bound would collect the same. A fragment that is entered collects what its selections
 /// collect, with fragments in them entered in the same way.
 pub fn collection_ends()
-    ensures more { (plan : PlanOf) (ty : List ℕ) (left : ℕ) (so_far : Collected) (ss : Selections) → length plan.fragments ≤ left
-        → collect_all plan ty (entering plan ty left) so_far ss ≡ collect_from plan ty so_far ss }
-    ensures enters { (plan : PlanOf) (ty : List ℕ) (so_far : Collected) (name : List ℕ) → has_entered so_far name ≡ true
-        → entering plan ty (length plan.fragments) so_far name ≡ enter_fragment plan ty (entering plan ty (length plan.fragments)) so_far (fragment_in plan.fragments name) }
+    ensures more { (plan : PlanOf) (ty : List ℕ) (left : ℕ) → length plan.fragments ≤ left → CollectsTheSame plan ty left }
+    ensures enters { (plan : PlanOf) (ty : List ℕ) → CollectsBySelections plan ty }
 {}
 
 /// More levels than a plan has change nothing: its operation has no path of more than 128 fields, fragments expanded, so its
@@ -35,10 +31,8 @@ pub fn more_levels_change_nothing()
 /// Bindings that are read over a schema bind each field of each object type, and name only loaders that they define. So if a
 /// plan's bindings are of its own schema, no field of an object type is null because either is lacking.
 pub fn fields_are_bound()
-    ensures bound { (defs : List Definition) (b : BindingsOf) (ty name : List ℕ) (d : Field) → AreRead defs b → is_object_type defs ty ≡ true
-        → field_in defs ty name ≡ Some d → IsBound b ty name }
-    ensures loaders { (defs : List Definition) (b : BindingsOf) (ty name : List ℕ) (binding : BindingOf) → AreRead defs b
-        → binding_in b.fields ty name ≡ Some binding → AreThere (length b.loaders) binding }
+    ensures bound { (defs : List Definition) (b : BindingsOf) → AreRead defs b → BindsFields defs b }
+    ensures loaders { (defs : List Definition) (b : BindingsOf) → AreRead defs b → NamesItsLoaders b }
 {}
 
 /// Each group of fields that the execution of a plan can meet is answered by its first field. Unless that is `__typename`, it
@@ -48,7 +42,7 @@ pub fn fields_are_bound()
 pub fn met_fields_are_answered()
     ensures first { (plan : PlanOf) (ty : List ℕ) (g : GroupOf) → IsOverSchema plan → CanBeMet plan ty g → HasFirst g }
     ensures defined { (plan : PlanOf) (ty : List ℕ) (g : GroupOf) (f : FieldOf) → IsOverSchema plan → IsMetBy plan ty g f
-        → (d : Field) × (field_in plan.definitions ty f.name ≡ Some d) }
+        → IsDefined plan.definitions ty f.name }
     ensures answered { (plan : PlanOf) (ty : List ℕ) (g : GroupOf) (f : FieldOf) → IsOverOne plan → IsMetBy plan ty g f → AsksItsBinding plan ty g f }
 {}
 
@@ -56,7 +50,7 @@ pub fn met_fields_are_answered()
 /// variable in it has no value or null. So no other literal is a field error.
 pub fn literals_are_right()
     ensures { (plan : PlanOf) (a : Argument) (v : Value) → IsOverSchema plan → CanHave plan a v → has_unset plan v ≡ false
-        → is_some (literal_value plan a.of_type v) ≡ true }
+        → IsRight plan a.of_type v }
 {}
 
 /// A world reads its bindings over its own schema, so each plan of its requests is over one schema, as

@@ -1,6 +1,6 @@
 -- How many steps a collection takes at most, where it takes one for each selection and one for the end of each list of them. The
 -- number is huge and never computed: it shows that collecting ends.
-use Rattle.std.specs.Prelude.{ℕ, zero, suc, ◌+◌, max, List, [], ◌∷◌, Option, Some, None}
+use Rattle.std.specs.Prelude.{ℕ, zero, suc, ◌+◌, ◌<◌, max, List, [], ◌∷◌, Option, Some, None}
 use Rattle.gq_parser.specs.Tree.{Selection, Field, Spread, Inline, SelectionSet, set_at, Selections, no_selection, and_selection, Fragment, map_selections}
 use Rattle.plan_program.specs.declared.collection.Rest.{Rest}
 
@@ -38,3 +38,11 @@ steps_if fs (Some r) = steps_rest fs r
 abbrev pub all_steps : List Fragment → List Rest → ℕ
 all_steps fs [] = 0
 all_steps fs (r ∷ rs) = steps_rest fs r + all_steps fs rs
+
+-- what is left of these, and of what comes next
+abbrev pub steps_left : List Fragment → List Rest → Option Rest → ℕ
+steps_left fs left next = all_steps fs left + steps_if fs next
+
+-- a step was taken from these and the rest that came first, to what is left now and what comes next
+abbrev pub TakesStep : List Fragment → List Rest → Rest → List Rest → Option Rest → Type 0
+TakesStep fs old rest new next = steps_left fs new next < steps_left fs old (Some rest)

@@ -5,7 +5,7 @@ ghost use Rattle.std.specs.Option.{option_map};
 ghost use Rattle.gq_parser.specs.Tree.{type_of, literal_of, map_literals, arguments_of as arguments_seen};
 ghost use Rattle.gq_parser.specs.Types.{is_non_null};
 ghost use Rattle.schema_syntax.specs.Tree.{argument_of, arguments_of as arguments_defined};
-ghost use Rattle.gq_schema.specs.Inputs.{input_of};
+ghost use Rattle.gq_schema.specs.Inputs.{input_of, Coerces};
 ghost use Rattle.gq_schema.specs.Coercion.{list_input, all_items, one_item};
 ghost use Rattle.variable_values.specs.Variables.{value_in};
 ghost use Rattle.gq_check.specs.Plans.{plan_of};
@@ -101,7 +101,7 @@ fn null_input(ty: &TypeRef) -> Option<Input>
 
 // The value of a variable that has one.
 fn value_of_variable(ty: &TypeRef, value: &Input) -> Result<Option<Input>, AllocError>
-    ensures { IfOk result (λ i. option_map input_of i ≡ variable_value (is_non_null (type_of ty.now)) (Some (input_of value.now))) }
+    ensures { Coerces (variable_value (is_non_null (type_of ty.now)) (Some (input_of value.now))) result }
 {
     match value {
         Input::Null => Ok(null_input(ty)),
@@ -114,8 +114,7 @@ fn value_of_variable(ty: &TypeRef, value: &Input) -> Result<Option<Input>, Alloc
 
 // The value of a variable; an absent one is null.
 fn variable_value(plan: &Plan<'_>, ty: &TypeRef, name: &str) -> Result<Option<Input>, AllocError>
-    ensures { IfOk result (λ i. option_map input_of i
-        ≡ variable_value (is_non_null (type_of ty.now)) (value_in (plan_of plan.now).variables name.now)) }
+    ensures { Coerces (variable_value (is_non_null (type_of ty.now)) (value_in (plan_of plan.now).variables name.now)) result }
 {
     match plan.variable(name) {
         Some(value) => value_of_variable(ty, value),
@@ -153,7 +152,7 @@ fn literal_value(
     ty: &TypeRef,
     literal: &Literal,
 ) -> Result<Option<Input>, AllocError>
-    ensures { IfOk result (λ input. option_map input_of input ≡ literal_value (plan_of plan.now) (type_of ty.now) (literal_of literal.now)) }
+    ensures { Coerces (literal_value (plan_of plan.now) (type_of ty.now) (literal_of literal.now)) result }
 {
     match ty {
         TypeRef::Named { .. } => Ok(name_value(alloc, plan, ty, literal)?),
@@ -179,7 +178,7 @@ fn one_value(
     ty: &TypeRef,
     literal: &Literal,
 ) -> Result<Option<Input>, AllocError>
-    ensures { IfOk result (λ input. option_map input_of input ≡ one_item (literal_value (plan_of plan.now) (type_of ty.now) (literal_of literal.now))) }
+    ensures { Coerces (one_item (literal_value (plan_of plan.now) (type_of ty.now) (literal_of literal.now))) result }
 {
     let item = literal_value(alloc, plan, ty, literal)?;
     Ok(list_of_one(alloc, item)?)
@@ -193,8 +192,7 @@ fn list_value(
     ty: &TypeRef,
     literals: &[Literal],
 ) -> Result<Option<Input>, AllocError>
-    ensures { IfOk result (λ i. option_map input_of i
-        ≡ list_input (all_items (literal_value (plan_of plan.now) (type_of ty.now)) (map_literals literals.now))) }
+    ensures { Coerces (list_input (all_items (literal_value (plan_of plan.now) (type_of ty.now)) (map_literals literals.now))) result }
 {
     let mut inputs = Vec::with_capacity(alloc, literals.len())?;
     for literal in literals {
@@ -217,7 +215,8 @@ fn or_refused(input: Option<Input>) -> Coerced
 
 // What becomes of an argument for which nothing is given.
 fn default_value(alloc: Global, plan: &Plan<'_>, argument: &ArgDef) -> Result<Coerced, AllocError>
-    ensures { IfOk result (λ value. coerced_seen value ≡ default_value (plan_of plan.now) (argument_of argument.now).of_type (argument_of argument.now).default) }
+    ensures { IfOk result (λ value. coerced_seen value
+        ≡ default_value (plan_of plan.now) (argument_of argument.now).of_type (argument_of argument.now).default) }
 {
     match &argument.default {
         Some(literal) => {

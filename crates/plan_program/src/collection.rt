@@ -1,13 +1,13 @@
 //! Collection of fields (section 6.3.2, CollectFields).
 
-ghost use Rattle.std.specs.Prelude.{◌≡◌, ◌<◌, ◌≤◌, ◌+◌, IfOk, OnOk};
+ghost use Rattle.std.specs.Prelude.{◌≡◌, ◌<◌, ◌≤◌, IfOk, OnOk};
 ghost use Rattle.gq_parser.specs.Tree.{map_selections, selection_of};
 ghost use Rattle.gq_check.specs.Plans.{plan_of};
 ghost use Rattle.plan_program.specs.Groups as groups;
 ghost use Rattle.plan_program.specs.Groups.{collect_one, collect_from, entering, collect, collect_subfields, nothing_collected};
 ghost use Rattle.plan_program.specs.Seen.{groups_of, selected_by, fields_seen};
 ghost use Rattle.plan_program.specs.Collecting.{collected_of, collect_rest_if, Collects, CollectsFirst};
-ghost use Rattle.plan_program.specs.Steps.{steps_inside, steps_one, steps_rest, steps_if, all_steps};
+ghost use Rattle.plan_program.specs.Steps.{steps_inside, steps_one, steps_if, TakesStep};
 
 use crate::chosen::{applies, applies_inline, is_left_out};
 use crate::collected::Collected;
@@ -106,8 +106,7 @@ fn collect_first<'p>(
 ) -> Result<Option<Rest<'p>>, AllocError>
     ensures collected { IfOk result (CollectsFirst (plan_of plan.now) ty.now rest.entry so_far.old so_far.new
         left.old.items left.new.items) }
-    ensures steps { let fs = (plan_of plan.now).fragments in
-        IfOk result (λ next. all_steps fs left.new.items + steps_if fs next < all_steps fs left.old.items + steps_rest fs rest.entry) }
+    ensures steps { IfOk result (TakesStep (plan_of plan.now).fragments left.old.items rest.entry left.new.items) }
 {
     let Some((selection, selections)) = rest.selections.split_first() else {
         return Ok(left.pop());

@@ -132,7 +132,8 @@ fn each_asked<'p>(
     children: Children<'p>,
     input: Option<&Input>,
 ) -> Result<ValueFrom<'p>, AllocError>
-    ensures { IfOk result (λ asked. value_from_seen asked ≡ each_asked loader (children_seen children.entry) (option_map input_of (option_copied input.entry))) }
+    ensures { IfOk result (λ asked. value_from_seen asked
+        ≡ each_asked loader (children_seen children.entry) (option_map input_of (option_copied input.entry))) }
 {
     match input {
         Some(Input::List(inputs)) => {

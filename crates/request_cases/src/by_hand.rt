@@ -1,13 +1,13 @@
 //! Rounds that the caller runs, and runs that are dropped.
 
-ghost use Rattle.std.specs.Prelude.{◌≡◌, ◌≤◌, ◌<◌, All, map, length, IfOk, OnOk, string_bytes};
+ghost use Rattle.std.specs.Prelude.{◌≡◌, ◌≤◌, ◌<◌, All, map, length, IfOk, OnOk};
 ghost use Rattle.load_memory.specs.Replies.{reply_of};
 ghost use Rattle.load_memory.specs.Shelves.{IsOn, shown};
 ghost use Rattle.load_queue.specs.Orders.{OrderOf};
 ghost use Rattle.execution.specs.Rounds.{may_at, AreReplies};
 ghost use Rattle.gq_resolve.specs.Evaluated.{GrowsTo};
 ghost use Rattle.load_rounds.specs.Sessions.{state_of, memory_of};
-ghost use Rattle.load_rounds.specs.Headline.{Headline};
+ghost use Rattle.load_rounds.specs.Headline.{HasHeadline};
 ghost use Rattle.load_rounds.specs.Runs.{AreReceived, RunsOnFrom, orders_in, run_of};
 ghost use Rattle.load_rounds.specs.declared.run.Stage.TheVariants.{Ready, Out};
 
@@ -123,8 +123,8 @@ pub fn answered<'p, P: Execute<'p>, S: Asks, R: Wait + AllocGlobal>(
     noted: &mut Noted<'_>,
 ) -> Result<Answer>
     requires { P.loaders plan.now ≤ length session.old.loaders }
-    ensures { IfOk result (λ a. Headline S.may_tell (state_of session.old) (state_of session.new)
-        (P.program plan.now) (P.text_of plan.now) (string_bytes a.text) a.rounds) }
+    ensures { IfOk result (HasHeadline S.may_tell (state_of session.old) (state_of session.new)
+        (P.program plan.now) (P.text_of plan.now)) }
 {
     let mut run = session.begin(plan)?;
     loop {

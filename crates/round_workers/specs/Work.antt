@@ -1,6 +1,9 @@
 -- What workers are started with, and what a worker's call hands back.
-use Rattle.std.specs.Prelude.{◌≡◌, ◌<◌, ◌≤◌, ℕ, List, ◌++◌, Result, IfOk}
+use Rattle.std.specs.Prelude.{◌≡◌, ◌<◌, ◌≤◌, ℕ, List, ◌++◌, Option, Result, IfOk}
 use Rattle.std.specs.Global.{Vec}
+use Rattle.crossbeam_queue.specs.declared.array_queue.Doing.{Doing}
+use Rattle.crossbeam_queue.specs.declared.array_queue.Slotted.{Slotted}
+use Rattle.crossbeam_queue.specs.Passes.{Pass, view, IsPassOf}
 use Rattle.load_memory.specs.Keys.{KeyOf}
 use Rattle.load_memory.specs.declared.shelf.Shelf.{Shelf}
 use Rattle.load_memory.specs.declared.shelf.Receipt.{Receipt}
@@ -22,3 +25,7 @@ pub record Worked {S : Type 0} (may : S → List KeyOf → AnswerOf → Type 0) 
   pub more : List OrderOf
   pub taken : new.taken ≡ old.taken ++ more
   pub fit : IfOk result (λ v. EachShown may loaders shelf more v.items)
+
+-- the same of the pass of a worker, which is one of this queue still
+abbrev pub WorkedAt : {S T Q A : Type 0} → (S → List KeyOf → AnswerOf → Type 0) → List (LoaderOf S) → Shelf → Slotted (Option T) (Doing T Hand) Q A → Pass T Hand → Pass T Hand → Result (Vec Receipt) NoMemory → Type 0
+WorkedAt may loaders shelf queue old new result = IsPassOf queue new × Worked may loaders shelf (view old) (view new) result

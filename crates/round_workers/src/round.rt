@@ -1,11 +1,11 @@
 //! A round: its orders go through one queue to the workers, and their replies to the shelf.
-ghost use Rattle.std.specs.Prelude.{◌≡◌, ◌≤◌, ◌<◌, ◌++◌, [], ◌∷◌, List, IfOk, IsOk, IsPermutation, length, All};
+ghost use Rattle.std.specs.Prelude.{◌≡◌, ◌≤◌, ◌<◌, ◌++◌, [], IfOk, IsOk, IsPermutation, length, All};
 ghost use Rattle.std.specs.Thread.{IsSync};
 ghost use Rattle.crossbeam_queue.specs.Passes.{view, IsPassOf, ruled_capacity};
 ghost use Rattle.load_memory.specs.Shelves.{IsOn};
 ghost use Rattle.round_workers.specs.Desk.{hand};
 ghost use Rattle.round_workers.specs.Round.{HaveLoaders, Shows, AllAnswered};
-ghost use Rattle.round_workers.specs.Work.{CanShare, Worked};
+ghost use Rattle.round_workers.specs.Work.{CanShare, Worked, WorkedAt};
 
 use crate::desk::{Desk, Halves, Put, Taken, Worker};
 use load_memory::{NoMemory, Receipt, Shelf};
@@ -94,7 +94,7 @@ fn share<S: Source, R: Threads + Wait + Sync>(
         rt,
         &mut || -> Result<Vec<Receipt>, NoMemory>
             requires { IsSync R.row × IsSync S.row × IsPassOf desk.now worker.now × CanShare loaders.now (view worker.now) rest }
-            ensures { IsPassOf desk.entry.now worker.exit.now × Worked S.may_answer loaders.entry.now shelf.entry.now (view worker.entry.now) (view worker.exit.now) result }
+            ensures { WorkedAt S.may_answer loaders.entry.now shelf.entry.now desk.entry.now worker.entry.now worker.exit.now result }
         {
             share(
                 rt,
@@ -110,7 +110,7 @@ fn share<S: Source, R: Threads + Wait + Sync>(
         },
         &mut || -> Result<Vec<Receipt>, NoMemory>
             requires { IsSync R.row × IsSync S.row × IsPassOf desk.now other × CanShare loaders.now (view other) half }
-            ensures { IsPassOf desk.entry.now other.exit × Worked S.may_answer loaders.entry.now shelf.entry.now (view other.entry) (view other.exit) result }
+            ensures { WorkedAt S.may_answer loaders.entry.now shelf.entry.now desk.entry.now other.entry other.exit result }
         {
             share(
                 rt,

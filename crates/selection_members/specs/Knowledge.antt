@@ -1,7 +1,7 @@
 -- What a walk knows of the fragments of a document, and what it finds by that. Where `spread` gives the members of the fragment of
 -- each name, `members` gives those of a part of the document.
 use Rattle.std.specs.Prelude.{◌≡◌, ◌++◌, ℕ, Bool, true, List, find, Option, Some, slice_get}
-use Rattle.gq_parser.specs.Tree.{Below, Fragment, Document, document_of, set_of}
+use Rattle.gq_parser.specs.Tree.{Below, Selection, SelectionSet, Fragment, Document, document_of, set_of}
 use Rattle.merge_table.specs.declared.sets.Reached.{Reached}
 use Rattle.merge_table.specs.Entered.{IsReached}
 use Rattle.selection_members.specs.declared.known.Source.{Source}
@@ -10,8 +10,8 @@ use Rattle.selection_members.specs.declared.meeting.Met.{Met}
 use Rattle.selection_members.specs.declared.visiting.ClashingSet.{ClashingSet}
 use Rattle.selection_members.specs.Fragments.{place_in, target_at}
 use Rattle.selection_members.specs.Meeting.{IsMet, IsSpread}
-use Rattle.selection_members.specs.Members.{SetOf, count_operations, members_in, members_named}
-use Rattle.selection_members.specs.Ranked.{spreads_in}
+use Rattle.selection_members.specs.Members.{SetOf, count_operations, members_in, members_from, members_named}
+use Rattle.selection_members.specs.Ranked.{spreads_in, spreads_from}
 use Rattle.selection_members.specs.Walks.{renumbered, KnowsAt, KnowsSome, Knows, IsFixed, is_key, AreClashingAdded}
 use Rattle.selection_members.specs.Written.{AreOwn, AreAdded}
 
@@ -52,6 +52,13 @@ ReachesWhere w passes members reached = (spread : List ℕ → List ℕ) (test :
 abbrev pub GainsWhere : Walk → ((List ℕ → Bool) → Bool) → ((List ℕ → List ℕ) → List ℕ) → Reached → Reached → Type 0
 GainsWhere w passes members old new = (spread : List ℕ → List ℕ) (test : List ℕ → Bool) (ms : List ℕ) → IsKnownWhere w spread test → passes test ≡ true
     → Reaches w ms old → Reaches w (ms ++ members spread) new
+
+-- the members of a selection set, the first field of which has the number n, and those of a selection
+abbrev pub GainsIn : Walk → ℕ → SelectionSet → Reached → Reached → Type 0
+GainsIn w n s old new = GainsWhere w (λ test. spreads_in test s) (λ spread. members_in spread n s) old new
+
+abbrev pub GainsFrom : Walk → ℕ → Selection → Reached → Reached → Type 0
+GainsFrom w n s old new = GainsWhere w (λ test. spreads_from test s) (λ spread. members_from spread n s) old new
 
 -- the members of the fragment of a name, which is known, are reached beside those that were
 abbrev pub GainsAt : Walk → List ℕ → Reached → Reached → Type 0
@@ -97,6 +104,10 @@ IsNumberOf s name j = place_in (document_in s).fragments name ≡ Some j
 -- the members of the fragment of a name, by those of the fragments that it spreads
 abbrev pub members_at : Source → (List ℕ → List ℕ) → List ℕ → List ℕ
 members_at s spread name = members_named spread (count_operations (document_in s).operations) (document_in s).fragments name
+
+-- the members of the fragment of a number are those of the set
+abbrev pub HasMembersAt : Source → ℕ → ClashingSet → Type 0
+HasMembersAt s j set = (spread : List ℕ → List ℕ) (name : List ℕ) → IsNumberOf s name j → members_at s spread name ≡ members_in spread set.first (set_of set.set.now)
 
 -- what a table says of each fragment is what `spread` gives
 abbrev pub IsTableKnown : Source → List Reached → (List ℕ → List ℕ) → Type 0

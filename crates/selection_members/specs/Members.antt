@@ -46,6 +46,10 @@ abbrev pub starts_from : ℕ → List Fragment → List ℕ
 starts_from n [] = []
 starts_from n (f ∷ fs) = n ∷ starts_from (n + count_in f.selection_set) fs
 
+-- the number of the first field of each fragment of a document
+abbrev pub fragment_starts : Document → List ℕ
+fragment_starts d = starts_from (count_operations d.operations) d.fragments
+
 -- ---- the members of a set, in order of first meeting, where n is the number of the first field in it. A field that is met again
 -- stands in the list again.
 

@@ -53,5 +53,9 @@ HasPlaceIn n a = HasPlace n.order.items n.numbers.items a
 abbrev pub ArePlacedIn : Document → Numbering → Type 0
 ArePlacedIn d n = ArePlaced d n.order.items n.numbers.items
 
+-- the members of the own selection set of a field have a place
+abbrev pub OwnHavePlaces : Document → Numbering → ℕ → Type 0
+OwnHavePlaces d n a = (c : ℕ) → IsOwn d a c → HasPlaceIn n c
+
 abbrev pub AreReadyIn : Document → Numbering → ℕ → ℕ → Type 0
 AreReadyIn d n first end = AreReady d n.order.items n.numbers.items first end

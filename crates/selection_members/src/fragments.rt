@@ -1,11 +1,11 @@
 //! What each fragment has.
 
-ghost use Rattle.std.specs.Prelude.{◌≡◌, ◌<◌, ◌≤◌, ◌+◌, ℕ, List, Some, slice_get, length, IfOk, IfSome};
+ghost use Rattle.std.specs.Prelude.{◌≡◌, ◌<◌, ◌≤◌, ◌+◌, ℕ, Some, slice_get, length, IfOk, IfSome};
 ghost use Rattle.gq_parser.specs.Tree.{Fragment, set_of};
 ghost use Rattle.merge_table.specs.Entered.{IsReached};
 ghost use Rattle.selection_members.specs.Fragments.{place_in};
-ghost use Rattle.selection_members.specs.Knowledge.{document_in, members_at, IsNumberOf, IsTableKnown, LearnsOf};
-ghost use Rattle.selection_members.specs.Members.{count_in, members_in, members_of_fragment};
+ghost use Rattle.selection_members.specs.Knowledge.{document_in, HasMembersAt, IsTableKnown, LearnsOf};
+ghost use Rattle.selection_members.specs.Members.{count_in, members_of_fragment};
 ghost use Rattle.selection_members.specs.Ranked.{IsOrder};
 ghost use Rattle.selection_members.specs.Walks.{IsFixed};
 
@@ -27,8 +27,7 @@ pub(crate) fn start_of(starts: &[usize], number: usize) -> usize
 pub(crate) fn fragment_set<'d>(source: &Source<'_, 'd>, target: usize) -> ClashingSet<'d>
     requires there { target < length (document_in source.now).fragments }
     ensures set { (f : Fragment) → slice_get (document_in source.now).fragments target ≡ Some f → set_of result.set.now ≡ f.selection_set }
-    ensures members { (spread : List ℕ → List ℕ) (name : List ℕ) → IsNumberOf source.now name target
-        → members_at source.now spread name ≡ members_in spread result.first (set_of result.set.now) }
+    ensures members { HasMembersAt source.now target result }
     ensures inside { result.first + count_in (set_of result.set.now) ≤ length source.now.numbers.now }
 {
     ClashingSet {

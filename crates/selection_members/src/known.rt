@@ -4,7 +4,7 @@ ghost use Rattle.std.specs.Prelude.{◌≡◌, ◌<◌, ◌≤◌, ℕ, length};
 ghost use Rattle.gq_parser.specs.Tree.{document_of};
 ghost use Rattle.merge_table.specs.Table.{IsBelow};
 ghost use Rattle.selection_members.specs.Fragments.{target_at, AreTargets};
-ghost use Rattle.selection_members.specs.Members.{count_fields, count_operations, starts_from};
+ghost use Rattle.selection_members.specs.Members.{count_fields, fragment_starts};
 ghost use Rattle.selection_members.specs.Walks.{to, AreThere};
 
 use gq_parser::Document;
@@ -30,7 +30,7 @@ pub struct Source<'a, 'd> {
     ghost known: { (a : ℕ) → a < length numbers.now → to numbers.now a < length rows.now },
     ghost named: { AreTargets (document_of document.now).fragments targets.now },
     ghost counted: { count_fields (document_of document.now) ≤ length numbers.now },
-    ghost started: { starts.now ≡ starts_from (count_operations (document_of document.now).operations) (document_of document.now).fragments },
+    ghost started: { starts.now ≡ fragment_starts (document_of document.now) },
 }
 
 /// What is known where sets are walked through.

@@ -4,8 +4,8 @@ ghost use Rattle.std.specs.Prelude.{◌≡◌, ◌<◌, ◌≤◌, [], ℕ, leng
 ghost use Rattle.gq_parser.specs.Tree as tree;
 ghost use Rattle.gq_parser.specs.Tree.{document_of};
 ghost use Rattle.selection_members.specs.Fragments.{place_in};
-ghost use Rattle.selection_members.specs.Members.{count_operations, count_fields, members_of_fragment, starts_from};
-ghost use Rattle.selection_members.specs.Placed.{HasPlaceIn, IsOwn, ArePlacedIn, AreReadyIn, AreDone, IsNumbering};
+ghost use Rattle.selection_members.specs.Members.{count_fields, members_of_fragment, fragment_starts};
+ghost use Rattle.selection_members.specs.Placed.{HasPlaceIn, ArePlacedIn, OwnHavePlaces, AreReadyIn, AreDone, IsNumbering};
 ghost use Rattle.selection_members.specs.Ranked.{IsOrder};
 ghost use Rattle.selection_members.specs.Walks.{IsFixed};
 
@@ -40,7 +40,7 @@ fn place(numbering: &mut Numbering, field: usize) -> Result<(), AllocError>
     ensures len { length numbering.new.numbers.items ≡ length numbering.old.numbers.items }
     ensures own { OnOk result (HasPlaceIn numbering.new field) }
     ensures kept { (a : ℕ) → HasPlaceIn numbering.old a → OnOk result (HasPlaceIn numbering.new a) }
-    ensures placed { (d : tree.Document) → ArePlacedIn d numbering.old → ((c : ℕ) → IsOwn d field c → HasPlaceIn numbering.old c) → OnOk result (ArePlacedIn d numbering.new) }
+    ensures placed { (d : tree.Document) → ArePlacedIn d numbering.old → OwnHavePlaces d numbering.old field → OnOk result (ArePlacedIn d numbering.new) }
 {
     if has_place(numbering, field) {
         return Ok(());
@@ -75,7 +75,7 @@ fn place_fragments(
     requires none { numbering.old.order.items ≡ [] }
     requires few { length numbering.old.numbers.items ≤ 1024 }
     requires counted { count_fields (document_of document.now) ≤ length numbering.old.numbers.items }
-    requires started { starts.now ≡ starts_from (count_operations (document_of document.now).operations) (document_of document.now).fragments }
+    requires started { starts.now ≡ fragment_starts (document_of document.now) }
     requires fragments { IsOrder fragments.now (place_in (document_of document.now).fragments) (document_of document.now).fragments }
     requires fixed { IsFixed (members_of_fragment (document_of document.now)) (document_of document.now) }
     ensures len { length numbering.new.numbers.items ≡ length numbering.old.numbers.items }
@@ -100,7 +100,7 @@ pub fn numbering_of(
 ) -> Result<Numbering, AllocError>
     requires few { count ≤ 1024 }
     requires counted { count ≡ count_fields (document_of document.now) }
-    requires started { starts.now ≡ starts_from (count_operations (document_of document.now).operations) (document_of document.now).fragments }
+    requires started { starts.now ≡ fragment_starts (document_of document.now) }
     requires fragments { IsOrder fragments.now (place_in (document_of document.now).fragments) (document_of document.now).fragments }
     requires fixed { IsFixed (members_of_fragment (document_of document.now)) (document_of document.now) }
     ensures { IfOk result (λ numbering. IsNumbering (document_of document.now) numbering.order.items numbering.numbers.items) }

@@ -4,7 +4,7 @@ ghost use Rattle.std.specs.Prelude.{◌≡◌, ◌≤◌, ◌+◌, ℕ, length, 
 ghost use Rattle.gq_parser.specs.Tree.{set_of, selection_of, below_of};
 ghost use Rattle.selection_members.specs.Knowledge.{ReachesAll, Gains, AddsClashing};
 ghost use Rattle.selection_members.specs.Members.{count_in, count_from, count_below, members_in, members_from, sets_in, sets_from, sets_below};
-ghost use Rattle.selection_members.specs.Walks.{IsInside, AreInside, AddsIfClashing};
+ghost use Rattle.selection_members.specs.Walks.{AreInside, AddsIfClashing};
 
 use crate::known::Walk;
 use crate::walk::{add_field, add_fragment};
@@ -54,7 +54,7 @@ fn note<'d>(
     clashing: &mut Vec<ClashingSet<'d>>,
 ) -> Result<(), AllocError>
     ensures sets { OnOk result (AddsIfClashing reached.now first (set_of set.now) clashing.old.items clashing.new.items) }
-    ensures inside { (many : ℕ) → IsInside many (record { set = set.entry; first = first }) → AreInside many clashing.old.items
+    ensures inside { (many : ℕ) → first + count_in (set_of set.now) ≤ many → AreInside many clashing.old.items
         → OnOk result (AreInside many clashing.new.items) }
 {
     if reached.has_clash() {
@@ -98,7 +98,8 @@ fn visit<'d>(
     requires inside { number + count_from (selection_of selection.now) ≤ length walk.now.numbers.now }
     ensures next { IfOk result (λ next. next ≡ number + count_from (selection_of selection.now)) }
     ensures reached { OnOk result (Gains walk.now (λ spread. members_from spread number (selection_of selection.now)) reached.old reached.new) }
-    ensures clashing { OnOk result (AddsClashing walk.now (λ spread. sets_from spread number (selection_of selection.now)) clashing.old.items clashing.new.items) }
+    ensures clashing { OnOk result (AddsClashing walk.now (λ spread. sets_from spread number (selection_of selection.now))
+        clashing.old.items clashing.new.items) }
     ensures inside { AreInside (length walk.now.numbers.now) clashing.old.items → OnOk result (AreInside (length walk.now.numbers.now) clashing.new.items) }
 {
     match selection {

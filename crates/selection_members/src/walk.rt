@@ -2,9 +2,9 @@
 
 ghost use Rattle.std.specs.Prelude.{◌≡◌, ◌<◌, ◌≤◌, ◌+◌, ◌++◌, ◌∷◌, [], ℕ, List, Some, length, slice_get};
 ghost use Rattle.gq_parser.specs.Tree.{set_of, selection_of};
-ghost use Rattle.selection_members.specs.Knowledge.{Reaches, ReachesWhere, GainsAt, GainsWhere};
-ghost use Rattle.selection_members.specs.Members.{count_in, count_from, members_in, members_from};
-ghost use Rattle.selection_members.specs.Ranked.{spreads_in, spreads_from};
+ghost use Rattle.selection_members.specs.Knowledge.{Reaches, ReachesWhere, GainsAt, GainsIn, GainsFrom};
+ghost use Rattle.selection_members.specs.Members.{count_in, count_from, members_in};
+ghost use Rattle.selection_members.specs.Ranked.{spreads_in};
 
 use crate::counting::fields_from;
 use crate::known::Walk;
@@ -52,8 +52,7 @@ pub fn reached_in(walk: &Walk, set: &SelectionSet, first: usize) -> Reached
 fn enter_set(walk: &Walk, set: &SelectionSet, first: usize, reached: &mut Reached) -> usize
     requires inside { first + count_in (set_of set.now) ≤ length walk.now.numbers.now }
     ensures next { result ≡ first + count_in (set_of set.now) }
-    ensures reached { GainsWhere walk.now (λ test. spreads_in test (set_of set.now))
-        (λ spread. members_in spread first (set_of set.now)) reached.old reached.new }
+    ensures reached { GainsIn walk.now first (set_of set.now) reached.old reached.new }
 {
     let mut next = first;
     for selection in &set.selections {
@@ -67,8 +66,7 @@ fn enter_set(walk: &Walk, set: &SelectionSet, first: usize, reached: &mut Reache
 fn enter(walk: &Walk, selection: &Selection, number: usize, reached: &mut Reached) -> usize
     requires inside { number + count_from (selection_of selection.now) ≤ length walk.now.numbers.now }
     ensures next { result ≡ number + count_from (selection_of selection.now) }
-    ensures reached { GainsWhere walk.now (λ test. spreads_from test (selection_of selection.now))
-        (λ spread. members_from spread number (selection_of selection.now)) reached.old reached.new }
+    ensures reached { GainsFrom walk.now number (selection_of selection.now) reached.old reached.new }
 {
     match selection {
         Selection::Field(_) => {

@@ -1,8 +1,13 @@
 -- Tables of the levels of fragments.
 use Rattle.std.specs.Prelude.{◌≡◌, ℕ, min, ◌<◌, ◌≤◌, List, map, Option, Some, IsSome}
 use Rattle.gq_parser.specs.Tree.{Fragment}
+use Rattle.document_parts.specs.declared.parts.Parts.{Parts}
+use Rattle.document_parts.specs.Parts.{parts_in}
 use Rattle.spread_graph.specs.Known.{too_many, known_at, known_named, known_in}
 use Rattle.spread_graph.specs.Levels.{levels_expanded}
+
+abbrev pub fragments_in : Parts → List Fragment
+fragments_in p = (parts_in p).document.fragments
 
 -- the count up to one too many
 abbrev pub capped_levels : ℕ → ℕ

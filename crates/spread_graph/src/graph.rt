@@ -1,10 +1,10 @@
 //! What operations and fragments spread.
 
-ghost use Rattle.std.specs.Prelude.{◌≡◌, true, [], OnOk, IfOk, length, map, replicate};
+ghost use Rattle.std.specs.Prelude.{◌≡◌, true, [], OnOk, IfOk, length, replicate};
 ghost use Rattle.document_parts.specs.Parts.{spread_part_of, parts_in};
-ghost use Rattle.spread_graph.specs.Graphs.{operation_number, fragment_number, with_target, with_spread, graph_of, row};
+ghost use Rattle.spread_graph.specs.Graphs.{operation_number, fragment_number, with_target, graph_of, row};
 ghost use Rattle.spread_graph.specs.Reach.{are_known};
-ghost use Rattle.spread_graph.specs.Rows.{rows_in};
+ghost use Rattle.spread_graph.specs.Rows.{AddsSpread, rows_in};
 ghost use Rattle.spread_graph.specs.Batches.{AreEdges};
 
 use crate::components::{components, order};
@@ -70,9 +70,8 @@ fn add_spread(
     operations: &mut Rows,
     fragments: &mut Rows,
 ) -> Result<(), AllocError>
-    ensures operations { OnOk result (rows_in operations.new.items
-        ≡ with_spread count operation_number (rows_in operations.old.items) (spread_part_of spread.now)) }
-    ensures fragments { OnOk result (rows_in fragments.new.items ≡ with_spread count fragment_number (rows_in fragments.old.items) (spread_part_of spread.now)) }
+    ensures operations { OnOk result (AddsSpread count operation_number (spread_part_of spread.now) operations.old.items operations.new.items) }
+    ensures fragments { OnOk result (AddsSpread count fragment_number (spread_part_of spread.now) fragments.old.items fragments.new.items) }
 {
     match spread.target {
         Some(target) => {

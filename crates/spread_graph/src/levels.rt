@@ -7,8 +7,8 @@ ghost use Rattle.gq_parser.specs.Tree.{selection_of, set_of, operation_of};
 ghost use Rattle.document_parts.specs.Broken.{broken_of, earliest};
 ghost use Rattle.document_parts.specs.Parts.{parts_in};
 ghost use Rattle.spread_graph.specs.Known.{one_more, known_named, known_in, known_from};
-ghost use Rattle.spread_graph.specs.Levels.{levels_expanded};
-ghost use Rattle.spread_graph.specs.Tables.{Agrees, IsFull, IsSettled, expanded_table};
+ghost use Rattle.spread_graph.specs.Levels.{fragment_levels};
+ghost use Rattle.spread_graph.specs.Tables.{fragments_in, Agrees, IsFull, IsSettled, expanded_table};
 ghost use Rattle.spread_graph.specs.Rules.{deep_operation, too_deep};
 
 use crate::graph::Graph;
@@ -33,7 +33,7 @@ fn one_more(levels: usize) -> usize
 }
 
 fn spread_levels(parts: &Parts, table: &[Option<usize>], name: &str) -> Option<usize>
-    ensures { result ≡ known_named table.now (parts_in parts.now).document.fragments name.now }
+    ensures { result ≡ known_named table.now (fragments_in parts.now) name.now }
 {
     match parts.fragment(name) {
         Some(number) => match table.get(number) {
@@ -47,7 +47,7 @@ fn spread_levels(parts: &Parts, table: &[Option<usize>], name: &str) -> Option<u
 // The levels in a set, where all that they rest on are known.
 #[cycle(levels)]
 fn set_levels(parts: &Parts, table: &[Option<usize>], set: &SelectionSet) -> Option<usize>
-    ensures { result ≡ known_in (known_named table.now (parts_in parts.now).document.fragments) (set_of set.now) }
+    ensures { result ≡ known_in (known_named table.now (fragments_in parts.now)) (set_of set.now) }
 {
     let mut levels = 0;
     for selection in &set.selections {
@@ -61,7 +61,7 @@ fn set_levels(parts: &Parts, table: &[Option<usize>], set: &SelectionSet) -> Opt
 
 #[cycle(levels)]
 fn selection_levels(parts: &Parts, table: &[Option<usize>], selection: &Selection) -> Option<usize>
-    ensures { result ≡ known_from (known_named table.now (parts_in parts.now).document.fragments) (selection_of selection.now) }
+    ensures { result ≡ known_from (known_named table.now (fragments_in parts.now)) (selection_of selection.now) }
 {
     match selection {
         Selection::Field(field) => match &field.selection_set {
@@ -78,8 +78,8 @@ fn selection_levels(parts: &Parts, table: &[Option<usize>], selection: &Selectio
 
 // Learns the levels of a fragment from those that are known, where they suffice.
 fn learn(parts: &Parts, table: &mut Table, number: usize)
-    ensures settled { (k : ℕ) → IsSettled table.old.items k (parts_in parts.now).document.fragments
-        → IsSettled table.new.items (k + 1) (parts_in parts.now).document.fragments }
+    ensures settled { (k : ℕ) → IsSettled table.old.items k (fragments_in parts.now)
+        → IsSettled table.new.items (k + 1) (fragments_in parts.now) }
     ensures len { length table.new.items ≡ length table.old.items }
 {
     match parts.document.fragments.get(number) {
@@ -95,9 +95,8 @@ fn learn(parts: &Parts, table: &mut Table, number: usize)
 
 // The levels of fragments, each taken once after those that it spreads. In a document with cycles some stay unknown.
 fn ordered_table(alloc: Global, parts: &Parts, graph: &Graph) -> Result<Table, AllocError>
-    ensures agrees { IfOk result (λ table. Agrees table.items
-        (levels_expanded (length (parts_in parts.now).document.fragments) (parts_in parts.now).document.fragments)) }
-    ensures len { IfOk result (λ table. length table.items ≡ length (parts_in parts.now).document.fragments) }
+    ensures agrees { IfOk result (λ table. Agrees table.items (fragment_levels (fragments_in parts.now))) }
+    ensures len { IfOk result (λ table. length table.items ≡ length (fragments_in parts.now)) }
 {
     let count = parts.document.fragments.len();
     let order = graph.order();
@@ -113,7 +112,7 @@ fn ordered_table(alloc: Global, parts: &Parts, graph: &Graph) -> Result<Table, A
 
 // The levels of all fragments, where paths may expand one fragment more than those of a table.
 fn next_table(alloc: Global, parts: &Parts, table: &[Option<usize>]) -> Result<Table, AllocError>
-    ensures { IfOk result (λ next. next.items ≡ expanded_table table.now (parts_in parts.now).document.fragments) }
+    ensures { IfOk result (λ next. next.items ≡ expanded_table table.now (fragments_in parts.now)) }
 {
     let mut next = Vec::with_capacity(alloc, parts.document.fragments.len())?;
     for fragment in &parts.document.fragments {
@@ -124,9 +123,8 @@ fn next_table(alloc: Global, parts: &Parts, table: &[Option<usize>]) -> Result<T
 
 // The levels of all fragments, on paths that expand more and more. It takes a pass for each fragment.
 fn expanded_table(alloc: Global, parts: &Parts) -> Result<Table, AllocError>
-    ensures agrees { IfOk result (λ table. Agrees table.items
-        (levels_expanded (length (parts_in parts.now).document.fragments) (parts_in parts.now).document.fragments)) }
-    ensures full { IfOk result (λ table. IsFull table.items (length (parts_in parts.now).document.fragments)) }
+    ensures agrees { IfOk result (λ table. Agrees table.items (fragment_levels (fragments_in parts.now))) }
+    ensures full { IfOk result (λ table. IsFull table.items (length (fragments_in parts.now))) }
 {
     let count = parts.document.fragments.len();
     let mut table: Table = vec![in alloc; Some(0); count]?;
@@ -144,9 +142,8 @@ fn is_full(table: &[Option<usize>]) -> bool
 
 // The levels of all fragments.
 fn levels_table(alloc: Global, parts: &Parts, graph: &Graph) -> Result<Table, AllocError>
-    ensures agrees { IfOk result (λ table. Agrees table.items
-        (levels_expanded (length (parts_in parts.now).document.fragments) (parts_in parts.now).document.fragments)) }
-    ensures full { IfOk result (λ table. IsFull table.items (length (parts_in parts.now).document.fragments)) }
+    ensures agrees { IfOk result (λ table. Agrees table.items (fragment_levels (fragments_in parts.now))) }
+    ensures full { IfOk result (λ table. IsFull table.items (length (fragments_in parts.now))) }
 {
     let table = ordered_table(alloc, parts, graph)?;
     if is_full(&table) {
@@ -161,9 +158,9 @@ fn deep_operation<'d>(
     table: &[Option<usize>],
     operation: &'d Operation,
 ) -> Option<Broken<'d>>
-    requires agrees { Agrees table.now (levels_expanded (length (parts_in parts.now).document.fragments) (parts_in parts.now).document.fragments) }
-    requires full { IsFull table.now (length (parts_in parts.now).document.fragments) }
-    ensures { option_map broken_of result ≡ deep_operation (parts_in parts.now).document.fragments (operation_of operation.now) }
+    requires agrees { Agrees table.now (fragment_levels (fragments_in parts.now)) }
+    requires full { IsFull table.now (length (fragments_in parts.now)) }
+    ensures { option_map broken_of result ≡ deep_operation (fragments_in parts.now) (operation_of operation.now) }
 {
     match set_levels(parts, table, &operation.selection_set) {
         Some(levels) => {

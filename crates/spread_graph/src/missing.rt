@@ -48,7 +48,8 @@ pub fn note_missing_in_fragments(
     sets: &[BatchSet],
     noted: &mut Vec<bool>,
 ) -> Result<(), AllocError>
-    ensures { OnOk result (Notes (λ s. is_missing_in_fragments (rows_in rows.now) reached.now (set_for numbers.now sets.now s) s) noted.old.items noted.new.items) }
+    ensures { OnOk result (Notes (λ s. is_missing_in_fragments (rows_in rows.now) reached.now
+        (set_for numbers.now sets.now s) s) noted.old.items noted.new.items) }
 {
     for (fragment, reached_by) in reached.iter().enumerate() {
         let row = row_of(rows, fragment);

@@ -44,6 +44,10 @@ pub record StandsFor {S : Type 0} (m : HashMap (Bor (List ℕ)) (Vec ℕ) S) (us
   pub name : (use_at uses r).name ≡ (use_at uses k).name
   pub location : same_location (use_at uses r).location (use_at uses k).location ≡ true
 
+-- The use k is among these, and its location takes what that of this use takes.
+abbrev pub IsStandIn : List VariableUse → List ℕ → VariableUse → ℕ → Type 0
+IsStandIn uses places use' k = (list_any (nat_eq k) places ≡ true) × (same_location (use_at uses k).location use'.location ≡ true)
+
 abbrev pub AreKinds : UseKinds → List VariableUse → Type 0
 AreKinds kinds uses = (k : ℕ) → k < length uses → StandsFor kinds.known uses (slice_index kinds.stand_ins.items k) k
 

@@ -1,9 +1,9 @@
 //! Argument Names (section 5.4.1).
 
-ghost use Rattle.std.specs.Prelude.{◌≡◌, fold, map};
+ghost use Rattle.std.specs.Prelude.{◌≡◌, map};
 ghost use Rattle.std.specs.Option.{option_map};
 ghost use Rattle.gq_parser.specs.Tree.{arguments_of};
-ghost use Rattle.document_parts.specs.Broken.{broken_of, with_broken, earliest};
+ghost use Rattle.document_parts.specs.Broken.{broken_of, AddsBroken, earliest};
 ghost use Rattle.document_parts.specs.Parts.{field_part_of, argument_part_of, parts_in};
 ghost use Rattle.typed_rules.specs.ArgumentNames.{unknown_argument, broken_argument, type_name_arguments, unknown_arguments};
 
@@ -23,8 +23,7 @@ fn unknown_argument<'d>(part: &ArgumentPart<'d>) -> Option<Broken<'d>>
 
 // Adds all of these arguments as faults.
 fn add_all<'d>(earliest: &mut Earliest<'d>, arguments: &'d [Argument])
-    ensures { option_map broken_of earliest.new.found
-        ≡ fold with_broken (option_map broken_of earliest.old.found) (map broken_argument (arguments_of arguments.now)) }
+    ensures { AddsBroken earliest.old earliest.new (map broken_argument (arguments_of arguments.now)) }
 {
     for argument in arguments {
         earliest.add(Broken::named(argument.name.as_str(), argument.place));
@@ -33,7 +32,7 @@ fn add_all<'d>(earliest: &mut Earliest<'d>, arguments: &'d [Argument])
 
 // The arguments of `__typename`, which has none.
 fn add_type_name_arguments<'d>(earliest: &mut Earliest<'d>, part: &FieldPart<'d>)
-    ensures { option_map broken_of earliest.new.found ≡ fold with_broken (option_map broken_of earliest.old.found) (type_name_arguments (field_part_of part.now)) }
+    ensures { AddsBroken earliest.old earliest.new (type_name_arguments (field_part_of part.now)) }
 {
     if is_type_name(part) {
         add_all(earliest, &part.field.arguments);

@@ -3,8 +3,8 @@
 ghost use Rattle.std.specs.Prelude.{◌≡◌, ◌++◌, ◌∷◌, [], ℕ, List, IfOk, IfSome, OnOk, true, bytes_eq, map, nat_eq, if◌then◌else◌};
 ghost use Rattle.std.specs.List.{list_any};
 ghost use Rattle.std.specs.Option.{option_map};
-ghost use Rattle.document_parts.specs.Parts.{VariableUse as Use, use_of, location_of};
-ghost use Rattle.typed_rules.specs.UseKinds.{same_location, listed, is_listed, use_at, AreKinds};
+ghost use Rattle.document_parts.specs.Parts.{use_of, location_of};
+ghost use Rattle.typed_rules.specs.UseKinds.{same_location, listed, is_listed, IsStandIn, AreKinds};
 
 use crate::compatible_types::are_compatible;
 use document_parts::{Location, VariableUse};
@@ -62,8 +62,7 @@ fn noted<'k>(known: &'k Known, name: &str) -> &'k [usize]
 
 // Of these uses, which are of its name, one that stands for a use.
 fn stand_in(uses: &[VariableUse], places: &[usize], part: &VariableUse) -> Option<usize>
-    ensures { IfSome result (λ k. (list_any (nat_eq k) places.now ≡ true)
-        × (same_location (use_at (map use_of uses.now) k).location (use_of part.now).location ≡ true)) }
+    ensures { IfSome result (IsStandIn (map use_of uses.now) places.now (use_of part.now)) }
 {
     let is_like = |place: &usize| match uses.get(*place) {
         Some(other) => same_location(other.location, part.location),

@@ -1,10 +1,14 @@
 -- The values of variables (section 6.1.2, CoerceVariableValues).
 use Rattle.std.specs.Prelude.{◌≡◌, ℕ, Bool, ◌||◌, is_some, List, [], ◌∷◌, ◌++◌, Option, Some, None, Result, Ok, Err, string_bytes, if◌then◌else◌}
 use Rattle.serde_json.specs.Data.{Data}
+use Rattle.serde_json.specs.View.{view}
+use Rattle.serde_json.specs.declared.value.Value as rust-data
 use Rattle.serde_json.specs.Find.{get, as_null, as_object}
-use Rattle.gq_parser.specs.Tree.{Value, VariableDefinition}
+use Rattle.gq_parser.specs.Tree.{Value, VariableDefinition, variables_of as definitions_of}
+use Rattle.gq_parser.specs.declared.tree.VariableDefinition as rust-document
+use Rattle.schema_syntax.specs.declared.tree.Definition as rust-schema
 use Rattle.schema_syntax.specs.Tree.{Definition}
-use Rattle.gq_schema.specs.Types.{is_non_null}
+use Rattle.gq_schema.specs.Types.{tree_of, is_non_null}
 use Rattle.gq_schema.specs.Inputs.{Input}
 use Rattle.gq_schema.specs.Coercion.{coerced}
 use Rattle.variable_values.specs.declared.fault.VariableFault.{VariableFault}
@@ -69,6 +73,10 @@ gives_values d = is_some (as_null d) || is_some (as_object d)
 -- the variables that have a value, where this is given for all, or why there are none
 abbrev pub coerced_variables : List Definition → List VariableDefinition → Data → Result (List VariableOf) FaultOf
 coerced_variables defs vs given = if gives_values given then values_of defs given vs else Err not_object
+
+-- the same of what was read
+abbrev pub read_variables : List rust-schema.Definition → List rust-document.VariableDefinition → rust-data.Value → Result (List VariableOf) FaultOf
+read_variables schema definitions given = coerced_variables (tree_of schema) (definitions_of definitions) (view given)
 
 -- the fault that is reported where values are wanted; of memory this says nothing
 abbrev pub IsVariableFault : Result (List VariableOf) FaultOf → VariableFault → Type 0

@@ -3,11 +3,11 @@
 ghost use Rattle.std.specs.Prelude.{◌≡◌, Ok, IfOk, IfErr};
 ghost use Rattle.std.specs.Option.{option_map};
 ghost use Rattle.serde_json.specs.View.{view};
-ghost use Rattle.gq_parser.specs.Tree.{variable_of as definition_of, variables_of as definitions_of};
+ghost use Rattle.gq_parser.specs.Tree.{variable_of as definition_of};
 ghost use Rattle.gq_schema.specs.Types.{tree_of};
 ghost use Rattle.gq_schema.specs.Inputs.{input_of};
 ghost use Rattle.variable_values.specs.Variables.{variables_of};
-ghost use Rattle.variable_values.specs.Values.{right_value, default_value, given_value, coerced_variables, IsVariableFault};
+ghost use Rattle.variable_values.specs.Values.{right_value, default_value, given_value, read_variables, IsVariableFault};
 ghost use Rattle.variable_values.specs.Seen.{value_seen};
 
 use crate::fault::VariableFault;
@@ -97,9 +97,8 @@ pub fn coerce_variables(
     definitions: &[VariableDefinition],
     given: &Value,
 ) -> Result<Vec<Variable>, VariableFault>
-    ensures ok { IfOk result (λ variables. coerced_variables (tree_of schema.now) (definitions_of definitions.now) (view given.now)
-        ≡ Ok (variables_of variables.items)) }
-    ensures err { IfErr result (IsVariableFault (coerced_variables (tree_of schema.now) (definitions_of definitions.now) (view given.now))) }
+    ensures ok { IfOk result (λ variables. read_variables schema.now definitions.now given.now ≡ Ok (variables_of variables.items)) }
+    ensures err { IfErr result (IsVariableFault (read_variables schema.now definitions.now given.now)) }
 {
     if !given.is_null() && !given.is_object() {
         return Err(VariableFault::NotObject);

@@ -1,12 +1,11 @@
 //! The coercion of JSON values to types (section 3, Input Coercion).
 
-ghost use Rattle.std.specs.Prelude.{◌≡◌, IfOk, pos, map, string_bytes};
-ghost use Rattle.std.specs.Option.{option_map};
+ghost use Rattle.std.specs.Prelude.{pos, string_bytes};
 ghost use Rattle.serde_json.specs.View.{view, number_view, items_view};
 ghost use Rattle.gq_parser.specs.Tree.{type_of};
 ghost use Rattle.gq_parser.specs.Types.{is_non_null};
 ghost use Rattle.gq_schema.specs.Types.{tree_of};
-ghost use Rattle.gq_schema.specs.Inputs.{input_of};
+ghost use Rattle.gq_schema.specs.Inputs.{Coerces};
 ghost use Rattle.gq_schema.specs.Coercion.{list_input, one_item};
 ghost use Rattle.variable_values.specs.JsonCoercion.{from_integer, from_number, from_string, named_data, all_data, data_input};
 
@@ -16,7 +15,7 @@ use serde_json::{Number, Value};
 use std::alloc::{AllocError, Global};
 
 fn coerce_unsigned(alloc: Global, name: &str, n: u64) -> Result<Option<Input>, AllocError>
-    ensures { IfOk result (λ input. option_map input_of input ≡ from_integer name.now (pos n)) }
+    ensures { Coerces (from_integer name.now (pos n)) result }
 {
     if name == "Int" {
         return Ok(i32::try_from(n).ok().map(Input::Int));
@@ -28,7 +27,7 @@ fn coerce_unsigned(alloc: Global, name: &str, n: u64) -> Result<Option<Input>, A
 }
 
 fn coerce_signed(alloc: Global, name: &str, n: i64) -> Result<Option<Input>, AllocError>
-    ensures { IfOk result (λ input. option_map input_of input ≡ from_integer name.now n) }
+    ensures { Coerces (from_integer name.now n) result }
 {
     if name == "Int" {
         return Ok(i32::try_from(n).ok().map(Input::Int));
@@ -40,7 +39,7 @@ fn coerce_signed(alloc: Global, name: &str, n: i64) -> Result<Option<Input>, All
 }
 
 fn coerce_number(alloc: Global, name: &str, number: &Number) -> Result<Option<Input>, AllocError>
-    ensures { IfOk result (λ input. option_map input_of input ≡ from_number name.now (number_view number.now)) }
+    ensures { Coerces (from_number name.now (number_view number.now)) result }
 {
     if let Some(n) = number.as_u64() {
         return Ok(coerce_unsigned(alloc, name, n)?);
@@ -52,7 +51,7 @@ fn coerce_number(alloc: Global, name: &str, number: &Number) -> Result<Option<In
 }
 
 fn coerce_string(schema: &Schema, name: &str, text: &String) -> Result<Option<Input>, AllocError>
-    ensures { IfOk result (λ input. option_map input_of input ≡ from_string (tree_of schema.now) name.now (string_bytes text.now)) }
+    ensures { Coerces (from_string (tree_of schema.now) name.now (string_bytes text.now)) result }
 {
     if name == "ID" || name == "String" || schema.has_value(name, text.as_str()) {
         return Ok(Some(Input::Text(text.clone()?)));
@@ -67,8 +66,7 @@ fn coerce_named(
     name: &str,
     value: &Value,
 ) -> Result<Option<Input>, AllocError>
-    ensures { IfOk result (λ input. option_map input_of input
-        ≡ named_data (tree_of schema.now) name.now (is_non_null (type_of ty.now)) (view value.now)) }
+    ensures { Coerces (named_data (tree_of schema.now) name.now (is_non_null (type_of ty.now)) (view value.now)) result }
 {
     match value {
         Value::Null => Ok((!ty.is_non_null()).then_some(Input::Null)),
@@ -91,7 +89,7 @@ pub fn coerce_json(
     ty: &TypeRef,
     value: &Value,
 ) -> Result<Option<Input>, AllocError>
-    ensures { IfOk result (λ input. option_map input_of input ≡ data_input (tree_of schema.now) (type_of ty.now) (view value.now)) }
+    ensures { Coerces (data_input (tree_of schema.now) (type_of ty.now) (view value.now)) result }
 {
     match ty {
         TypeRef::Named { name, .. } => {
@@ -116,7 +114,7 @@ fn coerce_one(
     ty: &TypeRef,
     value: &Value,
 ) -> Result<Option<Input>, AllocError>
-    ensures { IfOk result (λ input. option_map input_of input ≡ one_item (data_input (tree_of schema.now) (type_of ty.now) (view value.now))) }
+    ensures { Coerces (one_item (data_input (tree_of schema.now) (type_of ty.now) (view value.now))) result }
 {
     let item = coerce_json(alloc, schema, ty, value)?;
     Ok(list_of_one(alloc, item)?)
@@ -130,7 +128,7 @@ fn coerce_all(
     ty: &TypeRef,
     values: &[Value],
 ) -> Result<Option<Input>, AllocError>
-    ensures { IfOk result (λ input. option_map input_of input ≡ list_input (all_data (data_input (tree_of schema.now) (type_of ty.now)) (items_view values.now))) }
+    ensures { Coerces (list_input (all_data (data_input (tree_of schema.now) (type_of ty.now)) (items_view values.now))) result }
 {
     let mut inputs = Vec::with_capacity(alloc, values.len())?;
     for value in values {

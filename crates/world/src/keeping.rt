@@ -179,7 +179,8 @@ impl<'w> KeptDocuments<'w> {
     ) -> Result<Plan<'_>, RequestFault>
         ensures schema { IfOk result (λ plan. plan.definitions ≡ self.now.world.definitions) }
         ensures bindings { IfOk result (λ plan. plan.bindings ≡ self.now.world.bindings) }
-        ensures ok { IfOk result (λ p. IsPlanOf (tree_of self.now.world.definitions) query.now (name_given operation_name.entry) (view variables.now) (plan_of p)) }
+        ensures ok { IfOk result (λ p. IsPlanOf (tree_of self.now.world.definitions) query.now
+            (name_given operation_name.entry) (view variables.now) (plan_of p)) }
         ensures err { IfErr result (IsRequestFault (tree_of self.now.world.definitions) query.now (name_given operation_name.entry) (view variables.now)) }
     {
         let Some(kept) = self.documents.get(query) else {

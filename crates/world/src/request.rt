@@ -129,7 +129,8 @@ impl World {
     ) -> Result<Plan<'_>, RequestFault>
         ensures schema { IfOk result (λ plan. plan.definitions ≡ self.now.definitions) }
         ensures bindings { IfOk result (λ plan. plan.bindings ≡ self.now.bindings) }
-        ensures ok { IfOk result (λ plan. IsPlanOf (tree_of self.now.definitions) query.now (name_given operation_name.entry) (view variables.now) (plan_of plan)) }
+        ensures ok { IfOk result (λ plan. IsPlanOf (tree_of self.now.definitions) query.now
+            (name_given operation_name.entry) (view variables.now) (plan_of plan)) }
         ensures err { IfErr result (IsRequestFault (tree_of self.now.definitions) query.now (name_given operation_name.entry) (view variables.now)) }
     {
         let checked = match checked(alloc, self, query) {

@@ -1,5 +1,5 @@
 -- What answers a request over a world.
-use Rattle.std.specs.Prelude.{◌≡◌, ℕ, Bool, false, List, [], map, Option, Some, None, codes, slice_get}
+use Rattle.std.specs.Prelude.{◌≡◌, ℕ, Bool, false, List, [], map, Option, Some, None, codes, slice_get, string_bytes}
 use Rattle.gq_lexer.specs.declared.place.Place.{Place}
 use Rattle.serde_json.specs.Data.{Data, null}
 use Rattle.gq_schema.specs.Types.{tree_of}
@@ -13,7 +13,8 @@ use Rattle.execution.specs.Rounds.{direct}
 use Rattle.plan_program.specs.PlanPrograms.{plan_program}
 use Rattle.answer_json.specs.Answer.{json_text, refusal_json}
 use Rattle.load_rounds.specs.Headline.{IsTextOf, Headline}
-use Rattle.load_rounds.specs.Sessions.{StateOf, state_of}
+use Rattle.load_rounds.specs.Sessions.{SessionOf, StateOf, state_of}
+use Rattle.load_rounds.specs.declared.answer.Answer.{Answer}
 use Rattle.load_rounds.specs.Within.{text_within}
 use Rattle.request_line.specs.Requests.{RequestOf}
 use Rattle.world.specs.declared.request.RequestFault.{RequestFault}
@@ -49,6 +50,10 @@ may_tell source keys answer = answer ≡ given (map (item_of_key source) keys)
 pub record AnswersAnew (s : ServiceOf) (plan : PlanOf) (after : StateOf SourceOf) (text : List ℕ) (rounds : ℕ) : Type 0 where
   pub valid : IsPlan plan
   pub headline : Headline may_tell (state_of (session_over s.world)) after (plan_program plan) (text_within s.most) text rounds
+
+-- the same of an answer in a session
+abbrev pub IsGivenAnew : ServiceOf → PlanOf → SessionOf SourceOf → Answer → Type 0
+IsGivenAnew s plan session a = AnswersAnew s plan (state_of session) (string_bytes a.text) a.rounds
 
 -- ---- *Program output*, of one request
 

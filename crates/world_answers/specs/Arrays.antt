@@ -1,12 +1,14 @@
 -- What answers an array: its answers in brackets, of which those of plans are given over one session.
 use Rattle.std.specs.Prelude.{◌≡◌, ℕ, List, [], ◌∷◌, ◌++◌, map, Option, Some, None, codes}
+use Rattle.std.specs.Global.{Vec}
 use Rattle.std.specs.List.{All, AllZip, join_by}
 use Rattle.csv_source.specs.Tables.{SourceOf}
 use Rattle.gq_check.specs.Plans.{PlanOf}
 use Rattle.gq_check.specs.Planned.{IsPlan}
 use Rattle.plan_program.specs.PlanPrograms.{plan_program}
-use Rattle.load_rounds.specs.Sessions.{StateOf, state_of}
-use Rattle.load_rounds.specs.SharedRounds.{ReportOf, requests, SharedHeadline}
+use Rattle.load_rounds.specs.Sessions.{SessionOf, StateOf, state_of}
+use Rattle.load_rounds.specs.declared.answer.Answer.{Answer}
+use Rattle.load_rounds.specs.SharedRounds.{ReportOf, report_of, requests, SharedHeadline}
 use Rattle.load_rounds.specs.Within.{text_within}
 use Rattle.request_line.specs.Requests.{RequestOf}
 use Rattle.world.specs.Worlds.{WorldOf}
@@ -20,6 +22,10 @@ use Rattle.world_answers.specs.Sessions.{session_over}
 -- what was asked, in batches of at most the world's limit.
 abbrev pub AnswersTogether : ServiceOf → List PlanOf → StateOf SourceOf → List ReportOf → Type 0
 AnswersTogether s plans after reports = SharedHeadline may_tell (state_of (session_over s.world)) after (requests plan_program (λ plan. text_within s.most) plans) reports
+
+-- the same of answers in a session
+abbrev pub AreGivenTogether : ServiceOf → List PlanOf → SessionOf SourceOf → Vec Answer → Type 0
+AreGivenTogether s plans session answers = AnswersTogether s plans (state_of session) (map report_of answers.items)
 
 -- ---- the values of an array
 

@@ -2,8 +2,7 @@
 
 ghost use Rattle.std.specs.Prelude.{◌≡◌, ℕ, List, IfOk, OnOk, length, string_bytes};
 ghost use Rattle.gq_check.specs.Plans.{plan_of};
-ghost use Rattle.load_rounds.specs.Sessions.{state_of};
-ghost use Rattle.world_answers.specs.Answers.{IsAnsweredAnew, AnswersAnew};
+ghost use Rattle.world_answers.specs.Answers.{IsAnsweredAnew, IsGivenAnew};
 ghost use Rattle.world_answers.specs.Lines.{IsAnswer};
 ghost use Rattle.world_answers.specs.Planning.{PlansLine, AnswersLinePlan};
 ghost use Rattle.world_answers.specs.Services.{service_of};
@@ -33,8 +32,7 @@ fn answer_plan<'w, B: Served>(
 ) -> Result<InSession<CsvSource<'w>, Answer>, NoMemory>
     requires world { service.now.world.now ≡ B.world }
     requires plan { (plan_of plan.now).bindings ≡ service.now.world.now.bindings }
-    ensures anew { IfOk result (λ given. AnswersAnew (service_of service.now) (plan_of plan.now) (state_of given.session)
-        (string_bytes given.answered.text) given.answered.rounds) }
+    ensures anew { IfOk result (λ given. IsGivenAnew (service_of service.now) (plan_of plan.now) given.session given.answered) }
     // Each loader of the bindings has a source.
     ensures each { OnOk result (length service.now.world.now.sources ≡ length service.now.world.now.bindings.loaders) }
 {

@@ -1,10 +1,8 @@
 //! Arrays of requests: what their values ask over a world, and their answers, of which those of plans are given over one session.
 
 ghost use Rattle.std.specs.Prelude.{◌≡◌, [], All, map, length, IfOk, OnOk, string_bytes};
-ghost use Rattle.load_rounds.specs.Sessions.{state_of};
-ghost use Rattle.load_rounds.specs.SharedRounds.{report_of};
 ghost use Rattle.world.specs.Worlds.{WorldOf};
-ghost use Rattle.world_answers.specs.Arrays.{AnswersTogether, array_text};
+ghost use Rattle.world_answers.specs.Arrays.{AreGivenTogether, array_text};
 ghost use Rattle.world_answers.specs.Planning.{PlansArray, AddsPlan, AnswersArrayPlan, AreLimited, refusals_of, plans_of, in_places};
 ghost use Rattle.world_answers.specs.Services.{service_of};
 
@@ -74,7 +72,8 @@ impl<'w> ArrayPlan<'w> {
 
     // The text of each value: its refusal, or the next of these answers.
     fn texts<'t>(&'t self, alloc: Global, answers: &'t [Answer]) -> Result<Vec<&'t str>, AllocError>
-        ensures { IfOk result (λ texts. map (λ t. t.now) texts.items ≡ in_places (refusals_of self.entry.now) (map (λ a. string_bytes a.text) answers.entry.now)) }
+        ensures { IfOk result (λ texts. map (λ t. t.now) texts.items
+            ≡ in_places (refusals_of self.entry.now) (map (λ a. string_bytes a.text) answers.entry.now)) }
     {
         let mut texts = Vec::with_capacity(alloc, self.refusals.len())?;
         let mut left = answers;
@@ -112,8 +111,7 @@ fn answer_plans<'w, B: Served>(
 ) -> Result<InSession<CsvSource<'w>, Vec<Answer>>, NoMemory>
     requires world { service.now.world.now ≡ B.world }
     requires plans { All (λ plan. plan.bindings ≡ service.now.world.now.bindings) (plans_of array.now) }
-    ensures anew { IfOk result (λ given. AnswersTogether (service_of service.now) (plans_of array.now) (state_of given.session)
-        (map report_of given.answered.items)) }
+    ensures anew { IfOk result (λ given. AreGivenTogether (service_of service.now) (plans_of array.now) given.session given.answered) }
     // Each loader of the bindings has a source.
     ensures each { OnOk result (length service.now.world.now.sources ≡ length service.now.world.now.bindings.loaders) }
 {

@@ -6,7 +6,7 @@ use Rattle.world_files.specs.declared.fault.OpenFault.{OpenFault}
 use Rattle.world_files.specs.declared.fault.OpenFault.TheVariants as opening
 use Rattle.world_files.specs.declared.files.WorldFiles.{WorldFiles}
 use Rattle.world.specs.Sources.{TableOf}
-use Rattle.world.specs.Worlds.{IsRefusal}
+use Rattle.world.specs.Worlds.{WorldOf, IsWorld, IsRefusal}
 
 -- the text is all that a file has, or both are longer than a text may be
 abbrev pub IsWholeOrLong : ℕ → List ℕ → List ℕ → Type 0
@@ -48,6 +48,10 @@ IsLocated files (opening.Unread file reason) = IsFileOf files file
 IsLocated files (opening.Table place fault reason) = place < length files.tables.items
 IsLocated files (opening.World fault) = Unit {0}
 IsLocated files opening.NoMemory = Unit {0}
+
+-- some texts and tables that were read are this world, with this limit
+abbrev pub IsOpened : Option ℕ → WorldOf → Type 0
+IsOpened max w = (schema : List ℕ) × (bindings : List ℕ) × (tables : List TableOf) × IsWorld schema bindings tables max w
 
 -- there is no world with this limit of the texts and tables that were read, for this fault, or they weren't read
 abbrev pub IsUnmade : Option ℕ → OpenFault → Type 0

@@ -1,11 +1,9 @@
 //! Reading files.
 
-ghost use Rattle.std.specs.Prelude.{◌≡◌, ◌<◌, ◌≤◌, ℕ, List, length, IfOk, IfErr, IfSome, string_bytes, string_len};
+ghost use Rattle.std.specs.Prelude.{◌≡◌, ◌<◌, ◌≤◌, length, IfOk, IfErr, IfSome, string_bytes, string_len};
 ghost use Rattle.std.specs.String.{from_utf8_error_vec};
-ghost use Rattle.world.specs.Sources.{TableOf};
-ghost use Rattle.world.specs.Worlds.{IsWorld};
 ghost use Rattle.world_files.specs.declared.fault.InputFile.TheVariants.{Requests};
-ghost use Rattle.world_files.specs.Opening.{IsUnread, IsUnopened, IsUnopenedOf, IsUnmade, IsLocated, IsWholeOrLong};
+ghost use Rattle.world_files.specs.Opening.{IsOpened, IsUnread, IsUnopened, IsUnopenedOf, IsUnmade, IsLocated, IsWholeOrLong};
 
 use crate::fault::{InputFile, OpenFault};
 use csv_source::{Table, TableFault};
@@ -217,8 +215,7 @@ fn table_files<R: Files + AllocGlobal>(
 /// read; `World` where there is no world of what was read; and want of memory.
 #[tactic(auto, using(crate::proofs::Opened::using_opened))]
 pub fn open_world<R: Files + AllocGlobal>(rt: &R, files: &WorldFiles) -> Result<World, OpenFault>
-    ensures ok { IfOk result (λ world. (schema : List ℕ) × (bindings : List ℕ) × (tables : List TableOf)
-        × IsWorld schema bindings tables files.now.max_batch world) }
+    ensures ok { IfOk result (IsOpened files.now.max_batch) }
     ensures err { IfErr result (IsUnmade files.now.max_batch) }
     ensures located { IfErr result (IsLocated files.now) }
 {

@@ -1,10 +1,8 @@
 //! Arrays of requests, whose plans are answered over one session by workers.
 
-ghost use Rattle.std.specs.Prelude.{◌≡◌, All, map, length, IfOk, OnOk, string_bytes};
-ghost use Rattle.load_rounds.specs.Sessions.{state_of};
-ghost use Rattle.load_rounds.specs.SharedRounds.{report_of};
+ghost use Rattle.std.specs.Prelude.{◌≡◌, All, length, IfOk, OnOk, string_bytes};
 ghost use Rattle.batch_workers.specs.Workers.{IsBadCount};
-ghost use Rattle.world_answers.specs.Arrays.{AnswersTogether};
+ghost use Rattle.world_answers.specs.Arrays.{AreGivenTogether};
 ghost use Rattle.world_answers.specs.Planning.{AnswersArrayPlan, plans_of};
 ghost use Rattle.world_answers.specs.Services.{service_of};
 
@@ -31,8 +29,7 @@ fn answer_plans<'w, R: Threads + Wait + AllocGlobal + Sync, G: Gate + Copy, B: S
     requires world { service.now.world.now ≡ B.world }
     requires plans { All (λ plan. plan.bindings ≡ service.now.world.now.bindings) (plans_of array.now) }
     requires count { ¬ (IsBadCount workers) }
-    ensures anew { IfOk result (λ given. AnswersTogether (service_of service.now) (plans_of array.now) (state_of given.session)
-        (map report_of given.answered.items)) }
+    ensures anew { IfOk result (λ given. AreGivenTogether (service_of service.now) (plans_of array.now) given.session given.answered) }
     // Each loader of the bindings has a source.
     ensures each { OnOk result (length service.now.world.now.sources ≡ length service.now.world.now.bindings.loaders) }
 {

@@ -2,11 +2,10 @@
 
 ghost use Rattle.std.specs.Prelude.{◌≡◌, ℕ, List, ◌<◌, ◌≤◌, ◌↔◌, None, OnOk, IfOk, IfErr, IsErrOf, length, string_bytes};
 ghost use Rattle.gq_check.specs.Plans.{plan_of};
-ghost use Rattle.load_rounds.specs.Sessions.{state_of};
 ghost use Rattle.batch_workers.specs.Workers.{IsBadCount};
 ghost use Rattle.line_serving.specs.Devices.{bound, faults_of, calls_of, given_of};
 ghost use Rattle.line_serving.specs.Serving.{CountsReadFault, faults_at};
-ghost use Rattle.world_answers.specs.Answers.{IsAnsweredAnew, AnswersAnew};
+ghost use Rattle.world_answers.specs.Answers.{IsAnsweredAnew, IsGivenAnew};
 ghost use Rattle.world_answers.specs.Lines.{IsAnswer};
 ghost use Rattle.world_answers.specs.Planning.{PlansLine, AnswersLinePlan};
 ghost use Rattle.world_answers.specs.Services.{within, service_of};
@@ -43,8 +42,7 @@ fn answer_plan<'w, R: Threads + Wait + AllocGlobal + Sync, G: Gate + Copy, B: Se
     requires world { service.now.world.now ≡ B.world }
     requires plan { (plan_of plan.now).bindings ≡ service.now.world.now.bindings }
     requires count { ¬ (IsBadCount workers) }
-    ensures anew { IfOk result (λ given. AnswersAnew (service_of service.now) (plan_of plan.now) (state_of given.session)
-        (string_bytes given.answered.text) given.answered.rounds) }
+    ensures anew { IfOk result (λ given. IsGivenAnew (service_of service.now) (plan_of plan.now) given.session given.answered) }
     // Each loader of the bindings has a source.
     ensures each { OnOk result (length service.now.world.now.sources ≡ length service.now.world.now.bindings.loaders) }
 {

@@ -16,7 +16,8 @@ fn note(
     name: &String,
     number: usize,
 ) -> Result<(), AllocError>
-    ensures ok { (q : List ℕ) → OnOk result (get_by_text numbers.new q ≡ (if bytes_eq q (string_bytes name.now) then Some number else get_by_text numbers.old q)) }
+    ensures ok { (q : List ℕ) → OnOk result (get_by_text numbers.new q
+        ≡ (if bytes_eq q (string_bytes name.now) then Some number else get_by_text numbers.old q)) }
     ensures err { (q : List ℕ) → OnErr result (get_by_text numbers.new q ≡ get_by_text numbers.old q) }
 {
     numbers.insert(name.clone()?, number)?;

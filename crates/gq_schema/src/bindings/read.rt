@@ -217,7 +217,8 @@ impl Bindings {
         field_name: &str,
         form: Form<'_>,
     ) -> Result<bool, AllocError>
-        ensures { IfOk result (AreNewIf (after_statement (tree_of schema.now) self.old (field_line type_name.now field_name.now (form_seen form.entry))) self.new) }
+        ensures { IfOk result (AreNewIf (after_statement (tree_of schema.now) self.old
+            (field_line type_name.now field_name.now (form_seen form.entry))) self.new) }
     {
         if self.fields.get(type_name, field_name).is_some() {
             return Ok(false);

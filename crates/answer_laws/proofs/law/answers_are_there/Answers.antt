@@ -5,4 +5,4 @@ pub returns-clause-direct : goal.returns-clause-direct
 returns-clause-direct c = λ p item. direct-some item p
 
 pub returns-clause-log : goal.returns-clause-log
-returns-clause-log c = λ item rules p M limited loaders alike held. log-there item rules p alike M held limited loaders
+returns-clause-log c = λ item rules p M by. log-there item rules p by.alike M by.held by.limited by.loaders
