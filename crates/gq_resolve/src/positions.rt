@@ -1,6 +1,6 @@
 //! Positions of an answer, and what is put at them.
 
-ghost use Rattle.std.specs.Prelude.{◌≡◌};
+ghost use Rattle.std.specs.Prelude.{◌≡◌, None};
 ghost use Rattle.gq_resolve.specs.Positions.{is_non_null};
 
 use gq_lexer::Place;
@@ -55,6 +55,19 @@ pub struct Onward {
     pub later: Option<usize>,
     /// How many levels of objects there may be below it.
     pub levels: u32,
+}
+
+impl Onward {
+    /// Onward at the group of this number, with at most so many levels of objects below.
+    pub fn at(group: usize, levels: u32) -> Onward
+        ensures { result ≡ record { group = group; later = None; levels = levels } }
+    {
+        Onward {
+            group,
+            later: None,
+            levels,
+        }
+    }
 }
 
 impl Nullability {

@@ -7,7 +7,7 @@ ghost use Rattle.plan_program.specs.Prepared.{key_from_seen, keys_seen};
 ghost use Rattle.plan_program.specs.PlanPrograms.{with_rows, read_from, read_key, read_if};
 ghost use Rattle.gq_resolve.specs.Groups.{AreOnly};
 ghost use Rattle.gq_resolve.specs.Positions.{is_non_null, onward_of};
-ghost use Rattle.gq_resolve.specs.Walks.{WalksMembers, WalksAsks, WalksAt, WalksList, WalksLater, WalksRow, WalksTyped, LetsGo, items_after, items_read};
+ghost use Rattle.gq_resolve.specs.Walks.{WalksMembers, WalksAsks, WalksAt, WalksList, WalksLater, WalksRow, WalksTyped, LetsGo, after_load, items_after, items_read};
 
 use crate::cells::{TypeOf, type_of_row};
 use crate::following::{Followed, follow_steps};
@@ -98,35 +98,18 @@ impl<'w, 'p, 'a> Tour<'w, 'p, 'a> {
                 )
             }
             Asks::Load { loader, key, group } => {
-                let onward = Onward {
-                    group: *group,
-                    later: None,
-                    levels,
+                let to = Loading {
+                    onward: Onward::at(*group, levels),
+                    nullability,
                 };
-                self.read_from(
-                    at,
-                    Loading {
-                        onward,
-                        nullability,
-                    },
-                    *loader,
-                    key,
-                    row,
-                )
+                self.read_from(at, to, *loader, key, row)
             }
             Asks::Each {
                 loader,
                 keys,
                 items,
                 group,
-            } => {
-                let onward = Onward {
-                    group: *group,
-                    later: None,
-                    levels,
-                };
-                self.each(at, onward, *loader, keys, *items)
-            }
+            } => self.each(at, Onward::at(*group, levels), *loader, keys, *items),
         }
     }
 
@@ -140,7 +123,7 @@ impl<'w, 'p, 'a> Tour<'w, 'p, 'a> {
         key: &KeyFrom<'p>,
         row: &Row,
     ) -> Result<(), NoMemory>
-        ensures { OnOk result (WalksAt S.goes S.below self.now to (λ v. read_from loader (key_from_seen key.now) row.now (v.after (onward_of to.onward))) at.old at.new) }
+        ensures { OnOk result (WalksAt S.goes S.below self.now to (λ v. read_from loader (key_from_seen key.now) row.now (after_load to v)) at.old at.new) }
     {
         match key_over(key, row) {
             KeyOver::Known(key) => self.read(at, to, loader, key),
@@ -161,7 +144,7 @@ impl<'w, 'p, 'a> Tour<'w, 'p, 'a> {
         loader: usize,
         key: KeyRef<'_>,
     ) -> Result<(), NoMemory>
-        ensures { OnOk result (WalksAt S.goes S.below self.now to (λ v. read_key loader (borrowed_of key.entry) (v.after (onward_of to.onward))) at.old at.new) }
+        ensures { OnOk result (WalksAt S.goes S.below self.now to (λ v. read_key loader (borrowed_of key.entry) (after_load to v)) at.old at.new) }
     {
         match look_up(self.alloc, self.memory, &mut at.probe, loader, key)? {
             Some(outcome) => self.go_on(at, to, outcome),
@@ -177,7 +160,7 @@ impl<'w, 'p, 'a> Tour<'w, 'p, 'a> {
         to: Loading,
         outcome: &Outcome,
     ) -> Result<(), NoMemory>
-        ensures { OnOk result (WalksAt S.goes S.below self.now to (λ v. with_rows (v.after (onward_of to.onward)) (outcome_of outcome.now)) at.old at.new) }
+        ensures { OnOk result (WalksAt S.goes S.below self.now to (λ v. with_rows (after_load to v) (outcome_of outcome.now)) at.old at.new) }
     {
         match outcome {
             Outcome::Rows(rows) => self.rows(at, to, rows),
@@ -198,7 +181,7 @@ impl<'w, 'p, 'a> Tour<'w, 'p, 'a> {
         to: Loading,
         rows: &[Row],
     ) -> Result<(), NoMemory>
-        ensures { OnOk result (WalksAt S.goes S.below self.now to (λ v. v.after (onward_of to.onward) rows.now) at.old at.new) }
+        ensures { OnOk result (WalksAt S.goes S.below self.now to (λ v. after_load to v rows.now) at.old at.new) }
     {
         if let Some(left) = to.onward.later {
             return self.first(at, to, left, rows);
@@ -236,7 +219,8 @@ impl<'w, 'p, 'a> Tour<'w, 'p, 'a> {
         left: usize,
         rows: &[Row],
     ) -> Result<(), NoMemory>
-        ensures { OnOk result (WalksList S.goes S.below self.now onward (λ v. items_after v at.old.groups.items (onward_of onward) left rows.now) at.old at.new) }
+        ensures { OnOk result (WalksList S.goes S.below self.now onward
+            (λ v. items_after v at.old.groups.items (onward_of onward) left rows.now) at.old at.new) }
     {
         let items = items_of(&at.groups, onward.group);
         let to = Loading {
@@ -290,7 +274,8 @@ impl<'w, 'p, 'a> Tour<'w, 'p, 'a> {
         keys: &[Option<Key>],
         items: Items,
     ) -> Result<(), NoMemory>
-        ensures { OnOk result (WalksList S.goes S.below self.now onward (λ v. items_read v items (onward_of onward) loader (keys_seen keys.now)) at.old at.new) }
+        ensures { OnOk result (WalksList S.goes S.below self.now onward
+            (λ v. items_read v items (onward_of onward) loader (keys_seen keys.now)) at.old at.new) }
     {
         let to = Loading {
             onward,
@@ -313,7 +298,7 @@ impl<'w, 'p, 'a> Tour<'w, 'p, 'a> {
         loader: usize,
         key: &Option<Key>,
     ) -> Result<(), NoMemory>
-        ensures { OnOk result (WalksAt S.goes S.below self.now to (λ v. read_if loader (v.after (onward_of to.onward)) (option_map key_of key.now)) at.old at.new) }
+        ensures { OnOk result (WalksAt S.goes S.below self.now to (λ v. read_if loader (after_load to v) (option_map key_of key.now)) at.old at.new) }
     {
         match key {
             Some(key) => self.read(at, to, loader, key.borrowed()),

@@ -1,4 +1,5 @@
 use Rattle.std.proofs.Common.{◌≡◌, ◌-◌, ◌∙◌, ◌<◌, ◌++◌, rules, ℕ, List, [], ◌∷◌, map, length, arith, sym, ap, subst, refl, Option, Some, Vec, Global, string_bytes, false}
+use Rattle.std.specs.Prelude.{OnOk}
 use Rattle.std.specs.Option.{option_map, option_copied}
 use Rattle.std.proofs.lemmas.List.{take_all, length-map}
 use Rattle.std.proofs.lemmas.Result.{on_ok_weaker}
@@ -18,6 +19,9 @@ use Rattle.gq_resolve.specs.Groups.{children_at, then_at, steps_in, Covers, AreO
 use Rattle.gq_resolve.specs.Puts.{Ends, Waits, View, OnwardOf, puts}
 use Rattle.gq_resolve.specs.Positions.{is_non_null, onward_of, later_of}
 use Rattle.gq_resolve.specs.Evaluated.{lookup}
+use Rattle.gq_resolve.specs.Walks.{WalksList, items_read}
+use Rattle.plan_program.specs.Prepared.{keys_seen}
+use Rattle.gq_resolve.specs.declared.positions.Onward.{Onward}
 use Rattle.gq_resolve.specs.Following.{followed_puts}
 use Rattle.gq_resolve.specs.declared.groups.Group.{Group}
 use Rattle.gq_resolve.specs.declared.groups.Member.{Member}
@@ -123,7 +127,9 @@ each-returns g t c =
 -- ---- what a position asks for
 
 pub ask-returns-in-Each : goal.ask-returns-in-Each
-ask-returns-in-Each g t c = rw (c.in-Each.is, ← c.deref.ensures.value) c.each.ensures
+ask-returns-in-Each g t c =
+    let put = λ (o : Onward). WalksList g.S.Sink.goes g.S.Sink.below c.args.self.now o (λ v. items_read v c.in-Each.items (onward_of o) c.in-Each.loader (keys_seen c.deref.result.now)) c.args.at.now c.each.new.at in
+    rw (c.in-Each.is, ← c.deref.ensures.value) (subst (λ (o : Onward). OnOk c.each.result (put o)) c.at-in-Each.ensures c.each.ensures)
 
 pub read_from-returns-in-Known : goal.read_from-returns-in-Known
 read_from-returns-in-Known g t c =
