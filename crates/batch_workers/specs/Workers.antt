@@ -23,7 +23,7 @@ ChangeNothing {S} may = (old turned worked : StateOf S) (p : Program) (text_of :
     → Headline may old turned p text_of (string_bytes turn.text) turn.rounds → Headline may old worked p text_of (string_bytes work.text) work.rounds
     → (string_bytes work.text ≡ string_bytes turn.text) × (work.rounds ≡ turn.rounds) × (worked ≡ turned)
 
--- After want of memory the finished rounds of a session stay, and perhaps one more was lost.
+-- When memory ran out, the finished rounds of a session stay, and perhaps one more was lost.
 abbrev pub Stops : {S : Type 0} → (S → List KeyOf → AnswerOf → Type 0) → SessionOf S → SessionOf S → Program → Type 0
 Stops may old new p = StopsAnswering may (state_of old) (state_of new) p
 

@@ -1,5 +1,5 @@
 -- What a walk over a program puts into a sink, one thing after another.
-use Rattle.std.specs.Prelude.{ℕ, Bool, List, [], ◌∷◌, ◌++◌, Option}
+use Rattle.std.specs.Prelude.{◌≡◌, ◌<◌, ℕ, Bool, List, [], ◌∷◌, ◌++◌, Option}
 use Rattle.load_memory.specs.Rows.{RowOf}
 use Rattle.load_memory.specs.Keys.{KeyOf}
 use Rattle.execution.specs.Loads.{Reader}
@@ -39,6 +39,10 @@ pub record OnwardOf : Type 0 where
 pub record View : Type 0 where
   pub count : ℕ
   pub after : OnwardOf → List RowOf → Program
+
+-- the groups before this number do the same in both
+abbrev pub Agree : ℕ → View → View → Type 0
+Agree n v w = (onward : OnwardOf) → onward.group < n → v.after onward ≡ w.after onward
 
 -- the program of a position that waits
 abbrev pub waiting : View → OnwardOf → ℕ → KeyOf → Program

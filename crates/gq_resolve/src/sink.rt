@@ -5,7 +5,7 @@ ghost use Rattle.load_memory.specs.Keys.{borrowed_of};
 ghost use Rattle.execution.specs.Program.{ObjectOf, ListOf};
 ghost use Rattle.plan_program.specs.Prepared.{leaf_value_seen};
 ghost use Rattle.gq_resolve.specs.Cells.{leaf_seen};
-ghost use Rattle.gq_resolve.specs.Puts.{Put, Begins, Ends, Enters, Has, OnwardOf, View, a_wait};
+ghost use Rattle.gq_resolve.specs.Puts.{Put, Begins, Ends, Enters, Has, View, Agree, a_wait};
 ghost use Rattle.gq_resolve.specs.Positions.{kind_of, is_non_null, position_seen, item_position, onward_of};
 
 use crate::positions::{FieldPosition, Items, Kind, Leaf, Nullability, Onward};
@@ -68,6 +68,6 @@ pub trait Sink {
     ghost stays: { (v : View) (ps : List Put) (a b : Self) → goes v ps a b → below v.count a → below v.count b };
 
     // Where no position more waits, it doesn't matter what groups do past those of the positions that wait.
-    ghost narrow: { (v w : View) (n : ℕ) (ps : List Put) (a b : Self) → n ≤ v.count → ((o : OnwardOf) → o.group < n → v.after o ≡ w.after o)
+    ghost narrow: { (v w : View) (n : ℕ) (ps : List Put) (a b : Self) → n ≤ v.count → Agree n v w
         → below n a → waits a ≡ waits b → goes w ps a b → goes v ps a b };
 }

@@ -68,7 +68,7 @@ pub record IsPlanned (w : WorldOf) (request : RequestOf) (plan : PlanOf) : Type 
   pub bindings : plan.bindings ≡ w.bindings
   pub planned : IsPlanOf (tree_of w.definitions) request.query request.operation_name (values_of request.variables) plan
 
--- the first fault of a request over a world; want of memory is none
+-- the first fault of a request over a world; that memory ran out is none
 pub record IsFaulty (w : WorldOf) (request : RequestOf) (fault : RequestFault) : Type 0 where
   pub reported : is_want_of_memory fault ≡ false
   pub faulty : IsRequestFault (tree_of w.definitions) request.query request.operation_name (values_of request.variables) fault
@@ -76,7 +76,7 @@ pub record IsFaulty (w : WorldOf) (request : RequestOf) (fault : RequestFault) :
 abbrev pub refusal_text : List ℕ → Option Place → List ℕ
 refusal_text message place = json_text (refusal_json message place)
 
--- the text refuses a request that has this fault; want of memory is none
+-- the text refuses a request that has this fault; that memory ran out is none
 abbrev pub RefusesFault : RequestFault → List ℕ → Type 0
 RefusesFault fault text = (is_want_of_memory fault ≡ false) × (text ≡ refusal_text (request_message fault) (request_place fault))
 
