@@ -4,7 +4,7 @@ use Rattle.json.specs.Json.{Json, number, string, array, object, Items, no_items
 use Rattle.json.specs.Lex.{tokens}
 use Rattle.json.specs.Print.{print}
 use Rattle.json.specs.Tree.{depth, json_tokens}
-use Rattle.gq_lexer.specs.declared.place.Place.{Place}
+use Rattle.text_place.specs.declared.place.Place.{Place}
 use Rattle.answer_json.specs.declared.response.FieldError.{FieldError}
 use Rattle.answer_json.specs.declared.response.PathPart.{PathPart}
 use Rattle.answer_json.specs.declared.response.PathPart.TheVariants.{Key, Item}

@@ -3,8 +3,8 @@ use Rattle.std.proofs.Common.{◌≡◌, refl, ℕ, ◌+◌, zero, suc, Bool, tr
 use Rattle.std.specs.List.{filter, filter_map, flat_map, find, list_any}
 use Rattle.std.specs.Option.{option_map, option_and_then, unwrap_or}
 use Rattle.std.specs.Prelude.{nat_lt, fold}
-use Rattle.gq_lexer.specs.Place.{is_before}
-use Rattle.gq_lexer.specs.declared.place.Place.{Place}
+use Rattle.text_place.specs.Order.{is_before}
+use Rattle.text_place.specs.declared.place.Place.{Place}
 use Rattle.gq_parser.specs.declared.tree.OperationKind.{OperationKind}
 use Rattle.gq_parser.specs.declared.tree.OperationKind.TheVariants as kind
 use Rattle.gq_parser.specs.Tree.{Value, Argument, Directive, Condition, VariableDefinition, Operation, Fragment, Document}

@@ -1,8 +1,8 @@
 -- What breaks a rule, and which of several such is reported.
 use Rattle.std.specs.Prelude.{◌≡◌, ℕ, List, ◌++◌, Option, Some, None, codes, fold, if◌then◌else◌}
 use Rattle.std.specs.Option.{option_map}
-use Rattle.gq_lexer.specs.Place.{is_before}
-use Rattle.gq_lexer.specs.declared.place.Place.{Place}
+use Rattle.text_place.specs.Order.{is_before}
+use Rattle.text_place.specs.declared.place.Place.{Place}
 use Rattle.document_parts.specs.declared.broken.BrokenName.{BrokenName}
 use Rattle.document_parts.specs.declared.broken.BrokenName.TheVariants.{Plain, Variable}
 use Rattle.document_parts.specs.declared.broken.Broken as rust

@@ -3,7 +3,7 @@
 use Rattle.std.specs.Prelude.{◌≡◌, ℕ, ◌+◌, true, ◌||◌, List, [], ◌∷◌, ◌++◌, map, flat_map, filter_map, Option, Some, None, is_some, codes, bytes_eq, if◌then◌else◌}
 use Rattle.std.specs.Global.{Vec}
 use Rattle.std.specs.Option.{option_map, option_and_then}
-use Rattle.gq_lexer.specs.declared.place.Place.{Place}
+use Rattle.text_place.specs.declared.place.Place.{Place}
 use Rattle.gq_parser.specs.Tree.{Named, Argument, Directive, Selection, Field, Spread, Inline, nothing_below, below, SelectionSet, VariableDefinition, Operation, Fragment, Document}
 use Rattle.schema_syntax.specs.Tree as schema
 use Rattle.gq_schema.specs.Implements.{argument_in}

@@ -2,7 +2,7 @@
 -- Texts are lists of bytes. Places in lists count from 0.
 use Rattle.std.specs.Prelude.{ℕ, Bool, List, Option, string_bytes}
 use Rattle.std.specs.Option.{option_map, option_copied}
-use Rattle.gq_lexer.specs.declared.place.Place.{Place}
+use Rattle.text_place.specs.declared.place.Place.{Place}
 use Rattle.gq_parser.specs.Tree.{Value, TypeTree, Argument, Directive, Condition, Selection, Below, SelectionSet, VariableDefinition, Document, text_if, type_of, literal_of, arguments_of, directives_of, condition_if, selection_of, set_of, below_of, variable_of}
 use Rattle.gq_parser.specs.declared.tree.Selection.TheViews.{out-Field}
 use Rattle.schema_syntax.specs.Tree as schema

@@ -1,6 +1,6 @@
 -- Parts of a document by their names, each at its place.
 use Rattle.std.specs.Prelude.{ℕ, List}
-use Rattle.gq_lexer.specs.declared.place.Place.{Place}
+use Rattle.text_place.specs.declared.place.Place.{Place}
 use Rattle.gq_parser.specs.Tree.{VariableDefinition, Fragment, Directive, Argument}
 use Rattle.document_parts.specs.Broken.{BrokenOf}
 

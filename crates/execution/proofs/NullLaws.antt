@@ -1,7 +1,7 @@
 -- The answer from below is one that *Completion* allows, and the only one.
 use Rattle.std.proofs.Common.{◌≡◌, ℕ, Bool, true, false, ◌||◌, ◌&&◌, List, [], ◌∷◌, ◌++◌, ◌↔◌, ◌⊎◌, if◌then◌else◌, inl, inr, zero, suc, ap, refl, sym, ◌∙◌, append_assoc, Some, None}
 use Rattle.std.specs.List.{flat_map}
-use Rattle.gq_lexer.specs.declared.place.Place.{Place}
+use Rattle.text_place.specs.declared.place.Place.{Place}
 use Rattle.execution.specs.Loads.{Reader}
 use Rattle.execution.specs.Program.{Leaf, LeafValue, Value, Null, Fault, Kind, Part, FieldPosition, Program, Tree, Open, At, Over, Trees, NoMore, And, tree}
 use Rattle.execution.specs.Completion.{HasOwnNull, IsChild, IsNonNullWay, IsNullAt, IsResponse, AreResponses, ResponseOf, NullResponse, LeafResponse, Holding, ResponsesOf, NoResponses, Responding, is_open, any_open, PositionOf, positions, positions_below, top_position, ErrorOf, own_errors, errors_at, AnsweredOf, IsCompletion}

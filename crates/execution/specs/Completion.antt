@@ -2,7 +2,7 @@
 -- October 2021): which positions are null in the response, and which errors stand in it, in which order.
 use Rattle.std.specs.Prelude.{◌≡◌, ℕ, zero, suc, Bool, true, false, ◌||◌, List, [], ◌∷◌, ◌++◌, codes}
 use Rattle.std.specs.List.{flat_map}
-use Rattle.gq_lexer.specs.declared.place.Place.{Place}
+use Rattle.text_place.specs.declared.place.Place.{Place}
 use Rattle.execution.specs.Program.{Leaf, Value, Null, Fault, Kind, Part, FieldPosition, Tree, Open, At, Over, Trees, NoMore, And}
 
 -- the own value is null or a fault

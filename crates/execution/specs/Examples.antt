@@ -2,7 +2,7 @@
 use Rattle.std.specs.Prelude.{ℕ, true, false, List, [], ◌∷◌, Some, None, codes, if◌then◌else◌, ◌==◌}
 use Rattle.load_memory.specs.Keys.{KeyOf, all, text}
 use Rattle.load_memory.specs.Outcomes.{OutcomeOf, known, batch_fault, rows, key_fault}
-use Rattle.gq_lexer.specs.declared.place.Place.{Place}
+use Rattle.text_place.specs.declared.place.Place.{Place}
 use Rattle.load_memory.specs.Replies.{ReplyOf}
 use Rattle.load_memory.specs.declared.key.KeyMode.TheVariants.{Exact, FoldAscii}
 use Rattle.load_queue.specs.Answers.{given, outcomes_of}

@@ -1,6 +1,6 @@
 -- *Execution*: the one answer that *Completion* allows, computed from below.
 use Rattle.std.specs.Prelude.{Bool, true, false, ◌||◌, ◌&&◌, List, [], ◌∷◌, ◌++◌, Option, Some, None, if◌then◌else◌}
-use Rattle.gq_lexer.specs.declared.place.Place.{Place}
+use Rattle.text_place.specs.declared.place.Place.{Place}
 use Rattle.execution.specs.Loads.{Reader}
 use Rattle.execution.specs.Program.{Value, Null, Fault, Part, Program, Tree, Open, At, Over, Trees, NoMore, And, tree}
 use Rattle.execution.specs.Completion.{ResponseOf, NullResponse, LeafResponse, Holding, ResponsesOf, NoResponses, Responding, ErrorOf, own_errors, top_position, is_open, AnsweredOf}

@@ -3,7 +3,7 @@
 -- binding or fragment appears here: a program is what is left of them.
 use Rattle.std.specs.Prelude.{ℕ, suc, max, ℤ, Bool, List, [], ◌∷◌, ◌++◌, Option, Some, None}
 use Rattle.load_memory.specs.Outcomes.{OutcomeOf}
-use Rattle.gq_lexer.specs.declared.place.Place.{Place}
+use Rattle.text_place.specs.declared.place.Place.{Place}
 use Rattle.execution.specs.Loads.{Load, Reader}
 
 -- the value of a scalar or an enum; an ID and the name of an enum value are texts

@@ -4,8 +4,8 @@ use Rattle.std.specs.Prelude.{filter, filter_map, find, fold}
 use Rattle.std.specs.List.{list_any}
 use Rattle.std.specs.Option.{option_and_then}
 use Rattle.std.proofs.lemmas.Bool.{or_cases, or_left, or_right, and_from, both_ways, eqb-true, eq-eqb}
-use Rattle.gq_lexer.specs.Place.{is_before}
-use Rattle.gq_lexer.specs.declared.place.Place.{Place}
+use Rattle.text_place.specs.Order.{is_before}
+use Rattle.text_place.specs.declared.place.Place.{Place}
 use Rattle.document_parts.specs.Broken.{BrokenOf, earlier, with_broken, earliest}
 use Rattle.merge_table.specs.Clashes.{key_clashes, first_clash, has_clash}
 use Rattle.merge_table.specs.Numbered.{is_in}

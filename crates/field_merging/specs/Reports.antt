@@ -1,7 +1,7 @@
 -- Which sets of a document are reported, where it is known which pairs of fields clash.
 use Rattle.std.specs.Prelude.{ℕ, Bool, List, length, Option, Some, None, filter_map, fold, if◌then◌else◌}
 use Rattle.std.specs.Option.{option_map}
-use Rattle.gq_lexer.specs.Place.{is_before}
+use Rattle.text_place.specs.Order.{is_before}
 use Rattle.document_parts.specs.Broken.{BrokenOf}
 use Rattle.document_parts.specs.Parts.{PartsOf}
 use Rattle.merge_table.specs.Clashes.{first_clash}

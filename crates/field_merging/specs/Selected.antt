@@ -1,6 +1,6 @@
 -- The fields that selection sets have, as they are written and without any number, in the order of `selection_members`.
 use Rattle.std.specs.Prelude.{◌≡◌, ℕ, zero, suc, ◌+◌, List, [], ◌∷◌, ◌++◌, map, length, Option, Some, slice_get, if◌then◌else◌}
-use Rattle.gq_lexer.specs.declared.place.Place.{Place}
+use Rattle.text_place.specs.declared.place.Place.{Place}
 use Rattle.gq_parser.specs.Tree.{Field, Spread, Inline, Below, nothing_below, below, SelectionSet, set_at, Selection, Selections, no_selection, and_selection, Operation, Fragment, Document}
 use Rattle.selection_members.specs.Fragments.{is_named}
 use Rattle.selection_members.specs.Members.{SetOf, members_below, members_of_fragment}

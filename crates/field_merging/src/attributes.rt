@@ -1,7 +1,7 @@
 //! What the rule compares of two fields.
 
 ghost use Rattle.std.specs.Prelude.{◌≡◌, true, codes};
-ghost use Rattle.gq_lexer.specs.declared.place.Place.{Place};
+ghost use Rattle.text_place.specs.declared.place.Place.{Place};
 ghost use Rattle.gq_parser.specs.Tree.{Named, type_of};
 ghost use Rattle.gq_schema.specs.Types.{tree_of};
 ghost use Rattle.document_parts.specs.Parts.{field_part_of, parts_in};

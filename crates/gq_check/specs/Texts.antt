@@ -1,6 +1,6 @@
 -- The texts of faults, as a client reads them.
 use Rattle.std.specs.Prelude.{ℕ, List, ◌++◌, codes, Option, Some, None, string_bytes}
-use Rattle.gq_lexer.specs.declared.place.Place.{Place}
+use Rattle.text_place.specs.declared.place.Place.{Place}
 use Rattle.gq_check.specs.declared.fault.Rule.{Rule}
 use Rattle.gq_check.specs.declared.fault.Rule.TheVariants as rule
 use Rattle.gq_check.specs.declared.fault.CheckFault.{CheckFault}

@@ -2,7 +2,7 @@
 -- served; the rules but Field Selection Merging in the order of their sections' numbers, compared part by part; too many levels;
 -- too many fields; Field Selection Merging. Of one rule the earliest place is reported.
 use Rattle.std.specs.Prelude.{◌≡◌, ℕ, List, Option, Some, None, option_map, string_bytes, if◌then◌else◌}
-use Rattle.gq_lexer.specs.declared.place.Place.{Place}
+use Rattle.text_place.specs.declared.place.Place.{Place}
 use Rattle.gq_parser.specs.Tree.{Document}
 use Rattle.schema_syntax.specs.Tree.{Definition}
 use Rattle.gq_schema.specs.Scan.{or_else}

@@ -1,7 +1,7 @@
 -- What `lex` answers, by what the text is.
 use Rattle.std.proofs.Common.{Option, Some, None, ◌≡◌, ◌≢◌, ◌⊎◌, ℕ, List, IfOk, IfErr, MatchResult, All, IsUtf8, Result, Ok, Err, refl, ap, inl, inr}
 use Rattle.std.specs.Global.{Vec}
-use Rattle.gq_lexer.specs.declared.place.Place.{Place}
+use Rattle.text_place.specs.declared.place.Place.{Place}
 use Rattle.gq_lexer.specs.declared.token.Token.{Token}
 use Rattle.gq_lexer.specs.declared.scan.Stop.{Stop}
 use Rattle.gq_lexer.specs.declared.scan.Stop.TheVariants as stop

@@ -1,6 +1,6 @@
 -- The faults of a text, as `lex` answers them.
 use Rattle.std.specs.Prelude.{◌≡◌, ◌⊎◌, ℕ, List, Option, Some, None, Result, MatchResult}
-use Rattle.gq_lexer.specs.declared.place.Place.{Place}
+use Rattle.text_place.specs.declared.place.Place.{Place}
 use Rattle.gq_lexer.specs.declared.token.Token.{Token}
 use Rattle.gq_lexer.specs.declared.scan.Stop.{Stop}
 use Rattle.gq_lexer.specs.declared.scan.Stop.TheVariants as stop

@@ -1,6 +1,6 @@
 -- What may come where a list of symbols is expected, and that a word changes it as the machine says.
 use Rattle.std.proofs.Common.{ℕ, Bool, List, [], ◌∷◌, ◌++◌, Option, Some, None, refl}
-use Rattle.gq_lexer.specs.declared.place.Place.{Place}
+use Rattle.text_place.specs.declared.place.Place.{Place}
 use Rattle.gq_lexer.specs.declared.token.Punct.TheVariants.{Bang, ParenLeft, Colon, Equals, At, BracketLeft, BracketRight, BraceLeft}
 use Rattle.gq_parser.specs.declared.value.Constness.{Constness}
 use Rattle.gq_parser.specs.declared.value.Constness.TheVariants.{Const, NotConst}

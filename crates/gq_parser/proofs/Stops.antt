@@ -1,6 +1,6 @@
 -- Where the machine stops there is the first fault.
 use Rattle.std.proofs.Common.{◌≡◌, ℕ, zero, suc, List, [], ◌∷◌, ◌++◌, Option, Some, None, refl, sym, ap, subst, ◌∙◌, ◌⊎◌, inl, inr}
-use Rattle.gq_lexer.specs.declared.place.Place.{Place}
+use Rattle.text_place.specs.declared.place.Place.{Place}
 use Rattle.gq_parser.specs.Word.{Word, Token, at, AreSpelled, place_of_next}
 use Rattle.gq_parser.specs.Fault.{Bracket, Opening, Closing, Neither, bracket, IsShallow}
 use Rattle.gq_parser.specs.Machine.{Symbol, MaybeBang, MaybeArguments, MaybeDirectives, AfterName, MaybeSet, MaybeDefault, MaybeVariables, MaybeName, shift, Step, Goes, Stops, Sinks, entered, step, Outcome, Done, Stopped, Sunk, at_end, read}

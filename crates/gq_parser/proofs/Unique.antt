@@ -1,6 +1,6 @@
 -- A list of tokens has at most one tree.
 use Rattle.std.proofs.Common.{◌≡◌, ℕ, Bool, List, [], ◌∷◌, Option, Some, None, refl, sym, ap, subst, ◌∙◌}
-use Rattle.gq_lexer.specs.declared.place.Place.{Place}
+use Rattle.text_place.specs.declared.place.Place.{Place}
 use Rattle.gq_lexer.specs.declared.token.Punct.TheVariants.{Bang, ParenLeft, Colon, Equals, BracketRight}
 use Rattle.gq_parser.specs.declared.value.Constness.{Constness}
 use Rattle.gq_parser.specs.declared.value.Constness.TheVariants.{Const, NotConst}

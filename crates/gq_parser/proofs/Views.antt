@@ -4,7 +4,7 @@ use Rattle.std.specs.Global.{Vec, Global}
 use Rattle.std.specs.Prelude.{string_bytes}
 use Rattle.std.specs.declared.string.String.{String}
 use Rattle.std.specs.declared.boxed.Box.{Box}
-use Rattle.gq_lexer.specs.declared.place.Place.{Place}
+use Rattle.text_place.specs.declared.place.Place.{Place}
 use Rattle.gq_parser.specs.declared.tree.Argument as rust-argument
 use Rattle.gq_parser.specs.declared.tree.Literal as rust-literal
 use Rattle.gq_parser.specs.declared.tree.Value as rust-value

@@ -1,6 +1,6 @@
 -- Where there is no document, and the place of the fault.
 use Rattle.std.specs.Prelude.{◌≡◌, ◌<◌, ◌≤◌, ℕ, zero, suc, List, [], ◌∷◌, ◌++◌, length, Option, Some, None, Result, Ok, Err}
-use Rattle.gq_lexer.specs.declared.place.Place.{Place}
+use Rattle.text_place.specs.declared.place.Place.{Place}
 use Rattle.gq_lexer.specs.declared.token.Token as lexer
 use Rattle.gq_lexer.specs.declared.token.Punct.TheVariants.{ParenLeft, ParenRight, BracketLeft, BracketRight, BraceLeft, BraceRight}
 use Rattle.gq_lexer.specs.declared.fault.LexFault.{LexFault}

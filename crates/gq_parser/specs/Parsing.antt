@@ -3,7 +3,7 @@ use Rattle.std.specs.Prelude.{◌≡◌, ◌≢◌, ◌≤◌, ℕ, Bool, true, 
 use Rattle.std.specs.Borrow.{Bor}
 use Rattle.std.specs.declared.string.String.{String}
 use Rattle.std.specs.declared.alloc.Global.{Global}
-use Rattle.gq_lexer.specs.declared.place.Place.{Place}
+use Rattle.text_place.specs.declared.place.Place.{Place}
 use Rattle.gq_lexer.specs.declared.place.Located.{Located}
 use Rattle.gq_lexer.specs.declared.token.Punct.TheVariants.{Dollar, Spread, BracketLeft, BraceLeft}
 use Rattle.gq_parser.specs.declared.fault.Fault as rust

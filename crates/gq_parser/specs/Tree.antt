@@ -2,7 +2,7 @@
 use Rattle.std.specs.Prelude.{ℕ, Bool, List, [], ◌∷◌, map, Option, Some, None, string_bytes}
 use Rattle.std.specs.declared.string.String.{String}
 use Rattle.std.specs.declared.alloc.Global.{Global}
-use Rattle.gq_lexer.specs.declared.place.Place.{Place}
+use Rattle.text_place.specs.declared.place.Place.{Place}
 use Rattle.gq_parser.specs.declared.tree.OperationKind.{OperationKind}
 use Rattle.gq_parser.specs.declared.tree.Argument as rust-argument
 use Rattle.gq_parser.specs.declared.tree.Value.TheOpen as open-literal

@@ -1,6 +1,6 @@
 -- What a reference to a type says (section 3.4.1).
 use Rattle.std.specs.Prelude.{ℕ, Bool, true, false, List}
-use Rattle.gq_lexer.specs.declared.place.Place.{Place}
+use Rattle.text_place.specs.declared.place.Place.{Place}
 use Rattle.gq_parser.specs.Tree.{TypeTree, Named, ListOf}
 
 -- the name that its lists and `!`s are around

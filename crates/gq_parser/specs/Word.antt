@@ -1,6 +1,6 @@
 -- What the grammar speaks of: words, and tokens, which are words with their places.
 use Rattle.std.specs.Prelude.{◌≡◌, ℕ, List, [], ◌∷◌, map, Option, Some, None}
-use Rattle.gq_lexer.specs.declared.place.Place.{Place}
+use Rattle.text_place.specs.declared.place.Place.{Place}
 use Rattle.gq_lexer.specs.declared.token.Punct as lexer
 use Rattle.gq_lexer.specs.declared.token.Kind as lexer-kind
 use Rattle.gq_lexer.specs.declared.token.Kind.TheVariants as kind

@@ -7,7 +7,7 @@ use Rattle.std.proofs.lemmas.Grind.{flat_map-append}
 use Rattle.std.proofs.lemmas.List.Folds.{list_all-append}
 use Rattle.json.specs.Token.{Token, begin_object, begin_array, key}
 use Rattle.json.specs.Tree.{json_tokens, items_tokens, members_tokens}
-use Rattle.gq_lexer.specs.declared.place.Place.{Place}
+use Rattle.text_place.specs.declared.place.Place.{Place}
 use Rattle.load_memory.specs.Outcomes.{OutcomeOf}
 use Rattle.execution.specs.Loads.{Load, Reader, AnswersMore}
 use Rattle.execution.specs.Program.{Value, Null, Fault, Kind, ListOf, ObjectOf, Part, Key, Item, Program, Is, Read, Under, Programs, End, With, Tree, Trees, Over, tree, trees, needs, all_needs}

@@ -3,7 +3,7 @@ use Rattle.std.proofs.Common.{◌≡◌, ◌⊎◌, inl, inr, ℕ, suc, ◌<◌,
 use Rattle.std.proofs.lemmas.List.{take_more, take_all, drop_all, map_push, length-map, length-take-le}
 use Rattle.std.proofs.Math.Path.{fun_ext}
 use Rattle.schema_syntax.specs.Tree.{Definition}
-use Rattle.gq_lexer.specs.declared.place.Place.{Place}
+use Rattle.text_place.specs.declared.place.Place.{Place}
 use Rattle.gq_schema.specs.BindingsTree.{StepOf}
 use Rattle.load_memory.specs.Rows.{RowOf}
 use Rattle.load_memory.specs.declared.key.CacheKey.{CacheKey}

@@ -1,7 +1,7 @@
 -- What is kept of a response that may be too long: all of it, or, where too many bytes are sure, perhaps less.
 use Rattle.std.specs.Prelude.{◌≡◌, ◌<◌, ◌≤◌, ◌+◌, ◌-◌, ◌^◌, min, ℕ, suc, Bool, false, List, [], ◌∷◌, length, reverse, Option, IfSome, IfNone}
 use Rattle.std.proofs.Common.{sym, subst, ◌∙◌, ◌++◌}
-use Rattle.gq_lexer.specs.declared.place.Place.{Place}
+use Rattle.text_place.specs.declared.place.Place.{Place}
 use Rattle.execution.specs.Loads.{Reader}
 use Rattle.execution.specs.Program.{LeafValue, At, Program, tree, Kind, ListOf, ObjectOf, Part, Key, Item, Text, Int, Boolean}
 use Rattle.execution.specs.Completion.{ResponseOf, NullResponse, LeafResponse, Holding, ResponsesOf, NoResponses, Responding, ErrorOf, own_errors}

@@ -1,7 +1,7 @@
 -- The order in which faults are reported.
 use Rattle.std.proofs.Common.{◌≡◌, ◌∙◌, ap, List, Option, None}
 use Rattle.std.specs.Option.{option_map}
-use Rattle.gq_lexer.specs.declared.place.Place.{Place}
+use Rattle.text_place.specs.declared.place.Place.{Place}
 use Rattle.schema_syntax.specs.Tree.{Definition}
 use Rattle.gq_schema.specs.declared.fault.SchemaFault.{SchemaFault}
 use Rattle.gq_schema.specs.declared.fault.SchemaFault.TheVariants.{ReservedName, Duplicate}

@@ -1,6 +1,6 @@
 -- Defaults that are not of their argument's type (section 3.6.1).
 use Rattle.std.specs.Prelude.{List, Option, Some, None, if◌then◌else◌}
-use Rattle.gq_lexer.specs.declared.place.Place.{Place}
+use Rattle.text_place.specs.declared.place.Place.{Place}
 use Rattle.gq_parser.specs.Tree.{TypeTree, Value}
 use Rattle.schema_syntax.specs.Tree.{Argument, Field, Definition}
 use Rattle.gq_schema.specs.Scan.{first_in}

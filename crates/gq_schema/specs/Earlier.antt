@@ -1,7 +1,7 @@
 -- What the search for repeated names keeps of the definitions that it has passed.
 use Rattle.std.specs.Prelude.{◌≡◌, ◌++◌, ◌∷◌, [], ℕ, List, Option}
 use Rattle.std.specs.List.{list_any}
-use Rattle.gq_lexer.specs.declared.place.Place.{Place}
+use Rattle.text_place.specs.declared.place.Place.{Place}
 use Rattle.schema_syntax.specs.Tree.{Definition}
 use Rattle.gq_schema.specs.declared.rules.repeated.Earlier as rust
 use Rattle.gq_schema.specs.Types.{defines}

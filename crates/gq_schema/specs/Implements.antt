@@ -2,7 +2,7 @@
 use Rattle.std.specs.Prelude.{ℕ, Bool, false, ◌&&◌, ◌||◌, not, is_some, List, Option, Some, None, find, if◌then◌else◌}
 use Rattle.std.specs.List.{list_all}
 use Rattle.std.specs.Option.{option_map_or}
-use Rattle.gq_lexer.specs.declared.place.Place.{Place}
+use Rattle.text_place.specs.declared.place.Place.{Place}
 use Rattle.schema_syntax.specs.Tree.{Name, Argument, Field, Definition, Object}
 use Rattle.gq_schema.specs.Scan.{first_in}
 use Rattle.gq_schema.specs.Types.{field_in, fields_in, is_argument, is_covariant, is_same_type, is_non_null}

@@ -2,7 +2,7 @@
 -- the values of an enum, the members of a union, the interfaces that a type implements, and `schema` itself.
 use Rattle.std.specs.Prelude.{Bool, true, false, ◌||◌, List, [], ◌∷◌, ◌++◌, Option, Some, None, if◌then◌else◌}
 use Rattle.std.specs.List.{list_any}
-use Rattle.gq_lexer.specs.declared.place.Place.{Place}
+use Rattle.text_place.specs.declared.place.Place.{Place}
 use Rattle.schema_syntax.specs.Tree.{Name, Argument, Field, Definition, Schema, Object, Interface, Union, Enum}
 use Rattle.gq_schema.specs.Scan.{or_else}
 use Rattle.gq_schema.specs.Types.{is_called, is_argument, is_field, is_built_in, defines}

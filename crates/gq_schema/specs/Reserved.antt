@@ -2,7 +2,7 @@
 -- an argument or an enum value.
 use Rattle.std.specs.Prelude.{List, Option, Some, None, nat_eq, codes, if◌then◌else◌}
 use Rattle.std.specs.List.{starts_with}
-use Rattle.gq_lexer.specs.declared.place.Place.{Place}
+use Rattle.text_place.specs.declared.place.Place.{Place}
 use Rattle.schema_syntax.specs.Tree.{Name, Argument, Field, Definition, Schema, Object, Interface, Union, Enum}
 use Rattle.gq_schema.specs.Scan.{or_else, first_in}
 

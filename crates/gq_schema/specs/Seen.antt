@@ -2,7 +2,7 @@
 use Rattle.std.specs.Prelude.{ℕ, Bool, ◌||◌, List, Option, Some, None, bytes_eq, string_bytes, if◌then◌else◌}
 use Rattle.std.specs.HashSet.{HashSet, contains_by}
 use Rattle.std.specs.Borrow.{Bor}
-use Rattle.gq_lexer.specs.declared.place.Place.{Place}
+use Rattle.text_place.specs.declared.place.Place.{Place}
 use Rattle.schema_syntax.specs.declared.tree.Name as rust
 use Rattle.gq_schema.specs.Types.{is_built_in}
 

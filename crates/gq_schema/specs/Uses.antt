@@ -3,7 +3,7 @@
 -- object types, and what a type implements is an interface (section 3.6).
 use Rattle.std.specs.Prelude.{Bool, true, ◌&&◌, is_some, is_none, List, Option, Some, None, bytes_eq, if◌then◌else◌}
 use Rattle.std.specs.Option.{option_map_or}
-use Rattle.gq_lexer.specs.declared.place.Place.{Place}
+use Rattle.text_place.specs.declared.place.Place.{Place}
 use Rattle.schema_syntax.specs.Tree.{Name, Argument, Field, Definition, Schema, Object, Interface, Union, Enum}
 use Rattle.gq_schema.specs.declared.kind.TypeKind.{TypeKind}
 use Rattle.gq_schema.specs.declared.rules.uses.Role.{Role}

@@ -5,7 +5,7 @@ use Rattle.std.specs.Prelude.{slice_get, bytes_eq, codes}
 use Rattle.std.specs.Option.{option_map_or, option_and_then}
 use Rattle.std.proofs.lemmas.Bool.{or_left, or_right, and_parts, both_ways, eqb-true, eq-eqb}
 use Rattle.std.proofs.lemmas.Slice.Eq.{bytes_eq-Decides}
-use Rattle.gq_lexer.specs.declared.place.Place.{Place}
+use Rattle.text_place.specs.declared.place.Place.{Place}
 use Rattle.gq_parser.specs.Tree.{Argument, Directive, Condition, Selection, Field, Spread, Inline, Below, nothing_below, below, SelectionSet, set_at, Selections, no_selection, and_selection, Fragment, Document}
 use Rattle.schema_syntax.specs.Tree.{Definition, Field as DefinedField}
 use Rattle.gq_schema.specs.Kinds.{is_object}

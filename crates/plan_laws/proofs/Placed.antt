@@ -2,7 +2,7 @@
 use Rattle.std.proofs.Common.{◌≡◌, ◌∙◌, sym, ap, subst, refl, ℕ, zero, suc, ◌+◌, Bool, true, false, List, [], ◌∷◌, ◌++◌, length, append_assoc, append-nil, Option, Some, inl, inr, arith, if◌then◌else◌}
 use Rattle.std.specs.Prelude.{All, slice_get, bytes_eq}
 use Rattle.std.proofs.lemmas.List.Elements.{filter_map-append, All-head, All-tail}
-use Rattle.gq_lexer.specs.declared.place.Place.{Place}
+use Rattle.text_place.specs.declared.place.Place.{Place}
 use Rattle.gq_parser.specs.Tree.{Argument, Directive, Condition, Selection, Field, Inline, Below, SelectionSet, set_at, Selections, and_selection, Operation, Fragment, Document}
 use Rattle.schema_syntax.specs.Tree.{Definition}
 use Rattle.document_parts.specs.declared.part.Owner.{Owner}

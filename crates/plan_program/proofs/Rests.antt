@@ -1,7 +1,7 @@
 -- What is left to collect, as selections are put there and taken from there.
 use Rattle.std.proofs.Common.{◌≡◌, ◌∙◌, sym, ap, refl, ℕ, zero, suc, ◌+◌, ◌-◌, ◌<◌, ◌≤◌, Bool, true, false, List, [], ◌∷◌, ◌++◌, length, Option, Some, None, bytes_eq, append-nil, arith}
 use Rattle.std.specs.Prelude.{option_to_list}
-use Rattle.gq_lexer.specs.declared.place.Place.{Place}
+use Rattle.text_place.specs.declared.place.Place.{Place}
 use Rattle.gq_parser.specs.declared.tree.Selection as rust
 use Rattle.gq_parser.specs.Tree.{Selection, Field, Spread, Inline, set_at, Selections, and_selection, Fragment, map_selections}
 use Rattle.gq_check.specs.Plans.{PlanOf, fragment_in}

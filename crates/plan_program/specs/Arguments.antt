@@ -1,6 +1,6 @@
 -- The coerced arguments of a field (section 6.4.1, CoerceArgumentValues).
 use Rattle.std.specs.Prelude.{◌≡◌, ℕ, Bool, List, [], ◌∷◌, ◌++◌, Option, Some, None, if◌then◌else◌}
-use Rattle.gq_lexer.specs.declared.place.Place.{Place}
+use Rattle.text_place.specs.declared.place.Place.{Place}
 use Rattle.gq_parser.specs.Tree.{TypeTree, Named, ListOf, Value, Variable, Array}
 use Rattle.gq_parser.specs.Tree as literal
 use Rattle.schema_syntax.specs.Tree.{Argument, Field}

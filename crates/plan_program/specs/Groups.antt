@@ -2,7 +2,7 @@
 -- response key in order of first meeting.
 use Rattle.std.specs.Prelude.{ℕ, zero, suc, Bool, not, ◌||◌, List, [], ◌∷◌, ◌++◌, length, Option, Some, None, bytes_eq, unwrap_or, if◌then◌else◌}
 use Rattle.std.specs.List.{list_any}
-use Rattle.gq_lexer.specs.declared.place.Place.{Place}
+use Rattle.text_place.specs.declared.place.Place.{Place}
 use Rattle.gq_parser.specs.Tree.{Argument, Selection, Field, Spread, Inline, Below, nothing_below, below, SelectionSet, set_at, Selections, no_selection, and_selection, Fragment}
 use Rattle.gq_check.specs.Plans.{PlanOf, fragment_in}
 use Rattle.plan_program.specs.Chosen.{is_left_out, applies}

@@ -1,7 +1,7 @@
 -- What each step of reading fields, arguments and values of enums gives.
 use Rattle.std.proofs.Common.{◌≡◌, ℕ, ◌<◌, Bool, true, false, List, [], ◌∷◌, ◌++◌, length, Ok, Option, Some, None, refl, sym, ap, subst, ◌∙◌, arith}
 use Rattle.std.proofs.lemmas.List.{append-nil}
-use Rattle.gq_lexer.specs.declared.place.Place.{Place}
+use Rattle.text_place.specs.declared.place.Place.{Place}
 use Rattle.gq_lexer.specs.declared.token.Punct.TheVariants.{ParenLeft, ParenRight, Colon, Equals, BraceRight}
 use Rattle.gq_parser.specs.declared.value.Constness.TheVariants.{Const}
 use Rattle.gq_parser.specs.declared.keyword.Keyword.{Keyword}

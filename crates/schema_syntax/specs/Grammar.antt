@@ -2,7 +2,7 @@
 -- IsField f before after says that before is the tokens of the field f and then after; and so the others.
 -- A place in a tree is that of the token that stands beside it here.
 use Rattle.std.specs.Prelude.{◌≡◌, ℕ, Bool, true, false, List, [], ◌∷◌, Option}
-use Rattle.gq_lexer.specs.declared.place.Place.{Place}
+use Rattle.text_place.specs.declared.place.Place.{Place}
 use Rattle.gq_lexer.specs.declared.token.Punct.TheVariants.{Amp, ParenLeft, ParenRight, Colon, Equals, At, BraceLeft, BraceRight, Pipe}
 use Rattle.gq_parser.specs.declared.keyword.Keyword.{Keyword}
 use Rattle.gq_parser.specs.declared.keyword.Keyword.TheVariants.{Query}

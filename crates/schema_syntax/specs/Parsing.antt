@@ -1,6 +1,6 @@
 -- What a method of the parser does with the tokens that are left.
 use Rattle.std.specs.Prelude.{◌≡◌, ◌≢◌, ◌≤◌, ℕ, Bool, true, false, List, [], ◌∷◌, ◌++◌, length, Result, Ok, Err, Option, Some, None, string_bytes, ◌<◌}
-use Rattle.gq_lexer.specs.declared.place.Place.{Place}
+use Rattle.text_place.specs.declared.place.Place.{Place}
 use Rattle.gq_lexer.specs.declared.place.Located.{Located}
 use Rattle.gq_lexer.specs.declared.token.Punct.TheVariants.{BraceLeft, Colon}
 use Rattle.gq_parser.specs.declared.value.Constness.TheVariants.{Const}

@@ -1,6 +1,6 @@
 -- Schema texts, and the faults of texts: those of tokens behind which the text ends, or has a lexical fault.
 use Rattle.std.specs.Prelude.{◌≡◌, ◌<◌, ◌≤◌, ◌⊎◌, ℕ, List, [], length, Option, Some, None, Result, Ok, Err}
-use Rattle.gq_lexer.specs.declared.place.Place.{Place}
+use Rattle.text_place.specs.declared.place.Place.{Place}
 use Rattle.gq_lexer.specs.declared.token.Token as lexer
 use Rattle.gq_lexer.specs.declared.fault.LexFault.{LexFault}
 use Rattle.gq_lexer.specs.Place.{place_of}

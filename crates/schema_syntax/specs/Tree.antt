@@ -1,6 +1,6 @@
 -- The trees of schema texts, without where they lie in memory. Texts are lists of bytes.
 use Rattle.std.specs.Prelude.{ℕ, List, map, Option, string_bytes}
-use Rattle.gq_lexer.specs.declared.place.Place.{Place}
+use Rattle.text_place.specs.declared.place.Place.{Place}
 use Rattle.gq_parser.specs.Tree.{Value, TypeTree, type_of, default_of}
 use Rattle.schema_syntax.specs.declared.tree.Name as rust-name
 use Rattle.schema_syntax.specs.declared.tree.ArgumentDefinition as rust-argument

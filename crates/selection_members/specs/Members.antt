@@ -1,7 +1,7 @@
 -- The fields of a document by their numbers, which are their places in the list of its fields from 0, and the members of its
 -- selection sets (section 5.3.2). A field's number is that of the first field of its own selection set less one.
 use Rattle.std.specs.Prelude.{ℕ, zero, suc, ◌+◌, ◌-◌, ◌^◌, min, List, [], ◌∷◌, ◌++◌, length, if◌then◌else◌}
-use Rattle.gq_lexer.specs.declared.place.Place.{Place}
+use Rattle.text_place.specs.declared.place.Place.{Place}
 use Rattle.gq_parser.specs.Tree.{Field, Spread, Inline, Below, nothing_below, below, SelectionSet, set_at, Selection, Selections, no_selection, and_selection, Operation, Fragment, Document}
 use Rattle.selection_members.specs.Fragments.{is_named}
 

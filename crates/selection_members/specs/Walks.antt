@@ -2,7 +2,7 @@
 -- document.
 use Rattle.std.specs.Prelude.{◌≡◌, ◌<◌, ◌≤◌, ◌+◌, ◌++◌, ℕ, Bool, true, List, [], map, filter, All, slice_index_or, slice_get, Option, Some, None, IfSome}
 use Rattle.gq_parser.specs.Tree.{Document, SelectionSet, set_at, set_of}
-use Rattle.gq_lexer.specs.declared.place.Place.{Place}
+use Rattle.text_place.specs.declared.place.Place.{Place}
 use Rattle.merge_table.specs.declared.sets.Reached.{Reached}
 use Rattle.merge_table.specs.Entered.{IsReached}
 use Rattle.merge_table.specs.Clashes.{has_clash}

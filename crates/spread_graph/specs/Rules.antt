@@ -1,7 +1,7 @@
 -- What breaks the rules on reach.
 use Rattle.std.specs.Prelude.{ℕ, ◌+◌, Bool, true, nat_lt, List, [], ◌∷◌, if◌then◌else◌, filter_map, Option, Some, None}
-use Rattle.gq_lexer.specs.declared.place.Place.{Place}
-use Rattle.gq_lexer.specs.Place.{is_before}
+use Rattle.text_place.specs.declared.place.Place.{Place}
+use Rattle.text_place.specs.Order.{is_before}
 use Rattle.gq_parser.specs.Tree.{Operation, Fragment}
 use Rattle.document_parts.specs.Broken.{BrokenOf}
 use Rattle.document_parts.specs.Parts.{PartsOf}

@@ -1,7 +1,7 @@
 -- Required Arguments (section 5.4.2.1).
 use Rattle.std.specs.Prelude.{ℕ, Bool, true, false, ◌&&◌, not, List, filter_map, Option, Some, None, option_map, find, bytes_eq}
 use Rattle.std.specs.Option.{option_and_then}
-use Rattle.gq_lexer.specs.declared.place.Place.{Place}
+use Rattle.text_place.specs.declared.place.Place.{Place}
 use Rattle.gq_parser.specs.Tree.{Value, Null}
 use Rattle.gq_parser.specs.Tree as tree
 use Rattle.schema_syntax.specs.Tree.{Argument}

@@ -1,6 +1,6 @@
 -- Words that several rules share.
 use Rattle.std.specs.Prelude.{ℕ, Bool, ◌&&◌, is_some, List, Option, Some, None, codes, bytes_eq, if◌then◌else◌}
-use Rattle.gq_lexer.specs.declared.place.Place.{Place}
+use Rattle.text_place.specs.declared.place.Place.{Place}
 use Rattle.document_parts.specs.Broken.{BrokenOf}
 use Rattle.document_parts.specs.Parts.{FieldPart}
 

@@ -6,7 +6,7 @@ use Rattle.std.specs.Prelude.{Result, Ok, Err}
 use Rattle.serde_json.specs.Data.{Data, null, boolean, number, string, array, object}
 use Rattle.serde_json.specs.Find.{as_array}
 use Rattle.serde_json.specs.Read.{read}
-use Rattle.gq_lexer.specs.declared.place.Place.{Place}
+use Rattle.text_place.specs.declared.place.Place.{Place}
 use Rattle.gq_parser.specs.declared.fault.ParseFault.{ParseFault}
 use Rattle.gq_parser.specs.declared.fault.ParseFault.TheVariants as parse
 use Rattle.gq_parser.specs.Fault.{IsDocumentOf, IsParseFault, place_of_parse_fault}

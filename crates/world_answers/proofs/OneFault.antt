@@ -1,6 +1,6 @@
 -- A query is one document or has one first fault.
 use Rattle.std.proofs.Common.{◌≡◌, ◌≢◌, ◌<◌, ◌≤◌, ℕ, zero, suc, List, [], ◌∷◌, ◌++◌, length, Option, Some, None, refl, sym, ap, subst, ◌∙◌, append_assoc, append-nil, arith}
-use Rattle.gq_lexer.specs.declared.place.Place.{Place}
+use Rattle.text_place.specs.declared.place.Place.{Place}
 use Rattle.gq_lexer.specs.declared.token.Token as lexer
 use Rattle.gq_lexer.specs.declared.token.Kind.{Kind}
 use Rattle.gq_lexer.specs.declared.token.Kind.TheVariants as kind
