@@ -12,7 +12,7 @@ use Rattle.load_queue.specs.Orders.{OrderOf}
 use Rattle.execution.specs.Loads.{Load, Memory, mode_at, read, IsOneOf}
 use Rattle.execution.specs.Front.{missing, firsts}
 use Rattle.execution.specs.Rounds.{RuleOf, modes_of, round_orders, IsReply, AreReplies, reply_pairs, pairs_of, unless_failed, AreLimited}
-use Rattle.execution.specs.Sessions.{Cell, key_cell, cell_of, AreApart, order_cells, Step, Forgot, AskedLoads, Lost, Primed, Cleared, ClearedAll, after, AreMissing, IsStep, AreSteps, clears, HasFailed, FailedAt, IsAskedAgainRightly}
+use Rattle.execution.specs.Sessions.{Cell, key_cell, cell_of, AreApart, order_cells, Step, Forgot, AskedLoads, Lost, Primed, Cleared, ClearedAll, Restarted, after, AreMissing, IsStep, AreSteps, clears, HasFailed, FailedAt, IsAskedAgainRightly}
 use Rattle.execution.proofs.Same.{filter-one, firsts-one}
 use Rattle.execution.proofs.ReplyLaws.{make, one-map, look-member, member-some, pairs-from, pair_cell, replies-cells, firsts-apart, orders-apart, orders-loads}
 
@@ -52,6 +52,7 @@ kept-step rules c item M (Lost loads) e h = e
 kept-step rules c item M (Primed pair) e h = rw e refl
 kept-step rules c item M (Cleared d) e h = rw h e
 kept-step rules c item M (ClearedAll loader) e h = rw h e
+kept-step rules c item M Restarted e h = absurd (cc h)
 
 -- an item stays until its key is cleared
 kept : (rules : List RuleOf) (c : Cell) (item : ItemOf) (M : Memory) (steps : List Step) → M c.0 c.1 ≡ Some (known item) → list_any (clears c) steps ≡ false → after_all rules M steps c.0 c.1 ≡ Some (known item)

@@ -8,3 +8,4 @@ pub mod Residual
 pub mod Examples
 pub mod Sessions
 pub mod Logs
+pub mod Executes

@@ -34,7 +34,7 @@ order_cells modes [] = []
 order_cells modes (o ∷ os) = map (key_cell modes o.loader) o.keys ++ order_cells modes os
 
 -- A step of a session. A round asks loads that the memory lacks, of equal cache keys the first, and its replies are stored.
--- A lost round stores nothing.
+-- A lost round stores nothing. A session that starts again knows nothing.
 pub data Step : Type 0 where
   Forgot : Step
   AskedLoads : List Load → List ReplyOf → Step
@@ -42,6 +42,7 @@ pub data Step : Type 0 where
   Primed : PairOf → Step
   Cleared : Cell → Step
   ClearedAll : ℕ → Step
+  Restarted : Step
 
 abbrev pub without : (Cell → Bool) → Memory → Memory
 without out M loader key = if out (loader, key) then None else M loader key
@@ -57,6 +58,7 @@ after rules M (Lost loads) = M
 after rules M (Primed pair) = stored M (pair ∷ [])
 after rules M (Cleared cell) = without (is_cell cell) M
 after rules M (ClearedAll loader) = without (λ c. loader == c.0) M
+after rules M Restarted = without (λ c. true) M
 
 -- a round's loads are some that the memory lacks, of equal cache keys the first
 abbrev pub AreMissing : List KeyMode → Memory → List Load → Type 0
@@ -69,6 +71,7 @@ IsStep may rules M (Lost loads) = AreMissing (modes_of rules) M loads
 IsStep may rules M (Primed pair) = Unit {0}
 IsStep may rules M (Cleared cell) = Unit {0}
 IsStep may rules M (ClearedAll loader) = Unit {0}
+IsStep may rules M Restarted = Unit {0}
 
 abbrev pub AreSteps : (ℕ → List KeyOf → AnswerOf → Type 0) → List RuleOf → Memory → List Step → Type 0
 AreSteps may rules M [] = Unit {0}
@@ -81,6 +84,7 @@ clears cell (Lost loads) = false
 clears cell (Primed pair) = false
 clears cell (Cleared c) = is_cell c cell
 clears cell (ClearedAll loader) = loader == cell.0
+clears cell Restarted = true
 
 -- the batch failed as a whole
 abbrev pub HasFailed : ReplyOf → Type 0

@@ -11,4 +11,7 @@
 #![tactic(auto)]
 
 pub mod examples;
+pub mod execute;
 pub mod law;
+
+pub use execute::Execute;

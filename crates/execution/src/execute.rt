@@ -1,0 +1,49 @@
+//! What can be executed over a memory.
+ghost use Rattle.std.specs.Prelude.{ℕ, List, IfOk, OnOk};
+ghost use Rattle.load_memory.specs.Pairs.{MemoryOf};
+ghost use Rattle.execution.specs.Program.{Program};
+ghost use Rattle.execution.specs.Completion.{AnsweredOf};
+ghost use Rattle.execution.specs.Rounds.{HasLoaders};
+ghost use Rattle.execution.specs.Executes.{CanExecute, IsExecuted, FitsFrom};
+
+use futures::task::Poll;
+use load_memory::{Memory, NoMemory};
+use load_queue::Wants;
+use std::alloc::Global;
+
+/// Something that loads keys and returns a text, as a GraphQL plan does. It is ready over a memory that has everything
+/// it needs, and otherwise says exactly which loads are missing.
+///
+/// `E` is how far an execution of it is. An execution is kept from one memory to the next, if that one has at least the
+/// same pairs.
+pub trait Execute<'p, E> {
+    // what it asks, one load at a time
+    ghost program: { Self → Program };
+
+    // the text of a response with its errors
+    ghost text_of: { Self → AnsweredOf → List ℕ };
+
+    // it asks loaders below this number
+    ghost loaders: { Self → ℕ };
+
+    // the progress is of an execution of it, and holds nothing as done that isn't so over the memory
+    ghost fits: { Self → E → MemoryOf → Type 0 };
+
+    /// An execution of which nothing is done.
+    fn start(&'p self) -> E
+        ensures { (m : MemoryOf) → fits self.now result m };
+
+    /// Goes on with an execution over the memory. If loads are missing, adds them to the wants.
+    fn execute(
+        &'p self,
+        progress: &mut E,
+        alloc: Global,
+        memory: &Memory,
+        wants: &mut Wants,
+    ) -> Result<Poll<String>, NoMemory>
+        requires can { CanExecute (loaders self.now) memory.now wants.old }
+        requires fits { fits self.now progress.old memory.now }
+        ensures executed { IfOk result (IsExecuted (text_of self.now) wants.old wants.new (program self.now) memory.now) }
+        ensures fits { OnOk result (FitsFrom (fits self.now progress.new) memory.now) }
+        ensures within { HasLoaders (loaders self.now) (program self.now) };
+}
