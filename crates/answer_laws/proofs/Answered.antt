@@ -26,10 +26,10 @@ use Rattle.gq_check.specs.Planned.{IsPlan}
 use Rattle.plan_program.specs.PlanPrograms.{plan_program}
 use Rattle.load_rounds.specs.Sessions.{StateOf, state_of, rules_of, session_modes, after_step}
 use Rattle.load_rounds.specs.Calls.{RoundRan}
-use Rattle.load_rounds.specs.Headline.{IsTextOf}
+use Rattle.execution.specs.Executes.{IsTextOf}
 use Rattle.load_rounds.specs.KeyByKey.{CompareAlike, item_of_loader, item_over}
-use Rattle.load_rounds.specs.PlanLoads.{plan-loads}
-use Rattle.load_rounds.specs.Within.{text_within}
+use Rattle.gq_resolve.specs.PlanLoads.{plan-loads}
+use Rattle.gq_resolve.specs.Within.{text_within}
 use Rattle.load_rounds.proofs.Following.{InRounds, in-none, in-more, in-all}
 use Rattle.load_rounds.proofs.Holding.{rounds-held}
 use Rattle.load_rounds.proofs.Numbering.{orders-below, orders-loads}

@@ -14,10 +14,10 @@ use Rattle.execution.proofs.Same.{one-either}
 use Rattle.execution.proofs.SharedLaws.{below-front, own-chain, own-sparing}
 use Rattle.gq_check.specs.Plans.{PlanOf}
 use Rattle.plan_program.specs.PlanPrograms.{plan_program}
-use Rattle.load_rounds.specs.Headline.{IsTextOf}
+use Rattle.execution.specs.Executes.{IsTextOf}
 use Rattle.load_rounds.specs.Sessions.{StateOf, state_of, rules_of, session_modes}
 use Rattle.load_rounds.specs.SharedRounds.{RequestOf, ReportOf, requests, items_from, together, greatest, AreShared}
-use Rattle.load_rounds.specs.Within.{text_within}
+use Rattle.gq_resolve.specs.Within.{text_within}
 use Rattle.world.specs.Worlds.{WorldOf, HasSources}
 use Rattle.world_answers.specs.Answers.{may_tell}
 use Rattle.world_answers.specs.Arrays.{AnswersTogether}

@@ -4,7 +4,7 @@ ghost use Rattle.gq_check.specs.Plans.{plan_of};
 ghost use Rattle.load_rounds.specs.Sessions.{state_of, memory_of};
 ghost use Rattle.load_rounds.specs.Runs.{orders_in};
 ghost use Rattle.load_rounds.specs.SharedRounds.{requests, joint, together, AreAnswers};
-ghost use Rattle.load_rounds.specs.PlanRequests.{plan_requests};
+ghost use Rattle.plan_answers.specs.Requests.{plan_requests};
 ghost use Rattle.load_rounds.specs.SharedRuns.{FitsRun, FitsLater, GoesOnFrom};
 ghost use Rattle.batch_workers.specs.Workers.{IsBadCount, Stops, LosesShared};
 

@@ -12,7 +12,8 @@ use Rattle.execution.proofs.Fitting.{held-rest}
 use Rattle.execution.proofs.Monotone.{exec-whole}
 use Rattle.gq_check.specs.Plans.{PlanOf}
 use Rattle.plan_program.specs.PlanPrograms.{plan_program}
-use Rattle.gq_resolve.specs.Evaluated.{reader, front_over, AddsPart, CanEvaluate, GrowsTo, lookup}
+use Rattle.gq_resolve.specs.Evaluated.{reader, front_over, AddsPart, CanEvaluate, lookup}
+use Rattle.execution.specs.Executes.{GrowsTo}
 use Rattle.gq_resolve.specs.Suspended.{FitsWaiting, FitsStopped, loads_of, Advanced, lacking}
 use Rattle.gq_resolve.specs.Written.{asks, thinned}
 use Rattle.gq_resolve.specs.declared.advance.Stopped.{Stopped}

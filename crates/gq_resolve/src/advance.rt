@@ -3,7 +3,8 @@
 ghost use Rattle.std.specs.Prelude.{IfOk, OnErr};
 ghost use Rattle.load_memory.specs.Pairs.{MemoryOf};
 ghost use Rattle.gq_check.specs.Plans.{plan_of};
-ghost use Rattle.gq_resolve.specs.Evaluated.{AddsPart, CanEvaluate, GrowsTo};
+ghost use Rattle.gq_resolve.specs.Evaluated.{AddsPart, CanEvaluate};
+ghost use Rattle.execution.specs.Executes.{GrowsTo};
 ghost use Rattle.gq_resolve.specs.Suspended.{plan_on, IsRooted, WaitsBelow, GoesOverTour, IsResponse, MayGoOn, Advanced, FitsStopped, FitsTour, IsAdvanced, lacking};
 ghost use Rattle.gq_resolve.specs.Limited.{RespondsWithin};
 

@@ -4,7 +4,8 @@ ghost use Rattle.std.specs.Prelude.{◌≡◌, IfOk, OnErr};
 ghost use Rattle.load_memory.specs.Pairs.{MemoryOf};
 ghost use Rattle.execution.specs.Program.{Program};
 ghost use Rattle.gq_check.specs.Plans.{PlanOf};
-ghost use Rattle.gq_resolve.specs.Evaluated.{missing_over, IsEvaluated, AddsPart, CanEvaluate, GrowsTo};
+ghost use Rattle.gq_resolve.specs.Evaluated.{missing_over, IsEvaluated, AddsPart, CanEvaluate};
+ghost use Rattle.execution.specs.Executes.{GrowsTo};
 
 use crate::answered::Answered;
 use futures::task::Poll;

@@ -4,7 +4,8 @@ ghost use Rattle.std.specs.Prelude.{◌≡◌, IfOk, OnErr};
 ghost use Rattle.load_memory.specs.Pairs.{MemoryOf};
 ghost use Rattle.gq_check.specs.Plans.{plan_of};
 ghost use Rattle.plan_program.specs.PlanPrograms.{plan_program};
-ghost use Rattle.gq_resolve.specs.Evaluated.{missing_over, IsWritten, AddsPart, CanEvaluate, GrowsTo};
+ghost use Rattle.gq_resolve.specs.Evaluated.{missing_over, IsWritten, AddsPart, CanEvaluate};
+ghost use Rattle.execution.specs.Executes.{GrowsTo};
 ghost use Rattle.gq_resolve.specs.Limited.{IsLimited};
 ghost use Rattle.gq_resolve.specs.Suspended.{plan_in, FitsMemory};
 

@@ -22,7 +22,8 @@ use Rattle.execution.proofs.Wanting.{wanting-front, wanting-firsts}
 use Rattle.load_rounds.specs.Sessions.{StateOf, rules_of, session_modes, after_step, after_steps}
 use Rattle.load_rounds.specs.Rounds.{AreWanted}
 use Rattle.load_rounds.specs.Calls.{RoundRan, RoundLost}
-use Rattle.load_rounds.specs.Headline.{IsTextOf, asked_steps, MakesRounds, Headline, StopsAnswering}
+use Rattle.load_rounds.specs.Headline.{asked_steps, MakesRounds, Headline, StopsAnswering}
+use Rattle.execution.specs.Executes.{IsTextOf}
 use Rattle.load_rounds.proofs.Numbering.{source-at}
 pub use Rattle.load_rounds.proofs.Stepping.{SameSources}
 use Rattle.load_rounds.proofs.Onces.{ran-rules}

@@ -16,9 +16,9 @@ use Rattle.execution.proofs.Monotone.{front-open, front-stays, exec-stays}
 use Rattle.execution.proofs.Same.{one-either, reads-more}
 use Rattle.execution.proofs.SharedLaws.{below-front}
 use Rattle.execution.proofs.Wanting.{wanting-firsts, with-modes}
-use Rattle.gq_resolve.specs.Evaluated.{GrowsTo}
+use Rattle.execution.specs.Executes.{GrowsTo}
 use Rattle.load_rounds.specs.Sessions.{StateOf, session_modes}
-use Rattle.load_rounds.specs.Headline.{IsTextOf}
+use Rattle.execution.specs.Executes.{IsTextOf}
 use Rattle.load_rounds.specs.SharedRounds.{RequestOf, ReportOf, request_of, report_of, requests, needs_of_all, front_of_all, items_from, together}
 use Rattle.load_rounds.specs.Together.{PartOf, IsDone, TellsAt, FindsAll, fronts, plans_in, reports_in, given_to, some_unreported, FitsPart, FitParts, GoesOn, GoOn}
 use Rattle.load_rounds.specs.declared.answer.Answer.{Answer}

@@ -7,7 +7,7 @@ use Rattle.load_queue.specs.Answers.{AnswerOf}
 use Rattle.execution.specs.Loads.{Load, Memory, Extends}
 use Rattle.execution.specs.Rounds.{RuleOf, modes_of, after_round}
 use Rattle.execution.specs.Sessions.{Lost}
-use Rattle.gq_resolve.specs.Evaluated.{GrowsTo}
+use Rattle.execution.specs.Executes.{GrowsTo}
 use Rattle.load_rounds.specs.Sessions.{SessionOf, StateOf, state_of, rules_of, session_modes, memory_of, after_step}
 use Rattle.load_rounds.specs.Calls.{RoundRan}
 use Rattle.load_rounds.specs.Runs.{received}

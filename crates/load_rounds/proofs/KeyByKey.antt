@@ -18,7 +18,8 @@ use Rattle.execution.specs.Rounds.{MayAnswer, RuleOf, rule_of, modes_of, may_at,
 use Rattle.execution.specs.Sessions.{Forgot}
 use Rattle.execution.proofs.OneLog.{one-log, log-direct}
 use Rattle.load_rounds.specs.Sessions.{StateOf, rules_of, session_modes, after_steps}
-use Rattle.load_rounds.specs.Headline.{IsTextOf, asked_steps, Headline}
+use Rattle.load_rounds.specs.Headline.{asked_steps, Headline}
+use Rattle.execution.specs.Executes.{IsTextOf}
 use Rattle.load_rounds.specs.KeyByKey.{CompareAlike, item_of_loader, item_over}
 
 -- ---- what may be answered, as something weaker

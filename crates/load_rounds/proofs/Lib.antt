@@ -11,7 +11,6 @@ pub mod Lacking
 pub mod Numbering
 pub mod Onces
 pub mod PairSources
-pub mod Planning
 pub mod Polls
 pub mod Requests
 pub mod Running

@@ -15,7 +15,8 @@ use Rattle.execution.specs.Sessions.{Forgot}
 use Rattle.execution.proofs.RoundLaws.{rounds-chain}
 use Rattle.load_rounds.specs.Sessions.{SessionOf, StateOf, state_of, rules_of, session_modes, memory_of, after_step}
 use Rattle.load_rounds.specs.Calls.{RoundRan, RoundLost}
-use Rattle.load_rounds.specs.Headline.{IsTextOf, asked_steps, Answers}
+use Rattle.load_rounds.specs.Headline.{asked_steps, Answers}
+use Rattle.execution.specs.Executes.{IsTextOf}
 use Rattle.load_rounds.specs.Answerings.{FarOf, handed, polled, over, rounds_of, begun, FitsFar, HasMade, CanPoll, Gives, PollRan}
 use Rattle.load_rounds.specs.declared.answer.Answer.{Answer}
 use Rattle.load_rounds.proofs.Following.{InRounds, in-none, in-more, in-all}

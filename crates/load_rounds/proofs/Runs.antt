@@ -23,7 +23,8 @@ use Rattle.execution.proofs.ReplyLaws.{reply-order}
 use Rattle.load_rounds.specs.Sessions.{StateOf, rules_of, session_modes, logged_from, made, of_first, after_step, after_steps, AreNumbered, IsSession}
 use Rattle.load_rounds.specs.Rounds.{Enters}
 use Rattle.load_rounds.specs.Calls.{RoundRan, RoundLost}
-use Rattle.load_rounds.specs.Headline.{IsTextOf, asked_steps, Headline, StopsAnswering}
+use Rattle.load_rounds.specs.Headline.{asked_steps, Headline, StopsAnswering}
+use Rattle.execution.specs.Executes.{IsTextOf}
 use Rattle.load_rounds.specs.declared.run.Stage.{Stage}
 use Rattle.load_rounds.specs.declared.run.Stage.TheVariants.{Ready, Out, Finished, Failed}
 use Rattle.load_rounds.specs.Runs.{AreReceived, front_in, orders_in, received, IsRound, IsBetween, IsOut, IsRun}

@@ -15,7 +15,8 @@ use Rattle.futures.specs.declared.task.Poll.TheVariants.{Ready, Pending}
 use Rattle.std.specs.declared.alloc.Global.{Global}
 use Rattle.load_rounds.specs.Sessions.{SessionOf, StateOf, state_of, session_modes, memory_of, after_step}
 use Rattle.load_rounds.specs.Calls.{RoundRan}
-use Rattle.load_rounds.specs.Headline.{IsTextOf, MakesRounds, Answers}
+use Rattle.load_rounds.specs.Headline.{MakesRounds, Answers}
+use Rattle.execution.specs.Executes.{IsTextOf}
 use Rattle.load_rounds.specs.declared.answer.Answer.{Answer}
 use Rattle.load_rounds.specs.declared.answering.Far.{Far}
 use Rattle.load_rounds.specs.declared.answering.Far.TheVariants.{Unpolled, Polled, Over}

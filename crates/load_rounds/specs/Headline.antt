@@ -8,23 +8,13 @@ use Rattle.load_queue.specs.Answers.{AnswerOf}
 use Rattle.execution.specs.Loads.{Memory, Reader, read}
 use Rattle.execution.specs.Program.{Program, chain}
 use Rattle.execution.specs.Completion.{AnsweredOf}
-use Rattle.execution.specs.Executed.{exec}
 use Rattle.execution.specs.Front.{front}
 use Rattle.execution.specs.Rounds.{RuleOf, modes_of, may_at, AreRounds, IsSparing, after_round, without_failed}
 use Rattle.execution.specs.Sessions.{Step, Forgot, AskedLoads, AreApart, asked_cells, IsAnsweredIn}
-use Rattle.gq_check.specs.Plans.{PlanOf}
-use Rattle.gq_check.specs.Planned.{IsPlan}
-use Rattle.plan_program.specs.PlanPrograms.{plan_program}
-use Rattle.gq_resolve.specs.Answered.{answer_text}
+use Rattle.execution.specs.Executes.{IsTextOf}
 use Rattle.load_rounds.specs.Sessions.{StateOf, rules_of, session_modes, after_steps}
 use Rattle.load_rounds.specs.Calls.{RoundLost}
 use Rattle.load_rounds.specs.declared.answer.Answer.{Answer}
-
--- the text is that of the specification's recursive execution, with one load after another answered by the reader
-pub record IsTextOf (text_of : AnsweredOf → List ℕ) (p : Program) (R : Reader) (text : List ℕ) : Type 0 where
-  pub answered : AnsweredOf
-  pub executed : exec p R ≡ Some answered
-  pub report : text ≡ text_of answered
 
 -- the rounds of a log, as steps of a session: each asks exactly the front
 abbrev pub asked_steps : List RuleOf → Program → Memory → List (List ReplyOf) → List Step
@@ -59,15 +49,6 @@ module _ {S : Type 0} (may : S → List KeyOf → AnswerOf → Type 0) where
   -- an answer with the headline
   abbrev pub HasHeadline : StateOf S → StateOf S → Program → (AnsweredOf → List ℕ) → Answer → Type 0
   HasHeadline old new p text_of a = Headline old new p text_of (string_bytes a.text) a.rounds
-
-  -- The headline, of a plan: it is of a document that keeps every rule, and is executed as its program.
-  pub record AnswersPlan (old new : StateOf S) (plan : PlanOf) (text : List ℕ) (rounds : ℕ) : Type 0 where
-    pub valid : IsPlan plan
-    pub headline : Headline old new (plan_program plan) answer_text text rounds
-
-  -- the headline, of the program of a plan
-  abbrev pub ExecutesPlan : StateOf S → StateOf S → PlanOf → List ℕ → ℕ → Type 0
-  ExecutesPlan old new plan text rounds = Headline old new (plan_program plan) answer_text text rounds
 
   -- After want of memory the finished rounds stay, and perhaps one more was lost.
   pub record StopsAnswering (old new : StateOf S) (p : Program) : Type 0 where

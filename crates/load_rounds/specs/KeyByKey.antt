@@ -9,7 +9,8 @@ use Rattle.execution.specs.Completion.{AnsweredOf}
 use Rattle.execution.specs.Program.{Program}
 use Rattle.execution.specs.Rounds.{IsLawful, key_by_key, direct, HoldsItems, without_failed}
 use Rattle.load_rounds.specs.Sessions.{StateOf, rules_of, session_modes}
-use Rattle.load_rounds.specs.Headline.{Headline, IsTextOf}
+use Rattle.load_rounds.specs.Headline.{Headline}
+use Rattle.execution.specs.Executes.{IsTextOf}
 
 module _ {S : Type 0} where
   -- whatever a source may answer has one item for each key, which follows from that key alone

@@ -4,8 +4,6 @@ pub mod Executes
 pub mod Headline
 pub mod Histories
 pub mod KeyByKey
-pub mod PlanLoads
-pub mod PlanRequests
 pub mod Rounds
 pub mod Runs
 pub mod Sessions
@@ -13,4 +11,3 @@ pub mod SharedKeyByKey
 pub mod SharedRounds
 pub mod SharedRuns
 pub mod Together
-pub mod Within

@@ -20,7 +20,8 @@ use Rattle.load_rounds.specs.declared.run.Stage.{Stage}
 use Rattle.load_rounds.specs.declared.run.Stage.TheVariants.{Ready, Out, Finished, Failed}
 use Rattle.load_rounds.specs.Sessions.{StateOf, rules_of, session_modes, after_step, AreNumbered}
 use Rattle.load_rounds.specs.Calls.{RoundLost}
-use Rattle.load_rounds.specs.Headline.{IsTextOf, MakesRounds, Headline, StopsAnswering}
+use Rattle.load_rounds.specs.Headline.{MakesRounds, Headline, StopsAnswering}
+use Rattle.execution.specs.Executes.{IsTextOf}
 
 -- what is executed, how many rounds were asked for it, with one that is out, and what may be done next
 pub record RunOf (P : Type 0) : Type 0 where

@@ -13,7 +13,8 @@ use Rattle.execution.specs.Front.{front, missing, firsts}
 use Rattle.execution.specs.Rounds.{IsSparing, own_rounds, without_failed}
 use Rattle.execution.specs.Sessions.{AreApart, asked_cells, IsAnsweredIn}
 use Rattle.load_rounds.specs.Sessions.{StateOf, rules_of, session_modes}
-use Rattle.load_rounds.specs.Headline.{IsTextOf, MakesRounds, Headline}
+use Rattle.load_rounds.specs.Headline.{MakesRounds, Headline}
+use Rattle.execution.specs.Executes.{IsTextOf}
 use Rattle.load_rounds.specs.declared.answer.Answer.{Answer}
 
 -- what is executed, and the text of a response of it

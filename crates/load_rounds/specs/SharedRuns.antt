@@ -9,7 +9,7 @@ use Rattle.execution.specs.Program.{Program}
 use Rattle.execution.specs.Completion.{AnsweredOf}
 use Rattle.execution.specs.Rounds.{without_failed}
 use Rattle.load_rounds.specs.Sessions.{StateOf, rules_of, session_modes}
-use Rattle.load_rounds.specs.Executes.{FitsFrom}
+use Rattle.execution.specs.Executes.{FitsFrom}
 use Rattle.load_rounds.specs.SharedRounds.{RequestOf, ReportOf, requests, report_of, together, joint, AreTexts, AreAnswers}
 use Rattle.load_rounds.specs.Together.{PartOf, TogetherOf, plans_in, CountRounds, FitParts}
 use Rattle.load_rounds.specs.Runs.{front_in, IsRound, IsRun}

@@ -9,10 +9,10 @@ use Rattle.execution.specs.Program.{Program}
 use Rattle.execution.specs.Completion.{AnsweredOf}
 use Rattle.execution.specs.Front.{front}
 use Rattle.execution.specs.Rounds.{RuleOf, HasLoaders, own_rounds}
-use Rattle.gq_resolve.specs.Evaluated.{GrowsTo}
+use Rattle.execution.specs.Executes.{GrowsTo}
 use Rattle.load_rounds.specs.Sessions.{StateOf, session_modes}
 use Rattle.load_rounds.specs.Rounds.{AreWanted}
-use Rattle.load_rounds.specs.Headline.{IsTextOf}
+use Rattle.execution.specs.Executes.{IsTextOf}
 use Rattle.load_rounds.specs.SharedRounds.{RequestOf, ReportOf, request_of}
 
 -- one of several: what is executed, its execution, and its answer once nothing that it needs is missing

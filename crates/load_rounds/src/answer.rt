@@ -2,9 +2,9 @@
 ghost use Rattle.std.specs.Prelude.{◌≤◌, length, IfOk, OnOk, OnErr};
 ghost use Rattle.execution.specs.Rounds.{HasLoaders};
 
-use crate::execute::Execute;
 use crate::executed::Executed;
 use crate::session::Session;
+use execution::Execute;
 use futures::task::Poll;
 use load_memory::NoMemory;
 use load_queue::Asks;
@@ -28,7 +28,10 @@ impl<S: Asks> Session<S> {
     /// missing. Each round asks for all keys that are needed and missing.
     ///
     /// When out of memory, the finished rounds stay, and a round that was out is lost.
-    pub fn answer<'p, P: Execute<'p>>(&mut self, plan: &'p P) -> Result<Answer, NoMemory>
+    pub fn answer<'p, E: Drop, P: Execute<'p, E>>(
+        &mut self,
+        plan: &'p P,
+    ) -> Result<Answer, NoMemory>
         requires { P.loaders plan.now ≤ length self.old.loaders }
         ensures answer { IfOk result (HasHeadline S.may_tell (state_of self.old) (state_of self.new)
             (P.program plan.now) (P.text_of plan.now)) }
@@ -48,10 +51,10 @@ impl<S: Asks> Session<S> {
 
     /// Goes on with an execution: returns its text if nothing is missing, and otherwise makes one round that asks for what
     /// is needed and missing.
-    pub(crate) fn turn<'p, P: Execute<'p>>(
+    pub(crate) fn turn<'p, E, P: Execute<'p, E>>(
         &mut self,
         plan: &'p P,
-        progress: &mut P::Progress,
+        progress: &mut E,
     ) -> Result<Poll<String>, NoMemory>
         requires loaders { P.loaders plan.now ≤ length self.old.loaders }
         requires fits { P.fits plan.now progress.old (memory_of self.old) }

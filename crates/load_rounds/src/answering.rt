@@ -10,8 +10,8 @@ ghost use Rattle.futures.specs.Poll.{IfReady, OnPending};
 ghost use Rattle.futures.specs.Task.{Covers, Keeps};
 
 use crate::answer::Answer;
-use crate::execute::Execute;
 use crate::session::Session;
+use execution::Execute;
 use futures::Future;
 use futures::task::{Context, Poll};
 use load_memory::NoMemory;
@@ -61,7 +61,7 @@ impl<S> Session<S> {
 
     /// Answers a plan as [`answer`](Session::answer) does, one round per poll, where the session has the plan's loaders.
     /// Nothing is done before the first poll. It takes no memory.
-    pub fn into_answering<'p, P: Execute<'p>>(self, plan: &'p P) -> Answering<'p, S, P, P::Progress>
+    pub fn into_answering<'p, E, P: Execute<'p, E>>(self, plan: &'p P) -> Answering<'p, S, P, E>
         ensures { result ≡ record { plan = plan.now; far = handed self } }
     {
         Answering {
@@ -76,7 +76,7 @@ impl<S, E> Far<S, E> {
     ghost use Rattle.load_rounds.specs.Answerings.{far_of, begun, rounds_of, FitsFar};
 
     // Where the next poll begins. At first failed batches are forgotten. A contract also sees here that no loader's limit is 0.
-    fn begin<'p, P: Execute<'p, Progress = E>>(self, plan: &'p P) -> Underway<S, E>
+    fn begin<'p, P: Execute<'p, E>>(self, plan: &'p P) -> Underway<S, E>
         requires can { IsSome (begun (far_of self)) }
         requires fits { FitsFar (P.fits plan.now) (far_of self) }
         ensures state { begun (far_of self) ≡ Some (state_of result.session) }
@@ -102,8 +102,7 @@ impl<S, E> Far<S, E> {
     }
 }
 
-impl<'p, S: Asks + Drop, E: Drop, P: Execute<'p, Progress = E> + Drop> Future
-    for Answering<'p, S, P, E> {
+impl<'p, S: Asks + Drop, E: Drop, P: Execute<'p, E> + Drop> Future for Answering<'p, S, P, E> {
     ghost use Rattle.load_rounds.specs.Sessions.{state_of};
     ghost use Rattle.load_rounds.specs.Answerings.{CanPoll, Gives, GivesNoMore, PollRan, begun, rounds_of};
 

@@ -2,8 +2,8 @@
 ghost use Rattle.std.specs.Prelude.{◌≤◌, length, IfOk, OnOk};
 ghost use Rattle.execution.specs.Rounds.{AreLimited, HasLoaders};
 
-use crate::execute::Execute;
 use crate::session::Session;
+use execution::Execute;
 use futures::task::Poll;
 use load_memory::NoMemory;
 use load_queue::Wants;
@@ -19,13 +19,14 @@ pub(crate) enum Executed {
 
 impl<S> Session<S> {
     ghost use Rattle.load_rounds.specs.Sessions.{state_of, rules_of, memory_of};
-    ghost use Rattle.load_rounds.specs.Executes.{FitsFrom, Finds};
+    ghost use Rattle.load_rounds.specs.Executes.{Finds};
+    ghost use Rattle.execution.specs.Executes.{FitsFrom};
 
     /// Goes on with an execution over what is known. A contract also sees here that no loader's limit is 0.
-    pub(crate) fn execute<'p, P: Execute<'p>>(
+    pub(crate) fn execute<'p, E, P: Execute<'p, E>>(
         &self,
         plan: &'p P,
-        progress: &mut P::Progress,
+        progress: &mut E,
     ) -> Result<Executed, NoMemory>
         requires loaders { P.loaders plan.now ≤ length self.now.loaders }
         requires fits { P.fits plan.now progress.old (memory_of self.now) }

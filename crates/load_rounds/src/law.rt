@@ -8,9 +8,7 @@ ghost use Rattle.execution.specs.Loads.{Memory};
 ghost use Rattle.execution.specs.Rounds.{AreLimited};
 ghost use Rattle.execution.specs.Sessions.{Forgot, AreApart};
 ghost use Rattle.execution.specs.Rounds.{direct};
-ghost use Rattle.gq_check.specs.Plans.{plan_of};
 ghost use Rattle.load_rounds.specs.Sessions.{StateOf, rules_of};
-ghost use Rattle.load_rounds.specs.Headline.{ExecutesPlan, AnswersPlan};
 ghost use Rattle.load_rounds.specs.SharedRounds.{RequestOf, front_of_all, together, SharedHeadline, IsAnsweredAlone, AreWithinChain};
 ghost use Rattle.load_memory.specs.Keys.{KeyOf};
 ghost use Rattle.load_memory.specs.Outcomes.{ItemOf};
@@ -19,7 +17,6 @@ ghost use Rattle.load_rounds.specs.KeyByKey.{AnswerKeyByKey, RespectModes, HasLa
 ghost use Rattle.load_rounds.specs.SharedKeyByKey.{AreAnsweredAlike, AreAnsweredDirectly};
 ghost use Rattle.load_rounds.specs.Histories.{Call, IsMadeOf, AreMadeOf, Leads, IsCall, AreCalls, clears_at, IsFrom, gained_cells, AskTwice, IsFailedAt};
 
-use gq_check::Plan;
 use load_queue::Asks;
 
 /// Each call is a list of steps, and each step is lawful: a round asks only for what the memory lacks at that moment, of equal
@@ -86,11 +83,3 @@ pub fn requests_key_by_key<S: Asks>()
     ensures direct { (item : _) (mode_of : S → KeyMode) → AnswerKeyByKey S.may_tell item → RespectModes mode_of item
         → AreAnsweredDirectly S.may_tell item mode_of }
 {}
-
-/// The headline for a plan. Each plan is of a document that keeps every rule, so the whole sentence holds of its answer.
-pub fn answers_of_plans<S: Asks>(plan: &Plan<'_>)
-    ensures { let p = plan_of plan.now in (old new : _) (text : _) (n : _) → ExecutesPlan S.may_tell old new p text n
-        → AnswersPlan S.may_tell old new p text n }
-{
-    let _ = plan.operation();
-}

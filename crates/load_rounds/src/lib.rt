@@ -11,8 +11,8 @@
 //! takes their replies in any order. Each call's contract says what has been done since the run was begun (`specs::Runs`,
 //! `IsRun`), and in the end that is the headline.
 //!
-//! What is answered is a plan, or a plan with a limit ([`Limited`]): an answer whose text is longer is refused, and all else is
-//! as for the plan.
+//! What is answered is whatever can be executed ([`Execute`]): it loads keys, and gives a text. A plan of a GraphQL document is
+//! that; nothing here knows of one.
 //!
 //! Several plans are answered in rounds that they share, in turn ([`Session::answer_all`]) or by hand ([`Session::begin_all`]):
 //! there is one log, and each answer has a headline of its own (`specs::SharedRounds`, `SharedHeadline`).
@@ -20,13 +20,10 @@
 
 pub mod answer;
 pub mod answering;
-pub mod execute;
 mod executed;
 pub mod fault;
 mod keys;
 pub mod law;
-pub mod limited;
-mod plan;
 mod restart;
 mod round;
 pub mod run;
@@ -37,9 +34,8 @@ mod together;
 
 pub use answer::Answer;
 pub use answering::Answering;
-pub use execute::Execute;
+pub use execution::Execute;
 pub use fault::SessionFault;
-pub use limited::Limited;
 pub use run::{Next, Run, Stage};
 pub use run_all::{NextAll, RunAll};
 pub use session::Session;

@@ -5,9 +5,9 @@ ghost use Rattle.execution.specs.Rounds.{may_at};
 ghost use Rattle.execution.specs.Sessions.{Forgot};
 
 use crate::answer::Answer;
-use crate::execute::Execute;
 use crate::executed::Executed;
 use crate::session::Session;
+use execution::Execute;
 use load_memory::{NoMemory, Receipt, Shelf};
 use load_queue::{Asks, Order};
 use std::marker::Model;
@@ -61,7 +61,7 @@ impl<S: Asks> Session<S> {
     ghost use Rattle.load_rounds.specs.Runs.{run_of, IsRun};
 
     /// Begins an answer to a plan whose rounds the caller runs. Forgets failed batches.
-    pub fn begin<'p, P: Execute<'p>>(&mut self, plan: &'p P) -> Result<Run<'p, P>, NoMemory>
+    pub fn begin<'p, E, P: Execute<'p, E>>(&mut self, plan: &'p P) -> Result<Run<'p, P>, NoMemory>
         requires { P.loaders plan.now ≤ length self.old.loaders }
         ensures run { IfOk result (λ run. run ≡ run_of plan.now 0 Stage.Ready) }
         ensures begun { IfOk result (λ run. IsRun S.may_tell (P.program plan.now) (state_of self.old) (state_of self.new) 0 Stage.Ready) }
@@ -85,16 +85,21 @@ impl<'p, P> Run<'p, P> {
     }
 }
 
-impl<'p, P: Execute<'p>> Run<'p, P> {
+impl<'p, P> Run<'p, P> {
     ghost use Rattle.load_rounds.specs.Sessions.{state_of, memory_of};
-    ghost use Rattle.load_rounds.specs.Executes.{FitsFrom};
+    ghost use Rattle.execution.specs.Executes.{FitsFrom};
     ghost use Rattle.load_rounds.specs.Runs.{run_of, orders_in, received, AreReceived, TakesReceipts, IsNext, RunsOnFrom, AnswersRunFrom, IsUnasked};
 
     /// Returns the answer if nothing is missing, and otherwise the orders of the next round, which is then out.
     ///
     /// When out of memory, the session is as it was, or the round is lost and the logs have the batches of its
     /// first loaders.
-    pub fn next_round<S: Asks>(&mut self, session: &mut Session<S>) -> Result<Next, NoMemory>
+    pub fn next_round<E: Drop, S: Asks>(
+        &mut self,
+        session: &mut Session<S>,
+    ) -> Result<Next, NoMemory>
+    where
+        P: Execute<'p, E>,
         requires ready { self.old.stage ≡ Stage.Ready }
         requires loaders { P.loaders self.old.plan ≤ length session.old.loaders }
         ensures next { IfOk result (IsNext (P.program self.old.plan) (P.text_of self.old.plan) self.old self.new
@@ -112,11 +117,13 @@ impl<'p, P: Execute<'p>> Run<'p, P> {
     }
 
     /// Does what [`next_round`](Run::next_round) does, and goes on with an execution that is kept from round to round.
-    pub fn resume<S: Asks>(
+    pub fn resume<E, S: Asks>(
         &mut self,
         session: &mut Session<S>,
-        progress: &mut P::Progress,
+        progress: &mut E,
     ) -> Result<Next, NoMemory>
+    where
+        P: Execute<'p, E>,
         requires ready { self.old.stage ≡ Stage.Ready }
         requires loaders { P.loaders self.old.plan ≤ length session.old.loaders }
         requires fits { P.fits self.old.plan progress.old (memory_of session.old) }
@@ -151,12 +158,14 @@ impl<'p, P: Execute<'p>> Run<'p, P> {
     /// Stores the replies to the round that is out, given by their receipts in any order.
     ///
     /// When out of memory, the session is as it was, and the round is lost.
-    pub fn take<S: Asks>(
+    pub fn take<E, S: Asks>(
         &mut self,
         session: &mut Session<S>,
         shelf: &Shelf,
         receipts: &[Receipt],
     ) -> Result<(), NoMemory>
+    where
+        P: Execute<'p, E>,
         requires out { self.old.stage ≡ Stage.Out }
         requires shelf { All (IsOn shelf.now) receipts.now }
         requires round { AreReceived (may_at S.may_tell session.old.loaders)

@@ -4,10 +4,10 @@ ghost use Rattle.load_memory.specs.Shelves.{IsOn, shown};
 ghost use Rattle.execution.specs.Sessions.{Forgot};
 
 use crate::answer::Answer;
-use crate::execute::Execute;
 use crate::run::Stage;
 use crate::session::Session;
 use crate::together::Together;
+use execution::Execute;
 use load_memory::{NoMemory, Receipt, Shelf};
 use load_queue::{Asks, Order};
 use std::marker::Model;
@@ -46,10 +46,10 @@ impl<S: Asks> Session<S> {
     ghost use Rattle.load_rounds.specs.SharedRuns.{IsRunAll, FitsRun};
 
     /// Begins answers to several plans whose rounds the caller runs. Forgets failed batches.
-    pub fn begin_all<'p, P: Execute<'p>>(
+    pub fn begin_all<'p, E: Drop, P: Execute<'p, E>>(
         &mut self,
         plans: &'p [P],
-    ) -> Result<RunAll<'p, P, P::Progress>, NoMemory>
+    ) -> Result<RunAll<'p, P, E>, NoMemory>
         requires { All (λ plan. P.loaders plan ≤ length self.old.loaders) plans.now }
         ensures run { IfOk result (λ run. (run.plans ≡ plans.now) × (run.executions.rounds ≡ 0) × (run.stage ≡ Stage.Ready)) }
         ensures begun { IfOk result (λ run. IsRunAll P.program P.text_of S.may_tell (state_of self.old) (state_of self.new) run) }
@@ -75,7 +75,7 @@ impl<'p, P, E> RunAll<'p, P, E> {
     }
 }
 
-impl<'p, E: Drop, P: Execute<'p, Progress = E>> RunAll<'p, P, E> {
+impl<'p, E: Drop, P: Execute<'p, E>> RunAll<'p, P, E> {
     ghost use Rattle.load_rounds.specs.Sessions.{state_of, memory_of};
     ghost use Rattle.load_rounds.specs.Runs.{received, AreReceivedIn, TakesReceipts, IsUnasked};
     ghost use Rattle.load_rounds.specs.SharedRounds.{joint};

@@ -2,9 +2,9 @@
 ghost use Rattle.std.specs.Prelude.{◌≤◌, All, length, IfOk, OnErr};
 
 use crate::answer::Answer;
-use crate::execute::Execute;
 use crate::session::Session;
 use crate::together::Together;
+use execution::Execute;
 use load_memory::NoMemory;
 use load_queue::Asks;
 
@@ -17,7 +17,7 @@ impl<S: Asks> Session<S> {
     /// that are missing. It forgets failed batches first. There is an answer for each plan, in order.
     ///
     /// When out of memory, the finished rounds stay, and a round that was out is lost.
-    pub fn answer_all<'p, P: Execute<'p>>(
+    pub fn answer_all<'p, E: Drop, P: Execute<'p, E>>(
         &mut self,
         plans: &'p [P],
     ) -> Result<Vec<Answer>, NoMemory>

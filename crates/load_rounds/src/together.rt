@@ -3,13 +3,13 @@ ghost use Rattle.std.specs.Prelude.{◌≡◌, ◌≤◌, ◌<◌, ◌+◌, ◌^
 ghost use Rattle.execution.specs.Front.{front, wanting, modes_wanted};
 ghost use Rattle.execution.specs.Rounds.{AreLimited};
 ghost use Rattle.load_memory.specs.Pairs.{look};
-ghost use Rattle.load_rounds.specs.Executes.{CanExecute};
+ghost use Rattle.execution.specs.Executes.{CanExecute};
 ghost use Rattle.load_rounds.specs.SharedRounds.{report_of};
 ghost use Rattle.load_rounds.specs.Together.{FitParts, GoOn, plans_in, fronts, some_unreported};
 
 use crate::answer::Answer;
-use crate::execute::Execute;
 use crate::session::Session;
+use execution::Execute;
 use futures::task::Poll;
 use load_memory::{Memory, NoMemory};
 use load_queue::Wants;
@@ -53,7 +53,7 @@ impl<'p, P, E> Model for Together<'p, P, E> {
     ghost invariant = { λ t. t.rounds < 2 ^ 32 };
 }
 
-impl<'p, E: Drop, P: Execute<'p, Progress = E>> Part<'p, P, E> {
+impl<'p, E: Drop, P: Execute<'p, E>> Part<'p, P, E> {
     ghost use Rattle.load_rounds.specs.Together.{FitsPart, GoesOn};
 
     /// Goes on with the execution over the memory, unless there is an answer already. If loads are missing, adds them to the wants
@@ -85,7 +85,7 @@ impl<'p, E: Drop, P: Execute<'p, Progress = E>> Part<'p, P, E> {
 }
 
 // Goes on with each of them, in order. Returns true if loads are missing.
-fn go_on_all<'p, E: Drop, P: Execute<'p, Progress = E>>(
+fn go_on_all<'p, E: Drop, P: Execute<'p, E>>(
     parts: &mut Vec<Part<'p, P, E>>,
     alloc: Global,
     memory: &Memory,
@@ -107,7 +107,7 @@ fn go_on_all<'p, E: Drop, P: Execute<'p, Progress = E>>(
     Ok(is_missing)
 }
 
-impl<'p, E: Drop, P: Execute<'p, Progress = E>> Together<'p, P, E> {
+impl<'p, E: Drop, P: Execute<'p, E>> Together<'p, P, E> {
     ghost use Rattle.load_rounds.specs.Sessions.{state_of, rules_of, memory_of};
     ghost use Rattle.load_rounds.specs.SharedRounds.{joint};
     ghost use Rattle.load_rounds.specs.Together.{AreBegun, FindsAll, asked_in, reports_in};

@@ -5,7 +5,7 @@ ghost use Rattle.load_memory.specs.Replies.{reply_of};
 ghost use Rattle.load_memory.specs.Shelves.{IsOn, shown};
 ghost use Rattle.load_queue.specs.Orders.{OrderOf};
 ghost use Rattle.execution.specs.Rounds.{may_at, AreReplies};
-ghost use Rattle.gq_resolve.specs.Evaluated.{GrowsTo};
+ghost use Rattle.execution.specs.Executes.{GrowsTo};
 ghost use Rattle.load_rounds.specs.Sessions.{state_of, memory_of};
 ghost use Rattle.load_rounds.specs.Headline.{HasHeadline};
 ghost use Rattle.load_rounds.specs.Runs.{AreReceived, RunsOnFrom, orders_in, run_of};

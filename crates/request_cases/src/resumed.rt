@@ -3,7 +3,7 @@
 ghost use Rattle.std.specs.Prelude.{◌≡◌, ◌≤◌, length, OnOk};
 ghost use Rattle.load_memory.specs.Pairs.{MemoryOf};
 ghost use Rattle.gq_check.specs.Plans.{plan_of};
-ghost use Rattle.gq_resolve.specs.Evaluated.{GrowsTo};
+ghost use Rattle.execution.specs.Executes.{GrowsTo};
 ghost use Rattle.gq_resolve.specs.Suspended.{plan_in, FitsMemory};
 
 use crate::by_hand::run_round;

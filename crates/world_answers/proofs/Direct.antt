@@ -14,10 +14,11 @@ use Rattle.gq_schema.specs.BindingsTree as bindings
 use Rattle.gq_check.specs.Plans.{PlanOf}
 use Rattle.gq_check.specs.Planned.{IsPlan}
 use Rattle.plan_program.specs.PlanPrograms.{plan_program}
-use Rattle.load_rounds.specs.Headline.{IsTextOf, Headline}
+use Rattle.load_rounds.specs.Headline.{Headline}
+use Rattle.execution.specs.Executes.{IsTextOf}
 use Rattle.load_rounds.specs.KeyByKey.{CompareAlike, item_over}
 use Rattle.load_rounds.specs.Sessions.{SessionOf, StateOf, state_of, session_modes}
-use Rattle.load_rounds.specs.Within.{text_within}
+use Rattle.gq_resolve.specs.Within.{text_within}
 use Rattle.load_rounds.proofs.KeyByKey.{text-direct}
 use Rattle.world_answers.specs.Answers.{item_at, may_tell, AnswersAnew, IsAnsweredAnew}
 use Rattle.world_answers.specs.Services.{ServiceOf}

@@ -4,7 +4,7 @@ use Rattle.std.proofs.lemmas.List.Elements.{All-nil, All-cons, All-head, All-tai
 use Rattle.gq_check.specs.Plans.{PlanOf, plan_of}
 use Rattle.plan_program.specs.PlanPrograms.{plan_program}
 use Rattle.load_rounds.specs.SharedRounds.{RequestOf, request_of, requests}
-use Rattle.load_rounds.specs.Within.{text_within}
+use Rattle.gq_resolve.specs.Within.{text_within}
 use Rattle.load_rounds.specs.declared.limited.Limited.{Limited}
 use Rattle.world_answers.specs.Planning.{AreLimited, plan_and_limit}
 

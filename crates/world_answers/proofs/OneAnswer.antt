@@ -25,7 +25,7 @@ use Rattle.gq_check.specs.Texts.{section_of, title_of, check_message, check_plac
 use Rattle.gq_check.specs.Verdict.{FaultOf, Breaks, TooComplex, TooDeep, NotServed, IsVerdict, IsCheckFault, fault_of}
 use Rattle.execution.specs.Completion.{AnsweredOf}
 use Rattle.request_line.specs.Requests.{RequestOf, IsRequest, AreRequests, asked, asked_each}
-use Rattle.load_rounds.specs.Within.{text_within}
+use Rattle.gq_resolve.specs.Within.{text_within}
 use Rattle.world.specs.declared.request.RequestFault.{RequestFault}
 use Rattle.world.specs.declared.request.RequestFault.TheVariants as fault
 use Rattle.world.specs.Requests.{parse_message, request_message, request_place, is_want_of_memory}

@@ -16,7 +16,7 @@ use Rattle.plan_program.specs.PlanPrograms.{plan_program}
 use Rattle.load_rounds.specs.KeyByKey.{CompareAlike, item_over}
 use Rattle.load_rounds.specs.Sessions.{SessionOf, StateOf, state_of, session_modes}
 use Rattle.load_rounds.specs.SharedRounds.{ReportOf, requests, AreTexts, SharedHeadline}
-use Rattle.load_rounds.specs.Within.{text_within}
+use Rattle.gq_resolve.specs.Within.{text_within}
 use Rattle.load_rounds.specs.declared.limited.Limited.{Limited}
 use Rattle.load_rounds.proofs.KeyByKey.{rounds-weaker, may-report, respects-alike}
 use Rattle.load_rounds.proofs.SharedKeyByKey.{report-directly}

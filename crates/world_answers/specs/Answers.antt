@@ -12,10 +12,11 @@ use Rattle.load_queue.specs.Answers.{AnswerOf, given}
 use Rattle.execution.specs.Rounds.{direct}
 use Rattle.plan_program.specs.PlanPrograms.{plan_program}
 use Rattle.answer_json.specs.Answer.{json_text, refusal_json}
-use Rattle.load_rounds.specs.Headline.{IsTextOf, Headline}
+use Rattle.load_rounds.specs.Headline.{Headline}
+use Rattle.execution.specs.Executes.{IsTextOf}
 use Rattle.load_rounds.specs.Sessions.{SessionOf, StateOf, state_of}
 use Rattle.load_rounds.specs.declared.answer.Answer.{Answer}
-use Rattle.load_rounds.specs.Within.{text_within}
+use Rattle.gq_resolve.specs.Within.{text_within}
 use Rattle.request_line.specs.Requests.{RequestOf}
 use Rattle.world.specs.declared.request.RequestFault.{RequestFault}
 use Rattle.world.specs.Requests.{IsPlanOf, IsRequestFault, is_want_of_memory, request_message, request_place}

@@ -9,7 +9,7 @@ use Rattle.plan_program.specs.PlanPrograms.{plan_program}
 use Rattle.load_rounds.specs.Sessions.{SessionOf, StateOf, state_of}
 use Rattle.load_rounds.specs.declared.answer.Answer.{Answer}
 use Rattle.load_rounds.specs.SharedRounds.{ReportOf, report_of, requests, SharedHeadline}
-use Rattle.load_rounds.specs.Within.{text_within}
+use Rattle.gq_resolve.specs.Within.{text_within}
 use Rattle.request_line.specs.Requests.{RequestOf}
 use Rattle.world.specs.Worlds.{WorldOf}
 use Rattle.world_answers.specs.Answers.{IsDirectText, may_tell, IsPlanned, not_a_request, IsRefusal}

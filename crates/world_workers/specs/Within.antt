@@ -8,7 +8,7 @@ use Rattle.plan_program.specs.PlanPrograms.{plan_program}
 use Rattle.load_rounds.specs.Headline.{HasHeadline}
 use Rattle.load_rounds.specs.Sessions.{SessionOf, StateOf}
 use Rattle.load_rounds.specs.SharedRounds.{RequestOf, requests}
-use Rattle.load_rounds.specs.Within.{text_within}
+use Rattle.gq_resolve.specs.Within.{text_within}
 use Rattle.load_rounds.specs.declared.answer.Answer.{Answer}
 use Rattle.load_rounds.specs.declared.limited.Limited.{Limited}
 

@@ -4,7 +4,7 @@ use Rattle.execution.specs.Program.{Program}
 use Rattle.gq_check.specs.Plans.{PlanOf, plan_of}
 use Rattle.gq_check.specs.declared.plan.Plan.{Plan}
 use Rattle.plan_program.specs.PlanPrograms.{plan_program}
-use Rattle.gq_resolve.specs.Evaluated.{GrowsTo}
+use Rattle.execution.specs.Executes.{GrowsTo}
 use Rattle.gq_resolve.specs.Suspended.{plan_in, FitsMemory}
 use Rattle.load_rounds.specs.Sessions.{state_of, memory_of}
 use Rattle.load_rounds.specs.Runs.{RunOf, run_of, front_in, orders_in, IsBetween, IsRun}

@@ -3,10 +3,10 @@ use Rattle.gq_check.specs.Plans.{PlanOf, plan_of}
 use Rattle.plan_program.specs.PlanPrograms.{plan_program}
 use Rattle.gq_resolve.specs.Evaluated.{IsWritten, CanEvaluate}
 use Rattle.gq_resolve.specs.Limited.{IsLimited}
-use Rattle.load_rounds.specs.Executes.{IsExecuted}
-use Rattle.load_rounds.specs.PlanLoads.{plan-loads}
-use Rattle.load_rounds.specs.Within.{text_within}
-use Rattle.load_rounds.proofs.Planning.{executed, executed-within, if-any}
+use Rattle.execution.specs.Executes.{IsExecuted}
+use Rattle.gq_resolve.specs.PlanLoads.{plan-loads}
+use Rattle.gq_resolve.specs.Within.{text_within}
+use Rattle.gq_resolve.proofs.Planning.{executed, executed-within, if-any}
 use Rattle.load_rounds.proofs.limited.LimitedExecute.execute.Goals as goal
 
 -- ---- with a limit

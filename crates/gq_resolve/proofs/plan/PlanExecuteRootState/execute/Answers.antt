@@ -2,8 +2,8 @@ use Rattle.std.proofs.Common.{sym, subst, ◌∙◌, IfOk}
 use Rattle.gq_check.specs.Plans.{PlanOf, plan_of}
 use Rattle.plan_program.specs.PlanPrograms.{plan_program}
 use Rattle.gq_resolve.specs.Evaluated.{IsWritten, CanEvaluate}
-use Rattle.load_rounds.specs.PlanLoads.{plan-loads}
-use Rattle.load_rounds.proofs.Planning.{executed, if-any}
+use Rattle.gq_resolve.specs.PlanLoads.{plan-loads}
+use Rattle.gq_resolve.proofs.Planning.{executed, if-any}
 use Rattle.load_rounds.proofs.plan.PlanExecute.execute.Goals as goal
 
 pub poll_text-requires : goal.poll_text-requires

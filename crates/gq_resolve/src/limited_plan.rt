@@ -3,7 +3,7 @@ ghost use Rattle.std.specs.Prelude.{◌≡◌, length};
 ghost use Rattle.gq_check.specs.Plans.{plan_of};
 ghost use Rattle.gq_resolve.specs.Suspended.{plan_in, FitsMemory};
 ghost use Rattle.plan_program.specs.PlanPrograms.{plan_program};
-ghost use Rattle.load_rounds.specs.Within.{text_within};
+ghost use Rattle.gq_resolve.specs.Within.{text_within};
 
 use crate::execute::Execute;
 use futures::task::Poll;

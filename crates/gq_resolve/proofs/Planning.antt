@@ -9,7 +9,7 @@ use Rattle.futures.specs.declared.task.Poll.TheVariants.{Ready, Pending}
 use Rattle.gq_resolve.specs.Answered.{answer_text}
 use Rattle.gq_resolve.specs.Evaluated.{IsWritten}
 use Rattle.gq_resolve.specs.Limited.{limited_answer, IsLimited}
-use Rattle.load_rounds.specs.Executes.{IsExecuted}
+use Rattle.execution.specs.Executes.{IsExecuted}
 
 -- ---- an execution without a limit, and one with it
 
