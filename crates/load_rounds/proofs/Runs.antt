@@ -29,6 +29,7 @@ use Rattle.load_rounds.specs.declared.run.Stage.{Stage}
 use Rattle.load_rounds.specs.declared.run.Stage.TheVariants.{Ready, Out, Finished, Failed}
 use Rattle.load_rounds.specs.Runs.{AreReceived, front_in, orders_in, received, IsRound, IsBetween, IsOut, IsRun}
 use Rattle.load_rounds.proofs.Following.{SameSources, InRounds, in-more, in-all}
+use Rattle.load_rounds.proofs.Stepping.{made-recorded, end-recorded}
 use Rattle.load_rounds.proofs.Cutting.{rules-logged, logged-same, orders-same, first-some}
 use Rattle.load_rounds.proofs.Numbering.{made-one, marked-round, source-at, replies-before, replies-below, orders-below, orders-loads, keys-first}
 use Rattle.load_rounds.proofs.States.{state, state-is, same-memory, wanted-orders, wanted-logged}
@@ -212,7 +213,13 @@ module _ {S : Type 0} where
 
     -- want of memory between rounds
     pub between-stops : (begun now new : StateOf S) (rounds : ℕ) → IsBetween may p begun now rounds → (new ≡ now) ⊎ RoundLost now new (front_in now p) → StopsAnswering may begun new p
-    between-stops begun now new rounds is end = record { log = is.log; mid = now; made = is.made; end = go end } where
+    between-stops begun now new rounds is end = record {
+      log = is.log;
+      mid = now;
+      made = is.made;
+      end = go end;
+      recorded = end-recorded begun now new (front (session_modes begun) p now.memory) (made-recorded may begun now p is.log is.made) (go end);
+    } where
       same : session_modes now ≡ session_modes begun
       same = ap modes_of (InRounds.rules (between-in begun now rounds is))
 
@@ -285,7 +292,7 @@ module _ {S : Type 0} where
           between-stops begun is.before s is.made is.between (inr lost)
 
     between-alone : (begun now : StateOf S) (rounds : ℕ) → IsBetween may p begun now rounds → StopsAnswering may begun now p
-    between-alone begun now rounds is = record { log = is.log; mid = now; made = is.made; end = inl refl }
+    between-alone begun now rounds is = record { log = is.log; mid = now; made = is.made; end = inl refl; recorded = made-recorded may begun now p is.log is.made }
 
     -- whatever its stage, a run that is dropped has made rounds, and perhaps one more is lost
     pub run-stops : (begun now : StateOf S) (rounds : ℕ) (stage : Stage) → IsRun may p begun now rounds stage → StopsAnswering may begun now p
