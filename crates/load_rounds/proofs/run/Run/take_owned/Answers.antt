@@ -6,7 +6,7 @@ use Rattle.execution.specs.Program.{Program}
 use Rattle.execution.specs.Rounds.{rule_of, may_at}
 use Rattle.load_rounds.specs.Sessions.{state_of, rules_of}
 use Rattle.load_rounds.specs.Runs.{front_in}
-use Rattle.load_rounds.proofs.Runs.{received-below, out-taken, out-stops}
+use Rattle.load_rounds.proofs.Runs.{received-below, asked-ran, out-taken, out-stops}
 use Rattle.load_rounds.proofs.run.Run.take_owned.Goals as goal
 
 pub receive_owned-requires : goal.receive_owned-requires
@@ -29,3 +29,9 @@ returns-clause-run g c = λ begun out.
     let was = rw (← c.self.view_is) at out in
     let round = rw (← c.self.view_is) at c.requires.round in
     rw (← c.self.view_is, c.in_ok-receive_owned.ensures.received) (out-taken g.S.Asks.may_tell p begun s c.self.inside.rounds was (map reply_of c.args.replies.items) c.receive_owned.ensures.limited round)
+
+pub returns-clause-ran : goal.returns-clause-ran
+returns-clause-ran g c = λ asked.
+    let s = state_of c.args.session.now in
+    let p : Program = g.P.Execute.program c.args.self.now.plan in
+    rw c.in_ok-receive_owned.ensures.received (asked-ran g.S.Asks.may_tell p s asked (map reply_of c.args.replies.items) c.receive_owned.ensures.limited c.requires.round)
