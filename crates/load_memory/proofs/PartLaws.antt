@@ -176,6 +176,27 @@ pub HaveOwnKeys-more : (ps : List PartOf) (p : PartOf) → HaveOwnKeys ps → Ha
 HaveOwnKeys-more [] p own new = (new, tt)
 HaveOwnKeys-more (x ∷ ps) p own new = (own.0, HaveOwnKeys-more ps p own.1 new)
 
+-- the first n parts are empty
+abbrev pub AreEmptyBelow : ℕ → List PartOf → Type 0
+AreEmptyBelow zero ps = Unit {0}
+AreEmptyBelow (suc n) [] = Unit {0}
+AreEmptyBelow (suc n) (p ∷ ps) = (p.entries ≡ []) × HasOwnKeys p × AreEmptyBelow n ps
+
+pub empty-one_more : (ps : List PartOf) (i n : ℕ) (x : PartOf) → n ≡ suc i → i < length ps → x.entries ≡ [] → HasOwnKeys x → AreEmptyBelow i ps → AreEmptyBelow n (slice_set ps i x)
+empty-one_more [] i n x next lt none own below = absurd (omega arith)
+empty-one_more (p ∷ ps) zero n x next lt none own below = rw next (none, own, tt)
+empty-one_more (p ∷ ps) (suc i) n x next lt none own below = rw next (below.0, below.1, empty-one_more ps i (suc i) x refl (omega arith) none own below.2)
+
+pub empty-pairs : (m : ℕ) (ps : List PartOf) (n : ℕ) → length ps ≤ n → AreEmptyBelow n ps → pairs_from m ps ≡ []
+empty-pairs m [] n le below = refl
+empty-pairs m (p ∷ ps) zero le below = absurd (omega arith)
+empty-pairs m (p ∷ ps) (suc n) le below = rw (below.0, empty-pairs (suc m) ps n (omega arith) below.2) refl
+
+pub empty-own_keys : (ps : List PartOf) (n : ℕ) → length ps ≤ n → AreEmptyBelow n ps → HaveOwnKeys ps
+empty-own_keys [] n le below = tt
+empty-own_keys (p ∷ ps) zero le below = absurd (omega arith)
+empty-own_keys (p ∷ ps) (suc n) le below = (below.1, empty-own_keys ps n (omega arith) below.2)
+
 -- the parts after one has kept its entries, and after one has gained an entry
 module _ (modes : List KeyMode) (parts : List PartOf) (count : ℕ) (failed : Bool) (i : ℕ) (x d : PartOf) where
   pub AreParts-kept : AreParts modes parts count failed → i < length parts → x.entries ≡ (get_or parts i d).entries → AreParts modes (slice_set parts i x) count failed

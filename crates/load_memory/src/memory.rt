@@ -13,7 +13,7 @@ use crate::outcome::{Item, Outcome};
 use crate::part::{Part, Staged, drop_failed_of, put_absent, take_out};
 use crate::reply::Reply;
 use crate::shelf::{Receipt, Shelf};
-use crate::store::{counts_of, has_failed, make_room, put_all, stage, stage_owned};
+use crate::store::{clear_parts, counts_of, has_failed, make_room, put_all, stage, stage_owned};
 use std::alloc::Global;
 use std::collections::HashMap;
 use std::marker::Model;
@@ -138,6 +138,15 @@ impl Memory {
     {
         self.count -= self.parts[loader].len();
         self.parts[loader].clear();
+    }
+
+    /// Forgets all keys of all loaders. It takes no memory, and the tables keep their room for what comes.
+    pub fn forget_all(&mut self)
+        ensures { self.new ≡ record { modes = self.old.modes; pairs = [] } }
+    {
+        clear_parts(&mut self.parts);
+        self.count = 0;
+        self.failed = false;
     }
 
     /// Forgets the keys whose batch failed as a whole. If no batch failed since the last call, it looks at no

@@ -1,5 +1,5 @@
 //! Storing many pairs, all or none.
-ghost use Rattle.std.specs.Prelude.{◌≡◌, ◌<◌, ◌≤◌, ◌+◌, false, ℕ, All, map, length, IfOk, OnOk, slice_index};
+ghost use Rattle.std.specs.Prelude.{◌≡◌, ◌<◌, ◌≤◌, ◌+◌, false, ℕ, [], All, map, length, IfOk, OnOk, slice_index};
 ghost use Rattle.load_memory.specs.Pairs.{IsSameMap, IsWith};
 ghost use Rattle.load_memory.specs.Parts.{HaveOwnKeys, HaveRoom, room_at, count_at, pairs_from, staged_of, AreUnfailed, AddsReply};
 
@@ -102,6 +102,17 @@ pub(crate) fn make_room(parts: &mut Vec<Part>, counts: &[usize]) -> Result<(), N
         parts[loader].reserve(counts[loader])?;
     }
     Ok(())
+}
+
+/// Takes the pairs out of each part.
+pub(crate) fn clear_parts(parts: &mut Vec<Part>)
+    ensures lined_up { length parts.new.items ≡ length parts.old.items }
+    ensures own_keys { HaveOwnKeys parts.new.items }
+    ensures pairs { pairs_from 0 parts.new.items ≡ [] }
+{
+    for index in 0..parts.len() {
+        parts[index].clear();
+    }
 }
 
 /// Stores the pairs whose keys are absent, of equal keys the first, where there is room for all. Gives

@@ -1,5 +1,5 @@
 -- What contracts see of a loader and of the entries of its log.
-use Rattle.std.specs.Prelude.{◌≡◌, ◌==◌, ◌<◌, ◌⊎◌, ◌++◌, ℕ, Bool, true, false, List, [], Option, Some, None, map, if◌then◌else◌}
+use Rattle.std.specs.Prelude.{◌≡◌, ◌==◌, ◌<◌, ◌⊎◌, ◌+◌, ◌++◌, ℕ, Bool, true, false, List, [], ◌∷◌, Option, Some, None, map, length, if◌then◌else◌}
 use Rattle.load_memory.specs.Keys.{KeyOf}
 use Rattle.load_memory.specs.declared.key.KeyMode.{KeyMode}
 use Rattle.load_queue.specs.Batches.{batches}
@@ -20,10 +20,12 @@ pub record LoaderOf (S : Type 0) : Type 0 where
   pub mode : KeyMode
   pub limit : Option ℕ
   pub log : List AskedOf
+  -- how many orders were ever made of it, which nothing resets
+  pub orders : ℕ
 
--- the loader once these keys are asked in this round: its log has gained an entry for each batch
+-- the loader once these keys are asked in this round: its log has gained an entry for each batch, and each is counted
 abbrev pub asked_in : {S : Type 0} → LoaderOf S → ℕ → List KeyOf → LoaderOf S
-asked_in l round keys = record l { log = l.log ++ map (entered round) (batches l.limit keys) }
+asked_in l round keys = record l { log = l.log ++ map (entered round) (batches l.limit keys); orders = l.orders + length (batches l.limit keys) }
 
 -- the entry, as stored if it is of this round
 abbrev pub marked : ℕ → AskedOf → AskedOf
@@ -36,6 +38,23 @@ stored_in l round = record l { log = map (marked round) l.log }
 -- the loader with nothing in its log
 abbrev pub unasked : {S : Type 0} → LoaderOf S → LoaderOf S
 unasked l = record l { log = [] }
+
+-- the loader as it was made
+abbrev pub as_made : {S : Type 0} → LoaderOf S → LoaderOf S
+as_made l = record l { log = []; orders = 0 }
+
+-- every order that was made of the loader in between stands in its log: the count of orders, which nothing resets, grew by as many as the log did
+pub record IsOnRecord {S : Type 0} (old new : LoaderOf S) : Type 0 where
+  pub made : ℕ
+  pub orders : new.orders ≡ old.orders + made
+  pub entries : length new.log ≡ length old.log + made
+
+-- the same of each loader of a list
+abbrev pub AreOnRecord : {S : Type 0} → List (LoaderOf S) → List (LoaderOf S) → Type 0
+AreOnRecord [] [] = Unit {0}
+AreOnRecord [] (new ∷ later) = ⊥
+AreOnRecord (old ∷ before) [] = ⊥
+AreOnRecord (old ∷ before) (new ∷ later) = IsOnRecord old new × AreOnRecord before later
 
 -- a limit that no loader may have
 abbrev pub IsBadLimit : Option ℕ → Type 0

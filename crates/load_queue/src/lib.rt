@@ -1,10 +1,15 @@
 //! Sources; the loaders that ask them; orders, the batches to ask, which alone call a source; and
 //! the keys that are wanted of each loader.
 //!
-//! The layer above may rely on this: only [`Loader::cut`] makes an [`Order`], and enters it in the
-//! loader's log as it does; a loader's source is reached by [`Order::run`] alone, which spends the
-//! order (the source is private; no clause says it); and the reply has, place by place, an answer
-//! that the source may give for the order's keys.
+//! The layer above may rely on this:
+//!
+//! - Only [`Loader::cut`], which [`Loader::cut_owned`] does by value, makes an [`Order`]. It enters
+//!   each in the loader's log and counts it, and nothing resets the count.
+//! - A source is private to its loader (no clause says it). An order reaches it by [`Order::run`]
+//!   alone; [`Order::answered`] reaches none. Both spend the order.
+//! - So a call over which a loader's count grew by as many as its log made no other order; where it
+//!   was handed none either, it asked the source nothing else.
+//! - A reply of `run` has, place by place, an answer that the source may give for the order's keys.
 #![tactic(auto)]
 
 mod cut;

@@ -1,8 +1,8 @@
-//! A loader: a source with its name, its mode, its limit and its log.
+//! A loader: a source with its name, its mode, its limit, its log and the count of its orders.
 ghost use Rattle.std.specs.Prelude.{◌≡◌, ◌↔◌, ◌<◌, ℕ, Some, [], All, IfOk, OnOk, OnErr, IsErrOf, map, take};
 ghost use Rattle.load_memory.specs.Keys.{key_of};
 ghost use Rattle.load_queue.specs.Batches.{AreBatches};
-ghost use Rattle.load_queue.specs.Loaders.{AskedOf, marked};
+ghost use Rattle.load_queue.specs.Loaders.{AskedOf, IsOnRecord, marked};
 ghost use Rattle.load_queue.specs.Logs.{asked_of};
 ghost use Rattle.load_queue.specs.Orders.{orders_of};
 
@@ -53,9 +53,10 @@ pub struct Asked {
     pub stored: bool,
 }
 
-/// A source with its name, the way its keys are compared, its batch limit, and the log of what was asked.
+/// A source with its name, the way its keys are compared, its batch limit, the log of what was asked, and the count of its
+/// orders.
 ///
-/// A contract sees these five.
+/// A contract sees these six.
 #[derive(Drop)]
 pub struct Loader<S> {
     name: String,
@@ -66,6 +67,8 @@ pub struct Loader<S> {
     // the latest round of the log, and how many entries stand before its first
     latest: u32,
     earlier: usize,
+    // how many orders were ever made of it; nothing resets it
+    orders: u64,
 }
 
 impl<S> Model for Loader<S> {
@@ -81,6 +84,7 @@ impl<S> Model for Loader<S> {
       mode = l.mode;
       limit = l.limit;
       log = map asked_of l.log.items;
+      orders = l.orders;
     } };
 
     ghost invariant = { λ l. IsLoader l.limit l.latest l.earlier (map asked_of l.log.items) };
@@ -124,30 +128,40 @@ impl<S> Loader<S> {
         self.log.as_slice()
     }
 
+    /// How many orders were ever made of it. It counts batches over the loader's whole life:
+    /// [`restart`](Loader::restart) doesn't reset it.
+    pub fn orders(&self) -> u64
+        ensures { result ≡ self.now.orders }
+    {
+        self.orders
+    }
+
     pub(crate) fn source(&self) -> &S
         ensures { result.now ≡ self.now.source }
     {
         &self.source
     }
 
-    /// Cuts keys in order into batches of at most the limit, makes an order of each, and enters each in the log as
-    /// asked in this round and not stored. Without a limit all keys are one batch; no keys make no order.
+    /// Cuts keys in order into batches of at most the limit, makes an order of each, counts it, and enters it in the
+    /// log as asked in this round and not stored. Without a limit all keys are one batch; no keys make no order.
     ///
-    /// `loader` is the number that the orders and their replies get. When out of memory, the loader and its log are
-    /// as they were.
+    /// `loader` is the number that the orders and their replies get. When out of memory, or if the count of orders
+    /// would overflow, the loader and its log are as they were.
     pub fn cut(&mut self, loader: usize, round: u32, keys: &[Key]) -> Result<Vec<Order>, NoMemory>
         ensures orders { IfOk result (λ orders. orders.items
             ≡ orders_of loader self.old.limit (map key_of keys.now)) }
         ensures pieces { IfOk result (λ orders.
             AreBatches self.old.limit (map key_of keys.now) (map (λ o. o.keys) orders.items)) }
         ensures entered { OnOk result (self.new ≡ asked_in self.old round (map key_of keys.now)) }
+        ensures recorded { IsOnRecord self.old self.new }
         ensures kept { OnErr result (self.new ≡ self.old) }
     {
         let own = copy_of(*self.log.allocator(), keys)?;
         self.cut_owned(loader, round, own)
     }
 
-    /// As [`cut`](Loader::cut), but takes the keys by value: they move into the orders, and the log has copies.
+    /// As [`cut`](Loader::cut), but takes the keys by value: they move into the orders, and the log has copies. When
+    /// out of memory, or if the count of orders would overflow, the keys are gone, and the loader is as it was.
     pub fn cut_owned(
         &mut self,
         loader: usize,
@@ -159,14 +173,20 @@ impl<S> Loader<S> {
         ensures pieces { IfOk result (λ orders.
             AreBatches self.old.limit (map key_of keys.items) (map (λ o. o.keys) orders.items)) }
         ensures entered { OnOk result (self.new ≡ asked_in self.old round (map key_of keys.items)) }
+        ensures recorded { IsOnRecord self.old self.new }
         ensures kept { OnErr result (self.new ≡ self.old) }
     {
         let alloc = *self.log.allocator();
         let most = piece_length(self.limit, &keys);
         let mut entries = log_entries(alloc, round, &keys, most)?;
+        let count = self
+            .orders
+            .checked_add(entries.len() as u64)
+            .ok_or(NoMemory)?;
         let orders = cut_orders(alloc, loader, keys, most)?;
         let earlier = self.log.len();
         self.log.append(&mut entries)?;
+        self.orders = count;
         if self.latest < round {
             self.latest = round;
             self.earlier = earlier;
@@ -187,7 +207,8 @@ impl<S> Loader<S> {
         mark(&mut self.log, first, round);
     }
 
-    /// Forgets what was asked: the loader is as it was made. A short log keeps its memory for what is asked next.
+    /// Forgets what was asked: the loader is as it was made, but the count of its orders goes on. A short log keeps its
+    /// memory for what is asked next.
     pub fn restart(&mut self)
         ensures { self.new ≡ unasked self.old }
     {
@@ -204,8 +225,8 @@ impl<S> Loader<S> {
 impl<S: Drop> Loader<S> {
     ghost use Rattle.load_queue.specs.Loaders.{IsBadLimit};
 
-    /// A new loader with an empty log. It asks its source for at most `max` keys at once, 1 to 65,535; `None` is no
-    /// limit.
+    /// A new loader with an empty log, of which no order was made yet. It asks its source for at most `max` keys at
+    /// once, 1 to 65,535; `None` is no limit.
     pub fn new(
         alloc: Global,
         name: &str,
@@ -214,7 +235,7 @@ impl<S: Drop> Loader<S> {
         max: Option<u32>,
     ) -> Result<Loader<S>, QueueFault>
         ensures made { IfOk result (λ l. l
-            ≡ record { name = name.now; source = source; mode = mode; limit = max; log = [] }) }
+            ≡ record { name = name.now; source = source; mode = mode; limit = max; log = []; orders = 0 }) }
         ensures refused { IsErrOf result QueueFault.BadLimit ↔ IsBadLimit max }
     {
         if let Some(limit) = max
@@ -231,6 +252,7 @@ impl<S: Drop> Loader<S> {
             log: Vec::new(alloc),
             latest: 0,
             earlier: 0,
+            orders: 0,
         })
     }
 }

@@ -1,16 +1,18 @@
 //! An order: keys that are to be asked together of one loader.
 ghost use Rattle.std.specs.Prelude.{◌≡◌, ◌<◌, IfOk, length, map};
 ghost use Rattle.load_memory.specs.Keys.{key_of};
+ghost use Rattle.load_queue.specs.Fetched.{Follow};
 
 use crate::loader::Loader;
 use crate::outcomes::outcomes_of_answer;
-use crate::source::Asks;
-use load_memory::{Key, NoMemory, Reply};
+use crate::source::{Asks, FetchFault};
+use load_memory::{Item, Key, NoMemory, Reply};
 use std::alloc::Global;
 use std::marker::Model;
 
 /// A batch that is still to be asked: keys for one call of a loader's source. Only
-/// [`Loader::cut`](crate::Loader::cut) makes one, and [`run`](Order::run) spends it.
+/// [`Loader::cut`](crate::Loader::cut) makes one, and [`run`](Order::run) or [`answered`](Order::answered)
+/// spends it.
 ///
 /// A contract sees its loader's number and its keys.
 #[derive(Drop)]
@@ -66,6 +68,30 @@ impl Order {
     {
         let Order { loader, keys } = self;
         let answer = loaders[loader].source().ask(alloc, keys.as_slice());
+        let outcomes = outcomes_of_answer(alloc, answer, keys.len())?;
+        Ok(Reply {
+            loader,
+            keys,
+            outcomes,
+        })
+    }
+
+    /// Answers the order with items that came from elsewhere; it asks no source. Returns an outcome for each key, in
+    /// order, as [`run`](Order::run) does of what its source returned: the items if there is one for each key, or
+    /// else for each key a batch fault, with the answer's message or the text of a wrong count.
+    ///
+    /// When out of memory, or if the answer is [`NoMemory`](FetchFault::NoMemory), the order is spent and there is no
+    /// reply.
+    pub fn answered(
+        self,
+        alloc: Global,
+        answer: Result<Vec<Item>, FetchFault>,
+    ) -> Result<Reply, NoMemory>
+        ensures loader { IfOk result (λ reply. reply.loader ≡ self.loader) }
+        ensures keys { IfOk result (λ reply. (reply_of reply).keys ≡ self.keys) }
+        ensures outcomes { IfOk result (λ reply. Follow (reply_of reply).outcomes answer (length self.keys)) }
+    {
+        let Order { loader, keys } = self;
         let outcomes = outcomes_of_answer(alloc, answer, keys.len())?;
         Ok(Reply {
             loader,

@@ -30,7 +30,7 @@ made-more (o ∷ os) more ne = refl
 
 module _ {S : Type 0} where
   pub logged-none : (stored : Bool) (round : ℕ) (l : LoaderOf S) → logged stored round [] l ≡ l
-  logged-none stored round l = ap (λ log. record l { log = log }) (append-nil l.log)
+  logged-none stored round l = let none : l.orders + 0 ≡ l.orders = omega arith in rw (append-nil l.log, none) refl
 
   pub logged-same : (stored : Bool) (round n : ℕ) (keys others : ℕ → List KeyOf) (ls : List (LoaderOf S)) → ((m : ℕ) → n ≤ m → m < n + length ls → keys m ≡ others m)
       → logged_from n stored round keys ls ≡ logged_from n stored round others ls

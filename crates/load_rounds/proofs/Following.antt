@@ -26,6 +26,7 @@ use Rattle.load_rounds.specs.Headline.{asked_steps, MakesRounds, Headline, Stops
 use Rattle.execution.specs.Executes.{IsTextOf}
 use Rattle.load_rounds.proofs.Numbering.{source-at}
 pub use Rattle.load_rounds.proofs.Stepping.{SameSources}
+use Rattle.load_rounds.proofs.Stepping.{made-recorded, end-recorded}
 use Rattle.load_rounds.proofs.Onces.{ran-rules}
 use Rattle.load_rounds.proofs.Lacking.{length-wanting}
 
@@ -116,7 +117,14 @@ module _ {S : Type 0} (may : S → List KeyOf → AnswerOf → Type 0) where
   pub in-stops : (old cur new : StateOf S) (p : Program) (rounds : ℕ) → InRounds old cur p rounds → (new ≡ cur) ⊎ RoundLost cur new (front (session_modes cur) p cur.memory) → StopsAnswering may old new p
   in-stops old cur new p rounds is end =
       let same : session_modes cur ≡ session_modes old = ap modes_of is.rules in
-      record { log = is.log; mid = cur; made = is.made; end = rw (ap (λ ms. front ms p cur.memory) same) at end }
+      let last = rw (ap (λ ms. front ms p cur.memory) same) at end in
+      record {
+        log = is.log;
+        mid = cur;
+        made = is.made;
+        end = last;
+        recorded = end-recorded old cur new (front (session_modes old) p cur.memory) (made-recorded may old cur p is.log is.made) last;
+      }
 
   -- nothing is missing
   pub in-all : (old cur : StateOf S) (p : Program) (rounds loaders : ℕ) (text_of : AnsweredOf → List ℕ) (text : List ℕ) → InRounds old cur p rounds → AreLimited (rules_of old) → HasLoaders loaders p → loaders ≤ length old.loaders
@@ -131,6 +139,7 @@ module _ {S : Type 0} (may : S → List KeyOf → AnswerOf → Type 0) where
         log = is.log;
         made = is.made;
         complete = rw same at none;
+        recorded = made-recorded may old cur p is.log is.made;
         pairs = λ pair there. answered-in (may_at may old.loaders) (rules_of old) p (without_failed old.memory) is.log cur.memory pair.loader pair.key pair.outcome log there;
         once = asked-once (may_at may old.loaders) (rules_of old) p limited (without_failed old.memory) is.log cur.memory log;
         counted = is.counted;

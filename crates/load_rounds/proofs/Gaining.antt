@@ -14,7 +14,7 @@ use Rattle.load_queue.proofs.PieceLaws.{are-batches}
 use Rattle.execution.specs.Loads.{Load, Memory, read, IsOneOf}
 use Rattle.execution.specs.Front.{keys_for, missing}
 use Rattle.execution.specs.Rounds.{rule_of, orders_from, round_orders, AreLimited}
-use Rattle.execution.specs.Sessions.{Cell, key_cell, cell_of, AreApart, order_cells, Step, Forgot, AskedLoads, Lost, Primed, Cleared, ClearedAll, AreMissing}
+use Rattle.execution.specs.Sessions.{Cell, key_cell, cell_of, AreApart, order_cells, Step, Forgot, AskedLoads, Lost, Primed, Cleared, ClearedAll, Restarted, AreMissing}
 use Rattle.execution.proofs.Same.{one-left, one-right, one-either}
 use Rattle.execution.proofs.ReplyLaws.{firsts-apart}
 use Rattle.load_rounds.specs.Sessions.{StateOf, rules_of, entry, logged_from, after_step, after_steps}
@@ -90,6 +90,7 @@ module _ {S : Type 0} where
   step_entries s n (Primed pair) = []
   step_entries s n (Cleared cell) = []
   step_entries s n (ClearedAll loader) = []
+  step_entries s n Restarted = []
 
   abbrev all_entries : StateOf S → ℕ → List Step → List AskedOf
   all_entries s n [] = []
@@ -101,22 +102,37 @@ module _ {S : Type 0} where
   logged-at n zero m stored round keys (l ∷ ls) e = let same : n ≡ m = omega (arith, e) in ap (λ k. l.log ++ map (entry stored round) (batches l.limit (keys k))) same
   logged-at n (suc i) m stored round keys (l ∷ ls) e = logged-at (suc n) i m stored round keys ls (omega (arith, e))
 
-  step-log : (s : StateOf S) (n : ℕ) (step : Step) → log_of (after_step s step) n ≡ log_of s n ++ step_entries s n step
-  step-log s n Forgot = sym (append-nil (log_of s n))
-  step-log s n (AskedLoads loads replies) = logged-at 0 n n true (s.rounds + 1) (λ m. keys_for m loads) s.loaders (omega arith)
-  step-log s n (Lost loads) = logged-at 0 n n false (s.rounds + 1) (λ m. keys_for m loads) s.loaders (omega arith)
-  step-log s n (Primed pair) = sym (append-nil (log_of s n))
-  step-log s n (Cleared cell) = sym (append-nil (log_of s n))
-  step-log s n (ClearedAll loader) = sym (append-nil (log_of s n))
+  -- the step leaves the entries of the logs
+  abbrev pub GoesOn : Step → Type 0
+  GoesOn Forgot = Unit {0}
+  GoesOn (AskedLoads loads replies) = Unit {0}
+  GoesOn (Lost loads) = Unit {0}
+  GoesOn (Primed pair) = Unit {0}
+  GoesOn (Cleared cell) = Unit {0}
+  GoesOn (ClearedAll loader) = Unit {0}
+  GoesOn Restarted = ⊥
 
-  steps-log : (s : StateOf S) (n : ℕ) (steps : List Step) → log_of (after_steps s steps) n ≡ log_of s n ++ all_entries s n steps
-  steps-log s n [] = sym (append-nil (log_of s n))
-  steps-log s n (step ∷ steps) =
-      steps-log (after_step s step) n steps ∙ ap (λ es. es ++ all_entries (after_step s step) n steps) (step-log s n step) ∙ append_assoc (log_of s n) (step_entries s n step) (all_entries (after_step s step) n steps)
+  abbrev pub AllGoOn : List Step → Type 0
+  AllGoOn [] = Unit {0}
+  AllGoOn (step ∷ steps) = GoesOn step × AllGoOn steps
 
-  gained-entries : (may : S → List KeyOf → AnswerOf → Type 0) (old new : StateOf S) (n : ℕ) (steps : List Step) → Leads may old steps new → gained n old new ≡ all_entries old n steps
-  gained-entries may old new n steps h =
-      let log : log_of new n ≡ log_of old n ++ all_entries old n steps = ap (λ (s : StateOf S). log_of s n) h.after ∙ steps-log old n steps in
+  step-log : (s : StateOf S) (n : ℕ) (step : Step) → GoesOn step → log_of (after_step s step) n ≡ log_of s n ++ step_entries s n step
+  step-log s n Forgot on = sym (append-nil (log_of s n))
+  step-log s n (AskedLoads loads replies) on = logged-at 0 n n true (s.rounds + 1) (λ m. keys_for m loads) s.loaders (omega arith)
+  step-log s n (Lost loads) on = logged-at 0 n n false (s.rounds + 1) (λ m. keys_for m loads) s.loaders (omega arith)
+  step-log s n (Primed pair) on = sym (append-nil (log_of s n))
+  step-log s n (Cleared cell) on = sym (append-nil (log_of s n))
+  step-log s n (ClearedAll loader) on = sym (append-nil (log_of s n))
+  step-log s n Restarted on = absurd on
+
+  steps-log : (s : StateOf S) (n : ℕ) (steps : List Step) → AllGoOn steps → log_of (after_steps s steps) n ≡ log_of s n ++ all_entries s n steps
+  steps-log s n [] on = sym (append-nil (log_of s n))
+  steps-log s n (step ∷ steps) on =
+      steps-log (after_step s step) n steps on.1 ∙ ap (λ es. es ++ all_entries (after_step s step) n steps) (step-log s n step on.0) ∙ append_assoc (log_of s n) (step_entries s n step) (all_entries (after_step s step) n steps)
+
+  gained-entries : (may : S → List KeyOf → AnswerOf → Type 0) (old new : StateOf S) (n : ℕ) (steps : List Step) → AllGoOn steps → Leads may old steps new → gained n old new ≡ all_entries old n steps
+  gained-entries may old new n steps on h =
+      let log : log_of new n ≡ log_of old n ++ all_entries old n steps = ap (λ (s : StateOf S). log_of s n) h.after ∙ steps-log old n steps on in
       ap (λ es. drop (length (log_of old n)) es) log ∙ drop-length (log_of old n) (all_entries old n steps)
 
 module _ {S : Type 0} (modes : List KeyMode) (n : ℕ) where
@@ -135,8 +151,8 @@ module _ {S : Type 0} (modes : List KeyMode) (n : ℕ) where
       ∙ entered-append modes n (of_stored (step_entries s n step)) (of_stored (all_entries (after_step s step) n steps))
       ∙ ap (λ cs. step_cells s step ++ cs) (cells-are (after_step s step) steps)
 
-  pub gained-cells : (may : S → List KeyOf → AnswerOf → Type 0) (old new : StateOf S) (steps : List Step) → Leads may old steps new → entered_cells modes n (stored_gained n old new) ≡ all_cells old steps
-  gained-cells may old new steps h = ap (λ es. entered_cells modes n (of_stored es)) (gained-entries may old new n steps h) ∙ cells-are old steps
+  pub gained-cells : (may : S → List KeyOf → AnswerOf → Type 0) (old new : StateOf S) (steps : List Step) → AllGoOn steps → Leads may old steps new → entered_cells modes n (stored_gained n old new) ≡ all_cells old steps
+  gained-cells may old new steps on h = ap (λ es. entered_cells modes n (of_stored es)) (gained-entries may old new n steps on h) ∙ cells-are old steps
 
   limited-at : (ls : List (LoaderOf S)) (i : ℕ) (l : LoaderOf S) → AreLimited (map rule_of ls) → slice_get ls i ≡ Some l → (k : ℕ) → l.limit ≡ Some k → 0 < k
   limited-at [] i l h e = absurd (cc e)
@@ -218,3 +234,4 @@ module _ {S : Type 0} (modes : List KeyMode) (n : ℕ) where
       go (Primed pair) (inl i) more same = absurd i
       go (Cleared cell) (inl i) more same = absurd i
       go (ClearedAll loader) (inl i) more same = absurd i
+      go Restarted (inl i) more same = absurd i

@@ -11,16 +11,16 @@ use Rattle.execution.specs.Loads.{Load, Memory, read, same}
 use Rattle.execution.specs.Program.{Program, needs}
 use Rattle.execution.specs.Front.{missing, firsts, front}
 use Rattle.execution.specs.Rounds.{RuleOf, modes_of, round_orders, may_at, AreRounds, after_round, without_failed}
-use Rattle.execution.specs.Sessions.{Step, Forgot, AskedLoads, Lost, Primed, Cleared, ClearedAll, after, AreMissing, IsStep, AreSteps}
+use Rattle.execution.specs.Sessions.{Step, Forgot, AskedLoads, Lost, Primed, Cleared, ClearedAll, Restarted, after, AreMissing, IsStep, AreSteps}
 use Rattle.execution.proofs.Same.{same-is}
 use Rattle.load_rounds.specs.Sessions.{StateOf, rules_of, session_modes, after_step, after_steps, of_first}
 use Rattle.load_rounds.specs.Calls.{load_of, asked_for, AsksOnce, RoundLost, IsStopped}
 use Rattle.load_rounds.specs.Headline.{asked_steps, MakesRounds, StopsAnswering}
 use Rattle.load_rounds.specs.SharedRounds.{together}
-use Rattle.load_rounds.specs.Histories.{Call, Loading, StoppedLoading, Priming, Clearing, ClearingAll, Forgetting, Executing, StoppedExecuting, ExecutingTogether, Running, AreAsking, IsMadeOf, AreMadeOf, Leads, IsCall, AreCalls}
+use Rattle.load_rounds.specs.Histories.{Call, Loading, StoppedLoading, Priming, Clearing, ClearingAll, Forgetting, Executing, StoppedExecuting, ExecutingTogether, Restarting, Running, AreAsking, IsMadeOf, AreMadeOf, Leads, IsCall, AreCalls}
 use Rattle.load_rounds.proofs.Following.{replies-over}
 use Rattle.load_rounds.proofs.Runs.{run-stops}
-use Rattle.load_rounds.proofs.Stepping.{SameSources, steps-rules, steps-sources}
+use Rattle.load_rounds.proofs.Stepping.{SameSources, steps-rules, steps-sources, asking-rounds}
 
 -- the memory after steps
 abbrev pub memory_after : List RuleOf → Memory → List Step → Memory
@@ -45,10 +45,6 @@ module _ (may : ℕ → List KeyOf → AnswerOf → Type 0) (rules : List RuleOf
   rounds-steps p M [] end h = tt
   rounds-steps p M (r ∷ rs) end h = (((needs p (read (modes_of rules) M), refl), h.1), rounds-steps p (after_round rules M r) rs end h.2)
 
-asking-rounds : (rules : List RuleOf) (p : Program) (M : Memory) (log : List (List ReplyOf)) → AreAsking (asked_steps rules p M log)
-asking-rounds rules p M [] = tt
-asking-rounds rules p M (r ∷ rs) = asking-rounds rules p (after_round rules M r) rs
-
 asking-append : (xs ys : List Step) → AreAsking xs → AreAsking ys → AreAsking (xs ++ ys)
 asking-append [] ys h k = k
 asking-append (AskedLoads loads replies ∷ xs) ys h k = asking-append xs ys h k
@@ -57,6 +53,7 @@ asking-append (Forgot ∷ xs) ys h k = absurd h
 asking-append (Primed pair ∷ xs) ys h k = absurd h
 asking-append (Cleared cell ∷ xs) ys h k = absurd h
 asking-append (ClearedAll loader ∷ xs) ys h k = absurd h
+asking-append (Restarted ∷ xs) ys h k = absurd h
 
 -- loads of the first loaders are missing where all are
 module _ {X : Type 0} where
@@ -115,6 +112,7 @@ module _ {S : Type 0} where
       one s (Primed pair) = refl
       one s (Cleared cell) = refl
       one s (ClearedAll loader) = refl
+      one s Restarted = refl
 
   steps-append : (s : StateOf S) (xs ys : List Step) → after_steps s (xs ++ ys) ≡ after_steps (after_steps s xs) ys
   steps-append s [] ys = refl
@@ -129,6 +127,7 @@ module _ {S : Type 0} where
     over-step old cur from rules M (Primed pair) h = tt
     over-step old cur from rules M (Cleared cell) h = tt
     over-step old cur from rules M (ClearedAll loader) h = tt
+    over-step old cur from rules M Restarted h = tt
 
     over-steps : (old cur : List (LoaderOf S)) → SameSources old cur → (rules : List RuleOf) (M : Memory) (steps : List Step) → AreSteps (may_at may cur) rules M steps → AreSteps (may_at may old) rules M steps
     over-steps old cur from rules M [] h = tt
@@ -206,6 +205,7 @@ module _ {S : Type 0} where
     call-leads (Executing p text_of text rounds) old new h = made-leads old new p h.log h.made
     call-leads (StoppedExecuting p) old new h = stops-leads old new p h
     call-leads (ExecutingTogether rs reports) old new h = made-leads old new (together rs) h.log h.made
+    call-leads Restarting old new h = (Restarted ∷ [], record { after = h; may_be = (tt, (tt, tt)) }, refl)
     call-leads (Running p rounds stage) old new h = stops-leads old new p (run-stops may p old new rounds stage h)
 
     pub calls-lead : (calls : List Call) (old new : StateOf S) → AreCalls may calls old new → (steps : List Step) × Leads may old steps new × AreMadeOf calls steps

@@ -73,7 +73,7 @@ module _ {S : Type 0} where
       let new = map (entry false round) (batches l.limit (keys n)) in
       let log : map (marked round) (l.log ++ new) ≡ l.log ++ map (entry true round) (batches l.limit (keys n)) =
       map-append (marked round) l.log new ∙ ap (λ es. es ++ map (marked round) new) (old-kept round before l.log lt own) ∙ ap (λ es. l.log ++ es) (new-marked round (batches l.limit (keys n))) in
-      ap (λ es. record l { log = es } ∷ map (λ l. stored_in l round) (logged_from (suc n) false round keys ls)) log ∙ ap (λ xs. logged true round (keys n) l ∷ xs) (marked-round round before (suc n) keys ls lt rest)
+      ap (λ es. record l { log = es; orders = l.orders + length (batches l.limit (keys n)) } ∷ map (λ l. stored_in l round) (logged_from (suc n) false round keys ls)) log ∙ ap (λ xs. logged true round (keys n) l ∷ xs) (marked-round round before (suc n) keys ls lt rest)
 
 -- the orders of loads
 pub orders-loads : (n : ℕ) (rules : List RuleOf) (loads : List Load) → orders_by n rules (λ m. keys_for m loads) ≡ orders_from n rules loads

@@ -6,10 +6,10 @@ use Rattle.load_memory.specs.Outcomes.{OutcomeOf, known, batch_fault}
 use Rattle.load_memory.specs.Pairs.{PairOf, look}
 use Rattle.execution.specs.Loads.{Memory, IsOneOf}
 use Rattle.execution.specs.Rounds.{RuleOf, modes_of, unless_failed, pairs_of}
-use Rattle.execution.specs.Sessions.{Step, Forgot, AskedLoads, Lost, Primed, Cleared, ClearedAll, is_cell, after, IsAnsweredIn}
+use Rattle.execution.specs.Sessions.{Step, Forgot, AskedLoads, Lost, Primed, Cleared, ClearedAll, Restarted, is_cell, after, IsAnsweredIn}
 use Rattle.execution.proofs.Same.{one-either}
 use Rattle.execution.proofs.ReplyLaws.{make, look-member, pairs-from}
-use Rattle.load_rounds.specs.Histories.{Call, Loading, StoppedLoading, Priming, Clearing, ClearingAll, Forgetting, Executing, StoppedExecuting, ExecutingTogether, Running, AreAsking, IsMadeOf, AreMadeOf, replies_of}
+use Rattle.load_rounds.specs.Histories.{Call, Loading, StoppedLoading, Priming, Clearing, ClearingAll, Forgetting, Executing, StoppedExecuting, ExecutingTogether, Restarting, Running, AreAsking, IsMadeOf, AreMadeOf, replies_of}
 use Rattle.load_rounds.proofs.Histories.{memory_after}
 
 module _ (rules : List RuleOf) (loader : ℕ) (key : KeyOf) (o : OutcomeOf) where
@@ -44,6 +44,7 @@ module _ (rules : List RuleOf) (loader : ℕ) (key : KeyOf) (o : OutcomeOf) wher
     now (Some x) f a = inl (f ∙ a)
   step-from M (Cleared cell) e = inl (left-in (is_cell cell (loader, key)) (M loader key) e)
   step-from M (ClearedAll n) e = inl (left-in (n == loader) (M loader key) e)
+  step-from M Restarted e = inl (left-in true (M loader key) e)
 
   more-replies : (step : Step) (steps : List Step) → IsAnsweredIn (modes_of rules) (make loader key o) (replies_of steps) → IsAnsweredIn (modes_of rules) (make loader key o) (replies_of (step ∷ steps))
   more-replies (AskedLoads loads replies) steps h = (h.0, inr h.1, h.2, h.3, h.4)
@@ -52,6 +53,7 @@ module _ (rules : List RuleOf) (loader : ℕ) (key : KeyOf) (o : OutcomeOf) wher
   more-replies (Primed pair) steps h = h
   more-replies (Cleared cell) steps h = h
   more-replies (ClearedAll n) steps h = h
+  more-replies Restarted steps h = h
 
   first-reply : (step : Step) (steps : List Step) → IsAnsweredIn (modes_of rules) (make loader key o) (replies_of (step ∷ [])) → IsAnsweredIn (modes_of rules) (make loader key o) (replies_of (step ∷ steps))
   first-reply (AskedLoads loads replies) steps h = go h.1 where
@@ -63,6 +65,7 @@ module _ (rules : List RuleOf) (loader : ℕ) (key : KeyOf) (o : OutcomeOf) wher
   first-reply (Primed pair) steps h = absurd h.1
   first-reply (Cleared cell) steps h = absurd h.1
   first-reply (ClearedAll n) steps h = absurd h.1
+  first-reply Restarted steps h = absurd h.1
 
   pub pair-from : (M : Memory) (steps : List Step) → memory_after rules M steps loader key ≡ Some o → IsFrom M steps
   pair-from M [] e = inl e
@@ -92,6 +95,7 @@ asking-primes pair (Forgot ∷ steps) h i = h
 asking-primes pair (Primed p ∷ steps) h i = h
 asking-primes pair (Cleared cell ∷ steps) h i = h
 asking-primes pair (ClearedAll n ∷ steps) h i = h
+asking-primes pair (Restarted ∷ steps) h i = h
 
 primed-is : (p q : PairOf) → Primed p ≡ Primed q → p ≡ q
 primed-is p q e = cc e
@@ -115,6 +119,10 @@ call-primes pair Forgetting own h i = let none = rw h at i in absurd none
 call-primes pair (Executing p text_of text rounds) own h i = absurd (asking-primes pair own h i)
 call-primes pair (StoppedExecuting p) own h i = absurd (asking-primes pair own h i)
 call-primes pair (ExecutingTogether rs reports) own h i = absurd (asking-primes pair own h i)
+call-primes pair Restarting own h i = go (rw h at i) where
+  go : IsOneOf (Primed pair) (Restarted ∷ []) → Priming pair ≡ Restarting
+  go (inl e) = absurd (cc e)
+  go (inr j) = absurd j
 call-primes pair (Running p rounds stage) own h i = absurd (asking-primes pair own h i)
 
 pub calls-prime : (pair : PairOf) (calls : List Call) (steps : List Step) → AreMadeOf calls steps → IsOneOf (Primed pair) steps → IsOneOf (Priming pair) calls

@@ -19,7 +19,7 @@ use Rattle.load_rounds.specs.Headline.{asked_steps, Answers}
 use Rattle.execution.specs.Executes.{IsTextOf}
 use Rattle.load_rounds.specs.Answerings.{FarOf, handed, polled, over, rounds_of, begun, FitsFar, HasMade, CanPoll, Gives, PollRan}
 use Rattle.load_rounds.specs.declared.answer.Answer.{Answer}
-use Rattle.load_rounds.proofs.Following.{InRounds, in-none, in-more, in-all}
+use Rattle.load_rounds.proofs.Following.{InRounds, in-none, in-more, in-all, in-stops}
 use Rattle.load_rounds.proofs.Stepping.{steps-rules, steps-sources}
 
 some-is : {X : Type 0} (x y : X) → Some x ≡ Some y → x ≡ y
@@ -101,8 +101,7 @@ module _ {S : Type 0} (may : S → List KeyOf → AnswerOf → Type 0) where
       gives-none text_of s fault end = gives-output text_of st cur n (s, Err fault) at is can go where
         go : (old : StateOf S) → loaders ≤ length old.loaders → InRounds may old cur p n → Answers may old (state_of s) p text_of (Err fault)
         go old enough so =
-            let same : session_modes cur ≡ session_modes old = ap modes_of so.rules in
-            (tt, record { log = so.log; mid = cur; made = so.made; end = rw (ap (λ ms. front ms p cur.memory) same) at end })
+            (tt, in-stops may old cur (state_of s) p n so end)
 
       module _ (s : SessionOf S) (next : ℕ) (progress : E) (counted : next ≡ n + 1) (lacks : front (session_modes cur) p cur.memory ≢ []) (ran : RoundRan may cur (state_of s) (front (session_modes cur) p cur.memory)) where
         more : (old : StateOf S) → InRounds may old cur p n → InRounds may old (state_of s) p next
@@ -112,7 +111,7 @@ module _ {S : Type 0} (may : S → List KeyOf → AnswerOf → Type 0) where
         pub gives-none-more : (text_of : AnsweredOf → List ℕ) (fault : NoMemory) → Gives may p text_of st (s, Err fault)
         gives-none-more text_of fault = gives-output text_of st cur n (s, Err fault) at is can go where
           go : (old : StateOf S) → loaders ≤ length old.loaders → InRounds may old cur p n → Answers may old (state_of s) p text_of (Err fault)
-          go old enough so = let one = more old so in (tt, record { log = one.log; mid = state_of s; made = one.made; end = inl refl })
+          go old enough so = (tt, in-stops may old (state_of s) (state_of s) p next (more old so) (inl refl))
 
         -- the poll that is pending
         pub can-again : fits progress (memory_of s) → CanPoll may fits loaders p (polled s next progress)

@@ -59,6 +59,7 @@ module _ {S : Type 0} (may : S → List KeyOf → AnswerOf → Type 0) (old new 
           after = h.made.after ∙ ap (λ (steps : List Step). after_steps old (Forgot ∷ steps)) (steps-same rules (together (r ∷ [])) r.program same M0 h.log);
         };
         complete = sym (same new.memory) ∙ h.complete;
+        recorded = h.recorded;
         pairs = h.pairs;
         once = subst AreApart (cells-same rules (together (r ∷ [])) r.program same M0 h.log) h.once;
         counted = omega (arith, longest);
@@ -79,6 +80,7 @@ module _ {S : Type 0} (may : S → List KeyOf → AnswerOf → Type 0) (old new 
           after = h.made.after ∙ ap (λ (steps : List Step). after_steps old (Forgot ∷ steps)) (steps-same rules r.program (together (r ∷ [])) same M0 h.log);
         };
         complete = sym (same new.memory) ∙ h.complete;
+        recorded = h.recorded;
         answers = (record { answered = h.answered; counted = own-all (may_at may old.loaders) rules r.program M0 h.log new.memory h.made.rounds ∙ counted; chained = h.chained; fewest = h.fewest }, tt);
         pairs = h.pairs;
         once = subst AreApart (cells-same rules r.program (together (r ∷ [])) same M0 h.log) h.once;

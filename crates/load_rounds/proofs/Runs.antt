@@ -27,8 +27,9 @@ use Rattle.load_rounds.specs.Headline.{asked_steps, Headline, StopsAnswering}
 use Rattle.execution.specs.Executes.{IsTextOf}
 use Rattle.load_rounds.specs.declared.run.Stage.{Stage}
 use Rattle.load_rounds.specs.declared.run.Stage.TheVariants.{Ready, Out, Finished, Failed}
-use Rattle.load_rounds.specs.Runs.{AreReceived, front_in, orders_in, received, IsRound, IsBetween, IsOut, IsRun}
+use Rattle.load_rounds.specs.Runs.{AreReceived, front_in, orders_in, received, IsRound, IsAsked, IsBetween, IsOut, IsRun}
 use Rattle.load_rounds.proofs.Following.{SameSources, InRounds, in-more, in-all}
+use Rattle.load_rounds.proofs.Stepping.{made-recorded, end-recorded}
 use Rattle.load_rounds.proofs.Cutting.{rules-logged, logged-same, orders-same, first-some}
 use Rattle.load_rounds.proofs.Numbering.{made-one, marked-round, source-at, replies-before, replies-below, orders-below, orders-loads, keys-first}
 use Rattle.load_rounds.proofs.States.{state, state-is, same-memory, wanted-orders, wanted-logged}
@@ -212,7 +213,13 @@ module _ {S : Type 0} where
 
     -- want of memory between rounds
     pub between-stops : (begun now new : StateOf S) (rounds : ℕ) → IsBetween may p begun now rounds → (new ≡ now) ⊎ RoundLost now new (front_in now p) → StopsAnswering may begun new p
-    between-stops begun now new rounds is end = record { log = is.log; mid = now; made = is.made; end = go end } where
+    between-stops begun now new rounds is end = record {
+      log = is.log;
+      mid = now;
+      made = is.made;
+      end = go end;
+      recorded = end-recorded begun now new (front (session_modes begun) p now.memory) (made-recorded may begun now p is.log is.made) (go end);
+    } where
       same : session_modes now ≡ session_modes begun
       same = ap modes_of (InRounds.rules (between-in begun now rounds is))
 
@@ -243,36 +250,47 @@ module _ {S : Type 0} where
       counted = round-counted now new p loaders within enough ne entered;
     }
 
-    module _ (begun s : StateOf S) (rounds : ℕ) (is : IsOut may p begun s rounds) where
-      pub out-rules : rules_of s ≡ rules_of is.before
-      out-rules = ap rules_of is.entered ∙ lost-rules is.before (front_in is.before p)
+    -- the latest round is out
+    module _ (s : StateOf S) (is : IsAsked p s) where
+      pub asked-rules : rules_of s ≡ rules_of is.before
+      asked-rules = ap rules_of is.entered ∙ lost-rules is.before (front_in is.before p)
 
-      out-memory : s.memory ≡ is.before.memory
-      out-memory = ap (λ (t : StateOf S). t.memory) is.entered
+      asked-memory : s.memory ≡ is.before.memory
+      asked-memory = ap (λ (t : StateOf S). t.memory) is.entered
 
-      out-front : front_in s p ≡ front_in is.before p
-      out-front = ap (λ rs. front (modes_of rs) p s.memory) out-rules ∙ ap (λ (M : Memory). front (session_modes is.before) p M) out-memory
+      asked-front : front_in s p ≡ front_in is.before p
+      asked-front = ap (λ rs. front (modes_of rs) p s.memory) asked-rules ∙ ap (λ (M : Memory). front (session_modes is.before) p M) asked-memory
 
-      out-orders : round_orders (rules_of s) (front_in s p) ≡ round_orders (rules_of is.before) (front_in is.before p)
-      out-orders = ap (λ rs. round_orders rs (front_in s p)) out-rules ∙ ap (λ ls. round_orders (rules_of is.before) ls) out-front
+      asked-orders : round_orders (rules_of s) (front_in s p) ≡ round_orders (rules_of is.before) (front_in is.before p)
+      asked-orders = ap (λ rs. round_orders rs (front_in s p)) asked-rules ∙ ap (λ ls. round_orders (rules_of is.before) ls) asked-front
 
-      pub out-loaders : length s.loaders ≡ length begun.loaders
-      out-loaders = sym (length-map s.loaders rule_of) ∙ ap length out-rules ∙ length-map is.before.loaders rule_of ∙ between-loaders begun is.before is.made is.between
-
-      -- the replies to the round that is out, in whatever order
-      pub out-ran : (shown : List ReplyOf) → AreLimited (rules_of s) → AreReceived (may_at may s.loaders) (orders_in s p) shown → RoundRan may is.before (received s shown) (front_in is.before p)
-      out-ran shown limited h =
+      -- the replies to it, in whatever order
+      pub asked-ran : (shown : List ReplyOf) → AreLimited (rules_of s) → AreReceived (may_at may s.loaders) (orders_in s p) shown → RoundRan may is.before (received s shown) (front_in is.before p)
+      asked-ran shown limited h =
           let b : StateOf S = is.before in
           let loads : List Load = front_in b p in
           let moved = received-moved (may_at may s.loaders) s p h.replies shown limited h.fit h.moved in
-          let memory = ap (λ (t : StateOf S). t.memory) moved ∙ ap (λ rs. after_round rs s.memory h.replies) out-rules ∙ ap (λ (M : Memory). after_round (rules_of b) M h.replies) out-memory in
-          let fit : AreReplies (may_at may s.loaders) (round_orders (rules_of b) loads) h.replies = rw out-orders at h.fit in
+          let memory = ap (λ (t : StateOf S). t.memory) moved ∙ ap (λ rs. after_round rs s.memory h.replies) asked-rules ∙ ap (λ (M : Memory). after_round (rules_of b) M h.replies) asked-memory in
+          let fit : AreReplies (may_at may s.loaders) (round_orders (rules_of b) loads) h.replies = rw asked-orders at h.fit in
           let report : AreReplies (may_at may (after_step b (Lost loads)).loaders) (round_orders (rules_of b) loads) h.replies = rw is.entered at fit in
           record {
             replies = h.replies;
             answered = replies-before false (b.rounds + 1) (λ n. keys_for n loads) may b.loaders (round_orders (rules_of b) loads) h.replies report;
             after = received-is b s loads shown h.replies is.entered is.counted is.numbered memory;
           }
+
+    module _ (begun s : StateOf S) (rounds : ℕ) (is : IsOut may p begun s rounds) where
+      pub out-asked : IsAsked p s
+      out-asked = record { before = is.before; lacks = is.lacks; entered = is.entered; counted = is.counted; numbered = is.numbered }
+
+      pub out-ran : (shown : List ReplyOf) → AreLimited (rules_of s) → AreReceived (may_at may s.loaders) (orders_in s p) shown → RoundRan may is.before (received s shown) (front_in is.before p)
+      out-ran shown limited h = asked-ran s out-asked shown limited h
+
+      pub out-rules : rules_of s ≡ rules_of is.before
+      out-rules = ap rules_of is.entered ∙ lost-rules is.before (front_in is.before p)
+
+      pub out-loaders : length s.loaders ≡ length begun.loaders
+      out-loaders = sym (length-map s.loaders rule_of) ∙ ap length out-rules ∙ length-map is.before.loaders rule_of ∙ between-loaders begun is.before is.made is.between
 
       pub out-taken : (shown : List ReplyOf) → AreLimited (rules_of s) → AreReceived (may_at may s.loaders) (orders_in s p) shown → IsBetween may p begun (received s shown) rounds
       out-taken shown limited h =
@@ -285,7 +303,7 @@ module _ {S : Type 0} where
           between-stops begun is.before s is.made is.between (inr lost)
 
     between-alone : (begun now : StateOf S) (rounds : ℕ) → IsBetween may p begun now rounds → StopsAnswering may begun now p
-    between-alone begun now rounds is = record { log = is.log; mid = now; made = is.made; end = inl refl }
+    between-alone begun now rounds is = record { log = is.log; mid = now; made = is.made; end = inl refl; recorded = made-recorded may begun now p is.log is.made }
 
     -- whatever its stage, a run that is dropped has made rounds, and perhaps one more is lost
     pub run-stops : (begun now : StateOf S) (rounds : ℕ) (stage : Stage) → IsRun may p begun now rounds stage → StopsAnswering may begun now p

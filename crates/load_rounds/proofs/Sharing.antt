@@ -19,6 +19,7 @@ use Rattle.load_rounds.specs.Sessions.{SessionOf, StateOf, state_of, rules_of, s
 use Rattle.load_rounds.specs.Calls.{RoundRan}
 use Rattle.load_rounds.specs.SharedRounds.{ReportOf, requests, items_from, together, greatest, AreShared, SharedHeadline}
 use Rattle.load_rounds.specs.Together.{PartOf, TellsAt, CountsRounds, CountRounds, plans_in, reports_in, given_to, some_unreported, FitsPart, FitParts, GoOn}
+use Rattle.load_rounds.proofs.Stepping.{made-recorded}
 use Rattle.load_rounds.proofs.Following.{InRounds, in-none, in-more, in-more-log}
 use Rattle.load_rounds.proofs.GoingOn.{or-left, gone-lacks}
 
@@ -197,6 +198,7 @@ module _ {P E : Type 0} (program : P → Program) where
               log = log;
               made = h.is.made;
               complete = rw same at none;
+              recorded = made-recorded may old (state_of s) p log h.is.made;
               answers = subst (λ ps. AreShared old (state_of s) log (requests program text_of ps) (reports_in ys)) are answers;
               pairs = λ pair there. answered-in (may_at may old.loaders) rules p M0 log (look s.pairs) pair.loader pair.key pair.outcome h.is.made.rounds there;
               once = asked-once (may_at may old.loaders) rules p limited M0 log (look s.pairs) h.is.made.rounds;

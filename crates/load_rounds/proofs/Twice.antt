@@ -1,21 +1,23 @@
 -- No key twice: a cell that was asked is known until it is cleared or its failed batch is forgotten, and what is known isn't asked.
-use Rattle.std.proofs.Common.{◌≡◌, ◌||◌, ℕ, Bool, true, false, List, [], ◌∷◌, ◌++◌, inl, inr, ◌⊎◌, sym, ◌∙◌, ap, refl, Option, Some, None}
+use Rattle.std.proofs.Common.{◌≡◌, ◌||◌, ℕ, zero, suc, Bool, true, false, List, [], ◌∷◌, ◌++◌, map, length, drop, inl, inr, ◌⊎◌, sym, ◌∙◌, ap, refl, Option, Some, None}
+use Rattle.std.specs.Prelude.{slice_get}
 use Rattle.std.specs.List.{list_any}
 use Rattle.load_memory.specs.Keys.{KeyOf}
 use Rattle.load_memory.specs.Outcomes.{ItemOf, OutcomeOf, known, batch_fault}
 use Rattle.load_memory.specs.Replies.{ReplyOf}
 use Rattle.load_queue.specs.Answers.{AnswerOf}
+use Rattle.load_queue.specs.Loaders.{LoaderOf, unasked}
 use Rattle.execution.specs.Loads.{Load, Memory, IsOneOf}
 use Rattle.execution.specs.Rounds.{RuleOf, modes_of, round_orders, may_at, unless_failed, AreLimited}
-use Rattle.execution.specs.Sessions.{Cell, AreApart, order_cells, Step, Forgot, AskedLoads, Lost, Primed, Cleared, ClearedAll, after, IsStep, AreSteps, clears}
+use Rattle.execution.specs.Sessions.{Cell, AreApart, order_cells, Step, Forgot, AskedLoads, Lost, Primed, Cleared, ClearedAll, Restarted, after, IsStep, AreSteps, clears}
 use Rattle.execution.proofs.Same.{one-either}
 use Rattle.execution.proofs.ReplyLaws.{append-apart}
 use Rattle.execution.proofs.TwiceLaws.{absent, asked-outcome}
 use Rattle.load_rounds.specs.Sessions.{StateOf, rules_of, session_modes, after_step}
-use Rattle.load_rounds.specs.Histories.{Call, Loading, StoppedLoading, Priming, Clearing, ClearingAll, Forgetting, Executing, StoppedExecuting, ExecutingTogether, Running, clears_at, AreAsking, IsMadeOf, AreMadeOf, entered_cells, stored_gained, IsEntered, IsFailedAt, Leads, IsCall, AreCalls}
+use Rattle.load_rounds.specs.Histories.{Call, Loading, StoppedLoading, Priming, Clearing, ClearingAll, Forgetting, Executing, StoppedExecuting, ExecutingTogether, Restarting, Running, clears_at, AreAsking, IsMadeOf, AreMadeOf, entered_cells, log_in, log_of, gained, stored_gained, gained_cells, IsEntered, IsFailedAt, Leads, IsCall, AreCalls}
 use Rattle.load_rounds.proofs.Stepping.{steps-rules}
 use Rattle.load_rounds.proofs.Histories.{memory_after, memory-append, are-after, leads-rules, leads-memory, call-leads, calls-lead}
-use Rattle.load_rounds.proofs.Gaining.{step_cells, all_cells, gained-cells, asked-apart, asked-orders, lost-cells, AskedIn, asked-in}
+use Rattle.load_rounds.proofs.Gaining.{step_cells, all_cells, GoesOn, AllGoOn, gained-cells, asked-apart, asked-orders, lost-cells, AskedIn, asked-in}
 
 either-false : (a b : Bool) → (a || b) ≡ false → (a ≡ false) × (b ≡ false)
 either-false true b h = absurd (cc h)
@@ -34,6 +36,7 @@ asking-clears c (Forgot ∷ steps) h = absurd h
 asking-clears c (Primed pair ∷ steps) h = absurd h
 asking-clears c (Cleared cell ∷ steps) h = absurd h
 asking-clears c (ClearedAll loader ∷ steps) h = absurd h
+asking-clears c (Restarted ∷ steps) h = absurd h
 
 call-clears : (c : Cell) (call : Call) (own : List Step) → IsMadeOf call own → clears_at c call ≡ false → list_any (clears c) own ≡ false
 call-clears c (Loading loader keys outcomes) own h k = asking-clears c own h
@@ -45,6 +48,7 @@ call-clears c Forgetting own h k = rw h refl
 call-clears c (Executing p text_of text rounds) own h k = asking-clears c own h
 call-clears c (StoppedExecuting p) own h k = asking-clears c own h
 call-clears c (ExecutingTogether rs reports) own h k = asking-clears c own h
+call-clears c Restarting own h k = absurd (cc k)
 call-clears c (Running p rounds stage) own h k = asking-clears c own h
 
 calls-clear : (c : Cell) (calls : List Call) (steps : List Step) → AreMadeOf calls steps → list_any (clears_at c) calls ≡ false → list_any (clears c) steps ≡ false
@@ -62,6 +66,7 @@ module _ (rules : List RuleOf) (c : Cell) where
   kept-step item M (Primed pair) e h = rw e refl
   kept-step item M (Cleared d) e h = rw h e
   kept-step item M (ClearedAll loader) e h = rw h e
+  kept-step item M Restarted e h = absurd (cc h)
 
   -- an item until its key is cleared
   kept : (item : ItemOf) (M : Memory) (steps : List Step) → M c.0 c.1 ≡ Some (known item) → list_any (clears c) steps ≡ false → memory_after rules M steps c.0 c.1 ≡ Some (known item)
@@ -79,6 +84,7 @@ module _ (rules : List RuleOf) (c : Cell) where
   asking-keeps o M (Primed pair ∷ steps) h e = absurd h
   asking-keeps o M (Cleared cell ∷ steps) h e = absurd h
   asking-keeps o M (ClearedAll loader ∷ steps) h e = absurd h
+  asking-keeps o M (Restarted ∷ steps) h e = absurd h
 
 asking-parts : (xs ys : List Step) → AreAsking (xs ++ ys) → AreAsking xs × AreAsking ys
 asking-parts [] ys h = (tt, h)
@@ -88,6 +94,7 @@ asking-parts (Forgot ∷ xs) ys h = absurd h
 asking-parts (Primed pair ∷ xs) ys h = absurd h
 asking-parts (Cleared cell ∷ xs) ys h = absurd h
 asking-parts (ClearedAll loader ∷ xs) ys h = absurd h
+asking-parts (Restarted ∷ xs) ys h = absurd h
 
 not-one : (step : Step) (before rest : List Step) (loads : List Load) (replies : List ReplyOf) → (AskedLoads loads replies ≡ step → ⊥) → step ∷ [] ≡ before ++ AskedLoads loads replies ∷ rest → ⊥
 not-one step [] rest loads replies ne e = ne (cc e)
@@ -109,7 +116,50 @@ asks-alone Forgetting own before rest loads replies h e = absurd (not-none befor
 asks-alone (Executing p text_of text rounds) own before rest loads replies h e = h
 asks-alone (StoppedExecuting p) own before rest loads replies h e = h
 asks-alone (ExecutingTogether rs reports) own before rest loads replies h e = h
+asks-alone Restarting own before rest loads replies h e = absurd (not-one Restarted before rest loads replies (λ s. cc s) (sym h ∙ e))
 asks-alone (Running p rounds stage) own before rest loads replies h e = h
+
+-- rounds alone leave the entries of the logs
+asking-go-on : (steps : List Step) → AreAsking steps → AllGoOn steps
+asking-go-on [] h = tt
+asking-go-on (AskedLoads loads replies ∷ steps) h = (tt, asking-go-on steps h)
+asking-go-on (Lost loads ∷ steps) h = (tt, asking-go-on steps h)
+asking-go-on (Forgot ∷ steps) h = absurd h
+asking-go-on (Primed pair ∷ steps) h = absurd h
+asking-go-on (Cleared cell ∷ steps) h = absurd h
+asking-go-on (ClearedAll loader ∷ steps) h = absurd h
+asking-go-on (Restarted ∷ steps) h = absurd h
+
+module _ {S : Type 0} (may : S → List KeyOf → AnswerOf → Type 0) where
+  drop-none : {X : Type 0} (n : ℕ) → drop {X} n [] ≡ []
+  drop-none zero = refl
+  drop-none (suc n) = refl
+
+  none-in : (ls : List (LoaderOf S)) (n : ℕ) → log_in (slice_get (map unasked ls) n) ≡ []
+  none-in [] n = refl
+  none-in (l ∷ ls) zero = refl
+  none-in (l ∷ ls) (suc n) = none-in ls n
+
+  -- a session that starts again gains no entry
+  restart-gains : (old new : StateOf S) (n : ℕ) → IsCall may Restarting old new → gained_cells n old new ≡ []
+  restart-gains old new n h =
+      let log : log_of new n ≡ [] = ap (λ (s : StateOf S). log_of s n) h ∙ none-in old.loaders n in
+      let none : gained n old new ≡ [] = ap (drop (length (log_of old n))) log ∙ drop-none (length (log_of old n)) in
+      rw none refl
+
+  -- a call whose entries ask something leaves those that were there
+  call-goes-on : (call : Call) (old new : StateOf S) (c : Cell) → IsCall may call old new → (own : List Step) → IsMadeOf call own → IsEntered c old new → AllGoOn own
+  call-goes-on (Loading loader keys outcomes) old new c h own made one = asking-go-on own made
+  call-goes-on (StoppedLoading loader keys) old new c h own made one = asking-go-on own made
+  call-goes-on (Priming pair) old new c h own made one = rw made (tt, tt)
+  call-goes-on (Clearing cell) old new c h own made one = rw made (tt, tt)
+  call-goes-on (ClearingAll loader) old new c h own made one = rw made (tt, tt)
+  call-goes-on Forgetting old new c h own made one = rw made tt
+  call-goes-on (Executing p text_of text rounds) old new c h own made one = asking-go-on own made
+  call-goes-on (StoppedExecuting p) old new c h own made one = asking-go-on own made
+  call-goes-on (ExecutingTogether rs reports) old new c h own made one = asking-go-on own made
+  call-goes-on Restarting old new c h own made one = let none = rw (restart-gains old new c.0 h) at one in absurd none
+  call-goes-on (Running p rounds stage) old new c h own made one = asking-go-on own made
 
 -- the round of a call that asks a cell: what came before it in the call, and after it
 record Found {S : Type 0} (may : S → List KeyOf → AnswerOf → Type 0) (old new : StateOf S) (c : Cell) : Type 0 where
@@ -126,7 +176,8 @@ module _ {S : Type 0} (may : S → List KeyOf → AnswerOf → Type 0) where
   found : (call : Call) (old new : StateOf S) (c : Cell) → AreLimited (rules_of old) → IsCall may call old new → IsEntered c old new → Found may old new c
   found call old new c limited h one =
       let made = call-leads may call old new h in
-      let cells = gained-cells (session_modes old) c.0 may old new (Forgot ∷ made.0) made.1 in
+      let on = call-goes-on may call old new c h made.0 made.2 one in
+      let cells = gained-cells (session_modes old) c.0 may old new (Forgot ∷ made.0) (tt, on) made.1 in
       go made.0 made.1 made.2 (asked-in (session_modes old) c.0 old (Forgot ∷ made.0) c limited (rw cells at one))
     where
       split : (own before rest : List Step) (loads : List Load) (replies : List ReplyOf) → Leads may old (Forgot ∷ own) new → IsMadeOf call own → Forgot ∷ own ≡ before ++ AskedLoads loads replies ∷ rest
@@ -241,24 +292,30 @@ module _ {S : Type 0} (may : ℕ → List KeyOf → AnswerOf → Type 0) (rules 
   asking-fresh s (Primed pair ∷ steps) asking same h = absurd asking
   asking-fresh s (Cleared cell ∷ steps) asking same h = absurd asking
   asking-fresh s (ClearedAll loader ∷ steps) asking same h = absurd asking
+  asking-fresh s (Restarted ∷ steps) asking same h = absurd asking
 
 module _ {S : Type 0} (may : S → List KeyOf → AnswerOf → Type 0) where
   pub together : (call : Call) (old new : StateOf S) (n : ℕ) → AreLimited (rules_of old) → IsCall may call old new → AreApart (entered_cells (session_modes old) n (stored_gained n old new))
   together call old new n limited h =
       let made = call-leads may call old new h in
-      rw (gained-cells (session_modes old) n may old new (Forgot ∷ made.0) made.1) (go call made.0 made.2 (made.1).may_be.1)
+      go call made.0 made.1 made.2 (made.1).may_be.1 h
     where
-      fresh : (own : List Step) → AreAsking own → AreSteps (may_at may old.loaders) (rules_of old) (after (rules_of old) old.memory Forgot) own → AreApart (all_cells (session_modes old) n old (Forgot ∷ own))
-      fresh own made h = (asking-fresh (may_at may old.loaders) (rules_of old) n limited (after_step old Forgot) own made refl h).0
+      cells : (own : List Step) → Leads may old (Forgot ∷ own) new → AllGoOn own → entered_cells (session_modes old) n (stored_gained n old new) ≡ all_cells (session_modes old) n old (Forgot ∷ own)
+      cells own leads on = gained-cells (session_modes old) n may old new (Forgot ∷ own) (tt, on) leads
 
-      go : (call : Call) (own : List Step) → IsMadeOf call own → AreSteps (may_at may old.loaders) (rules_of old) (after (rules_of old) old.memory Forgot) own → AreApart (all_cells (session_modes old) n old (Forgot ∷ own))
-      go (Loading loader keys outcomes) own made h = fresh own made h
-      go (StoppedLoading loader keys) own made h = fresh own made h
-      go (Executing p text_of text rounds) own made h = fresh own made h
-      go (StoppedExecuting p) own made h = fresh own made h
-      go (ExecutingTogether rs reports) own made h = fresh own made h
-      go (Running p rounds stage) own made h = fresh own made h
-      go (Priming pair) own made h = rw made tt
-      go (Clearing cell) own made h = rw made tt
-      go (ClearingAll loader) own made h = rw made tt
-      go Forgetting own made h = rw made tt
+      fresh : (own : List Step) → Leads may old (Forgot ∷ own) new → AreAsking own → AreSteps (may_at may old.loaders) (rules_of old) (after (rules_of old) old.memory Forgot) own → AreApart (entered_cells (session_modes old) n (stored_gained n old new))
+      fresh own leads made h = rw (cells own leads (asking-go-on own made)) (asking-fresh (may_at may old.loaders) (rules_of old) n limited (after_step old Forgot) own made refl h).0
+
+      go : (call : Call) (own : List Step) → Leads may old (Forgot ∷ own) new → IsMadeOf call own → AreSteps (may_at may old.loaders) (rules_of old) (after (rules_of old) old.memory Forgot) own → IsCall may call old new
+          → AreApart (entered_cells (session_modes old) n (stored_gained n old new))
+      go (Loading loader keys outcomes) own leads made h is = fresh own leads made h
+      go (StoppedLoading loader keys) own leads made h is = fresh own leads made h
+      go (Executing p text_of text rounds) own leads made h is = fresh own leads made h
+      go (StoppedExecuting p) own leads made h is = fresh own leads made h
+      go (ExecutingTogether rs reports) own leads made h is = fresh own leads made h
+      go (Running p rounds stage) own leads made h is = fresh own leads made h
+      go Restarting own leads made h is = rw (restart-gains may old new n is) tt
+      go (Priming pair) own leads made h is = rw (cells own leads (rw made (tt, tt)), made) tt
+      go (Clearing cell) own leads made h is = rw (cells own leads (rw made (tt, tt)), made) tt
+      go (ClearingAll loader) own leads made h is = rw (cells own leads (rw made (tt, tt)), made) tt
+      go Forgetting own leads made h is = rw (cells own leads (rw made tt), made) tt

@@ -5,6 +5,7 @@ use Rattle.load_memory.specs.Pairs.{PairOf}
 use Rattle.load_memory.specs.Replies.{ReplyOf}
 use Rattle.load_memory.specs.declared.no_memory.NoMemory.{NoMemory}
 use Rattle.load_queue.specs.Answers.{AnswerOf}
+use Rattle.load_queue.specs.Loaders.{AreOnRecord}
 use Rattle.execution.specs.Loads.{Memory, Reader, read}
 use Rattle.execution.specs.Program.{Program, chain}
 use Rattle.execution.specs.Completion.{AnsweredOf}
@@ -36,6 +37,8 @@ module _ {S : Type 0} (may : S → List KeyOf → AnswerOf → Type 0) where
     pub log : List (List ReplyOf)
     pub made : MakesRounds old new p log
     pub complete : front (session_modes old) p new.memory ≡ []
+    -- nothing was asked off the record: each order that was made of a loader in between is in its log
+    pub recorded : AreOnRecord old.loaders new.loaders
     -- each pair of the memory was there, primed or kept, or its source answered it in one batch of the log
     pub pairs : (pair : PairOf) → new.memory pair.loader pair.key ≡ Some pair.outcome
         → (without_failed old.memory pair.loader pair.key ≡ Some pair.outcome) ⊎ IsAnsweredIn (session_modes old) pair log
@@ -50,12 +53,13 @@ module _ {S : Type 0} (may : S → List KeyOf → AnswerOf → Type 0) where
   abbrev pub HasHeadline : StateOf S → StateOf S → Program → (AnsweredOf → List ℕ) → Answer → Type 0
   HasHeadline old new p text_of a = Headline old new p text_of (string_bytes a.text) a.rounds
 
-  -- After want of memory the finished rounds stay, and perhaps one more was lost.
+  -- When memory ran out, the finished rounds stay, and perhaps one more was lost. Nothing was asked off the record.
   pub record StopsAnswering (old new : StateOf S) (p : Program) : Type 0 where
     pub log : List (List ReplyOf)
     pub mid : StateOf S
     pub made : MakesRounds old mid p log
     pub end : (new ≡ mid) ⊎ RoundLost mid new (front (session_modes old) p mid.memory)
+    pub recorded : AreOnRecord old.loaders new.loaders
 
   -- what an answering call says: the headline, or after want of memory what stays
   abbrev pub Answers : StateOf S → StateOf S → Program → (AnsweredOf → List ℕ) → Result Answer NoMemory → Type 0

@@ -1,5 +1,5 @@
 -- Calls of a session, one after another: the steps that they make, and what the logs gain by them.
-use Rattle.std.specs.Prelude.{◌≡◌, ◌==◌, ◌⊎◌, ℕ, Bool, false, List, [], ◌∷◌, ◌++◌, map, length, drop, Option, Some, None, slice_get}
+use Rattle.std.specs.Prelude.{◌≡◌, ◌==◌, ◌⊎◌, ℕ, Bool, true, false, List, [], ◌∷◌, ◌++◌, map, length, drop, Option, Some, None, slice_get}
 use Rattle.std.specs.List.{filter}
 use Rattle.load_memory.specs.Keys.{KeyOf}
 use Rattle.load_memory.specs.Outcomes.{OutcomeOf, batch_fault}
@@ -11,7 +11,7 @@ use Rattle.load_queue.specs.Loaders.{LoaderOf, AskedOf}
 use Rattle.execution.specs.Loads.{IsOneOf}
 use Rattle.execution.specs.Program.{Program}
 use Rattle.execution.specs.Completion.{AnsweredOf}
-use Rattle.execution.specs.Sessions.{Step, Forgot, AskedLoads, Lost, Primed, Cleared, ClearedAll, Cell, key_cell, is_cell, IsAnsweredIn}
+use Rattle.execution.specs.Sessions.{Step, Forgot, AskedLoads, Lost, Primed, Cleared, ClearedAll, Restarted, Cell, key_cell, is_cell, IsAnsweredIn}
 use Rattle.execution.specs.Logs.{HasPair}
 use Rattle.load_rounds.specs.Sessions.{SessionOf, StateOf, state_of, session_modes, after_steps, MayBe}
 use Rattle.load_rounds.specs.Calls.{asked_for, IsLoaded, IsStopped}
@@ -38,6 +38,8 @@ pub data Call : Type 0 where
   StoppedExecuting : Program → Call
   -- `answer_all` of several requests, with its report of each; where memory was wanted, and in a run by hand, they are one program
   ExecutingTogether : List RequestOf → List ReportOf → Call
+  -- `restart`
+  Restarting : Call
   -- a run of a program by hand from `begin` on, which after so many rounds was finished, failed or was dropped at this stage
   Running : Program → ℕ → Stage → Call
 
@@ -52,6 +54,7 @@ clears_at cell Forgetting = false
 clears_at cell (Executing p text_of text rounds) = false
 clears_at cell (StoppedExecuting p) = false
 clears_at cell (ExecutingTogether rs reports) = false
+clears_at cell Restarting = true
 clears_at cell (Running p rounds stage) = false
 
 -- rounds alone, stored or lost
@@ -63,6 +66,7 @@ AreAsking (Forgot ∷ steps) = ⊥
 AreAsking (Primed pair ∷ steps) = ⊥
 AreAsking (Cleared cell ∷ steps) = ⊥
 AreAsking (ClearedAll loader ∷ steps) = ⊥
+AreAsking (Restarted ∷ steps) = ⊥
 
 -- the steps of a call once failed batches are forgotten
 abbrev pub IsMadeOf : Call → List Step → Type 0
@@ -75,6 +79,7 @@ IsMadeOf Forgetting steps = steps ≡ []
 IsMadeOf (Executing p text_of text rounds) steps = AreAsking steps
 IsMadeOf (StoppedExecuting p) steps = AreAsking steps
 IsMadeOf (ExecutingTogether rs reports) steps = AreAsking steps
+IsMadeOf Restarting steps = steps ≡ Restarted ∷ []
 IsMadeOf (Running p rounds stage) steps = AreAsking steps
 
 -- the steps of calls, one after another
@@ -91,6 +96,7 @@ replies_of (Forgot ∷ steps) = replies_of steps
 replies_of (Primed pair ∷ steps) = replies_of steps
 replies_of (Cleared cell ∷ steps) = replies_of steps
 replies_of (ClearedAll loader ∷ steps) = replies_of steps
+replies_of (Restarted ∷ steps) = replies_of steps
 
 -- the cells of what entries of a loader's log asked
 abbrev pub entered_cells : List KeyMode → ℕ → List AskedOf → List Cell
@@ -145,6 +151,7 @@ module _ {S : Type 0} where
     IsCall (Executing p text_of text rounds) old new = Headline may old new p text_of text rounds
     IsCall (StoppedExecuting p) old new = StopsAnswering may old new p
     IsCall (ExecutingTogether rs reports) old new = SharedHeadline may old new rs reports
+    IsCall Restarting old new = new ≡ after_steps old (Forgot ∷ Restarted ∷ [])
     IsCall (Running p rounds stage) old new = IsRun may p old new rounds stage
 
     abbrev pub IsCallOf : Call → SessionOf S → SessionOf S → Type 0

@@ -19,7 +19,7 @@ use Rattle.load_rounds.specs.declared.run.Next.TheVariants as next
 use Rattle.load_rounds.specs.declared.run.Stage.{Stage}
 use Rattle.load_rounds.specs.declared.run.Stage.TheVariants.{Ready, Out, Finished, Failed}
 use Rattle.load_rounds.specs.Sessions.{StateOf, rules_of, session_modes, after_step, AreNumbered}
-use Rattle.load_rounds.specs.Calls.{RoundLost}
+use Rattle.load_rounds.specs.Calls.{RoundRan, RoundLost}
 use Rattle.load_rounds.specs.Headline.{MakesRounds, Headline, StopsAnswering}
 use Rattle.execution.specs.Executes.{IsTextOf}
 
@@ -55,10 +55,23 @@ module _ {S : Type 0} where
     rounds = s.rounds;
   }
 
+  -- The session as the latest round of a run left it: the round is out, and it asked all that is needed and missing. No entry of an
+  -- earlier round bears its number.
+  pub record IsAsked (p : Program) (now : StateOf S) : Type 0 where
+    pub before : StateOf S
+    pub lacks : front_in before p ≢ []
+    pub entered : now ≡ after_step before (Lost (front_in before p))
+    pub counted : now.rounds ≡ before.rounds + 1
+    pub numbered : AreNumbered before.rounds before.loaders
+
   module _ (may : S → List KeyOf → AnswerOf → Type 0) (p : Program) where
     -- one reply to each order of the round, as its source may answer it, in whatever order
     abbrev pub AreReceivedIn : StateOf S → List ReplyOf → Type 0
     AreReceivedIn s shown = AreReceived (may_at may s.loaders) (orders_in s p) shown
+
+    -- It is as if the latest round had been run in one piece: its entries are marked, and those of no other round.
+    abbrev pub RunsAsked : StateOf S → StateOf S → Type 0
+    RunsAsked old new = (asked : IsAsked p old) → RoundRan may asked.before new (front_in asked.before p)
 
     -- the order of the replies makes no difference: the state after them is that after the same ones in order of the orders
     abbrev pub TakesInAnyOrder : StateOf S → StateOf S → List ReplyOf → Type 0
@@ -82,6 +95,7 @@ module _ {S : Type 0} where
     pub batches : orders ≡ orders_in old p
     pub entered : new ≡ after_step old (Lost (front_in old p))
     pub counted : new.rounds ≡ old.rounds + 1
+    pub numbered : AreNumbered old.rounds old.loaders
 
   -- after want of memory: nothing was entered, or the batches of the first loaders were
   abbrev pub IsUnasked : Program → StateOf S → StateOf S → Type 0

@@ -1,5 +1,5 @@
 -- What contracts see of a session, and what the steps of its calls do to it.
-use Rattle.std.specs.Prelude.{◌≡◌, ◌≤◌, ℕ, suc, Bool, true, false, List, [], ◌∷◌, ◌++◌, ◌+◌, map, All, nat_lt}
+use Rattle.std.specs.Prelude.{◌≡◌, ◌≤◌, ℕ, suc, Bool, true, false, List, [], ◌∷◌, ◌++◌, ◌+◌, map, length, All, nat_lt}
 use Rattle.std.specs.List.{filter}
 use Rattle.load_memory.specs.Keys.{KeyOf}
 use Rattle.load_memory.specs.Pairs.{MemoryOf, PairOf, look}
@@ -11,7 +11,7 @@ use Rattle.load_queue.specs.Orders.{OrderOf}
 use Rattle.execution.specs.Loads.{Load, Memory}
 use Rattle.execution.specs.Front.{keys_for}
 use Rattle.execution.specs.Rounds.{RuleOf, rule_of, modes_of, round_orders, may_at, AreLimited}
-use Rattle.execution.specs.Sessions.{Step, Forgot, AskedLoads, Lost, Primed, Cleared, ClearedAll, AreSteps, after}
+use Rattle.execution.specs.Sessions.{Step, Forgot, AskedLoads, Lost, Primed, Cleared, ClearedAll, Restarted, AreSteps, after}
 
 -- the loaders with their logs, the pairs that are known in no order that means anything, and how many rounds were made
 pub record SessionOf (S : Type 0) : Type 0 where
@@ -28,7 +28,7 @@ pub record StateOf (S : Type 0) : Type 0 where
 abbrev pub state_of : {S : Type 0} → SessionOf S → StateOf S
 state_of s = record { loaders = s.loaders; memory = look s.pairs; rounds = s.rounds }
 
--- a new session over the same loaders: nothing was asked, nothing is known, and no round was made
+-- a new session over the same loaders: their logs are empty, nothing is known, and no round was made; the counts of orders go on
 abbrev pub restarted : {S : Type 0} → SessionOf S → SessionOf S
 restarted s = record { loaders = map unasked s.loaders; pairs = []; rounds = 0 }
 
@@ -52,9 +52,12 @@ module _ {S : Type 0} where
   abbrev pub session_modes : StateOf S → List KeyMode
   session_modes s = modes_of (rules_of s)
 
-  -- the loader once it was asked these keys in this round: its log has gained an entry for each batch
+  -- the loader once it was asked these keys in this round: its log has gained an entry for each batch, and each order is counted
   abbrev pub logged : Bool → ℕ → List KeyOf → LoaderOf S → LoaderOf S
-  logged stored round keys l = record l { log = l.log ++ map (entry stored round) (batches l.limit keys) }
+  logged stored round keys l = record l {
+    log = l.log ++ map (entry stored round) (batches l.limit keys);
+    orders = l.orders + length (batches l.limit keys);
+  }
 
   -- the same of loaders numbered from n on, each with its own keys
   abbrev pub logged_from : ℕ → Bool → ℕ → (ℕ → List KeyOf) → List (LoaderOf S) → List (LoaderOf S)
@@ -69,7 +72,8 @@ module _ {S : Type 0} where
     rounds = s.rounds + made (round_orders (rules_of s) loads);
   }
 
-  -- the state after a step: the logs gain the batches of a round, which are stored unless the round was lost
+  -- the state after a step: the logs gain the batches of a round, which are stored unless the round was lost; a session that
+  -- starts again has empty logs
   abbrev pub after_step : StateOf S → Step → StateOf S
   after_step s (AskedLoads loads replies) = asked true loads (after (rules_of s) s.memory (AskedLoads loads replies)) s
   after_step s (Lost loads) = asked false loads (after (rules_of s) s.memory (Lost loads)) s
@@ -77,6 +81,7 @@ module _ {S : Type 0} where
   after_step s (Primed pair) = record s { memory = after (rules_of s) s.memory (Primed pair) }
   after_step s (Cleared cell) = record s { memory = after (rules_of s) s.memory (Cleared cell) }
   after_step s (ClearedAll loader) = record s { memory = after (rules_of s) s.memory (ClearedAll loader) }
+  after_step s Restarted = record { loaders = map unasked s.loaders; memory = after (rules_of s) s.memory Restarted; rounds = 0 }
 
   abbrev pub after_steps : StateOf S → List Step → StateOf S
   after_steps s [] = s

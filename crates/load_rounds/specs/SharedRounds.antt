@@ -6,6 +6,7 @@ use Rattle.load_memory.specs.Pairs.{PairOf}
 use Rattle.load_memory.specs.Replies.{ReplyOf}
 use Rattle.load_memory.specs.declared.key.KeyMode.{KeyMode}
 use Rattle.load_queue.specs.Answers.{AnswerOf}
+use Rattle.load_queue.specs.Loaders.{AreOnRecord}
 use Rattle.execution.specs.Loads.{Load, Reader, Memory, read}
 use Rattle.execution.specs.Program.{ListOf, Item, Program, Under, Programs, End, With, needs, chain}
 use Rattle.execution.specs.Completion.{AnsweredOf}
@@ -91,6 +92,7 @@ module _ {S : Type 0} where
     pub log : List (List ReplyOf)
     pub made : MakesRounds may old new (together rs) log
     pub complete : front (session_modes old) (together rs) new.memory ≡ []
+    pub recorded : AreOnRecord old.loaders new.loaders
     pub answers : AreShared old new log rs reports
     pub pairs : (pair : PairOf) → new.memory pair.loader pair.key ≡ Some pair.outcome
         → (without_failed old.memory pair.loader pair.key ≡ Some pair.outcome) ⊎ IsAnsweredIn (session_modes old) pair log

@@ -1,7 +1,7 @@
 //! What holds of the calls of a session, one after another. Each function does nothing: its contract is the law.
 ghost use Rattle.std.specs.Prelude.{◌≡◌, ◌⊎◌, ◌∷◌, [], List, true, length, map};
 ghost use Rattle.std.specs.List.{list_any};
-ghost use Rattle.load_queue.specs.Loaders.{unasked};
+ghost use Rattle.load_queue.specs.Loaders.{as_made};
 ghost use Rattle.execution.specs.Front.{front};
 ghost use Rattle.execution.specs.Logs.{HasPair};
 ghost use Rattle.execution.specs.Loads.{Memory};
@@ -31,18 +31,18 @@ pub fn calls_are_steps<S: Asks>()
         → IsFrom S.may_tell calls old new pair }
 {}
 
-/// No call changes more of a loader than its log. So a session that starts again is as a new one over the loaders that it was
-/// made with, whatever was called before.
+/// No call changes more of a loader than its log and the count of its orders. So a session that starts again is as a new one over the
+/// loaders that it was made with, whatever was called before, but that their orders stay counted.
 pub fn calls_keep_loaders<S: Asks>()
     ensures { (calls : List Call) (old new : StateOf S) → AreCalls S.may_tell calls old new
-        → map unasked new.loaders ≡ map unasked old.loaders }
+        → map as_made new.loaders ≡ map as_made old.loaders }
 {}
 
 /// *No key twice*, over any list of calls. No call asks a loader twice for one cache key. If two calls each have a stored log
 /// entry that asks a loader for one cache key, a call between them cleared it, or the earlier batch failed as a whole: after
 /// the earlier call the memory has that batch's fault for it. Entries of a lost round aren't stored, and their keys may be
 /// asked for again. A run by hand counts as one call, at whatever stage it was dropped, unless another call changed its
-/// session before that.
+/// session before that. A session that starts again has cleared every key.
 pub fn no_key_twice<S: Asks>()
     ensures together { (call : _) (old new : _) (loader : _) → AreLimited (rules_of old) → IsCall S.may_tell call old new
         → AreApart (gained_cells loader old new) }

@@ -1,5 +1,5 @@
 //! What a session forgets when it starts again.
-ghost use Rattle.std.specs.Prelude.{◌≡◌, [], map, OnOk};
+ghost use Rattle.std.specs.Prelude.{◌≡◌, [], map, IfOk, OnOk, OnErr};
 ghost use Rattle.load_queue.specs.Loaders.{unasked};
 
 use load_memory::{Memory, NoMemory};
@@ -10,27 +10,32 @@ use std::alloc::Global;
 /// session would slow all that come after it.
 const KEPT_KEYS: usize = 1_024;
 
-/// Forgets all keys. When out of memory, some may still be known.
+/// Forgets all keys. When out of memory, all stay.
 pub(crate) fn forget_all(alloc: Global, memory: &mut Memory) -> Result<(), NoMemory>
     ensures pairs { OnOk result (memory.new.pairs ≡ []) }
     ensures modes { memory.new.modes ≡ memory.old.modes }
+    ensures kept { OnErr result (memory.new ≡ memory.old) }
 {
-    if memory.len() <= KEPT_KEYS {
-        for loader in 0..memory.modes().len() {
-            memory.clear_all(loader);
-        }
-    }
-    if !memory.is_empty() {
-        let mut modes = Vec::with_capacity(alloc, memory.modes().len())?;
-        for mode in memory.modes().iter() {
-            modes.push(*mode)?;
-        }
-        *memory = Memory::new(alloc, modes)?;
+    if memory.len() > KEPT_KEYS {
+        *memory = fresh_memory(alloc, memory)?;
+    } else {
+        memory.forget_all();
     }
     Ok(())
 }
 
-/// Forgets what was asked of each loader.
+// A memory that compares keys as this one does, and knows none.
+fn fresh_memory(alloc: Global, memory: &Memory) -> Result<Memory, NoMemory>
+    ensures { IfOk result (λ fresh. fresh ≡ record { modes = memory.now.modes; pairs = [] }) }
+{
+    let mut modes = Vec::with_capacity(alloc, memory.modes().len())?;
+    for mode in memory.modes().iter() {
+        modes.push(*mode)?;
+    }
+    Memory::new(alloc, modes)
+}
+
+/// Forgets what was asked of each loader. The counts of orders go on.
 pub(crate) fn restart_all<S>(loaders: &mut Vec<Loader<S>>)
     ensures { loaders.new.items ≡ map unasked loaders.old.items }
 {

@@ -1,5 +1,6 @@
 //! Rounds by hand: an answer on its way, whose rounds the caller runs.
 ghost use Rattle.std.specs.Prelude.{◌≡◌, ◌≤◌, ◌<◌, ◌^◌, All, map, length, IfOk, OnOk, OnErr};
+ghost use Rattle.load_memory.specs.Replies.{reply_of};
 ghost use Rattle.load_memory.specs.Shelves.{IsOn, shown};
 ghost use Rattle.execution.specs.Rounds.{may_at};
 ghost use Rattle.execution.specs.Sessions.{Forgot};
@@ -8,7 +9,7 @@ use crate::answer::Answer;
 use crate::executed::Executed;
 use crate::session::Session;
 use execution::Execute;
-use load_memory::{NoMemory, Receipt, Shelf};
+use load_memory::{NoMemory, Receipt, Reply, Shelf};
 use load_queue::{Asks, Order};
 use std::marker::Model;
 
@@ -77,6 +78,27 @@ impl<S: Asks> Session<S> {
 }
 
 impl<'p, P> Run<'p, P> {
+    ghost use Rattle.load_rounds.specs.Runs.{run_of};
+
+    /// A run of a plan at a stage, which has asked so many rounds. So an owner who can't keep the borrow keeps the plan, and
+    /// these two numbers of its run, and makes the run again for each call.
+    pub fn at(plan: &'p P, rounds: u32, stage: Stage) -> Run<'p, P>
+        ensures { result ≡ run_of plan.now rounds stage }
+    {
+        Run {
+            plan,
+            rounds,
+            stage,
+        }
+    }
+
+    /// How many rounds it has asked, with one that is out.
+    pub fn rounds(&self) -> u32
+        ensures { result ≡ self.now.rounds }
+    {
+        self.rounds
+    }
+
     /// What may be done next.
     pub fn stage(&self) -> Stage
         ensures { result ≡ self.now.stage }
@@ -88,7 +110,7 @@ impl<'p, P> Run<'p, P> {
 impl<'p, P> Run<'p, P> {
     ghost use Rattle.load_rounds.specs.Sessions.{state_of, memory_of};
     ghost use Rattle.execution.specs.Executes.{FitsFrom};
-    ghost use Rattle.load_rounds.specs.Runs.{run_of, orders_in, received, AreReceived, TakesReceipts, IsNext, RunsOnFrom, AnswersRunFrom, IsUnasked};
+    ghost use Rattle.load_rounds.specs.Runs.{run_of, orders_in, received, AreReceived, IsAsked, RunsAsked, TakesReceipts, IsNext, RunsOnFrom, AnswersRunFrom, IsUnasked};
 
     /// Returns the answer if nothing is missing, and otherwise the orders of the next round, which is then out.
     ///
@@ -155,7 +177,8 @@ impl<'p, P> Run<'p, P> {
         }
     }
 
-    /// Stores the replies to the round that is out, given by their receipts in any order.
+    /// Stores the replies to the round that is out, given by their receipts in any order. The session is as the round left it: where
+    /// another call changed it since, this one can't be made.
     ///
     /// When out of memory, the session is as it was, and the round is lost.
     pub fn take<E, S: Asks>(
@@ -167,10 +190,12 @@ impl<'p, P> Run<'p, P> {
     where
         P: Execute<'p, E>,
         requires out { self.old.stage ≡ Stage.Out }
+        requires latest { IsAsked (P.program self.old.plan) (state_of session.old) }
         requires shelf { All (IsOn shelf.now) receipts.now }
         requires round { AreReceived (may_at S.may_tell session.old.loaders)
             (orders_in (state_of session.old) (P.program self.old.plan)) (map shown receipts.now) }
         ensures taken { OnOk result (state_of session.new ≡ received (state_of session.old) (map shown receipts.now)) }
+        ensures ran { OnOk result (RunsAsked S.may_tell (P.program self.old.plan) (state_of session.old) (state_of session.new)) }
         ensures ordered { OnOk result (TakesReceipts S.may_tell (P.program self.old.plan)
             (state_of session.old) (state_of session.new) receipts.now) }
         ensures ready { OnOk result (self.new ≡ run_of self.old.plan self.old.rounds Stage.Ready) }
@@ -181,6 +206,35 @@ impl<'p, P> Run<'p, P> {
     {
         self.stage = Stage::Failed;
         session.receive(shelf, receipts)?;
+        self.stage = Stage::Ready;
+        Ok(())
+    }
+
+    /// Does what [`take`](Run::take) does with replies that it is handed: no shelf, so that nothing waits, and no copy of a key or
+    /// an outcome.
+    ///
+    /// When out of memory, the session is as it was, and the round is lost. The replies are gone then.
+    pub fn take_owned<E, S: Asks>(
+        &mut self,
+        session: &mut Session<S>,
+        replies: Vec<Reply>,
+    ) -> Result<(), NoMemory>
+    where
+        P: Execute<'p, E>,
+        requires out { self.old.stage ≡ Stage.Out }
+        requires latest { IsAsked (P.program self.old.plan) (state_of session.old) }
+        requires round { AreReceived (may_at S.may_tell session.old.loaders)
+            (orders_in (state_of session.old) (P.program self.old.plan)) (map reply_of replies.items) }
+        ensures taken { OnOk result (state_of session.new ≡ received (state_of session.old) (map reply_of replies.items)) }
+        ensures ran { OnOk result (RunsAsked S.may_tell (P.program self.old.plan) (state_of session.old) (state_of session.new)) }
+        ensures ready { OnOk result (self.new ≡ run_of self.old.plan self.old.rounds Stage.Ready) }
+        ensures lost { OnErr result (state_of session.new ≡ state_of session.old) }
+        ensures failed { OnErr result (self.new ≡ run_of self.old.plan self.old.rounds Stage.Failed) }
+        ensures run { RunsOnFrom S.may_tell (P.program self.old.plan) Stage.Out
+            (state_of session.old) (state_of session.new) self.old self.new }
+    {
+        self.stage = Stage::Failed;
+        session.receive_owned(replies)?;
         self.stage = Stage::Ready;
         Ok(())
     }

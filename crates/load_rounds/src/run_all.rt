@@ -77,7 +77,7 @@ impl<'p, P, E> RunAll<'p, P, E> {
 
 impl<'p, E: Drop, P: Execute<'p, E>> RunAll<'p, P, E> {
     ghost use Rattle.load_rounds.specs.Sessions.{state_of, memory_of};
-    ghost use Rattle.load_rounds.specs.Runs.{received, AreReceivedIn, TakesReceipts, IsUnasked};
+    ghost use Rattle.load_rounds.specs.Runs.{received, AreReceivedIn, IsAsked, RunsAsked, TakesReceipts, IsUnasked};
     ghost use Rattle.load_rounds.specs.SharedRounds.{joint};
     ghost use Rattle.load_rounds.specs.SharedRuns.{FitsRun, FitsLater, KeepsFitting, IsNextAll, GoesOnFrom, AnswersFrom};
 
@@ -123,9 +123,11 @@ impl<'p, E: Drop, P: Execute<'p, E>> RunAll<'p, P, E> {
         receipts: &[Receipt],
     ) -> Result<(), NoMemory>
         requires out { self.old.stage ≡ Stage.Out }
+        requires latest { IsAsked (joint P.program P.text_of self.old.plans) (state_of session.old) }
         requires shelf { All (IsOn shelf.now) receipts.now }
         requires round { AreReceivedIn S.may_tell (joint P.program P.text_of self.old.plans) (state_of session.old) (map shown receipts.now) }
         ensures taken { OnOk result (state_of session.new ≡ received (state_of session.old) (map shown receipts.now)) }
+        ensures ran { OnOk result (RunsAsked S.may_tell (joint P.program P.text_of self.old.plans) (state_of session.old) (state_of session.new)) }
         ensures ordered { OnOk result (TakesReceipts S.may_tell (joint P.program P.text_of self.old.plans)
             (state_of session.old) (state_of session.new) receipts.now) }
         ensures ready { OnOk result (self.new ≡ record self.old { stage = Stage.Ready }) }

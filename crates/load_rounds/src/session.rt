@@ -3,7 +3,9 @@ ghost use Rattle.std.specs.Prelude.{◌≡◌, ◌<◌, ◌≤◌, ◌↔◌, �
 ghost use Rattle.load_memory.specs.Keys.{key_of};
 ghost use Rattle.load_memory.specs.Outcomes.{outcome_of, known, item_of};
 ghost use Rattle.load_memory.specs.Pairs.{look};
+ghost use Rattle.load_memory.specs.Replies.{reply_of};
 ghost use Rattle.load_memory.specs.Shelves.{IsOn, shown};
+ghost use Rattle.load_queue.specs.Loaders.{AreOnRecord};
 ghost use Rattle.load_queue.specs.Logs.{asked_of};
 ghost use Rattle.execution.specs.Loads.{Load, read};
 ghost use Rattle.execution.specs.Rounds.{AreLimited, round_orders, without_failed};
@@ -14,7 +16,7 @@ use crate::fault::SessionFault;
 use crate::keys::{known_outcomes, missing_keys};
 use crate::restart::{forget_all, restart_all};
 use crate::round::{cut_all, mark_all, run_all};
-use load_memory::{Item, Key, Memory, NoMemory, Outcome, Receipt, Shelf, cache_key};
+use load_memory::{Item, Key, Memory, NoMemory, Outcome, Receipt, Reply, Shelf, cache_key};
 use load_queue::{Asked, Asks, Loader, Order, Wants};
 use std::alloc::Global;
 use std::marker::Model;
@@ -41,7 +43,7 @@ impl<S> Model for Session<S> {
 impl<S> Session<S> {
     ghost use Rattle.load_rounds.specs.Sessions.{session_modes, rules_of, state_of, after_step, restarted, AreNumbered};
     ghost use Rattle.load_rounds.specs.Calls.{cell_at, pair_at, RoundLost};
-    ghost use Rattle.load_rounds.specs.Histories.{IsCallOf, Priming, Clearing, ClearingAll, Forgetting, any_tell};
+    ghost use Rattle.load_rounds.specs.Histories.{IsCallOf, Priming, Clearing, ClearingAll, Forgetting, Restarting, any_tell};
     ghost use Rattle.load_rounds.specs.Runs.{received};
 
     pub(crate) fn alloc(&self) -> Global {
@@ -89,6 +91,18 @@ impl<S> Session<S> {
         ensures limited { AreLimited (rules_of (state_of self.old)) }
     {
         self.memory.index(shelf, receipts)?;
+        mark_all(&mut self.loaders, self.rounds);
+        Ok(())
+    }
+
+    /// Does what [`receive`](Session::receive) does with replies that it is handed.
+    pub(crate) fn receive_owned(&mut self, replies: Vec<Reply>) -> Result<(), NoMemory>
+        requires { All (λ r. r.loader < length self.old.loaders) replies.items }
+        ensures received { OnOk result (state_of self.new ≡ received (state_of self.old) (map reply_of replies.items)) }
+        ensures kept { OnErr result (state_of self.new ≡ state_of self.old) }
+        ensures limited { AreLimited (rules_of (state_of self.old)) }
+    {
+        self.memory.keep_owned(replies)?;
         mark_all(&mut self.loaders, self.rounds);
         Ok(())
     }
@@ -173,13 +187,13 @@ impl<S> Session<S> {
         Ok(())
     }
 
-    /// Starts again: the session is as a [new](Session::new) one over its loaders. Nothing is known of any key, nothing was
-    /// asked, and no round was made. Its tables stay for what comes, unless very many keys were known. When out of memory,
-    /// nothing is changed but that keys may be forgotten.
+    /// Starts again: the session is as a [new](Session::new) one over its loaders. Nothing is known of any key, the logs are
+    /// empty, and no round was made; the counts of orders go on. Its tables stay for what comes, unless very many keys were
+    /// known. When out of memory, nothing is changed.
     pub fn restart(&mut self) -> Result<(), NoMemory>
         ensures restarted { OnOk result (self.new ≡ restarted self.old) }
-        ensures loaders { OnErr result (self.new.loaders ≡ self.old.loaders) }
-        ensures rounds { OnErr result (self.new.rounds ≡ self.old.rounds) }
+        ensures after { OnOk result (IsCallOf any_tell Restarting self.old self.new) }
+        ensures kept { OnErr result (self.new ≡ self.old) }
     {
         forget_all(*self.loaders.allocator(), &mut self.memory)?;
         restart_all(&mut self.loaders);
@@ -220,6 +234,7 @@ impl<S: Asks> Session<S> {
         ensures no_memory { IsErrOf result SessionFault.NoMemory
             → IsCallOf S.may_tell (StoppedLoading loader (key_of key ∷ [])) self.old self.new }
         ensures loaded { IfOk result (λ outcome. IsCallOf S.may_tell (Loading loader (key_of key ∷ []) (outcome_of outcome ∷ [])) self.old self.new) }
+        ensures recorded { AreOnRecord self.old.loaders self.new.loaders }
     {
         let keys = [key];
         let mut outcomes = self.load_many(loader, &keys)?;
@@ -238,6 +253,7 @@ impl<S: Asks> Session<S> {
             → IsCallOf S.may_tell (StoppedLoading loader (map key_of keys.now)) self.old self.new }
         ensures loaded { IfOk result (λ outcomes. IsCallOf S.may_tell
             (Loading loader (map key_of keys.now) (map outcome_of outcomes.items)) self.old self.new) }
+        ensures recorded { AreOnRecord self.old.loaders self.new.loaders }
     {
         if loader >= self.loaders.len() {
             return Err(SessionFault::NoSuchLoader);

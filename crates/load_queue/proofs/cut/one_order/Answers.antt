@@ -1,4 +1,4 @@
-use Rattle.std.proofs.Common.{◌≡◌, ◌<◌, ◌∷◌, [], map, length, ◌∙◌, sym, ap, refl, arith}
+use Rattle.std.proofs.Common.{◌<◌, map, length, ◌∙◌, sym, ap, refl, arith}
 use Rattle.std.specs.Prelude.{vec_len}
 use Rattle.std.proofs.lemmas.Bool.{eqb-true, eqb-false}
 use Rattle.load_memory.specs.Keys.{key_of}

@@ -58,6 +58,7 @@ returns-in_ok-orders-in-Missing-clause-next g c =
       batches = c.in_ok-orders-in-Missing.ensures.orders (front_in s p) lacks.2;
       entered = entered;
       counted = round-counted s (state_of c.cut.new.self) p (g.P.Execute.loaders plan) c.in_ok-text.ensures.within enough lacks.0 entered;
+      numbered = c.in_ok-orders-in-Missing.ensures.numbered;
     } in
     rw (← c.self.view_is) (round, ap (λ n. run_of plan n Out) next)
 

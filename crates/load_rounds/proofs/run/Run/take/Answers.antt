@@ -7,7 +7,7 @@ use Rattle.execution.specs.Program.{Program}
 use Rattle.execution.specs.Rounds.{rule_of, may_at}
 use Rattle.load_rounds.specs.Sessions.{state_of, rules_of}
 use Rattle.load_rounds.specs.Runs.{front_in}
-use Rattle.load_rounds.proofs.Runs.{received-below, received-moved, out-taken, out-stops}
+use Rattle.load_rounds.proofs.Runs.{received-below, received-moved, asked-ran, out-taken, out-stops}
 use Rattle.load_rounds.proofs.run.Run.take.Goals as goal
 
 pub receive-requires-clause-loaders : goal.receive-requires-clause-loaders
@@ -36,3 +36,9 @@ returns-clause-ordered g c = λ replies fit moved.
     let s = state_of c.args.session.now in
     let p : Program = g.P.Execute.program c.args.self.now.plan in
     c.in_ok-receive.ensures.received ∙ received-moved (may_at g.S.Asks.may_tell s.loaders) s p replies (map shown c.args.receipts.now) c.receive.ensures.limited fit moved
+
+pub returns-clause-ran : goal.returns-clause-ran
+returns-clause-ran g c = λ asked.
+    let s = state_of c.args.session.now in
+    let p : Program = g.P.Execute.program c.args.self.now.plan in
+    rw c.in_ok-receive.ensures.received (asked-ran g.S.Asks.may_tell p s asked (map shown c.args.receipts.now) c.receive.ensures.limited c.requires.round)

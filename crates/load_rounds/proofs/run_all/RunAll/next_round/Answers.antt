@@ -135,6 +135,7 @@ returns-in_ok-orders-in-Some-clause-next g c =
       batches = c.in_ok-orders-in-Some.ensures.orders (front_in s p) found.2;
       entered = entered;
       counted = round-counted s (state_of c.cut.new.self) p (length s.loaders) within (omega arith) found.0 entered;
+      numbered = c.in_ok-orders-in-Some.ensures.numbered;
     } in
     rw (← c.self.view_is) (round, rw c.in-Some.is at c.in_ok-go_on.ensures.counted, refl)
 

@@ -9,7 +9,7 @@ use Rattle.load_rounds.specs.Sessions.{state_of, rules_of, memory_of}
 use Rattle.load_rounds.specs.Runs.{front_in}
 use Rattle.load_rounds.specs.SharedRounds.{requests, together}
 use Rattle.load_rounds.proofs.Growing.{received-grows}
-use Rattle.load_rounds.proofs.Runs.{received-below, received-moved}
+use Rattle.load_rounds.proofs.Runs.{received-below, received-moved, asked-ran}
 use Rattle.load_rounds.proofs.SharedRunning.{run-taken, run-lost}
 use Rattle.load_rounds.proofs.States.{on-err}
 use Rattle.load_rounds.proofs.run_all.RunAll.take.Goals as goal
@@ -53,3 +53,9 @@ returns-clause-ready g c = rw (← c.self.view_is) refl
 
 pub returns-in_err-receive-clause-failed : goal.returns-in_err-receive-clause-failed
 returns-in_err-receive-clause-failed g c = rw (← c.self.view_is) (on-err c.from_residual.result refl)
+
+pub returns-clause-ran : goal.returns-clause-ran
+returns-clause-ran g c = λ asked.
+    let s = state_of c.args.session.now in
+    let p : Program = together (requests g.P.Execute.program g.P.Execute.text_of c.args.self.now.plans) in
+    rw c.in_ok-receive.ensures.received (asked-ran g.S.Asks.may_tell p s asked (map shown c.args.receipts.now) c.receive.ensures.limited c.requires.round)

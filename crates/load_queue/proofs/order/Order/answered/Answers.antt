@@ -1,0 +1,10 @@
+use Rattle.std.proofs.Common.{◌≡◌, ◌∙◌, length, map, sym}
+use Rattle.std.proofs.lemmas.List.{length-map}
+use Rattle.load_memory.specs.Keys.{key_of}
+use Rattle.load_queue.proofs.order.Order.answered.Goals as goal
+
+pub returns-clause-outcomes : goal.returns-clause-outcomes
+returns-clause-outcomes c =
+    let keys = c.self.inside.keys in
+    let many : c.len.result ≡ length (map key_of keys.items) = c.len.ensures ∙ keys.ok.0 ∙ sym (length-map keys.items key_of) in
+    rw (← c.self.view_is) (rw many at c.in_ok-outcomes.ensures)
