@@ -1,8 +1,8 @@
 -- *Batches*, *Lawful log* and sparing runs: how a memory grows, round by round, until nothing is missing.
-use Rattle.std.specs.Prelude.{◌≡◌, ◌≢◌, ◌<◌, ◌⊎◌, ℕ, suc, List, [], ◌∷◌, ◌++◌, ◌+◌, map, length, Option, Some, None, slice_get}
+use Rattle.std.specs.Prelude.{◌≡◌, ◌≢◌, ◌<◌, ◌⊎◌, ℕ, suc, List, [], ◌∷◌, ◌++◌, ◌+◌, map, length, Option, Some, slice_get}
 use Rattle.std.specs.Option.{option_or}
 use Rattle.load_memory.specs.Keys.{KeyOf, folded}
-use Rattle.load_memory.specs.Outcomes.{ItemOf, OutcomeOf, known, batch_fault}
+use Rattle.load_memory.specs.Outcomes.{ItemOf, OutcomeOf, known}
 pub use Rattle.load_memory.specs.Pairs.{unless_failed}
 pub use Rattle.load_memory.specs.Replies.{reply_pairs, pairs_of}
 use Rattle.load_memory.specs.Pairs.{PairOf, look, primed}

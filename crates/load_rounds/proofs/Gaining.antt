@@ -77,6 +77,20 @@ module _ (modes : List KeyMode) where
     go true e ih = (λ one. h.0 (keys-in n ls (cell_of modes l) (let same : cell_of modes l ≡ key_cell modes n l.key = ap (λ m. key_cell modes m l.key) (eqb-true l.loader n e) in rw same one)), ih)
     go false e ih = ih
 
+-- the step leaves the entries of the logs
+abbrev pub GoesOn : Step → Type 0
+GoesOn Forgot = Unit {0}
+GoesOn (AskedLoads loads replies) = Unit {0}
+GoesOn (Lost loads) = Unit {0}
+GoesOn (Primed pair) = Unit {0}
+GoesOn (Cleared cell) = Unit {0}
+GoesOn (ClearedAll loader) = Unit {0}
+GoesOn Restarted = ⊥
+
+abbrev pub AllGoOn : List Step → Type 0
+AllGoOn [] = Unit {0}
+AllGoOn (step ∷ steps) = GoesOn step × AllGoOn steps
+
 module _ {S : Type 0} where
   -- what a loader's log gains by a step
   abbrev new_entries : Option (LoaderOf S) → Bool → ℕ → List KeyOf → List AskedOf
@@ -101,20 +115,6 @@ module _ {S : Type 0} where
   logged-at n i m stored round keys [] e = refl
   logged-at n zero m stored round keys (l ∷ ls) e = let same : n ≡ m = omega (arith, e) in ap (λ k. l.log ++ map (entry stored round) (batches l.limit (keys k))) same
   logged-at n (suc i) m stored round keys (l ∷ ls) e = logged-at (suc n) i m stored round keys ls (omega (arith, e))
-
-  -- the step leaves the entries of the logs
-  abbrev pub GoesOn : Step → Type 0
-  GoesOn Forgot = Unit {0}
-  GoesOn (AskedLoads loads replies) = Unit {0}
-  GoesOn (Lost loads) = Unit {0}
-  GoesOn (Primed pair) = Unit {0}
-  GoesOn (Cleared cell) = Unit {0}
-  GoesOn (ClearedAll loader) = Unit {0}
-  GoesOn Restarted = ⊥
-
-  abbrev pub AllGoOn : List Step → Type 0
-  AllGoOn [] = Unit {0}
-  AllGoOn (step ∷ steps) = GoesOn step × AllGoOn steps
 
   step-log : (s : StateOf S) (n : ℕ) (step : Step) → GoesOn step → log_of (after_step s step) n ≡ log_of s n ++ step_entries s n step
   step-log s n Forgot on = sym (append-nil (log_of s n))

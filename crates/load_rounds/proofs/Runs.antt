@@ -284,6 +284,7 @@ module _ {S : Type 0} where
       out-asked = record { before = is.before; lacks = is.lacks; entered = is.entered; counted = is.counted; numbered = is.numbered }
 
       pub out-ran : (shown : List ReplyOf) → AreLimited (rules_of s) → AreReceived (may_at may s.loaders) (orders_in s p) shown → RoundRan may is.before (received s shown) (front_in is.before p)
+      unfolding out-asked
       out-ran shown limited h = asked-ran s out-asked shown limited h
 
       pub out-rules : rules_of s ≡ rules_of is.before

@@ -33,7 +33,7 @@ module _ {S : Type 0} where
   pub state-is : (ls others : List (LoaderOf S)) (M N : Memory) (r s : ℕ) → ls ≡ others → M ≡ N → r ≡ s → state ls M r ≡ state others N s
   state-is ls others M N r s a b c = rw (a, b, c) refl
 
-  rules-unasked : (ls : List (LoaderOf S)) → map rule_of (map unasked ls) ≡ map rule_of ls
+  pub rules-unasked : (ls : List (LoaderOf S)) → map rule_of (map unasked ls) ≡ map rule_of ls
   rules-unasked [] = refl
   rules-unasked (l ∷ ls) = ap (λ rs. rule_of l ∷ rs) (rules-unasked ls)
 

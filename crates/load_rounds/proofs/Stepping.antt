@@ -1,6 +1,6 @@
 -- Whatever the steps, the loaders keep their sources, their modes and their limits. Their logs gain entries until the session
 -- starts again, and each order is counted.
-use Rattle.std.proofs.Common.{true, false, Bool, ◌≡◌, ◌+◌, ℕ, zero, suc, List, [], ◌∷◌, ◌++◌, map, length, Some, refl, ap, ◌∙◌, arith, length-append, ◌⊎◌, inl, inr}
+use Rattle.std.proofs.Common.{true, false, Bool, ◌≡◌, ◌+◌, ℕ, zero, suc, List, [], ◌∷◌, map, length, Some, refl, ap, ◌∙◌, arith, length-append, ◌⊎◌, inl, inr}
 use Rattle.std.proofs.lemmas.List.{length-map}
 use Rattle.std.specs.Prelude.{slice_get}
 use Rattle.load_memory.specs.Keys.{KeyOf}
@@ -10,8 +10,8 @@ use Rattle.load_memory.specs.Replies.{ReplyOf}
 use Rattle.load_queue.specs.Answers.{AnswerOf}
 use Rattle.execution.specs.Loads.{Load, Memory}
 use Rattle.execution.specs.Program.{Program}
-use Rattle.execution.specs.Front.{front, keys_for}
-use Rattle.execution.specs.Rounds.{RuleOf, modes_of, after_round, without_failed}
+use Rattle.execution.specs.Front.{keys_for}
+use Rattle.execution.specs.Rounds.{RuleOf, after_round, without_failed}
 use Rattle.execution.specs.Sessions.{Step, Forgot, AskedLoads, Lost, Primed, Cleared, ClearedAll, Restarted}
 use Rattle.load_rounds.specs.Sessions.{StateOf, rules_of, entry, logged_from, of_first, after_step, after_steps}
 use Rattle.load_rounds.specs.Calls.{RoundRan, RoundLost, AsksOnce}
@@ -93,13 +93,13 @@ module _ {S : Type 0} where
   one-then : (a b c : LoaderOf S) → IsOnRecord a b → IsOnRecord b c → IsOnRecord a c
   one-then a b c h k = record { made = h.made + k.made; orders = omega (arith, h.orders, k.orders); entries = omega (arith, h.entries, k.entries) }
 
-  pub record-then : (as bs cs : List (LoaderOf S)) → AreOnRecord as bs → AreOnRecord bs cs → AreOnRecord as cs
+  pub record-then : (xs ys zs : List (LoaderOf S)) → AreOnRecord xs ys → AreOnRecord ys zs → AreOnRecord xs zs
   record-then [] [] [] h k = tt
-  record-then [] [] (c ∷ cs) h k = absurd k
-  record-then [] (b ∷ bs) cs h k = absurd h
-  record-then (a ∷ as) [] cs h k = absurd h
-  record-then (a ∷ as) (b ∷ bs) [] h k = absurd k
-  record-then (a ∷ as) (b ∷ bs) (c ∷ cs) h k = (one-then a b c h.0 k.0, record-then as bs cs h.1 k.1)
+  record-then [] [] (z ∷ zs) h k = absurd k
+  record-then [] (y ∷ ys) zs h k = absurd h
+  record-then (x ∷ xs) [] zs h k = absurd h
+  record-then (x ∷ xs) (y ∷ ys) [] h k = absurd k
+  record-then (x ∷ xs) (y ∷ ys) (z ∷ zs) h k = (one-then x y z h.0 k.0, record-then xs ys zs h.1 k.1)
 
   pub record-logged : (stored : Bool) (round n : ℕ) (keys : ℕ → List KeyOf) (ls : List (LoaderOf S)) → AreOnRecord ls (logged_from n stored round keys ls)
   record-logged stored round n keys [] = tt

@@ -6,7 +6,7 @@ use Rattle.load_memory.specs.Keys.{KeyOf}
 use Rattle.load_memory.specs.Outcomes.{ItemOf, OutcomeOf, known, batch_fault}
 use Rattle.load_memory.specs.Replies.{ReplyOf}
 use Rattle.load_queue.specs.Answers.{AnswerOf}
-use Rattle.load_queue.specs.Loaders.{LoaderOf, unasked}
+use Rattle.load_queue.specs.Loaders.{LoaderOf, AskedOf, unasked}
 use Rattle.execution.specs.Loads.{Load, Memory, IsOneOf}
 use Rattle.execution.specs.Rounds.{RuleOf, modes_of, round_orders, may_at, unless_failed, AreLimited}
 use Rattle.execution.specs.Sessions.{Cell, AreApart, order_cells, Step, Forgot, AskedLoads, Lost, Primed, Cleared, ClearedAll, Restarted, after, IsStep, AreSteps, clears}
@@ -17,7 +17,7 @@ use Rattle.load_rounds.specs.Sessions.{StateOf, rules_of, session_modes, after_s
 use Rattle.load_rounds.specs.Histories.{Call, Loading, StoppedLoading, Priming, Clearing, ClearingAll, Forgetting, Executing, StoppedExecuting, ExecutingTogether, Restarting, Running, clears_at, AreAsking, IsMadeOf, AreMadeOf, entered_cells, log_in, log_of, gained, stored_gained, gained_cells, IsEntered, IsFailedAt, Leads, IsCall, AreCalls}
 use Rattle.load_rounds.proofs.Stepping.{steps-rules}
 use Rattle.load_rounds.proofs.Histories.{memory_after, memory-append, are-after, leads-rules, leads-memory, call-leads, calls-lead}
-use Rattle.load_rounds.proofs.Gaining.{step_cells, all_cells, GoesOn, AllGoOn, gained-cells, asked-apart, asked-orders, lost-cells, AskedIn, asked-in}
+use Rattle.load_rounds.proofs.Gaining.{step_cells, all_cells, AllGoOn, gained-cells, asked-apart, asked-orders, lost-cells, AskedIn, asked-in}
 
 either-false : (a b : Bool) → (a || b) ≡ false → (a ≡ false) × (b ≡ false)
 either-false true b h = absurd (cc h)
@@ -131,9 +131,10 @@ asking-go-on (ClearedAll loader ∷ steps) h = absurd h
 asking-go-on (Restarted ∷ steps) h = absurd h
 
 module _ {S : Type 0} (may : S → List KeyOf → AnswerOf → Type 0) where
-  drop-none : {X : Type 0} (n : ℕ) → drop {X} n [] ≡ []
-  drop-none zero = refl
-  drop-none (suc n) = refl
+  drop-none : (n : ℕ) (es : List AskedOf) → es ≡ [] → drop n es ≡ []
+  drop-none zero [] e = refl
+  drop-none (suc n) [] e = refl
+  drop-none n (x ∷ es) e = absurd (cc e)
 
   none-in : (ls : List (LoaderOf S)) (n : ℕ) → log_in (slice_get (map unasked ls) n) ≡ []
   none-in [] n = refl
@@ -144,7 +145,7 @@ module _ {S : Type 0} (may : S → List KeyOf → AnswerOf → Type 0) where
   restart-gains : (old new : StateOf S) (n : ℕ) → IsCall may Restarting old new → gained_cells n old new ≡ []
   restart-gains old new n h =
       let log : log_of new n ≡ [] = ap (λ (s : StateOf S). log_of s n) h ∙ none-in old.loaders n in
-      let none : gained n old new ≡ [] = ap (drop (length (log_of old n))) log ∙ drop-none (length (log_of old n)) in
+      let none : gained n old new ≡ [] = drop-none (length (log_of old n)) (log_of new n) log in
       rw none refl
 
   -- a call whose entries ask something leaves those that were there

@@ -6,7 +6,7 @@ use Rattle.load_memory.specs.Replies.{ReplyOf}
 use Rattle.load_memory.specs.declared.no_memory.NoMemory.{NoMemory}
 use Rattle.load_queue.specs.Answers.{AnswerOf}
 use Rattle.load_queue.specs.Loaders.{AreOnRecord}
-use Rattle.execution.specs.Loads.{Memory, Reader, read}
+use Rattle.execution.specs.Loads.{Memory, read}
 use Rattle.execution.specs.Program.{Program, chain}
 use Rattle.execution.specs.Completion.{AnsweredOf}
 use Rattle.execution.specs.Front.{front}

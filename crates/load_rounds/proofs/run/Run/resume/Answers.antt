@@ -1,4 +1,4 @@
-use Rattle.std.proofs.Common.{◌≡◌, ◌+◌, ap, refl, inr}
+use Rattle.std.proofs.Common.{◌≡◌, ◌+◌, ap, refl, inl, inr}
 use Rattle.std.specs.Prelude.{string_bytes}
 use Rattle.load_memory.proofs.PartLaws.{SomeIff-at}
 use Rattle.execution.specs.Program.{Program}
@@ -86,3 +86,17 @@ returns-in_ok-orders-in-Missing-clause-fits g c = λ later grown.
 
 pub returns-in-Ready-clause-fits : goal.returns-in-Ready-clause-fits
 returns-in-Ready-clause-fits g c = rw (← c.self.view_is) c.in_ok-text.ensures.fits
+
+pub returns-in_err-text-clause-run : goal.returns-in_err-text-clause-run
+returns-in_err-text-clause-run g c = λ begun between.
+    let s = state_of c.args.session.now in
+    let p : Program = g.P.Execute.program c.self.inside.plan.now in
+    let was = rw (← c.self.view_is) at between in
+    rw (← c.self.view_is) (between-stops g.S.Asks.may_tell p begun s s c.self.inside.rounds was (inl refl))
+
+pub returns-in_err-rounds-in-Missing-clause-run : goal.returns-in_err-rounds-in-Missing-clause-run
+returns-in_err-rounds-in-Missing-clause-run g c = λ begun between.
+    let s = state_of c.args.session.now in
+    let p : Program = g.P.Execute.program c.self.inside.plan.now in
+    let was = rw (← c.self.view_is) at between in
+    rw (← c.self.view_is) (between-stops g.S.Asks.may_tell p begun s s c.self.inside.rounds was (inl refl))

@@ -1,4 +1,4 @@
-use Rattle.std.proofs.Common.{◌<◌, ◌≤◌, ◌∙◌, length, map, arith}
+use Rattle.std.proofs.Common.{◌<◌, ◌≤◌, length, map, arith}
 use Rattle.std.proofs.lemmas.List.{length-map}
 use Rattle.load_memory.specs.Replies.{ReplyOf, reply_of}
 use Rattle.load_memory.proofs.ReplyPairs.{All-of_map}

@@ -8,6 +8,7 @@ use Rattle.execution.specs.Rounds.{RuleOf, rule_of, modes_of, without_failed}
 use Rattle.load_rounds.specs.Sessions.{SessionOf, state_of}
 use Rattle.load_rounds.proofs.Onces.{asks-rules, asks-known}
 use Rattle.load_rounds.proofs.States.{state, same-memory}
+use Rattle.load_rounds.proofs.Stepping.{record-same, once-recorded, lost-recorded}
 use Rattle.load_rounds.proofs.session.Session.load_many.Goals as goal
 
 modes-size : {S : Type 0} (ls : List (LoaderOf S)) → length (modes_of (map rule_of ls)) ≡ length ls
@@ -66,3 +67,29 @@ returns-clause-loaded g c =
     let own = c.self-2.invariant.modes ∙ ap (λ (s : SessionOf _). modes_of (map rule_of s.loaders)) c.self-2.view_is in
     let pairs = ap (λ (s : SessionOf _). s.pairs) c.self-2.view_is in
     rw (← c.self.view_is) (record { round = rw forgot at once; known = rw (own, pairs) at c.in_ok-known_outcomes.ensures })
+
+-- ---- every order is on record
+
+pub returns-then-loader-len-clause-recorded : goal.returns-then-loader-len-clause-recorded
+returns-then-loader-len-clause-recorded g c = record-same c.args.self.now.loaders
+
+pub returns-in_err-ask_missing-clause-recorded : goal.returns-in_err-ask_missing-clause-recorded
+returns-in_err-ask_missing-clause-recorded g c =
+    let L = c.self.inside.loaders.items in
+    let old = state L (look c.drop_failed.new.self.pairs) c.self.inside.rounds in
+    let loads = front_of_keys (modes_of (map rule_of L)) c.args.loader (map key_of c.args.keys.now) (look c.drop_failed.new.self.pairs) in
+    rw (← c.self.view_is) (lost-recorded old (state_of c.ask_missing.new.self) loads c.in_err-ask_missing.ensures.lost)
+
+pub returns-in_err-known_outcomes-clause-recorded : goal.returns-in_err-known_outcomes-clause-recorded
+returns-in_err-known_outcomes-clause-recorded g c =
+    let L = c.self.inside.loaders.items in
+    let old = state L (look c.drop_failed.new.self.pairs) c.self.inside.rounds in
+    let loads = front_of_keys (modes_of (map rule_of L)) c.args.loader (map key_of c.args.keys.now) (look c.drop_failed.new.self.pairs) in
+    rw (← c.self.view_is) (once-recorded g.S.Asks.may_tell old (state_of c.ask_missing.new.self) loads c.in_ok-ask_missing.ensures.ran)
+
+pub returns-clause-recorded : goal.returns-clause-recorded
+returns-clause-recorded g c =
+    let L = c.self.inside.loaders.items in
+    let old = state L (look c.drop_failed.new.self.pairs) c.self.inside.rounds in
+    let loads = front_of_keys (modes_of (map rule_of L)) c.args.loader (map key_of c.args.keys.now) (look c.drop_failed.new.self.pairs) in
+    rw (← c.self.view_is) (once-recorded g.S.Asks.may_tell old (state_of c.ask_missing.new.self) loads c.in_ok-ask_missing.ensures.ran)
