@@ -11,7 +11,7 @@ use Rattle.load_queue.specs.Loaders.{LoaderOf}
 use Rattle.load_queue.specs.Orders.{OrderOf}
 use Rattle.csv_source.specs.Tables.{SourceOf, item_of_key}
 use Rattle.csv_source.specs.KeyLaws.{item_of_key-folded}
-use Rattle.gq_schema.specs.BindingsTree as bindings
+use Rattle.gq_bindings.specs.Tree as bindings
 use Rattle.execution.specs.Loads.{Load, Memory, mode_at, read, AnswersMore}
 use Rattle.execution.specs.Program.{Program, tree, chain}
 use Rattle.execution.specs.Front.{front, keys_for}

@@ -2,9 +2,10 @@
 
 use anyhow::{Context, Result};
 use case_files::{Question, plain};
+use gq_bindings::Bindings;
 use gq_check::{CheckFault, Plan, PrepareFault, check, prepare};
 use gq_parser::parse;
-use gq_schema::{Bindings, Input, Schema};
+use gq_schema::{Input, Schema};
 use serde_json::Value;
 use std::alloc::{AllocError, Global};
 

@@ -3,9 +3,10 @@
 ghost use Rattle.std.specs.Prelude.{◌≡◌, IfOk};
 
 use crate::directory::Directory;
+use gq_bindings::{Bindings, By, LoaderLine};
 use gq_check::{Plan, check, prepare};
 use gq_parser::parse;
-use gq_schema::{Bindings, By, LoaderLine, Schema, SchemaFault};
+use gq_schema::{Schema, SchemaFault};
 use load_memory::KeyMode;
 use load_queue::{Loader, QueueFault};
 use load_rounds::Session;

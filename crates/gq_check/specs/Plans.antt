@@ -7,7 +7,7 @@ use Rattle.gq_parser.specs.Tree.{Document, Operation, Fragment, operation_of, fr
 use Rattle.schema_syntax.specs.declared.tree.Definition as rust-definition
 use Rattle.schema_syntax.specs.Tree.{Definition}
 use Rattle.gq_schema.specs.Types.{tree_of}
-use Rattle.gq_schema.specs.BindingsTree.{BindingsOf}
+use Rattle.gq_bindings.specs.Tree.{BindingsOf}
 use Rattle.variable_values.specs.declared.variable.Variable as rust-variable
 use Rattle.variable_values.specs.Variables.{VariableOf, variables_of}
 use Rattle.gq_check.specs.declared.held.Held.{Held}

@@ -11,8 +11,9 @@ ghost use Rattle.gq_check.specs.Planned.{IsPlan};
 use crate::fragments::Fragments;
 use crate::held::Held;
 use crate::variables::Variables;
+use gq_bindings::Bindings;
 use gq_parser::{Fragment, Operation};
-use gq_schema::{Bindings, Input, Schema};
+use gq_schema::{Input, Schema};
 use std::marker::Model;
 
 /// An operation of a checked document with the values of its variables, ready to be executed over a schema and its bindings.

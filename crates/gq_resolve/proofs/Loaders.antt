@@ -12,7 +12,7 @@ use Rattle.schema_syntax.specs.Tree.{Definition, Field}
 use Rattle.gq_parser.specs.Tree.{TypeTree}
 use Rattle.gq_schema.specs.Inputs.{Input, Items, Int, Text, Boolean, Null as NullInput}
 use Rattle.gq_schema.specs.Types.{field_in}
-use Rattle.gq_schema.specs.BindingsTree.{StepOf, BindingOf, by_column, by_one, by_many, by_each, by_via, binding_in}
+use Rattle.gq_bindings.specs.Tree.{StepOf, BindingOf, by_column, by_one, by_many, by_each, by_via, binding_in}
 use Rattle.execution.specs.Loads.{Load, Reader}
 use Rattle.execution.specs.Program.{Value, Null, Text as Leaf-Text, Kind, ListOf, ObjectOf, Part, Key, Program, Is, Read, Under, Programs, End, With}
 use Rattle.execution.specs.Residual.{rest, all_rest}

@@ -3,9 +3,9 @@ use Rattle.std.proofs.Common.{◌≡◌, ◌∙◌, ◌<◌, ◌≤◌, ◌-◌,
 use Rattle.std.proofs.Math.Seq.{drop-cons}
 use Rattle.std.proofs.lemmas.List.{length-map, drop_all, get_or-map}
 use Rattle.schema_syntax.specs.Tree.{Definition}
-use Rattle.gq_schema.specs.declared.bindings.binding.Step.{Step}
-use Rattle.gq_schema.specs.BindingsTree.{StepOf}
-use Rattle.gq_schema.specs.BindingsSeen.{step_of}
+use Rattle.gq_bindings.specs.declared.binding.Step.{Step}
+use Rattle.gq_bindings.specs.Tree.{StepOf}
+use Rattle.gq_bindings.specs.Seen.{step_of}
 use Rattle.load_memory.specs.Rows.{RowOf}
 use Rattle.execution.specs.Loads.{Reader}
 use Rattle.execution.specs.Program.{Program}

@@ -4,7 +4,7 @@ use Rattle.std.proofs.lemmas.List.{take_more, take_all, drop_all, map_push, leng
 use Rattle.std.proofs.Math.Path.{fun_ext}
 use Rattle.schema_syntax.specs.Tree.{Definition}
 use Rattle.text_place.specs.declared.place.Place.{Place}
-use Rattle.gq_schema.specs.BindingsTree.{StepOf}
+use Rattle.gq_bindings.specs.Tree.{StepOf}
 use Rattle.load_memory.specs.Rows.{RowOf}
 use Rattle.load_memory.specs.declared.key.CacheKey.{CacheKey}
 use Rattle.execution.specs.Loads.{Reader}

@@ -6,7 +6,7 @@ use Rattle.load_memory.specs.Rows.{RowOf}
 use Rattle.load_memory.specs.Outcomes.{OutcomeOf}
 use Rattle.execution.specs.Loads.{Reader}
 use Rattle.execution.specs.Program.{Program}
-use Rattle.gq_schema.specs.BindingsTree.{StepOf}
+use Rattle.gq_bindings.specs.Tree.{StepOf}
 use Rattle.plan_program.specs.FieldValues.{ChildrenOf, of_column}
 use Rattle.plan_program.specs.Prepared.{leaf_value_seen}
 use Rattle.plan_program.specs.PlanPrograms.{Objects, with_rows, read_key, read_from, first_of, joined_object}

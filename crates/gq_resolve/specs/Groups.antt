@@ -7,9 +7,9 @@ use Rattle.std.specs.declared.sync.Arc.{Arc}
 use Rattle.std.specs.declared.alloc.Global.{Global}
 use Rattle.gq_parser.specs.Tree.{type_of}
 use Rattle.schema_syntax.specs.Tree.{Definition}
-use Rattle.gq_schema.specs.BindingsTypes.{is_object_type}
-use Rattle.gq_schema.specs.BindingsTree.{StepOf}
-use Rattle.gq_schema.specs.BindingsSeen.{step_of}
+use Rattle.gq_bindings.specs.Types.{is_object_type}
+use Rattle.gq_bindings.specs.Tree.{StepOf}
+use Rattle.gq_bindings.specs.Seen.{step_of}
 use Rattle.load_memory.specs.Rows.{RowOf, cell_of}
 use Rattle.execution.specs.Program.{Program, Is, Under, Programs, End, With, ListOf}
 use Rattle.gq_check.specs.Plans.{PlanOf}

@@ -5,7 +5,7 @@ use Rattle.std.specs.Prelude.{nat_lt, if◌then◌else◌, bytes_eq, codes}
 use Rattle.text_place.specs.declared.place.Place.{Place}
 use Rattle.gq_parser.specs.Tree.{TypeTree}
 use Rattle.schema_syntax.specs.Tree.{Definition, Field}
-use Rattle.gq_schema.specs.BindingsTree.{StepOf, BindingOf, by_column, by_one, by_many, by_each, by_via, binding_in}
+use Rattle.gq_bindings.specs.Tree.{StepOf, BindingOf, by_column, by_one, by_many, by_each, by_via, binding_in}
 use Rattle.gq_schema.specs.Inputs.{Input}
 use Rattle.gq_schema.specs.Inputs as input
 use Rattle.gq_schema.specs.Types.{field_in, root_in}

@@ -1,6 +1,6 @@
 -- The later loaders of a `via`.
 use Rattle.std.specs.Prelude.{ℕ, ◌-◌, List, length, drop}
-use Rattle.gq_schema.specs.BindingsTree.{StepOf}
+use Rattle.gq_bindings.specs.Tree.{StepOf}
 
 -- the last so many
 abbrev pub last_steps : ℕ → List StepOf → List StepOf

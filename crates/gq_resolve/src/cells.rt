@@ -4,7 +4,7 @@ ghost use Rattle.std.specs.Prelude.{◌≡◌, IfOk, option_map};
 ghost use Rattle.std.specs.Str.{all_ascii_digits};
 ghost use Rattle.gq_parser.specs.Tree.{type_of};
 ghost use Rattle.gq_schema.specs.Types.{tree_of};
-ghost use Rattle.gq_schema.specs.BindingsTypes.{is_object_type};
+ghost use Rattle.gq_bindings.specs.Types.{is_object_type};
 ghost use Rattle.gq_schema.specs.Coercion.{int_of};
 ghost use Rattle.load_memory.specs.Rows.{cell_of};
 ghost use Rattle.plan_program.specs.Texts.{is_int_text, is_unsigned_text};

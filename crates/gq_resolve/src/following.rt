@@ -1,7 +1,7 @@
 //! The loads of the later loaders of a `via`.
 
 ghost use Rattle.std.specs.Prelude.{ℕ, IfOk, map};
-ghost use Rattle.gq_schema.specs.BindingsSeen.{step_of};
+ghost use Rattle.gq_bindings.specs.Seen.{step_of};
 ghost use Rattle.load_memory.specs.Outcomes.{outcome_of};
 ghost use Rattle.execution.specs.Loads.{Reader};
 ghost use Rattle.gq_resolve.specs.Evaluated.{lookup};
@@ -9,7 +9,7 @@ ghost use Rattle.gq_resolve.specs.Following.{StepsTo, ComesTo, FollowsTo};
 
 use crate::keys::{KeyOver, column_over};
 use crate::reading::look_up;
-use gq_schema::Step;
+use gq_bindings::Step;
 use load_memory::{CacheKey, KeyRef, Memory, NoMemory, Outcome, Row};
 use plan_program::{LeafValue, no_column_message};
 use std::alloc::Global;

@@ -2,7 +2,7 @@
 
 ghost use Rattle.std.specs.Prelude.{◌≡◌, ◌<◌, ◌≤◌, IfOk, IfSome, IsTrue, OnOk, map};
 ghost use Rattle.gq_schema.specs.Types.{tree_of};
-ghost use Rattle.gq_schema.specs.BindingsSeen.{step_of};
+ghost use Rattle.gq_bindings.specs.Seen.{step_of};
 ghost use Rattle.gq_check.specs.Plans.{plan_of};
 ghost use Rattle.plan_program.specs.Prepared.{value_from_seen, prepared_seen, all_prepared_seen, children_seen};
 ghost use Rattle.gq_resolve.specs.Positions.{is_non_null, position_seen};
@@ -11,9 +11,10 @@ ghost use Rattle.gq_resolve.specs.Groups.{children_in, children_at, then_at, ste
 use crate::cells::is_object_type;
 use crate::positions::{FieldPosition, Items, Nullability, Onward};
 use crate::tour::Tour;
+use gq_bindings::Step;
 use gq_lexer::Place;
 use gq_parser::{Field, Selection, TypeRef};
-use gq_schema::{Schema, Step};
+use gq_schema::Schema;
 use load_memory::{Key, NoMemory};
 use plan_program::{
     Children, KeyFrom, LeafValue, Prepared, ValueFrom, collect_subfields, prepare_groups,

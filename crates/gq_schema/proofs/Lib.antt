@@ -1,4 +1,3 @@
-pub mod BindingsPlaces
 pub mod Bools
 pub mod TypeNameLists
 pub mod Walks
@@ -8,4 +7,3 @@ pub mod IntTexts
 pub mod Faults
 pub mod InputLaws
 pub mod ReadingLaws
-pub mod Steps

@@ -1,11 +1,3 @@
-pub mod BindingsTree
-pub mod BindingsSeen
-pub mod BindingsPlaces
-pub mod BindingsTypes
-pub mod BindingsForms
-pub mod BindingsTargets
-pub mod BindingsReading
-pub mod BindingsFaults
 pub mod Scan
 pub mod Seen
 pub mod Kinds

@@ -67,7 +67,7 @@ impl Indexed {
     }
 
     /// The field of this name.
-    pub fn field(&self, name: &str) -> Option<&FieldDefinition>
+    pub(crate) fn field(&self, name: &str) -> Option<&FieldDefinition>
         ensures { option_map field_of (option_copied result) ≡ find (is_field name.now) (own_fields (definition_of self.now.definition)) }
     {
         match &self.definition {
@@ -86,7 +86,7 @@ impl Indexed {
     }
 
     /// Whether it is an enum that has this value.
-    pub fn has_value(&self, value: &str) -> bool
+    pub(crate) fn has_value(&self, value: &str) -> bool
         ensures { result ≡ list_any (is_called value.now) (own_values (definition_of self.now.definition)) }
     {
         match &self.definition {
@@ -99,7 +99,7 @@ impl Indexed {
     }
 
     /// The place of the field or of the enum's value of this name.
-    pub fn place_of(&self, name: &str) -> Option<usize>
+    pub(crate) fn place_of(&self, name: &str) -> Option<usize>
         ensures { result ≡ part_place (definition_of self.now.definition) name.now }
     {
         self.parts.get(name).copied()

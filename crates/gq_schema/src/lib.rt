@@ -4,10 +4,8 @@
 //! names, kinds, interfaces and defaults, so the layer above may rely on it: each name of a type is one of a type, each
 //! argument is a scalar, an enum or a list of one, each default is right, each interface is implemented, and there is a root.
 //! Look-ups go by hash and take no memory. [`accepts`] and [`coerce`] say what a literal is at a type.
-//! [`Bindings`] has, over such a schema, the loaders and how each field is answered, or tells the first bad line.
 #![tactic(auto)]
 
-mod bindings;
 mod check;
 mod coercion;
 mod fault;
@@ -23,9 +21,9 @@ mod schema;
 mod type_names;
 mod types;
 
-pub use bindings::{Binding, Bindings, By, KeyPart, KeySource, LoaderLine, Step};
 pub use coercion::{accepts, coerce, list_of_one};
 pub use fault::SchemaFault;
+pub use index::Indexed;
 pub use input::Input;
 pub use kind::TypeKind;
 pub use schema::Schema;

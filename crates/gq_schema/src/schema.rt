@@ -63,7 +63,7 @@ impl Schema {
     }
 
     /// The definitions in the order of the text.
-    pub(crate) fn definitions(&self) -> &[Indexed]
+    pub fn definitions(&self) -> &[Indexed]
         ensures { map definition_in result.now ≡ self.now }
     {
         &self.definitions

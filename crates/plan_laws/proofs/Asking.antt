@@ -6,7 +6,7 @@ use Rattle.std.proofs.Math.Path.{fun_ext}
 use Rattle.gq_parser.specs.Tree.{TypeTree}
 use Rattle.schema_syntax.specs.Tree.{Field}
 use Rattle.gq_schema.specs.Types.{field_in}
-use Rattle.gq_schema.specs.BindingsTree.{StepOf, BindingOf, by_column, by_one, by_many, by_each, by_via, binding_in}
+use Rattle.gq_bindings.specs.Tree.{StepOf, BindingOf, by_column, by_one, by_many, by_each, by_via, binding_in}
 use Rattle.gq_check.specs.Plans.{PlanOf}
 use Rattle.plan_program.specs.Groups.{FieldOf, GroupOf}
 use Rattle.plan_program.specs.Arguments.{ValueOf, arguments_of}

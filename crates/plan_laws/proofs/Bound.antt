@@ -12,10 +12,10 @@ use Rattle.gq_schema.specs.declared.kind.TypeKind.{TypeKind}
 use Rattle.gq_schema.specs.declared.kind.TypeKind.TheVariants as kind
 use Rattle.gq_schema.specs.Kinds.{is_object}
 use Rattle.gq_schema.specs.Types.{is_built_in, defines, type_in, kind_of, is_field, field_in}
-use Rattle.gq_schema.specs.BindingsTypes.{is_object_type, is_root_type, is_leaf_type, is_composite_type, is_composite_list, is_key_type, is_key_list, takes}
-use Rattle.gq_schema.specs.BindingsTree.{LoaderOf, StepOf, BindingOf, by_column, by_one, by_many, by_each, by_via, BoundFieldOf, BindingsOf, is_loader, binds, binding_in, loader_from, loader_in}
-use Rattle.gq_schema.specs.BindingsForms.{is_by_one, is_by_two, keyed_loader, paired_loader, whole_loader, part_fits, asked_loader, later_step, later_steps, via_loaders, form_binding, field_binding}
-use Rattle.gq_schema.specs.BindingsReading.{Reading, accepted, refused, with_loader, with_field, after_statement, or_refused, and_then, after_statements, settled_field, settled_fields, settled, at_end, nothing, reading_of, bindings_of}
+use Rattle.gq_bindings.specs.Types.{is_object_type, is_root_type, is_leaf_type, is_composite_type, is_composite_list, is_key_type, is_key_list, takes}
+use Rattle.gq_bindings.specs.Tree.{LoaderOf, StepOf, BindingOf, by_column, by_one, by_many, by_each, by_via, BoundFieldOf, BindingsOf, is_loader, binds, binding_in, loader_from, loader_in}
+use Rattle.gq_bindings.specs.Forms.{is_by_one, is_by_two, keyed_loader, paired_loader, whole_loader, part_fits, asked_loader, later_step, later_steps, via_loaders, form_binding, field_binding}
+use Rattle.gq_bindings.specs.Reading.{Reading, accepted, refused, with_loader, with_field, after_statement, or_refused, and_then, after_statements, settled_field, settled_fields, settled, at_end, nothing, reading_of, bindings_of}
 use Rattle.execution.specs.Loads.{IsOneOf}
 use Rattle.plan_laws.specs.Met.{StepsThere, AreThere, IsBound}
 use Rattle.plan_laws.proofs.Options.{if-given, if-not-given, map-given, then-given, some-of, found-one}

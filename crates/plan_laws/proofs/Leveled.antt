@@ -6,7 +6,7 @@ use Rattle.gq_parser.specs.Tree.{TypeTree, Selection, Field, Spread, Inline, Bel
 use Rattle.schema_syntax.specs.Tree.{Definition, Field as DefinedField}
 use Rattle.gq_schema.specs.Inputs.{Input, Items, Int, Text, Boolean, Null as NullInput}
 use Rattle.gq_schema.specs.Types.{field_in, root_in}
-use Rattle.gq_schema.specs.BindingsTree.{StepOf, BindingOf, by_column, by_one, by_many, by_each, by_via, binding_in}
+use Rattle.gq_bindings.specs.Tree.{StepOf, BindingOf, by_column, by_one, by_many, by_each, by_via, binding_in}
 use Rattle.load_memory.specs.Rows.{RowOf}
 use Rattle.execution.specs.Program.{Value, Null, Text as LeafText, Program, Programs, Under, With, ObjectOf}
 use Rattle.gq_check.specs.Plans.{PlanOf, fragment_in}

@@ -11,7 +11,7 @@ use Rattle.schema_syntax.specs.Tree.{Definition, Field as DefinedField}
 use Rattle.gq_schema.specs.Kinds.{is_object}
 use Rattle.gq_schema.specs.Types.{kind_in, field_in, root_in, can_be, is_covariant, core_of}
 use Rattle.gq_schema.specs.Fault.{fault_of}
-use Rattle.gq_schema.specs.BindingsTypes.{is_object_type}
+use Rattle.gq_bindings.specs.Types.{is_object_type}
 use Rattle.document_parts.specs.declared.part.Owner.{Owner}
 use Rattle.document_parts.specs.declared.part.Owner.TheVariants as owner
 use Rattle.document_parts.specs.Parts.{FieldPart}

@@ -2,8 +2,8 @@
 use Rattle.std.proofs.Common.{◌∙◌, sym, ap, subst, List}
 use Rattle.schema_syntax.specs.Tree.{Definition}
 use Rattle.gq_schema.specs.Fault.{fault_of}
-use Rattle.gq_schema.specs.BindingsTree.{BindingsOf}
-use Rattle.gq_schema.specs.BindingsReading.{bindings_of, accepted}
+use Rattle.gq_bindings.specs.Tree.{BindingsOf}
+use Rattle.gq_bindings.specs.Reading.{bindings_of, accepted}
 use Rattle.gq_check.specs.Plans.{PlanOf}
 use Rattle.gq_check.specs.Prepared.{prepared}
 use Rattle.gq_check.specs.Verdict.{IsValid}

@@ -19,7 +19,7 @@ use Rattle.gq_schema.specs.declared.rules.uses.Rule.TheVariants.{IsDefined, Fits
 use Rattle.gq_schema.specs.Kinds.{is_object}
 use Rattle.gq_schema.specs.Scan.{or_else, first_in}
 use Rattle.gq_schema.specs.Types.{is_called, is_built_in, type_name, defines, type_in, kind_in, own_fields, fields_in, is_field, field_in, root_of, declared_root, query, root_in, has_member, is_possible, can_be, is_covariant, core_of}
-use Rattle.gq_schema.specs.BindingsTypes.{is_object_type}
+use Rattle.gq_bindings.specs.Types.{is_object_type}
 use Rattle.gq_schema.specs.Reserved.{first_reserved}
 use Rattle.gq_schema.specs.Repeated.{repeated_type, repeated_self, repeated_within, repeated_from, first_repeated}
 use Rattle.gq_schema.specs.Uses.{fits, keeps, broken_use, broken_field, is_own_root, broken_root, broken_in, first_broken}

@@ -5,9 +5,9 @@ use Rattle.schema_syntax.specs.Tree.{Argument, Definition, Field}
 use Rattle.gq_schema.specs.Types.{root_in, field_in, core_of}
 use Rattle.gq_schema.specs.Fault.{fault_of}
 use Rattle.gq_schema.specs.Implements.{argument_in}
-use Rattle.gq_schema.specs.BindingsTypes.{is_object_type}
-use Rattle.gq_schema.specs.BindingsTree.{BindingsOf, StepOf, BindingOf, by_column, by_one, by_many, by_each, by_via, binding_in}
-use Rattle.gq_schema.specs.BindingsReading.{bindings_of, accepted}
+use Rattle.gq_bindings.specs.Types.{is_object_type}
+use Rattle.gq_bindings.specs.Tree.{BindingsOf, StepOf, BindingOf, by_column, by_one, by_many, by_each, by_via, binding_in}
+use Rattle.gq_bindings.specs.Reading.{bindings_of, accepted}
 use Rattle.load_memory.specs.Rows.{RowOf}
 use Rattle.execution.specs.Loads.{IsOneOf}
 use Rattle.gq_check.specs.Plans.{PlanOf}

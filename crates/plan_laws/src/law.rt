@@ -2,7 +2,7 @@
 ghost use Rattle.std.specs.Prelude.{◌≡◌, ◌≤◌, ℕ, List, length, false};
 ghost use Rattle.gq_parser.specs.Tree.{Value};
 ghost use Rattle.schema_syntax.specs.Tree.{Argument, Definition};
-ghost use Rattle.gq_schema.specs.BindingsTree.{BindingsOf};
+ghost use Rattle.gq_bindings.specs.Tree.{BindingsOf};
 ghost use Rattle.gq_check.specs.Plans.{PlanOf};
 ghost use Rattle.gq_check.specs.Planned.{IsPlan};
 ghost use Rattle.plan_program.specs.PlanPrograms.{most_levels, plan_program};

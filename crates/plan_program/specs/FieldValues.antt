@@ -11,7 +11,7 @@ use Rattle.bindings_syntax.specs.Statements as source
 use Rattle.gq_schema.specs.Inputs.{Input, Inputs, no_input, and_input, Items}
 use Rattle.gq_schema.specs.Inputs as input
 use Rattle.gq_schema.specs.Types.{field_in, is_non_null, core_of}
-use Rattle.gq_schema.specs.BindingsTree.{StepOf, BindingOf, by_column, by_one, by_many, by_each, by_via, binding_in}
+use Rattle.gq_bindings.specs.Tree.{StepOf, BindingOf, by_column, by_one, by_many, by_each, by_via, binding_in}
 use Rattle.load_memory.specs.Keys.{KeyOf, all, text}
 use Rattle.execution.specs.Program.{LeafValue, Value, Null, Fault, Text, FieldPosition, Key}
 use Rattle.gq_check.specs.Plans.{PlanOf}

@@ -6,7 +6,7 @@ use Rattle.text_place.specs.declared.place.Place.{Place}
 use Rattle.gq_parser.specs.Tree.{TypeTree, Named, ListOf}
 use Rattle.schema_syntax.specs.Tree.{Definition}
 use Rattle.gq_schema.specs.Types.{root_in, has_value, can_be}
-use Rattle.gq_schema.specs.BindingsTypes.{is_object_type}
+use Rattle.gq_bindings.specs.Types.{is_object_type}
 use Rattle.gq_schema.specs.Coercion.{int_of}
 use Rattle.load_memory.specs.Keys.{KeyOf, text, pair}
 use Rattle.load_memory.specs.Rows.{RowOf, cell_of}
@@ -14,7 +14,7 @@ use Rattle.load_memory.specs.Outcomes.{OutcomeOf, known, batch_fault, rows, key_
 use Rattle.execution.specs.Program.{Leaf, Text, Int, Boolean, LeafValue, Value, Null, Fault, ListOf as Listed, ObjectOf, Item, FieldPosition, Program, Is, Read, Under, Programs, End, With}
 use Rattle.gq_check.specs.Plans.{PlanOf}
 use Rattle.plan_program.specs.Groups.{FieldOf, selections_in, nothing_collected, collect, collect_subfields}
-use Rattle.gq_schema.specs.BindingsTree.{StepOf}
+use Rattle.gq_bindings.specs.Tree.{StepOf}
 use Rattle.plan_program.specs.FieldValues.{PartFrom, fixed_part, column_part, KeyFrom, fixed, of_column, of_pair, ChildrenOf, ValueFrom, known as settled, cell, first_row, all_rows, each_row, joined_rows, PreparedOf, all_prepared}
 use Rattle.plan_program.specs.Texts.{bad_value_message, no_column_message, no_type_message, not_type_message, is_int_text}
 

@@ -2,8 +2,8 @@
 use Rattle.std.specs.Prelude.{ℕ, List, map, Option, Some, None, string_bytes, option_map}
 use Rattle.std.specs.Arc.{arc_value}
 use Rattle.gq_parser.specs.Tree.{TypeTree, type_of}
-use Rattle.gq_schema.specs.declared.bindings.binding.Binding.{Binding}
-use Rattle.gq_schema.specs.BindingsSeen.{step_of, binding_of}
+use Rattle.gq_bindings.specs.declared.binding.Binding.{Binding}
+use Rattle.gq_bindings.specs.Seen.{step_of, binding_of}
 use Rattle.load_memory.specs.Keys.{KeyOf, key_of}
 use Rattle.load_memory.specs.declared.key.Key.{Key}
 use Rattle.execution.specs.Program.{Text, Int, Boolean, LeafValue, Value, Null, Fault}

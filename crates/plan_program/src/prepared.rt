@@ -1,8 +1,8 @@
 //! What a group of fields asks for, whatever the row is.
 
+use gq_bindings::Step;
 use gq_lexer::Place;
 use gq_parser::{Field, TypeRef};
-use gq_schema::Step;
 use load_memory::Key;
 use std::sync::Arc;
 

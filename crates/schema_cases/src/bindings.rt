@@ -4,7 +4,8 @@ use crate::schema::displayed;
 use crate::shown;
 use anyhow::{Context, Result};
 use case_files::{Question, plain};
-use gq_schema::{Bindings, Schema};
+use gq_bindings::Bindings;
+use gq_schema::Schema;
 use std::alloc::{AllocError, Global};
 
 /// The loader of a number.

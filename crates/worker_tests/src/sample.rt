@@ -1,9 +1,10 @@
 //! Users and their posts, sessions over them, and plans.
 
 use crate::probe::{Board, Manner, Probe};
+use gq_bindings::Bindings;
 use gq_check::{Plan, check, prepare};
 use gq_parser::parse;
-use gq_schema::{Bindings, Schema};
+use gq_schema::Schema;
 use load_memory::{Key, KeyMode, NoMemory, Row};
 use load_queue::Loader;
 use load_rounds::Session;

@@ -1,7 +1,7 @@
 -- The sources of loaders, one more at a time.
 use Rattle.std.proofs.Common.{◌≡◌, ℕ, suc, List, [], ◌∷◌, ◌++◌, length, ap, refl, sym, ◌∙◌, Option}
 use Rattle.std.specs.Prelude.{Result, Ok, Err}
-use Rattle.gq_schema.specs.BindingsTree.{LoaderOf}
+use Rattle.gq_bindings.specs.Tree.{LoaderOf}
 use Rattle.load_memory.specs.Rows.{SheetOf}
 use Rattle.csv_source.specs.Tables.{SourceOf}
 use Rattle.world.specs.declared.fault.WorldFault.{WorldFault}

@@ -3,9 +3,9 @@ use Rattle.std.proofs.Common.{◌≡◌, ◌∙◌, ℕ, List, sym, ap, refl, Op
 use Rattle.std.specs.Prelude.{Result, Ok, Err, IfOk, IfErr}
 use Rattle.schema_syntax.specs.Tree.{Definition}
 use Rattle.gq_schema.specs.Reading.{IsSchema}
-use Rattle.gq_schema.specs.BindingsTree.{BindingsOf}
-use Rattle.gq_schema.specs.BindingsReading.{bindings_of, accepted, refused}
-use Rattle.gq_schema.specs.BindingsFaults.{Refuses}
+use Rattle.gq_bindings.specs.Tree.{BindingsOf}
+use Rattle.gq_bindings.specs.Reading.{bindings_of, accepted, refused}
+use Rattle.gq_bindings.specs.Faults.{Refuses}
 use Rattle.gq_schema.specs.declared.fault.SchemaFault.{SchemaFault}
 use Rattle.gq_schema.specs.declared.fault.SchemaFault.TheVariants as schema
 use Rattle.csv_source.specs.Tables.{SourceOf}

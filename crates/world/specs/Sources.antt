@@ -3,7 +3,7 @@ use Rattle.std.specs.Prelude.{◌≡◌, ℕ, Bool, true, false, ◌&&◌, List,
 use Rattle.std.specs.List.{list_any}
 use Rattle.std.specs.Global.{Global}
 use Rattle.bindings_syntax.specs.Statements.{ByOf}
-use Rattle.gq_schema.specs.BindingsTree.{LoaderOf}
+use Rattle.gq_bindings.specs.Tree.{LoaderOf}
 use Rattle.load_memory.specs.Rows.{SheetOf}
 use Rattle.load_memory.specs.declared.key.KeyMode.{KeyMode}
 use Rattle.load_memory.specs.declared.key.KeyMode.TheVariants.{Exact, FoldAscii}

@@ -4,8 +4,8 @@ use Rattle.schema_syntax.specs.Tree.{Definition}
 use Rattle.schema_syntax.specs.declared.tree.Definition as rust
 use Rattle.gq_schema.specs.Types.{tree_of}
 use Rattle.gq_schema.specs.Reading.{IsSchema, IsFaultOf}
-use Rattle.gq_schema.specs.BindingsTree.{BindingsOf}
-use Rattle.gq_schema.specs.BindingsReading.{bindings_of, accepted, refused}
+use Rattle.gq_bindings.specs.Tree.{BindingsOf}
+use Rattle.gq_bindings.specs.Reading.{bindings_of, accepted, refused}
 use Rattle.gq_schema.specs.declared.fault.SchemaFault.{SchemaFault}
 use Rattle.gq_schema.specs.declared.fault.SchemaFault.TheVariants as schema
 use Rattle.csv_source.specs.Reading.{Repeats}

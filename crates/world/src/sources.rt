@@ -2,14 +2,14 @@
 
 ghost use Rattle.std.specs.Prelude.{◌≡◌, ℕ, List, Ok, IfOk, IfErr, map};
 ghost use Rattle.std.specs.HashMap.{get_by_text};
-ghost use Rattle.gq_schema.specs.BindingsSeen.{loader_of};
+ghost use Rattle.gq_bindings.specs.Seen.{loader_of};
 ghost use Rattle.world.specs.Sources.{source_for, sources_for, IsRefused};
 ghost use Rattle.world.specs.Kept.{source_of};
 
 use crate::fault::WorldFault;
 use crate::tables::IndexedTable;
 use csv_source::{ColumnIndex, CsvSource, PairIndex, Table};
-use gq_schema::LoaderLine;
+use gq_bindings::LoaderLine;
 use std::alloc::Global;
 use std::collections::HashMap;
 use std::sync::Arc;

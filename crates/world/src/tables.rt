@@ -4,7 +4,7 @@ ghost use Rattle.std.specs.Prelude.{◌≡◌, ℕ, List, Ok, Some, None, IfOk, 
 ghost use Rattle.std.specs.Arc.{arc_value};
 ghost use Rattle.std.specs.HashMap.{get_by_text};
 ghost use Rattle.std.specs.Option.{option_map};
-ghost use Rattle.gq_schema.specs.BindingsSeen.{by_of};
+ghost use Rattle.gq_bindings.specs.Seen.{by_of};
 ghost use Rattle.csv_source.specs.Reading.{Repeats};
 ghost use Rattle.csv_source.specs.Tables.{rows_of, index_of};
 ghost use Rattle.world.specs.Sources.{table_of, names_of, sheet_named, mode_of, source_by_columns, source_over, IsRefused, IsRefusedTables};
@@ -13,7 +13,7 @@ ghost use Rattle.world.specs.Kept.{source_of, source_by_index, source_by_pair_in
 use crate::fault::WorldFault;
 use crate::sources::SourceParts;
 use csv_source::{ColumnIndex, PairIndex, Table, TableFault};
-use gq_schema::By;
+use gq_bindings::By;
 use load_memory::KeyMode;
 use std::alloc::{AllocError, Global};
 use std::collections::HashMap;

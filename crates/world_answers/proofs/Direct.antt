@@ -10,7 +10,7 @@ use Rattle.csv_source.specs.Tables.{SourceOf, item_of_key}
 use Rattle.csv_source.specs.KeyLaws.{item_of_key-folded}
 use Rattle.load_queue.specs.Loaders.{LoaderOf}
 use Rattle.execution.specs.Rounds.{without_failed, direct, HoldsItems}
-use Rattle.gq_schema.specs.BindingsTree as bindings
+use Rattle.gq_bindings.specs.Tree as bindings
 use Rattle.gq_check.specs.Plans.{PlanOf}
 use Rattle.gq_check.specs.Planned.{IsPlan}
 use Rattle.plan_program.specs.PlanPrograms.{plan_program}

@@ -3,7 +3,7 @@ use Rattle.std.proofs.Common.{◌≡◌, ◌<◌, ◌≤◌, ◌+◌, ℕ, zero,
 use Rattle.std.proofs.lemmas.List.{length-map, get_or-map, take_all}
 use Rattle.std.proofs.lemmas.List.Elements.{All-nil, All-cons, All-weaker}
 use Rattle.csv_source.specs.Tables.{SourceOf}
-use Rattle.gq_schema.specs.BindingsTree as bindings
+use Rattle.gq_bindings.specs.Tree as bindings
 use Rattle.gq_check.specs.Plans.{PlanOf, plan_of}
 use Rattle.load_queue.specs.Loaders.{LoaderOf}
 use Rattle.load_rounds.specs.Sessions.{SessionOf}

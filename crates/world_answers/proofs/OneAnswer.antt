@@ -12,7 +12,7 @@ use Rattle.gq_parser.specs.declared.fault.ParseFault.TheVariants as parse
 use Rattle.gq_parser.specs.Fault.{IsDocumentOf, IsParseFault, place_of_parse_fault}
 use Rattle.gq_parser.specs.Tree.{Operation, Fragment, Document}
 use Rattle.schema_syntax.specs.Tree.{Definition}
-use Rattle.gq_schema.specs.BindingsTree.{BindingsOf}
+use Rattle.gq_bindings.specs.Tree.{BindingsOf}
 use Rattle.gq_schema.specs.Types.{tree_of}
 use Rattle.variable_values.specs.Variables.{VariableOf}
 use Rattle.gq_check.specs.declared.fault.CheckFault.{CheckFault}

@@ -1,7 +1,7 @@
 -- A session of a world that has answered is that of the world once it starts again.
 use Rattle.std.proofs.Common.{◌≡◌, ◌∙◌, ℕ, List, [], ◌∷◌, map, length, Option, refl, ap}
 use Rattle.csv_source.specs.Tables.{SourceOf}
-use Rattle.gq_schema.specs.BindingsTree as bindings
+use Rattle.gq_bindings.specs.Tree as bindings
 use Rattle.load_memory.specs.Replies.{ReplyOf}
 use Rattle.load_queue.specs.Loaders.{LoaderOf, unasked}
 use Rattle.execution.specs.Program.{Program}

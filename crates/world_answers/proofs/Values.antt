@@ -8,7 +8,7 @@ use Rattle.gq_check.specs.Planned.{IsPlan}
 use Rattle.gq_check.specs.Plans.{PlanOf, plan_of}
 use Rattle.gq_check.specs.Prepared.{prepared}
 use Rattle.gq_check.specs.Verdict.{IsValid}
-use Rattle.gq_schema.specs.BindingsTree.{BindingsOf}
+use Rattle.gq_bindings.specs.Tree.{BindingsOf}
 use Rattle.csv_source.specs.Tables.{SourceOf}
 use Rattle.load_rounds.specs.Sessions.{StateOf}
 use Rattle.load_rounds.specs.SharedRounds.{ReportOf, report_of}

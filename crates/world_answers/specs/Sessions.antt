@@ -1,6 +1,6 @@
 -- The session of a world.
 use Rattle.std.specs.Prelude.{◌≡◌, ℕ, List, [], ◌∷◌, Option, length}
-use Rattle.gq_schema.specs.BindingsTree as bindings
+use Rattle.gq_bindings.specs.Tree as bindings
 use Rattle.csv_source.specs.Tables.{SourceOf}
 use Rattle.load_queue.specs.Loaders.{LoaderOf}
 use Rattle.load_rounds.specs.Sessions.{SessionOf}

@@ -1,7 +1,7 @@
 use Rattle.std.proofs.Common.{◌<◌, ◌+◌, ◌-◌, ◌∙◌, ℕ, List, [], ◌∷◌, map, length, drop, ap, refl, arith}
-use Rattle.gq_schema.specs.declared.bindings.binding.Step.{Step}
-use Rattle.gq_schema.specs.BindingsTree.{StepOf}
-use Rattle.gq_schema.specs.BindingsSeen.{step_of}
+use Rattle.gq_bindings.specs.declared.binding.Step.{Step}
+use Rattle.gq_bindings.specs.Tree.{StepOf}
+use Rattle.gq_bindings.specs.Seen.{step_of}
 use Rattle.load_memory.specs.Keys.{borrowed_of}
 use Rattle.execution.specs.Loads.{Reader}
 use Rattle.plan_program.specs.PlanPrograms.{read_key, first_of, joined_object}

@@ -1,5 +1,5 @@
 use Rattle.std.proofs.Common.{map, drop}
-use Rattle.gq_schema.specs.BindingsSeen.{step_of}
+use Rattle.gq_bindings.specs.Seen.{step_of}
 use Rattle.gq_resolve.specs.Evaluated.{lookup}
 use Rattle.gq_resolve.specs.Steps.{last_steps}
 use Rattle.gq_resolve.proofs.Stepping.{Reaches}

@@ -3,8 +3,8 @@ use Rattle.std.specs.Prelude.{nat_lt}
 use Rattle.std.specs.List.{list_all}
 use Rattle.std.proofs.lemmas.Iterator.{YieldsList-from_slice}
 use Rattle.std.proofs.lemmas.Iterator.Search.{all_from_yields_List}
-use Rattle.gq_schema.specs.declared.bindings.binding.Step.{Step}
-use Rattle.gq_schema.specs.BindingsSeen.{step_of}
+use Rattle.gq_bindings.specs.declared.binding.Step.{Step}
+use Rattle.gq_bindings.specs.Seen.{step_of}
 use Rattle.plan_program.specs.FieldValues.{have_loaders}
 use Rattle.plan_program.proofs.preparation.have_loaders.Goals as goal
 

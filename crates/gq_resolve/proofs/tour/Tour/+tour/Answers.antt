@@ -5,8 +5,8 @@ use Rattle.std.proofs.lemmas.List.{take_all, length-map}
 use Rattle.std.proofs.lemmas.Result.{on_ok_weaker}
 use Rattle.schema_syntax.specs.Tree.{Definition}
 use Rattle.gq_schema.specs.Types.{tree_of}
-use Rattle.gq_schema.specs.BindingsTree.{StepOf}
-use Rattle.gq_schema.specs.BindingsSeen.{step_of}
+use Rattle.gq_bindings.specs.Tree.{StepOf}
+use Rattle.gq_bindings.specs.Seen.{step_of}
 use Rattle.load_memory.specs.Keys.{KeyOf, key_of, borrowed_of}
 use Rattle.load_memory.specs.Rows.{RowOf}
 use Rattle.load_memory.specs.Outcomes.{outcome_of}

@@ -1,6 +1,6 @@
 use Rattle.std.proofs.Common.{◌≡◌, ◌∙◌, List, [], All, sym, ap, subst, arith, length}
 use Rattle.std.proofs.lemmas.Result.{IfOk-weaker}
-use Rattle.gq_schema.specs.BindingsSeen.{loader_of}
+use Rattle.gq_bindings.specs.Seen.{loader_of}
 use Rattle.csv_source.specs.Tables.{SourceOf, source_of_all}
 use Rattle.load_queue.specs.Loaders.{LoaderOf}
 use Rattle.load_rounds.specs.Sessions.{SessionOf}

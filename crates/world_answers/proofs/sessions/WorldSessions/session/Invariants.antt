@@ -1,5 +1,5 @@
 use Rattle.std.proofs.Common.{◌≡◌, take, map}
-use Rattle.gq_schema.specs.BindingsSeen.{loader_of}
+use Rattle.gq_bindings.specs.Seen.{loader_of}
 use Rattle.world_answers.specs.Sessions.{loaders_over}
 use Rattle.world_answers.proofs.sessions.WorldSessions.session.Given as goal
 

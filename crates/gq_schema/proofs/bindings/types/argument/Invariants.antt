@@ -1,7 +1,0 @@
-use Rattle.std.proofs.Common.{◌≡◌, drop}
-use Rattle.schema_syntax.specs.Tree.{arguments_of}
-use Rattle.gq_schema.specs.Implements.{argument_in}
-use Rattle.gq_schema.proofs.bindings.types.argument.Given as goal
-
-abbrev pub invariant-loop-argument : goal.invariant-loop-argument
-invariant-loop-argument l = argument_in (arguments_of (drop l.argument-index l.argument-items)) l.name ≡ argument_in (arguments_of l.argument-items) l.name
