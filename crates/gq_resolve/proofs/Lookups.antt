@@ -7,8 +7,8 @@ use Rattle.load_memory.specs.Outcomes.{OutcomeOf}
 use Rattle.load_memory.specs.Pairs.{MemoryOf, look}
 use Rattle.load_memory.specs.declared.key.KeyMode.{KeyMode}
 use Rattle.execution.specs.Loads.{Load, mode_at, read, cache_key, AnswersMore}
-use Rattle.gq_resolve.specs.Evaluated.{reader, lookup}
 use Rattle.execution.specs.Executes.{GrowsTo}
+use Rattle.gq_resolve.specs.Evaluated.{reader, lookup}
 
 mode-got : (modes : List KeyMode) (loader : ℕ) (mode : KeyMode) → slice_get modes loader ≡ Some mode → mode_at modes loader ≡ mode
 mode-got [] loader mode h = absurd (cc h)

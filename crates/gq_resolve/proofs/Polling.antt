@@ -6,14 +6,14 @@ use Rattle.execution.specs.Loads.{Load}
 use Rattle.execution.specs.Program.{tree, needs}
 use Rattle.execution.specs.Completion.{AnsweredOf, is_open}
 use Rattle.execution.specs.Executed.{completed, exec}
+use Rattle.execution.specs.Executes.{CanExecute, GrowsTo}
 use Rattle.execution.specs.Front.{wanting}
 use Rattle.execution.specs.Residual.{rest, unanswered}
 use Rattle.execution.proofs.Fitting.{held-rest}
 use Rattle.execution.proofs.Monotone.{exec-whole}
 use Rattle.gq_check.specs.Plans.{PlanOf}
 use Rattle.plan_program.specs.PlanPrograms.{plan_program}
-use Rattle.gq_resolve.specs.Evaluated.{reader, front_over, AddsPart, CanEvaluate, lookup}
-use Rattle.execution.specs.Executes.{GrowsTo}
+use Rattle.gq_resolve.specs.Evaluated.{reader, front_over, AddsPart, lookup}
 use Rattle.gq_resolve.specs.Suspended.{FitsWaiting, FitsStopped, loads_of, Advanced, lacking}
 use Rattle.gq_resolve.specs.Written.{asks, thinned}
 use Rattle.gq_resolve.specs.declared.advance.Stopped.{Stopped}
@@ -53,16 +53,16 @@ lookup-asks plan m le = sym (needs-rest (plan_program plan) (lookup m)) ∙ ap (
 lookup-tree : (plan : PlanOf) (m : MemoryOf) → length plan.bindings.loaders ≤ length m.modes → tree (plan_program plan) (lookup m) ≡ tree (plan_program plan) (reader m)
 lookup-tree plan m le = sym (held-rest (plan_program plan) (lookup m)) ∙ ap (λ q. tree q unanswered) (left-same plan m le) ∙ held-rest (plan_program plan) (reader m)
 
-module _ (plan : PlanOf) (m : MemoryOf) (old : List WantedOf) (w : Walked Output) (can : CanEvaluate plan m old) (a : Advanced plan m w) where
+module _ (plan : PlanOf) (m : MemoryOf) (old : List WantedOf) (w : Walked Output) (can : CanExecute (length plan.bindings.loaders) m old) (a : Advanced plan m w) where
   -- the loads of what waits are those that are missing, each once
   same-loads : thinned [] (loads_of w.out.blocked) ≡ thinned [] (lacking plan m)
-  same-loads = a.lacks ∙ ap (thinned []) (lookup-asks plan m can.loaders)
+  same-loads = a.lacks ∙ ap (thinned []) (lookup-asks plan m can.enough)
 
   -- something waits, and the front was added
   pub front-added : (new : List WantedOf) → (w.out.blocked ≡ [] → ⊥) → new ≡ wanting old (loads_of w.out.blocked) → (front_over m (plan_program plan) ≢ []) × (new ≡ wanting old (front_over m (plan_program plan)))
   front-added new some is = (
     front-there m (plan_program plan) (λ none. some (no-loads w.out.blocked (thinned-none (loads_of w.out.blocked) (same-loads ∙ ap (thinned []) none)))),
-    is ∙ sym (wanting-thinned old (loads_of w.out.blocked)) ∙ ap (wanting old) same-loads ∙ wanting-thinned old (lacking plan m) ∙ wants-front m (plan_program plan) old can.modes,
+    is ∙ sym (wanting-thinned old (loads_of w.out.blocked)) ∙ ap (wanting old) same-loads ∙ wanting-thinned old (lacking plan m) ∙ wants-front m (plan_program plan) old can.lined_up,
   )
     where
       no-loads : (bs : List Blocked) → loads_of bs ≡ [] → bs ≡ []
@@ -77,7 +77,7 @@ module _ (plan : PlanOf) (m : MemoryOf) (old : List WantedOf) (w : Walked Output
   pub answer-shut : w.out.blocked ≡ [] → is_open (tree (plan_program plan) (lookup m)) ≡ false
   answer-shut none =
       let front : front_over m (plan_program plan) ≡ [] = front-none m (plan_program plan) (thinned-none (lacking plan m) (sym same-loads ∙ ap (λ bs. thinned [] (loads_of bs)) none)) in
-      ap is_open (lookup-tree plan m can.loaders) ∙ closed-tree m (plan_program plan) front
+      ap is_open (lookup-tree plan m can.enough) ∙ closed-tree m (plan_program plan) front
 
   -- nothing waits, and this is the answer
   pub answer-done : (answer : AnsweredOf) → w.out.blocked ≡ [] → (is_open (tree (plan_program plan) (lookup m)) ≡ false → answer ≡ completed (tree (plan_program plan) (lookup m)))
@@ -85,5 +85,5 @@ module _ (plan : PlanOf) (m : MemoryOf) (old : List WantedOf) (w : Walked Output
   answer-done answer none h =
       let front : front_over m (plan_program plan) ≡ [] = front-none m (plan_program plan) (thinned-none (lacking plan m) (sym same-loads ∙ ap (λ bs. thinned [] (loads_of bs)) none)) in
       let shut : is_open (tree (plan_program plan) (reader m)) ≡ false = closed-tree m (plan_program plan) front in
-      let same = lookup-tree plan m can.loaders in
+      let same = lookup-tree plan m can.enough in
       (front, exec-whole (plan_program plan) (reader m) shut ∙ ap (λ x. Some x) (sym (h (ap is_open same ∙ shut) ∙ ap completed same)))

@@ -1,18 +1,15 @@
 -- What an evaluation answers, and what it adds to the wants.
-use Rattle.std.specs.Prelude.{◌≡◌, ◌≢◌, ◌≤◌, List, [], ◌++◌, length, nat_lt, Some, None, String, string_bytes, if◌then◌else◌}
-use Rattle.std.specs.declared.alloc.Global.{Global}
+use Rattle.std.specs.Prelude.{◌≡◌, ◌≢◌, List, [], ◌++◌, length, nat_lt, Some, None, if◌then◌else◌}
 use Rattle.load_memory.specs.Pairs.{MemoryOf, look}
 use Rattle.load_queue.specs.Wanted.{WantedOf}
-use Rattle.execution.specs.Loads.{Load, Reader, read, Extends}
+use Rattle.execution.specs.Loads.{Load, Reader, read}
 use Rattle.execution.specs.Program.{Program, needs}
-use Rattle.execution.specs.Completion.{AnsweredOf}
 use Rattle.execution.specs.Executed.{exec}
-use Rattle.execution.specs.Front.{front, missing, wanting, modes_wanted}
+use Rattle.execution.specs.Front.{front, missing, wanting}
 use Rattle.futures.specs.declared.task.Poll.{Poll}
 use Rattle.futures.specs.declared.task.Poll.TheVariants.{Ready, Pending}
-use Rattle.gq_check.specs.Plans.{PlanOf}
 use Rattle.gq_resolve.specs.declared.answered.Answered.{Answered}
-use Rattle.gq_resolve.specs.Answered.{answered_of, answer_text}
+use Rattle.gq_resolve.specs.Answered.{answered_of}
 
 -- what a memory says of a load
 abbrev pub reader : MemoryOf → Reader
@@ -35,24 +32,9 @@ abbrev pub IsEvaluated : List WantedOf → List WantedOf → Program → MemoryO
 IsEvaluated old new p m (Ready a) = (front_over m p ≡ []) × (exec p (reader m) ≡ Some (answered_of a)) × (new ≡ old)
 IsEvaluated old new p m Pending = (front_over m p ≢ []) × (new ≡ wanting old (front_over m p))
 
--- the same with the text of the execution
-abbrev pub IsWritten : List WantedOf → List WantedOf → Program → MemoryOf → Poll (String Global) → Type 0
-IsWritten old new p m (Ready text) = (front_over m p ≡ []) × (answered : AnsweredOf) × (exec p (reader m) ≡ Some answered) × (string_bytes text ≡ answer_text answered) × (new ≡ old)
-IsWritten old new p m Pending = (front_over m p ≢ []) × (new ≡ wanting old (front_over m p))
-
 -- The wants are the old ones, to which the first of these loads were added.
 pub record AddsPart (old new : List WantedOf) (loads : List Load) : Type 0 where
   pub part : List Load
   pub left : List Load
   pub split : loads ≡ part ++ left
   pub added : new ≡ wanting old part
-
--- a plan can be evaluated over the memory, and what it lacks can be wanted
-pub record CanEvaluate (plan : PlanOf) (m : MemoryOf) (wants : List WantedOf) : Type 0 where
-  pub loaders : length plan.bindings.loaders ≤ length m.modes
-  pub modes : modes_wanted wants ≡ m.modes
-
--- the second memory has each pair of the first, and the same loaders
-pub record GrowsTo (m n : MemoryOf) : Type 0 where
-  pub modes : n.modes ≡ m.modes
-  pub pairs : Extends (look m.pairs) (look n.pairs)

@@ -16,3 +16,5 @@ pub mod Suspended
 pub mod Built
 pub mod Limited
 pub mod Bounded
+pub mod Within
+pub mod PlanLoads

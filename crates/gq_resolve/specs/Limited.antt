@@ -1,15 +1,11 @@
 -- *Limited text*: an answer whose text is longer than a limit is refused.
-use Rattle.std.specs.Prelude.{◌≡◌, ◌≢◌, ◌<◌, ℕ, Option, false, List, [], length, nat_lt, if◌then◌else◌, Some, None, String, string_bytes, codes}
+use Rattle.std.specs.Prelude.{◌≡◌, ◌<◌, ℕ, Option, false, List, [], length, nat_lt, if◌then◌else◌, Some, None, String, string_bytes, codes}
 use Rattle.std.specs.declared.alloc.Global.{Global}
 use Rattle.answer_json.specs.Answer.{json_text, refusal_json}
 use Rattle.execution.specs.Completion.{AnsweredOf, is_open}
-use Rattle.execution.specs.Executed.{exec, completed}
-use Rattle.execution.specs.Front.{wanting}
-use Rattle.execution.specs.Program.{Program, tree}
-use Rattle.futures.specs.declared.task.Poll.{Poll}
-use Rattle.futures.specs.declared.task.Poll.TheVariants.{Ready, Pending}
+use Rattle.execution.specs.Executed.{completed}
+use Rattle.execution.specs.Program.{tree}
 use Rattle.load_memory.specs.Pairs.{MemoryOf}
-use Rattle.load_queue.specs.Wanted.{WantedOf}
 use Rattle.gq_check.specs.Plans.{PlanOf}
 use Rattle.plan_program.specs.PlanPrograms.{plan_program}
 use Rattle.gq_resolve.specs.Answered.{answer_text}
@@ -17,7 +13,7 @@ use Rattle.gq_resolve.specs.Suspended.{IsResponse, Advanced}
 use Rattle.gq_resolve.specs.declared.advance.Walked.{Walked}
 use Rattle.gq_resolve.specs.declared.answered.Answered.{Answered}
 use Rattle.gq_resolve.specs.declared.output.Output.{Output}
-use Rattle.gq_resolve.specs.Evaluated.{reader, front_over, lookup}
+use Rattle.gq_resolve.specs.Evaluated.{lookup}
 
 -- the refusal of an answer that is too long
 abbrev pub too_long_text : List ℕ
@@ -30,12 +26,6 @@ limited_text most text = if nat_lt most (length text) then too_long_text else te
 -- the text of an answer that may have so many bytes
 abbrev pub limited_answer : ℕ → AnsweredOf → List ℕ
 limited_answer most answered = limited_text most (answer_text answered)
-
--- Ready with the limited text of the execution exactly where the front is empty, and the wants are as they were. Else the front
--- was added.
-abbrev pub IsLimited : ℕ → List WantedOf → List WantedOf → Program → MemoryOf → Poll (String Global) → Type 0
-IsLimited most old new p m (Ready text) = (front_over m p ≡ []) × (answered : AnsweredOf) × (exec p (reader m) ≡ Some answered) × (string_bytes text ≡ limited_answer most answered) × (new ≡ old)
-IsLimited most old new p m Pending = (front_over m p ≢ []) × (new ≡ wanting old (front_over m p))
 
 -- the answer of a plan of which nothing is missing, or none where its text is longer
 abbrev pub RespondsWithin : ℕ → PlanOf → MemoryOf → Option Answered → Type 0

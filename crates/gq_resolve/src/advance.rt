@@ -1,10 +1,10 @@
 //! Executions that begin, stop where a load is missing, and go on.
 
-ghost use Rattle.std.specs.Prelude.{IfOk, OnErr};
+ghost use Rattle.std.specs.Prelude.{length, IfOk, OnErr};
 ghost use Rattle.load_memory.specs.Pairs.{MemoryOf};
+ghost use Rattle.execution.specs.Executes.{CanExecute, GrowsTo};
 ghost use Rattle.gq_check.specs.Plans.{plan_of};
-ghost use Rattle.gq_resolve.specs.Evaluated.{AddsPart, CanEvaluate};
-ghost use Rattle.execution.specs.Executes.{GrowsTo};
+ghost use Rattle.gq_resolve.specs.Evaluated.{AddsPart};
 ghost use Rattle.gq_resolve.specs.Suspended.{plan_on, IsRooted, WaitsBelow, GoesOverTour, IsResponse, MayGoOn, Advanced, FitsStopped, FitsTour, IsAdvanced, lacking};
 ghost use Rattle.gq_resolve.specs.Limited.{RespondsWithin};
 
@@ -183,7 +183,7 @@ pub fn advance<'p>(
     stopped: &mut Option<Stopped<'p>>,
     wants: &mut Wants,
 ) -> Result<Option<Walked<'p, Output>>, NoMemory>
-    requires { CanEvaluate (plan_on tour.now) tour.now.memory.now wants.old }
+    requires { CanExecute (length (plan_on tour.now).bindings.loaders) tour.now.memory.now wants.old }
     ensures ok { FitsTour tour.now stopped.old → IfOk result (IsAdvanced wants.old wants.new (plan_on tour.now) tour.now.memory.now) }
     ensures err { FitsTour tour.now stopped.old → OnErr result (AddsPart wants.old wants.new (lacking (plan_on tour.now) tour.now.memory.now)) }
     ensures grown { (m : MemoryOf) → FitsTour tour.now stopped.old → GrowsTo tour.now.memory.now m → FitsStopped (plan_on tour.now) m stopped.new }

@@ -1,9 +1,10 @@
 //! Evaluation from scratch.
 
-ghost use Rattle.std.specs.Prelude.{IfOk, OnErr};
+ghost use Rattle.std.specs.Prelude.{length, IfOk, OnErr};
+ghost use Rattle.execution.specs.Executes.{CanExecute};
 ghost use Rattle.gq_check.specs.Plans.{plan_of};
 ghost use Rattle.plan_program.specs.PlanPrograms.{plan_program};
-ghost use Rattle.gq_resolve.specs.Evaluated.{missing_over, IsEvaluated, AddsPart, CanEvaluate};
+ghost use Rattle.gq_resolve.specs.Evaluated.{missing_over, IsEvaluated, AddsPart};
 
 use crate::answered::Answered;
 use crate::resolve::Resolve;
@@ -28,7 +29,7 @@ pub fn evaluate(
     memory: &Memory,
     wants: &mut Wants,
 ) -> Result<Poll<Answered>, NoMemory>
-    requires { CanEvaluate (plan_of plan.now) memory.now wants.old }
+    requires { CanExecute (length (plan_of plan.now).bindings.loaders) memory.now wants.old }
     ensures ok { IfOk result (λ polled. IsEvaluated wants.old wants.new (plan_program (plan_of plan.now)) memory.now polled) }
     ensures err { OnErr result (AddsPart wants.old wants.new (missing_over memory.now (plan_program (plan_of plan.now)))) }
 {

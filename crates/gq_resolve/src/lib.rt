@@ -4,6 +4,9 @@
 //! The layer above may rely on this: [`evaluate`] is ready with the execution of the plan's program
 //! (`plan_program::specs::PlanPrograms`) where nothing is missing, and else adds the front to the wants. A [`RootState`] does
 //! the same over a memory that grows from poll to poll, to a response or to its text, and keeps what is done.
+//!
+//! A plan is what can be executed (`execution::Execute`), and so is a plan with a limit ([`Limited`]): an answer whose text is
+//! longer is refused, and all else is as for the plan. So whatever answers what can be executed answers plans.
 #![tactic(auto)]
 
 mod advance;
@@ -19,7 +22,9 @@ mod kept;
 mod keys;
 mod level;
 mod limited;
+pub mod limited_plan;
 mod output;
+mod plan;
 mod positions;
 mod reading;
 mod resolve;
@@ -32,6 +37,7 @@ mod wanting;
 pub use answered::{Answered, answer_text};
 pub use completing::{Completed, complete};
 pub use evaluation::evaluate;
+pub use limited_plan::Limited;
 pub use load_memory::NoMemory;
 pub use plan_program::{ArgFault, Args, Group, arguments_of, collect};
 pub use resolve::Resolve;

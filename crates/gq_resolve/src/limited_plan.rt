@@ -5,10 +5,10 @@ ghost use Rattle.gq_resolve.specs.Suspended.{plan_in, FitsMemory};
 ghost use Rattle.plan_program.specs.PlanPrograms.{plan_program};
 ghost use Rattle.gq_resolve.specs.Within.{text_within};
 
-use crate::execute::Execute;
+use crate::root_state::RootState;
+use execution::Execute;
 use futures::task::Poll;
 use gq_check::Plan;
-use gq_resolve::RootState;
 use load_memory::{Memory, NoMemory};
 use load_queue::Wants;
 use std::alloc::Global;
@@ -22,9 +22,7 @@ pub struct Limited<'p, 'a> {
     pub most: Option<usize>,
 }
 
-impl<'p, 'a: 'p> Execute<'p> for Limited<'p, 'a> {
-    type Progress = RootState<'p, 'a>;
-
+impl<'p, 'a: 'p> Execute<'p, RootState<'p, 'a>> for Limited<'p, 'a> {
     ghost program = { λ limited. plan_program (plan_of limited.plan.now) };
 
     ghost text_of = { λ limited. text_within limited.most };

@@ -5,17 +5,15 @@ ghost use Rattle.gq_resolve.specs.Answered.{answer_text};
 ghost use Rattle.gq_resolve.specs.Suspended.{plan_in, FitsMemory};
 ghost use Rattle.plan_program.specs.PlanPrograms.{plan_program};
 
-use crate::execute::Execute;
+use crate::root_state::RootState;
+use execution::Execute;
 use futures::task::Poll;
 use gq_check::Plan;
-use gq_resolve::RootState;
 use load_memory::{Memory, NoMemory};
 use load_queue::Wants;
 use std::alloc::Global;
 
-impl<'p, 'a: 'p> Execute<'p> for Plan<'a> {
-    type Progress = RootState<'p, 'a>;
-
+impl<'p, 'a: 'p> Execute<'p, RootState<'p, 'a>> for Plan<'a> {
     ghost program = { λ plan. plan_program (plan_of plan) };
 
     ghost text_of = { λ _. answer_text };

@@ -1,11 +1,11 @@
 //! Executions that are polled until they answer.
 
-ghost use Rattle.std.specs.Prelude.{◌≡◌, IfOk, OnErr};
+ghost use Rattle.std.specs.Prelude.{◌≡◌, length, IfOk, OnErr};
 ghost use Rattle.load_memory.specs.Pairs.{MemoryOf};
 ghost use Rattle.execution.specs.Program.{Program};
+ghost use Rattle.execution.specs.Executes.{CanExecute, GrowsTo};
 ghost use Rattle.gq_check.specs.Plans.{PlanOf};
-ghost use Rattle.gq_resolve.specs.Evaluated.{missing_over, IsEvaluated, AddsPart, CanEvaluate};
-ghost use Rattle.execution.specs.Executes.{GrowsTo};
+ghost use Rattle.gq_resolve.specs.Evaluated.{missing_over, IsEvaluated, AddsPart};
 
 use crate::answered::Answered;
 use futures::task::Poll;
@@ -40,7 +40,7 @@ pub trait Resolve {
         memory: &Memory,
         wants: &mut Wants,
     ) -> Result<Poll<Answered>, NoMemory>
-        requires { CanEvaluate (plan self.old) memory.now wants.old }
+        requires { CanExecute (length (plan self.old).bindings.loaders) memory.now wants.old }
         ensures ok { fits self.old memory.now → IfOk result (λ polled. IsEvaluated wants.old wants.new (program self.old) memory.now polled) }
         ensures err { fits self.old memory.now → OnErr result (AddsPart wants.old wants.new (missing_over memory.now (program self.old))) }
         ensures grown { (m : MemoryOf) → fits self.old memory.now → GrowsTo memory.now m → fits self.new m }

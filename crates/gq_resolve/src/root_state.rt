@@ -1,12 +1,13 @@
 //! The execution of a plan that is polled, and goes on where it stopped.
 
-ghost use Rattle.std.specs.Prelude.{◌≡◌, IfOk, OnErr};
+ghost use Rattle.std.specs.Prelude.{◌≡◌, length, IfOk, OnErr};
 ghost use Rattle.load_memory.specs.Pairs.{MemoryOf};
+ghost use Rattle.execution.specs.Executes.{CanExecute, IsExecuted, GrowsTo};
 ghost use Rattle.gq_check.specs.Plans.{plan_of};
 ghost use Rattle.plan_program.specs.PlanPrograms.{plan_program};
-ghost use Rattle.gq_resolve.specs.Evaluated.{missing_over, IsWritten, AddsPart, CanEvaluate};
-ghost use Rattle.execution.specs.Executes.{GrowsTo};
-ghost use Rattle.gq_resolve.specs.Limited.{IsLimited};
+ghost use Rattle.gq_resolve.specs.Answered.{answer_text};
+ghost use Rattle.gq_resolve.specs.Evaluated.{missing_over, AddsPart};
+ghost use Rattle.gq_resolve.specs.Limited.{limited_answer};
 ghost use Rattle.gq_resolve.specs.Suspended.{plan_in, FitsMemory};
 
 use crate::advance::{Stopped, Walked, advance, responded};
@@ -57,9 +58,9 @@ impl<'p, 'a> RootState<'p, 'a> {
         memory: &Memory,
         wants: &mut Wants,
     ) -> Result<Poll<String>, NoMemory>
-        requires { CanEvaluate (plan_in self.old) memory.now wants.old }
+        requires { CanExecute (length (plan_in self.old).bindings.loaders) memory.now wants.old }
         ensures ok { FitsMemory self.old memory.now
-            → IfOk result (λ polled. IsWritten wants.old wants.new (plan_program (plan_in self.old)) memory.now polled) }
+            → IfOk result (IsExecuted answer_text wants.old wants.new (plan_program (plan_in self.old)) memory.now) }
         ensures err { FitsMemory self.old memory.now → OnErr result (AddsPart wants.old wants.new (missing_over memory.now (plan_program (plan_in self.old)))) }
         ensures grown { (m : MemoryOf) → FitsMemory self.old memory.now → GrowsTo memory.now m → FitsMemory self.new m }
         ensures same_plan { plan_in self.new ≡ plan_in self.old }
@@ -95,9 +96,9 @@ impl<'p, 'a> RootState<'p, 'a> {
         wants: &mut Wants,
         most: usize,
     ) -> Result<Poll<String>, NoMemory>
-        requires { CanEvaluate (plan_in self.old) memory.now wants.old }
-        ensures ok { FitsMemory self.old memory.now → IfOk result (λ polled.
-            IsLimited most wants.old wants.new (plan_program (plan_in self.old)) memory.now polled) }
+        requires { CanExecute (length (plan_in self.old).bindings.loaders) memory.now wants.old }
+        ensures ok { FitsMemory self.old memory.now
+            → IfOk result (IsExecuted (limited_answer most) wants.old wants.new (plan_program (plan_in self.old)) memory.now) }
         ensures err { FitsMemory self.old memory.now → OnErr result (AddsPart wants.old wants.new (missing_over memory.now (plan_program (plan_in self.old)))) }
         ensures grown { (m : MemoryOf) → FitsMemory self.old memory.now → GrowsTo memory.now m → FitsMemory self.new m }
         ensures same_plan { plan_in self.new ≡ plan_in self.old }

@@ -83,7 +83,7 @@ pub fn received<S: Asks, R: Wait + AllocGlobal>(
 }
 
 /// Runs the orders of the round that is out, and has their replies stored.
-pub fn run_round<'p, P: Execute<'p>, S: Asks, R: Wait + AllocGlobal>(
+pub fn run_round<'p, E: Drop, P: Execute<'p, E>, S: Asks, R: Wait + AllocGlobal>(
     rt: &R,
     run: &mut Run<'p, P>,
     session: &mut Session<S>,
@@ -116,7 +116,7 @@ fn note(orders: &[Order], noted: &mut Noted<'_>) -> Result<(), AllocError> {
 }
 
 /// Answers a plan in rounds by hand, and notes what each asks.
-pub fn answered<'p, P: Execute<'p>, S: Asks, R: Wait + AllocGlobal>(
+pub fn answered<'p, E: Drop, P: Execute<'p, E>, S: Asks, R: Wait + AllocGlobal>(
     rt: &R,
     plan: &'p P,
     session: &mut Session<S>,
@@ -139,7 +139,7 @@ pub fn answered<'p, P: Execute<'p>, S: Asks, R: Wait + AllocGlobal>(
 }
 
 /// Begins a run, and drops it while its first round is out: its stages before that round and after it.
-fn dropped<'p, P: Execute<'p>, S: Asks>(
+fn dropped<'p, E: Drop, P: Execute<'p, E>, S: Asks>(
     session: &mut Session<S>,
     plan: &'p P,
 ) -> Result<(Stage, Stage)>

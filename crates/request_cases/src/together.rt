@@ -50,7 +50,7 @@ fn answer_in_turn<S: Asks>(session: &mut Session<S>, plans: &[Plan<'_>]) -> Resu
 }
 
 /// Answers in rounds by hand.
-fn answered<'p, P: Execute<'p>, S: Asks, R: Wait + AllocGlobal>(
+fn answered<'p, E: Drop, P: Execute<'p, E>, S: Asks, R: Wait + AllocGlobal>(
     rt: &R,
     plans: &'p [P],
     session: &mut Session<S>,

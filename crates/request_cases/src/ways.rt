@@ -111,11 +111,13 @@ fn resumed<R: Wait + AllocGlobal>(
 }
 
 /// An executor gives what the contract of `answer` says.
-fn blocked_on<'p, S: Asks + Drop, P: Execute<'p> + Drop, R: Wait + RandomSource + AllocGlobal>(
-    rt: &R,
-    session: Session<S>,
-    plan: &'p P,
-) -> io::Result<(Session<S>, Result<Answer, NoMemory>)>
+fn blocked_on<
+    'p,
+    S: Asks + Drop,
+    E: Drop,
+    P: Execute<'p, E> + Drop,
+    R: Wait + RandomSource + AllocGlobal,
+>(rt: &R, session: Session<S>, plan: &'p P) -> io::Result<(Session<S>, Result<Answer, NoMemory>)>
     requires { P.loaders plan.now ≤ length session.loaders }
     ensures { IfOk result (λ out. Answers S.may_tell (state_of session) (state_of out.0) (P.program plan.now) (P.text_of plan.now) out.1) }
 {

@@ -62,7 +62,7 @@ fn all_shown(alloc: Global, shelf: &Shelf, receipts: &[Receipt]) -> Result<Strin
 }
 
 /// Runs the first round of a plan by workers, and tells what the receipts show.
-fn first_round<'p, S: Source, P: Execute<'p>, R: Threads + Wait + AllocGlobal + Sync>(
+fn first_round<'p, S: Source, E: Drop, P: Execute<'p, E>, R: Threads + Wait + AllocGlobal + Sync>(
     rt: &R,
     session: &mut Session<S>,
     plan: &'p P,

@@ -5,7 +5,7 @@ use Rattle.gq_check.specs.Plans.{PlanOf, plan_of}
 use Rattle.plan_program.specs.PlanPrograms.{plan_program}
 use Rattle.load_rounds.specs.SharedRounds.{RequestOf, request_of, requests}
 use Rattle.gq_resolve.specs.Within.{text_within}
-use Rattle.load_rounds.specs.declared.limited.Limited.{Limited}
+use Rattle.gq_resolve.specs.declared.limited_plan.Limited.{Limited}
 use Rattle.world_answers.specs.Planning.{AreLimited, plan_and_limit}
 
 map-twice : {A B C : Type 0} (g : B → C) (f : A → B) (xs : List A) → map g (map f xs) ≡ map (λ x. g (f x)) xs

@@ -7,7 +7,7 @@ use Rattle.gq_bindings.specs.Tree as bindings
 use Rattle.gq_check.specs.Plans.{PlanOf, plan_of}
 use Rattle.load_queue.specs.Loaders.{LoaderOf}
 use Rattle.load_rounds.specs.Sessions.{SessionOf}
-use Rattle.load_rounds.specs.declared.limited.Limited.{Limited}
+use Rattle.gq_resolve.specs.declared.limited_plan.Limited.{Limited}
 use Rattle.world.specs.Worlds.{WorldOf}
 use Rattle.world_answers.specs.Planning.{AreLimited}
 use Rattle.world_answers.specs.Sessions.{loader_over, loaders_over, session_over}

@@ -17,7 +17,7 @@ use Rattle.load_rounds.specs.KeyByKey.{CompareAlike, item_over}
 use Rattle.load_rounds.specs.Sessions.{SessionOf, StateOf, state_of, session_modes}
 use Rattle.load_rounds.specs.SharedRounds.{ReportOf, requests, AreTexts, SharedHeadline}
 use Rattle.gq_resolve.specs.Within.{text_within}
-use Rattle.load_rounds.specs.declared.limited.Limited.{Limited}
+use Rattle.gq_resolve.specs.declared.limited_plan.Limited.{Limited}
 use Rattle.load_rounds.proofs.KeyByKey.{rounds-weaker, may-report, respects-alike}
 use Rattle.load_rounds.proofs.SharedKeyByKey.{report-directly}
 use Rattle.world_answers.specs.Answers.{item_at, may_tell, IsDirectText}

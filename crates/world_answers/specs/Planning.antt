@@ -1,7 +1,7 @@
 -- What a line asks over a world.
 use Rattle.std.specs.Prelude.{◌≡◌, ℕ, List, [], ◌∷◌, ◌++◌, map, Option, Some, None, option_map, string_bytes}
 use Rattle.gq_check.specs.Plans.{PlanOf, plan_of}
-use Rattle.load_rounds.specs.declared.limited.Limited.{Limited}
+use Rattle.gq_resolve.specs.declared.limited_plan.Limited.{Limited}
 use Rattle.request_line.specs.Requests.{RequestOf, IsRequest, AreRequests}
 use Rattle.world.specs.Worlds.{WorldOf}
 use Rattle.world_answers.specs.Answers.{IsPlanned, IsRefusal}

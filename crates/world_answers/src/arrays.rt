@@ -13,8 +13,9 @@ use crate::run::Served;
 use crate::service::Service;
 use csv_source::CsvSource;
 use gq_check::Plan;
+use gq_resolve::Limited;
 use line_serving::NoMemory;
-use load_rounds::{Answer, Limited};
+use load_rounds::Answer;
 use std::alloc::{AllocError, Global};
 
 /// What the values of an array ask.

@@ -10,7 +10,7 @@ use Rattle.load_rounds.specs.Sessions.{SessionOf, StateOf}
 use Rattle.load_rounds.specs.SharedRounds.{RequestOf, requests}
 use Rattle.gq_resolve.specs.Within.{text_within}
 use Rattle.load_rounds.specs.declared.answer.Answer.{Answer}
-use Rattle.load_rounds.specs.declared.limited.Limited.{Limited}
+use Rattle.gq_resolve.specs.declared.limited_plan.Limited.{Limited}
 
 abbrev pub limited_program : Limited → Program
 limited_program l = plan_program (plan_of l.plan.now)

@@ -9,8 +9,9 @@ ghost use Rattle.batch_workers.specs.Workers.{IsBadCount};
 ghost use Rattle.world_workers.specs.Within.{limited_requests, HasLoadersFor, IsAnsweredWithin};
 
 use batch_workers::{WorkFault, execute_all_with, execute_with};
+use gq_resolve::Limited;
 use load_queue::Source;
-use load_rounds::{Answer, Limited, Session};
+use load_rounds::{Answer, Session};
 use std::sync::Wait;
 use std::thread::Threads;
 

@@ -1,16 +1,17 @@
-use Rattle.std.proofs.Common.{IfOk, OnErr, sym, subst}
+use Rattle.std.proofs.Common.{IfOk, OnErr, length, sym, subst}
 use Rattle.load_memory.specs.Pairs.{MemoryOf}
+use Rattle.execution.specs.Executes.{CanExecute}
 use Rattle.execution.specs.Program.{needs}
 use Rattle.execution.specs.Front.{missing}
 use Rattle.futures.specs.declared.task.Poll.{Poll}
 use Rattle.gq_check.specs.Plans.{PlanOf}
 use Rattle.plan_program.specs.PlanPrograms.{plan_program}
-use Rattle.gq_resolve.specs.Evaluated.{reader, IsEvaluated, AddsPart, CanEvaluate}
+use Rattle.gq_resolve.specs.Evaluated.{reader, IsEvaluated, AddsPart}
 use Rattle.gq_resolve.specs.declared.answered.Answered.{Answered}
 use Rattle.gq_resolve.proofs.evaluation.evaluate.Goals as goal
 
 pub poll-requires : goal.poll-requires
-poll-requires c = subst (λ (plan : PlanOf). CanEvaluate plan c.args.memory.now c.args.wants.now) (sym c.new-state.ensures.plan) c.requires
+poll-requires c = subst (λ (plan : PlanOf). CanExecute (length plan.bindings.loaders) c.args.memory.now c.args.wants.now) (sym c.new-state.ensures.plan) c.requires
 
 pub returns-clause-ok : goal.returns-clause-ok
 returns-clause-ok c =

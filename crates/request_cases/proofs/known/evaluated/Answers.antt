@@ -18,7 +18,7 @@ pending-length old new p m polled h e =
     ap length (subst P e h).1 ∙ wanting-length old (front_over m p)
 
 pub evaluate-requires : goal.evaluate-requires
-evaluate-requires c = record { loaders = c.requires; modes = ap modes_wanted c.in_ok-wants.ensures ∙ fresh-modes c.args.memory.now.modes }
+evaluate-requires c = record { enough = c.requires; lined_up = ap modes_wanted c.in_ok-wants.ensures ∙ fresh-modes c.args.memory.now.modes }
 
 pub wanted-requires : goal.wanted-requires
 wanted-requires c =

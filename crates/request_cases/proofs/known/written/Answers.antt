@@ -3,26 +3,28 @@ use Rattle.load_memory.specs.Pairs.{MemoryOf}
 use Rattle.load_queue.specs.Wanted.{WantedOf}
 use Rattle.execution.specs.Program.{Program}
 use Rattle.execution.specs.Front.{modes_wanted}
+use Rattle.execution.specs.Executes.{CanExecute, IsExecuted}
 use Rattle.futures.specs.declared.task.Poll.{Poll}
 use Rattle.futures.specs.declared.task.Poll.TheVariants.{Pending}
 use Rattle.gq_check.specs.Plans.{PlanOf}
 use Rattle.plan_program.specs.PlanPrograms.{plan_program}
 use Rattle.std.specs.Prelude.{String}
 use Rattle.std.specs.declared.alloc.Global.{Global}
-use Rattle.gq_resolve.specs.Evaluated.{IsWritten, CanEvaluate, front_over}
+use Rattle.gq_resolve.specs.Answered.{answer_text}
+use Rattle.gq_resolve.specs.Evaluated.{front_over}
 use Rattle.gq_resolve.specs.Suspended.{plan_in}
 use Rattle.request_cases.proofs.Fresh.{fresh-modes, fresh-length, wanting-length}
 use Rattle.request_cases.proofs.known.written.Goals as goal
 
-pending-length : (old new : List WantedOf) (p : Program) (m : MemoryOf) (polled : Poll (String Global)) → IsWritten old new p m polled → polled ≡ Pending → length new ≡ length old
+pending-length : (old new : List WantedOf) (p : Program) (m : MemoryOf) (polled : Poll (String Global)) → IsExecuted answer_text old new p m polled → polled ≡ Pending → length new ≡ length old
 pending-length old new p m polled h e =
-    let P : Poll (String Global) → Type 0 = λ q. IsWritten old new p m q in
+    let P : Poll (String Global) → Type 0 = λ q. IsExecuted answer_text old new p m q in
     ap length (subst P e h).1 ∙ wanting-length old (front_over m p)
 
 pub poll_text-requires : goal.poll_text-requires
-poll_text-requires c = subst (λ (plan : PlanOf). CanEvaluate plan c.args.memory.now c.in_ok-wants.wants) (sym c.new-state.ensures.plan) (record {
-  loaders = c.requires;
-  modes = ap modes_wanted c.in_ok-wants.ensures ∙ fresh-modes c.args.memory.now.modes;
+poll_text-requires c = subst (λ (plan : PlanOf). CanExecute (length plan.bindings.loaders) c.args.memory.now c.in_ok-wants.wants) (sym c.new-state.ensures.plan) (record {
+  enough = c.requires;
+  lined_up = ap modes_wanted c.in_ok-wants.ensures ∙ fresh-modes c.args.memory.now.modes;
 })
 
 pub wanted-requires : goal.wanted-requires

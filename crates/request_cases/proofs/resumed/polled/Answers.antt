@@ -18,7 +18,7 @@ pending-length old new p m polled h e =
     ap length (subst P e h).1 ∙ wanting-length old (front_over m p)
 
 pub poll-requires : goal.poll-requires
-poll-requires c = record { loaders = c.requires.loaders; modes = ap modes_wanted c.in_ok-wants.ensures ∙ fresh-modes c.args.memory.now.modes }
+poll-requires c = record { enough = c.requires.loaders; lined_up = ap modes_wanted c.in_ok-wants.ensures ∙ fresh-modes c.args.memory.now.modes }
 
 pub wanted-requires : goal.wanted-requires
 wanted-requires c =

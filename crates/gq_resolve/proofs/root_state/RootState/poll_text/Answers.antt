@@ -18,7 +18,7 @@ returns-then-out-clause-ok c = λ fits.
     let far = rw c.in-Some.is at (c.in_ok-walked.ensures.ok fits) in
     let answer : AnsweredOf = completed (tree (plan_program plan) (lookup m)) in
     let done = answer-done plan m c.args.wants.now _ c.requires far.0 answer far.1 (λ shut. refl) in
-    (done.0, answer, done.1, c.into_text.ensures ∙ ap print (far.0.written (record { plain = c.if-out.true; whole = far.1 })), far.2)
+    (done.0, record { answered = answer; executed = done.1; report = c.into_text.ensures ∙ ap print (far.0.written (record { plain = c.if-out.true; whole = far.1 })) }, far.2)
 
 pub returns-clause-ok : goal.returns-clause-ok
 returns-clause-ok c = λ fits.
@@ -27,4 +27,4 @@ returns-clause-ok c = λ fits.
     let far = rw c.in-Some.is at (c.in_ok-walked.ensures.ok fits) in
     let answer : AnsweredOf = answered_of c.in_ok-answered.answered in
     let done = answer-done plan m c.args.wants.now _ c.requires far.0 answer far.1 (c.in_ok-answered.ensures far.0.goes_on.rooted) in
-    (done.0, answer, done.1, c.in_ok-answer_text.ensures, far.2)
+    (done.0, record { answered = answer; executed = done.1; report = c.in_ok-answer_text.ensures }, far.2)

@@ -16,4 +16,5 @@ returns-in_ok-limited_answer-in-Some-clause-ok c = λ fits.
     let far = rw c.in-Some.is at (c.in_ok-walked.ensures.ok fits) in
     let answer : AnsweredOf = completed (tree (plan_program plan) (lookup m)) in
     let done = answer-done plan m c.args.wants.now _ c.requires far.0 answer far.1 (λ shut. refl) in
-    (done.0, answer, done.1, c.in_ok-limited_answer-in-Some.ensures (far.0, far.1) (answer-shut plan m c.args.wants.now _ c.requires far.0 far.1), far.2)
+    let text = c.in_ok-limited_answer-in-Some.ensures (far.0, far.1) (answer-shut plan m c.args.wants.now _ c.requires far.0 far.1) in
+    (done.0, record { answered = answer; executed = done.1; report = text }, far.2)
