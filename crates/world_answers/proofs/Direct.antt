@@ -69,7 +69,7 @@ module _ (w : WorldOf) (s : SessionOf SourceOf) (over : IsOver w s) where
 
   pub over-items : item_over item_of_key s.loaders ≡ item_at w.sources
   over-items = fun_ext (λ loader. fun_ext (λ key.
-    sym (made-items s.loaders loader key) ∙ ap (λ ls. item_over item_of_key ls loader key) over.loaders ∙ items-over w.limit w.bindings.loaders w.sources loader key over.each))
+      sym (made-items s.loaders loader key) ∙ ap (λ ls. item_over item_of_key ls loader key) over.loaders ∙ items-over w.limit w.bindings.loaders w.sources loader key over.each))
 
   pub over-held : (modes : List KeyMode) (item : ℕ → KeyOf → ItemOf) → HoldsItems modes item (without_failed (look s.pairs))
   over-held modes item =
