@@ -6,7 +6,7 @@ use crate::worlds::{plan_of, refusal, world_of};
 use crate::{calls, collected, known, lines, together, ways};
 use anyhow::{Context, Result, bail};
 use case_files::{Question, Reporter};
-use std::alloc::{AllocGlobal, Global};
+use std::alloc::{AllocError, AllocGlobal, Global};
 use std::random::RandomSource;
 use std::sync::Wait;
 use world::World;
@@ -103,15 +103,24 @@ fn missing(alloc: Global, world: &World, manner: &Manner<'_>, text: &str) -> Res
     known::report(alloc, world, &plan, session.memory())
 }
 
+/// Adds a piece with a number in place of each `#`.
+fn push_numbered(text: &mut String, piece: &str, number: u32) -> Result<(), AllocError> {
+    let mut parts = piece.split('#');
+    text.push_str(parts.next().unwrap_or(""))?;
+    for part in parts {
+        write!(text, "{number}{part}")?;
+    }
+    Ok(())
+}
+
 /// The text in which each piece between `«` and `»` stands so many times, with its number from 0 in place of `#`.
 fn numbered(alloc: Global, text: &str, count: u32) -> Result<String> {
     let mut pieces = text.split('«');
     let mut report = String::from_str(alloc, pieces.next().unwrap_or(""))?;
     for written in pieces {
         let (piece, rest) = written.split_once('»').context("no »")?;
-        let (before, behind) = piece.split_once('#').context("no #")?;
         for number in 0..count {
-            write!(report, "{before}{number}{behind}")?;
+            push_numbered(&mut report, piece, number)?;
         }
         report.push_str(rest)?;
     }
