@@ -1,16 +1,12 @@
 //! Answers with workers: round after round until nothing is missing, each by workers over a shelf of its own.
 ghost use Rattle.std.specs.Prelude.{◌≡◌, ◌<◌, ◌≤◌, ◌↔◌, length, IfOk, OnOk, OnErr, IsErrOf};
-ghost use Rattle.gq_check.specs.Plans.{plan_of};
-ghost use Rattle.plan_program.specs.PlanPrograms.{plan_program};
-ghost use Rattle.gq_resolve.specs.Answered.{answer_text};
 ghost use Rattle.execution.specs.Executes.{GrowsTo};
 ghost use Rattle.load_rounds.specs.Sessions.{state_of, memory_of};
 ghost use Rattle.load_rounds.specs.Headline.{HasHeadline};
-ghost use Rattle.load_rounds.specs.Runs.{run_of, orders_in};
+ghost use Rattle.load_rounds.specs.Runs.{run_of, orders_in, IsAsked};
 ghost use Rattle.batch_workers.specs.Workers.{IsBadCount, Stops, StoresRound, LosesRound};
 
 use crate::fault::WorkFault;
-use gq_check::Plan;
 use load_memory::{NoMemory, Shelf};
 use load_queue::{Order, Source};
 use load_rounds::{Answer, Execute, Next, Run, Session, Stage};
@@ -28,29 +24,7 @@ use std::thread::Threads;
 /// [`BadCount`](WorkFault::BadCount) exactly if the number of workers isn't 1 to 16: nothing was asked then, and the session is
 /// as it was, failed batches too. [`NoMemory`](WorkFault::NoMemory) when out of memory: the finished rounds stay, and a round
 /// that was out is lost.
-pub fn answer_with<S: Source, R: Threads + Wait + Sync>(
-    rt: &R,
-    session: &mut Session<S>,
-    plan: &Plan<'_>,
-    workers: usize,
-) -> Result<Answer, WorkFault>
-    requires loaders { length (plan_of plan.now).bindings.loaders ≤ length session.old.loaders }
-    ensures bad_count { IsErrOf result WorkFault.BadCount ↔ IsBadCount workers }
-    ensures refused { IsErrOf result WorkFault.BadCount → session.new ≡ session.old }
-    ensures answer { IfOk result (HasHeadline S.may_answer (state_of session.old) (state_of session.new)
-        (plan_program (plan_of plan.now)) answer_text) }
-    ensures stopped { IsErrOf result WorkFault.NoMemory
-        → Stops S.may_answer session.old session.new (plan_program (plan_of plan.now)) }
-{
-    execute_with(rt, session, plan, workers)
-}
-
-/// Does what [`answer_with`] does, for whatever can be executed.
-///
-/// # Errors
-///
-/// As `answer_with`.
-pub fn execute_with<'p, S: Source, P: Execute<'p>, R: Threads + Wait + Sync>(
+pub fn answer_with<'p, S: Source, E: Drop, P: Execute<'p, E>, R: Threads + Wait + Sync>(
     rt: &R,
     session: &mut Session<S>,
     plan: &'p P,
@@ -74,7 +48,7 @@ pub fn execute_with<'p, S: Source, P: Execute<'p>, R: Threads + Wait + Sync>(
 }
 
 // Makes round after round until nothing is missing, over one execution of the plan.
-fn answered<'p, S: Source, P: Execute<'p>, R: Threads + Wait + Sync>(
+fn answered<'p, S: Source, E: Drop, P: Execute<'p, E>, R: Threads + Wait + Sync>(
     rt: &R,
     session: &mut Session<S>,
     plan: &'p P,
@@ -98,7 +72,7 @@ fn answered<'p, S: Source, P: Execute<'p>, R: Threads + Wait + Sync>(
 }
 
 // Runs the orders of the round that is out, and stores their replies.
-fn make_round<'p, S: Source, P: Execute<'p>, R: Threads + Wait + Sync>(
+fn make_round<'p, S: Source, E, P: Execute<'p, E>, R: Threads + Wait + Sync>(
     rt: &R,
     session: &mut Session<S>,
     run: &mut Run<'p, P>,
@@ -107,6 +81,7 @@ fn make_round<'p, S: Source, P: Execute<'p>, R: Threads + Wait + Sync>(
 ) -> Result<(), NoMemory>
     requires count { (0 < workers) × (workers ≤ 16) }
     requires out { run.old.stage ≡ Stage.Out }
+    requires latest { IsAsked (P.program run.old.plan) (state_of session.old) }
     requires orders { orders.items ≡ orders_in (state_of session.old) (P.program run.old.plan) }
     ensures ready { OnOk result (run.new ≡ run_of run.old.plan run.old.rounds Stage.Ready) }
     ensures made { OnOk result (StoresRound S.may_answer (P.program run.old.plan) (state_of session.old)

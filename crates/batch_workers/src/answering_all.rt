@@ -1,15 +1,12 @@
 //! Answers to several plans with workers: round after round that the plans share, each by workers over a shelf of its own.
 ghost use Rattle.std.specs.Prelude.{◌≡◌, ◌<◌, ◌≤◌, ◌↔◌, All, length, IfOk, OnOk, OnErr, IsErrOf};
-ghost use Rattle.gq_check.specs.Plans.{plan_of};
 ghost use Rattle.load_rounds.specs.Sessions.{state_of, memory_of};
-ghost use Rattle.load_rounds.specs.Runs.{orders_in};
-ghost use Rattle.load_rounds.specs.SharedRounds.{requests, joint, together, AreAnswers};
-ghost use Rattle.plan_answers.specs.Requests.{plan_requests};
+ghost use Rattle.load_rounds.specs.Runs.{orders_in, IsAsked};
+ghost use Rattle.load_rounds.specs.SharedRounds.{requests, joint, AreAnswers};
 ghost use Rattle.load_rounds.specs.SharedRuns.{FitsRun, FitsLater, GoesOnFrom};
 ghost use Rattle.batch_workers.specs.Workers.{IsBadCount, Stops, LosesShared};
 
 use crate::fault::WorkFault;
-use gq_check::Plan;
 use load_memory::{NoMemory, Shelf};
 use load_queue::{Order, Source};
 use load_rounds::{Answer, Execute, NextAll, RunAll, Session, Stage};
@@ -27,28 +24,7 @@ use std::thread::Threads;
 /// [`BadCount`](WorkFault::BadCount) exactly if the number of workers isn't 1 to 16: nothing was asked then, and the session is
 /// as it was, failed batches too. [`NoMemory`](WorkFault::NoMemory) when out of memory: the finished rounds stay, and a round
 /// that was out is lost.
-pub fn answer_all_with<S: Source, R: Threads + Wait + Sync>(
-    rt: &R,
-    session: &mut Session<S>,
-    plans: &[Plan<'_>],
-    workers: usize,
-) -> Result<Vec<Answer>, WorkFault>
-    requires loaders { All (λ plan. length (plan_of plan).bindings.loaders ≤ length session.old.loaders) plans.now }
-    ensures bad_count { IsErrOf result WorkFault.BadCount ↔ IsBadCount workers }
-    ensures refused { IsErrOf result WorkFault.BadCount → session.new ≡ session.old }
-    ensures answers { IfOk result (AreAnswers S.may_answer (state_of session.old) (state_of session.new) (plan_requests plans.now)) }
-    ensures stopped { IsErrOf result WorkFault.NoMemory
-        → Stops S.may_answer session.old session.new (together (plan_requests plans.now)) }
-{
-    execute_all_with(rt, session, plans, workers)
-}
-
-/// Does what [`answer_all_with`] does, for whatever can be executed.
-///
-/// # Errors
-///
-/// As `answer_all_with`.
-pub fn execute_all_with<'p, S: Source, P: Execute<'p>, R: Threads + Wait + Sync>(
+pub fn answer_all_with<'p, S: Source, E: Drop, P: Execute<'p, E>, R: Threads + Wait + Sync>(
     rt: &R,
     session: &mut Session<S>,
     plans: &'p [P],
@@ -71,7 +47,7 @@ pub fn execute_all_with<'p, S: Source, P: Execute<'p>, R: Threads + Wait + Sync>
 }
 
 // Makes round after round until nothing is missing for any plan.
-fn answered<'p, S: Source, P: Execute<'p>, R: Threads + Wait + Sync>(
+fn answered<'p, S: Source, E: Drop, P: Execute<'p, E>, R: Threads + Wait + Sync>(
     rt: &R,
     session: &mut Session<S>,
     plans: &'p [P],
@@ -92,7 +68,7 @@ fn answered<'p, S: Source, P: Execute<'p>, R: Threads + Wait + Sync>(
 }
 
 // Runs the orders of the round that is out, and stores their replies.
-fn make_round<'p, S: Source, E: Drop, P: Execute<'p, Progress = E>, R: Threads + Wait + Sync>(
+fn make_round<'p, S: Source, E: Drop, P: Execute<'p, E>, R: Threads + Wait + Sync>(
     rt: &R,
     session: &mut Session<S>,
     run: &mut RunAll<'p, P, E>,
@@ -101,6 +77,7 @@ fn make_round<'p, S: Source, E: Drop, P: Execute<'p, Progress = E>, R: Threads +
 ) -> Result<(), NoMemory>
     requires count { (0 < workers) × (workers ≤ 16) }
     requires out { run.old.stage ≡ Stage.Out }
+    requires latest { IsAsked (joint P.program P.text_of run.old.plans) (state_of session.old) }
     requires orders { orders.items ≡ orders_in (state_of session.old) (joint P.program P.text_of run.old.plans) }
     requires fits { FitsLater P.program P.text_of P.loaders P.fits run.old (memory_of session.old) }
     ensures ready { OnOk result (run.new ≡ record run.old { stage = Stage.Ready }) }

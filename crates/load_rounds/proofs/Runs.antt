@@ -130,6 +130,10 @@ module _ {S : Type 0} where
       let loads : List Load = front_in old p in
       ap (λ (t : StateOf S). orders_in t p) is.entered ∙ ap (λ rs. round_orders rs (front (modes_of rs) p old.memory)) (lost-rules old loads) ∙ sym is.batches
 
+  -- the session is as that round left it
+  pub round-asked : (p : Program) (old new : StateOf S) (orders : List OrderOf) → IsRound p old new orders → IsAsked p new
+  round-asked p old new orders is = record { before = old; lacks = is.lacks; entered = is.entered; counted = is.counted; numbered = is.numbered }
+
   -- and each is of one of the loaders
   pub round-below : (p : Program) (old new : StateOf S) (orders : List OrderOf) → IsRound p old new orders → All (λ (o : OrderOf). o.loader < length new.loaders) orders
   round-below p old new orders is =

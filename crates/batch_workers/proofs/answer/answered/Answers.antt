@@ -4,7 +4,7 @@ use Rattle.load_rounds.specs.Sessions.{state_of, memory_of}
 use Rattle.load_rounds.specs.Runs.{RunOf, IsRun}
 use Rattle.load_rounds.specs.declared.run.Stage.TheVariants.{Ready, Out}
 use Rattle.load_rounds.proofs.Following.{in-none}
-use Rattle.load_rounds.proofs.Runs.{between-loaders, round-orders, in-between, run-stops}
+use Rattle.load_rounds.proofs.Runs.{between-loaders, round-orders, round-asked, in-between, run-stops}
 use Rattle.load_rounds.proofs.States.{on-err}
 use Rattle.batch_workers.proofs.answer.answered.Goals as goal
 
@@ -43,7 +43,7 @@ make_round-requires g c =
     let next = rw c.in-Round.is at c.in_ok-answer.ensures.next in
     let same : c.resume.new.self.plan ≡ c.loop-progress.run.plan = ap (λ (r : RunOf _). r.plan) next.1 in
     let orders = round-orders p (state_of c.loop-progress.session) (state_of c.resume.new.session) c.in-Round.orders.items next.0 in
-    λ κs. (record { shared = c.type_bounds.sync-S.shared }, (record { shared = c.type_bounds.sync-R.shared }, ((refl, tt), (c.requires.count, (ap (λ (r : RunOf _). r.stage) next.1, rw same (sym orders))))))
+    λ κs. (record { shared = c.type_bounds.sync-S.shared }, (record { shared = c.type_bounds.sync-R.shared }, ((refl, tt), (c.requires.count, (ap (λ (r : RunOf _). r.stage) next.1, (rw same (round-asked p (state_of c.loop-progress.session) (state_of c.resume.new.session) c.in-Round.orders.items next.0), rw same (sym orders)))))))
 
 pub returns-in_err-make_round-in-Round-clause-stopped : goal.returns-in_err-make_round-in-Round-clause-stopped
 returns-in_err-make_round-in-Round-clause-stopped g c =

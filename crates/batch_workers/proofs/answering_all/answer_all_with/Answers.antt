@@ -1,5 +1,6 @@
-use Rattle.std.proofs.Common.{refl}
+use Rattle.std.proofs.Common.{refl, arith}
 use Rattle.batch_workers.proofs.answering_all.answer_all_with.Goals as goal
 
-pub execute_all_with-requires : goal.execute_all_with-requires
-execute_all_with-requires g c = λ κs. (record { shared = c.type_bounds.sync-S.shared }, (record { shared = c.type_bounds.sync-R.shared }, ((refl, tt), c.requires.loaders)))
+pub answered-requires : goal.answered-requires
+answered-requires g c =
+    λ κs. (record { shared = c.type_bounds.sync-S.shared }, (record { shared = c.type_bounds.sync-R.shared }, ((refl, tt), ((omega (arith, c.if-workers-eq0.false), c.if-workers-gt-MOST_WORKERS.false), c.requires.loaders))))

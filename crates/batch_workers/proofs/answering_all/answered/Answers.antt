@@ -8,7 +8,7 @@ use Rattle.load_rounds.specs.Runs.{IsRun}
 use Rattle.load_rounds.specs.declared.run.Stage.{Stage}
 use Rattle.load_rounds.specs.declared.run.Stage.TheVariants.{Ready}
 use Rattle.load_rounds.proofs.Following.{in-none}
-use Rattle.load_rounds.proofs.Runs.{between-loaders, round-orders, in-between, run-stops}
+use Rattle.load_rounds.proofs.Runs.{between-loaders, round-orders, round-asked, in-between, run-stops}
 use Rattle.load_rounds.proofs.States.{on-err}
 use Rattle.batch_workers.proofs.answering_all.answered.Goals as goal
 
@@ -60,7 +60,7 @@ make_round-requires g c =
     let next = rw c.in-Round.is at c.in_ok-answers.ensures.next in
     let p : Program = together (requests g.P.Execute.program g.P.Execute.text_of c.loop-run.run.plans) in
     let orders = round-orders p (state_of c.loop-run.session) (state_of c.next_round.new.session) c.in-Round.orders.items next.0 in
-    λ κs. (record { shared = c.type_bounds.sync-S.shared }, (record { shared = c.type_bounds.sync-R.shared }, ((refl, tt), (c.requires.count, (next.2, (rw c.in_ok-answers.ensures.plans (sym orders), c.in_ok-answers.ensures.fits next.2))))))
+    λ κs. (record { shared = c.type_bounds.sync-S.shared }, (record { shared = c.type_bounds.sync-R.shared }, ((refl, tt), (c.requires.count, (next.2, (rw c.in_ok-answers.ensures.plans (round-asked p (state_of c.loop-run.session) (state_of c.next_round.new.session) c.in-Round.orders.items next.0), (rw c.in_ok-answers.ensures.plans (sym orders), c.in_ok-answers.ensures.fits next.2)))))))
 
 pub returns-in_err-make_round-in-Round-clause-stopped : goal.returns-in_err-make_round-in-Round-clause-stopped
 returns-in_err-make_round-in-Round-clause-stopped g c =

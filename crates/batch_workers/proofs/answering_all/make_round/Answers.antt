@@ -33,7 +33,7 @@ take-requires g c =
     let s = state_of c.args.session.now in
     let answered = rw c.loaders.ensures at c.in_ok-receipts.ensures.answered in
     let round = received may s.loaders c.in_ok-shelf.shelf c.args.orders.items c.in_ok-receipts.receipts.items answered in
-    λ κs. ((refl, tt), (c.requires.out, (rw c.as_slice.ensures.value c.in_ok-receipts.ensures.shelved, rw (c.as_slice.ensures.value, ← c.requires.orders) round)))
+    λ κs. ((refl, tt), (c.requires.out, (c.requires.latest, (rw c.as_slice.ensures.value c.in_ok-receipts.ensures.shelved, rw (c.as_slice.ensures.value, ← c.requires.orders) round))))
 
 pub returns-clause-made : goal.returns-clause-made
 returns-clause-made g c = on-ok-too c.take.result c.take.ensures.run
