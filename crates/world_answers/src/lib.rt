@@ -4,11 +4,11 @@
 //! [`World`](world::World) (`specs/Lines.antt`). The text is a refusal, or that of direct execution, where each load is answered
 //! at once by the rows of its key (`specs/Answers.antt`): no memory, round, batch or limit of a batch changes it. With
 //! [`serve_limited`] an answer may have as many bytes as a [`Service`] says; a longer one is refused. And it was answered with
-//! the headline (`load_rounds`, `specs/Headline.antt`) in the session of the world, which [`Sessions`] gives: a new one for each
-//! line, over the world's sources, with its limit. (The code keeps one from line to line, which starts again in between.) A line
-//! that is an array has such a text for each of its values; its plans were answered with the headline of several requests, in one
-//! session (`specs/Arrays.antt`). A crate that answers plans in another way takes what a line asks from [`plan_line`], or from
-//! [`RunDocuments::plan_line`], which keeps documents by their texts and plans the same.
+//! the headline (`load_rounds`, `specs/Headline.antt`) in a session of the world, over its sources and with its limit, that was new
+//! for the line but for the counts of its orders. (The code keeps one from line to line, which starts again in between; [`Sessions`]
+//! gives the first.) A line that is an array has such a text for each of its values; its plans were answered with the headline of
+//! several requests, in one session (`specs/Arrays.antt`). A crate that answers plans in another way takes what a line asks from
+//! [`plan_line`], or from [`RunDocuments::plan_line`], which keeps documents by their texts and plans the same.
 #![tactic(auto)]
 
 mod answers;
