@@ -1,5 +1,5 @@
 -- A new session of a world is one of it, and so is one that has answered, once it starts again.
-use Rattle.std.proofs.Common.{◌≡◌, ◌∙◌, ℕ, List, [], ◌∷◌, map, length, Option, refl, ap}
+use Rattle.std.proofs.Common.{◌≡◌, ◌∙◌, ℕ, List, [], ◌∷◌, map, length, Option, Result, Ok, Err, IfOk, OnOk, refl, ap, sym, subst}
 use Rattle.csv_source.specs.Tables.{SourceOf}
 use Rattle.gq_bindings.specs.Tree as bindings
 use Rattle.load_memory.specs.Replies.{ReplyOf}
@@ -35,6 +35,10 @@ over-new w each = record {
   fresh = ap new_over (unasked-over w.limit w.bindings.loaders w.sources);
   each = each;
 }
+
+pub over-opened : {E : Type 0} (w : WorldOf) (r : Result (SessionOf SourceOf) E) → IfOk r (λ s. s ≡ session_over w) → OnOk r (length w.sources ≡ length w.bindings.loaders) → IfOk r (IsOver w)
+over-opened w (Ok s) opened each = subst (IsOver w) (sym opened) (over-new w each)
+over-opened w (Err e) opened each = tt
 
 unasked-twice : (ls : List (LoaderOf SourceOf)) → map unasked (map unasked ls) ≡ map unasked ls
 unasked-twice [] = refl
