@@ -12,9 +12,7 @@ use Rattle.load_queue.specs.Loaders.{LoaderOf, as_made}
 use Rattle.execution.specs.Rounds.{without_failed, direct, HoldsItems}
 use Rattle.gq_bindings.specs.Tree as bindings
 use Rattle.gq_check.specs.Plans.{PlanOf}
-use Rattle.gq_check.specs.Planned.{IsPlan}
 use Rattle.plan_program.specs.PlanPrograms.{plan_program}
-use Rattle.load_rounds.specs.Headline.{Headline}
 use Rattle.execution.specs.Executes.{IsTextOf}
 use Rattle.load_rounds.specs.KeyByKey.{CompareAlike, item_over}
 use Rattle.load_rounds.specs.Sessions.{SessionOf, StateOf, state_of, session_modes}

@@ -1,5 +1,5 @@
 -- A line has at most one answer.
-use Rattle.std.proofs.Common.{◌≡◌, ◌≢◌, ℕ, Bool, true, false, List, [], ◌∷◌, ◌++◌, map, Option, Some, None, codes, refl, sym, ap, subst, ◌∙◌, string_bytes}
+use Rattle.std.proofs.Common.{◌≡◌, ◌≢◌, ℕ, false, List, [], ◌∷◌, ◌++◌, map, Option, Some, None, codes, refl, sym, ap, subst, ◌∙◌, string_bytes}
 use Rattle.std.specs.List.{AllZip}
 use Rattle.std.specs.Option.{option_map, option_and_then}
 use Rattle.std.specs.Prelude.{Result, Ok, Err}
@@ -9,12 +9,11 @@ use Rattle.serde_json.specs.Read.{read}
 use Rattle.text_place.specs.declared.place.Place.{Place}
 use Rattle.gq_parser.specs.declared.fault.ParseFault.{ParseFault}
 use Rattle.gq_parser.specs.declared.fault.ParseFault.TheVariants as parse
-use Rattle.gq_parser.specs.Fault.{IsDocumentOf, IsParseFault, place_of_parse_fault}
-use Rattle.gq_parser.specs.Tree.{Operation, Fragment, Document}
+use Rattle.gq_parser.specs.Fault.{IsDocumentOf, place_of_parse_fault}
+use Rattle.gq_parser.specs.Tree.{Fragment, Document}
 use Rattle.schema_syntax.specs.Tree.{Definition}
 use Rattle.gq_bindings.specs.Tree.{BindingsOf}
 use Rattle.gq_schema.specs.Types.{tree_of}
-use Rattle.variable_values.specs.Variables.{VariableOf}
 use Rattle.gq_check.specs.declared.fault.CheckFault.{CheckFault}
 use Rattle.gq_check.specs.declared.fault.CheckFault.TheVariants as check
 use Rattle.gq_check.specs.declared.fault.PrepareFault.{PrepareFault}
@@ -23,7 +22,6 @@ use Rattle.gq_check.specs.Plans.{PlanOf}
 use Rattle.gq_check.specs.Prepared as prepared
 use Rattle.gq_check.specs.Texts.{section_of, title_of, check_message, check_place, prepare_message}
 use Rattle.gq_check.specs.Verdict.{FaultOf, Breaks, TooComplex, TooDeep, NotServed, IsVerdict, IsCheckFault, fault_of}
-use Rattle.execution.specs.Completion.{AnsweredOf}
 use Rattle.request_line.specs.Requests.{RequestOf, IsRequest, AreRequests, asked, asked_each}
 use Rattle.gq_resolve.specs.Within.{text_within}
 use Rattle.world.specs.declared.request.RequestFault.{RequestFault}

@@ -1,5 +1,5 @@
 -- Plans that are answered together, over a session of a world: each text is that of direct execution.
-use Rattle.std.proofs.Common.{◌≡◌, ℕ, List, [], ◌∷◌, map, subst}
+use Rattle.std.proofs.Common.{ℕ, List, [], ◌∷◌, map, subst}
 use Rattle.std.specs.List.{AllZip}
 use Rattle.load_memory.specs.Keys.{KeyOf}
 use Rattle.load_memory.specs.Outcomes.{ItemOf}

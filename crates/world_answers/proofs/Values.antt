@@ -1,14 +1,12 @@
 -- What the values of an array ask, one by one, and its answer.
-use Rattle.std.proofs.Common.{◌≡◌, ◌<◌, ◌+◌, ℕ, zero, suc, List, [], ◌∷◌, ◌++◌, map, length, get_or, take, drop, Option, Some, None, All, refl, sym, ap, subst, ◌∙◌, arith, append_assoc, string_bytes}
+use Rattle.std.proofs.Common.{◌≡◌, ◌<◌, ℕ, zero, suc, List, [], ◌∷◌, ◌++◌, map, length, get_or, take, drop, Option, Some, None, All, refl, sym, ap, subst, ◌∙◌, arith, append_assoc, string_bytes}
 use Rattle.std.specs.List.{AllZip, flat_map, join_by}
 use Rattle.std.specs.Option.{option_map}
-use Rattle.std.proofs.lemmas.List.Elements.{All-nil, All-cons, All-head, All-tail}
-use Rattle.schema_syntax.specs.Tree.{Definition}
+use Rattle.std.proofs.lemmas.List.Elements.{All-nil, All-cons}
 use Rattle.gq_check.specs.Planned.{IsPlan}
-use Rattle.gq_check.specs.Plans.{PlanOf, plan_of}
+use Rattle.gq_check.specs.Plans.{PlanOf}
 use Rattle.gq_check.specs.Prepared.{prepared}
 use Rattle.gq_check.specs.Verdict.{IsValid}
-use Rattle.gq_bindings.specs.Tree.{BindingsOf}
 use Rattle.csv_source.specs.Tables.{SourceOf}
 use Rattle.load_rounds.specs.Sessions.{StateOf}
 use Rattle.load_rounds.specs.SharedRounds.{ReportOf, report_of}

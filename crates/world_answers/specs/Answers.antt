@@ -1,5 +1,5 @@
 -- What answers a request over a world.
-use Rattle.std.specs.Prelude.{◌≡◌, ℕ, Bool, false, List, [], map, Option, Some, None, codes, slice_get, string_bytes}
+use Rattle.std.specs.Prelude.{◌≡◌, ℕ, false, List, [], map, Option, Some, None, codes, slice_get, string_bytes}
 use Rattle.text_place.specs.declared.place.Place.{Place}
 use Rattle.serde_json.specs.Data.{Data, null}
 use Rattle.gq_schema.specs.Types.{tree_of}

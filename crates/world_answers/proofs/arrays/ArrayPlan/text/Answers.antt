@@ -1,4 +1,4 @@
-use Rattle.std.proofs.Common.{◌≡◌, ◌++◌, ◌∙◌, map, ap, sym, codes, string_bytes, List, ℕ, Bor, append_assoc}
+use Rattle.std.proofs.Common.{◌≡◌, ◌++◌, ◌∙◌, ap, codes, string_bytes, List, ℕ, Bor, append_assoc}
 use Rattle.std.specs.List.{join_by}
 use Rattle.world_answers.specs.Arrays.{array_text}
 use Rattle.world_answers.proofs.Values.{joined}

@@ -1,4 +1,4 @@
-use Rattle.std.proofs.Common.{◌≡◌, ◌<◌, ◌++◌, ◌∷◌, [], ◌∙◌, Some, None, length, get_or, drop, suc, map, option_map, sym, ap, arith, add-one, List, ℕ, Bor, string_bytes}
+use Rattle.std.proofs.Common.{◌≡◌, ◌<◌, ◌++◌, ◌∷◌, [], ◌∙◌, length, get_or, drop, suc, map, option_map, sym, ap, arith, add-one, List, ℕ, Bor, string_bytes}
 use Rattle.std.proofs.lemmas.List.{map-append}
 use Rattle.load_rounds.specs.declared.answer.Answer.{Answer}
 use Rattle.world_answers.specs.Planning.{in_places}

@@ -1,4 +1,4 @@
-use Rattle.std.proofs.Common.{◌≡◌, ◌∙◌, IfOk, IfSome, sym, subst}
+use Rattle.std.proofs.Common.{◌∙◌, IfSome, sym, subst}
 use Rattle.world_answers.specs.Sessions.{IsOver}
 use Rattle.world_answers.proofs.Restarting.{over-opened}
 use Rattle.world_answers.proofs.kept_session.KeptSession.open.Goals as goal
