@@ -207,7 +207,7 @@ module _ (s : ServiceOf) (has : HasSources s.world) where
       let v = values-there values said in
       let a = plans-answered s has v.plans (plans-bound s.world values v.refusals v.plans v.are) in
       let text = array_text (in_places v.refusals (map (λ (t : ReportOf). t.text) a.1)) in
-      (text, array-answered s values v.refusals v.plans a.1 a.0 text has.each v.are a.2 refl)
+      (text, array-answered s values v.refusals v.plans a.1 a.0 text v.are a.2 refl)
 
 module _ (s : ServiceOf) (has : HasSources s.world) (line : List ℕ) where
   abbrev Answered : Type 0
