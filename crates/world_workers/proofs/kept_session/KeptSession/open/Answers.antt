@@ -1,0 +1,13 @@
+use Rattle.std.proofs.Common.{◌≡◌, ◌∙◌, IfOk, IfSome, sym, subst}
+use Rattle.world_answers.specs.Sessions.{IsOver}
+use Rattle.world_answers.proofs.Restarting.{over-opened}
+use Rattle.world_workers.proofs.kept_session.KeptSession.open.Goals as goal
+use Rattle.world_workers.proofs.kept_session.KeptSession.open.Goals.{in-Some, in-None}
+
+-- src/kept_session.rt:62:5
+pub returns : goal.returns
+returns g c = elim c.match-take.branch [
+    in-Some w ↦ rw w.result-is (subst (λ v. IsOver v w.in-Some.session) (sym c.requires)
+      (subst (λ o. IfSome o (IsOver g.B.Served.world)) (sym c.take.ensures.value ∙ w.in-Some.is) c.self.invariant))
+  | in-None w ↦ rw w.result-is (over-opened c.args.world.now w.gated_session.result w.gated_session.ensures.opened w.gated_session.ensures.each)
+  ]
