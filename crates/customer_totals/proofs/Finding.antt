@@ -18,35 +18,6 @@ use Rattle.customer_totals.specs.Found.{FoundOf, lacking, number, fault, found_o
 use Rattle.customer_totals.specs.declared.totals.Found.{Found}
 use Rattle.customer_totals.proofs.Executing.{ready, waits}
 
--- ---- parts together
-
-pub both-assoc : (f g h : FoundOf) → both (both f g) h ≡ both f (both g h)
-both-assoc lacking g h = refl
-both-assoc (number m) lacking h = refl
-both-assoc (number m) (number n) lacking = refl
-both-assoc (number m) (number n) (number k) = ap number (add_assoc m n k)
-both-assoc (number m) (number n) (fault text) = refl
-both-assoc (number m) (fault text) lacking = refl
-both-assoc (number m) (fault text) (number k) = refl
-both-assoc (number m) (fault text) (fault other) = refl
-both-assoc (fault text) lacking h = refl
-both-assoc (fault text) (number n) lacking = refl
-both-assoc (fault text) (number n) (number k) = refl
-both-assoc (fault text) (number n) (fault other) = refl
-both-assoc (fault text) (fault other) lacking = refl
-both-assoc (fault text) (fault other) (number k) = refl
-both-assoc (fault text) (fault other) (fault third) = refl
-
-pub none-both : (f : FoundOf) → both (number 0) f ≡ f
-none-both lacking = refl
-none-both (number n) = ap number (zero-add n)
-none-both (fault text) = refl
-
-pub both-none : (f : FoundOf) → both f (number 0) ≡ f
-both-none lacking = refl
-both-none (number n) = ap number (add-zero n)
-both-none (fault text) = refl
-
 -- ---- trees whose positions are of nullable types
 
 abbrev mutual

@@ -2,6 +2,5 @@ pub mod Executing
 pub mod Looking
 pub mod Numbers
 pub mod Finding
-pub mod Walking
 pub mod Loading
 pub mod Elsewhere
