@@ -16,7 +16,7 @@ use Rattle.load_rounds.specs.Calls.{reader_of}
 use Rattle.customer_totals.specs.Totals.{sum_in, sum_below, first_message, total_text}
 use Rattle.customer_totals.specs.Found.{FoundOf, lacking, number, fault, found_of, both, found_in, found_below, IsFound}
 use Rattle.customer_totals.specs.declared.totals.Found.{Found}
-use Rattle.customer_totals.proofs.Executing.{ready, waits}
+use Rattle.execution.proofs.Executing.{ready, waits}
 
 -- ---- trees whose positions are of nullable types
 

@@ -1,4 +1,3 @@
-pub mod Executing
 pub mod Looking
 pub mod Numbers
 pub mod Finding
