@@ -36,9 +36,10 @@ use Rattle.load_rounds.proofs.Numbering.{orders-below, orders-loads}
 use Rattle.world.specs.Worlds.{WorldOf, IsLimit, HasSources}
 use Rattle.world_answers.specs.Answers.{may_tell, IsAnsweredAnew}
 use Rattle.world_answers.specs.Services.{ServiceOf}
-use Rattle.world_answers.specs.Sessions.{loader_over, loaders_over, session_over}
-use Rattle.world_answers.proofs.Direct.{compare-alike, nothing-held, answer-direct}
+use Rattle.world_answers.specs.Sessions.{loader_over, loaders_over, session_over, IsOver}
+use Rattle.world_answers.proofs.Direct.{over-alike, over-held, answer-direct}
 use Rattle.world_answers.proofs.Loading.{length-over}
+use Rattle.world_answers.proofs.Restarting.{over-new}
 use Rattle.world_answers.proofs.Together.{respects-over, rounds-by-key}
 use Rattle.answer_laws.proofs.Logs.{chain-more}
 
@@ -106,6 +107,9 @@ module _ (w : WorldOf) (has : HasSources w) where
   abbrev old : StateOf SourceOf
   old = state_of (session_over w)
 
+  over : IsOver w (session_over w)
+  over = over-new w has.each
+
   abbrev item : ℕ → KeyOf → ItemOf
   item = item_over item_of_key ls
 
@@ -113,7 +117,7 @@ module _ (w : WorldOf) (has : HasSources w) where
   limited = limited-over w.limit (fits-limit w.limit has.fits) w.bindings.loaders w.sources
 
   respects : RespectsCacheKeys (session_modes old) item
-  respects = respects-over ls (compare-alike w.limit w.bindings.loaders w.sources)
+  respects = respects-over ls (over-alike w (session_over w) over)
 
   -- what needs the loaders of the bindings has them
   pub over-loaders : (p : Program) → HasLoaders (length w.bindings.loaders) p → HasLoaders (length (rules_of old)) p
@@ -127,7 +131,7 @@ module _ (w : WorldOf) (has : HasSources w) where
     few : (cur : StateOf SourceOf) (n : ℕ) → InRounds may_tell old cur p n → n ≤ chain p (direct item)
     few cur n is =
         let at : HoldsItems (session_modes old) item cur.memory =
-        rounds-held item (rules_of old) p respects (without_failed old.memory) is.log cur.memory (nothing-held w.limit (session_modes old) item) (rounds-by-key ls (rules_of old) p (without_failed old.memory) is.log cur.memory is.made.rounds) in
+        rounds-held item (rules_of old) p respects (without_failed old.memory) is.log cur.memory (over-held w (session_over w) over (session_modes old) item) (rounds-by-key ls (rules_of old) p (without_failed old.memory) is.log cur.memory is.made.rounds) in
         let more : AnswersMore (read (session_modes old) cur.memory) (direct item) = λ load o f. ap (λ (x : OutcomeOf). Some x) (sym (at load.loader load.key o f)) in
         let a : length is.log ≤ chain p (read (session_modes old) cur.memory) = rounds-chain (may_at may_tell ls) (rules_of old) p (without_failed old.memory) is.log cur.memory limited own is.made.rounds in
         let b : chain p (read (session_modes old) cur.memory) ≤ chain p (direct item) = chain-more p (read (session_modes old) cur.memory) (direct item) more in
@@ -191,8 +195,10 @@ module _ (s : ServiceOf) (plan : PlanOf) (has : HasSources s.world) (bound : pla
   plan-answered valid =
       let d = rounds-end w has p (over-loaders w has p (plan-within w plan bound)) in (
         text_over text_of p d.last,
-        answer-direct s d.last plan (text_over text_of p d.last) d.rounds has.each (record {
+        answer-direct s d.last plan (text_over text_of p d.last) d.rounds (record {
           valid = valid;
+          begun = session_over w;
+          over = over-new w has.each;
           headline = in-all may_tell (state_of (session_over w)) d.last p d.rounds (length plan.bindings.loaders) text_of (text_over text_of p d.last) d.is (limited w has) (plan-loads plan) enough d.none (text-reported text_of p d.last d.none);
         }),
       )

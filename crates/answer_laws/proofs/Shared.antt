@@ -17,12 +17,14 @@ use Rattle.plan_program.specs.PlanPrograms.{plan_program}
 use Rattle.execution.specs.Executes.{IsTextOf}
 use Rattle.load_rounds.specs.Sessions.{StateOf, state_of, rules_of, session_modes}
 use Rattle.load_rounds.specs.SharedRounds.{RequestOf, ReportOf, requests, items_from, together, greatest, AreShared}
+use Rattle.load_rounds.proofs.Stepping.{made-recorded}
 use Rattle.gq_resolve.specs.Within.{text_within}
 use Rattle.world.specs.Worlds.{WorldOf, HasSources}
 use Rattle.world_answers.specs.Answers.{may_tell}
 use Rattle.world_answers.specs.Arrays.{AnswersTogether}
 use Rattle.world_answers.specs.Services.{ServiceOf}
 use Rattle.world_answers.specs.Sessions.{loaders_over, session_over}
+use Rattle.world_answers.proofs.Restarting.{over-new}
 use Rattle.answer_laws.proofs.Answered.{limited, over-loaders, Done, rounds-end, text_over, text-reported, plan-within}
 
 own-most : (rules : List RuleOf) (p : Program) (M : Memory) (log : List (List ReplyOf)) → own_rounds rules p M log ≤ length log
@@ -115,12 +117,17 @@ module _ (s : ServiceOf) (has : HasSources s.world) where
       end.last,
       all_reports all,
       record {
-        log = log;
-        made = end.is.made;
-        complete = ap (λ ms. front ms whole end.last.memory) (sym same) ∙ end.none;
-        answers = each-shared 0 all (λ p b. b);
-        pairs = λ pair there. answered-in (may_at may_tell old.loaders) (rules_of old) whole first log end.last.memory pair.loader pair.key pair.outcome end.is.made.rounds there;
-        once = asked-once (may_at may_tell old.loaders) (rules_of old) whole (limited w has) first log end.last.memory end.is.made.rounds;
-        longest = longest (length log) refl;
+        begun = session_over w;
+        over = over-new w has.each;
+        headline = record {
+          log = log;
+          made = end.is.made;
+          recorded = made-recorded may_tell old end.last whole log end.is.made;
+          complete = ap (λ ms. front ms whole end.last.memory) (sym same) ∙ end.none;
+          answers = each-shared 0 all (λ p b. b);
+          pairs = λ pair there. answered-in (may_at may_tell old.loaders) (rules_of old) whole first log end.last.memory pair.loader pair.key pair.outcome end.is.made.rounds there;
+          once = asked-once (may_at may_tell old.loaders) (rules_of old) whole (limited w has) first log end.last.memory end.is.made.rounds;
+          longest = longest (length log) refl;
+        };
       },
     )

@@ -44,6 +44,7 @@ fn report_of_table(alloc: Global, asked: &Question, text: &str) -> Result<String
         "by an index" => sources::by_index_report(alloc, asked.file(0)?, text),
         "all" => sources::all_report(alloc, asked.file(0)?, text),
         "by filter too" => sources::filter_report(alloc, asked.file(0)?, text),
+        "by filter in so many rows" => sources::many_rows_report(alloc, text),
         _ => report_of_lines(alloc, asked, text),
     }
 }

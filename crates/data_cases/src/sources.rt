@@ -175,6 +175,20 @@ fn filtered(alloc: Global, sheet: &Sheet, asked: &Lookup<'_>) -> Result<String, 
     Ok(report)
 }
 
+/// What is reported of a table of so many rows, which are numbered from 0 and have half their number beside it, as `5: half exact: n of 2`.
+pub fn many_rows_report(alloc: Global, text: &str) -> Result<String> {
+    let (count, asked) = text.split_once(": ").context("no number of rows")?;
+    let count: u32 = count.parse()?;
+    let mut table = String::from_str(alloc, "n,half\n")?;
+    for number in 0..count {
+        write!(table, "{number},{}\n", number / 2)?;
+    }
+    if asked.starts_with("n,half ") {
+        return by_two_report(alloc, &table, asked);
+    }
+    filter_report(alloc, &table, asked)
+}
+
 /// What a source gives of the first column that goes by the second: the real one and a plain filter have to agree.
 pub fn filter_report(alloc: Global, table: &str, text: &str) -> Result<String> {
     let table = Table::read(alloc, table.as_bytes())?;

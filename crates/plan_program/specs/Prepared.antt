@@ -20,7 +20,7 @@ use Rattle.plan_program.specs.declared.prepared.Prepared.{Prepared}
 use Rattle.gq_check.specs.Plans.{PlanOf}
 use Rattle.plan_program.specs.Arguments.{ValueOf}
 use Rattle.plan_program.specs.Seen.{fields_seen}
-use Rattle.plan_program.specs.FieldValues.{PartFrom, fixed_part, column_part, KeyFrom, fixed, of_column, of_pair, ChildrenOf, ValueFrom, known, cell, first_row, all_rows, each_row, joined_rows, PreparedOf, position_of, bound_asked}
+use Rattle.plan_program.specs.FieldValues.{PartFrom, fixed_part, column_part, KeyFrom, fixed, of_column, of_pair, ChildrenOf, ValueFrom, with_key, known, cell, first_row, all_rows, each_row, joined_rows, PreparedOf, position_of, bound_asked}
 
 abbrev pub leaf_value_seen : rust-leaf_value.LeafValue → LeafValue
 leaf_value_seen (leaf_value.Text t) = Value (Text (string_bytes t))
@@ -51,6 +51,10 @@ value_from_seen (value.First loader k b) = first_row loader (key_from_seen k) (c
 value_from_seen (value.All loader k b) = all_rows loader (key_from_seen k) (children_seen (arc_value b))
 value_from_seen (value.Each loader ks b) = each_row loader (keys_seen ks.items) (children_seen (arc_value b))
 value_from_seen (value.Joined loader k steps b) = joined_rows loader (key_from_seen k) (map step_of steps.now) (children_seen (arc_value b))
+
+-- what a key asks for, where there is one
+abbrev pub by_key : Option rust-key.KeyFrom → (KeyFrom → ValueFrom) → ValueFrom
+by_key key asked = with_key (option_map key_from_seen key) asked
 
 -- what a binding asks for
 abbrev pub bound_by : PlanOf → TypeTree → ChildrenOf → List ValueOf → Binding → ValueFrom

@@ -10,10 +10,10 @@ ghost use Rattle.gq_bindings.specs.Seen.{part_of, key_of as source_of, step_of, 
 ghost use Rattle.load_memory.specs.Keys.{key_of};
 ghost use Rattle.gq_check.specs.Plans.{plan_of};
 ghost use Rattle.plan_program.specs.Arguments.{arguments_of};
-ghost use Rattle.plan_program.specs.FieldValues.{item_type, text_of_input, key_of_input, input_named, key_if, part_from, key_from, keys_of, have_loaders, IsLoadedBy, each_asked, children_of, asked_by, position_of, known, prepared, all_prepared};
+ghost use Rattle.plan_program.specs.FieldValues.{item_type, text_of_input, key_of_input, input_named, key_if, part_from, key_from, keys_of, have_loaders, IsLoadedBy, first_row, all_rows, each_asked, joined_rows, children_of, asked_by, position_of, known, prepared, all_prepared};
 ghost use Rattle.execution.specs.Program.{Null};
 ghost use Rattle.plan_program.specs.Seen.{field_seen, fields_seen, group_of, groups_of, values_of};
-ghost use Rattle.plan_program.specs.Prepared.{bound_by, part_from_seen, key_from_seen, keys_seen, children_seen, value_from_seen, prepared_seen, all_prepared_seen};
+ghost use Rattle.plan_program.specs.Prepared.{bound_by, by_key, part_from_seen, key_from_seen, keys_seen, children_seen, value_from_seen, prepared_seen, all_prepared_seen};
 
 use crate::arguments::{ArgFault, Args, arguments_of};
 use crate::group::Group;
@@ -126,6 +126,66 @@ fn keys_of(alloc: Global, inputs: &Vec<Input>) -> Result<Vec<Option<Key>>, Alloc
     Ok(keys)
 }
 
+// The first row of a key.
+fn first_row<'p>(
+    alloc: Global,
+    loader: usize,
+    key: Option<KeyFrom<'p>>,
+    children: Children<'p>,
+) -> Result<ValueFrom<'p>, AllocError>
+    ensures { IfOk result (λ a. value_from_seen a ≡ by_key key.entry (λ k. first_row loader k (children_seen children.entry))) }
+{
+    match key {
+        Some(key) => Ok(ValueFrom::First {
+            loader,
+            key,
+            children: Arc::new(alloc, children)?,
+        }),
+        None => Ok(ValueFrom::Known(LeafValue::Null)),
+    }
+}
+
+// All rows of a key.
+fn all_rows<'p>(
+    alloc: Global,
+    loader: usize,
+    key: Option<KeyFrom<'p>>,
+    children: Children<'p>,
+) -> Result<ValueFrom<'p>, AllocError>
+    ensures { IfOk result (λ a. value_from_seen a ≡ by_key key.entry (λ k. all_rows loader k (children_seen children.entry))) }
+{
+    match key {
+        Some(key) => Ok(ValueFrom::All {
+            loader,
+            key,
+            children: Arc::new(alloc, children)?,
+        }),
+        None => Ok(ValueFrom::Known(LeafValue::Null)),
+    }
+}
+
+// The rows of a key that the steps of `via` join.
+fn joined_rows<'p>(
+    alloc: Global,
+    loader: usize,
+    key: Option<KeyFrom<'p>>,
+    steps: &'p [Step],
+    children: Children<'p>,
+) -> Result<ValueFrom<'p>, AllocError>
+    ensures { IfOk result (λ a. value_from_seen a
+        ≡ by_key key.entry (λ k. joined_rows loader k (map step_of steps.now) (children_seen children.entry))) }
+{
+    match key {
+        Some(key) => Ok(ValueFrom::Joined {
+            loader,
+            key,
+            steps,
+            children: Arc::new(alloc, children)?,
+        }),
+        None => Ok(ValueFrom::Known(LeafValue::Null)),
+    }
+}
+
 // `each`.
 fn each_asked<'p>(
     alloc: Global,
@@ -189,54 +249,34 @@ fn bound_asked<'p>(
     ensures { IfOk result (λ a. value_from_seen a
         ≡ bound_by (plan_of plan.now) (type_of ty.now) (children_seen children.entry) (values_of args.now) binding.now) }
 {
-    let null = ValueFrom::Known(LeafValue::Null);
-    Ok(match binding {
-        Binding::Column(column) => ValueFrom::Cell {
+    match binding {
+        Binding::Column(column) => Ok(ValueFrom::Cell {
             column: column.as_str(),
             ty,
-        },
-        Binding::One { loader, key } => match key_of_load(alloc, plan, args, *loader, key)? {
-            Some(key) => ValueFrom::First {
-                loader: *loader,
-                key,
-                children: Arc::new(alloc, children)?,
-            },
-            None => null,
-        },
-        Binding::Many { loader, key } => match key_of_load(alloc, plan, args, *loader, key)? {
-            Some(key) => ValueFrom::All {
-                loader: *loader,
-                key,
-                children: Arc::new(alloc, children)?,
-            },
-            None => null,
-        },
+        }),
+        Binding::One { loader, key } => {
+            let key = key_of_load(alloc, plan, args, *loader, key)?;
+            first_row(alloc, *loader, key, children)
+        }
+        Binding::Many { loader, key } => {
+            let key = key_of_load(alloc, plan, args, *loader, key)?;
+            all_rows(alloc, *loader, key, children)
+        }
         Binding::Each { loader, argument } => {
             if *loader >= plan.loaders() {
-                return Ok(null);
+                return Ok(ValueFrom::Known(LeafValue::Null));
             }
-            each_asked(
-                alloc,
-                *loader,
-                children,
-                input_named(args, argument.as_str()),
-            )?
+            let input = input_named(args, argument.as_str());
+            each_asked(alloc, *loader, children, input)
         }
         Binding::Via { loader, key, steps } => {
             if !have_loaders(steps, plan.loaders()) {
-                return Ok(null);
+                return Ok(ValueFrom::Known(LeafValue::Null));
             }
-            match key_of_load(alloc, plan, args, *loader, key)? {
-                Some(key) => ValueFrom::Joined {
-                    loader: *loader,
-                    key,
-                    steps: steps.as_slice(),
-                    children: Arc::new(alloc, children)?,
-                },
-                None => null,
-            }
+            let key = key_of_load(alloc, plan, args, *loader, key)?;
+            joined_rows(alloc, *loader, key, steps.as_slice(), children)
         }
-    })
+    }
 }
 
 // Whether a `!` ends the type of the items, or of the one that it is where it is no list.

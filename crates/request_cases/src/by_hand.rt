@@ -8,7 +8,7 @@ ghost use Rattle.execution.specs.Rounds.{may_at, AreReplies};
 ghost use Rattle.execution.specs.Executes.{GrowsTo};
 ghost use Rattle.load_rounds.specs.Sessions.{state_of, memory_of};
 ghost use Rattle.load_rounds.specs.Headline.{HasHeadline};
-ghost use Rattle.load_rounds.specs.Runs.{AreReceived, RunsOnFrom, orders_in, run_of};
+ghost use Rattle.load_rounds.specs.Runs.{AreReceived, IsAsked, RunsOnFrom, orders_in, run_of};
 ghost use Rattle.load_rounds.specs.declared.run.Stage.TheVariants.{Ready, Out};
 
 use crate::logs::push_batch;
@@ -90,6 +90,7 @@ pub fn run_round<'p, E: Drop, P: Execute<'p, E>, S: Asks, R: Wait + AllocGlobal>
     orders: Vec<Order>,
 ) -> Result<()>
     requires out { run.old.stage ≡ Out }
+    requires latest { IsAsked (P.program run.old.plan) (state_of session.old) }
     requires batches { orders.items ≡ orders_in (state_of session.old) (P.program run.old.plan) }
     requires below { All (λ (o : OrderOf). o.loader < length session.old.loaders) orders.items }
     ensures ready { OnOk result (run.new ≡ run_of run.old.plan run.old.rounds Ready) }

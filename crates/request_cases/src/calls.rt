@@ -128,6 +128,15 @@ fn clear(alloc: Global, session: &mut Asking<'_>, loader: usize, key: &str) -> R
     Ok(done(alloc, session.clear(loader, &key))?)
 }
 
+/// Has a session start again.
+fn restart(alloc: Global, session: &mut Asking<'_>) -> Result<String, AllocError> {
+    let came = match session.restart() {
+        Ok(()) => Ok(true),
+        Err(_) => Err(SessionFault::NoMemory),
+    };
+    done(alloc, came)
+}
+
 /// Makes a call on a loader, as `load userById 1`.
 fn call_loader(alloc: Global, session: &mut Asking<'_>, call: &str, words: &str) -> Result<String> {
     let (name, rest) = words.split_once(' ').unwrap_or((words, ""));
@@ -163,13 +172,15 @@ fn tell(alloc: Global, world: &World, session: &mut Asking<'_>, line: &str) -> R
             let plan = plan_of(alloc, world, words)?.ok().context("no plan")?;
             abandoned(alloc, session, &plan)
         }
+        "restart" => Ok(restart(alloc, session)?),
         "known" => Ok(format!(in alloc; "{}", session.memory().len())?),
         "asked" => Ok(asked(alloc, session)?),
         _ => call_loader(alloc, session, call, words),
     }
 }
 
-/// What each call of a new session tells, on a line of its own. At last each source has to have been asked once for each batch.
+/// What each call of a new session tells, on a line of its own. At last each source has to have been asked once for each order that was
+/// run.
 pub fn report(alloc: Global, world: &World, manner: &Manner<'_>, text: &str) -> Result<String> {
     let counters = counters(alloc, world)?;
     let mut session = session(alloc, world, &counters, manner)?;

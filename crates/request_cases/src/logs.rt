@@ -72,19 +72,18 @@ pub fn asked(alloc: Global, session: &Session<CountingSource<'_>>) -> Result<Str
     Ok(text)
 }
 
-/// How many batches of a loader were asked and stored.
-fn stored(loader: &Loader<CountingSource<'_>>) -> u64 {
-    let mut stored = 0_u64;
+/// How many orders of a loader were run: all that were ever made, but for those that its log has as lost.
+fn run_orders(loader: &Loader<CountingSource<'_>>) -> u64 {
+    let mut run = loader.orders();
     for batch in loader.log() {
-        if batch.stored {
-            stored = stored.saturating_add(1);
+        if !batch.stored {
+            run = run.saturating_sub(1);
         }
     }
-    stored
+    run
 }
 
-/// How often each source was asked, if it was asked. That has to be once for each batch that was stored, where no memory was
-/// wanting.
+/// How often each source was asked, if it was asked. That has to be once for each order that was run, where no memory was wanting.
 pub fn counted(
     alloc: Global,
     session: &Session<CountingSource<'_>>,
@@ -95,10 +94,10 @@ pub fn counted(
     for (number, loader) in session.loaders().iter().enumerate() {
         let calls = counters.get(number).context("no counter")?;
         let calls = calls.load(Ordering::SeqCst);
-        let batches = stored(loader);
+        let orders = run_orders(loader);
         let name = loader.name();
-        if is_whole && calls != batches {
-            bail!("{name} was asked {calls} times for {batches} batches");
+        if is_whole && calls != orders {
+            bail!("{name} was asked {calls} times for {orders} orders");
         }
         if calls != 0 {
             text.push_str(if text.is_empty() { "" } else { ", " })?;

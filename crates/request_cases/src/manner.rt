@@ -12,6 +12,8 @@ pub enum Deed {
     LacksMemory,
     /// It gives so many items, whatever it is asked.
     Gives(usize),
+    /// It gives each key a row whose name tells how often it was asked by then.
+    Renames,
 }
 
 /// At most how many keys a batch has, the key that each source has a fault of, the key with which each source fails the first time
@@ -24,11 +26,12 @@ pub struct Manner<'a> {
     deeds: Vec<(&'a str, Deed)>,
 }
 
-/// What `fails`, `lacks memory` and `gives 1 item` stand for.
+/// What `fails`, `lacks memory`, `renames` and `gives 1 item` stand for.
 fn deed_of(words: &str) -> Result<Deed> {
     match words {
         "fails" => Ok(Deed::Fails),
         "lacks memory" => Ok(Deed::LacksMemory),
+        "renames" => Ok(Deed::Renames),
         _ => {
             let count = words.strip_prefix("gives ").context("no such source")?;
             let (count, _) = count.split_once(' ').context("no items")?;

@@ -34,12 +34,28 @@ impl<R: Wait + RandomSource + AllocGlobal> Reporter for Requests<'_, R> {
             None => (asked.words.as_str(), Manner::plain(alloc)),
         };
         let world = world_of(alloc, asked, manner.limit)?;
-        match question {
-            "session" => calls::report(alloc, &world, &manner, text),
-            "lines" => lines::report(alloc, &world, text),
-            "together" => together::report(self.rt, &world, &manner, text),
-            _ => report_of_request(self.rt, &world, question, &manner, text),
+        match question.split_once(" numbered ") {
+            Some((count, question)) => {
+                numbered_report(self.rt, &world, question, &manner, count.parse()?, text)
+            }
+            None => report_over(self.rt, &world, question, &manner, text),
         }
+    }
+}
+
+/// What is reported of a text over a world.
+fn report_over<R: Wait + RandomSource + AllocGlobal>(
+    rt: &R,
+    world: &World,
+    question: &str,
+    manner: &Manner<'_>,
+    text: &str,
+) -> Result<String> {
+    match question {
+        "session" => calls::report(rt.alloc(), world, manner, text),
+        "lines" => lines::report(rt.alloc(), world, text),
+        "together" => together::report(rt, world, manner, text),
+        _ => report_of_request(rt, world, question, manner, text),
     }
 }
 
@@ -52,9 +68,6 @@ fn report_of_request<R: Wait + RandomSource + AllocGlobal>(
     text: &str,
 ) -> Result<String> {
     let alloc = rt.alloc();
-    if let Some(count) = question.strip_suffix(" numbered fields") {
-        return numbered_report(rt, world, manner, count.parse()?, text);
-    }
     let plan = match plan_of(alloc, world, text)? {
         Ok(plan) => plan,
         Err(fault) => return refusal(alloc, &fault),
@@ -90,36 +103,36 @@ fn missing(alloc: Global, world: &World, manner: &Manner<'_>, text: &str) -> Res
     known::report(alloc, world, &plan, session.memory())
 }
 
-/// The text in which the piece between `«` and `»` stands so many times, with its number from 0 in place of `#`.
+/// The text in which each piece between `«` and `»` stands so many times, with its number from 0 in place of `#`.
 fn numbered(alloc: Global, text: &str, count: u32) -> Result<String> {
-    let (front, rest) = text.split_once('«').context("no «")?;
-    let (piece, back) = rest.split_once('»').context("no »")?;
-    let (before, behind) = piece.split_once('#').context("no #")?;
-    let mut report = String::from_str(alloc, front)?;
-    for number in 0..count {
-        write!(report, "{before}{number}{behind}")?;
+    let mut pieces = text.split('«');
+    let mut report = String::from_str(alloc, pieces.next().unwrap_or(""))?;
+    for written in pieces {
+        let (piece, rest) = written.split_once('»').context("no »")?;
+        let (before, behind) = piece.split_once('#').context("no #")?;
+        for number in 0..count {
+            write!(report, "{before}{number}{behind}")?;
+        }
+        report.push_str(rest)?;
     }
-    report.push_str(back)?;
     Ok(report)
 }
 
-/// Whether a query with so many numbered fields has an answer with so many, as `{«k#:a »b} gives {"data":{«"k#":1,»"b":2}}`.
+/// Whether what is asked of a text with so many numbered pieces is a text with so many, as `{«k#:a »b} gives {"data":{«"k#":1,»"b":2}}`.
 fn numbered_report<R: Wait + RandomSource + AllocGlobal>(
     rt: &R,
     world: &World,
+    question: &str,
     manner: &Manner<'_>,
     count: u32,
     text: &str,
 ) -> Result<String> {
-    let alloc = rt.alloc();
-    let (query, answer) = text.split_once(" gives ").context("no answer")?;
-    let query = numbered(alloc, query, count)?;
-    let answer = numbered(alloc, answer, count)?;
-    let plan = plan_of(alloc, world, &query)?.ok().context("no plan")?;
-    let report = ways::answer_report(rt, world, &plan, manner)?;
-    let found = lines_of(alloc, "answer", &report)?;
-    if found == answer {
-        return Ok(String::from_str(alloc, "yes")?);
+    let (asked, wanted) = text.split_once(" gives ").context("nothing is given")?;
+    let asked = numbered(rt.alloc(), asked, count)?;
+    let wanted = numbered(rt.alloc(), wanted, count)?;
+    let found = report_over(rt, world, question, manner, &asked)?;
+    if found == wanted {
+        return Ok(String::from_str(rt.alloc(), "yes")?);
     }
     Ok(found)
 }

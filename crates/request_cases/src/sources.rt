@@ -5,7 +5,7 @@ ghost use Rattle.std.specs.Prelude.{◌≡◌, [], ⊤, IfOk};
 use crate::manner::{Deed, Manner};
 use anyhow::{Context, Result, bail};
 use csv_source::CsvSource;
-use load_memory::{Item, Key};
+use load_memory::{Item, Key, NoMemory, Row};
 use load_queue::{FetchFault, Loader, PerKey, Source};
 use load_rounds::Session;
 use std::alloc::{AllocError, Global};
@@ -74,6 +74,17 @@ fn resize(alloc: Global, items: &mut Vec<Item>, count: usize) -> Result<(), Allo
     Ok(())
 }
 
+/// An item for each key: a row whose name is this number.
+fn renamed(alloc: Global, keys: &[Key], number: u64) -> Result<Vec<Item>, NoMemory> {
+    let name = format!(in alloc; "{number}")?;
+    let mut items = Vec::with_capacity(alloc, keys.len())?;
+    for _ in keys {
+        let row = Row::new(alloc, &[("name", name.as_str())])?;
+        items.push(Item::Rows(vec![in alloc; row]?))?;
+    }
+    Ok(items)
+}
+
 /// What a source says that fails.
 fn failed(alloc: Global) -> Result<FetchFault, AllocError> {
     Ok(FetchFault::Failed(String::from_str(alloc, "no light")?))
@@ -83,7 +94,7 @@ impl<'w> Source for CountingSource<'w> {
     ghost may_answer = { λ _ _ _. ⊤ };
 
     fn fetch(&self, alloc: Global, keys: &[Key]) -> Result<Vec<Item>, FetchFault> {
-        self.calls.fetch_add(1, Ordering::SeqCst);
+        let earlier = self.calls.fetch_add(1, Ordering::SeqCst);
         if self.fails_now(keys) {
             return Err(failed(alloc)?);
         }
@@ -96,6 +107,7 @@ impl<'w> Source for CountingSource<'w> {
             Deed::Fails => return Err(failed(alloc)?),
             Deed::LacksMemory => return Err(FetchFault::NoMemory),
             Deed::Gives(count) => resize(alloc, &mut items, count)?,
+            Deed::Renames => items = renamed(alloc, keys, earlier.saturating_add(1))?,
         }
         Ok(items)
     }

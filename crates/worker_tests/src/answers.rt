@@ -24,8 +24,8 @@ struct Case {
     query: &'static str,
     /// The text and the rounds of each answer, or the fault: the session answers the query so often.
     answers: &'static [&'static str],
-    /// The batches in order of the loaders, each with its round, and with a mark if it isn't stored; how often sources were
-    /// asked, and how many keys are known.
+    /// The batches in order of the loaders, each with its round, and with a mark if it isn't stored; how many orders were made, how often
+    /// sources were asked, and how many keys are known.
     asked: &'static str,
 }
 
@@ -53,7 +53,14 @@ const TWO_NAMES: &str = "{usersByIds(ids:[1,2]){name}}";
 const TWO_FOR_THREE: &str =
     "{\"errors\":[{\"message\":\"the source answered 2 results for 3 keys\",\"locations\":[{\"line\":1,\"column\":2}],\"path\":[\"usersByIds\",0]},{\"message\":\"the source answered 2 results for 3 keys\",\"locations\":[{\"line\":1,\"column\":2}],\"path\":[\"usersByIds\",1]},{\"message\":\"the source answered 2 results for 3 keys\",\"locations\":[{\"line\":1,\"column\":2}],\"path\":[\"usersByIds\",2]}],\"data\":{\"usersByIds\":[null,null,null]}} 1 rounds";
 
-/// Batches that are run at the same time, and numbers of workers that are refused.
+/// Each link is asked once the one before it is known.
+const LINKS: &str =
+    "{link(id:1){next{next{next{next{next{next{next{next{next{next{next{id}}}}}}}}}}}}}";
+
+const LAST_LINK: &str =
+    "{\"data\":{\"link\":{\"next\":{\"next\":{\"next\":{\"next\":{\"next\":{\"next\":{\"next\":{\"next\":{\"next\":{\"next\":{\"next\":{\"id\":\"12\"}}}}}}}}}}}}}} 12 rounds";
+
+/// Batches that are run at the same time, a chain of dependent loads, and numbers of workers that are refused.
 const SIDE_BY_SIDE: &[Case] = &[
     // The two batches of the one round are run at the same time by two workers, and one after the other by one.
     Case {
@@ -64,7 +71,7 @@ const SIDE_BY_SIDE: &[Case] = &[
         answers: &[
             "{\"data\":{\"user\":{\"name\":\"Ada\"},\"users\":[{\"id\":\"1\"},{\"id\":\"2\"},{\"id\":\"3\"},{\"id\":\"4\"}]}} 1 rounds",
         ],
-        asked: "userById 1: 1; allUsers 1: all; 2 calls, 2 known",
+        asked: "userById 1: 1; allUsers 1: all; 2 orders, 2 calls, 2 known",
     },
     Case {
         manner: Manner::Meeting,
@@ -74,7 +81,7 @@ const SIDE_BY_SIDE: &[Case] = &[
         answers: &[
             "{\"errors\":[{\"message\":\"not met\",\"locations\":[{\"line\":1,\"column\":2}],\"path\":[\"user\"]},{\"message\":\"not met\",\"locations\":[{\"line\":1,\"column\":19}],\"path\":[\"users\"]}],\"data\":null} 1 rounds",
         ],
-        asked: "userById 1: 1; allUsers 1: all; 2 calls, 2 known",
+        asked: "userById 1: 1; allUsers 1: all; 2 orders, 2 calls, 2 known",
     },
     // The batch of the first user waits for the three others: another worker takes these one after another.
     Case {
@@ -83,7 +90,7 @@ const SIDE_BY_SIDE: &[Case] = &[
         workers: &[2, 3, 4, 16],
         query: FOUR,
         answers: &[FOUR_TOLD],
-        asked: "userById 1: 1; userById 1: 2; userById 1: 3; userById 1: 4; 4 calls, 4 known",
+        asked: "userById 1: 1; userById 1: 2; userById 1: 3; userById 1: 4; 4 orders, 4 calls, 4 known",
     },
     // However many workers there are, the text, the rounds and what is asked are the same.
     Case {
@@ -92,7 +99,7 @@ const SIDE_BY_SIDE: &[Case] = &[
         workers: ANY,
         query: AUTHORS,
         answers: &[AUTHORS_TOLD],
-        asked: "userById 3: 1 2; allUsers 1: all; postsByAuthor 2: 1 2 3 4; 3 calls, 7 known",
+        asked: "userById 3: 1 2; allUsers 1: all; postsByAuthor 2: 1 2 3 4; 3 orders, 3 calls, 7 known",
     },
     Case {
         manner: Manner::Prompt,
@@ -100,7 +107,16 @@ const SIDE_BY_SIDE: &[Case] = &[
         workers: ANY,
         query: AUTHORS,
         answers: &[AUTHORS_TOLD],
-        asked: "userById 3: 1 2; allUsers 1: all; postsByAuthor 2: 1 2 3; postsByAuthor 2: 4; 4 calls, 7 known",
+        asked: "userById 3: 1 2; allUsers 1: all; postsByAuthor 2: 1 2 3; postsByAuthor 2: 4; 4 orders, 4 calls, 7 known",
+    },
+    // A chain of twelve loads takes twelve rounds.
+    Case {
+        manner: Manner::Prompt,
+        limit: None,
+        workers: ANY,
+        query: LINKS,
+        answers: &[LAST_LINK],
+        asked: "linkById 1: 1; linkById 2: 2; linkById 3: 3; linkById 4: 4; linkById 5: 5; linkById 6: 6; linkById 7: 7; linkById 8: 8; linkById 9: 9; linkById 10: 10; linkById 11: 11; linkById 12: 12; 12 orders, 12 calls, 12 known",
     },
     // Other numbers of workers are refused, and nothing is asked.
     Case {
@@ -109,7 +125,7 @@ const SIDE_BY_SIDE: &[Case] = &[
         workers: &[0, 17],
         query: AUTHORS,
         answers: &["bad number of workers"],
-        asked: "0 calls, 0 known",
+        asked: "0 orders, 0 calls, 0 known",
     },
 ];
 
@@ -125,7 +141,7 @@ const BREAKDOWNS: &[Case] = &[
             "{\"errors\":[{\"message\":\"down\",\"locations\":[{\"line\":1,\"column\":2}],\"path\":[\"usersByIds\",0]},{\"message\":\"down\",\"locations\":[{\"line\":1,\"column\":2}],\"path\":[\"usersByIds\",1]}],\"data\":{\"usersByIds\":[null,null,{\"name\":\"Cy\"}]}} 1 rounds",
             "{\"data\":{\"usersByIds\":[{\"name\":\"Ada\"},{\"name\":\"Bob\"},{\"name\":\"Cy\"}]}} 1 rounds",
         ],
-        asked: "userById 1: 1 2; userById 1: 3; userById 2: 1 2; 3 calls, 3 known",
+        asked: "userById 1: 1 2; userById 1: 3; userById 2: 1 2; 3 orders, 3 calls, 3 known",
     },
     Case {
         manner: Manner::Failing,
@@ -135,7 +151,7 @@ const BREAKDOWNS: &[Case] = &[
         answers: &[
             "{\"errors\":[{\"message\":\"down\",\"locations\":[{\"line\":1,\"column\":2}],\"path\":[\"usersByIds\",0]},{\"message\":\"down\",\"locations\":[{\"line\":1,\"column\":2}],\"path\":[\"usersByIds\",1]}],\"data\":{\"usersByIds\":[null,null]}} 1 rounds",
         ],
-        asked: "userById 1: 1; userById 1: 2; 2 calls, 2 known",
+        asked: "userById 1: 1; userById 1: 2; 2 orders, 2 calls, 2 known",
     },
     // The fault of a key stays known.
     Case {
@@ -147,7 +163,7 @@ const BREAKDOWNS: &[Case] = &[
             "{\"errors\":[{\"message\":\"no\",\"locations\":[{\"line\":1,\"column\":2}],\"path\":[\"usersByIds\",1]}],\"data\":{\"usersByIds\":[{\"name\":\"Ada\"},null]}} 1 rounds",
             "{\"errors\":[{\"message\":\"no\",\"locations\":[{\"line\":1,\"column\":2}],\"path\":[\"usersByIds\",1]}],\"data\":{\"usersByIds\":[{\"name\":\"Ada\"},null]}} 0 rounds",
         ],
-        asked: "userById 1: 1; userById 1: 2; 2 calls, 2 known",
+        asked: "userById 1: 1; userById 1: 2; 2 orders, 2 calls, 2 known",
     },
     // Another number of items than keys is a fault of the whole batch.
     Case {
@@ -158,7 +174,7 @@ const BREAKDOWNS: &[Case] = &[
         answers: &[
             "{\"errors\":[{\"message\":\"the source answered 1 results for 2 keys\",\"locations\":[{\"line\":1,\"column\":2}],\"path\":[\"usersByIds\",0]},{\"message\":\"the source answered 1 results for 2 keys\",\"locations\":[{\"line\":1,\"column\":2}],\"path\":[\"usersByIds\",1]}],\"data\":{\"usersByIds\":[null,null,{\"name\":\"Cy\"}]}} 1 rounds",
         ],
-        asked: "userById 1: 1 2; userById 1: 3; 2 calls, 3 known",
+        asked: "userById 1: 1 2; userById 1: 3; 2 orders, 2 calls, 3 known",
     },
     Case {
         manner: Manner::Giving(4),
@@ -168,7 +184,7 @@ const BREAKDOWNS: &[Case] = &[
         answers: &[
             "{\"errors\":[{\"message\":\"the source answered 4 results for 3 keys\",\"locations\":[{\"line\":1,\"column\":2}],\"path\":[\"usersByIds\",0]},{\"message\":\"the source answered 4 results for 3 keys\",\"locations\":[{\"line\":1,\"column\":2}],\"path\":[\"usersByIds\",1]},{\"message\":\"the source answered 4 results for 3 keys\",\"locations\":[{\"line\":1,\"column\":2}],\"path\":[\"usersByIds\",2]}],\"data\":{\"usersByIds\":[null,null,null]}} 1 rounds",
         ],
-        asked: "userById 1: 1 2 3; 1 calls, 3 known",
+        asked: "userById 1: 1 2 3; 1 orders, 1 calls, 3 known",
     },
     Case {
         manner: Manner::Giving(2),
@@ -176,7 +192,7 @@ const BREAKDOWNS: &[Case] = &[
         workers: TWO,
         query: THREE_NAMES,
         answers: &[TWO_FOR_THREE, TWO_FOR_THREE],
-        asked: "userById 1: 1 2 3; userById 2: 1 2 3; 2 calls, 3 known",
+        asked: "userById 1: 1 2 3; userById 2: 1 2 3; 2 orders, 2 calls, 3 known",
     },
     Case {
         manner: Manner::Giving(0),
@@ -186,7 +202,7 @@ const BREAKDOWNS: &[Case] = &[
         answers: &[
             "{\"errors\":[{\"message\":\"the source answered 0 results for 1 keys\",\"locations\":[{\"line\":1,\"column\":2}],\"path\":[\"user\"]}],\"data\":{\"user\":null}} 1 rounds",
         ],
-        asked: "userById 1: 1; 1 calls, 1 known",
+        asked: "userById 1: 1; 1 orders, 1 calls, 1 known",
     },
     // Memory is wanting in one batch of four: the worker that met it takes none more, the other one runs the rest to its end, and
     // the round is lost. The same session, asked again, asks all four again.
@@ -196,7 +212,7 @@ const BREAKDOWNS: &[Case] = &[
         workers: TWO,
         query: FOUR,
         answers: &["out of memory", FOUR_TOLD],
-        asked: "userById 1: 1?; userById 1: 2?; userById 1: 3?; userById 1: 4?; userById 2: 1; userById 2: 2; userById 2: 3; userById 2: 4; 8 calls, 4 known",
+        asked: "userById 1: 1?; userById 1: 2?; userById 1: 3?; userById 1: 4?; userById 2: 1; userById 2: 2; userById 2: 3; userById 2: 4; 8 orders, 8 calls, 4 known",
     },
     // With one worker nothing is asked after that.
     Case {
@@ -205,7 +221,7 @@ const BREAKDOWNS: &[Case] = &[
         workers: &[1],
         query: FOUR,
         answers: &["out of memory", FOUR_TOLD],
-        asked: "userById 1: 1?; userById 1: 2?; userById 1: 3?; userById 1: 4?; userById 2: 1; userById 2: 2; userById 2: 3; userById 2: 4; 5 calls, 4 known",
+        asked: "userById 1: 1?; userById 1: 2?; userById 1: 3?; userById 1: 4?; userById 2: 1; userById 2: 2; userById 2: 3; userById 2: 4; 8 orders, 5 calls, 4 known",
     },
 ];
 
@@ -242,14 +258,16 @@ fn answer_report(
 }
 
 /// What the loaders were asked, in order of their numbers: of each batch the name of the loader, the round and the keys, and a
-/// mark where it isn't stored. Then how often sources were asked, and how many keys are known.
+/// mark where it isn't stored. Then how many orders were made of them, how often sources were asked, and how many keys are known.
 pub fn asked(
     alloc: Global,
     session: &Session<Probe<'_>>,
     board: &Board,
 ) -> Result<String, AllocError> {
     let mut text = String::new(alloc);
+    let mut orders = 0_u64;
     for loader in session.loaders() {
+        orders = orders.saturating_add(loader.orders());
         for batch in loader.log() {
             write!(text, "{} {}:", loader.name(), batch.round)?;
             for key in &batch.keys {
@@ -261,7 +279,7 @@ pub fn asked(
     }
     write!(
         text,
-        "{} calls, {} known",
+        "{orders} orders, {} calls, {} known",
         board.calls(),
         session.memory().len()
     )?;
@@ -323,7 +341,7 @@ const MISSING: &str = "{usersByIds(ids:[1,9,2]){name}}";
 const MISSING_TOLD: &str =
     "{\"data\":{\"usersByIds\":[{\"name\":\"Ada\"},null,{\"name\":\"Bob\"}]}} 1 rounds";
 
-const ASKED_ONCE: &str = "userById 1: 1 9; userById 2: 2; 2 calls, 3 known";
+const ASKED_ONCE: &str = "userById 1: 1 9; userById 2: 2; 2 orders, 2 calls, 3 known";
 
 /// Loads two users, of whom one isn't there.
 fn load_two(alloc: Global, session: &mut Session<Probe<'_>>) -> Result<(), Fail> {

@@ -152,23 +152,41 @@ const FIRST: u32 = 1000;
 
 const KEYS: u32 = 1000;
 
-/// A query of a thousand keys, and what the receipts of its round have to show: each key in a batch of its own.
-fn thousand(alloc: Global) -> Result<(String, String), AllocError> {
+/// A query of a thousand keys, and what is to be reported of its round: this stands between two keys, and this outcome behind each.
+fn thousand(
+    alloc: Global,
+    between: &str,
+    outcome: &str,
+    calls: u32,
+) -> Result<(String, String), AllocError> {
     let mut query = String::from_str(alloc, "{usersByIds(ids:[")?;
-    let mut wanted = String::new(alloc);
+    let mut wanted = String::from_str(alloc, "0:")?;
+    let mut mark = " ";
     for number in 0..KEYS {
         write!(query, "{} ", FIRST + number)?;
-        write!(wanted, "0: {}=;", FIRST + number)?;
+        write!(wanted, "{mark}{}={outcome}", FIRST + number)?;
+        mark = between;
     }
     query.push_str("]){id}}")?;
-    wanted.push_str(" 1000 known, 1000 calls")?;
+    write!(wanted, "; 1000 known, {calls} calls")?;
     Ok((query, wanted))
 }
 
 #[test]
 fn a_thousand_batches_on_sixteen_workers(rt: HostRuntime) -> Result<(), Fail> {
-    let (query, wanted) = thousand(rt.alloc())?;
+    let (query, wanted) = thousand(rt.alloc(), ";0: ", "", 1000)?;
     let found = round_report(&rt, Manner::Prompt, Some(1), &query, 16)?;
     expect(&rt, &found, &wanted, "a thousand batches");
+    Ok(())
+}
+
+/// The source is asked once, and where it fails, it isn't asked again.
+#[test]
+fn a_batch_of_a_thousand_keys(rt: HostRuntime) -> Result<(), Fail> {
+    for (manner, outcome) in [(Manner::Prompt, ""), (Manner::Failing, "down")] {
+        let (query, wanted) = thousand(rt.alloc(), " ", outcome, 1)?;
+        let found = round_report(&rt, manner, None, &query, 2)?;
+        expect(&rt, &found, &wanted, "a thousand keys");
+    }
     Ok(())
 }

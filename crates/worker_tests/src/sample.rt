@@ -1,4 +1,4 @@
-//! Users and their posts, sessions over them, and plans.
+//! Users and their posts, links of a chain, sessions over them, and plans.
 
 use crate::probe::{Board, Manner, Probe};
 use gq_bindings::Bindings;
@@ -13,21 +13,25 @@ use std::alloc::{AllocError, Global};
 use std::test::Fail;
 
 const SCHEMA: &str =
-    "type Query { user(id: ID!): User usersByIds(ids: [ID!]!): [User]! users: [User!]! }
+    "type Query { user(id: ID!): User usersByIds(ids: [ID!]!): [User]! users: [User!]! link(id: ID!): Link }
 type User { id: ID! name: String! posts: [Post!]! }
-type Post { id: ID! author: User! title: String! }";
+type Post { id: ID! author: User! title: String! }
+type Link { id: ID! next: Link }";
 
 const BINDINGS: &str = "bindings 1
 loader userById users by id
 loader allUsers users
 loader postsByAuthor posts by author
+loader linkById links by id
 field Query.user one userById arg id
 field Query.usersByIds each userById arg ids
 field Query.users many allUsers all
 field User.posts many postsByAuthor column id
-field Post.author one userById column author";
+field Post.author one userById column author
+field Query.link one linkById arg id
+field Link.next one linkById column next";
 
-const LOADERS: [&str; 3] = ["userById", "allUsers", "postsByAuthor"];
+const LOADERS: [&str; 4] = ["userById", "allUsers", "postsByAuthor", "linkById"];
 
 /// The users, with their names.
 const USERS: [(&str, &str); 4] = [("1", "Ada"), ("2", "Bob"), ("3", "Cy"), ("4", "")];
@@ -68,10 +72,29 @@ fn posts(alloc: Global, key: &Key) -> Result<Vec<Row>, NoMemory> {
     Ok(rows)
 }
 
+/// The number of the last link; each one before it is followed by the next number.
+const LAST: u32 = 12;
+
+fn links(alloc: Global, key: &Key) -> Result<Vec<Row>, NoMemory> {
+    let mut rows = Vec::new(alloc);
+    for number in 1..=LAST {
+        let id = format!(in alloc; "{number}")?;
+        if takes(key, &id) {
+            let next = match number {
+                LAST => String::new(alloc),
+                _ => format!(in alloc; "{}", number.saturating_add(1))?,
+            };
+            rows.push(Row::new(alloc, &[("id", id.as_str()), ("next", next.as_str())])?)?;
+        }
+    }
+    Ok(rows)
+}
+
 /// The rows of a key of the loader of this number.
 pub fn rows_of(alloc: Global, loader: usize, key: &Key) -> Result<Vec<Row>, NoMemory> {
     match loader {
         2 => posts(alloc, key),
+        3 => links(alloc, key),
         _ => users(alloc, key),
     }
 }

@@ -22,7 +22,7 @@ const ANSWERS: &str =
     "{\"data\":{\"users\":[{\"posts\":[{\"author\":{\"name\":\"Ada\"}},{\"author\":{\"name\":\"Ada\"}}]},{\"posts\":[{\"author\":{\"name\":\"Bob\"}}]},{\"posts\":[]},{\"posts\":[]}]}} 3 rounds; {\"data\":{\"user\":null}} 1 rounds; ";
 
 const ASKED: &str =
-    "userById 1: 9; userById 3: 1 2; allUsers 1: all; postsByAuthor 2: 1 2 3 4; 4 calls, 8 known";
+    "userById 1: 9; userById 3: 1 2; allUsers 1: all; postsByAuthor 2: 1 2 3 4; 4 orders, 4 calls, 8 known";
 
 /// Its round has two batches.
 const BOTH: [&str; 1] = ["{user(id:1){name} users{id}}"];
@@ -33,7 +33,7 @@ const BOTH_MET: &str =
 const NONE_MET: &str =
     "{\"errors\":[{\"message\":\"not met\",\"locations\":[{\"line\":1,\"column\":2}],\"path\":[\"user\"]},{\"message\":\"not met\",\"locations\":[{\"line\":1,\"column\":19}],\"path\":[\"users\"]}],\"data\":null} 1 rounds; ";
 
-const BOTH_ASKED: &str = "userById 1: 1; allUsers 1: all; 2 calls, 2 known";
+const BOTH_ASKED: &str = "userById 1: 1; allUsers 1: all; 2 orders, 2 calls, 2 known";
 
 /// Whether a session has the loaders of each plan.
 fn has_loaders<S>(session: &Session<S>, plans: &[Plan<'_>]) -> bool
@@ -106,7 +106,7 @@ fn queries_share_the_rounds_of_two_workers(rt: HostRuntime) -> Result<(), Fail> 
 fn no_worker_answers_no_query(rt: HostRuntime) -> Result<(), Fail> {
     let (found, batches) = answers_report(&rt, &QUERIES, Manner::Prompt, 0)?;
     expect(&rt, &found, "bad number of workers", "no worker");
-    expect(&rt, &batches, "0 calls, 0 known", "no worker");
+    expect(&rt, &batches, "0 orders, 0 calls, 0 known", "no worker");
     Ok(())
 }
 

@@ -1,14 +1,14 @@
 -- An answer in the session of a world is direct execution.
-use Rattle.std.proofs.Common.{◌≡◌, ℕ, zero, suc, List, [], ◌∷◌, length, Option, Some, None, refl, subst}
+use Rattle.std.proofs.Common.{◌≡◌, ◌∙◌, ℕ, zero, suc, List, [], ◌∷◌, map, length, Option, Some, None, refl, sym, ap, subst}
 use Rattle.std.proofs.Math.Path.{fun_ext}
-use Rattle.std.proofs.lemmas.List.Elements.{All-nil, All-cons}
+use Rattle.std.proofs.lemmas.List.Elements.{All-nil, All-cons, All-head, All-tail}
 use Rattle.load_memory.specs.Keys.{KeyOf}
 use Rattle.load_memory.specs.Outcomes.{ItemOf}
-use Rattle.load_memory.specs.Pairs.{look}
+use Rattle.load_memory.specs.Pairs.{PairOf, look}
 use Rattle.load_memory.specs.declared.key.KeyMode.{KeyMode}
 use Rattle.csv_source.specs.Tables.{SourceOf, item_of_key}
 use Rattle.csv_source.specs.KeyLaws.{item_of_key-folded}
-use Rattle.load_queue.specs.Loaders.{LoaderOf}
+use Rattle.load_queue.specs.Loaders.{LoaderOf, as_made}
 use Rattle.execution.specs.Rounds.{without_failed, direct, HoldsItems}
 use Rattle.gq_bindings.specs.Tree as bindings
 use Rattle.gq_check.specs.Plans.{PlanOf}
@@ -22,7 +22,8 @@ use Rattle.gq_resolve.specs.Within.{text_within}
 use Rattle.load_rounds.proofs.KeyByKey.{text-direct}
 use Rattle.world_answers.specs.Answers.{item_at, may_tell, AnswersAnew, IsAnsweredAnew}
 use Rattle.world_answers.specs.Services.{ServiceOf}
-use Rattle.world_answers.specs.Sessions.{loader_over, loaders_over, session_over}
+use Rattle.world.specs.Worlds.{WorldOf}
+use Rattle.world_answers.specs.Sessions.{loader_over, loaders_over, IsOver}
 
 -- ---- the loaders of a world
 
@@ -31,43 +32,62 @@ none-some a e = cc e
 
 module _ (limit : Option ℕ) where
   -- each loader compares keys as its source
-  pub compare-alike : (lines : List bindings.LoaderOf) (sources : List SourceOf) → CompareAlike (λ (s : SourceOf). s.mode) (loaders_over limit lines sources)
+  compare-alike : (lines : List bindings.LoaderOf) (sources : List SourceOf) → CompareAlike (λ (s : SourceOf). s.mode) (loaders_over limit lines sources)
   compare-alike [] sources = All-nil (λ (l : LoaderOf SourceOf). l.mode ≡ l.source.mode)
   compare-alike (line ∷ lines) [] = All-nil (λ (l : LoaderOf SourceOf). l.mode ≡ l.source.mode)
   compare-alike (line ∷ lines) (source ∷ sources) =
       All-cons (λ (l : LoaderOf SourceOf). l.mode ≡ l.source.mode) (loader_over limit line.name source) (loaders_over limit lines sources) refl (compare-alike lines sources)
 
   -- the items of the loaders are those of the sources
-  pub items-over : (lines : List bindings.LoaderOf) (sources : List SourceOf) (loader : ℕ) (key : KeyOf) → length sources ≡ length lines → item_over item_of_key (loaders_over limit lines sources) loader key ≡ item_at sources loader key
+  items-over : (lines : List bindings.LoaderOf) (sources : List SourceOf) (loader : ℕ) (key : KeyOf) → length sources ≡ length lines → item_over item_of_key (loaders_over limit lines sources) loader key ≡ item_at sources loader key
   items-over [] [] loader key e = refl
   items-over [] (s ∷ sources) loader key e = absurd (cc e)
   items-over (line ∷ lines) [] loader key e = absurd (cc e)
   items-over (line ∷ lines) (source ∷ sources) zero key e = refl
   items-over (line ∷ lines) (source ∷ sources) (suc loader) key e = items-over lines sources loader key (cc e)
 
-  pub nothing-held : (modes : List KeyMode) (item : ℕ → KeyOf → ItemOf) → HoldsItems modes item (without_failed (look []))
-  nothing-held modes item = λ loader key outcome h. absurd (none-some outcome h)
+nothing-held : (modes : List KeyMode) (item : ℕ → KeyOf → ItemOf) → HoldsItems modes item (without_failed (look []))
+nothing-held modes item = λ loader key outcome h. absurd (none-some outcome h)
 
--- an answer in the session of a world is the text of direct execution
-pub answer-direct : (s : ServiceOf) (after : StateOf SourceOf) (plan : PlanOf) (text : List ℕ) (rounds : ℕ) → length s.world.sources ≡ length s.world.bindings.loaders → AnswersAnew s plan after text rounds → IsAnsweredAnew s plan text
-answer-direct s after plan text rounds each h =
+-- as a loader was made, so it compares keys, and so is its source
+made-alike : (ls : List (LoaderOf SourceOf)) → CompareAlike (λ (s : SourceOf). s.mode) (map as_made ls) → CompareAlike (λ (s : SourceOf). s.mode) ls
+made-alike [] h = All-nil (λ (l : LoaderOf SourceOf). l.mode ≡ l.source.mode)
+made-alike (l ∷ ls) h =
+    let P : LoaderOf SourceOf → Type 0 = λ l. l.mode ≡ l.source.mode in
+    All-cons P l ls (All-head P (as_made l) (map as_made ls) h) (made-alike ls (All-tail P (as_made l) (map as_made ls) h))
+
+made-items : (ls : List (LoaderOf SourceOf)) (loader : ℕ) (key : KeyOf) → item_over item_of_key (map as_made ls) loader key ≡ item_over item_of_key ls loader key
+made-items [] loader key = refl
+made-items (l ∷ ls) zero key = refl
+made-items (l ∷ ls) (suc loader) key = made-items ls loader key
+
+-- ---- a session of a world
+
+module _ (w : WorldOf) (s : SessionOf SourceOf) (over : IsOver w s) where
+  pub over-alike : CompareAlike (λ (s : SourceOf). s.mode) s.loaders
+  over-alike = made-alike s.loaders (subst (CompareAlike (λ (s : SourceOf). s.mode)) (sym over.loaders) (compare-alike w.limit w.bindings.loaders w.sources))
+
+  pub over-items : item_over item_of_key s.loaders ≡ item_at w.sources
+  over-items = fun_ext (λ loader. fun_ext (λ key.
+      sym (made-items s.loaders loader key) ∙ ap (λ ls. item_over item_of_key ls loader key) over.loaders ∙ items-over w.limit w.bindings.loaders w.sources loader key over.each))
+
+  pub over-held : (modes : List KeyMode) (item : ℕ → KeyOf → ItemOf) → HoldsItems modes item (without_failed (look s.pairs))
+  over-held modes item =
+      let none : [] ≡ s.pairs = ap (λ (x : SessionOf SourceOf). x.pairs) over.fresh in
+      subst (λ (ps : List PairOf). HoldsItems modes item (without_failed (look ps))) none (nothing-held modes item)
+
+-- an answer in a session of a world is the text of direct execution
+pub answer-direct : (s : ServiceOf) (after : StateOf SourceOf) (plan : PlanOf) (text : List ℕ) (rounds : ℕ) → AnswersAnew s plan after text rounds → IsAnsweredAnew s plan text
+answer-direct s after plan text rounds h =
     let w = s.world in
     let text_of = text_within s.most in
-    let old : StateOf SourceOf = state_of (session_over w) in
-    let loaders : List (LoaderOf SourceOf) = loaders_over w.limit w.bindings.loaders w.sources in
-    let text-is : IsTextOf text_of (plan_program plan) (direct (item_over item_of_key loaders)) text =
+    let old : StateOf SourceOf = state_of h.begun in
+    let text-is : IsTextOf text_of (plan_program plan) (direct (item_over item_of_key old.loaders)) text =
     text-direct may_tell item_of_key (λ s keys answer is. is) (λ (s : SourceOf). s.mode) item_of_key-folded old after (plan_program plan) text_of text rounds
-    (compare-alike w.limit w.bindings.loaders w.sources) (nothing-held w.limit (session_modes old) (item_over item_of_key loaders)) h.headline in
-    let same : item_over item_of_key loaders ≡ item_at w.sources = fun_ext (λ loader. fun_ext (λ key. items-over w.limit w.bindings.loaders w.sources loader key each)) in
+    (over-alike w h.begun h.over) (over-held w h.begun h.over (session_modes old) (item_over item_of_key old.loaders)) h.headline in
     record {
-      direct = subst (λ (item : ℕ → KeyOf → ItemOf). IsTextOf text_of (plan_program plan) (direct item) text) same text-is;
+      direct = subst (λ (item : ℕ → KeyOf → ItemOf). IsTextOf text_of (plan_program plan) (direct item) text) (over-items w h.begun h.over) text-is;
       after = after;
       rounds = rounds;
       answers = h;
     }
-
--- an answer over what was opened as the session of a world
-pub answer-anew : (s : ServiceOf) (session : SessionOf SourceOf) (after : StateOf SourceOf) (plan : PlanOf) (text : List ℕ) (rounds : ℕ) → session ≡ session_over s.world → IsPlan plan
-    → Headline may_tell (state_of session) after (plan_program plan) (text_within s.most) text rounds → AnswersAnew s plan after text rounds
-answer-anew s session after plan text rounds is valid h =
-    record { valid = valid; headline = subst (λ z. Headline may_tell (state_of z) after (plan_program plan) (text_within s.most) text rounds) is h }

@@ -5,12 +5,12 @@ use Rattle.std.proofs.lemmas.List.Elements.{All-nil, All-cons, All-weaker}
 use Rattle.csv_source.specs.Tables.{SourceOf}
 use Rattle.gq_bindings.specs.Tree as bindings
 use Rattle.gq_check.specs.Plans.{PlanOf, plan_of}
-use Rattle.load_queue.specs.Loaders.{LoaderOf}
+use Rattle.load_queue.specs.Loaders.{LoaderOf, as_made}
 use Rattle.load_rounds.specs.Sessions.{SessionOf}
 use Rattle.gq_resolve.specs.declared.limited_plan.Limited.{Limited}
 use Rattle.world.specs.Worlds.{WorldOf}
 use Rattle.world_answers.specs.Planning.{AreLimited}
-use Rattle.world_answers.specs.Sessions.{loader_over, loaders_over, session_over}
+use Rattle.world_answers.specs.Sessions.{loader_over, loaders_over, IsOver}
 use Rattle.world_answers.proofs.Limits.{all-limited}
 
 module _ (limit : Option ℕ) where
@@ -52,14 +52,14 @@ module _ (limit : Option ℕ) where
         built ∙ take_all n (loaders_over limit lines sources) enough
 
 -- a session of a world has the loaders of its bindings
-pub enough : (w : WorldOf) (session : SessionOf SourceOf) (b : bindings.BindingsOf) → b ≡ w.bindings → length w.sources ≡ length w.bindings.loaders → session ≡ session_over w → length b.loaders ≤ length session.loaders
-enough w session b same each is =
-    let most : length session.loaders ≡ length w.bindings.loaders = ap (λ (s : SessionOf SourceOf). length s.loaders) is ∙ length-over w.limit w.bindings.loaders w.sources each in
+pub enough : (w : WorldOf) (session : SessionOf SourceOf) (b : bindings.BindingsOf) → b ≡ w.bindings → IsOver w session → length b.loaders ≤ length session.loaders
+enough w session b same over =
+    let most : length (map as_made session.loaders) ≡ length w.bindings.loaders = ap length over.loaders ∙ length-over w.limit w.bindings.loaders w.sources over.each in
     let own : length b.loaders ≡ length w.bindings.loaders = ap (λ (x : bindings.BindingsOf). length x.loaders) same in
-    omega (arith, most, own)
+    omega (arith, most, own, length-map session.loaders as_made)
 
-pub enough-each : (w : WorldOf) (session : SessionOf SourceOf) (most : Option ℕ) (plans : List PlanOf) (limited : List Limited) → All (λ (p : PlanOf). p.bindings ≡ w.bindings) plans → AreLimited most plans limited → length w.sources ≡ length w.bindings.loaders → session ≡ session_over w
+pub enough-each : (w : WorldOf) (session : SessionOf SourceOf) (most : Option ℕ) (plans : List PlanOf) (limited : List Limited) → All (λ (p : PlanOf). p.bindings ≡ w.bindings) plans → AreLimited most plans limited → IsOver w session
     → All (λ (l : Limited). length (plan_of l.plan.now).bindings.loaders ≤ length session.loaders) limited
-enough-each w session most plans limited same are each is =
+enough-each w session most plans limited same are over =
     all-limited most (λ (p : PlanOf). length p.bindings.loaders ≤ length session.loaders) plans limited are
-    (All-weaker (λ (p : PlanOf). p.bindings ≡ w.bindings) (λ (p : PlanOf). length p.bindings.loaders ≤ length session.loaders) (λ p e. enough w session p.bindings e each is) plans same)
+    (All-weaker (λ (p : PlanOf). p.bindings ≡ w.bindings) (λ (p : PlanOf). length p.bindings.loaders ≤ length session.loaders) (λ p e. enough w session p.bindings e over) plans same)

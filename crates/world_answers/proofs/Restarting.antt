@@ -1,30 +1,51 @@
--- A session of a world that has answered is that of the world once it starts again.
+-- A new session of a world is one of it, and so is one that has answered, once it starts again.
 use Rattle.std.proofs.Common.{◌≡◌, ◌∙◌, ℕ, List, [], ◌∷◌, map, length, Option, refl, ap}
 use Rattle.csv_source.specs.Tables.{SourceOf}
 use Rattle.gq_bindings.specs.Tree as bindings
 use Rattle.load_memory.specs.Replies.{ReplyOf}
-use Rattle.load_queue.specs.Loaders.{LoaderOf, unasked}
+use Rattle.load_queue.specs.Loaders.{LoaderOf, as_made, unasked}
 use Rattle.execution.specs.Program.{Program}
-use Rattle.execution.specs.Sessions.{Forgot}
+use Rattle.execution.specs.Sessions.{Forgot, Restarted}
 use Rattle.execution.specs.Rounds.{without_failed}
 use Rattle.load_rounds.specs.Headline.{MakesRounds, asked_steps}
 use Rattle.load_rounds.specs.Sessions.{SessionOf, StateOf, state_of, rules_of, restarted}
-use Rattle.load_rounds.proofs.Stepping.{steps-unasked}
+use Rattle.load_rounds.proofs.Stepping.{steps-made}
 use Rattle.world.specs.Worlds.{WorldOf}
 use Rattle.world_answers.specs.Answers.{may_tell}
 use Rattle.world_answers.specs.Sessions.{loader_over, loaders_over, session_over, IsOver}
 
-unasked-over : (limit : Option ℕ) (lines : List bindings.LoaderOf) (sources : List SourceOf) → map unasked (loaders_over limit lines sources) ≡ loaders_over limit lines sources
-unasked-over limit [] sources = refl
-unasked-over limit (line ∷ lines) [] = refl
-unasked-over limit (line ∷ lines) (source ∷ sources) = ap (λ ls. loader_over limit line.name source ∷ ls) (unasked-over limit lines sources)
+-- a session of these loaders of which nothing is known
+abbrev new_over : List (LoaderOf SourceOf) → SessionOf SourceOf
+new_over ls = record { loaders = ls; pairs = []; rounds = 0 }
 
-pub over-answered : (w : WorldOf) (s : SessionOf SourceOf) (p : Program) (log : List (List ReplyOf)) → length w.sources ≡ length w.bindings.loaders → MakesRounds may_tell (state_of (session_over w)) (state_of s) p log → IsOver w (restarted s)
-over-answered w s p log each made =
-    let old : StateOf SourceOf = state_of (session_over w) in
-    let with : List (LoaderOf SourceOf) → SessionOf SourceOf = λ ls. record { loaders = ls; pairs = []; rounds = 0 } in
+module _ (limit : Option ℕ) where
+  made-over : (lines : List bindings.LoaderOf) (sources : List SourceOf) → map as_made (loaders_over limit lines sources) ≡ loaders_over limit lines sources
+  made-over [] sources = refl
+  made-over (line ∷ lines) [] = refl
+  made-over (line ∷ lines) (source ∷ sources) = ap (λ ls. loader_over limit line.name source ∷ ls) (made-over lines sources)
+
+  unasked-over : (lines : List bindings.LoaderOf) (sources : List SourceOf) → map unasked (loaders_over limit lines sources) ≡ loaders_over limit lines sources
+  unasked-over [] sources = refl
+  unasked-over (line ∷ lines) [] = refl
+  unasked-over (line ∷ lines) (source ∷ sources) = ap (λ ls. loader_over limit line.name source ∷ ls) (unasked-over lines sources)
+
+pub over-new : (w : WorldOf) → length w.sources ≡ length w.bindings.loaders → IsOver w (session_over w)
+over-new w each = record {
+  loaders = made-over w.limit w.bindings.loaders w.sources;
+  fresh = ap new_over (unasked-over w.limit w.bindings.loaders w.sources);
+  each = each;
+}
+
+unasked-twice : (ls : List (LoaderOf SourceOf)) → map unasked (map unasked ls) ≡ map unasked ls
+unasked-twice [] = refl
+unasked-twice (l ∷ ls) = ap (λ xs. unasked l ∷ xs) (unasked-twice ls)
+
+pub over-answered : (w : WorldOf) (begun s : SessionOf SourceOf) (p : Program) (log : List (List ReplyOf)) → IsOver w begun → MakesRounds may_tell (state_of begun) (state_of s) p log → IsOver w (restarted s)
+over-answered w begun s p log over made =
+    let old : StateOf SourceOf = state_of begun in
     let steps = Forgot ∷ asked_steps (rules_of old) p (without_failed old.memory) log in
     record {
-      same = ap with (ap (λ (x : StateOf SourceOf). map unasked x.loaders) made.after ∙ steps-unasked old steps ∙ unasked-over w.limit w.bindings.loaders w.sources);
-      each = each;
+      loaders = steps-made (state_of s) (Restarted ∷ []) ∙ ap (λ (x : StateOf SourceOf). map as_made x.loaders) made.after ∙ steps-made old steps ∙ over.loaders;
+      fresh = ap new_over (unasked-twice s.loaders);
+      each = over.each;
     }

@@ -1,6 +1,5 @@
--- Plans that are answered together, over a session of a world that is new: each text is that of direct execution.
-use Rattle.std.proofs.Common.{◌≡◌, ℕ, List, [], ◌∷◌, map, length, subst}
-use Rattle.std.proofs.Math.Path.{fun_ext}
+-- Plans that are answered together, over a session of a world: each text is that of direct execution.
+use Rattle.std.proofs.Common.{◌≡◌, ℕ, List, [], ◌∷◌, map, subst}
 use Rattle.std.specs.List.{AllZip}
 use Rattle.load_memory.specs.Keys.{KeyOf}
 use Rattle.load_memory.specs.Outcomes.{ItemOf}
@@ -24,8 +23,8 @@ use Rattle.world_answers.specs.Answers.{item_at, may_tell, IsDirectText}
 use Rattle.world_answers.specs.Arrays.{AnswersTogether}
 use Rattle.world_answers.specs.Planning.{AreLimited}
 use Rattle.world_answers.specs.Services.{ServiceOf}
-use Rattle.world_answers.specs.Sessions.{loaders_over, session_over}
-use Rattle.world_answers.proofs.Direct.{compare-alike, items-over, nothing-held}
+use Rattle.world_answers.specs.Sessions.{IsOver}
+use Rattle.world_answers.proofs.Direct.{over-alike, over-items, over-held}
 use Rattle.world_answers.proofs.Limits.{limited-asks}
 
 -- ---- the loaders of a world
@@ -48,21 +47,21 @@ module _ (s : ServiceOf) where
   each-direct (p ∷ ps) [] h = absurd h
   each-direct (p ∷ ps) (t ∷ ts) h = (h.0, each-direct ps ts h.1)
 
-  pub direct-each : (after : StateOf SourceOf) (plans : List PlanOf) (reports : List ReportOf) → length s.world.sources ≡ length s.world.bindings.loaders → AnswersTogether s plans after reports → AllZip (λ (p : PlanOf) (t : ReportOf). IsDirectText s p t.text) plans reports
-  direct-each after plans reports sources h =
+  pub direct-each : (after : StateOf SourceOf) (plans : List PlanOf) (reports : List ReportOf) → AnswersTogether s plans after reports → AllZip (λ (p : PlanOf) (t : ReportOf). IsDirectText s p t.text) plans reports
+  direct-each after plans reports h =
       let w = s.world in
-      let old : StateOf SourceOf = state_of (session_over w) in
-      let loaders : List (LoaderOf SourceOf) = loaders_over w.limit w.bindings.loaders w.sources in
+      let old : StateOf SourceOf = state_of h.begun in
       let asked = requests plan_program (λ plan. text_within s.most) plans in
-      let texts : AreTexts asked (direct (item_over item_of_key loaders)) reports =
+      let texts : AreTexts asked (direct (item_over item_of_key old.loaders)) reports =
       report-directly may_tell item_of_key (λ source keys answer is. is) (λ (s : SourceOf). s.mode) item_of_key-folded old after asked reports
-      (compare-alike w.limit w.bindings.loaders w.sources) (nothing-held w.limit (session_modes old) (item_over item_of_key loaders)) h in
-      let same : item_over item_of_key loaders ≡ item_at w.sources = fun_ext (λ loader. fun_ext (λ key. items-over w.limit w.bindings.loaders w.sources loader key sources)) in
-      each-direct plans reports (subst (λ (item : ℕ → KeyOf → ItemOf). AreTexts asked (direct item) reports) same texts)
+      (over-alike w h.begun h.over) (over-held w h.begun h.over (session_modes old) (item_over item_of_key old.loaders)) h.headline in
+      each-direct plans reports (subst (λ (item : ℕ → KeyOf → ItemOf). AreTexts asked (direct item) reports) (over-items w h.begun h.over) texts)
 
--- answers over what was opened as the session of a world
-pub together-anew : (s : ServiceOf) (session : SessionOf SourceOf) (after : StateOf SourceOf) (plans : List PlanOf) (limited : List Limited) (reports : List ReportOf) → session ≡ session_over s.world → AreLimited s.most plans limited
+-- answers over what was opened as a session of a world
+pub together-anew : (s : ServiceOf) (session : SessionOf SourceOf) (after : StateOf SourceOf) (plans : List PlanOf) (limited : List Limited) (reports : List ReportOf) → IsOver s.world session → AreLimited s.most plans limited
     → SharedHeadline may_tell (state_of session) after (requests (λ (l : Limited). plan_program (plan_of l.plan.now)) (λ l. text_within l.most) limited) reports → AnswersTogether s plans after reports
-together-anew s session after plans limited reports is are h =
-    subst (λ z. SharedHeadline may_tell (state_of z) after (requests plan_program (λ plan. text_within s.most) plans) reports) is
-    (subst (λ rs. SharedHeadline may_tell (state_of session) after rs reports) (limited-asks s.most plans limited are) h)
+together-anew s session after plans limited reports over are h = record {
+  begun = session;
+  over = over;
+  headline = subst (λ rs. SharedHeadline may_tell (state_of session) after rs reports) (limited-asks s.most plans limited are) h;
+}

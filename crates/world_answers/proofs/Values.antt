@@ -125,10 +125,10 @@ module _ (s : ServiceOf) where
       }
 
   -- the plans were answered over a session of the world, and their texts stand in their places
-  pub array-answered : (values : List (Option RequestOf)) (refusals : List (Option (List ℕ))) (plans : List PlanOf) (reports : List ReportOf) (after : StateOf SourceOf) (text : List ℕ) → length w.sources ≡ length w.bindings.loaders
+  pub array-answered : (values : List (Option RequestOf)) (refusals : List (Option (List ℕ))) (plans : List PlanOf) (reports : List ReportOf) (after : StateOf SourceOf) (text : List ℕ)
       → PlanValues w values refusals plans → AnswersTogether s plans after reports → text ≡ array_text (in_places refusals (map (λ (t : ReportOf). t.text) reports)) → AnswersArray s values text
-  array-answered values refusals plans reports after text sources h shared e =
-      let f = filled values refusals plans reports h (direct-each s after plans reports sources shared) in
+  array-answered values refusals plans reports after text h shared e =
+      let f = filled values refusals plans reports h (direct-each s after plans reports shared) in
       record {
         places = f.places;
         each = f.each;
@@ -143,10 +143,10 @@ texts-report : (answers : List Answer) → map (λ (t : ReportOf). t.text) (map 
 texts-report [] = refl
 texts-report (a ∷ as') = ap (λ ts. string_bytes a.text ∷ ts) (texts-report as')
 
-pub array-report : (s : ServiceOf) (values : List (Option RequestOf)) (array : ArrayPlan) (answers : List Answer) (after : StateOf SourceOf) (text : List ℕ) → length s.world.sources ≡ length s.world.bindings.loaders → PlansArray s.world values array
+pub array-report : (s : ServiceOf) (values : List (Option RequestOf)) (array : ArrayPlan) (answers : List Answer) (after : StateOf SourceOf) (text : List ℕ) → PlansArray s.world values array
     → AnswersTogether s (plans_of array) after (map report_of answers) → text ≡ array_text (in_places (refusals_of array) (map (λ (a : Answer). string_bytes a.text) answers)) → AnswersArray s values text
-array-report s values array answers after text sources h shared e =
-    array-answered s values (refusals_of array) (plans_of array) (map report_of answers) after text sources h shared (e ∙ ap (λ ts. array_text (in_places (refusals_of array) ts)) (sym (texts-report answers)))
+array-report s values array answers after text h shared e =
+    array-answered s values (refusals_of array) (plans_of array) (map report_of answers) after text h shared (e ∙ ap (λ ts. array_text (in_places (refusals_of array) ts)) (sym (texts-report answers)))
 
 pub array-bound : (w : WorldOf) (values : List (Option RequestOf)) (array : ArrayPlan) → PlansArray w values array → All (λ (p : PlanOf). p.bindings ≡ w.bindings) (plans_of array)
 array-bound w values array h = plans-bound w values (refusals_of array) (plans_of array) h

@@ -22,7 +22,7 @@ use Rattle.world.specs.declared.request.RequestFault.{RequestFault}
 use Rattle.world.specs.Requests.{IsPlanOf, IsRequestFault, is_want_of_memory, request_message, request_place}
 use Rattle.world.specs.Worlds.{WorldOf}
 use Rattle.world_answers.specs.Services.{ServiceOf}
-use Rattle.world_answers.specs.Sessions.{session_over}
+use Rattle.world_answers.specs.Sessions.{IsOver}
 
 -- ---- *Direct execution*
 
@@ -46,11 +46,13 @@ IsDirectText s plan text = IsTextOf (text_within s.most) (plan_program plan) (di
 abbrev pub may_tell : SourceOf → List KeyOf → AnswerOf → Type 0
 may_tell source keys answer = answer ≡ given (map (item_of_key source) keys)
 
--- The plan, which is of a valid document, was answered by this text in the session of the world, which was new and is in this
--- state after so many rounds: its log holds all that was asked, in batches of at most the world's limit.
+-- The plan, which is of a valid document, was answered by this text in a session of the world, which was new when it was opened and is
+-- in this state after so many rounds: its log holds all that was asked, in batches of at most the world's limit.
 pub record AnswersAnew (s : ServiceOf) (plan : PlanOf) (after : StateOf SourceOf) (text : List ℕ) (rounds : ℕ) : Type 0 where
   pub valid : IsPlan plan
-  pub headline : Headline may_tell (state_of (session_over s.world)) after (plan_program plan) (text_within s.most) text rounds
+  pub begun : SessionOf SourceOf
+  pub over : IsOver s.world begun
+  pub headline : Headline may_tell (state_of begun) after (plan_program plan) (text_within s.most) text rounds
 
 -- the same of an answer in a session
 abbrev pub IsGivenAnew : ServiceOf → PlanOf → SessionOf SourceOf → Answer → Type 0

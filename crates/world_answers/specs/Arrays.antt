@@ -14,14 +14,16 @@ use Rattle.request_line.specs.Requests.{RequestOf}
 use Rattle.world.specs.Worlds.{WorldOf}
 use Rattle.world_answers.specs.Answers.{IsDirectText, may_tell, IsPlanned, not_a_request, IsRefusal}
 use Rattle.world_answers.specs.Services.{ServiceOf}
-use Rattle.world_answers.specs.Sessions.{session_over}
+use Rattle.world_answers.specs.Sessions.{IsOver}
 
 -- ---- the session of an array
 
--- The plans were answered by these texts over one session of the world, which was new and is in this state after all of them: its log holds
--- what was asked, in batches of at most the world's limit.
-abbrev pub AnswersTogether : ServiceOf → List PlanOf → StateOf SourceOf → List ReportOf → Type 0
-AnswersTogether s plans after reports = SharedHeadline may_tell (state_of (session_over s.world)) after (requests plan_program (λ plan. text_within s.most) plans) reports
+-- The plans were answered by these texts over one session of the world, which was new when it was opened and is in this state after all of
+-- them: its log holds what was asked, in batches of at most the world's limit.
+pub record AnswersTogether (s : ServiceOf) (plans : List PlanOf) (after : StateOf SourceOf) (reports : List ReportOf) : Type 0 where
+  pub begun : SessionOf SourceOf
+  pub over : IsOver s.world begun
+  pub headline : SharedHeadline may_tell (state_of begun) after (requests plan_program (λ plan. text_within s.most) plans) reports
 
 -- the same of answers in a session
 abbrev pub AreGivenTogether : ServiceOf → List PlanOf → SessionOf SourceOf → Vec Answer → Type 0

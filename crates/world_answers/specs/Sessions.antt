@@ -1,14 +1,14 @@
 -- The session of a world.
-use Rattle.std.specs.Prelude.{◌≡◌, ℕ, List, [], ◌∷◌, Option, length}
+use Rattle.std.specs.Prelude.{◌≡◌, ℕ, List, [], ◌∷◌, Option, map, length}
 use Rattle.gq_bindings.specs.Tree as bindings
 use Rattle.csv_source.specs.Tables.{SourceOf}
-use Rattle.load_queue.specs.Loaders.{LoaderOf}
-use Rattle.load_rounds.specs.Sessions.{SessionOf}
+use Rattle.load_queue.specs.Loaders.{LoaderOf, as_made}
+use Rattle.load_rounds.specs.Sessions.{SessionOf, restarted}
 use Rattle.world.specs.Worlds.{WorldOf}
 
 -- the loader of a name over its source: it compares keys as the source does, and has asked nothing
 abbrev pub loader_over : Option ℕ → List ℕ → SourceOf → LoaderOf SourceOf
-loader_over limit name source = record { name = name; source = source; mode = source.mode; limit = limit; log = [] }
+loader_over limit name source = record { name = name; source = source; mode = source.mode; limit = limit; log = []; orders = 0 }
 
 -- the loaders of lines over their sources, in order
 abbrev pub loaders_over : Option ℕ → List bindings.LoaderOf → List SourceOf → List (LoaderOf SourceOf)
@@ -16,11 +16,15 @@ loaders_over limit [] sources = []
 loaders_over limit (line ∷ lines) [] = []
 loaders_over limit (line ∷ lines) (source ∷ sources) = loader_over limit line.name source ∷ loaders_over limit lines sources
 
--- the session of a world: the loaders of its bindings over its sources, and nothing is known
+-- the new session of a world: the loaders of its bindings over its sources, and nothing is known
 abbrev pub session_over : WorldOf → SessionOf SourceOf
 session_over w = record { loaders = loaders_over w.limit w.bindings.loaders w.sources; pairs = []; rounds = 0 }
 
--- the session is that of a world, in which each loader of the bindings has a source
+-- The session is one of a world, new but for the counts of orders.
 pub record IsOver (w : WorldOf) (s : SessionOf SourceOf) : Type 0 where
-  pub same : s ≡ session_over w
+  -- the loaders are those of the bindings over the world's sources, but for the counts of their orders
+  pub loaders : map as_made s.loaders ≡ loaders_over w.limit w.bindings.loaders w.sources
+  -- nothing is in their logs, nothing is known, and no round was made
+  pub fresh : restarted s ≡ s
+  -- each loader of the bindings has a source
   pub each : length w.sources ≡ length w.bindings.loaders

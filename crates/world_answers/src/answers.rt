@@ -1,6 +1,6 @@
 //! What answers request lines, each by itself: no line sees what another asked.
 
-ghost use Rattle.std.specs.Prelude.{◌≡◌, ℕ, List, IfOk, OnOk, length, string_bytes};
+ghost use Rattle.std.specs.Prelude.{◌≡◌, ℕ, List, IfOk, string_bytes};
 ghost use Rattle.gq_check.specs.Plans.{plan_of};
 ghost use Rattle.world_answers.specs.Answers.{IsAnsweredAnew, IsGivenAnew};
 ghost use Rattle.world_answers.specs.Lines.{IsAnswer};
@@ -33,9 +33,7 @@ fn answer_plan<'w, B: Served>(
 ) -> Result<InSession<CsvSource<'w>, Answer>, NoMemory>
     requires world { service.now.world.now ≡ B.world }
     requires plan { (plan_of plan.now).bindings ≡ service.now.world.now.bindings }
-    ensures anew { IfOk result (λ given. IsGivenAnew (service_of service.now) (plan_of plan.now) given.session given.answered) }
-    // Each loader of the bindings has a source.
-    ensures each { OnOk result (length service.now.world.now.sources ≡ length service.now.world.now.bindings.loaders) }
+    ensures { IfOk result (λ given. IsGivenAnew (service_of service.now) (plan_of plan.now) given.session given.answered) }
 {
     // A contract sees here that the plan is of a valid document.
     let _ = plan.operation();

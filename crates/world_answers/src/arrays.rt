@@ -1,6 +1,6 @@
 //! Arrays of requests: what their values ask over a world, and their answers, of which those of plans are given over one session.
 
-ghost use Rattle.std.specs.Prelude.{◌≡◌, [], All, map, length, IfOk, OnOk, string_bytes};
+ghost use Rattle.std.specs.Prelude.{◌≡◌, [], All, map, IfOk, OnOk, string_bytes};
 ghost use Rattle.world.specs.Worlds.{WorldOf};
 ghost use Rattle.world_answers.specs.Arrays.{AreGivenTogether, array_text};
 ghost use Rattle.world_answers.specs.Planning.{PlansArray, AddsPlan, AnswersArrayPlan, AreLimited, refusals_of, plans_of, in_places};
@@ -112,9 +112,7 @@ fn answer_plans<'w, B: Served>(
 ) -> Result<InSession<CsvSource<'w>, Vec<Answer>>, NoMemory>
     requires world { service.now.world.now ≡ B.world }
     requires plans { All (λ plan. plan.bindings ≡ service.now.world.now.bindings) (plans_of array.now) }
-    ensures anew { IfOk result (λ given. AreGivenTogether (service_of service.now) (plans_of array.now) given.session given.answered) }
-    // Each loader of the bindings has a source.
-    ensures each { OnOk result (length service.now.world.now.sources ≡ length service.now.world.now.bindings.loaders) }
+    ensures { IfOk result (λ given. AreGivenTogether (service_of service.now) (plans_of array.now) given.session given.answered) }
 {
     let plans = array.limited(alloc, service.max_answer)?;
     let Ok(mut session) = kept.open(alloc, service.world) else {

@@ -1,6 +1,6 @@
 //! Arrays of requests, whose plans are answered over one session by workers.
 
-ghost use Rattle.std.specs.Prelude.{◌≡◌, All, length, IfOk, OnOk, string_bytes};
+ghost use Rattle.std.specs.Prelude.{◌≡◌, All, IfOk, string_bytes};
 ghost use Rattle.batch_workers.specs.Workers.{IsBadCount};
 ghost use Rattle.world_answers.specs.Arrays.{AreGivenTogether};
 ghost use Rattle.world_answers.specs.Planning.{AnswersArrayPlan, plans_of};
@@ -29,9 +29,7 @@ fn answer_plans<'w, R: Threads + Wait + AllocGlobal + Sync, G: Gate + Copy, B: S
     requires world { service.now.world.now ≡ B.world }
     requires plans { All (λ plan. plan.bindings ≡ service.now.world.now.bindings) (plans_of array.now) }
     requires count { ¬ (IsBadCount workers) }
-    ensures anew { IfOk result (λ given. AreGivenTogether (service_of service.now) (plans_of array.now) given.session given.answered) }
-    // Each loader of the bindings has a source.
-    ensures each { OnOk result (length service.now.world.now.sources ≡ length service.now.world.now.bindings.loaders) }
+    ensures { IfOk result (λ given. AreGivenTogether (service_of service.now) (plans_of array.now) given.session given.answered) }
 {
     let plans = array.limited(rt.alloc(), service.max_answer)?;
     let Ok(mut session) = kept.open(rt.alloc(), service.world) else {

@@ -1,8 +1,8 @@
 //! The session of a run behind a gate, which one line after another uses.
 
-ghost use Rattle.std.specs.Prelude.{◌≡◌, IfOk, OnOk, length};
+ghost use Rattle.std.specs.Prelude.{◌≡◌, IfOk};
 ghost use Rattle.load_rounds.specs.Sessions.{restarted};
-ghost use Rattle.world_answers.specs.Sessions.{IsOver, session_over};
+ghost use Rattle.world_answers.specs.Sessions.{IsOver};
 
 use crate::gate::Gate;
 use crate::gated::Gated;
@@ -14,8 +14,8 @@ use std::marker::{Model, PhantomData};
 use world::World;
 use world_answers::Served;
 
-/// Between lines, a session over the sources of a run's world behind a gate, once there was one. It is as a new one: it started
-/// again when its line was answered, so that no line sees what another asked, and nothing of an answer is kept.
+/// Between lines, a session over the sources of a run's world behind a gate, once there was one. It is as a new one but for the counts of
+/// its orders: it started again when its line was answered, so that no line sees what another asked, and nothing of an answer is kept.
 #[derive(Drop)]
 pub(crate) struct KeptSession<'w, G, B: Served> {
     session: Option<Session<Gated<'w, G>>>,
@@ -65,8 +65,7 @@ impl<'w, G: Gate + Copy, B: Served> KeptSession<'w, G, B> {
         world: &'w World,
     ) -> Result<Session<Gated<'w, G>>, NoMemory>
         requires { world.now ≡ B.world }
-        ensures opened { IfOk result (λ session. session ≡ session_over world.now) }
-        ensures each { OnOk result (length world.now.sources ≡ length world.now.bindings.loaders) }
+        ensures { IfOk result (IsOver world.now) }
     {
         match self.session.take() {
             Some(session) => Ok(session),

@@ -1,6 +1,6 @@
 //! Plans with a limit, answered by workers over sources of any type.
 //!
-//! Where the type of the sources is known, a call of [`execute_with`] would have to prove by hand what threads need of it.
+//! Where the type of the sources is known, a call of [`answer_with`] would have to prove by hand what threads need of it.
 
 ghost use Rattle.std.specs.Prelude.{◌↔◌, All, IfOk, IsErrOf};
 ghost use Rattle.load_rounds.specs.Sessions.{state_of};
@@ -8,7 +8,7 @@ ghost use Rattle.load_rounds.specs.SharedRounds.{AreAnswers};
 ghost use Rattle.batch_workers.specs.Workers.{IsBadCount};
 ghost use Rattle.world_workers.specs.Within.{limited_requests, HasLoadersFor, IsAnsweredWithin};
 
-use batch_workers::{WorkFault, execute_all_with, execute_with};
+use batch_workers::{WorkFault, answer_all_with, answer_with};
 use gq_resolve::Limited;
 use load_queue::Source;
 use load_rounds::{Answer, Session};
@@ -26,7 +26,7 @@ pub(crate) fn answer_within<S: Source, R: Threads + Wait + Sync>(
     ensures bad_count { IsErrOf result WorkFault.BadCount ↔ IsBadCount workers }
     ensures answer { IfOk result (IsAnsweredWithin S.may_answer (state_of session.old) (state_of session.new) limited.now) }
 {
-    execute_with(rt, session, limited, workers)
+    answer_with(rt, session, limited, workers)
 }
 
 /// Answers several plans, each within its limit, over one session and by so many workers.
@@ -40,5 +40,5 @@ pub(crate) fn answer_all_within<S: Source, R: Threads + Wait + Sync>(
     ensures bad_count { IsErrOf result WorkFault.BadCount ↔ IsBadCount workers }
     ensures answers { IfOk result (AreAnswers S.may_answer (state_of session.old) (state_of session.new) (limited_requests plans.now)) }
 {
-    execute_all_with(rt, session, plans, workers)
+    answer_all_with(rt, session, plans, workers)
 }

@@ -43,9 +43,7 @@ fn answer_plan<'w, R: Threads + Wait + AllocGlobal + Sync, G: Gate + Copy, B: Se
     requires world { service.now.world.now ≡ B.world }
     requires plan { (plan_of plan.now).bindings ≡ service.now.world.now.bindings }
     requires count { ¬ (IsBadCount workers) }
-    ensures anew { IfOk result (λ given. IsGivenAnew (service_of service.now) (plan_of plan.now) given.session given.answered) }
-    // Each loader of the bindings has a source.
-    ensures each { OnOk result (length service.now.world.now.sources ≡ length service.now.world.now.bindings.loaders) }
+    ensures { IfOk result (λ given. IsGivenAnew (service_of service.now) (plan_of plan.now) given.session given.answered) }
 {
     // A contract sees here that the plan is of a valid document.
     let _ = plan.operation();

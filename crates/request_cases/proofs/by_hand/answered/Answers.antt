@@ -2,7 +2,7 @@ use Rattle.std.proofs.Common.{◌≡◌, ◌+◌, ap, sym, arith, refl}
 use Rattle.execution.specs.Program.{Program}
 use Rattle.load_rounds.specs.Sessions.{state_of}
 use Rattle.load_rounds.specs.Runs.{RunOf}
-use Rattle.load_rounds.proofs.Runs.{between-loaders, round-below, round-orders}
+use Rattle.load_rounds.proofs.Runs.{between-loaders, round-below, round-orders, round-asked}
 use Rattle.request_cases.proofs.by_hand.answered.Goals as goal
 
 pub next_round-requires : goal.next_round-requires
@@ -25,7 +25,8 @@ run_round-requires g c =
     let same : c.next_round.new.self.plan ≡ c.loop-answer.run.plan = ap (λ (r : RunOf _). r.plan) next.1 in
     let orders = round-orders p (state_of c.loop-answer.session) (state_of c.next_round.new.session) c.in-Round.orders.items next.0 in
     let below = round-below p (state_of c.loop-answer.session) (state_of c.next_round.new.session) c.in-Round.orders.items next.0 in
-    λ κs. ((refl, tt), (ap (λ (r : RunOf _). r.stage) next.1, (rw same (sym orders), below)))
+    let asked = round-asked p (state_of c.loop-answer.session) (state_of c.next_round.new.session) c.in-Round.orders.items next.0 in
+    λ κs. ((refl, tt), (ap (λ (r : RunOf _). r.stage) next.1, (rw same asked, (rw same (sym orders), below))))
 
 pub loop-answer-smaller : goal.loop-answer-smaller
 loop-answer-smaller g c =

@@ -7,11 +7,11 @@ use Rattle.plan_program.specs.PlanPrograms.{plan_program}
 use Rattle.execution.specs.Executes.{GrowsTo}
 use Rattle.gq_resolve.specs.Suspended.{plan_in, FitsMemory}
 use Rattle.load_rounds.specs.Sessions.{state_of, memory_of}
-use Rattle.load_rounds.specs.Runs.{RunOf, run_of, front_in, orders_in, IsBetween, IsRun}
+use Rattle.load_rounds.specs.Runs.{RunOf, run_of, front_in, orders_in, IsAsked, IsBetween, IsRun}
 use Rattle.load_rounds.specs.declared.run.Stage.{Stage}
 use Rattle.load_rounds.specs.declared.run.Stage.TheVariants.{Ready, Out}
 use Rattle.load_rounds.proofs.Growing.{grows-trans, memory-is, lost-grows}
-use Rattle.load_rounds.proofs.Runs.{modes-size, between-loaders, round-below, round-orders}
+use Rattle.load_rounds.proofs.Runs.{modes-size, between-loaders, round-below, round-orders, round-asked}
 use Rattle.request_cases.proofs.resumed.answered.Goals as goal
 
 pub compared-requires : goal.compared-requires
@@ -45,7 +45,8 @@ run_round-requires g c =
     let orders = round-orders p (state_of c.loop-built.session) (state_of now) items next.0 in
     let below = round-below p (state_of c.loop-built.session) (state_of now) items next.0 in
     let batches = subst (λ (x : Plan). items ≡ orders_in (state_of now) (plan_program (plan_of x))) (sym same) (sym orders) in
-    λ κs. ((refl, tt), (ap (λ (r : RunOf Plan). r.stage) next.1, (batches, below)))
+    let asked = subst (λ (x : Plan). IsAsked (plan_program (plan_of x)) (state_of now)) (sym same) (round-asked p (state_of c.loop-built.session) (state_of now) items next.0) in
+    λ κs. ((refl, tt), (ap (λ (r : RunOf Plan). r.stage) next.1, (asked, (batches, below))))
 
 pub loop-built-smaller : goal.loop-built-smaller
 loop-built-smaller g c =

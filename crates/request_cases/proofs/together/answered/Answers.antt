@@ -6,7 +6,7 @@ use Rattle.load_rounds.specs.SharedRounds.{requests, joint, AreAnswers}
 use Rattle.load_rounds.specs.Runs.{IsRun}
 use Rattle.load_rounds.specs.declared.run.Stage.{Stage}
 use Rattle.load_rounds.specs.declared.run.Stage.TheVariants.{Ready}
-use Rattle.load_rounds.proofs.Runs.{between-loaders, round-below, round-orders}
+use Rattle.load_rounds.proofs.Runs.{between-loaders, round-below, round-orders, round-asked}
 use Rattle.request_cases.proofs.together.answered.Goals as goal
 
 pub next_round-requires : goal.next_round-requires
@@ -41,7 +41,8 @@ take-requires g c =
     let next = rw c.in-Round.is at c.in_ok-answers.ensures.next in
     let orders = round-orders p (state_of c.loop-run.session) (state_of c.next_round.new.session) c.in-Round.orders.items next.0 in
     let found = c.in_ok-receipts-in-Round.ensures in
-    λ κs. ((refl, tt), (next.2, (rw c.as_slice.ensures.value found.shelf, rw (c.in_ok-answers.ensures.plans, orders, c.as_slice.ensures.value, ← c.loaders.ensures) found.received)))
+    let asked = round-asked p (state_of c.loop-run.session) (state_of c.next_round.new.session) c.in-Round.orders.items next.0 in
+    λ κs. ((refl, tt), (next.2, (rw c.in_ok-answers.ensures.plans asked, (rw c.as_slice.ensures.value found.shelf, rw (c.in_ok-answers.ensures.plans, orders, c.as_slice.ensures.value, ← c.loaders.ensures) found.received))))
 
 pub loop-run-preserved : goal.loop-run-preserved
 loop-run-preserved g c =

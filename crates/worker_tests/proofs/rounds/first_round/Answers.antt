@@ -3,7 +3,7 @@ use Rattle.load_memory.specs.Shelves.{shown}
 use Rattle.execution.specs.Program.{Program}
 use Rattle.load_rounds.specs.Sessions.{StateOf, state_of}
 use Rattle.load_rounds.specs.Runs.{RunOf}
-use Rattle.load_rounds.proofs.Runs.{round-below, round-orders}
+use Rattle.load_rounds.proofs.Runs.{round-below, round-orders, round-asked}
 use Rattle.batch_workers.proofs.Receipts.{received}
 use Rattle.worker_tests.proofs.rounds.first_round.Goals as goal
 
@@ -29,4 +29,5 @@ take-requires g c =
     let orders = round-orders p (state_of c.begin.new.self) s c.in-Round.orders.items next.0 in
     let answered = rw c.loaders.ensures at c.in_ok-receipts.ensures.answered in
     let round = received may s.loaders c.in_ok-shelf.shelf c.in-Round.orders.items c.in_ok-receipts.receipts.items answered in
-    λ κs. ((refl, tt), (out, (rw c.as_slice-2.ensures.value c.in_ok-receipts.ensures.shelved, rw (same, orders, c.as_slice-2.ensures.value) round)))
+    let asked = round-asked p (state_of c.begin.new.self) s c.in-Round.orders.items next.0 in
+    λ κs. ((refl, tt), (out, (rw same asked, (rw c.as_slice-2.ensures.value c.in_ok-receipts.ensures.shelved, rw (same, orders, c.as_slice-2.ensures.value) round))))

@@ -12,10 +12,10 @@ answer_all-requires g c =
     let most = c.args.service.now.max_answer in
     let plans = plans_of c.args.array.now in
     let limited = subst (AreLimited most plans) (sym c.deref.ensures.value) c.in_ok-plans.ensures in
-    λ κs. ((refl, tt), enough-each c.args.service.now.world.now c.in-Ok.session most plans c.deref.result.now c.requires.plans limited c.in-Ok.ensures.each c.in-Ok.ensures.opened)
+    λ κs. ((refl, tt), enough-each c.args.service.now.world.now c.in-Ok.session most plans c.deref.result.now c.requires.plans limited c.in-Ok.ensures)
 
-pub returns-in-Ok-answer_all-clause-anew : goal.returns-in-Ok-answer_all-clause-anew
-returns-in-Ok-answer_all-clause-anew g c =
+pub returns-in-Ok-answer_all : goal.returns-in-Ok-answer_all
+returns-in-Ok-answer_all g c =
     let plans = plans_of c.args.array.now in
     let limited = subst (AreLimited c.args.service.now.max_answer plans) (sym c.deref.ensures.value) c.in_ok-plans.ensures in
-    together-anew (service_of c.args.service.now) c.in-Ok.session (state_of c.answer_all.new.self) plans c.deref.result.now (map report_of c.in-Ok-answer_all.answered.items) c.in-Ok.ensures.opened limited c.in-Ok-answer_all.ensures.answers
+    together-anew (service_of c.args.service.now) c.in-Ok.session (state_of c.answer_all.new.self) plans c.deref.result.now (map report_of c.in-Ok-answer_all.answered.items) c.in-Ok.ensures limited c.in-Ok-answer_all.ensures.answers

@@ -12,11 +12,11 @@ answer_all_within-requires-clause-loaders g c =
     let most = c.args.service.now.max_answer in
     let plans = plans_of c.args.array.now in
     let limited = subst (AreLimited most plans) (sym c.deref.ensures.value) c.in_ok-plans.ensures in
-    let enough = enough-each c.args.service.now.world.now c.in-Ok.session most plans c.deref.result.now c.requires.plans limited c.in-Ok.ensures.each c.in-Ok.ensures.opened in
+    let enough = enough-each c.args.service.now.world.now c.in-Ok.session most plans c.deref.result.now c.requires.plans limited c.in-Ok.ensures in
     λ κs l. enough
 
-pub returns-in-Ok-answer_all_within-clause-anew : goal.returns-in-Ok-answer_all_within-clause-anew
-returns-in-Ok-answer_all_within-clause-anew g c =
+pub returns-in-Ok-answer_all_within : goal.returns-in-Ok-answer_all_within
+returns-in-Ok-answer_all_within g c =
     let plans = plans_of c.args.array.now in
     let limited = subst (AreLimited c.args.service.now.max_answer plans) (sym c.deref.ensures.value) c.in_ok-plans.ensures in
-    together-anew (service_of c.args.service.now) c.in-Ok.session (state_of c.answer_all_within.new.session) plans c.deref.result.now (map report_of c.in-Ok-answer_all_within.answered.items) c.in-Ok.ensures.opened limited c.in-Ok-answer_all_within.ensures.answers
+    together-anew (service_of c.args.service.now) c.in-Ok.session (state_of c.answer_all_within.new.session) plans c.deref.result.now (map report_of c.in-Ok-answer_all_within.answered.items) c.in-Ok.ensures limited c.in-Ok-answer_all_within.ensures.answers

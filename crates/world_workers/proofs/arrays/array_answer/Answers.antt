@@ -12,7 +12,7 @@ use Rattle.world_workers.proofs.arrays.array_answer.Goals as goal
 pub keep-requires : goal.keep-requires
 keep-requires g c =
     subst (λ w. IsOver w (restarted c.in-Ok.field-0.session)) c.requires.world
-    (over-answered c.args.service.now.world.now c.in-Ok.field-0.session _ _ c.in-Ok.ensures.each c.in-Ok.ensures.anew.made)
+    (over-answered c.args.service.now.world.now _ c.in-Ok.field-0.session _ _ c.in-Ok.ensures.over c.in-Ok.ensures.headline.made)
 
 pub returns-in_ok-text-in-Ok : goal.returns-in_ok-text-in-Ok
 returns-in_ok-text-in-Ok g c = λ values are.
@@ -20,4 +20,4 @@ returns-in_ok-text-in-Ok g c = λ values are.
     let text = string_bytes c.in_ok-text-in-Ok.field-0 in
     let text_of = λ (a : Answer). string_bytes a.text in
     let report : text ≡ array_text (in_places (refusals_of array) (map text_of c.in-Ok.field-0.answered.items)) = c.in_ok-text-in-Ok.ensures ∙ ap (λ answers. array_text (in_places (refusals_of array) (map text_of answers))) c.deref.ensures.value in
-    array-report (service_of c.args.service.now) values array c.in-Ok.field-0.answered.items (state_of c.in-Ok.field-0.session) text c.in-Ok.ensures.each are c.in-Ok.ensures.anew report
+    array-report (service_of c.args.service.now) values array c.in-Ok.field-0.answered.items (state_of c.in-Ok.field-0.session) text are c.in-Ok.ensures report

@@ -10,7 +10,7 @@ use Rattle.world_workers.proofs.serving.plan_text.Goals as goal
 pub keep-requires : goal.keep-requires
 keep-requires g c =
     subst (λ w. IsOver w (restarted c.in-Ok.field-0.session)) c.requires.world
-    (over-answered c.args.service.now.world.now c.in-Ok.field-0.session _ _ c.in-Ok.ensures.each c.in-Ok.ensures.anew.headline.made)
+    (over-answered c.args.service.now.world.now _ c.in-Ok.field-0.session _ _ c.in-Ok.ensures.over c.in-Ok.ensures.headline.made)
 
 pub returns-in-Ok : goal.returns-in-Ok
-returns-in-Ok g c = answer-direct (service_of c.args.service.now) _ (plan_of c.args.plan.now) (string_bytes c.in-Ok.field-0.answered.text) _ c.in-Ok.ensures.each c.in-Ok.ensures.anew
+returns-in-Ok g c = answer-direct (service_of c.args.service.now) _ (plan_of c.args.plan.now) (string_bytes c.in-Ok.field-0.answered.text) _ c.in-Ok.ensures
