@@ -13,3 +13,4 @@ pub mod SharedLaws
 pub mod OnceLaws
 pub mod FewestLaws
 pub mod PartLaws
+pub mod Executing
