@@ -1,4 +1,4 @@
-use Rattle.std.proofs.Common.{ap, arith, refl, rules}
+use Rattle.std.proofs.Common.{ap, arith, length, refl, rules}
 use Rattle.embedding.proofs.client.answer.Goals as goal
 
 pub answer_with-requires : goal.answer_with-requires
