@@ -1,10 +1,11 @@
 //! Answers with workers beside answers in turn, over the sample world and one with votes.
 
-ghost use Rattle.std.specs.Prelude.{◌≡◌};
+ghost use Rattle.std.specs.Prelude.{◌≡◌, ◌≤◌, length};
+ghost use Rattle.gq_check.specs.Plans.{plan_of as plan_seen};
 
 use crate::expect;
 use crate::sample::{votes_world, world};
-use batch_workers::answer_with;
+use batch_workers::{WorkFault, answer_with};
 use csv_source::CsvSource;
 use gq_check::Plan;
 use load_memory::{Cell, Key, Outcome, Row, cache_key};
@@ -147,6 +148,18 @@ fn session<'w>(
     Ok(Session::new(alloc, loaders)?)
 }
 
+/// An answer with workers of a session that has the loaders of its plan.
+fn answered<R: Threads + Wait + AllocGlobal + Sync>(
+    rt: &R,
+    session: &mut Session<CsvSource<'_>>,
+    plan: &Plan<'_>,
+    workers: usize,
+) -> Result<Answer, WorkFault>
+    requires { length (plan_seen plan.now).bindings.loaders ≤ length session.old.loaders }
+{
+    answer_with(rt, session, plan, workers)
+}
+
 /// What is reported of the answer of a new session with so many workers, or in turn.
 fn answer_report<R: Threads + Wait + AllocGlobal + Sync>(
     rt: &R,
@@ -160,7 +173,7 @@ fn answer_report<R: Threads + Wait + AllocGlobal + Sync>(
         return Err(Fail::from("too few loaders"));
     }
     let answer = match workers {
-        Some(workers) => answer_with(rt, &mut session, plan, workers)?,
+        Some(workers) => answered(rt, &mut session, plan, workers)?,
         None => session.answer(plan)?,
     };
     report(rt.alloc(), &answer, &session)

@@ -1,5 +1,8 @@
 //! Answers with workers: their texts, their rounds, what was asked and what is known then.
 
+ghost use Rattle.std.specs.Prelude.{◌≤◌, length};
+ghost use Rattle.gq_check.specs.Plans.{plan_of as plan_seen};
+
 use crate::expect;
 use crate::probe::{Board, Manner, Probe};
 use crate::sample::{plan_of, push_key, read, session};
@@ -225,6 +228,18 @@ const BREAKDOWNS: &[Case] = &[
     },
 ];
 
+/// An answer with workers of a session that has the loaders of its plan.
+fn answered<R: Threads + Wait + Sync>(
+    rt: &R,
+    session: &mut Session<Probe<'_>>,
+    plan: &Plan<'_>,
+    workers: usize,
+) -> Result<Answer, WorkFault>
+    requires { length (plan_seen plan.now).bindings.loaders ≤ length session.old.loaders }
+{
+    answer_with(rt, session, plan, workers)
+}
+
 /// An answer with workers.
 fn answer<R: Threads + Wait + Sync>(
     rt: &R,
@@ -235,7 +250,7 @@ fn answer<R: Threads + Wait + Sync>(
     if session.loaders().len() < plan.loaders() {
         return Err(Fail::from("too few loaders"));
     }
-    Ok(answer_with(rt, session, plan, workers))
+    Ok(answered(rt, session, plan, workers))
 }
 
 /// What is reported of an answer, and whether a source was still being asked when it was there.
