@@ -7,7 +7,7 @@ use Rattle.world_workers.proofs.kept_session.KeptSession.open.Goals.{in-Some, in
 -- src/kept_session.rt:62:5
 pub returns : goal.returns
 returns g c = elim c.match-take.branch [
-    in-Some w ↦ rw w.result-is (subst (λ v. IsOver v w.in-Some.session) (sym c.requires)
+  | in-Some w ↦ rw w.result-is (subst (λ v. IsOver v w.in-Some.session) (sym c.requires)
       (subst (λ o. IfSome o (IsOver g.B.Served.world)) (sym c.take.ensures.value ∙ w.in-Some.is) c.self.invariant))
   | in-None w ↦ rw w.result-is (over-opened c.args.world.now w.gated_session.result w.gated_session.ensures.opened w.gated_session.ensures.each)
-  ]
+]
