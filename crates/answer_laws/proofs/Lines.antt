@@ -25,16 +25,19 @@ use Rattle.gq_check.specs.Prepared.{PreparedOf, FaultOf as Unprepared, no_such_o
 use Rattle.gq_check.specs.Verdict.{FaultOf, Breaks, TooComplex, TooDeep, NotServed, IsVerdict, IsValid}
 use Rattle.load_rounds.specs.SharedRounds.{ReportOf}
 use Rattle.request_line.specs.Requests.{RequestOf, asked, asked_each, most_requests, IsRequest, AreRequests, IsNoRequest}
-use Rattle.world.specs.declared.request.RequestFault.{RequestFault}
-use Rattle.world.specs.declared.request.RequestFault.TheVariants as fault
-use Rattle.world.specs.Requests.{IsPlanOf, IsInvalid, IsUnprepared, IsRequestFault, is_want_of_memory, request_message, request_place}
-use Rattle.world.specs.Worlds.{WorldOf, HasSources}
-use Rattle.world_answers.specs.Answers.{values_of, IsPlanned, IsFaulty, IsAnsweredAnew, refusal_text, not_a_request, AnswersRequest, faulty, planned}
-use Rattle.world_answers.specs.Arrays.{array_text, AnswersArray}
+use Rattle.request_plans.specs.declared.fault.RequestFault.{RequestFault}
+use Rattle.request_plans.specs.declared.fault.RequestFault.TheVariants as fault
+use Rattle.request_plans.specs.Requests.{IsPlanOf, IsInvalid, IsUnprepared, IsRequestFault, is_want_of_memory, request_message, request_place}
+use Rattle.world.specs.Worlds.{HasSources}
+use Rattle.request_plans.specs.Servers.{ServerOf}
+use Rattle.request_plans.specs.Planning.{values_of, IsPlanned, IsFaulty, refusal_text, not_a_request, PlanValues}
+use Rattle.world_answers.specs.Answers.{IsAnsweredAnew, AnswersRequest, faulty, planned}
+use Rattle.server.specs.Arrays.{array_text, in_places}
+use Rattle.world_answers.specs.Arrays.{AnswersArray}
 use Rattle.world_answers.specs.Lines.{IsAnswer, no_request, request, several}
-use Rattle.world_answers.specs.Services.{ServiceOf}
-use Rattle.world_answers.specs.Planning.{PlanValues, in_places}
-use Rattle.world_answers.proofs.Values.{plans-bound, array-answered}
+use Rattle.world_answers.specs.Services.{ServiceOf, server_in}
+use Rattle.server.proofs.Values.{plans-bound}
+use Rattle.world_answers.proofs.Values.{array-answered}
 use Rattle.answer_laws.specs.Requests.{IsPlanFor, IsRefusedOrAnswered, invalid, unprepared, answered}
 use Rattle.answer_laws.proofs.Telling.{outcome-there}
 use Rattle.answer_laws.proofs.Documents.{IsRead, text-read}
@@ -184,20 +187,20 @@ in_range low high n = go (nat_lt low n) (nat_le n high) refl refl
     go true false e d = inr (λ h. grind arith)
 
 -- the values of an array, each refused or planned
-record Values (w : WorldOf) (values : List (Option RequestOf)) : Type 0 where
+record Values (s : ServerOf) (values : List (Option RequestOf)) : Type 0 where
   refusals : List (Option (List ℕ))
   plans : List PlanOf
-  are : PlanValues w values refusals plans
+  are : PlanValues s values refusals plans
 
 module _ (s : ServiceOf) (has : HasSources s.world) where
   abbrev ValueSaid : RequestOf → Type 0
   ValueSaid r = Maybe IsSaid r.operation_name
 
-  next-value : (r : RequestOf) (text : List ℕ) (values : List (Option RequestOf)) → AnswersRequest s r text → Values s.world values → Values s.world (Some r ∷ values)
+  next-value : (r : RequestOf) (text : List ℕ) (values : List (Option RequestOf)) → AnswersRequest s r text → Values (server_in s) values → Values (server_in s) (Some r ∷ values)
   next-value r text values (faulty {fault = f} h e) rest = record { refusals = Some text ∷ rest.refusals; plans = rest.plans; are = (record { fault = f; faulty = h; report = e }, rest.are) }
   next-value r text values (planned {plan = p} h anew) rest = record { refusals = None ∷ rest.refusals; plans = p ∷ rest.plans; are = (h, rest.are) }
 
-  values-there : (values : List (Option RequestOf)) → Each (Maybe ValueSaid) values → Values s.world values
+  values-there : (values : List (Option RequestOf)) → Each (Maybe ValueSaid) values → Values (server_in s) values
   values-there [] said = record { refusals = []; plans = []; are = tt }
   values-there (None ∷ values) said = let rest = values-there values said.1 in record { refusals = Some not_a_request ∷ rest.refusals; plans = rest.plans; are = (refl, rest.are) }
   values-there (Some r ∷ values) said = let a = request-answered s has r said.0 in next-value r a.0 values a.1 (values-there values said.1)
@@ -205,7 +208,7 @@ module _ (s : ServiceOf) (has : HasSources s.world) where
   array-there : (values : List (Option RequestOf)) → Each (Maybe ValueSaid) values → (text : List ℕ) × AnswersArray s values text
   array-there values said =
       let v = values-there values said in
-      let a = plans-answered s has v.plans (plans-bound s.world values v.refusals v.plans v.are) in
+      let a = plans-answered s has v.plans (plans-bound (server_in s) values v.refusals v.plans v.are) in
       let text = array_text (in_places v.refusals (map (λ (t : ReportOf). t.text) a.1)) in
       (text, array-answered s values v.refusals v.plans a.1 a.0 text v.are a.2 refl)
 

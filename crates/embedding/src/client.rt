@@ -1,19 +1,11 @@
 //! The lines of a client.
 
 use crate::directory::Directory;
-use crate::server::Server;
-use batch_workers::answer_with;
-use load_memory::{Item, Key, Row};
-use load_rounds::Session;
-use std::alloc::{AllocGlobal, Global};
-use std::sync::Wait;
-use std::thread::Threads;
+use server::{ClientSession, Item, Key, Request, Row, Runner};
+use std::alloc::Global;
 
 /// The number of the one loader.
 const PERSON_BY_ID: usize = 0;
-
-/// How many threads ask the directory at the same time. The one that answers the client is among them.
-const WORKERS: usize = 4;
 
 fn key_of(alloc: Global, id: &str) -> anyhow::Result<Key> {
     Ok(Key::Text(String::from_str(alloc, id)?))
@@ -22,7 +14,7 @@ fn key_of(alloc: Global, id: &str) -> anyhow::Result<Key> {
 // What a client tells of a person is believed for its session, where nothing is known of that person yet.
 fn prime<'n>(
     alloc: Global,
-    session: &mut Session<Directory>,
+    session: &mut ClientSession<'_, Directory>,
     id: &'n str,
     name: &'n str,
 ) -> anyhow::Result<String> {
@@ -33,15 +25,19 @@ fn prime<'n>(
 }
 
 // What was known of a person is forgotten, so that the directory is asked again.
-fn clear(alloc: Global, session: &mut Session<Directory>, id: &str) -> anyhow::Result<String> {
+fn clear(
+    alloc: Global,
+    session: &mut ClientSession<'_, Directory>,
+    id: &str,
+) -> anyhow::Result<String> {
     let known = session.clear(PERSON_BY_ID, &key_of(alloc, id)?)?;
     Ok(format!(in alloc; "cleared: {known}")?)
 }
 
 // The batches that the directory was asked, oldest first, each with its round.
-fn log(alloc: Global, session: &Session<Directory>) -> anyhow::Result<String> {
+fn log(alloc: Global, session: &ClientSession<'_, Directory>) -> anyhow::Result<String> {
     let mut text = String::from_str(alloc, "log:")?;
-    for batch in session.logs(PERSON_BY_ID).unwrap_or(&[]) {
+    for batch in session.session().logs(PERSON_BY_ID).unwrap_or(&[]) {
         text.push_str(format!(in alloc; " round {}", batch.round)?.as_str())?;
         for key in &batch.keys {
             if let Key::Text(id) = key {
@@ -54,33 +50,29 @@ fn log(alloc: Global, session: &Session<Directory>) -> anyhow::Result<String> {
     Ok(text)
 }
 
-// The answer of a query, and its rounds. A query without a plan is refused by the first fault that it has.
-fn answer<R: Threads + Wait + AllocGlobal + Sync>(
-    rt: &R,
-    server: &Server,
-    session: &mut Session<Directory>,
+// The response to a query, and its rounds.
+fn answer<R: Runner<Directory>>(
+    alloc: Global,
+    runner: &R,
+    session: &mut ClientSession<'_, Directory>,
     query: &str,
 ) -> anyhow::Result<String> {
-    let alloc = rt.alloc();
-    let plan = match server.plan(alloc, query) {
-        Ok(plan) => plan,
-        Err(fault) => return Ok(format!(in alloc; "refused: {fault}")?),
+    let request = Request {
+        query,
+        operation_name: None,
+        variables: None,
     };
-    if session.loaders().len() < plan.loaders() {
-        return Ok(String::from_str(alloc, "refused: too few loaders")?);
-    }
-    let answer = answer_with(rt, session, &plan, WORKERS)?;
+    let answer = session.answer(runner, &request)?;
     Ok(format!(in alloc; "{} rounds: {}", answer.rounds, answer.text)?)
 }
 
 /// What a client reads for its line.
-pub fn reply<R: Threads + Wait + AllocGlobal + Sync>(
-    rt: &R,
-    server: &Server,
-    session: &mut Session<Directory>,
+pub fn reply<R: Runner<Directory>>(
+    alloc: Global,
+    runner: &R,
+    session: &mut ClientSession<'_, Directory>,
     line: &str,
 ) -> anyhow::Result<String> {
-    let alloc = rt.alloc();
     if line == "log" {
         return log(alloc, session);
     }
@@ -92,6 +84,6 @@ pub fn reply<R: Threads + Wait + AllocGlobal + Sync>(
         .and_then(|rest| rest.split_once(' '))
     {
         Some((id, name)) => prime(alloc, session, id, name),
-        None => answer(rt, server, session, line),
+        None => answer(alloc, runner, session, line),
     }
 }

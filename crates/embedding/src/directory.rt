@@ -1,11 +1,10 @@
 //! A directory of people, as a server would ask it over a network: many ids in one call.
 
 ghost use Rattle.std.specs.Prelude.{◌≡◌, IfOk, length};
-ghost use Rattle.embedding.specs.Directory.{MayTell};
+ghost use Rattle.server.specs.Sources.{item_for_each};
 
-use load_memory::{Item, Key, NoMemory, Row};
-use load_queue::{FetchFault, Source};
-use std::alloc::Global;
+use server::{FetchFault, Item, Key, Row, Source};
+use std::alloc::{AllocError, Global};
 
 /// The people by id, with their names and the ids of their managers.
 const PEOPLE: [(&str, &str, &str); 4] = [
@@ -22,11 +21,11 @@ const PRIVATE: &str = "0";
 const BROKEN: &str = "down";
 
 /// The directory. It returns an item for each key, or fails as a whole.
-#[derive(Clone, Copy)]
+#[derive(Clone, Copy, Drop)]
 pub struct Directory;
 
 // The row of a person.
-fn person(alloc: Global, id: &str) -> Result<Vec<Row>, NoMemory> {
+fn person(alloc: Global, id: &str) -> Result<Vec<Row>, FetchFault> {
     let mut rows = Vec::new(alloc);
     for (known, name, manager) in PEOPLE {
         if known == id {
@@ -53,24 +52,13 @@ fn breaks_at(key: &Key) -> bool {
     matches!(key, Key::Text(id) if id.as_str() == BROKEN)
 }
 
-// An item for each key.
-fn items(alloc: Global, keys: &[Key]) -> Result<Vec<Item>, FetchFault>
-    ensures { IfOk result (λ items. length items.items ≡ length keys.now) }
-{
-    let mut items = Vec::with_capacity(alloc, keys.len())?;
-    for key in keys {
-        items.push(item(alloc, key)?)?;
-    }
-    Ok(items)
-}
-
 impl Source for Directory {
-    ghost may_answer = { λ _ keys answer. MayTell keys answer };
+    ghost may_answer = { λ _ keys answer. item_for_each keys answer };
 
     fn fetch(&self, alloc: Global, keys: &[Key]) -> Result<Vec<Item>, FetchFault> {
         if keys.iter().any(breaks_at) {
             return Err(FetchFault::Failed(String::from_str(alloc, "the directory is down")?));
         }
-        items(alloc, keys)
+        keys.iter().map(|key| item(alloc, key)).collect(alloc)
     }
 }

@@ -45,9 +45,8 @@ pub fn report(alloc: Global, world: &World, text: &str) -> Result<String> {
     let mut reader = Counted::new(text.as_bytes());
     let mut written = Vec::new(alloc);
     let mut writer = Counted::new(&mut written);
-    let served = serve(alloc, &mut reader, &mut writer, |line: &[u8]| {
-        counted_line(alloc, world, &calls, line)
-    })?;
+    let mut answer = |line: &[u8]| counted_line(alloc, world, &calls, line);
+    let served = serve(alloc, &mut reader, &mut writer, &mut answer)?;
     drop(writer);
     let answered = calls.load(Ordering::SeqCst);
     let written = str::from_utf8(written.as_slice())?;

@@ -5,9 +5,10 @@ use anyhow::{Result, bail};
 use case_files::{Question, plain};
 use csv_source::Table;
 use gq_check::Plan;
+use request_plans::RequestFault;
 use serde_json::Value;
 use std::alloc::{AllocError, Global};
-use world::{RequestFault, World};
+use world::World;
 
 /// Whether a name is there.
 fn has(names: &[&str], name: &str) -> bool {
@@ -61,9 +62,9 @@ pub fn plan_of<'w>(
     Ok(match text.split_once(" with ") {
         Some((query, variables)) => {
             let variables = Value::from_str(alloc, variables)?;
-            world.plan(alloc, query, None, &variables)
+            world.server().plan(alloc, query, None, &variables)
         }
-        None => world.plan(alloc, text, None, &Value::Null),
+        None => world.server().plan(alloc, text, None, &Value::Null),
     })
 }
 

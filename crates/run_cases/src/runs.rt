@@ -1,6 +1,6 @@
 //! Whole runs, without workers. They go as `program_run` has them, which a teller can't call, since its `run` may start threads.
 
-use crate::serving::Narrow;
+use crate::serving::{Narrow, stop_of};
 use crate::shelf::{Device, Shelf};
 use crate::stops::end_of;
 use crate::words::split;
@@ -11,7 +11,7 @@ use line_serving::{Counted, DeviceFault, ServeFault};
 use std::alloc::{AllocGlobal, Global};
 use std::io::{Read, Write};
 use std::rt::Files;
-use world_answers::{Service, serve_limited};
+use world_answers::Service;
 use world_files::{open_requests, open_world};
 
 /// Standard input: the file of a case that has this name, or else one without bytes.
@@ -30,19 +30,6 @@ pub fn room_of(words: &str) -> Result<usize> {
     }
 }
 
-/// Serves the lines of a reader.
-fn served<R: Read, W: Write>(
-    alloc: Global,
-    service: &Service<'_>,
-    reader: &mut Counted<R>,
-    writer: &mut Counted<W>,
-) -> Stop {
-    match serve_limited(alloc, service, reader, writer) {
-        Ok(_) => Stop::Served,
-        Err(fault) => Stop::Serve(fault),
-    }
-}
-
 /// Serves the lines of a reader over the built-in world.
 fn sample_served<R: Read, W: Write>(
     alloc: Global,
@@ -54,7 +41,7 @@ fn sample_served<R: Read, W: Write>(
         world: &world,
         max_answer: None,
     };
-    Ok(served(alloc, &service, reader, writer))
+    Ok(stop_of(alloc, &service, reader, writer))
 }
 
 /// Serves the request lines of a file over the world of the other files.
@@ -73,7 +60,7 @@ fn files_served<R: Files + AllocGlobal, W: Write>(
         max_answer,
     };
     let mut requests = Counted::new(open_requests(rt, words.requests.as_str())?);
-    Ok(served(rt.alloc(), &service, &mut requests, writer))
+    Ok(stop_of(rt.alloc(), &service, &mut requests, writer))
 }
 
 /// How a run of files ends.

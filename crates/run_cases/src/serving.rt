@@ -7,10 +7,11 @@ use crate::worlds::built_in;
 use anyhow::{Context, Result};
 use case_files::Question;
 use command_line::Stop;
-use line_serving::Counted;
+use line_serving::{Counted, ServeFault};
+use server::{InTurn, serve};
 use std::alloc::Global;
-use std::io::{self, Error, ErrorKind, Write};
-use world_answers::{Service, serve, serve_limited};
+use std::io::{self, Error, ErrorKind, Read, Write};
+use world_answers::{NoGate, Service};
 
 /// Takes a byte a call, and fails once it has no room.
 #[derive(Drop)]
@@ -38,47 +39,52 @@ impl Write for Narrow {
     }
 }
 
-/// Serves what a reader gives: how that ends a run, and the bytes that a writer with so much room has taken.
-fn served(alloc: Global, input: Device, room: usize) -> Result<(Stop, Vec<u8>)> {
-    let world = built_in(alloc)?;
-    let bytes = Vec::new(alloc);
-    let mut narrow = Narrow { bytes, room };
-    let mut reader = Counted::new(input);
-    let mut writer = Counted::new(&mut narrow);
-    let stop = match serve(alloc, &world, &mut reader, &mut writer) {
+/// Serves the lines of a reader in turn, for a new client of a service: how that ends a run.
+pub fn stop_of<R: Read, W: Write>(
+    alloc: Global,
+    service: &Service<'_>,
+    reader: &mut Counted<R>,
+    writer: &mut Counted<W>,
+) -> Stop {
+    let Ok(mut client) = service.client(alloc, NoGate) else {
+        return Stop::Serve(ServeFault::NoMemory);
+    };
+    match serve(alloc, &mut client, &InTurn, reader, writer) {
         Ok(_) => Stop::Served,
         Err(fault) => Stop::Serve(fault),
-    };
-    drop(writer);
-    Ok((stop, narrow.bytes))
+    }
 }
 
-/// Serves what a reader gives, where an answer may have so many bytes: how that ends a run, and what is written.
-fn served_within(alloc: Global, input: Device, most: usize) -> Result<(Stop, Vec<u8>)> {
+/// Serves what a reader gives, where an answer may have so many bytes: how that ends a run, and the bytes that a writer with so much room
+/// has taken.
+fn served(
+    alloc: Global,
+    input: Device,
+    room: usize,
+    max_answer: Option<usize>,
+) -> Result<(Stop, Vec<u8>)> {
     let world = built_in(alloc)?;
     let service = Service {
         world: &world,
-        max_answer: Some(most),
+        max_answer,
     };
-    let mut written = Vec::new(alloc);
-    let mut reader = Counted::new(input);
-    let mut writer = Counted::new(&mut written);
-    let stop = match serve_limited(alloc, &service, &mut reader, &mut writer) {
-        Ok(_) => Stop::Served,
-        Err(fault) => Stop::Serve(fault),
-    };
+    let bytes = Vec::new(alloc);
+    let mut narrow = Narrow { bytes, room };
+    let mut writer = Counted::new(&mut narrow);
+    let stop = stop_of(alloc, &service, &mut Counted::new(input), &mut writer);
     drop(writer);
-    Ok((stop, written))
+    Ok((stop, narrow.bytes))
 }
 
 /// What is written when lines are served, and behind it how that ended where they weren't all. Words may say how many bytes an
 /// answer has at most.
 pub fn report(alloc: Global, words: &str, text: &str) -> Result<String> {
     let input = Device::new(bytes_of(alloc, text)?, false);
-    let (stop, bytes) = match words.strip_prefix(" within ") {
-        Some(most) => served_within(alloc, input, most.parse()?)?,
-        None => served(alloc, input, usize::MAX)?,
+    let max_answer = match words.strip_prefix(" within ") {
+        Some(most) => Some(most.parse()?),
+        None => None,
     };
+    let (stop, bytes) = served(alloc, input, usize::MAX, max_answer)?;
     let written = str::from_utf8(bytes.as_slice())?;
     if let Stop::Served = stop {
         return Ok(String::from_str(alloc, written)?);
@@ -96,7 +102,7 @@ pub fn report_of_devices(alloc: Global, asked: &Question, text: &str) -> Result<
     };
     let input = Device::new(bytes_of(alloc, asked.file(0)?)?, fails);
     let room = room.strip_prefix("room for ").context("no room")?;
-    let (stop, bytes) = served(alloc, input, room.parse()?)?;
+    let (stop, bytes) = served(alloc, input, room.parse()?, None)?;
     let end = end_of(alloc, &stop)?;
     let count = bytes.len();
     if asked.file(1)?.as_bytes().starts_with(bytes.as_slice()) {

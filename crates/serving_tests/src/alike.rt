@@ -11,42 +11,57 @@ use gq_check::Plan;
 use load_memory::{Cell, Key, Outcome, Row, cache_key};
 use load_queue::{Loader, PerKey};
 use load_rounds::{Answer, Session};
+use serde_json::Value;
 use std::alloc::{AllocError, AllocGlobal, Global};
 use std::process::Abort;
 use std::sync::Wait;
 use std::test::Fail;
 use std::thread::Threads;
 use world::World;
-use world_answers::{LinePlan, RequestPlan, plan_line};
 
-/// Request lines that have plans.
-const LINES: &[&str] = &[
-    "{\"query\":\"{user(id:1){name}}\"}",
-    "{\"query\":\"{a:user(id:1){best{name}} b:user(id:2){name}}\"}",
-    "{\"query\":\"{users{posts{author{name}}}}\"}",
-    "{\"query\":\"{usersByIds(ids:[3,3,9,1]){name}}\"}",
-    "{\"query\":\"{user(id:3){best{name}}}\"}",
-    "{\"query\":\"{user(id:4){name}}\"}",
-    "{\"query\":\"{users{name}}\"}",
-    "{\"query\":\"query($i:ID=\\\"1\\\"){user(id:$i){name}}\",\"variables\":{\"i\":null}}",
-    "{\"query\":\"query($i:ID=\\\"1\\\"){user(id:$i){name}}\"}",
-    "{\"query\":\"{named(id:2){__typename ...on User{id} ...on Bot{model} name@skip(if:true)@include(if:true)}}\"}",
-    "{\"query\":\"{named(id:3){name}}\"}",
-    "{\"query\":\"{user(id:1){name@skip(if:true)}}\"}",
-    "{\"query\":\"{user(id:1){liked{title}}}\"}",
-    "{\"query\":\"{user(id:3){liked{title}}}\"}",
-    "{\"query\":\"{usersByIds(ids:[1,3]){best{best{name}}}}\"}",
-    "{\"query\":\"{user(id:1){name} users{id best{id} posts{title} liked{title author{name}}} named(id:1){name}}\"}",
-    "{\"query\":\"query A{users{id}} query B{users{id}}\",\"operationName\":\"B\"}",
+/// A query, the name of its operation, and the values of its variables as JSON text.
+type Asked = (&'static str, Option<&'static str>, &'static str);
+
+/// Requests that have plans.
+const REQUESTS: &[Asked] = &[
+    ("{user(id:1){name}}", None, "null"),
+    ("{a:user(id:1){best{name}} b:user(id:2){name}}", None, "null"),
+    ("{users{posts{author{name}}}}", None, "null"),
+    ("{usersByIds(ids:[3,3,9,1]){name}}", None, "null"),
+    ("{user(id:3){best{name}}}", None, "null"),
+    ("{user(id:4){name}}", None, "null"),
+    ("{users{name}}", None, "null"),
+    ("query($i:ID=\"1\"){user(id:$i){name}}", None, "{\"i\":null}"),
+    ("query($i:ID=\"1\"){user(id:$i){name}}", None, "null"),
+    (
+        "{named(id:2){__typename ...on User{id} ...on Bot{model} name@skip(if:true)@include(if:true)}}",
+        None,
+        "null",
+    ),
+    ("{named(id:3){name}}", None, "null"),
+    ("{user(id:1){name@skip(if:true)}}", None, "null"),
+    ("{user(id:1){liked{title}}}", None, "null"),
+    ("{user(id:3){liked{title}}}", None, "null"),
+    ("{usersByIds(ids:[1,3]){best{best{name}}}}", None, "null"),
+    (
+        "{user(id:1){name} users{id best{id} posts{title} liked{title author{name}}} named(id:1){name}}",
+        None,
+        "null",
+    ),
+    ("query A{users{id}} query B{users{id}}", Some("B"), "null"),
 ];
 
 /// The same over the world with votes: keys of two columns, and loaders one after another.
-const VOTES_LINES: &[&str] = &[
-    "{\"query\":\"{vote(user:2,post:12){stars}}\"}",
-    "{\"query\":\"{vote(user:1,post:10){stars}}\"}",
-    "{\"query\":\"{user(id:1){likedAuthors{name}}}\"}",
-    "{\"query\":\"{user(id:3){likedAuthors{name}}}\"}",
-    "{\"query\":\"{users{voteOn(post:12){stars} likedAuthors{name voteOn(post:10){stars}}}}\"}",
+const VOTES: &[Asked] = &[
+    ("{vote(user:2,post:12){stars}}", None, "null"),
+    ("{vote(user:1,post:10){stars}}", None, "null"),
+    ("{user(id:1){likedAuthors{name}}}", None, "null"),
+    ("{user(id:3){likedAuthors{name}}}", None, "null"),
+    (
+        "{users{voteOn(post:12){stars} likedAuthors{name voteOn(post:10){stars}}}}",
+        None,
+        "null",
+    ),
 ];
 
 /// The columns of the worlds' tables.
@@ -179,21 +194,28 @@ fn answer_report<R: Threads + Wait + AllocGlobal + Sync>(
     report(rt.alloc(), &answer, &session)
 }
 
-/// What is reported of the answer of a line with any number of workers is what is reported of it in turn.
+/// The plan of a request over a world.
+fn plan_of<'w>(alloc: Global, world: &'w World, asked: &Asked) -> Result<Plan<'w>, Fail> {
+    let (query, operation_name, variables) = *asked;
+    let values = Value::from_str(alloc, variables)?;
+    match world.server().plan(alloc, query, operation_name, &values) {
+        Ok(plan) => Ok(plan),
+        Err(_) => Err(Fail::from("no plan")),
+    }
+}
+
+/// What is reported of the answer of a request with any number of workers is what is reported of it in turn.
 fn expect_alike<R: Threads + Wait + AllocGlobal + Abort + Sync>(
     rt: &R,
     world: &World,
-    line: &str,
+    asked: &Asked,
 ) -> Result<(), Fail> {
-    let LinePlan::One(RequestPlan::Planned(plan)) = plan_line(rt.alloc(), world, line.as_bytes())?
-    else {
-        return Err(Fail::from("no plan"));
-    };
+    let plan = plan_of(rt.alloc(), world, asked)?;
     for limit in [None, Some(1), Some(2)] {
         let in_turn = answer_report(rt, world, &plan, limit, None)?;
         for workers in [1, 2, 4, 16] {
             let found = answer_report(rt, world, &plan, limit, Some(workers))?;
-            expect(rt, &found, &in_turn, line);
+            expect(rt, &found, &in_turn, asked.0);
         }
     }
     Ok(())
@@ -202,8 +224,8 @@ fn expect_alike<R: Threads + Wait + AllocGlobal + Abort + Sync>(
 #[test]
 fn workers_change_nothing(rt: HostRuntime) -> Result<(), Fail> {
     let world = world(rt.alloc())?;
-    for line in LINES {
-        expect_alike(&rt, &world, line)?;
+    for asked in REQUESTS {
+        expect_alike(&rt, &world, asked)?;
     }
     Ok(())
 }
@@ -211,8 +233,8 @@ fn workers_change_nothing(rt: HostRuntime) -> Result<(), Fail> {
 #[test]
 fn workers_change_nothing_by_two_columns(rt: HostRuntime) -> Result<(), Fail> {
     let world = votes_world(rt.alloc())?;
-    for line in VOTES_LINES {
-        expect_alike(&rt, &world, line)?;
+    for asked in VOTES {
+        expect_alike(&rt, &world, asked)?;
     }
     Ok(())
 }

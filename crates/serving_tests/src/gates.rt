@@ -3,14 +3,14 @@
 use crate::expect;
 use crate::sample::world;
 use line_serving::{Counted, ServeFault};
+use server::{Workers, serve};
 use std::alloc::{AllocGlobal, Global};
 use std::sync::Wait;
 use std::sync::atomic::{AtomicBool, AtomicU64, Ordering};
 use std::test::Fail;
 use std::thread::Threads;
 use world::World;
-use world_answers::Service;
-use world_workers::{Gate, NoGate, serve_limited_with, serve_with};
+use world_answers::{Gate, NoGate, Service};
 
 /// How often a batch looks for the other one before it goes on alone. One that is asked at the same time has long been seen then.
 const TURNS: u32 = 100_000_000;
@@ -56,20 +56,31 @@ impl Gate for Meeting {
     }
 }
 
-/// What serving lines with so many workers writes and tells.
-fn served<R: Threads + Wait + AllocGlobal + Sync, G: Gate>(
+/// What serving lines for a new client of a service with so many workers writes and tells.
+fn served<R: Threads + Wait + AllocGlobal + Sync, G: Gate + Copy>(
     rt: &R,
-    world: &World,
-    gate: &G,
+    service: &Service<'_>,
+    gate: G,
     lines: &str,
     workers: usize,
 ) -> Result<String, Fail> {
-    let mut written = Vec::new(rt.alloc());
+    let alloc = rt.alloc();
+    let workers = Workers::new(rt, workers)?;
+    let mut client = service.client(alloc, gate)?;
+    let mut written = Vec::new(alloc);
     let mut reader = Counted::new(lines.as_bytes());
     let mut writer = Counted::new(&mut written);
-    let result = serve_with(rt, world, gate, &mut reader, &mut writer, workers);
+    let result = serve(alloc, &mut client, &workers, &mut reader, &mut writer);
     drop(writer);
-    report(rt.alloc(), &written, result)
+    report(alloc, &written, result)
+}
+
+/// A service of a world, whose answers have no limit.
+fn unlimited(world: &World) -> Service<'_> {
+    Service {
+        world,
+        max_answer: None,
+    }
 }
 
 /// What was written, and what serving tells.
@@ -98,15 +109,13 @@ const RUNS: &[(usize, &str, &str)] = &[
     (2, LINES, ANSWERS),
     (2, ARRAYS, ARRAYS_ANSWERED),
     (2, "", "0 lines"),
-    (0, LINES, "X5 BadCount"),
-    (17, LINES, "X5 BadCount"),
 ];
 
 #[test]
 fn workers_serve_lines_in_order(rt: HostRuntime) -> Result<(), Fail> {
     let world = world(rt.alloc())?;
     for (workers, lines, want) in RUNS {
-        let found = served(&rt, &world, &NoGate, lines, *workers)?;
+        let found = served(&rt, &unlimited(&world), NoGate, lines, *workers)?;
         expect(&rt, &found, want, lines);
     }
     Ok(())
@@ -127,12 +136,7 @@ fn workers_refuse_what_is_too_long(rt: HostRuntime) -> Result<(), Fail> {
         world: &world,
         max_answer: Some(32),
     };
-    let mut written = Vec::new(rt.alloc());
-    let mut reader = Counted::new(LONG_AND_SHORT.as_bytes());
-    let mut writer = Counted::new(&mut written);
-    let result = serve_limited_with(&rt, &service, &NoGate, &mut reader, &mut writer, 2);
-    drop(writer);
-    let found = report(rt.alloc(), &written, result)?;
+    let found = served(&rt, &service, NoGate, LONG_AND_SHORT, 2)?;
     expect(&rt, &found, WITHIN_32_BYTES, LONG_AND_SHORT);
     Ok(())
 }
@@ -148,7 +152,7 @@ fn workers_run_batches_at_the_same_time(rt: HostRuntime) -> Result<(), Fail> {
     let world = world(rt.alloc())?;
     for (workers, missed) in [(2_usize, "0"), (1, "2")] {
         let gate = Meeting::new();
-        let found = served(&rt, &world, &gate, BOTH, workers)?;
+        let found = served(&rt, &unlimited(&world), &gate, BOTH, workers)?;
         expect(&rt, &found, BOTH_ANSWERED, BOTH);
         let misses = format!(in rt.alloc(); "{}", gate.missed.load(Ordering::SeqCst))?;
         expect(&rt, &misses, missed, "missed");

@@ -1,6 +1,6 @@
 //! Tests over the sample world, of what no clause says: that lines are answered with workers, that these run the batches of a
 //! round at the same time, and that with any number of them the text, the rounds, the logs and the memory are those of an answer
-//! in turn. They need threads, and so are no lines of a file; and they stand apart from `batch_workers` and `world_workers` so
+//! in turn. They need threads, and so are no lines of a file; and they stand apart from `batch_workers` and `world_answers` so
 //! that the gate proves those once.
 #![tactic(auto)]
 

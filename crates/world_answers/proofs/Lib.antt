@@ -1,9 +1,8 @@
-pub mod Values
 pub mod Direct
-pub mod Limits
 pub mod Loading
-pub mod OneFault
 pub mod OneAnswer
-pub mod Requests
+pub mod OneFault
 pub mod Restarting
+pub mod Serving
 pub mod Together
+pub mod Values

@@ -1,17 +1,13 @@
 -- The loaders of a world, one more at a time.
 use Rattle.std.proofs.Common.{◌≡◌, ◌<◌, ◌≤◌, ◌+◌, ℕ, zero, suc, List, [], ◌∷◌, ◌++◌, All, map, length, take, get_or, Option, refl, sym, ap, ◌∙◌, add-one, arith}
 use Rattle.std.proofs.lemmas.List.{length-map, get_or-map, take_all}
-use Rattle.std.proofs.lemmas.List.Elements.{All-nil, All-cons, All-weaker}
+use Rattle.std.proofs.lemmas.List.Elements.{All-nil, All-cons}
 use Rattle.csv_source.specs.Tables.{SourceOf}
 use Rattle.gq_bindings.specs.Tree as bindings
-use Rattle.gq_check.specs.Plans.{PlanOf, plan_of}
 use Rattle.load_queue.specs.Loaders.{LoaderOf, as_made}
 use Rattle.load_rounds.specs.Sessions.{SessionOf}
-use Rattle.gq_resolve.specs.declared.limited_plan.Limited.{Limited}
 use Rattle.world.specs.Worlds.{WorldOf}
-use Rattle.world_answers.specs.Planning.{AreLimited}
 use Rattle.world_answers.specs.Sessions.{loader_over, loaders_over, IsOver}
-use Rattle.world_answers.proofs.Limits.{all-limited}
 
 module _ (limit : Option ℕ) where
   pub take-over : (lines : List bindings.LoaderOf) (sources : List SourceOf) (n : ℕ) (d : bindings.LoaderOf) (e : SourceOf) → length sources ≡ length lines → n < length lines
@@ -57,9 +53,3 @@ enough w session b same over =
     let most : length (map as_made session.loaders) ≡ length w.bindings.loaders = ap length over.loaders ∙ length-over w.limit w.bindings.loaders w.sources over.each in
     let own : length b.loaders ≡ length w.bindings.loaders = ap (λ (x : bindings.BindingsOf). length x.loaders) same in
     omega (arith, most, own, length-map session.loaders as_made)
-
-pub enough-each : (w : WorldOf) (session : SessionOf SourceOf) (most : Option ℕ) (plans : List PlanOf) (limited : List Limited) → All (λ (p : PlanOf). p.bindings ≡ w.bindings) plans → AreLimited most plans limited → IsOver w session
-    → All (λ (l : Limited). length (plan_of l.plan.now).bindings.loaders ≤ length session.loaders) limited
-enough-each w session most plans limited same are over =
-    all-limited most (λ (p : PlanOf). length p.bindings.loaders ≤ length session.loaders) plans limited are
-    (All-weaker (λ (p : PlanOf). p.bindings ≡ w.bindings) (λ (p : PlanOf). length p.bindings.loaders ≤ length session.loaders) (λ p e. enough w session p.bindings e over) plans same)

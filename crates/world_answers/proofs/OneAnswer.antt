@@ -24,14 +24,16 @@ use Rattle.gq_check.specs.Texts.{section_of, title_of, check_message, check_plac
 use Rattle.gq_check.specs.Verdict.{FaultOf, Breaks, TooComplex, TooDeep, NotServed, IsVerdict, IsCheckFault, fault_of}
 use Rattle.request_line.specs.Requests.{RequestOf, IsRequest, AreRequests, asked, asked_each}
 use Rattle.gq_resolve.specs.Within.{text_within}
-use Rattle.world.specs.declared.request.RequestFault.{RequestFault}
-use Rattle.world.specs.declared.request.RequestFault.TheVariants as fault
-use Rattle.world.specs.Requests.{parse_message, request_message, request_place, is_want_of_memory}
-use Rattle.world.specs.Worlds.{WorldOf}
-use Rattle.world_answers.specs.Answers.{values_of, IsPlanned, IsFaulty, IsRefusal, IsDirectText, refusal_text, AnswersRequest, faulty, planned}
-use Rattle.world_answers.specs.Arrays.{IsRefused, HasPlan, PlaceOf, refused, answered, IsInPlace, text_in, array_text, AnswersArray}
+use Rattle.request_plans.specs.declared.fault.RequestFault.{RequestFault}
+use Rattle.request_plans.specs.declared.fault.RequestFault.TheVariants as fault
+use Rattle.request_plans.specs.Requests.{parse_message, request_message, request_place, is_want_of_memory}
+use Rattle.request_plans.specs.Servers.{ServerOf}
+use Rattle.request_plans.specs.Planning.{values_of, IsPlanned, IsFaulty, IsRefusal, refusal_text, IsRefused, HasPlan}
+use Rattle.world_answers.specs.Answers.{IsDirectText, AnswersRequest, faulty, planned}
+use Rattle.server.specs.Arrays.{PlaceOf, refused, answered, text_in, array_text}
+use Rattle.world_answers.specs.Arrays.{IsInPlace, AnswersArray}
 use Rattle.world_answers.specs.Lines.{IsAnswer, no_request, request, several}
-use Rattle.world_answers.specs.Services.{ServiceOf}
+use Rattle.world_answers.specs.Services.{ServiceOf, server_in}
 use Rattle.world_answers.proofs.OneFault.{one_fault, document_or_fault, one_document}
 
 same_value : {X : Type 0} (x y : X) → Some x ≡ Some y → x ≡ y
@@ -119,7 +121,7 @@ pub record Alike (f g : RequestFault) : Type 0 where
 abbrev pub OneVerdict : Type 0
 OneVerdict = (ds : List Definition) (d : Document) (v u : Option FaultOf) → IsVerdict ds d v → IsVerdict ds d u → v ≡ u
 
-module _ (verdict : OneVerdict) (w : WorldOf) (r : RequestOf) where
+module _ (verdict : OneVerdict) (w : ServerOf) (r : RequestOf) where
   abbrev defs : List Definition
   defs = tree_of w.definitions
 
@@ -193,20 +195,20 @@ module _ (verdict : OneVerdict) (s : ServiceOf) (r : RequestOf) where
   executed-one : (p : PlanOf) (text other : List ℕ) → IsDirectText s p text → IsDirectText s p other → text ≡ other
   executed-one p text other h k = h.report ∙ ap (text_within s.most) (same_value h.answered k.answered (sym h.executed ∙ k.executed)) ∙ sym k.report
 
-  planned-one : (p q : PlanOf) (text other : List ℕ) → IsPlanned s.world r p → IsPlanned s.world r q → IsDirectText s p text → IsDirectText s q other → text ≡ other
-  planned-one p q text other h k e d = executed-one p text other e (subst (λ z. IsDirectText s z other) (one-plan verdict s.world r q p k h) d)
+  planned-one : (p q : PlanOf) (text other : List ℕ) → IsPlanned (server_in s) r p → IsPlanned (server_in s) r q → IsDirectText s p text → IsDirectText s q other → text ≡ other
+  planned-one p q text other h k e d = executed-one p text other e (subst (λ z. IsDirectText s z other) (one-plan verdict (server_in s) r q p k h) d)
 
   answers-one : (text other : List ℕ) → AnswersRequest s r text → AnswersRequest s r other → text ≡ other
-  answers-one text other (faulty {fault = f} h e) (faulty {fault = g} k d) = refusals-one verdict s.world r text other (record { fault = f; faulty = h; report = e }) (record { fault = g; faulty = k; report = d })
-  answers-one text other (faulty {fault = f} h e) (planned {plan = q} k d) = absurd (faulty-or-planned verdict s.world r f q h k)
-  answers-one text other (planned {plan = p} h e) (faulty {fault = g} k d) = absurd (faulty-or-planned verdict s.world r g p k h)
+  answers-one text other (faulty {fault = f} h e) (faulty {fault = g} k d) = refusals-one verdict (server_in s) r text other (record { fault = f; faulty = h; report = e }) (record { fault = g; faulty = k; report = d })
+  answers-one text other (faulty {fault = f} h e) (planned {plan = q} k d) = absurd (faulty-or-planned verdict (server_in s) r f q h k)
+  answers-one text other (planned {plan = p} h e) (faulty {fault = g} k d) = absurd (faulty-or-planned verdict (server_in s) r g p k h)
   answers-one text other (planned {plan = p} h e) (planned {plan = q} k d) = planned-one p q text other h k e.direct d.direct
 
 -- ---- the values of an array
 
 module _ (verdict : OneVerdict) (s : ServiceOf) where
-  abbrev w : WorldOf
-  w = s.world
+  abbrev w : ServerOf
+  w = server_in s
 
   refused-one : (value : Option RequestOf) (text other : List ℕ) → IsRefused w value text → IsRefused w value other → text ≡ other
   refused-one None text other h k = h ∙ sym k

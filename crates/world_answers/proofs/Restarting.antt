@@ -2,16 +2,11 @@
 use Rattle.std.proofs.Common.{◌≡◌, ◌∙◌, ℕ, List, [], ◌∷◌, map, length, Option, Result, Ok, Err, IfOk, OnOk, refl, ap, sym, subst}
 use Rattle.csv_source.specs.Tables.{SourceOf}
 use Rattle.gq_bindings.specs.Tree as bindings
-use Rattle.load_memory.specs.Replies.{ReplyOf}
 use Rattle.load_queue.specs.Loaders.{LoaderOf, as_made, unasked}
-use Rattle.execution.specs.Program.{Program}
-use Rattle.execution.specs.Sessions.{Forgot, Restarted}
-use Rattle.execution.specs.Rounds.{without_failed}
-use Rattle.load_rounds.specs.Headline.{MakesRounds, asked_steps}
-use Rattle.load_rounds.specs.Sessions.{SessionOf, StateOf, state_of, rules_of, restarted}
+use Rattle.execution.specs.Sessions.{Restarted}
+use Rattle.load_rounds.specs.Sessions.{SessionOf, state_of, restarted}
 use Rattle.load_rounds.proofs.Stepping.{steps-made}
 use Rattle.world.specs.Worlds.{WorldOf}
-use Rattle.world_answers.specs.Answers.{may_tell}
 use Rattle.world_answers.specs.Sessions.{loader_over, loaders_over, session_over, IsOver}
 
 -- a session of these loaders of which nothing is known
@@ -44,12 +39,10 @@ unasked-twice : (ls : List (LoaderOf SourceOf)) → map unasked (map unasked ls)
 unasked-twice [] = refl
 unasked-twice (l ∷ ls) = ap (λ xs. unasked l ∷ xs) (unasked-twice ls)
 
-pub over-answered : (w : WorldOf) (begun s : SessionOf SourceOf) (p : Program) (log : List (List ReplyOf)) → IsOver w begun → MakesRounds may_tell (state_of begun) (state_of s) p log → IsOver w (restarted s)
-over-answered w begun s p log over made =
-    let old : StateOf SourceOf = state_of begun in
-    let steps = Forgot ∷ asked_steps (rules_of old) p (without_failed old.memory) log in
-    record {
-      loaders = steps-made (state_of s) (Restarted ∷ []) ∙ ap (λ (x : StateOf SourceOf). map as_made x.loaders) made.after ∙ steps-made old steps ∙ over.loaders;
-      fresh = ap new_over (unasked-twice s.loaders);
-      each = over.each;
-    }
+-- a session of the same loaders
+pub over-kept : (w : WorldOf) (begun s : SessionOf SourceOf) → IsOver w begun → map as_made s.loaders ≡ map as_made begun.loaders → IsOver w (restarted s)
+over-kept w begun s over same = record {
+  loaders = steps-made (state_of s) (Restarted ∷ []) ∙ same ∙ over.loaders;
+  fresh = ap new_over (unasked-twice s.loaders);
+  each = over.each;
+}

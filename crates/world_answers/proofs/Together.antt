@@ -10,22 +10,18 @@ use Rattle.csv_source.specs.KeyLaws.{item_of_key-folded}
 use Rattle.execution.specs.Loads.{Memory}
 use Rattle.execution.specs.Program.{Program}
 use Rattle.execution.specs.Rounds.{RuleOf, rule_of, modes_of, may_at, key_by_key, AreRounds, direct, RespectsCacheKeys}
-use Rattle.gq_check.specs.Plans.{PlanOf, plan_of}
-use Rattle.plan_program.specs.PlanPrograms.{plan_program}
+use Rattle.gq_check.specs.Plans.{PlanOf}
 use Rattle.load_rounds.specs.KeyByKey.{CompareAlike, item_over}
 use Rattle.load_rounds.specs.Sessions.{SessionOf, StateOf, state_of, session_modes}
-use Rattle.load_rounds.specs.SharedRounds.{ReportOf, requests, AreTexts, SharedHeadline}
-use Rattle.gq_resolve.specs.Within.{text_within}
-use Rattle.gq_resolve.specs.declared.limited_plan.Limited.{Limited}
+use Rattle.load_rounds.specs.SharedRounds.{ReportOf, AreTexts}
+use Rattle.server.specs.Plans.{requests_within}
 use Rattle.load_rounds.proofs.KeyByKey.{rounds-weaker, may-report, respects-alike}
 use Rattle.load_rounds.proofs.SharedKeyByKey.{report-directly}
 use Rattle.world_answers.specs.Answers.{item_at, may_tell, IsDirectText}
 use Rattle.world_answers.specs.Arrays.{AnswersTogether}
-use Rattle.world_answers.specs.Planning.{AreLimited}
 use Rattle.world_answers.specs.Services.{ServiceOf}
 use Rattle.world_answers.specs.Sessions.{IsOver}
 use Rattle.world_answers.proofs.Direct.{over-alike, over-items, over-held}
-use Rattle.world_answers.proofs.Limits.{limited-asks}
 
 -- ---- the loaders of a world
 
@@ -41,7 +37,7 @@ module _ (loaders : List (LoaderOf SourceOf)) where
 -- ---- the texts
 
 module _ (s : ServiceOf) where
-  each-direct : (plans : List PlanOf) (reports : List ReportOf) → AreTexts (requests plan_program (λ plan. text_within s.most) plans) (direct (item_at s.world.sources)) reports → AllZip (λ (p : PlanOf) (t : ReportOf). IsDirectText s p t.text) plans reports
+  each-direct : (plans : List PlanOf) (reports : List ReportOf) → AreTexts (requests_within s.most plans) (direct (item_at s.world.sources)) reports → AllZip (λ (p : PlanOf) (t : ReportOf). IsDirectText s p t.text) plans reports
   each-direct [] [] h = tt
   each-direct [] (t ∷ ts) h = absurd h
   each-direct (p ∷ ps) [] h = absurd h
@@ -51,17 +47,8 @@ module _ (s : ServiceOf) where
   direct-each after plans reports h =
       let w = s.world in
       let old : StateOf SourceOf = state_of h.begun in
-      let asked = requests plan_program (λ plan. text_within s.most) plans in
+      let asked = requests_within s.most plans in
       let texts : AreTexts asked (direct (item_over item_of_key old.loaders)) reports =
       report-directly may_tell item_of_key (λ source keys answer is. is) (λ (s : SourceOf). s.mode) item_of_key-folded old after asked reports
       (over-alike w h.begun h.over) (over-held w h.begun h.over (session_modes old) (item_over item_of_key old.loaders)) h.headline in
       each-direct plans reports (subst (λ (item : ℕ → KeyOf → ItemOf). AreTexts asked (direct item) reports) (over-items w h.begun h.over) texts)
-
--- answers over what was opened as a session of a world
-pub together-anew : (s : ServiceOf) (session : SessionOf SourceOf) (after : StateOf SourceOf) (plans : List PlanOf) (limited : List Limited) (reports : List ReportOf) → IsOver s.world session → AreLimited s.most plans limited
-    → SharedHeadline may_tell (state_of session) after (requests (λ (l : Limited). plan_program (plan_of l.plan.now)) (λ l. text_within l.most) limited) reports → AnswersTogether s plans after reports
-together-anew s session after plans limited reports over are h = record {
-  begun = session;
-  over = over;
-  headline = subst (λ rs. SharedHeadline may_tell (state_of session) after rs reports) (limited-asks s.most plans limited are) h;
-}

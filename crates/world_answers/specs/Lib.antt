@@ -1,8 +1,5 @@
-pub mod Sessions
 pub mod Services
+pub mod Sessions
 pub mod Answers
 pub mod Arrays
 pub mod Lines
-pub mod Planning
-pub mod Run
-pub mod Serving

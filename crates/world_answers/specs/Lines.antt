@@ -1,12 +1,37 @@
 -- What answers a line: *Program output*, of one line.
 use Rattle.std.specs.Prelude.{◌≡◌, ℕ, List, Option}
+use Rattle.csv_source.specs.Tables.{SourceOf}
+use Rattle.line_serving.specs.Answering.{AnsweringOf}
+use Rattle.load_rounds.specs.Sessions.{restarted}
 use Rattle.request_line.specs.Requests.{RequestOf, IsRequest, AreRequests, IsNoRequest}
-use Rattle.world_answers.specs.Answers.{not_a_request, AnswersRequest}
+use Rattle.request_plans.specs.Planning.{not_a_request}
+use Rattle.server.specs.Clients.{ClientOf}
+use Rattle.server.specs.Lines.{ServesLine, StopsLine}
+use Rattle.world_answers.specs.Answers.{may_tell, AnswersRequest}
 use Rattle.world_answers.specs.Arrays.{AnswersArray}
-use Rattle.world_answers.specs.Services.{ServiceOf}
+use Rattle.world_answers.specs.Services.{ServiceOf, server_in}
+use Rattle.world_answers.specs.Sessions.{IsOver}
 
 -- the text answers a line by a service
 pub data IsAnswer (s : ServiceOf) (line text : List ℕ) : Type 0 where
   no_request : IsNoRequest line → text ≡ not_a_request → IsAnswer s line text
   request : {r : RequestOf} → IsRequest line r → AnswersRequest s r text → IsAnswer s line text
   several : {values : List (Option RequestOf)} → AreRequests line values → AnswersArray s values text → IsAnswer s line text
+
+-- ---- the client of a run
+
+-- The client is one of the service: its session, once it starts again, is over the world's sources, with the world's limit.
+pub record IsClientOf (s : ServiceOf) (c : ClientOf SourceOf) : Type 0 where
+  pub server : c.server ≡ server_in s
+  pub most : c.most ≡ s.most
+  pub over : IsOver s.world (restarted c.session)
+
+-- A line is answered by this text in the client's session, from which it starts again: the loaders were asked exactly the batches of a lawful
+-- log for that line's plans, and nothing else. And the text is the one that answers the line, that of direct execution.
+pub record AnswersLine (s : ServiceOf) (c : ClientOf SourceOf) (line text : List ℕ) (later : ClientOf SourceOf) : Type 0 where
+  pub served : ServesLine may_tell c line text later
+  pub direct : IsAnswer s line text
+
+-- how the lines of a run are answered
+abbrev pub answering : ServiceOf → AnsweringOf (ClientOf SourceOf)
+answering s = record { gives = AnswersLine s; stops = StopsLine may_tell }

@@ -1,33 +1,21 @@
 //! The answers of request lines over a world.
 //!
-//! The layer above may rely on this: [`serve`] writes to each line of its input the one text that answers it over a
-//! [`World`](world::World) (`specs/Lines.antt`). The text is a refusal, or that of direct execution, where each load is answered
-//! at once by the rows of its key (`specs/Answers.antt`): no memory, round, batch or limit of a batch changes it. With
-//! [`serve_limited`] an answer may have as many bytes as a [`Service`] says; a longer one is refused. And it was answered with
-//! the headline (`load_rounds`, `specs/Headline.antt`) in a session of the world, over its sources and with its limit, that was new
-//! for the line but for the counts of its orders. (The code keeps one from line to line, which starts again in between; [`Sessions`]
-//! gives the first.) A line that is an array has such a text for each of its values; its plans were answered with the headline of
-//! several requests, in one session (`specs/Arrays.antt`). A crate that answers plans in another way takes what a line asks from
-//! [`plan_line`], or from [`RunDocuments::plan_line`], which keeps documents by their texts and plans the same.
+//! The layer above may rely on this: a client of a [`Service`] ([`Service::client`]) has a session over the sources of its world, with its limit.
+//! Where it serves lines ([`server::serve`]), each has the one text that answers it (`specs/Lines.antt`, law [`lines_are_direct`]): a refusal,
+//! or that of direct execution, where each load is answered at once by the rows of its key (`specs/Answers.antt`), so that no memory, round,
+//! batch or limit of a batch changes it, and no number of workers. An array has such a text for each of its values.
+//!
+//! Each batch enters a [`Gate`] before it is asked, which a caller can use to count or to hold back the calls of a source, and which changes
+//! no answer.
 #![tactic(auto)]
 
-mod answers;
-mod arrays;
-mod in_session;
-mod kept_session;
+mod gate;
+mod gated;
 mod law;
-mod planning;
-mod run;
 mod service;
-mod serving;
 mod sessions;
 
-pub use answers::answer_line;
-pub use arrays::ArrayPlan;
-pub use in_session::InSession;
-pub use law::one_answer;
-pub use planning::{LinePlan, RequestPlan, plan_line};
-pub use run::{RunDocuments, Served};
+pub use gate::{Gate, NoGate};
+pub use gated::Gated;
+pub use law::{lines_are_direct, one_answer};
 pub use service::Service;
-pub use serving::{serve, serve_limited};
-pub use sessions::Sessions;

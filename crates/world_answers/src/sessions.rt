@@ -1,56 +1,76 @@
-//! The session of a world.
+//! The session of a world behind a gate, and its clients.
 
 ghost use Rattle.std.specs.Prelude.{◌≡◌, ◌<◌, IfOk, OnOk, get_or, length};
 ghost use Rattle.csv_source.specs.Tables.{SourceOf};
+ghost use Rattle.world_answers.specs.Lines.{IsClientOf};
+ghost use Rattle.world_answers.specs.Services.{service_of};
 ghost use Rattle.world_answers.specs.Sessions.{loader_over, session_over};
 
-use csv_source::CsvSource;
+use crate::gate::Gate;
+use crate::gated::Gated;
+use crate::service::Service;
 use load_memory::NoMemory;
 use load_queue::{Loader, PerKey, QueueFault};
 use load_rounds::Session;
+use server::ClientSession;
 use std::alloc::Global;
 use world::World;
 
-/// Opens sessions.
-pub trait Sessions {
-    /// A new, empty session.
-    ///
-    /// # Errors
-    ///
-    /// Only when out of memory.
-    fn session(&self, alloc: Global) -> Result<Session<CsvSource<'_>>, NoMemory>;
-}
-
-impl Sessions for World {
-    /// The loaders of the bindings, in order, over the world's sources and with its limit. Nothing is read or indexed anew.
-    fn session(&self, alloc: Global) -> Result<Session<CsvSource<'_>>, NoMemory>
-        ensures opened { IfOk result (λ session. session ≡ session_over self.now) }
-        // Each loader of the bindings is there.
-        ensures each { OnOk result (length self.now.sources ≡ length self.now.bindings.loaders) }
-    {
-        let mut loaders = Vec::with_capacity(alloc, self.loaders())?;
-        for (number, line) in self.bindings().loaders().iter().enumerate() {
-            loaders.push(loader(alloc, self, number, line.name.as_str())?)?;
-        }
-        Session::new(alloc, loaders)
-    }
-}
-
-// The loader of this number, under its name.
-fn loader<'w>(
+// A new session of the world, whose sources are behind the gate.
+fn gated_session<'w, G: Gate + Copy>(
     alloc: Global,
     world: &'w World,
+    gate: G,
+) -> Result<Session<Gated<'w, G>>, NoMemory>
+    ensures opened { IfOk result (λ session. session ≡ session_over world.now) }
+    // Each loader of the bindings is there.
+    ensures each { OnOk result (length world.now.sources ≡ length world.now.bindings.loaders) }
+{
+    let mut loaders = Vec::with_capacity(alloc, world.loaders())?;
+    for (number, line) in world.bindings().loaders().iter().enumerate() {
+        loaders.push(gated_loader(alloc, world, gate, number, line.name.as_str())?)?;
+    }
+    Session::new(alloc, loaders)
+}
+
+// The loader of this number, under its name, whose source stands behind the gate.
+fn gated_loader<'w, G: Gate + Copy>(
+    alloc: Global,
+    world: &'w World,
+    gate: G,
     number: usize,
     name: &str,
-) -> Result<Loader<CsvSource<'w>>, NoMemory>
+) -> Result<Loader<Gated<'w, G>>, NoMemory>
     requires { number < length world.now.sources }
     ensures { (d : SourceOf) → IfOk result (λ l. l ≡ loader_over world.now.limit name.now (get_or world.now.sources number d)) }
 {
     let source = world.source(number);
     let mode = source.mode();
-    match Loader::new(alloc, name, source, mode, world.limit()) {
+    let gated = Gated::new(source, gate, number);
+    match Loader::new(alloc, name, gated, mode, world.limit()) {
         Ok(loader) => Ok(loader),
         Err(QueueFault::NoMemory) => Err(NoMemory),
         Err(QueueFault::BadLimit) => unreachable!(),
+    }
+}
+
+impl<'w> Service<'w> {
+    /// A new client of the service: the loaders of the bindings, in order, over the world's sources and with its limit; nothing is read or
+    /// indexed anew. Each batch enters the gate before it is asked.
+    ///
+    /// # Errors
+    ///
+    /// Only when out of memory.
+    pub fn client<G: Gate + Copy>(
+        &self,
+        alloc: Global,
+        gate: G,
+    ) -> Result<ClientSession<'w, Gated<'w, G>>, NoMemory>
+        ensures { IfOk result (IsClientOf (service_of self.now)) }
+    {
+        let session = gated_session(alloc, self.world, gate)?;
+        let mut client = ClientSession::new(alloc, self.world.server(), session);
+        client.limit_answers(self.max_answer);
+        Ok(client)
     }
 }

@@ -1,0 +1,31 @@
+-- Plans, each with a limit.
+use Rattle.std.proofs.Common.{◌≡◌, ℕ, List, [], ◌∷◌, map, All, Option, refl, sym, ap, subst, ◌∙◌}
+use Rattle.std.proofs.lemmas.List.Elements.{All-nil, All-cons, All-head, All-tail}
+use Rattle.gq_check.specs.Plans.{PlanOf, plan_of}
+use Rattle.plan_program.specs.PlanPrograms.{plan_program}
+use Rattle.load_rounds.specs.SharedRounds.{RequestOf, request_of, requests}
+use Rattle.gq_resolve.specs.Within.{text_within}
+use Rattle.gq_resolve.specs.declared.limited_plan.Limited.{Limited}
+use Rattle.server.specs.Plans.{AreLimited, plan_and_limit}
+
+map-twice : {A B C : Type 0} (g : B → C) (f : A → B) (xs : List A) → map g (map f xs) ≡ map (λ x. g (f x)) xs
+map-twice g f [] = refl
+map-twice g f (x ∷ xs) = ap (λ l. g (f x) ∷ l) (map-twice g f xs)
+
+module _ (most : Option ℕ) where
+  -- what they ask is what the plans ask, with texts within the limit
+  pub limited-asks : (plans : List PlanOf) (limited : List Limited) → AreLimited most plans limited
+      → requests (λ (l : Limited). plan_program (plan_of l.plan.now)) (λ (l : Limited). text_within l.most) limited ≡ requests plan_program (λ plan. text_within most) plans
+  limited-asks plans limited are =
+      let asked : PlanOf × Option ℕ → RequestOf = λ p. request_of (plan_program p.0) (text_within p.1) in
+      sym (map-twice asked plan_and_limit limited) ∙ ap (map asked) are ∙ map-twice asked (λ (plan : PlanOf). (plan, most)) plans
+
+  -- what holds of each plan
+  pub all-limited : (P : PlanOf → Type 0) (plans : List PlanOf) (limited : List Limited) → AreLimited most plans limited → All P plans → All (λ (l : Limited). P (plan_of l.plan.now)) limited
+  all-limited P [] [] are h = All-nil (λ (l : Limited). P (plan_of l.plan.now))
+  all-limited P [] (l ∷ ls) are h = absurd (cc are)
+  all-limited P (p ∷ ps) [] are h = absurd (cc are)
+  all-limited P (p ∷ ps) (l ∷ ls) are h =
+      let first : plan_and_limit l ≡ (p, most) = cc are in
+      let same : p ≡ plan_of l.plan.now = sym (ap (λ (q : PlanOf × Option ℕ). q.0) first) in
+      All-cons (λ (k : Limited). P (plan_of k.plan.now)) l ls (subst P same (All-head P p ps h)) (all-limited P ps ls (cc are) (All-tail P p ps h))

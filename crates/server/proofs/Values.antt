@@ -1,0 +1,161 @@
+-- The values of an array in their places: their refusals, and the answers of their plans.
+use Rattle.std.proofs.Common.{◌≡◌, ◌<◌, ℕ, zero, suc, List, [], ◌∷◌, ◌++◌, map, length, get_or, take, drop, Option, Some, None, All, refl, sym, ap, subst, ◌∙◌, arith, append_assoc, string_bytes}
+use Rattle.std.specs.List.{AllZip, flat_map, join_by}
+use Rattle.std.specs.Option.{option_map}
+use Rattle.std.proofs.lemmas.List.Elements.{All-nil, All-cons}
+use Rattle.gq_check.specs.Planned.{IsPlan}
+use Rattle.gq_check.specs.Plans.{PlanOf}
+use Rattle.gq_check.specs.Prepared.{prepared}
+use Rattle.gq_check.specs.Verdict.{IsValid}
+use Rattle.load_memory.specs.Keys.{KeyOf}
+use Rattle.load_memory.specs.Replies.{ReplyOf}
+use Rattle.load_queue.specs.Answers.{AnswerOf}
+use Rattle.load_rounds.specs.Sessions.{SessionOf, StateOf, state_of}
+use Rattle.load_rounds.specs.SharedRounds.{ReportOf, AreShared, SharedHeadline, greatest, report_of}
+use Rattle.load_rounds.specs.declared.answer.Answer.{Answer}
+use Rattle.request_line.specs.Requests.{RequestOf}
+use Rattle.request_plans.specs.Servers.{ServerOf}
+use Rattle.request_plans.specs.Planning.{values_of, IsPlanned, IsRefused, HasPlan, PlanValues}
+use Rattle.server.specs.Clients.{ClientOf, client_of}
+use Rattle.server.specs.Plans.{requests_within}
+use Rattle.server.specs.Arrays.{PlaceOf, refused, answered, IsInPlace, text_in, plans_in, reports_in, in_places, array_text, AnswersArray}
+
+-- one of the seen more
+pub taken-more : {X Y : Type 0} (f : X → Y) (xs : List X) (i : ℕ) (x : X) → i < length xs → x ≡ get_or xs i x → take (suc i) (map f xs) ≡ take i (map f xs) ++ f x ∷ []
+taken-more f [] i x lt is = absurd (omega arith)
+taken-more f (y ∷ ys) zero x lt is = ap (λ z. f z ∷ []) (sym is)
+taken-more f (y ∷ ys) (suc i) x lt is = ap (λ zs. f y ∷ zs) (taken-more f ys i x (omega (arith, lt)) is)
+
+-- ---- the plans are over the server's bindings, and of valid documents
+
+pub planned-valid : (s : ServerOf) (r : RequestOf) (p : PlanOf) → IsPlanned s r p → IsPlan p
+planned-valid s r p h = record {
+  document = h.planned.document;
+  valid = subst (λ ds. IsValid ds h.planned.document) (sym h.definitions) h.planned.valid;
+  same = h.planned.fragments;
+  name = r.operation_name;
+  given = values_of r.variables;
+  prepares = ap (λ ds. prepared ds h.planned.document.operations r.operation_name (values_of r.variables)) h.definitions ∙ h.planned.prepared;
+}
+
+module _ (s : ServerOf) where
+  plan-bound : (value : Option RequestOf) (p : PlanOf) → HasPlan s value p → p.bindings ≡ s.bindings
+  plan-bound None p h = absurd h
+  plan-bound (Some r) p h = h.bindings
+
+  plan-valid : (value : Option RequestOf) (p : PlanOf) → HasPlan s value p → IsPlan p
+  plan-valid None p h = absurd h
+  plan-valid (Some r) p h = planned-valid s r p h
+
+  module _ (P : PlanOf → Type 0) (each : (value : Option RequestOf) (p : PlanOf) → HasPlan s value p → P p) where
+    plans-all : (values : List (Option RequestOf)) (refusals : List (Option (List ℕ))) (plans : List PlanOf) → PlanValues s values refusals plans → All P plans
+    plans-all [] [] [] h = All-nil P
+    plans-all [] [] (p ∷ ps) h = absurd h
+    plans-all [] (r ∷ rs) ps h = absurd h
+    plans-all (v ∷ vs) [] ps h = absurd h
+    plans-all (v ∷ vs) (Some t ∷ rs) ps h = plans-all vs rs ps h.1
+    plans-all (v ∷ vs) (None ∷ rs) [] h = absurd h
+    plans-all (v ∷ vs) (None ∷ rs) (p ∷ ps) h = All-cons P p ps (each v p h.0) (plans-all vs rs ps h.1)
+
+  pub plans-bound : (values : List (Option RequestOf)) (refusals : List (Option (List ℕ))) (plans : List PlanOf) → PlanValues s values refusals plans → All (λ (p : PlanOf). p.bindings ≡ s.bindings) plans
+  plans-bound values refusals plans h = plans-all (λ (p : PlanOf). p.bindings ≡ s.bindings) plan-bound values refusals plans h
+
+  pub plans-valid : (values : List (Option RequestOf)) (refusals : List (Option (List ℕ))) (plans : List PlanOf) → PlanValues s values refusals plans → All IsPlan plans
+  plans-valid values refusals plans h = plans-all IsPlan plan-valid values refusals plans h
+
+-- ---- the answer
+
+-- there is an answer for each plan
+module _ {S : Type 0} (old new : StateOf S) (log : List (List ReplyOf)) (most : Option ℕ) where
+  pub shared-many : (plans : List PlanOf) (reports : List ReportOf) → AreShared old new log (requests_within most plans) reports → length plans ≡ length reports
+  shared-many [] [] h = refl
+  shared-many [] (t ∷ ts) h = absurd h
+  shared-many (p ∷ ps) [] h = absurd h
+  shared-many (p ∷ ps) (t ∷ ts) h = ap suc (shared-many ps ts h.1)
+
+module _ (s : ServerOf) where
+  -- each value in its place
+  pub record Filled (values : List (Option RequestOf)) (refusals : List (Option (List ℕ))) (plans : List PlanOf) (reports : List ReportOf) : Type 0 where
+    pub places : List PlaceOf
+    pub each : AllZip (IsInPlace s) values places
+    pub plans_are : plans_in places ≡ plans
+    pub reports_are : reports_in places ≡ reports
+    pub texts_are : map text_in places ≡ in_places refusals (map (λ (t : ReportOf). t.text) reports)
+
+  pub filled : (values : List (Option RequestOf)) (refusals : List (Option (List ℕ))) (plans : List PlanOf) (reports : List ReportOf) → PlanValues s values refusals plans
+      → length plans ≡ length reports → Filled values refusals plans reports
+  filled [] [] [] [] h e = record { places = []; each = tt; plans_are = refl; reports_are = refl; texts_are = refl }
+  filled [] [] [] (t ∷ ts) h e = absurd (cc e)
+  filled [] [] (p ∷ ps) ts h e = absurd h
+  filled [] (r ∷ rs) ps ts h e = absurd h
+  filled (v ∷ vs) [] ps ts h e = absurd h
+  filled (v ∷ vs) (Some text ∷ rs) ps ts h e =
+      let f = filled vs rs ps ts h.1 e in
+      record { places = refused text ∷ f.places; each = (h.0, f.each); plans_are = f.plans_are; reports_are = f.reports_are; texts_are = ap (λ l. text ∷ l) f.texts_are }
+  filled (v ∷ vs) (None ∷ rs) [] ts h e = absurd h
+  filled (v ∷ vs) (None ∷ rs) (p ∷ ps) [] h e = absurd (cc e)
+  filled (v ∷ vs) (None ∷ rs) (p ∷ ps) (t ∷ ts) h e =
+      let f = filled vs rs ps ts h.1 (cc e) in
+      record {
+        places = answered p t ∷ f.places;
+        each = (h.0, f.each);
+        plans_are = ap (λ l. p ∷ l) f.plans_are;
+        reports_are = ap (λ l. t ∷ l) f.reports_are;
+        texts_are = ap (λ l. t.text ∷ l) f.texts_are;
+      }
+
+-- the same of what the program holds
+texts-report : (answers : List Answer) → map (λ (t : ReportOf). t.text) (map report_of answers) ≡ map (λ (a : Answer). string_bytes a.text) answers
+texts-report [] = refl
+texts-report (a ∷ as') = ap (λ ts. string_bytes a.text ∷ ts) (texts-report as')
+
+-- the plans were answered in the session, and their texts stand in their places
+module _ {S : Type 0} (may : S → List KeyOf → AnswerOf → Type 0) (c : ClientOf S) (new : SessionOf S) where
+  pub array-answered : (values : List (Option RequestOf)) (refusals : List (Option (List ℕ))) (plans : List PlanOf) (answers : List Answer) (report : ReportOf) → PlanValues c.server values refusals plans
+      → SharedHeadline may (state_of c.session) (state_of new) (requests_within c.most plans) (map report_of answers)
+      → report.text ≡ array_text (in_places refusals (map (λ (a : Answer). string_bytes a.text) answers)) → report.rounds ≡ greatest (map report_of answers) → AnswersArray may c values report new
+  array-answered values refusals plans answers report h shared e r =
+      let reports = map report_of answers in
+      let f = filled c.server values refusals plans reports h (shared-many (state_of c.session) (state_of new) shared.log c.most plans reports shared.answers) in
+      let headline : List PlanOf → List ReportOf → Type 0 = λ ps ts. SharedHeadline may (state_of c.session) (state_of new) (requests_within c.most ps) ts in
+      record {
+        places = f.places;
+        each = f.each;
+        text = e ∙ ap (λ ts. array_text (in_places refusals ts)) (sym (texts-report answers)) ∙ ap array_text (sym f.texts_are);
+        rounds = r ∙ ap greatest (sym f.reports_are);
+        valid = subst (All IsPlan) (sym f.plans_are) (plans-valid c.server values refusals plans h);
+        headline = subst (λ ps. headline ps (reports_in f.places)) (sym f.plans_are) (subst (headline plans) (sym f.reports_are) shared);
+      }
+
+-- ---- the texts in their places, one more
+
+pub none-left : {X : Type 0} (xs : List X) → length xs ≡ 0 → xs ≡ []
+none-left [] e = refl
+none-left (x ∷ xs) e = absurd (omega (arith, e))
+
+more-joined : {X : Type 0} (f : X → List ℕ) (between : List ℕ) (xs : List X) → flat_map (λ x. between ++ f x) xs ≡ flat_map (λ t. between ++ t) (map f xs)
+more-joined f between [] = refl
+more-joined f between (x ∷ xs) = ap (λ t. (between ++ f x) ++ t) (more-joined f between xs)
+
+pub joined : {X : Type 0} (f : X → List ℕ) (between : List ℕ) (xs : List X) → join_by f between xs ≡ join_by (λ t. t) between (map f xs)
+joined f between [] = refl
+joined f between (x ∷ xs) = ap (λ t. f x ++ t) (more-joined f between xs)
+
+module _ {T : Type 0} (seen : T → List ℕ) where
+  pub next-refusal : (done : List (List ℕ)) (refusals : List (Option T)) (i : ℕ) (d : Option T) (refusal : T) (texts : List (List ℕ)) → i < length refusals → get_or refusals i d ≡ Some refusal
+      → (done ++ seen refusal ∷ []) ++ in_places (drop (suc i) (map (option_map seen) refusals)) texts ≡ done ++ in_places (drop i (map (option_map seen) refusals)) texts
+  next-refusal done [] i d refusal texts lt at = absurd (omega arith)
+  next-refusal done (r ∷ rs) zero d refusal texts lt at = append_assoc done (seen refusal ∷ []) _ ∙ ap (λ (o : Option T). done ++ in_places (option_map seen o ∷ map (option_map seen) rs) texts) (sym at)
+  next-refusal done (r ∷ rs) (suc i) d refusal texts lt at = next-refusal done rs i d refusal texts (omega (arith, lt)) at
+
+  pub next-answer : (done : List (List ℕ)) (refusals : List (Option T)) (i : ℕ) (d : Option T) (text : List ℕ) (texts : List (List ℕ)) → i < length refusals → get_or refusals i d ≡ None
+      → (done ++ text ∷ []) ++ in_places (drop (suc i) (map (option_map seen) refusals)) texts ≡ done ++ in_places (drop i (map (option_map seen) refusals)) (text ∷ texts)
+  next-answer done [] i d text texts lt at = absurd (omega arith)
+  next-answer done (r ∷ rs) zero d text texts lt at = append_assoc done (text ∷ []) _ ∙ ap (λ (o : Option T). done ++ in_places (option_map seen o ∷ map (option_map seen) rs) (text ∷ texts)) (sym at)
+  next-answer done (r ∷ rs) (suc i) d text texts lt at = next-answer done rs i d text texts (omega (arith, lt)) at
+
+  pub no-answer : (refusals : List (Option T)) (i : ℕ) (d : Option T) → i < length refusals → get_or refusals i d ≡ None
+      → in_places (drop (suc i) (map (option_map seen) refusals)) [] ≡ in_places (drop i (map (option_map seen) refusals)) []
+  no-answer [] i d lt at = absurd (omega arith)
+  no-answer (r ∷ rs) zero d lt at = ap (λ (o : Option T). in_places (option_map seen o ∷ map (option_map seen) rs) []) (sym at)
+  no-answer (r ∷ rs) (suc i) d lt at = no-answer rs i d (omega (arith, lt)) at

@@ -1,0 +1,7 @@
+pub mod Sources
+pub mod Clients
+pub mod Plans
+pub mod Answers
+pub mod Arrays
+pub mod Lines
+pub mod Opening

@@ -1,0 +1,108 @@
+//! Answers to arrays of requests, whose plans are answered together in one session.
+
+ghost use Rattle.std.specs.Prelude.{◌≡◌, map, IfOk, OnErr, option_map, string_bytes};
+ghost use Rattle.load_rounds.specs.SharedRounds.{greatest, report_of};
+ghost use Rattle.request_line.specs.Seen.{requests_of};
+ghost use Rattle.request_plans.specs.Planning.{refusals_of, plans_of};
+ghost use Rattle.gq_check.specs.Plans.{plan_of};
+ghost use Rattle.server.specs.Arrays.{AnswersArray, StopsArray, array_text, in_places};
+ghost use Rattle.server.specs.Clients.{HasLoaders, client_of};
+ghost use Rattle.server.specs.Plans.{AreLimited};
+
+use crate::runner::Runner;
+use gq_check::Plan;
+use gq_resolve::Limited;
+use load_memory::NoMemory;
+use load_queue::Asks;
+use load_rounds::{Answer, Session};
+use request_plans::{KeptDocuments, Request};
+use std::alloc::{AllocError, Global};
+
+// The plans in order, each with this limit.
+fn limited<'p, 'a>(
+    alloc: Global,
+    plans: &'p [Plan<'a>],
+    most: Option<usize>,
+) -> Result<Vec<Limited<'p, 'a>>, AllocError>
+    ensures { IfOk result (λ limited. AreLimited most (map plan_of plans.entry.now) limited.items) }
+{
+    let mut limited = Vec::with_capacity(alloc, plans.len())?;
+    for plan in plans {
+        limited.push(Limited { plan, most })?;
+    }
+    Ok(limited)
+}
+
+// The text of each value: its refusal, or the next of these answers.
+fn texts<'t>(
+    alloc: Global,
+    refusals: &'t [Option<String>],
+    answers: &'t [Answer],
+) -> Result<Vec<&'t str>, AllocError>
+    ensures { IfOk result (λ texts. map (λ t. t.now) texts.items
+        ≡ in_places (map (option_map string_bytes) refusals.entry.now) (map (λ a. string_bytes a.text) answers.entry.now)) }
+{
+    let mut texts = Vec::with_capacity(alloc, refusals.len())?;
+    let mut left = answers;
+    for refusal in refusals {
+        if let Some(text) = refusal {
+            texts.push(text.as_str())?;
+        } else if let Some((answer, more)) = left.split_first() {
+            texts.push(answer.text.as_str())?;
+            left = more;
+        }
+    }
+    Ok(texts)
+}
+
+// The response to an array: the refusals of its values, and in the other places these answers.
+fn array_answer(
+    alloc: Global,
+    refusals: &[Option<String>],
+    answers: &[Answer],
+) -> Result<Answer, AllocError>
+    ensures text { IfOk result (λ answer. string_bytes answer.text
+        ≡ array_text (in_places (map (option_map string_bytes) refusals.now) (map (λ a. string_bytes a.text) answers.now))) }
+    ensures rounds { IfOk result (λ answer. answer.rounds ≡ greatest (map report_of answers.now)) }
+{
+    let texts = texts(alloc, refusals, answers)?;
+    let inside = texts.join(alloc, ",")?;
+    Ok(Answer {
+        text: format!(in alloc; "[{inside}]")?,
+        rounds: most_rounds(answers),
+    })
+}
+
+// The rounds of the answer with the most.
+fn most_rounds(answers: &[Answer]) -> u32
+    ensures { result ≡ greatest (map report_of answers.now) }
+{
+    let mut most = 0;
+    for answer in answers {
+        most = answer.rounds.max(most);
+    }
+    most
+}
+
+/// The response to an array of requests, of which `None` is a value that is no request: each value is refused or answered in its place.
+/// All plans are answered in the session, within a limit each.
+pub(crate) fn answer_requests<S: Asks, R: Runner<S>>(
+    alloc: Global,
+    runner: &R,
+    documents: &mut KeptDocuments<'_>,
+    session: &mut Session<S>,
+    values: &[Option<Request<'_>>],
+    most: Option<usize>,
+) -> Result<Answer, NoMemory>
+    requires { HasLoaders documents.old.server session.old }
+    ensures answered { IfOk result (λ answer. AnswersArray S.may_tell (client_of documents.old.server most session.old)
+        (requests_of values.now) (report_of answer) session.new) }
+    ensures stopped { OnErr result (StopsArray S.may_tell (client_of documents.old.server most session.old) (requests_of values.now) session.new) }
+    ensures server { documents.new.server ≡ documents.old.server }
+{
+    documents.keep_each(alloc, values);
+    let array = documents.plan_each(alloc, values)?;
+    let plans = limited(alloc, array.plans(), most)?;
+    let answers = runner.answer_all(session, &plans)?;
+    Ok(array_answer(alloc, array.refusals(), &answers)?)
+}

@@ -1,0 +1,32 @@
+//! A GraphQL server over sources of its author's: a response for every request.
+//!
+//! A [`Server`] has the schema and its bindings, for its whole life. For each client, [`Sessions::session`] makes a
+//! [`ClientSession`]: a loader for each `loader` line over the author's source, and one memory. It answers requests, given by
+//! their parts ([`ClientSession::answer`]), as JSON text ([`ClientSession::answer_text`]) or as the lines of an input ([`serve`]). Who
+//! runs the batches of a round is a parameter: this thread ([`InTurn`]) or several ([`Workers`]).
+//!
+//! The layer above may rely on this: an answer is always a response, the refusal of the request's first fault or the answer of its
+//! plan, and says of the client's session that was given what happened to it (`specs/Answers.antt`, `specs/Lines.antt`): its loaders
+//! were asked exactly the batches of a lawful log, with the headline of `load_rounds`, and nothing else was asked. That the session has
+//! a loader for each `loader` line, and that a plan is one of its server, are invariants of the types.
+#![tactic(auto)]
+
+mod answering;
+mod arrays;
+mod client;
+mod keys;
+mod opening;
+mod runner;
+mod serving;
+
+pub use client::ClientSession;
+pub use gq_bindings::{By, LoaderLine};
+pub use gq_schema::SchemaFault;
+pub use line_serving::{Counted, ServeFault};
+pub use load_memory::{Item, Key, NoMemory, Outcome, Row};
+pub use load_queue::{Asks, FetchFault, PerKey, QueueFault, Source};
+pub use load_rounds::{Answer, SessionFault};
+pub use opening::Sessions;
+pub use request_plans::{Request, Server};
+pub use runner::{InTurn, Runner, Workers};
+pub use serving::serve;

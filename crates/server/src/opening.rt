@@ -1,0 +1,68 @@
+//! New sessions of clients.
+
+ghost use Rattle.std.specs.Prelude.{◌≡◌, ◌↔◌, [], None, IfOk, IsErrOf, option_map};
+ghost use Rattle.gq_bindings.specs.Seen.{by_of};
+ghost use Rattle.load_queue.specs.Loaders.{IsBadLimit};
+ghost use Rattle.server.specs.Opening.{AreOpened, mode_of};
+
+use crate::client::ClientSession;
+use gq_bindings::{By, LoaderLine};
+use load_memory::KeyMode;
+use load_queue::{Loader, QueueFault};
+use load_rounds::Session;
+use request_plans::Server;
+use std::alloc::Global;
+
+/// Makes sessions of clients.
+pub trait Sessions {
+    /// A new session for one client: a loader for each `loader` line, in order, under its name, and nothing is known of any key. `source`
+    /// gives the source of a line. The keys of a line that ends in `fold` are compared without the case of `A` to `Z`. A batch has at
+    /// most `max_batch` keys; `None` is no limit. Answers have no limit at first ([`ClientSession::limit_answers`]).
+    ///
+    /// # Errors
+    ///
+    /// [`BadLimit`](QueueFault::BadLimit) if the limit is 0 or over 65,535 and there is a loader; [`NoMemory`](QueueFault::NoMemory).
+    fn session<S: Drop, F: FnMut(&LoaderLine) -> S>(
+        &self,
+        alloc: Global,
+        max_batch: Option<u32>,
+        source: F,
+    ) -> Result<ClientSession<'_, S>, QueueFault>
+        requires { F.IsAlwaysCallable source };
+}
+
+// How the keys of a line's loader are compared.
+fn mode_of(line: &LoaderLine) -> KeyMode
+    ensures { result ≡ mode_of (option_map by_of line.now.by) }
+{
+    match &line.by {
+        Some(By { fold: true, .. }) => KeyMode::FoldAscii,
+        _ => KeyMode::Exact,
+    }
+}
+
+impl Sessions for Server {
+    fn session<S: Drop, F: FnMut(&LoaderLine) -> S>(
+        &self,
+        alloc: Global,
+        max_batch: Option<u32>,
+        mut source: F,
+    ) -> Result<ClientSession<'_, S>, QueueFault>
+        requires { F.IsAlwaysCallable source }
+        ensures server { IfOk result (λ client. client.server ≡ self.now) }
+        ensures unlimited { IfOk result (λ client. client.most ≡ None) }
+        ensures empty { IfOk result (λ client. (client.session.pairs ≡ []) × (client.session.rounds ≡ 0)) }
+        ensures loaders { IfOk result (λ client. AreOpened F.FnMut source max_batch self.now.bindings.loaders client.session.loaders) }
+    {
+        let lines = self.bindings().loaders();
+        let mut loaders = Vec::with_capacity(alloc, lines.len())?;
+        for line in lines {
+            let source = source(line);
+            loaders.push(Loader::new(alloc, line.name.as_str(), source, mode_of(line), max_batch)?)?;
+        }
+        match Session::new(alloc, loaders) {
+            Ok(session) => Ok(ClientSession::new(alloc, self, session)),
+            Err(_) => Err(QueueFault::NoMemory),
+        }
+    }
+}

@@ -1,0 +1,146 @@
+//! Each call of `server`, in an example of a few lines. The program prints what each gives.
+#![tactic(auto)]
+
+mod books;
+
+use books::Books;
+use server::{
+    ClientSession, Counted, InTurn, Item, Key, Outcome, Request, Row, Server, Sessions, Workers,
+    serve,
+};
+use std::alloc::{AllocGlobal, Global};
+use std::sync::Wait;
+use std::thread::Threads;
+
+const SCHEMA: &str = "type Query { book(id: ID!): Book books(ids: [ID!]!): [Book]! }
+type Book { id: ID! title: String! }";
+
+const BINDINGS: &str = "bindings 1
+loader bookById books by id
+field Query.book one bookById arg id
+field Query.books each bookById arg ids";
+
+/// The number of the one loader.
+const BOOK_BY_ID: usize = 0;
+
+fn asking(query: &str) -> Request<'_> {
+    Request {
+        query,
+        operation_name: None,
+        variables: None,
+    }
+}
+
+// The refusal of a query that isn't valid is a response too.
+fn answer(session: &mut ClientSession<'_, Books>, query: &str) -> anyhow::Result<String> {
+    let answer = session.answer(&InTurn, &asking(query))?;
+    Ok(answer.text)
+}
+
+// Requests that are answered together share their rounds: this takes one, of which `rounds` tells.
+fn answer_all(alloc: Global, session: &mut ClientSession<'_, Books>) -> anyhow::Result<String> {
+    let requests = [
+        Some(asking("{book(id:1){title}}")),
+        Some(asking("{book(id:2){title}}")),
+        None,
+    ];
+    let answer = session.answer_all(&InTurn, &requests)?;
+    Ok(format!(in alloc; "{} in {} round", answer.text, answer.rounds)?)
+}
+
+// A request as its client sends it.
+fn answer_text(session: &mut ClientSession<'_, Books>) -> anyhow::Result<String> {
+    let text = "{\"query\":\"query($id:ID!){book(id:$id){title}}\",\"variables\":{\"id\":3}}";
+    Ok(session.answer_text(&InTurn, text.as_bytes())?.text)
+}
+
+// Two threads ask the source: the ids are cut into batches of one, since the session was made so.
+fn answer_with_workers<R: Threads + Wait + AllocGlobal + Sync>(
+    rt: &R,
+    server: &Server,
+) -> anyhow::Result<String> {
+    let mut session = server.session(rt.alloc(), Some(1), |_line| Books)?;
+    let workers = Workers::new(rt, 2)?;
+    let answer = session.answer(&workers, &asking("{books(ids:[1,2,9]){title}}"))?;
+    Ok(answer.text)
+}
+
+// An answer of more bytes than the limit is refused.
+fn limit_answers(session: &mut ClientSession<'_, Books>) -> anyhow::Result<String> {
+    session.limit_answers(Some(20));
+    let answer = session.answer(&InTurn, &asking("{book(id:1){title}}"))?;
+    session.limit_answers(None);
+    Ok(answer.text)
+}
+
+// What is primed isn't asked.
+fn prime(alloc: Global, session: &mut ClientSession<'_, Books>) -> anyhow::Result<String> {
+    let key = Key::Text(String::from_str(alloc, "9")?);
+    let row = Row::new(alloc, &[("id", "9"), ("title", "Unwritten")])?;
+    let added = session.prime(BOOK_BY_ID, &key, Item::Rows(vec![in alloc; row]?))?;
+    let answer = session.answer(&InTurn, &asking("{book(id:9){title}}"))?;
+    Ok(format!(in alloc; "{added} {} in {} rounds", answer.text, answer.rounds)?)
+}
+
+// What is cleared is asked again.
+fn clear(alloc: Global, session: &mut ClientSession<'_, Books>) -> anyhow::Result<String> {
+    let key = Key::Text(String::from_str(alloc, "9")?);
+    let known = session.clear(BOOK_BY_ID, &key)?;
+    let answer = session.answer(&InTurn, &asking("{book(id:9){title}}"))?;
+    session.clear_all(BOOK_BY_ID)?;
+    Ok(format!(in alloc; "{known} {}", answer.text)?)
+}
+
+// One key, by itself.
+fn load(alloc: Global, session: &mut ClientSession<'_, Books>) -> anyhow::Result<String> {
+    let outcome = session.load(BOOK_BY_ID, Key::Text(String::from_str(alloc, "2")?))?;
+    match outcome {
+        Outcome::Rows(rows) => Ok(format!(in alloc; "{} row", rows.len())?),
+        _ => Ok(String::from_str(alloc, "a fault")?),
+    }
+}
+
+// Several keys, in one round.
+fn load_many(alloc: Global, session: &mut ClientSession<'_, Books>) -> anyhow::Result<String> {
+    let one = Key::Text(String::from_str(alloc, "1")?);
+    let other = Key::Text(String::from_str(alloc, "7")?);
+    let outcomes = session.load_many(BOOK_BY_ID, &[one, other])?;
+    Ok(format!(in alloc; "{} outcomes", outcomes.len())?)
+}
+
+// The batches that were asked, and a session that starts again.
+fn restart(alloc: Global, session: &mut ClientSession<'_, Books>) -> anyhow::Result<String> {
+    let asked = session.session().logs(BOOK_BY_ID).unwrap_or(&[]).len();
+    session.restart()?;
+    let left = session.session().logs(BOOK_BY_ID).unwrap_or(&[]).len();
+    Ok(format!(in alloc; "{asked} batches, then {left}")?)
+}
+
+// The lines of any reader, to any writer.
+fn serve_lines(alloc: Global, session: &mut ClientSession<'_, Books>) -> anyhow::Result<String> {
+    let mut reader = Counted::new("{\"query\":\"{book(id:1){title}}\"}\n[]\n".as_bytes());
+    let mut written = Vec::new(alloc);
+    let mut writer = Counted::new(&mut written);
+    let lines = serve(alloc, session, &InTurn, &mut reader, &mut writer)?;
+    drop(writer);
+    Ok(format!(in alloc; "{}{lines} lines", str::from_utf8(&written)?)?)
+}
+
+fn main(rt: HostRuntime) -> anyhow::Result<()> {
+    let alloc = rt.alloc();
+    let server = Server::read(alloc, SCHEMA, BINDINGS)?;
+    let mut session = server.session(alloc, None, |_line| Books)?;
+    println!(rt; "answer: {}", answer(&mut session, "{book(id:1){title}}")?)?;
+    println!(rt; "refusal: {}", answer(&mut session, "{book{title}}")?)?;
+    println!(rt; "answer_all: {}", answer_all(alloc, &mut session)?)?;
+    println!(rt; "answer_text: {}", answer_text(&mut session)?)?;
+    println!(rt; "Workers: {}", answer_with_workers(&rt, &server)?)?;
+    println!(rt; "limit_answers: {}", limit_answers(&mut session)?)?;
+    println!(rt; "prime: {}", prime(alloc, &mut session)?)?;
+    println!(rt; "clear: {}", clear(alloc, &mut session)?)?;
+    println!(rt; "load: {}", load(alloc, &mut session)?)?;
+    println!(rt; "load_many: {}", load_many(alloc, &mut session)?)?;
+    println!(rt; "restart: {}", restart(alloc, &mut session)?)?;
+    println!(rt; "serve: {}", serve_lines(alloc, &mut session)?)?;
+    Ok(())
+}

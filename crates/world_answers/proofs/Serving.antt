@@ -1,0 +1,119 @@
+-- Lines that are served in the session of a world's client have the text of direct execution.
+use Rattle.std.proofs.Common.{◌≡◌, ◌∙◌, ◌⊎◌, ℕ, List, map, inl, inr, refl, sym, ap, subst}
+use Rattle.csv_source.specs.Tables.{SourceOf}
+use Rattle.load_queue.specs.Loaders.{as_made}
+use Rattle.plan_program.specs.PlanPrograms.{plan_program}
+use Rattle.load_rounds.specs.Sessions.{SessionOf, state_of, restarted}
+use Rattle.load_rounds.specs.SharedRounds.{ReportOf, together}
+use Rattle.request_line.specs.Requests.{RequestOf}
+use Rattle.request_plans.specs.Planning.{IsRefusal}
+use Rattle.server.specs.Clients.{ClientOf, client_of, begun}
+use Rattle.server.specs.Answers as server
+use Rattle.server.specs.Arrays as server_arrays
+use Rattle.server.specs.Lines as server_lines
+use Rattle.server.specs.Plans.{requests_within}
+use Rattle.server.proofs.Loaders.{rounds-made, stops-made}
+use Rattle.world_answers.specs.Answers.{may_tell, AnswersAnew, AnswersRequest, faulty, planned}
+use Rattle.world_answers.specs.Arrays.{AnswersTogether, AnswersArray}
+use Rattle.world_answers.specs.Lines.{IsAnswer, no_request, request, several, IsClientOf, AnswersLine}
+use Rattle.world_answers.specs.Services.{ServiceOf, server_in}
+use Rattle.world_answers.specs.Sessions.{IsOver}
+use Rattle.world_answers.proofs.Direct.{answer-direct}
+use Rattle.world_answers.proofs.Restarting.{over-kept}
+use Rattle.world_answers.proofs.Together.{direct-each}
+use Rattle.world_answers.proofs.Values.{places-direct}
+
+module _ (s : ServiceOf) (old new : SessionOf SourceOf) (over : IsOver s.world old) where
+  abbrev c : ClientOf SourceOf
+  c = client_of (server_in s) s.most old
+
+  same-over : new ≡ old → IsOver s.world (restarted new)
+  same-over same = over-kept s.world old new over (ap (λ (x : SessionOf SourceOf). map as_made x.loaders) same)
+
+  -- ---- one request
+
+  request-direct : (r : RequestOf) (report : ReportOf) → server.AnswersRequest may_tell c r report new → AnswersRequest s r report.text
+  request-direct r report (server.refused {text = text} h e same) = faulty h.faulty (ap (λ (t : ReportOf). t.text) e ∙ h.report)
+  request-direct r report (server.planned {plan = plan} h a) =
+      planned h (answer-direct s (state_of new) plan report.text report.rounds (record { valid = a.valid; begun = old; over = over; headline = a.headline }))
+
+  request-over : (r : RequestOf) (report : ReportOf) → server.AnswersRequest may_tell c r report new → IsOver s.world (restarted new)
+  request-over r report (server.refused h e same) = same-over same
+  request-over r report (server.planned {plan = plan} h a) =
+      over-kept s.world old new over (rounds-made may_tell (state_of old) (state_of new) (plan_program plan) a.headline.log a.headline.made)
+
+  -- ---- an array
+
+  array-direct : (values : List (Option RequestOf)) (report : ReportOf) → server_arrays.AnswersArray may_tell c values report new → AnswersArray s values report.text
+  array-direct values report a =
+      let shared : AnswersTogether s (server_arrays.plans_in a.places) (state_of new) (server_arrays.reports_in a.places) = record { begun = old; over = over; headline = a.headline } in
+      record {
+        places = a.places;
+        each = places-direct s values a.places a.each (direct-each s (state_of new) (server_arrays.plans_in a.places) (server_arrays.reports_in a.places) shared);
+        report = a.text;
+        valid = a.valid;
+        after = state_of new;
+        together = shared;
+      }
+
+  array-over : (values : List (Option RequestOf)) (report : ReportOf) → server_arrays.AnswersArray may_tell c values report new → IsOver s.world (restarted new)
+  array-over values report a =
+      over-kept s.world old new over (rounds-made may_tell (state_of old) (state_of new) (together (requests_within s.most (server_arrays.plans_in a.places))) a.headline.log a.headline.made)
+
+  -- ---- a text
+
+  text-direct : (line : List ℕ) (report : ReportOf) → server_lines.AnswersText may_tell c line report new → IsAnswer s line report.text
+  text-direct line report (server_lines.no_request h e same) = no_request h (ap (λ (t : ReportOf). t.text) e)
+  text-direct line report (server_lines.request {r = r} h a) = request h (request-direct r report a)
+  text-direct line report (server_lines.several {values = values} h a) = several h (array-direct values report a)
+
+  text-over : (line : List ℕ) (report : ReportOf) → server_lines.AnswersText may_tell c line report new → IsOver s.world (restarted new)
+  text-over line report (server_lines.no_request h e same) = same-over same
+  text-over line report (server_lines.request {r = r} h a) = request-over r report a
+  text-over line report (server_lines.several {values = values} h a) = array-over values report a
+
+  -- ---- where memory ran out
+
+  stops-request : (r : RequestOf) → server.StopsRequest may_tell c r new → IsOver s.world (restarted new)
+  stops-request r (server.unplanned same) = same-over same
+  stops-request r (server.stopped {plan = plan} h a) = over-kept s.world old new over (stops-made may_tell (state_of old) (state_of new) (plan_program plan) a)
+
+  stops-array : (values : List (Option RequestOf)) → server_arrays.StopsArray may_tell c values new → IsOver s.world (restarted new)
+  stops-array values (server_arrays.unplanned same) = same-over same
+  stops-array values (server_arrays.stopped {plans = plans} h a) =
+      over-kept s.world old new over (stops-made may_tell (state_of old) (state_of new) (together (requests_within s.most plans)) a)
+
+  stops-text : (line : List ℕ) → server_lines.StopsText may_tell c line new → IsOver s.world (restarted new)
+  stops-text line (server_lines.unread same) = same-over same
+  stops-text line (server_lines.request {r = r} h a) = stops-request r a
+  stops-text line (server_lines.several {values = values} h a) = stops-array values a
+
+-- ---- a client
+
+module _ (s : ServiceOf) where
+  -- the client, by the service
+  client-is : (c : ClientOf SourceOf) → IsClientOf s c → begun c ≡ client_of (server_in s) s.most (restarted c.session)
+  client-is c is = ap (λ x. client_of x c.most (restarted c.session)) is.server ∙ ap (λ m. client_of (server_in s) m (restarted c.session)) is.most
+
+  later-is : (c later : ClientOf SourceOf) → IsClientOf s c → later.server ≡ c.server → later.most ≡ c.most → IsOver s.world (restarted later.session) → IsClientOf s later
+  later-is c later is server most over = record { server = server ∙ is.server; most = most ∙ is.most; over = over }
+
+  pub line-direct : (c : ClientOf SourceOf) (line text : List ℕ) (later : ClientOf SourceOf) → IsClientOf s c → server_lines.ServesLine may_tell c line text later → AnswersLine s c line text later
+  line-direct c line text later is h = record {
+    served = h;
+    direct = text-direct s (restarted c.session) later.session is.over line (record { text = text; rounds = h.rounds })
+        (subst (λ (x : ClientOf SourceOf). server_lines.AnswersText may_tell x line (record { text = text; rounds = h.rounds }) later.session) (client-is c is) h.answers);
+  }
+
+  pub line-client : (c : ClientOf SourceOf) (line text : List ℕ) (later : ClientOf SourceOf) → IsClientOf s c → server_lines.ServesLine may_tell c line text later → IsClientOf s later
+  line-client c line text later is h =
+      later-is c later is h.same.server h.same.most (text-over s (restarted c.session) later.session is.over line (record { text = text; rounds = h.rounds })
+          (subst (λ (x : ClientOf SourceOf). server_lines.AnswersText may_tell x line (record { text = text; rounds = h.rounds }) later.session) (client-is c is) h.answers))
+
+  stops-over : (c : ClientOf SourceOf) (line : List ℕ) (later : ClientOf SourceOf) → IsClientOf s c → (later.session ≡ c.session) ⊎ server_lines.StopsText may_tell (begun c) line later.session → IsOver s.world (restarted later.session)
+  stops-over c line later is (inl same) = subst (λ x. IsOver s.world (restarted x)) (sym same) is.over
+  stops-over c line later is (inr stops) =
+      stops-text s (restarted c.session) later.session is.over line (subst (λ (x : ClientOf SourceOf). server_lines.StopsText may_tell x line later.session) (client-is c is) stops)
+
+  pub stops-client : (c : ClientOf SourceOf) (line : List ℕ) (later : ClientOf SourceOf) → IsClientOf s c → server_lines.StopsLine may_tell c line later → IsClientOf s later
+  stops-client c line later is h = later-is c later is h.same.server h.same.most (stops-over c line later is h.stops)

@@ -1,4 +1,0 @@
-use Rattle.world_answers.proofs.serving.serve_limited.Given as goal
-
-abbrev pub ghosts-serve_run : goal.ghosts-serve_run
-ghosts-serve_run g a = record { world = a.service.now.world.now }
