@@ -2,5 +2,3 @@ pub mod Columns
 pub mod Names
 pub mod Loaders
 pub mod Worlds
-pub mod Keepings
-pub mod KeptPlans

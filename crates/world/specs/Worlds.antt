@@ -5,11 +5,10 @@ use Rattle.schema_syntax.specs.declared.tree.Definition as rust
 use Rattle.gq_schema.specs.Types.{tree_of}
 use Rattle.gq_schema.specs.Reading.{IsSchema, IsFaultOf}
 use Rattle.gq_bindings.specs.Tree.{BindingsOf}
-use Rattle.gq_bindings.specs.Reading.{bindings_of, accepted, refused}
-use Rattle.gq_schema.specs.declared.fault.SchemaFault.{SchemaFault}
-use Rattle.gq_schema.specs.declared.fault.SchemaFault.TheVariants as schema
+use Rattle.gq_bindings.specs.Reading.{bindings_of, accepted}
 use Rattle.csv_source.specs.Reading.{Repeats}
 use Rattle.csv_source.specs.Tables.{SourceOf}
+use Rattle.request_plans.specs.Servers.{ServerOf, RefusesBindings}
 use Rattle.world.specs.declared.fault.WorldFault.{WorldFault}
 use Rattle.world.specs.declared.fault.WorldFault.TheVariants as world
 use Rattle.world.specs.Sources.{TableOf, names_of, sheet_named, sources_for}
@@ -20,6 +19,10 @@ pub record WorldOf : Type 0 where
   pub bindings : BindingsOf
   pub limit : Option ℕ
   pub sources : List SourceOf
+
+-- the server of a world
+abbrev pub server_of : WorldOf → ServerOf
+server_of w = record { definitions = w.definitions; bindings = w.bindings }
 
 -- no limit, or one from 1 to 65,535
 abbrev pub IsLimit : Option ℕ → Type 0
@@ -41,11 +44,6 @@ pub record IsWorldOver (defs : List Definition) (text : List ℕ) (tables : List
   pub same : tree_of w.definitions ≡ defs
   pub read : IsRead defs text tables w.bindings
   pub answered : sources_for (sheet_named tables) w.bindings.loaders ≡ Ok w.sources
-
--- the bindings text is refused for this
-abbrev pub RefusesBindings : List Definition → List ℕ → SchemaFault → Type 0
-RefusesBindings defs text (schema.BadBinding line) = bindings_of defs text ≡ refused line
-RefusesBindings defs text _ = ⊥
 
 -- a loader has no source, and it is the first
 abbrev pub LacksSource : List Definition → List ℕ → List TableOf → WorldFault → Type 0
@@ -96,3 +94,22 @@ pub record IsSame (v w : WorldOf) : Type 0 where
 abbrev pub MakesWorld : WorldOf → Result WorldOf WorldFault → Type 0
 MakesWorld w (Ok made) = IsSame made w
 MakesWorld w (Err fault) = fault ≡ world.NoMemory
+
+-- ---- over a server
+
+-- the world of this server with this limit, whose loaders have their sources in these tables
+pub record IsWorldOf (s : ServerOf) (limit : Option ℕ) (tables : List TableOf) (w : WorldOf) : Type 0 where
+  pub server : server_of w ≡ s
+  pub limited : w.limit ≡ limit
+  pub once : ¬ (Repeats (names_of tables))
+  pub answered : sources_for (sheet_named tables) s.bindings.loaders ≡ Ok w.sources
+
+-- Why loaders have no sources in these tables: a table is given twice; or else the first loader without a source lacks its table or its
+-- column. Of memory this says nothing.
+abbrev pub LacksTables : BindingsOf → List TableOf → WorldFault → Type 0
+LacksTables b tables world.BadLimit = ⊥
+LacksTables b tables (world.Schema fault) = ⊥
+LacksTables b tables world.DuplicateTable = Repeats (names_of tables)
+LacksTables b tables world.NoSuchTable = ¬ (Repeats (names_of tables)) × (sources_for (sheet_named tables) b.loaders ≡ Err world.NoSuchTable)
+LacksTables b tables world.NoSuchColumn = ¬ (Repeats (names_of tables)) × (sources_for (sheet_named tables) b.loaders ≡ Err world.NoSuchColumn)
+LacksTables b tables world.NoMemory = Unit {0}

@@ -1,30 +1,27 @@
 //! Worlds.
 
 ghost use Rattle.std.specs.Prelude.{◌≡◌, ◌<◌, ℕ, IfOk, IfErr, get_or, length, map};
-ghost use Rattle.gq_schema.specs.Types.{tree_of};
 ghost use Rattle.csv_source.specs.Tables.{SourceOf};
 ghost use Rattle.world.specs.Sources.{table_of};
-ghost use Rattle.world.specs.Worlds.{WorldOf, IsLimit, IsWorldOver, IsRefusalOver, IsWorld, IsRefusal, MakesWorld};
+ghost use Rattle.world.specs.Worlds.{WorldOf, IsLimit, IsWorldOf, LacksTables, IsWorld, IsRefusal, MakesWorld, server_of};
 
 use crate::fault::WorldFault;
 use crate::sources::{SourceParts, all_source_parts};
 use crate::tables::by_name;
 use csv_source::{CsvSource, Table};
 use gq_bindings::Bindings;
-use gq_schema::Schema;
 use load_queue::MAX_LIMIT;
+use request_plans::Server;
 use std::alloc::Global;
 use std::marker::Model;
 
-/// A schema, its bindings, the batch limit, and for each loader of the bindings the table or the index
-/// that its source uses.
+/// A server, the batch limit, and for each loader of the bindings the table or the index that its source uses.
 ///
 /// A contract sees it as these four: the definitions of the schema, the bindings, the limit, and the
 /// sources in the order of their loaders.
 #[derive(Drop)]
 pub struct World {
-    schema: Schema,
-    bindings: Bindings,
+    server: Server,
     limit: Option<u32>,
     sources: Vec<SourceParts>,
 }
@@ -41,9 +38,9 @@ impl Model for World {
 
     ghost coded = { Prim.hlevel (codes, type_ref.the_row.coded, literal.the_row.coded) };
 
-    ghost view = { λ w. record { definitions = w.schema; bindings = w.bindings; limit = w.limit; sources = map source_of w.sources.items } };
+    ghost view = { λ w. record { definitions = w.server.definitions; bindings = w.server.bindings; limit = w.limit; sources = map source_of w.sources.items } };
 
-    ghost invariant = { λ w. HasSources (record { definitions = w.schema; bindings = w.bindings; limit = w.limit; sources = map source_of w.sources.items }) };
+    ghost invariant = { λ w. HasSources (record { definitions = w.server.definitions; bindings = w.server.bindings; limit = w.limit; sources = map source_of w.sources.items }) };
 }
 
 // A limit that may be set, if there is one.
@@ -92,46 +89,42 @@ impl World {
         ensures fault { IfErr result (IsRefusal schema.now bindings.now (map table_of tables.items) max) }
     {
         let limit = limited(max)?;
-        let schema = Schema::read(alloc, schema)?;
-        World::over(alloc, schema, bindings, tables, limit)
+        let server = Server::read(alloc, schema, bindings)?;
+        World::over(alloc, server, tables, limit)
     }
 
-    // The world of a schema.
+    // The world of a server.
     fn over(
         alloc: Global,
-        schema: Schema,
-        bindings: &str,
+        server: Server,
         tables: Vec<(String, Table)>,
         limit: Option<u32>,
     ) -> Result<World, WorldFault>
         requires { IsLimit limit }
-        ensures ok { IfOk result (λ w. IsWorldOver (tree_of schema) bindings.now (map table_of tables.items) w) }
-        ensures limit { IfOk result (λ w. w.limit ≡ limit) }
-        ensures err { IfErr result (IsRefusalOver (tree_of schema) bindings.now (map table_of tables.items)) }
+        ensures ok { IfOk result (IsWorldOf server limit (map table_of tables.items)) }
+        ensures err { IfErr result (LacksTables server.bindings (map table_of tables.items)) }
     {
-        let bindings = Bindings::read(alloc, &schema, bindings)?;
         let tables = by_name(alloc, tables)?;
-        let sources = all_source_parts(alloc, tables, bindings.loaders())?;
+        let sources = all_source_parts(alloc, tables, server.bindings().loaders())?;
         Ok(World {
-            schema,
-            bindings,
+            server,
             limit,
             sources,
         })
     }
 
-    /// The schema.
-    pub fn schema(&self) -> &Schema
-        ensures { result.now ≡ self.now.definitions }
+    /// The schema, and how its fields are answered.
+    pub fn server(&self) -> &Server
+        ensures { result.now ≡ server_of self.now }
     {
-        &self.schema
+        &self.server
     }
 
     /// How the fields of the schema are answered.
     pub fn bindings(&self) -> &Bindings
         ensures { result.now ≡ self.now.bindings }
     {
-        &self.bindings
+        self.server.bindings()
     }
 
     /// The batch limit, from 1 to [`MAX_LIMIT`]; `None` is no limit.

@@ -8,8 +8,8 @@ use Rattle.gq_schema.specs.Types.{tree_of}
 use Rattle.gq_check.specs.declared.fault.PrepareFault.{PrepareFault}
 use Rattle.gq_check.specs.Plans.{KeptParts, PlanParts, kept_document, fragments_of, plan_of}
 use Rattle.gq_check.specs.Prepared.{prepared, IsPrepareFault}
-use Rattle.world.specs.Keeping.{IsKept}
-use Rattle.world.specs.Requests.{IsPlanOf, IsUnprepared}
+use Rattle.request_plans.specs.Keeping.{IsKept}
+use Rattle.request_plans.specs.Requests.{IsPlanOf, IsUnprepared}
 
 pub kept-plan : (defs : List Definition) (query : List ℕ) (k : KeptParts) (name : Option (List ℕ)) (given : Data) (p : PlanParts) → IsKept defs query k → p.fragments ≡ k.fragments
     → prepared (tree_of k.definitions) (map operation_of k.operations) name given ≡ Ok (record { operation = (plan_of p).operation; variables = (plan_of p).variables }) → IsPlanOf (tree_of defs) query name given (plan_of p)

@@ -3,7 +3,7 @@ use Rattle.gq_parser.specs.Tree.{document_of}
 use Rattle.schema_syntax.specs.declared.tree.Definition.{Definition}
 use Rattle.gq_schema.specs.Types.{tree_of}
 use Rattle.gq_check.specs.Verdict.{IsValid}
-use Rattle.world.proofs.request.checked.Goals as goal
+use Rattle.request_plans.proofs.server.checked.Goals as goal
 
 pub returns-in-Ok-check-clause-valid : goal.returns-in-Ok-check-clause-valid
 returns-in-Ok-check-clause-valid c =

@@ -16,7 +16,7 @@ use Rattle.schema_syntax.specs.declared.tree.Definition as rust
 use Rattle.gq_schema.specs.Types.{tree_of}
 use Rattle.gq_check.specs.Plans.{KeptParts, kept_document}
 use Rattle.gq_check.specs.Verdict.{IsValid}
-use Rattle.world.specs.Keeping.{most_texts, most_bytes, longest, bytes_of, AreBounded, HasRoom, IsKept, Entry, texts_of, IsKeeping, MakesRoom, fits, emptied, Adds}
+use Rattle.request_plans.specs.Keeping.{most_texts, most_bytes, longest, bytes_of, AreBounded, HasRoom, IsKept, Entry, texts_of, IsKeeping, MakesRoom, fits, emptied, Adds}
 
 -- a query is found by its bytes
 abbrev pub is_query : List ℕ → String Global → Bool

@@ -9,11 +9,11 @@ use Rattle.schema_syntax.specs.declared.tree.Definition as rust
 use Rattle.gq_schema.specs.Types.{tree_of}
 use Rattle.gq_check.specs.Plans.{KeptParts, kept_document}
 use Rattle.gq_check.specs.Verdict.{IsValid}
-use Rattle.world.specs.Worlds.{WorldOf}
+use Rattle.request_plans.specs.Servers.{ServerOf}
 
--- a world, and the texts whose documents over it are kept
+-- a server, and the texts whose documents over it are kept
 pub record KeepingOf : Type 0 where
-  pub world : WorldOf
+  pub server : ServerOf
   pub texts : List (List ℕ)
 
 -- how many bytes the longest text has that is kept

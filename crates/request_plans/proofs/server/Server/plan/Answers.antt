@@ -7,7 +7,7 @@ use Rattle.schema_syntax.specs.declared.tree.Definition.{Definition}
 use Rattle.gq_schema.specs.Types.{tree_of}
 use Rattle.gq_check.specs.Plans.{fragments_of, plan_of}
 use Rattle.gq_check.specs.Prepared.{prepared, IsPrepareFault}
-use Rattle.world.proofs.world.World.plan.Goals as goal
+use Rattle.request_plans.proofs.server.Server.plan.Goals as goal
 
 pub returns-in-Ok-prepare-clause-ok : goal.returns-in-Ok-prepare-clause-ok
 returns-in-Ok-prepare-clause-ok c =

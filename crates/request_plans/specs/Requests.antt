@@ -18,8 +18,8 @@ use Rattle.gq_check.specs.Plans.{PlanOf}
 use Rattle.gq_check.specs.Prepared.{prepared, IsPrepareFault}
 use Rattle.gq_check.specs.Verdict.{IsVerdict, IsValid, IsCheckFault}
 use Rattle.gq_check.specs.Texts.{check_message, check_place, prepare_message}
-use Rattle.world.specs.declared.request.RequestFault.{RequestFault}
-use Rattle.world.specs.declared.request.RequestFault.TheVariants as fault
+use Rattle.request_plans.specs.declared.fault.RequestFault.{RequestFault}
+use Rattle.request_plans.specs.declared.fault.RequestFault.TheVariants as fault
 
 -- the name of an operation, where one is given
 abbrev pub name_given : Option (Bor (List ℕ)) → Option (List ℕ)

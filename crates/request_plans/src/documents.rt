@@ -7,11 +7,11 @@ ghost use Rattle.serde_json.specs.Data.{Data};
 ghost use Rattle.serde_json.specs.View.{view};
 ghost use Rattle.gq_schema.specs.Types.{tree_of};
 ghost use Rattle.gq_check.specs.Plans.{plan_of};
-ghost use Rattle.world.specs.Keeping.{longest, most_bytes, AreBounded, HasRoom, IsKept, MakesRoom, Adds};
-ghost use Rattle.world.specs.Requests.{name_given, IsPlanOf, IsRequestFault};
+ghost use Rattle.request_plans.specs.Keeping.{longest, most_bytes, AreBounded, HasRoom, IsKept, MakesRoom, Adds};
+ghost use Rattle.request_plans.specs.Requests.{name_given, IsPlanOf, IsRequestFault};
 
-use crate::request::{RequestFault, checked};
-use crate::world::World;
+use crate::fault::RequestFault;
+use crate::server::{Server, checked};
 use gq_check::{CheckFault, KeptDocument, Plan, prepare_kept};
 use serde_json::Value;
 use std::alloc::{AllocError, Global};
@@ -27,45 +27,45 @@ const MOST_BYTES: usize = 262_144;
 /// How many bytes the longest text has that is kept.
 const LONGEST: usize = 32_768;
 
-/// Valid documents over a world, kept by their texts, so that a text that comes again is neither parsed nor checked again. A
+/// Valid documents over a server, kept by their texts, so that a text that comes again is neither parsed nor checked again. A
 /// document that isn't valid isn't kept.
 ///
 /// The texts are at most 1,024, and have at most 262,144 bytes together: where one more doesn't fit, all are let go. A text of
 /// more than 32,768 bytes isn't kept. Operations' names and variables are no part of what is kept.
 ///
-/// A contract sees it as the world and the texts whose documents are kept.
+/// A contract sees it as the server and the texts whose documents are kept.
 #[derive(Drop)]
-pub struct KeptDocuments<'w> {
-    world: &'w World,
-    documents: HashMap<String, KeptDocument<'w>>,
+pub struct KeptDocuments<'s> {
+    server: &'s Server,
+    documents: HashMap<String, KeptDocument<'s>>,
     bytes: usize,
 }
 
-impl<'w> Model for KeptDocuments<'w> {
+impl<'s> Model for KeptDocuments<'s> {
     ghost use Rattle.std.specs.Coded.{codes};
     ghost use Rattle.gq_parser.specs.contracts.tree.TypeRef as type_ref;
     ghost use Rattle.gq_parser.specs.contracts.tree.Literal as literal;
-    ghost use Rattle.world.specs.Keeping.{KeepingOf, texts_of, IsKeeping};
+    ghost use Rattle.request_plans.specs.Keeping.{KeepingOf, texts_of, IsKeeping};
 
     ghost Value = { KeepingOf };
 
     ghost coded = { Prim.hlevel (codes, type_ref.the_row.coded, literal.the_row.coded) };
 
-    ghost view = { λ k. record { world = k.world.now; texts = texts_of k.documents.entries } };
+    ghost view = { λ k. record { server = k.server.now; texts = texts_of k.documents.entries } };
 
-    ghost invariant = { λ k. IsKeeping k.world.now.definitions k.documents.entries k.bytes };
+    ghost invariant = { λ k. IsKeeping k.server.now.definitions k.documents.entries k.bytes };
 }
 
 // The document of a query, to be kept.
-fn new_document<'w>(
+fn new_document<'s>(
     alloc: Global,
-    world: &'w World,
+    server: &'s Server,
     query: &str,
-) -> Result<KeptDocument<'w>, RequestFault>
-    ensures ok { IfOk result (IsKept world.now.definitions query.now) }
-    ensures err { (name : Option (List ℕ)) (given : Data) → IfErr result (IsRequestFault (tree_of world.now.definitions) query.now name given) }
+) -> Result<KeptDocument<'s>, RequestFault>
+    ensures ok { IfOk result (IsKept server.now.definitions query.now) }
+    ensures err { (name : Option (List ℕ)) (given : Data) → IfErr result (IsRequestFault (tree_of server.now.definitions) query.now name given) }
 {
-    let checked = match checked(alloc, world, query) {
+    let checked = match checked(alloc, server, query) {
         Ok(checked) => checked,
         Err(fault) => return Err(fault),
     };
@@ -88,11 +88,11 @@ fn make_room(documents: &mut HashMap<String, KeptDocument<'_>>, bytes: &mut usiz
 }
 
 // Adds a document by its text, which isn't there yet.
-fn add<'w>(
-    documents: &mut HashMap<String, KeptDocument<'w>>,
+fn add<'s>(
+    documents: &mut HashMap<String, KeptDocument<'s>>,
     bytes: &mut usize,
     text: String,
-    kept: KeptDocument<'w>,
+    kept: KeptDocument<'s>,
 ) -> Result<(), AllocError>
     requires new { get_by_text documents.old (string_bytes text) ≡ None }
     requires short { bytes.old ≤ most_bytes }
@@ -110,24 +110,24 @@ fn add<'w>(
     }
 }
 
-impl<'w> KeptDocuments<'w> {
-    /// No documents yet, over this world.
-    pub fn new(alloc: Global, world: &'w World) -> KeptDocuments<'w>
-        ensures { result ≡ record { world = world.now; texts = [] } }
+impl<'s> KeptDocuments<'s> {
+    /// No documents yet, over this server.
+    pub fn new(alloc: Global, server: &'s Server) -> KeptDocuments<'s>
+        ensures { result ≡ record { server = server.now; texts = [] } }
     {
         KeptDocuments {
-            world,
+            server,
             documents: HashMap::new(alloc),
             bytes: 0,
         }
     }
 
-    /// The world.
-    pub fn world(&self) -> &'w World
-        ensures world { result.now ≡ self.now.world }
+    /// The server.
+    pub fn server(&self) -> &'s Server
+        ensures server { result.now ≡ self.now.server }
         ensures bounded { AreBounded self.now.texts }
     {
-        self.world
+        self.server
     }
 
     /// Keeps the document of a query, unless it is kept already or longer than any that is kept.
@@ -136,13 +136,13 @@ impl<'w> KeptDocuments<'w> {
     ///
     /// [`Parse`](RequestFault::Parse), else [`Check`](RequestFault::Check), each with its fault, which may be want of memory.
     /// A query that is kept has none.
-    pub fn keep(&mut self, alloc: Global, query: &str) -> Result<(), RequestFault>
-        ensures world { self.new.world ≡ self.old.world }
+    pub(crate) fn keep_query(&mut self, alloc: Global, query: &str) -> Result<(), RequestFault>
+        ensures server { self.new.server ≡ self.old.server }
         ensures kept { OnOk result (length query.now ≤ longest → Contains self.new.texts query.now) }
         // While there is room, no text is let go.
         ensures stay { HasRoom self.old.texts query.now → (text : List ℕ) → Contains self.old.texts text → Contains self.new.texts text }
         ensures bounded { AreBounded self.new.texts }
-        ensures err { (name : Option (List ℕ)) (given : Data) → IfErr result (IsRequestFault (tree_of self.old.world.definitions) query.now name given) }
+        ensures err { (name : Option (List ℕ)) (given : Data) → IfErr result (IsRequestFault (tree_of self.old.server.definitions) query.now name given) }
     {
         if self.documents.contains_key(query) {
             return Ok(());
@@ -150,7 +150,7 @@ impl<'w> KeptDocuments<'w> {
         if query.len() > LONGEST {
             return Ok(());
         }
-        let kept = match new_document(alloc, self.world, query) {
+        let kept = match new_document(alloc, self.server, query) {
             Ok(kept) => kept,
             Err(fault) => return Err(fault),
         };
@@ -164,29 +164,29 @@ impl<'w> KeptDocuments<'w> {
         }
     }
 
-    /// The plan of a request, as [`World::plan`] gives it. Where the document of its query is kept, the plan borrows it: then
+    /// The plan of a query, as [`Server::plan`] gives it. Where the document of its query is kept, the plan borrows it: then
     /// nothing is parsed, and only the variables are checked.
     ///
     /// # Errors
     ///
-    /// Those of [`World::plan`].
-    pub fn plan(
+    /// Those of [`Server::plan`].
+    pub(crate) fn plan_query(
         &self,
         alloc: Global,
         query: &str,
         operation_name: Option<&str>,
         variables: &Value,
     ) -> Result<Plan<'_>, RequestFault>
-        ensures schema { IfOk result (λ plan. plan.definitions ≡ self.now.world.definitions) }
-        ensures bindings { IfOk result (λ plan. plan.bindings ≡ self.now.world.bindings) }
-        ensures ok { IfOk result (λ p. IsPlanOf (tree_of self.now.world.definitions) query.now
+        ensures schema { IfOk result (λ plan. plan.definitions ≡ self.now.server.definitions) }
+        ensures bindings { IfOk result (λ plan. plan.bindings ≡ self.now.server.bindings) }
+        ensures ok { IfOk result (λ p. IsPlanOf (tree_of self.now.server.definitions) query.now
             (name_given operation_name.entry) (view variables.now) (plan_of p)) }
-        ensures err { IfErr result (IsRequestFault (tree_of self.now.world.definitions) query.now (name_given operation_name.entry) (view variables.now)) }
+        ensures err { IfErr result (IsRequestFault (tree_of self.now.server.definitions) query.now (name_given operation_name.entry) (view variables.now)) }
     {
         let Some(kept) = self.documents.get(query) else {
-            return self.world.plan(alloc, query, operation_name, variables);
+            return self.server.plan(alloc, query, operation_name, variables);
         };
-        let bindings = self.world.bindings();
+        let bindings = self.server.bindings();
         match prepare_kept(alloc, bindings, kept, operation_name, variables) {
             Ok(plan) => Ok(plan),
             Err(fault) => Err(RequestFault::Prepare(fault)),

@@ -1,0 +1,5 @@
+pub mod Keepings
+pub mod KeptPlans
+pub mod Servers
+pub mod Requests
+pub mod Values

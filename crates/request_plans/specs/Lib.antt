@@ -1,0 +1,4 @@
+pub mod Servers
+pub mod Requests
+pub mod Keeping
+pub mod Planning

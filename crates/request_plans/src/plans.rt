@@ -1,0 +1,71 @@
+//! What requests ask, one or the values of an array.
+
+ghost use Rattle.std.specs.Prelude.{◌≡◌, [], map, OnOk, option_map, string_bytes};
+ghost use Rattle.gq_check.specs.Plans.{plan_of};
+ghost use Rattle.request_plans.specs.Servers.{ServerOf};
+ghost use Rattle.request_plans.specs.Planning.{PlansArray, AddsPlan, refusals_of, plans_of};
+
+use gq_check::Plan;
+use std::alloc::{AllocError, Global};
+
+/// What a request asks.
+#[derive(Drop)]
+pub enum RequestPlan<'p> {
+    /// Nothing: this text refuses it.
+    Refused(String),
+    /// What this plan asks.
+    Planned(Plan<'p>),
+}
+
+/// What the values of an array ask.
+#[derive(Drop)]
+pub struct ArrayPlan<'p> {
+    // The refusal of each value, in order. A value without one has a plan.
+    refusals: Vec<Option<String>>,
+    // The plans, in order.
+    plans: Vec<Plan<'p>>,
+}
+
+impl<'p> ArrayPlan<'p> {
+    /// Of no values yet.
+    pub fn new(alloc: Global) -> ArrayPlan<'p>
+        ensures { (s : ServerOf) → PlansArray s [] result }
+    {
+        ArrayPlan {
+            refusals: Vec::new(alloc),
+            plans: Vec::new(alloc),
+        }
+    }
+
+    /// Adds what one more value asks.
+    ///
+    /// # Errors
+    ///
+    /// Only when out of memory; then this is to be dropped.
+    pub fn push(&mut self, plan: RequestPlan<'p>) -> Result<(), AllocError>
+        ensures { OnOk result (AddsPlan self.old plan.entry self.new) }
+    {
+        match plan {
+            RequestPlan::Refused(text) => self.refusals.push(Some(text))?,
+            RequestPlan::Planned(plan) => {
+                self.refusals.push(None)?;
+                self.plans.push(plan)?;
+            }
+        }
+        Ok(())
+    }
+
+    /// The text that refuses each value, in order. A value without one has a plan, the next of [`plans`](ArrayPlan::plans).
+    pub fn refusals(&self) -> &[Option<String>]
+        ensures { map (option_map string_bytes) result.now ≡ refusals_of self.now }
+    {
+        &self.refusals
+    }
+
+    /// The plans of the values that aren't refused, in order.
+    pub fn plans(&self) -> &[Plan<'p>]
+        ensures { map plan_of result.now ≡ plans_of self.now }
+    {
+        &self.plans
+    }
+}
