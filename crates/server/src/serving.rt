@@ -1,7 +1,8 @@
 //! Request lines, answered one after another.
 
 ghost use Rattle.std.specs.Prelude.{IfOk, OnErr, string_bytes};
-ghost use Rattle.line_serving.specs.Serving.{Serves, devices};
+ghost use Rattle.line_serving.specs.Devices.{devices};
+ghost use Rattle.line_serving.specs.Serving.{Serves};
 ghost use Rattle.server.specs.Lines.{ServesLine, StopsLine, serving};
 
 use crate::client::ClientSession;

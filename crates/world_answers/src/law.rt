@@ -2,7 +2,8 @@
 
 ghost use Rattle.std.specs.Prelude.{◌≡◌, ℕ, List, Result};
 ghost use Rattle.csv_source.specs.Tables.{SourceOf};
-ghost use Rattle.line_serving.specs.Serving.{DevicesOf, Serves};
+ghost use Rattle.line_serving.specs.Devices.{DevicesOf};
+ghost use Rattle.line_serving.specs.Serving.{Serves};
 ghost use Rattle.line_serving.specs.declared.fault.ServeFault.{ServeFault};
 ghost use Rattle.server.specs.Clients.{ClientOf};
 ghost use Rattle.server.specs.Lines.{serving};
