@@ -1,8 +1,9 @@
 -- Steps on the known bytes of readers and writers.
 use Rattle.std.proofs.lemmas.List.{take_rest, take-append-drop}
-use Rattle.std.proofs.Common.{subst, ◌-◌, drop, ◌≡◌, ℕ, List, [], ◌++◌, length, take, refl, sym, ap, ◌∙◌, append_assoc, append-nil, Some, None}
+use Rattle.std.proofs.Common.{inl, inr, ◌⊎◌, subst, ◌-◌, drop, ◌≡◌, ℕ, List, [], ◌++◌, length, take, refl, sym, ap, ◌∙◌, append_assoc, append-nil, Some, None}
 use Rattle.std.specs.Prelude.{Option}
 use Rattle.std.specs.Io.KnownBytes.{Appends, Consumes}
+use Rattle.line_serving.specs.Devices.{CountsOf, IsSteady, HasFault, counted}
 use Rattle.line_serving.specs.Output.{Sends, IsCut}
 
 pub appends_none : (a : Option (List ℕ)) → Appends a a []
@@ -98,3 +99,22 @@ pub wrote_more : (bytes out rest : List ℕ) (n : ℕ) → bytes ≡ out ++ rest
 wrote_more bytes out rest n e =
     e ∙ ap (λ l. out ++ l) (sym (take-append-drop n rest)) ∙ sym (append_assoc out (take n rest) (drop n rest))
     ∙ ap (λ l. (out ++ take n rest) ++ l) (sym (take_rest rest n))
+
+-- ---- what a device has counted
+
+pub steady_same : (a : CountsOf) → IsSteady a a
+steady_same a = record { faults = refl; failed = refl }
+
+pub steady_trans : {a b c : CountsOf} → IsSteady a b → IsSteady b c → IsSteady a c
+steady_trans h k = record { faults = k.faults ∙ h.faults; failed = k.failed ∙ h.failed }
+
+pub fault_after : (IsMet : CountsOf → Type 0) {a b c : CountsOf} → IsSteady a b → HasFault IsMet b c → HasFault IsMet a c
+fault_after IsMet {a} {b} {c} h k = record { one = k.one ∙ ap counted h.faults; due = due k.due }
+  where
+    due : (c.failed ≡ counted b.failed) ⊎ ((c.failed ≡ b.failed) × IsMet c) → (c.failed ≡ counted a.failed) ⊎ ((c.failed ≡ a.failed) × IsMet c)
+    due (inl e) = inl (e ∙ ap counted h.failed)
+    due (inr (e, met)) = inr (e ∙ h.failed, met)
+
+-- a front of the text went out, or the whole text and a front of more
+pub cut_first : (a b : Option (List ℕ)) (p xs ys : List ℕ) → IsCut a b (p ++ xs) → IsCut a b (p ++ (xs ++ ys))
+cut_first a b p xs ys h = cut_same a b ((p ++ xs) ++ ys) (p ++ (xs ++ ys)) (cut_before a b (p ++ xs) ys h) (append_assoc p xs ys)

@@ -1,41 +1,103 @@
--- What holds of answers by one relation holds of them by each that it is within.
-use Rattle.std.proofs.Common.{inl, inr, ℕ, List, [], ◌∷◌}
-use Rattle.std.specs.Prelude.{Option}
-use Rattle.line_serving.specs.Lines.{HasNoLineFeed, input_lines}
-use Rattle.line_serving.specs.Output.{AreAnswers}
-use Rattle.line_serving.specs.Serving.{AtFault, Stopped, IsAnswered, FailsAtEnd, Fails}
+-- What holds of answers by one relation holds of them by each that it is within, where the states are seen by a function.
+use Rattle.std.proofs.Common.{◌≡◌, ap, subst, sym, inl, inr, ℕ, List, [], ◌∷◌, ◌++◌}
+use Rattle.std.specs.Prelude.{Option, Result, Ok, Err, IfOk, IfErr}
+use Rattle.std.specs.Io.KnownBytes.{Appends}
+use Rattle.line_serving.specs.Answering.{AnsweringOf, AreAnswers, FrontOf, IsNext, IsOutput, MayStop}
+use Rattle.line_serving.specs.Devices.{DevicesOf}
+use Rattle.line_serving.specs.Lines.{HasNoLineFeed, ended, input_lines}
+use Rattle.line_serving.specs.Output.{IsCut}
+use Rattle.line_serving.specs.Serving.{AtFault, IsUnanswered, StartsLong, Stopped, IsAnswered, FailsAtEnd, Fails, Serves, ServesAll, StopsServing}
 use Rattle.line_serving.specs.declared.fault.ServeFault.{ServeFault}
 use Rattle.line_serving.specs.declared.fault.ServeFault.TheVariants as fault
 
-module _ (A B : List ℕ → List ℕ → Type 0) (within : (line text : List ℕ) → A line text → B line text) where
-  are_widened : (lines : List (List ℕ)) (out : List ℕ) → AreAnswers A lines out → AreAnswers B lines out
-  are_widened [] out h = h
-  are_widened (l ∷ ls) out (t, m, a, h, e) = (t, m, within l t a, are_widened ls m h, e)
+module _ {F G : Type 0} (A : AnsweringOf F) (B : AnsweringOf G) (view : F → G) (Holds : F → Type 0)
+    (gives : (f : F) (line text : List ℕ) (g : F) → Holds f → A.gives f line text g → B.gives (view f) line text (view g) × Holds g)
+    (stops : (f : F) (line : List ℕ) (g : F) → Holds f → A.stops f line g → B.stops (view f) line (view g) × Holds g) where
+  are_widened : (lines : List (List ℕ)) (f : F) (out : List ℕ) (g : F) → Holds f → AreAnswers A f lines out g → AreAnswers B (view f) lines out (view g) × Holds g
+  are_widened [] f out g holds (e, s) = ((e, ap view s), subst Holds (sym s) holds)
+  are_widened (l ∷ ls) f out g holds (t, m, s, a, is, e) =
+      let one = gives f l t s holds a in
+      let more = are_widened ls s m g one.1 is in
+      ((t, m, view s, one.0, more.0, e), more.1)
 
-  pub answered_widened : (text : List ℕ) (n : ℕ) (Sent : List ℕ → Type 0) → IsAnswered A text n Sent → IsAnswered B text n Sent
-  answered_widened text n Sent h = record {
-    each = h.each;
-    count = h.count;
-    output = h.output;
-    answers = are_widened (input_lines text) h.output h.answers;
-    sent = h.sent;
+  may_widened : (f : F) (rest : List ℕ) (AtEnd : Type 0) (g : F) → Holds f → MayStop A f rest AtEnd g → MayStop B (view f) rest AtEnd (view g) × Holds g
+  may_widened f rest AtEnd g holds (inl same) = (inl (ap view same), subst Holds (sym same) holds)
+  may_widened f rest AtEnd g holds (inr (line, next, stop)) = let last = stops f line g holds stop in (inr (line, next, last.0), last.1)
+
+  front_widened : (f : F) (text : List ℕ) → Holds f → (s : FrontOf A f text) → FrontOf B (view f) text
+  front_widened f text holds s = record {
+    lines = s.lines;
+    rest = s.rest;
+    output = s.output;
+    state = view s.state;
+    splits = s.splits;
+    answers = (are_widened s.lines f s.output s.state holds s.answers).0;
   }
 
-  stopped_widened : (text : List ℕ) (Sent Cut Read : List ℕ → Type 0) (f : ServeFault) → Stopped A text Sent Cut Read f → Stopped B text Sent Cut Read f
-  stopped_widened text Sent Cut Read f (lines, rest, out, s, are, h) = (lines, rest, out, s, are_widened lines out are, h)
+  answered_widened : (f g : F) (text : List ℕ) (n : ℕ) (Sent : List ℕ → Type 0) → Holds f → IsAnswered A f g text n Sent → IsAnswered B (view f) (view g) text n Sent × Holds g
+  answered_widened f g text n Sent holds h =
+      let are = are_widened (input_lines text) f h.output g holds h.answers in
+      (record { each = h.each; count = h.count; output = h.output; answers = are.0; sent = h.sent }, are.1)
 
-  at_end_widened : (text : List ℕ) (Cut : List ℕ → Type 0) (left : Option (List ℕ)) (f : ServeFault) → AtFault f ⊥ ⊥ (FailsAtEnd A text Cut left) ⊥ → AtFault f ⊥ ⊥ (FailsAtEnd B text Cut left) ⊥
-  at_end_widened text Cut left fault.LineTooLong h = h
-  at_end_widened text Cut left fault.ReadFault h = h
-  at_end_widened text Cut left fault.WriteFault h = record {
-    end = h.end;
-    output = h.output;
-    answers = are_widened (input_lines text) h.output h.answers;
-    cut = h.cut;
-  }
-  at_end_widened text Cut left fault.NoMemory h = h
-  at_end_widened text Cut left fault.BadCount h = h
+  stopped_widened : (e : ServeFault) (f g : F) (text : List ℕ) (Sent Cut Read : List ℕ → Type 0) (AtEnd : Type 0) → Holds f
+      → Stopped A f g text Sent Cut Read AtEnd e → Stopped B (view f) (view g) text Sent Cut Read AtEnd e × Holds g
+  stopped_widened e f g text Sent Cut Read AtEnd holds (s, h) = let both = cases e h in ((front, both.0), both.1)
+    where
+      kept : Holds s.state
+      kept = (are_widened s.lines f s.output s.state holds s.answers).1
 
-  pub fails_widened : (text : List ℕ) (Sent Cut : List ℕ → Type 0) (left : Option (List ℕ)) (f : ServeFault) → Fails A text Sent Cut left f → Fails B text Sent Cut left f
-  fails_widened text Sent Cut left f (inl h) = inl (stopped_widened text Sent Cut HasNoLineFeed f h)
-  fails_widened text Sent Cut left f (inr h) = inr (at_end_widened text Cut left f h)
+      front : FrontOf B (view f) text
+      front = record {
+        lines = s.lines;
+        rest = s.rest;
+        output = s.output;
+        state = view s.state;
+        splits = s.splits;
+        answers = (are_widened s.lines f s.output s.state holds s.answers).0;
+      }
+
+      cases : (e : ServeFault)
+          → AtFault e ((g ≡ s.state) × Sent s.output × StartsLong s.rest) ((g ≡ s.state) × Sent s.output × Read s.rest)
+            (MayStop A s.state s.rest AtEnd g × Cut s.output) (MayStop A s.state s.rest AtEnd g × Sent s.output × IsUnanswered s.rest)
+          → AtFault e ((view g ≡ view s.state) × Sent s.output × StartsLong s.rest) ((view g ≡ view s.state) × Sent s.output × Read s.rest)
+            (MayStop B (view s.state) s.rest AtEnd (view g) × Cut s.output) (MayStop B (view s.state) s.rest AtEnd (view g) × Sent s.output × IsUnanswered s.rest)
+          × Holds g
+      cases fault.LineTooLong k = ((ap view k.0, k.1, k.2), subst Holds (sym k.0) kept)
+      cases fault.ReadFault k = ((ap view k.0, k.1, k.2), subst Holds (sym k.0) kept)
+      cases fault.WriteFault k = let may = may_widened s.state s.rest AtEnd g kept k.0 in ((may.0, k.1), may.1)
+      cases fault.NoMemory k = let may = may_widened s.state s.rest AtEnd g kept k.0 in ((may.0, k.1, k.2), may.1)
+      cases fault.BadCount k = absurd k
+
+  at_end_widened : (e : ServeFault) (f g : F) (text : List ℕ) (Cut : List ℕ → Type 0) (left : Option (List ℕ)) → Holds f
+      → AtFault e ⊥ ⊥ (FailsAtEnd A f g text Cut left) ⊥ → AtFault e ⊥ ⊥ (FailsAtEnd B (view f) (view g) text Cut left) ⊥ × Holds g
+  at_end_widened fault.LineTooLong f g text Cut left holds h = absurd h
+  at_end_widened fault.ReadFault f g text Cut left holds h = absurd h
+  at_end_widened fault.WriteFault f g text Cut left holds h =
+      let are = are_widened (input_lines text) f h.output g holds h.answers in
+      (record { end = h.end; output = h.output; answers = are.0; cut = h.cut }, are.1)
+  at_end_widened fault.NoMemory f g text Cut left holds h = absurd h
+  at_end_widened fault.BadCount f g text Cut left holds h = absurd h
+
+  fails_widened : (e : ServeFault) (f g : F) (text : List ℕ) (Sent Cut : List ℕ → Type 0) (left : Option (List ℕ)) → Holds f
+      → Fails A f g text Sent Cut left e → Fails B (view f) (view g) text Sent Cut left e × Holds g
+  fails_widened e f g text Sent Cut left holds (inl h) = let k = stopped_widened e f g text Sent Cut HasNoLineFeed _ holds h in (inl k.0, k.1)
+  fails_widened e f g text Sent Cut left holds (inr h) = let k = at_end_widened e f g text Cut left holds h in (inr k.0, k.1)
+
+  served : (r : Result ℕ ServeFault) (f g : F) (d : DevicesOf) → Holds f → IfOk r (ServesAll A f g d) → IfErr r (StopsServing A f g d)
+      → IfOk r (ServesAll B (view f) (view g) d) × IfErr r (StopsServing B (view f) (view g) d) × Holds g
+  served (Ok n) f g d holds (text, read, end, all) h = let k = answered_widened f g text n (Appends d.old d.new) holds all in ((text, read, end, k.0), h, k.1)
+  served (Err e) f g d holds h (text, read, fails) = let k = fails_widened e f g text (Appends d.old d.new) (IsCut d.old d.new) d.rest holds fails in (h, (text, read, k.0), k.1)
+
+  -- what holds of the first state and is kept by each call holds of the last one
+  pub serves_kept : (f g : F) (d : DevicesOf) (r : Result ℕ ServeFault) → Holds f → Serves A f g d r → Serves B (view f) (view g) d r × Holds g
+  serves_kept f g d r holds h =
+      let k = served r f g d holds h.all h.stopped in
+      (record { all = k.0; stopped = k.1; reader = h.reader; writer = h.writer; bounded = h.bounded; grown = h.grown }, k.2)
+
+-- the same, of all states
+pub serves_widened : {F G : Type 0} (A : AnsweringOf F) (B : AnsweringOf G) (view : F → G)
+    → ((f : F) (line text : List ℕ) (g : F) → A.gives f line text g → B.gives (view f) line text (view g))
+    → ((f : F) (line : List ℕ) (g : F) → A.stops f line g → B.stops (view f) line (view g))
+    → (f g : F) (d : DevicesOf) (r : Result ℕ ServeFault) → Serves A f g d r → Serves B (view f) (view g) d r
+serves_widened A B view gives stops f g d r h =
+    (serves_kept A B view (λ _. Unit {0}) (λ f line text g _ k. (gives f line text g k, tt)) (λ f line g _ k. (stops f line g k, tt)) f g d r tt h).0

@@ -1,14 +1,15 @@
 -- What serving reads and writes.
-use Rattle.std.specs.Prelude.{◌≡◌, ◌<◌, ◌≤◌, ◌+◌, ◌⊎◌, ⊤, ℕ, List, [], ◌++◌, length, Option, Result, Ok, Err, Bool, true, false, if◌then◌else◌}
+use Rattle.std.specs.Prelude.{◌≡◌, ◌≢◌, ◌<◌, ◌≤◌, ◌+◌, ◌⊎◌, ℕ, List, [], ◌++◌, length, Option, Result, IfOk, IfErr, OnOk, MatchResult}
 use Rattle.std.specs.List.{All}
-use Rattle.std.specs.Io.KnownBytes.{Consumes, IsAtEnd}
+use Rattle.std.specs.Io.KnownBytes.{Appends, Consumes, IsAtEnd}
 use Rattle.std.specs.Global.{Vec}
 use Rattle.line_serving.specs.declared.device.Counted.{Counted}
 use Rattle.line_serving.specs.declared.fault.ServeFault.{ServeFault}
 use Rattle.line_serving.specs.declared.fault.ServeFault.TheVariants as fault
-use Rattle.line_serving.specs.Devices.{device_of, counted}
-use Rattle.line_serving.specs.Lines.{limit, HasNoLineFeed, IsLine, IsLong, Splits, input_lines}
-use Rattle.line_serving.specs.Output.{AreAnswers, IsOutput, WithAnswer, WithAnswers, IsCut, SendsBy, SendsFirst, AppendsBy, CutsBy}
+use Rattle.line_serving.specs.Answering.{AnsweringOf, FrontOf, IsOutput, MayStop, WithAnswer, WithAnswers}
+use Rattle.line_serving.specs.Devices.{bound, CountsOf, DevicesOf, HasFault, IsReadOut, IsSteady, IsStuck}
+use Rattle.line_serving.specs.Lines.{limit, HasNoLineFeed, IsLine, IsLong, Splits, input_lines, last_of}
+use Rattle.line_serving.specs.Output.{Sends, SendsBy, CutsBy, IsCut}
 
 -- what holds at each fault; workers aren't counted while lines are served
 abbrev pub AtFault : ServeFault → Type 0 → Type 0 → Type 0 → Type 0 → Type 0
@@ -31,102 +32,120 @@ pub record IsUnanswered (rest : List ℕ) : Type 0 where
   pub one : HasNoLineFeed front
   pub few : length block ≤ block_size
 
+-- a line that is too long is next
+abbrev pub StartsLong : List ℕ → Type 0
+StartsLong rest = (line : List ℕ) × (more : List ℕ) × IsLong rest line more
+
 -- Whole lines stand at the front of the text. Their answers were sent at a fault, or a front of them where the writer failed; after them
--- comes a line that is too long, or no whole line where the reader failed, or where memory was wanted no more than was read at once.
-abbrev pub Stopped : (List ℕ → List ℕ → Type 0) → List ℕ → (List ℕ → Type 0) → (List ℕ → Type 0) → (List ℕ → Type 0) → ServeFault → Type 0
-Stopped Answers text Sent Cut Read fault = (lines : List (List ℕ)) × (rest : List ℕ) × (out : List ℕ) × Splits text lines rest × AreAnswers Answers lines out
-    × AtFault fault
-    (Sent out × ((line : List ℕ) × (more : List ℕ) × IsLong rest line more))
-    (Sent out × Read rest)
-    (Cut out)
-    (Sent out × IsUnanswered rest)
-
-abbrev pub is_same_fault : ServeFault → ServeFault → Bool
-is_same_fault fault.LineTooLong fault.LineTooLong = true
-is_same_fault fault.ReadFault fault.ReadFault = true
-is_same_fault fault.WriteFault fault.WriteFault = true
-is_same_fault fault.NoMemory fault.NoMemory = true
-is_same_fault fault.BadCount fault.BadCount = true
-is_same_fault a b = false
-
--- a call counts one fault where it fails with this one
-abbrev pub faults_at : {T : Type 0} → Result T ServeFault → ServeFault → ℕ → ℕ
-faults_at (Ok x) fault n = n
-faults_at (Err e) fault n = if is_same_fault e fault then counted n else n
+-- comes a line that is too long, or no whole line where the reader failed, or where memory ran out no more than was read at once.
+-- The state is what these lines left. Only where memory ran out, at a last call, is it what that one left; the writer may have failed then.
+abbrev pub Stopped : {F : Type 0} → AnsweringOf F → F → F → List ℕ → (List ℕ → Type 0) → (List ℕ → Type 0) → (List ℕ → Type 0) → Type 0 → ServeFault → Type 0
+Stopped A f g text Sent Cut Read AtEnd fault = (s : FrontOf A f text) × AtFault fault
+    ((g ≡ s.state) × Sent s.output × StartsLong s.rest)
+    ((g ≡ s.state) × Sent s.output × Read s.rest)
+    (MayStop A s.state s.rest AtEnd g × Cut s.output)
+    (MayStop A s.state s.rest AtEnd g × Sent s.output × IsUnanswered s.rest)
 
 -- each line of the text was answered, and this many there were
-pub record IsAnswered (Answers : List ℕ → List ℕ → Type 0) (text : List ℕ) (n : ℕ) (Sent : List ℕ → Type 0) : Type 0 where
+pub record IsAnswered {F : Type 0} (A : AnsweringOf F) (f g : F) (text : List ℕ) (n : ℕ) (Sent : List ℕ → Type 0) : Type 0 where
   pub each : All IsLine (input_lines text)
   pub count : n ≡ length (input_lines text)
   pub output : List ℕ
-  pub answers : IsOutput Answers text output
+  pub answers : IsOutput A f text output g
   pub sent : Sent output
 
 -- the writer failed after the input was read to its end, where the last line may have no line feed
-pub record FailsAtEnd (Answers : List ℕ → List ℕ → Type 0) (text : List ℕ) (Cut : List ℕ → Type 0) (remaining : Option (List ℕ)) : Type 0 where
+pub record FailsAtEnd {F : Type 0} (A : AnsweringOf F) (f g : F) (text : List ℕ) (Cut : List ℕ → Type 0) (remaining : Option (List ℕ)) : Type 0 where
   pub end : IsAtEnd remaining
   pub output : List ℕ
-  pub answers : IsOutput Answers text output
+  pub answers : IsOutput A f text output g
   pub cut : Cut output
 
 -- serving stopped at a fault
-abbrev pub Fails : (List ℕ → List ℕ → Type 0) → List ℕ → (List ℕ → Type 0) → (List ℕ → Type 0) → Option (List ℕ) → ServeFault → Type 0
-Fails Answers text Sent Cut remaining fault = Stopped Answers text Sent Cut HasNoLineFeed fault ⊎ AtFault fault ⊥ ⊥ (FailsAtEnd Answers text Cut remaining) ⊥
+abbrev pub Fails : {F : Type 0} → AnsweringOf F → F → F → List ℕ → (List ℕ → Type 0) → (List ℕ → Type 0) → Option (List ℕ) → ServeFault → Type 0
+Fails A f g text Sent Cut remaining fault =
+    Stopped A f g text Sent Cut HasNoLineFeed (IsAtEnd remaining) fault ⊎ AtFault fault ⊥ ⊥ (FailsAtEnd A f g text Cut remaining) ⊥
+
+-- The writer counted one fault where serving stopped at its fault, and none elsewhere.
+abbrev pub WriterCounts : {T : Type 0} → CountsOf → CountsOf → Result T ServeFault → Type 0
+WriterCounts old new result = MatchResult result (λ _. IsSteady old new)
+    (λ fault. AtFault fault (IsSteady old new) (IsSteady old new) (HasFault IsStuck old new) (IsSteady old new))
+
+-- The reader counted one fault where serving stopped at its fault, and none elsewhere, unless the writer failed after it.
+abbrev pub ReaderCounts : {T : Type 0} → CountsOf → CountsOf → Result T ServeFault → Type 0
+ReaderCounts old new result = MatchResult result (λ _. IsSteady old new)
+    (λ fault. AtFault fault (IsSteady old new) (HasFault IsReadOut old new) (IsSteady old new ⊎ HasFault IsReadOut old new) (IsSteady old new))
 
 -- ---- lines and blocks, by a counted writer with what is pending before and later
 
--- the writer failed in what was pending and the answer of the line, or memory ran out before the answer
-abbrev pub FailsAnswer : {D : Type 0} → (List ℕ → List ℕ → Type 0) → List ℕ → (D → Option (List ℕ)) → Counted D → Vec ℕ → Counted D → Vec ℕ → ServeFault → Type 0
-FailsAnswer Answers line contents old pending new later fault =
-    AtFault fault ⊥ ⊥ (WithAnswer Answers line (CutsBy contents old pending new)) (SendsBy contents old pending new later [])
+-- the writer failed in what was pending and the answer of the line, or memory ran out at the line
+abbrev pub FailsAnswer : {F D : Type 0} → AnsweringOf F → F → F → List ℕ → (D → Option (List ℕ)) → Counted D → Vec ℕ → Counted D → Vec ℕ → ServeFault → Type 0
+FailsAnswer A f g line contents old pending new later fault =
+    AtFault fault ⊥ ⊥ (WithAnswer A f line g (CutsBy contents old pending new)) (A.stops f line g × SendsBy contents old pending new later [])
 
--- the same of the answers of some lines
-abbrev pub FailsAnswers : {D : Type 0} → (List ℕ → List ℕ → Type 0) → List (List ℕ) → (D → Option (List ℕ)) → Counted D → Vec ℕ → Counted D → Vec ℕ → ServeFault → Type 0
-FailsAnswers Answers lines contents old pending new later fault =
-    AtFault fault ⊥ ⊥ (WithAnswers Answers lines (CutsBy contents old pending new)) (SendsBy contents old pending new later [])
+-- the same of the last line, where there is one
+abbrev pub FailsLast : {F D : Type 0} → AnsweringOf F → F → F → List ℕ → (D → Option (List ℕ)) → Counted D → Vec ℕ → Counted D → Vec ℕ → ServeFault → Type 0
+FailsLast A f g last contents old pending new later fault =
+    AtFault fault ⊥ ⊥ (WithAnswers A f (last_of last) g (CutsBy contents old pending new)) ((last ≢ []) × A.stops f last g × SendsBy contents old pending new later [])
 
 -- the line that was held with its end isn't too long, its answer was sent, and nothing is held
-abbrev pub Finishes : (List ℕ → List ℕ → Type 0) → Vec ℕ → List ℕ → Vec ℕ → (List ℕ → Type 0) → Type 0
-Finishes Answers held end left Sent = (left.items ≡ []) × (length (held.items ++ end) ≤ limit) × WithAnswer Answers (held.items ++ end) Sent
+abbrev pub Finishes : {F : Type 0} → AnsweringOf F → F → F → Vec ℕ → List ℕ → Vec ℕ → (List ℕ → Type 0) → Type 0
+Finishes A f g held end left Sent = (left.items ≡ []) × (length (held.items ++ end) ≤ limit) × WithAnswer A f (held.items ++ end) g Sent
 
--- the line is too long, or its answer wasn't sent
-abbrev pub FailsLine : {D : Type 0} → (List ℕ → List ℕ → Type 0) → List ℕ → (D → Option (List ℕ)) → Counted D → Vec ℕ → Counted D → Vec ℕ → ServeFault → Type 0
-FailsLine Answers line contents old pending new later fault = AtFault fault
-    (SendsBy contents old pending new later [] × (limit < length line))
+-- the line is too long, or its answer wasn't sent; where memory ran out it may not have been asked for
+abbrev pub FailsLine : {F D : Type 0} → AnsweringOf F → F → F → List ℕ → (D → Option (List ℕ)) → Counted D → Vec ℕ → Counted D → Vec ℕ → ServeFault → Type 0
+FailsLine A f g line contents old pending new later fault = AtFault fault
+    ((g ≡ f) × SendsBy contents old pending new later [] × (limit < length line))
     ⊥
-    ((length line ≤ limit) × WithAnswer Answers line (CutsBy contents old pending new))
-    (SendsBy contents old pending new later [])
+    ((length line ≤ limit) × WithAnswer A f line g (CutsBy contents old pending new))
+    ((length line ≤ limit) × ((g ≡ f) ⊎ A.stops f line g) × SendsBy contents old pending new later [])
 
 -- of what was held and the block this many lines end, their answers were sent, and the rest is held
-abbrev pub Feeds : (List ℕ → List ℕ → Type 0) → Vec ℕ → List ℕ → Vec ℕ → (List ℕ → Type 0) → ℕ → Type 0
-Feeds Answers held block left Sent n = (lines : List (List ℕ)) × Splits (held.items ++ block) lines left.items × (n ≡ length lines) × WithAnswers Answers lines Sent
+abbrev pub Feeds : {F : Type 0} → AnsweringOf F → F → F → Vec ℕ → List ℕ → Vec ℕ → (List ℕ → Type 0) → ℕ → Type 0
+Feeds A f g held block left Sent n = (lines : List (List ℕ)) × Splits (held.items ++ block) lines left.items × (n ≡ length lines) × WithAnswers A f lines g Sent
 
 -- a fault among the lines of a text, which isn't the reader's
-abbrev pub StopsFeeding : {D : Type 0} → (List ℕ → List ℕ → Type 0) → List ℕ → (D → Option (List ℕ)) → Counted D → Vec ℕ → Counted D → Vec ℕ → ServeFault → Type 0
-StopsFeeding Answers text contents old pending new later = Stopped Answers text (SendsBy contents old pending new later) (CutsBy contents old pending new) (λ _. ⊥)
+abbrev pub StopsFeeding : {F D : Type 0} → AnsweringOf F → F → F → List ℕ → (D → Option (List ℕ)) → Counted D → Vec ℕ → Counted D → Vec ℕ → ServeFault → Type 0
+StopsFeeding A f g text contents old pending new later = Stopped A f g text (SendsBy contents old pending new later) (CutsBy contents old pending new) (λ _. ⊥) ⊥
 
 -- these lines were answered, and n are they and those before
-abbrev pub Totals : (List ℕ → List ℕ → Type 0) → List (List ℕ) → (List ℕ → Type 0) → ℕ → ℕ → Type 0
-Totals Answers lines Sent before n = (n ≡ before + length lines) × WithAnswers Answers lines Sent
+abbrev pub Totals : {F : Type 0} → AnsweringOf F → F → F → List (List ℕ) → (List ℕ → Type 0) → ℕ → ℕ → Type 0
+Totals A f g lines Sent before n = (n ≡ before + length lines) × WithAnswers A f lines g Sent
 
 -- ---- the whole, from a counted reader to a counted writer
 
 -- the input was read to its end, it has n lines, and each was answered
-abbrev pub ServesAll : {R : Type 0} → (List ℕ → List ℕ → Type 0) → (R → Option (List ℕ)) → Counted R → Counted R → (List ℕ → Type 0) → ℕ → Type 0
-ServesAll Answers remaining old new Sent n = (text : List ℕ) × Consumes (remaining (device_of old)) (remaining (device_of new)) text
-    × IsAtEnd (remaining (device_of new))
-    × IsAnswered Answers text n Sent
+abbrev pub ReadsAll : {F : Type 0} → AnsweringOf F → F → F → DevicesOf → (List ℕ → Type 0) → ℕ → Type 0
+ReadsAll A f g d Sent n = (text : List ℕ) × Consumes d.unread d.rest text × IsAtEnd d.rest × IsAnswered A f g text n Sent
 
--- a text was read, and serving it stopped at a fault; what was to be written may be pending
-abbrev pub StopsLines : {R W : Type 0} → (List ℕ → List ℕ → Type 0) → (R → Option (List ℕ)) → Counted R → Counted R → (W → Option (List ℕ)) → Counted W → Counted W → Vec ℕ → ServeFault → Type 0
-StopsLines Answers remaining old new contents before after later fault = (text : List ℕ) × Consumes (remaining (device_of old)) (remaining (device_of new)) text
-    × Fails Answers text (SendsFirst contents before after later) (IsCut (contents (device_of before)) (contents (device_of after))) (remaining (device_of new)) fault
+-- a text was read, and serving it stopped at a fault
+abbrev pub StopsAt : {F : Type 0} → AnsweringOf F → F → F → DevicesOf → (List ℕ → Type 0) → ServeFault → Type 0
+StopsAt A f g d Sent fault = (text : List ℕ) × Consumes d.unread d.rest text × Fails A f g text Sent (IsCut d.old d.new) d.rest fault
 
--- the same, and nothing is pending
-abbrev pub StopsServing : {R W : Type 0} → (List ℕ → List ℕ → Type 0) → (R → Option (List ℕ)) → Counted R → Counted R → (W → Option (List ℕ)) → Counted W → Counted W → ServeFault → Type 0
-StopsServing Answers remaining old new contents before after fault = (text : List ℕ) × Consumes (remaining (device_of old)) (remaining (device_of new)) text
-    × Fails Answers text (AppendsBy contents before after) (IsCut (contents (device_of before)) (contents (device_of after))) (remaining (device_of new)) fault
+-- what was to be written went out, or is pending later
+abbrev pub SendsLater : DevicesOf → Vec ℕ → List ℕ → Type 0
+SendsLater d later = Sends d.old [] d.new later.items
 
--- The reader counted one fault if serving stopped at its fault, and none at another one; where the writer failed, this says nothing.
-abbrev pub CountsReadFault : ℕ → ℕ → ServeFault → Type 0
-CountsReadFault old new fault = AtFault fault (new ≡ old) (new ≡ counted old) ⊤ (new ≡ old)
+-- all of the input was read, and what was written is the output of its lines; there were so many
+abbrev pub ServesAll : {F : Type 0} → AnsweringOf F → F → F → DevicesOf → ℕ → Type 0
+ServesAll A f g d = ReadsAll A f g d (Appends d.old d.new)
+
+-- after a fault the answers of the lines before it were written, or a front of them where the writer failed
+abbrev pub StopsServing : {F : Type 0} → AnsweringOf F → F → F → DevicesOf → ServeFault → Type 0
+StopsServing A f g d = StopsAt A f g d (Appends d.old d.new)
+
+-- past a bound of the reader no input is served to its end
+abbrev pub IsBounded : CountsOf → Type 0
+IsBounded c = (c.calls ≤ bound) × (c.given < bound)
+
+abbrev pub HasGrown : CountsOf → CountsOf → Type 0
+HasGrown old new = (old.calls ≤ new.calls) × (old.given ≤ new.given)
+
+-- Each line of the reader is answered by a line to the writer, and the states go from f to g.
+pub record Serves {F : Type 0} (A : AnsweringOf F) (f g : F) (d : DevicesOf) (result : Result ℕ ServeFault) : Type 0 where
+  pub all : IfOk result (ServesAll A f g d)
+  pub stopped : IfErr result (StopsServing A f g d)
+  pub reader : ReaderCounts d.reader_old d.reader_new result
+  pub writer : WriterCounts d.writer_old d.writer_new result
+  pub bounded : OnOk result (IsBounded d.reader_new)
+  pub grown : HasGrown d.reader_old d.reader_new

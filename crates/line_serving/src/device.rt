@@ -2,10 +2,11 @@
 
 ghost use Rattle.std.specs.Prelude.{◌≡◌, ℕ, List, ◌++◌, ◌<◌, ◌≤◌, ◌+◌, ◌-◌, ◌^◌, length, take, drop, OnOk, OnErr, IfOk};
 ghost use Rattle.std.specs.Io.KnownBytes.{Appends, Keeps, ReadConsumes, WriteAppends};
-ghost use Rattle.line_serving.specs.Devices.{device_of, faults_of, calls_of, given_of, counted, faults_after, CountsRead, CountsNone};
+ghost use Rattle.line_serving.specs.Devices.{device_of, faults_of, counts_of, counted, CountsFaults, IsReadOut, IsStuck, CountsRead, CountsNone};
 ghost use Rattle.line_serving.specs.Output.{IsCut};
 
-use std::io::{ErrorKind, Read, Write};
+use crate::calls::{CallFault, Called};
+use std::io::{Read, Write};
 
 /// The most calls of a reader and the most bytes that it gives, and the most interruptions of a device in a row.
 const BOUND: u64 = 1 << 40;
@@ -18,27 +19,22 @@ pub struct DeviceFault;
 ///
 /// A fault is a call that failed otherwise than by an interruption, a write that took no byte, an interrupted flush, or a
 /// bound that was met: a reader gives at most 2^40 bytes and is called at most 2^40 times, over its whole life, and at most
-/// 2^40 interruptions of a device follow one another.
+/// 2^40 interruptions of a device follow one another. Nothing else is a fault.
 #[derive(Drop)]
 pub struct Counted<D> {
-    device: D,
+    called: Called<D>,
     faults: u64,
-    calls: u64,
-    given: u64,
 }
 
 impl<D> Counted<D> {
     /// A device without a fault.
     pub fn new(device: D) -> Counted<D>
         ensures device { device_of result ≡ device }
-        ensures faults { faults_of result ≡ 0 }
-        ensures counts { (calls_of result ≡ 0) × (given_of result ≡ 0) }
+        ensures counts { counts_of result ≡ record { faults = 0; calls = 0; given = 0; failed = 0; interrupted = 0 } }
     {
         Counted {
-            device,
+            called: Called::new(device),
             faults: 0,
-            calls: 0,
-            given: 0,
         }
     }
 
@@ -51,9 +47,8 @@ impl<D> Counted<D> {
 
     // Counts a fault.
     fn fault(&mut self) -> DeviceFault
-        ensures faults { faults_of self.new ≡ counted (faults_of self.old) }
-        ensures device { device_of self.new ≡ device_of self.old }
-        ensures counts { (calls_of self.new ≡ calls_of self.old) × (given_of self.new ≡ given_of self.old) }
+        ensures called { self.new.called ≡ self.old.called }
+        ensures one { faults_of self.new ≡ counted (faults_of self.old) }
     {
         let faults = &mut self.faults;
         *faults = faults.saturating_add(1);
@@ -66,24 +61,19 @@ impl<R: Read> Counted<R> {
     pub fn read(&mut self, block: &mut [u8]) -> Result<usize, DeviceFault>
         ensures bytes { ReadConsumes (R.remaining (device_of self.old)) (R.remaining (device_of self.new)) result block.new }
         ensures within { IfOk result (λ n. n ≤ length block.new) }
-        ensures faults { faults_of self.new ≡ faults_after result (faults_of self.old) }
+
+        // A fault is that of a call which failed, or a bound was met.
+        ensures faults { CountsFaults IsReadOut (counts_of self.old) (counts_of self.new) result }
 
         // Past a bound nothing is read any more.
         ensures ok { IfOk result (CountsRead self.old self.new) }
         ensures err { OnErr result (CountsNone self.old self.new) }
     {
-        while self.calls < BOUND && self.given < BOUND {
-            self.calls += 1;
-            match self.device.read(block) {
-                Ok(n) => {
-                    self.given += n as u64;
-                    return Ok(n);
-                }
-                Err(error) => {
-                    if error.kind() != ErrorKind::Interrupted {
-                        return Err(self.fault());
-                    }
-                }
+        while self.called.calls() < BOUND && self.called.given() < BOUND {
+            match self.called.read(block) {
+                Ok(n) => return Ok(n),
+                Err(CallFault::Interrupted) => {}
+                Err(CallFault::Failed) => return Err(self.fault()),
             }
         }
         Err(self.fault())
@@ -93,19 +83,16 @@ impl<R: Read> Counted<R> {
 impl<W: Write> Counted<W> {
     // Writes some bytes of a text that has some. An interrupted call is tried again.
     fn write_some(&mut self, bytes: &[u8]) -> Result<usize, DeviceFault>
+        requires { 0 < length bytes.now }
         ensures bytes { WriteAppends (W.contents (device_of self.old)) (W.contents (device_of self.new)) result bytes.now }
         ensures some { IfOk result (λ n. (0 < n) × (n ≤ length bytes.now)) }
-        ensures faults { faults_of self.new ≡ faults_after result (faults_of self.old) }
+        ensures faults { CountsFaults IsStuck (counts_of self.old) (counts_of self.new) result }
     {
-        for _ in 0..BOUND {
-            match self.device.write(bytes) {
-                Ok(0) => return Err(self.fault()),
+        while self.called.interrupted() < BOUND {
+            match self.called.write(bytes) {
                 Ok(n) => return Ok(n),
-                Err(error) => {
-                    if error.kind() != ErrorKind::Interrupted {
-                        return Err(self.fault());
-                    }
-                }
+                Err(CallFault::Interrupted) => {}
+                Err(CallFault::Failed) => return Err(self.fault()),
             }
         }
         Err(self.fault())
@@ -119,7 +106,7 @@ impl<W: Write> Counted<W> {
     pub fn write_whole(&mut self, bytes: &[u8]) -> Result<(), DeviceFault>
         ensures ok { OnOk result (Appends (W.contents (device_of self.old)) (W.contents (device_of self.new)) bytes.now) }
         ensures err { OnErr result (IsCut (W.contents (device_of self.old)) (W.contents (device_of self.new)) bytes.now) }
-        ensures faults { faults_of self.new ≡ faults_after result (faults_of self.old) }
+        ensures faults { CountsFaults IsStuck (counts_of self.old) (counts_of self.new) result }
     {
         let mut rest = bytes;
         while !rest.is_empty() {
@@ -136,9 +123,9 @@ impl<W: Write> Counted<W> {
     /// [`DeviceFault`], for an interruption too.
     pub fn flush(&mut self) -> Result<(), DeviceFault>
         ensures bytes { Keeps (W.contents (device_of self.old)) (W.contents (device_of self.new)) }
-        ensures faults { faults_of self.new ≡ faults_after result (faults_of self.old) }
+        ensures faults { CountsFaults IsStuck (counts_of self.old) (counts_of self.new) result }
     {
-        match self.device.flush() {
+        match self.called.flush() {
             Ok(()) => Ok(()),
             Err(_) => Err(self.fault()),
         }

@@ -1,10 +1,11 @@
 //! Lines out of the blocks that are read.
 
 ghost use Rattle.std.specs.Prelude.{◌≡◌, ◌++◌, ◌<◌, ◌≤◌, ◌+◌, ◌-◌, ◌^◌, length, OnOk, IfOk, IfErr};
-ghost use Rattle.line_serving.specs.Devices.{faults_of};
+ghost use Rattle.line_serving.specs.Answering.{answering_by};
+ghost use Rattle.line_serving.specs.Devices.{counts_of};
 ghost use Rattle.line_serving.specs.Lines.{limit, IsLine, last_of};
-ghost use Rattle.line_serving.specs.Output.{Gives, SendsBy};
-ghost use Rattle.line_serving.specs.Serving.{block_size, Finishes, FailsLine, Feeds, StopsFeeding, Totals, FailsAnswers, faults_at};
+ghost use Rattle.line_serving.specs.Output.{SendsBy};
+ghost use Rattle.line_serving.specs.Serving.{block_size, Finishes, FailsLine, Feeds, StopsFeeding, Totals, FailsLast, WriterCounts};
 
 use crate::device::Counted;
 use crate::fault::{NoMemory, ServeFault};
@@ -16,20 +17,21 @@ use std::io::Write;
 const LIMIT: usize = 4_194_304;
 
 // Answers the line that `held` and `line` are together. Nothing is held then.
-fn finish_line<F: Fn(&[u8]) -> Result<String, NoMemory>, W: Write>(
-    answer: &F,
+fn finish_line<F: FnMut(&[u8]) -> Result<String, NoMemory>, W: Write>(
+    answer: &mut F,
     writer: &mut Counted<W>,
     pending: &mut Vec<u8>,
     held: &mut Vec<u8>,
     line: &[u8],
 ) -> Result<(), ServeFault>
-    requires callable { F.IsAlwaysCallable answer.now }
+    requires callable { F.IsAlwaysCallable answer.old }
     requires held { length held.old.items ≤ limit }
-    ensures ok { OnOk result (Finishes (Gives F.Fn answer.now) held.old line.now held.new
+    ensures ok { OnOk result (Finishes (answering_by F.FnMut) answer.old answer.new held.old line.now held.new
         (SendsBy W.contents writer.old pending.old writer.new pending.new)) }
-    ensures err { IfErr result (FailsLine (Gives F.Fn answer.now) (held.old.items ++ line.now)
+    ensures err { IfErr result (FailsLine (answering_by F.FnMut) answer.old answer.new (held.old.items ++ line.now)
         W.contents writer.old pending.old writer.new pending.new) }
-    ensures faults { faults_of writer.new ≡ faults_at result ServeFault.WriteFault (faults_of writer.old) }
+    ensures faults { WriterCounts (counts_of writer.old) (counts_of writer.new) result }
+    ensures callable { F.IsAlwaysCallable answer.new }
 {
     if line.len() > LIMIT - held.len() {
         return Err(ServeFault::LineTooLong);
@@ -53,23 +55,24 @@ fn finish_line<F: Fn(&[u8]) -> Result<String, NoMemory>, W: Write>(
 }
 
 /// Answers each line that ends in the block, keeps the rest in `held`, and returns how many lines there were.
-pub fn feed<F: Fn(&[u8]) -> Result<String, NoMemory>, W: Write>(
-    answer: &F,
+pub fn feed<F: FnMut(&[u8]) -> Result<String, NoMemory>, W: Write>(
+    answer: &mut F,
     writer: &mut Counted<W>,
     pending: &mut Vec<u8>,
     held: &mut Vec<u8>,
     block: &[u8],
 ) -> Result<usize, ServeFault>
-    requires callable { F.IsAlwaysCallable answer.now }
+    requires callable { F.IsAlwaysCallable answer.old }
     requires held { IsLine held.old.items }
     requires few { length block.now ≤ block_size }
-    ensures ok { IfOk result (Feeds (Gives F.Fn answer.now) held.old block.now held.new
+    ensures ok { IfOk result (Feeds (answering_by F.FnMut) answer.old answer.new held.old block.now held.new
         (SendsBy W.contents writer.old pending.old writer.new pending.new)) }
     ensures held { OnOk result (IsLine held.new.items) }
     ensures count { IfOk result (λ n. n ≤ length block.now) }
-    ensures err { IfErr result (StopsFeeding (Gives F.Fn answer.now) (held.old.items ++ block.now)
+    ensures err { IfErr result (StopsFeeding (answering_by F.FnMut) answer.old answer.new (held.old.items ++ block.now)
         W.contents writer.old pending.old writer.new pending.new) }
-    ensures faults { faults_of writer.new ≡ faults_at result ServeFault.WriteFault (faults_of writer.old) }
+    ensures faults { WriterCounts (counts_of writer.old) (counts_of writer.new) result }
+    ensures callable { F.IsAlwaysCallable answer.new }
 {
     let mut rest = block;
     let mut count = 0;
@@ -93,20 +96,20 @@ pub fn feed<F: Fn(&[u8]) -> Result<String, NoMemory>, W: Write>(
 
 /// Answers the last line, where the input ends without a line feed, and says how many lines there were with the `count`
 /// before.
-pub fn finish<F: Fn(&[u8]) -> Result<String, NoMemory>, W: Write>(
-    answer: &F,
+pub fn finish<F: FnMut(&[u8]) -> Result<String, NoMemory>, W: Write>(
+    answer: &mut F,
     writer: &mut Counted<W>,
     pending: &mut Vec<u8>,
     held: &Vec<u8>,
     count: u64,
 ) -> Result<u64, ServeFault>
-    requires callable { F.IsAlwaysCallable answer.now }
+    requires callable { F.IsAlwaysCallable answer.old }
     requires count { count < 2 ^ 63 }
-    ensures ok { IfOk result (Totals (Gives F.Fn answer.now) (last_of held.now.items)
+    ensures ok { IfOk result (Totals (answering_by F.FnMut) answer.old answer.new (last_of held.now.items)
         (SendsBy W.contents writer.old pending.old writer.new pending.new) count) }
-    ensures err { IfErr result (FailsAnswers (Gives F.Fn answer.now) (last_of held.now.items)
+    ensures err { IfErr result (FailsLast (answering_by F.FnMut) answer.old answer.new held.now.items
         W.contents writer.old pending.old writer.new pending.new) }
-    ensures faults { faults_of writer.new ≡ faults_at result ServeFault.WriteFault (faults_of writer.old) }
+    ensures faults { WriterCounts (counts_of writer.old) (counts_of writer.new) result }
 {
     if held.is_empty() {
         return Ok(count);

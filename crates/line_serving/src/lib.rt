@@ -5,6 +5,7 @@
 //! line means.
 #![tactic(auto)]
 
+mod calls;
 mod device;
 mod fault;
 mod feed;

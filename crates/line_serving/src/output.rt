@@ -2,10 +2,11 @@
 
 ghost use Rattle.std.specs.Prelude.{◌≡◌, ℕ, List, [], ◌∷◌, ◌++◌, ◌<◌, ◌+◌, OnOk, OnErr, IfOk, IfErr, string_bytes, true, false, if◌then◌else◌};
 ghost use Rattle.std.specs.Io.KnownBytes.{Appends};
-ghost use Rattle.line_serving.specs.Devices.{device_of, faults_of, faults_after};
+ghost use Rattle.line_serving.specs.Answering.{WithAnswer, answering_by};
+ghost use Rattle.line_serving.specs.Devices.{device_of, counts_of, CountsFaults, IsStuck};
 ghost use Rattle.line_serving.specs.Lines.{ended};
-ghost use Rattle.line_serving.specs.Output.{Gives, Sends, SendsBy, IsCut, WithAnswer};
-ghost use Rattle.line_serving.specs.Serving.{FailsAnswer, faults_at};
+ghost use Rattle.line_serving.specs.Output.{Sends, SendsBy, IsCut};
+ghost use Rattle.line_serving.specs.Serving.{FailsAnswer, WriterCounts};
 
 use crate::device::{Counted, DeviceFault};
 use crate::fault::{NoMemory, ServeFault};
@@ -18,7 +19,7 @@ const PENDING: usize = 65_536;
 pub fn send<W: Write>(writer: &mut Counted<W>, pending: &mut Vec<u8>) -> Result<(), DeviceFault>
     ensures ok { OnOk result ((pending.new.items ≡ []) × Appends (W.contents (device_of writer.old)) (W.contents (device_of writer.new)) pending.old.items) }
     ensures err { OnErr result (IsCut (W.contents (device_of writer.old)) (W.contents (device_of writer.new)) pending.old.items) }
-    ensures faults { faults_of writer.new ≡ faults_after result (faults_of writer.old) }
+    ensures faults { CountsFaults IsStuck (counts_of writer.old) (counts_of writer.new) result }
 {
     match writer.write_whole(pending) {
         Ok(()) => {
@@ -45,7 +46,7 @@ fn put<W: Write>(
 ) -> Result<(), DeviceFault>
     ensures ok { OnOk result (Sends (W.contents (device_of writer.old)) pending.old.items (W.contents (device_of writer.new)) pending.new.items text.now) }
     ensures err { OnErr result (IsCut (W.contents (device_of writer.old)) (W.contents (device_of writer.new)) (pending.old.items ++ text.now)) }
-    ensures faults { faults_of writer.new ≡ faults_after result (faults_of writer.old) }
+    ensures faults { CountsFaults IsStuck (counts_of writer.old) (counts_of writer.new) result }
 {
     if keep(pending, text) {
         return Ok(());
@@ -59,17 +60,23 @@ fn put<W: Write>(
     }
 }
 
-// The answer of a line, with its line feed.
-fn answer_whole<F: Fn(&[u8]) -> Result<String, NoMemory>>(
-    answer: &F,
-    line: &[u8],
-) -> Result<String, NoMemory>
-    requires { F.IsAlwaysCallable answer.now }
-    ensures { IfOk result (λ text. WithAnswer (Gives F.Fn answer.now) line.now (λ out. string_bytes text ≡ out)) }
+// Writes a text and a line feed after what is pending. Out of memory they go out at once, so that no answer is lost.
+fn put_line<W: Write>(
+    writer: &mut Counted<W>,
+    pending: &mut Vec<u8>,
+    text: &[u8],
+) -> Result<(), DeviceFault>
+    ensures ok { OnOk result (Sends (W.contents (device_of writer.old)) pending.old.items (W.contents (device_of writer.new)) pending.new.items (ended text.now)) }
+    ensures err { OnErr result (IsCut (W.contents (device_of writer.old)) (W.contents (device_of writer.new)) (pending.old.items ++ ended text.now)) }
+    ensures faults { CountsFaults IsStuck (counts_of writer.old) (counts_of writer.new) result }
 {
-    let mut text = answer(line)?;
-    text.push_str("\n")?;
-    Ok(text)
+    match put(writer, pending, text) {
+        Ok(()) => match put(writer, pending, b"\n") {
+            Ok(()) => Ok(()),
+            Err(fault) => Err(fault),
+        },
+        Err(fault) => Err(fault),
+    }
 }
 
 /// Answers one line.
@@ -77,21 +84,22 @@ fn answer_whole<F: Fn(&[u8]) -> Result<String, NoMemory>>(
 /// # Errors
 ///
 /// `WriteFault` and `NoMemory`. After `NoMemory` nothing of the answer was written.
-pub fn answer_line<F: Fn(&[u8]) -> Result<String, NoMemory>, W: Write>(
-    answer: &F,
+pub fn answer_line<F: FnMut(&[u8]) -> Result<String, NoMemory>, W: Write>(
+    answer: &mut F,
     writer: &mut Counted<W>,
     pending: &mut Vec<u8>,
     line: &[u8],
 ) -> Result<(), ServeFault>
-    requires { F.IsAlwaysCallable answer.now }
-    ensures ok { OnOk result (WithAnswer (Gives F.Fn answer.now) line.now
+    requires { F.IsAlwaysCallable answer.old }
+    ensures ok { OnOk result (WithAnswer (answering_by F.FnMut) answer.old line.now answer.new
         (SendsBy W.contents writer.old pending.old writer.new pending.new)) }
-    ensures err { IfErr result (FailsAnswer (Gives F.Fn answer.now) line.now
+    ensures err { IfErr result (FailsAnswer (answering_by F.FnMut) answer.old answer.new line.now
         W.contents writer.old pending.old writer.new pending.new) }
-    ensures faults { faults_of writer.new ≡ faults_at result ServeFault.WriteFault (faults_of writer.old) }
+    ensures faults { WriterCounts (counts_of writer.old) (counts_of writer.new) result }
+    ensures callable { F.IsAlwaysCallable answer.new }
 {
-    match answer_whole(answer, line) {
-        Ok(text) => match put(writer, pending, text.as_bytes()) {
+    match answer(line) {
+        Ok(text) => match put_line(writer, pending, text.as_bytes()) {
             Ok(()) => Ok(()),
             Err(_) => Err(ServeFault::WriteFault),
         },
@@ -103,7 +111,7 @@ pub fn answer_line<F: Fn(&[u8]) -> Result<String, NoMemory>, W: Write>(
 pub fn close<W: Write>(writer: &mut Counted<W>, pending: &mut Vec<u8>) -> Result<(), DeviceFault>
     ensures ok { OnOk result (Appends (W.contents (device_of writer.old)) (W.contents (device_of writer.new)) pending.old.items) }
     ensures err { OnErr result (IsCut (W.contents (device_of writer.old)) (W.contents (device_of writer.new)) pending.old.items) }
-    ensures faults { faults_of writer.new ≡ faults_after result (faults_of writer.old) }
+    ensures faults { CountsFaults IsStuck (counts_of writer.old) (counts_of writer.new) result }
 {
     match send(writer, pending) {
         Ok(()) => match writer.flush() {

@@ -1,9 +1,9 @@
 //! Serving: each line is answered by a line.
 
 ghost use Rattle.std.specs.Prelude.{◌≡◌, [], ◌++◌, ◌<◌, ◌≤◌, ◌+◌, ◌^◌, length, OnOk, IfOk, IfErr, vec_len};
-ghost use Rattle.line_serving.specs.Devices.{bound, counted, faults_of, calls_of, given_of};
-ghost use Rattle.line_serving.specs.Output.{Gives, SendsFirst, AppendsBy};
-ghost use Rattle.line_serving.specs.Serving.{ServesAll, StopsLines, StopsServing, CountsReadFault, faults_at};
+ghost use Rattle.line_serving.specs.Answering.{answering_by};
+ghost use Rattle.line_serving.specs.Devices.{counts_of, devices};
+ghost use Rattle.line_serving.specs.Serving.{ReadsAll, StopsAt, SendsLater, ServesAll, StopsServing, ReaderCounts, WriterCounts, IsBounded, HasGrown, Serves};
 
 use crate::device::Counted;
 use crate::fault::{NoMemory, ServeFault};
@@ -24,25 +24,25 @@ fn new_block(alloc: Global) -> Result<Vec<u8>, NoMemory>
 
 // Reads to the end, and answers each line. Pending answers are written before each further read, so that a client at a pipe
 // sees an answer before it asks again; at the end some may still be pending.
-fn serve_lines<F: Fn(&[u8]) -> Result<String, NoMemory>, R: Read, W: Write>(
+fn serve_lines<F: FnMut(&[u8]) -> Result<String, NoMemory>, R: Read, W: Write>(
     alloc: Global,
-    answer: &F,
+    answer: &mut F,
     reader: &mut Counted<R>,
     writer: &mut Counted<W>,
     pending: &mut Vec<u8>,
     block: &mut [u8],
 ) -> Result<u64, ServeFault>
-    requires callable { F.IsAlwaysCallable answer.now }
+    requires callable { F.IsAlwaysCallable answer.old }
     requires nothing { pending.old.items ≡ [] }
     requires room { length block.old ≡ 65536 }
-    ensures ok { IfOk result (ServesAll (Gives F.Fn answer.now) R.remaining reader.old reader.new
-        (SendsFirst W.contents writer.old writer.new pending.new)) }
-    ensures err { IfErr result (StopsLines (Gives F.Fn answer.now) R.remaining reader.old reader.new
-        W.contents writer.old writer.new pending.new) }
-    ensures read { faults_of reader.new ≡ faults_at result ServeFault.ReadFault (faults_of reader.old) }
-    ensures written { faults_of writer.new ≡ faults_at result ServeFault.WriteFault (faults_of writer.old) }
-    ensures bounded { OnOk result ((calls_of reader.new ≤ bound) × (given_of reader.new < bound)) }
-    ensures grown { (calls_of reader.old ≤ calls_of reader.new) × (given_of reader.old ≤ given_of reader.new) }
+    ensures ok { let d = devices R.remaining W.contents reader.old reader.new writer.old writer.new in
+        IfOk result (ReadsAll (answering_by F.FnMut) answer.old answer.new d (SendsLater d pending.new)) }
+    ensures err { let d = devices R.remaining W.contents reader.old reader.new writer.old writer.new in
+        IfErr result (StopsAt (answering_by F.FnMut) answer.old answer.new d (SendsLater d pending.new)) }
+    ensures reader { ReaderCounts (counts_of reader.old) (counts_of reader.new) result }
+    ensures writer { WriterCounts (counts_of writer.old) (counts_of writer.new) result }
+    ensures bounded { OnOk result (IsBounded (counts_of reader.new)) }
+    ensures grown { HasGrown (counts_of reader.old) (counts_of reader.new) }
 {
     let mut held = Vec::new(alloc);
     let mut count = 0u64;
@@ -69,23 +69,23 @@ fn serve_lines<F: Fn(&[u8]) -> Result<String, NoMemory>, R: Read, W: Write>(
 }
 
 // Reads to the end, and answers each line. What is pending may not be written yet.
-fn serve_blocks<F: Fn(&[u8]) -> Result<String, NoMemory>, R: Read, W: Write>(
+fn serve_blocks<F: FnMut(&[u8]) -> Result<String, NoMemory>, R: Read, W: Write>(
     alloc: Global,
-    answer: &F,
+    answer: &mut F,
     reader: &mut Counted<R>,
     writer: &mut Counted<W>,
     pending: &mut Vec<u8>,
 ) -> Result<u64, ServeFault>
-    requires callable { F.IsAlwaysCallable answer.now }
+    requires callable { F.IsAlwaysCallable answer.old }
     requires nothing { pending.old.items ≡ [] }
-    ensures ok { IfOk result (ServesAll (Gives F.Fn answer.now) R.remaining reader.old reader.new
-        (SendsFirst W.contents writer.old writer.new pending.new)) }
-    ensures err { IfErr result (StopsLines (Gives F.Fn answer.now) R.remaining reader.old reader.new
-        W.contents writer.old writer.new pending.new) }
-    ensures read { faults_of reader.new ≡ faults_at result ServeFault.ReadFault (faults_of reader.old) }
-    ensures written { faults_of writer.new ≡ faults_at result ServeFault.WriteFault (faults_of writer.old) }
-    ensures bounded { OnOk result ((calls_of reader.new ≤ bound) × (given_of reader.new < bound)) }
-    ensures grown { (calls_of reader.old ≤ calls_of reader.new) × (given_of reader.old ≤ given_of reader.new) }
+    ensures ok { let d = devices R.remaining W.contents reader.old reader.new writer.old writer.new in
+        IfOk result (ReadsAll (answering_by F.FnMut) answer.old answer.new d (SendsLater d pending.new)) }
+    ensures err { let d = devices R.remaining W.contents reader.old reader.new writer.old writer.new in
+        IfErr result (StopsAt (answering_by F.FnMut) answer.old answer.new d (SendsLater d pending.new)) }
+    ensures reader { ReaderCounts (counts_of reader.old) (counts_of reader.new) result }
+    ensures writer { WriterCounts (counts_of writer.old) (counts_of writer.new) result }
+    ensures bounded { OnOk result (IsBounded (counts_of reader.new)) }
+    ensures grown { HasGrown (counts_of reader.old) (counts_of reader.new) }
 {
     let mut block = match new_block(alloc) {
         Ok(block) => block,
@@ -97,44 +97,25 @@ fn serve_blocks<F: Fn(&[u8]) -> Result<String, NoMemory>, R: Read, W: Write>(
     }
 }
 
-/// Answers each line of the reader by a line to the writer, and says how many there were. `answer` gives the answer of a line,
-/// both without a line feed, and fails only when out of memory. A line ends at a line feed or at the end of the input;
-/// a last line feed begins no further line. The writer is flushed once, at the end, after a fault of the reader, a line that
-/// is too long, and when out of memory.
-///
-/// # Errors
-///
-/// `LineTooLong` for a line of more than 4,194,304 bytes, `ReadFault`, `WriteFault` and `NoMemory`. How far the reader was
-/// read then isn't said. Where the writer fails after another fault, that is `WriteFault`.
-pub fn serve<F: Fn(&[u8]) -> Result<String, NoMemory>, R: Read, W: Write>(
+// Reads to the end, answers each line, and writes and flushes what is pending.
+fn serve_all<F: FnMut(&[u8]) -> Result<String, NoMemory>, R: Read, W: Write>(
     alloc: Global,
+    answer: &mut F,
     reader: &mut Counted<R>,
     writer: &mut Counted<W>,
-    answer: F,
 ) -> Result<u64, ServeFault>
-    requires { F.IsAlwaysCallable answer }
-
-    // All of the input was read, and what was written is the output of its lines.
-    ensures ok { IfOk result (ServesAll (Gives F.Fn answer) R.remaining reader.old reader.new
-        (AppendsBy W.contents writer.old writer.new)) }
-
-    // After a fault the answers of the lines before it were written, or a front of them where the writer failed.
-    ensures err { IfErr result (StopsServing (Gives F.Fn answer) R.remaining reader.old reader.new
-        W.contents writer.old writer.new) }
-
-    // The writer's fault comes exactly where the writer counted one.
-    ensures written { faults_of writer.new ≡ faults_at result ServeFault.WriteFault (faults_of writer.old) }
-
-    // The reader's fault comes only where the reader counted one, and it counts no other.
-    ensures read { OnOk result (faults_of reader.new ≡ faults_of reader.old) }
-    ensures read_fault { IfErr result (CountsReadFault (faults_of reader.old) (faults_of reader.new)) }
-
-    // Past a bound of the reader no input is served to its end.
-    ensures bounded { OnOk result ((calls_of reader.new ≤ bound) × (given_of reader.new < bound)) }
-    ensures grown { (calls_of reader.old ≤ calls_of reader.new) × (given_of reader.old ≤ given_of reader.new) }
+    requires { F.IsAlwaysCallable answer.old }
+    ensures ok { IfOk result (ServesAll (answering_by F.FnMut) answer.old answer.new
+        (devices R.remaining W.contents reader.old reader.new writer.old writer.new)) }
+    ensures err { IfErr result (StopsServing (answering_by F.FnMut) answer.old answer.new
+        (devices R.remaining W.contents reader.old reader.new writer.old writer.new)) }
+    ensures reader { ReaderCounts (counts_of reader.old) (counts_of reader.new) result }
+    ensures writer { WriterCounts (counts_of writer.old) (counts_of writer.new) result }
+    ensures bounded { OnOk result (IsBounded (counts_of reader.new)) }
+    ensures grown { HasGrown (counts_of reader.old) (counts_of reader.new) }
 {
     let mut pending = Vec::new(alloc);
-    match serve_blocks(alloc, &answer, reader, writer, &mut pending) {
+    match serve_blocks(alloc, answer, reader, writer, &mut pending) {
         Ok(count) => match close(writer, &mut pending) {
             Ok(()) => Ok(count),
             Err(_) => Err(ServeFault::WriteFault),
@@ -154,4 +135,26 @@ pub fn serve<F: Fn(&[u8]) -> Result<String, NoMemory>, R: Read, W: Write>(
         },
         Err(ServeFault::BadCount) => unreachable!(),
     }
+}
+
+/// Answers each line of the reader by a line to the writer, and says how many there were. `answer` is called once for each
+/// line, in order, and gives its answer, both without a line feed; it fails only when out of memory. A line ends at a line
+/// feed or at the end of the input; a last line feed begins no further line. The writer is flushed once, at the end, after a
+/// fault of the reader, a line that is too long, and when out of memory.
+///
+/// # Errors
+///
+/// `LineTooLong` for a line of more than 4,194,304 bytes, `ReadFault`, `WriteFault` and `NoMemory`. How far the reader was
+/// read then isn't said. Where the writer fails after another fault, that is `WriteFault`.
+pub fn serve<F: FnMut(&[u8]) -> Result<String, NoMemory>, R: Read, W: Write>(
+    alloc: Global,
+    reader: &mut Counted<R>,
+    writer: &mut Counted<W>,
+    answer: &mut F,
+) -> Result<u64, ServeFault>
+    requires { F.IsAlwaysCallable answer.old }
+    ensures { Serves (answering_by F.FnMut) answer.old answer.new
+        (devices R.remaining W.contents reader.old reader.new writer.old writer.new) result }
+{
+    serve_all(alloc, answer, reader, writer)
 }

@@ -1,5 +1,5 @@
 use Rattle.std.proofs.Common.{◌∙◌}
-use Rattle.line_serving.proofs.Known.{appends_trans, wrote_more}
+use Rattle.line_serving.proofs.Known.{appends_trans, wrote_more, steady_trans}
 use Rattle.line_serving.proofs.device.Counted.write_whole.Goals as goal
 
 pub loop-rest-preserved : goal.loop-rest-preserved
@@ -7,5 +7,5 @@ loop-rest-preserved g c =
     let was = c.loop-rest.invariant.wrote in
     record {
       wrote = (_, wrote_more _ was.0 _ c.in_ok-n.n was.1, appends_trans _ _ _ _ _ was.2 c.in_ok-n.ensures.bytes);
-      faults = c.in_ok-n.ensures.faults ∙ c.loop-rest.invariant.faults;
+      steady = steady_trans c.loop-rest.invariant.steady c.in_ok-n.ensures.faults;
     }

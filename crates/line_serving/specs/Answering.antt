@@ -1,0 +1,65 @@
+-- How lines are answered by what has a state.
+use Rattle.std.specs.Prelude.{◌≡◌, ◌⊎◌, ◌≤◌, ℕ, List, [], ◌∷◌, ◌++◌, length, Result, Ok, Err, String, string_bytes}
+use Rattle.std.specs.Fn.{CalledAt}
+use denote.Param.Members.{Mut}
+use denote.Ref.{Bor}
+use Rattle.std.specs.declared.alloc.Global.{Global}
+use Rattle.line_serving.specs.declared.fault.NoMemory.{NoMemory}
+use Rattle.line_serving.specs.Lines.{limit, HasNoLineFeed, Splits, ended, input_lines}
+
+-- From a state a line is given a text, and leaves a state; or memory runs out at the line, and leaves a state.
+pub record AnsweringOf (F : Type 0) : Type 1 where
+  pub gives : F → List ℕ → List ℕ → F → Type 0
+  pub stops : F → List ℕ → F → Type 0
+
+-- a call of f with this line may give this text, and leave g
+pub record Gives {F : Type 0} (m : Mut F (Bor (List ℕ) × Unit {0}) (Result (String Global) NoMemory)) (f : F) (line text : List ℕ) (g : F) : Type 0 where
+  pub given : String Global
+  pub called : CalledAt m f line (Ok given) g
+  pub bytes : string_bytes given ≡ text
+
+-- a call of f with this line may run out of memory, and leave g
+pub record RunsOut {F : Type 0} (m : Mut F (Bor (List ℕ) × Unit {0}) (Result (String Global) NoMemory)) (f : F) (line : List ℕ) (g : F) : Type 0 where
+  pub fault : NoMemory
+  pub called : CalledAt m f line (Err fault) g
+
+-- lines are answered by calls, one for each, and f is what is called
+abbrev pub answering_by : {F : Type 0} → Mut F (Bor (List ℕ) × Unit {0}) (Result (String Global) NoMemory) → AnsweringOf F
+answering_by m = record { gives = Gives m; stops = RunsOut m }
+
+-- the bytes are an answer of each line in order, each with a line feed, and the states go from f to g
+abbrev pub AreAnswers : {F : Type 0} → AnsweringOf F → F → List (List ℕ) → List ℕ → F → Type 0
+AreAnswers A f [] out g = (out ≡ []) × (g ≡ f)
+AreAnswers {F} A f (line ∷ lines) out g =
+    (text : List ℕ) × (more : List ℕ) × (mid : F) × A.gives f line text mid × AreAnswers A mid lines more g × (out ≡ ended text ++ more)
+
+-- Program output: what is written for an input
+abbrev pub IsOutput : {F : Type 0} → AnsweringOf F → F → List ℕ → List ℕ → F → Type 0
+IsOutput A f input out g = AreAnswers A f (input_lines input) out g
+
+-- an answer of this line, and then its line feed
+abbrev pub WithAnswer : {F : Type 0} → AnsweringOf F → F → List ℕ → F → (List ℕ → Type 0) → Type 0
+WithAnswer A f line g P = (text : List ℕ) × A.gives f line text g × P (ended text)
+
+-- answers of these lines
+abbrev pub WithAnswers : {F : Type 0} → AnsweringOf F → F → List (List ℕ) → F → (List ℕ → Type 0) → Type 0
+WithAnswers A f lines g P = (out : List ℕ) × AreAnswers A f lines out g × P out
+
+-- whole lines at the front of a text, an answer of each, and the state that they leave
+pub record FrontOf {F : Type 0} (A : AnsweringOf F) (f : F) (text : List ℕ) : Type 0 where
+  pub lines : List (List ℕ)
+  pub rest : List ℕ
+  pub output : List ℕ
+  pub state : F
+  pub splits : Splits text lines rest
+  pub answers : AreAnswers A f lines output state
+
+-- the line is the next one, and may be answered; it has no line feed only where the input ends
+pub record IsNext (rest line : List ℕ) (AtEnd : Type 0) : Type 0 where
+  pub first : (more : List (List ℕ)) × (input_lines rest ≡ line ∷ more)
+  pub whole : HasNoLineFeed rest → AtEnd
+  pub short : length line ≤ limit
+
+-- the state is still f, or memory ran out at the next line, and left g
+abbrev pub MayStop : {F : Type 0} → AnsweringOf F → F → List ℕ → Type 0 → F → Type 0
+MayStop A f rest AtEnd g = (g ≡ f) ⊎ ((line : List ℕ) × IsNext rest line AtEnd × A.stops f line g)

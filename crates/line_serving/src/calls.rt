@@ -1,0 +1,153 @@
+//! Devices that count the calls of them.
+
+ghost use Rattle.std.specs.Prelude.{◌≡◌, ℕ, ◌<◌, ◌≤◌, length, IfOk};
+ghost use Rattle.std.specs.Io.KnownBytes.{Keeps, ReadConsumes, WriteAppends};
+ghost use Rattle.line_serving.specs.Devices.{CountsCall, failed_after, flushed, interrupted_after};
+
+use std::io::{ErrorKind, Read, Write};
+
+/// What became of a call that gave and took nothing.
+#[derive(Clone, Copy, Debug, PartialEq, Eq)]
+pub enum CallFault {
+    /// It was interrupted, and may be made again.
+    Interrupted,
+    /// It failed, or it was a write that took no byte.
+    Failed,
+}
+
+/// A device, and what came of the calls of it. Each method makes one call.
+#[derive(Drop)]
+pub struct Called<D> {
+    device: D,
+    calls: u64,
+    given: u64,
+    failed: u64,
+    interrupted: u64,
+}
+
+impl<D> Called<D> {
+    /// A device that wasn't called yet.
+    pub fn new(device: D) -> Called<D>
+        ensures device { result.device ≡ device }
+        ensures calls { (result.calls ≡ 0) × (result.given ≡ 0) }
+        ensures faults { (result.failed ≡ 0) × (result.interrupted ≡ 0) }
+    {
+        Called {
+            device,
+            calls: 0,
+            given: 0,
+            failed: 0,
+            interrupted: 0,
+        }
+    }
+
+    /// How many calls there were.
+    pub fn calls(&self) -> u64
+        ensures { result ≡ self.now.calls }
+    {
+        self.calls
+    }
+
+    /// How many bytes these calls gave or took.
+    pub fn given(&self) -> u64
+        ensures { result ≡ self.now.given }
+    {
+        self.given
+    }
+
+    /// How many calls were interrupted since one that wasn't.
+    pub fn interrupted(&self) -> u64
+        ensures { result ≡ self.now.interrupted }
+    {
+        self.interrupted
+    }
+
+    // Counts what kept a call from giving or taking anything.
+    fn count_fault(&mut self, fault: CallFault)
+        ensures same { (self.new.device ≡ self.old.device) × (self.new.calls ≡ self.old.calls) × (self.new.given ≡ self.old.given) }
+        ensures failed { self.new.failed ≡ failed_after (Err fault) self.old.failed }
+        ensures interrupted { self.new.interrupted ≡ interrupted_after (Err fault) self.old.interrupted }
+    {
+        match fault {
+            CallFault::Interrupted => {
+                let interrupted = &mut self.interrupted;
+                *interrupted = interrupted.saturating_add(1);
+            }
+            CallFault::Failed => {
+                let failed = &mut self.failed;
+                *failed = failed.saturating_add(1);
+                self.interrupted = 0;
+            }
+        }
+    }
+
+    // Counts a call.
+    fn count(&mut self, outcome: Result<usize, CallFault>)
+        ensures device { self.new.device ≡ self.old.device }
+        ensures counts { CountsCall self.old self.new outcome }
+    {
+        let calls = &mut self.calls;
+        *calls = calls.saturating_add(1);
+        match outcome {
+            Ok(n) => {
+                let given = &mut self.given;
+                *given = given.saturating_add(n as u64);
+                self.interrupted = 0;
+            }
+            Err(fault) => self.count_fault(fault),
+        }
+    }
+}
+
+impl<R: Read> Called<R> {
+    /// Reads some bytes, none only at the end.
+    pub fn read(&mut self, block: &mut [u8]) -> Result<usize, CallFault>
+        ensures bytes { ReadConsumes (R.remaining self.old.device) (R.remaining self.new.device) result block.new }
+        ensures within { IfOk result (λ n. n ≤ length block.new) }
+        ensures counts { CountsCall self.old self.new result }
+    {
+        let outcome = match self.device.read(block) {
+            Ok(n) => Ok(n),
+            Err(error) if error.kind() == ErrorKind::Interrupted => Err(CallFault::Interrupted),
+            Err(_) => Err(CallFault::Failed),
+        };
+        self.count(outcome);
+        outcome
+    }
+}
+
+impl<W: Write> Called<W> {
+    /// Writes some bytes of a text that has some.
+    pub fn write(&mut self, bytes: &[u8]) -> Result<usize, CallFault>
+        requires { 0 < length bytes.now }
+        ensures bytes { WriteAppends (W.contents self.old.device) (W.contents self.new.device) result bytes.now }
+        ensures some { IfOk result (λ n. (0 < n) × (n ≤ length bytes.now)) }
+        ensures counts { CountsCall self.old self.new result }
+    {
+        let outcome = match self.device.write(bytes) {
+            Ok(0) => Err(CallFault::Failed),
+            Ok(n) => Ok(n),
+            Err(error) if error.kind() == ErrorKind::Interrupted => Err(CallFault::Interrupted),
+            Err(_) => Err(CallFault::Failed),
+        };
+        self.count(outcome);
+        outcome
+    }
+
+    /// Flushes the writer. A flush that is interrupted has failed.
+    pub fn flush(&mut self) -> Result<(), CallFault>
+        ensures bytes { Keeps (W.contents self.old.device) (W.contents self.new.device) }
+        ensures counts { CountsCall self.old self.new (flushed result) }
+    {
+        match self.device.flush() {
+            Ok(()) => {
+                self.count(Ok(0));
+                Ok(())
+            }
+            Err(_) => {
+                self.count(Err(CallFault::Failed));
+                Err(CallFault::Failed)
+            }
+        }
+    }
+}
