@@ -12,7 +12,7 @@ use std::alloc::{AllocGlobal, Global};
 use std::io::{Read, Write};
 use std::rt::Files;
 use world_answers::{Service, serve_limited};
-use world_files::{open_requests, open_world};
+use world_files::{System, open_requests, open_world};
 
 /// Standard input: the file of a case that has this name, or else one without bytes.
 pub fn input_of<R: Files + AllocGlobal>(alloc: Global, shelf: &Shelf<'_, R>) -> Device {
@@ -63,7 +63,8 @@ fn files_served<R: Files + AllocGlobal, W: Write>(
     words: &Words,
     writer: &mut Counted<W>,
 ) -> Result<Stop, LocatedStop> {
-    let world = open_world(rt, &words.files)?;
+    let folder = System::new(rt);
+    let world = open_world(rt.alloc(), &folder, &words.files)?;
     let max_answer = match words.max_answer {
         Some(most) => Some(most as usize),
         None => None,
@@ -72,7 +73,7 @@ fn files_served<R: Files + AllocGlobal, W: Write>(
         world: &world,
         max_answer,
     };
-    let mut requests = Counted::new(open_requests(rt, words.requests.as_str())?);
+    let mut requests = Counted::new(open_requests(&folder, words.requests.as_str())?);
     Ok(served(rt.alloc(), &service, &mut requests, writer))
 }
 
