@@ -19,7 +19,7 @@ use std::rt::{Env, Files};
 use std::sync::Wait;
 use std::thread::Threads;
 use world_answers::{Service, serve_limited};
-use world_files::{open_requests, open_world, sample_world};
+use world_files::{System, open_requests, open_world, sample_world};
 use world_workers::{NoGate, serve_limited_with};
 
 /// What `clap` says of words that are no text.
@@ -134,7 +134,8 @@ fn run_files<R: Files + Threads + Wait + AllocGlobal + Sync, W: Write>(
     ensures run { IsFilesRun words.now (W.contents (device_of writer.old)) (W.contents (device_of writer.new)) result.stop }
     ensures placed { IsPlaced words.now result }
 {
-    let world = match open_world(rt, &words.files) {
+    let folder = System::new(rt);
+    let world = match open_world(rt.alloc(), &folder, &words.files) {
         Ok(world) => world,
         Err(fault) => return LocatedStop::from(fault),
     };
@@ -142,7 +143,7 @@ fn run_files<R: Files + Threads + Wait + AllocGlobal + Sync, W: Write>(
         world: &world,
         max_answer: max_answer(words),
     };
-    match open_requests(rt, words.requests.as_str()) {
+    match open_requests(&folder, words.requests.as_str()) {
         Ok(file) => LocatedStop::from(serve_words(
             rt,
             words.workers,

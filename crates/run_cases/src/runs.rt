@@ -12,7 +12,7 @@ use std::alloc::{AllocGlobal, Global};
 use std::io::{Read, Write};
 use std::rt::Files;
 use world_answers::Service;
-use world_files::{open_requests, open_world};
+use world_files::{System, open_requests, open_world};
 
 /// Standard input: the file of a case that has this name, or else one without bytes.
 pub fn input_of<R: Files + AllocGlobal>(alloc: Global, shelf: &Shelf<'_, R>) -> Device {
@@ -50,7 +50,8 @@ fn files_served<R: Files + AllocGlobal, W: Write>(
     words: &Words,
     writer: &mut Counted<W>,
 ) -> Result<Stop, LocatedStop> {
-    let world = open_world(rt, &words.files)?;
+    let folder = System::new(rt);
+    let world = open_world(rt.alloc(), &folder, &words.files)?;
     let max_answer = match words.max_answer {
         Some(most) => Some(most as usize),
         None => None,
@@ -59,7 +60,7 @@ fn files_served<R: Files + AllocGlobal, W: Write>(
         world: &world,
         max_answer,
     };
-    let mut requests = Counted::new(open_requests(rt, words.requests.as_str())?);
+    let mut requests = Counted::new(open_requests(&folder, words.requests.as_str())?);
     Ok(stop_of(rt.alloc(), &service, &mut requests, writer))
 }
 

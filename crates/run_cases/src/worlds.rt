@@ -12,7 +12,7 @@ use std::alloc::{AllocError, AllocGlobal, Global};
 use std::fs;
 use std::rt::Files;
 use world::{World, WorldFault};
-use world_files::{open_requests, open_world, sample_world};
+use world_files::{System, open_requests, open_world, sample_world};
 
 /// The world of a line `LIMIT SCHEMA BINDINGS [NAME=F]..`, or why there is none.
 fn made<R: Files + AllocGlobal>(rt: &R, line: &str) -> Result<Result<World, WorldFault>> {
@@ -34,7 +34,7 @@ fn made<R: Files + AllocGlobal>(rt: &R, line: &str) -> Result<Result<World, Worl
 
 /// The limit, the root, and how many loaders the bindings and the sources have.
 fn report_of(alloc: Global, world: &World) -> Result<String, AllocError> {
-    let root = world.schema().root();
+    let root = world.server().schema().root();
     let lines = world.bindings().loaders().len();
     let sources = world.loaders();
     match world.limit() {
@@ -181,7 +181,7 @@ pub fn opened<R: Files + AllocGlobal>(rt: &R, line: &str) -> Result<String> {
         Ok(words) => words,
         Err(stop) => return Ok(part_of(rt.alloc(), &stop)?),
     };
-    match open_world(rt, &words.files) {
+    match open_world(rt.alloc(), &System::new(rt), &words.files) {
         Ok(world) => Ok(report_of(rt.alloc(), &world)?),
         Err(fault) => Ok(part_of(rt.alloc(), &Stop::from(fault))?),
     }
@@ -192,7 +192,7 @@ pub fn requested<R: Files + AllocGlobal>(rt: &R, line: &str) -> Result<String> {
     let Ok(words) = words_of(rt.alloc(), line) else {
         bail!("words that are refused");
     };
-    match open_requests(rt, words.requests.as_str()) {
+    match open_requests(&System::new(rt), words.requests.as_str()) {
         Ok(_) => Ok(String::from_str(rt.alloc(), "open")?),
         Err(fault) => Ok(part_of(rt.alloc(), &Stop::from(fault))?),
     }

@@ -1,2 +1,4 @@
 pub mod Fronts
 pub mod Opened
+pub mod Tables
+pub mod Wholes

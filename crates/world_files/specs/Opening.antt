@@ -1,16 +1,38 @@
--- Why files give no world.
-use Rattle.std.specs.Prelude.{◌≡◌, ◌<◌, ◌⊎◌, ℕ, List, length, Option}
+-- What is read of one file, and which file gives no world.
+use Rattle.std.specs.Prelude.{◌≡◌, ◌<◌, ◌⊎◌, ℕ, List, length, Option, None, IfSome}
+use Rattle.csv.specs.Reading.{strip_bom}
+use Rattle.csv_source.specs.declared.fault.TableFault.{TableFault}
+use Rattle.csv_source.specs.declared.fault.TableFault.TheVariants as table
+use Rattle.csv_source.specs.Reading.{IsTableOf, FaultIs}
+use Rattle.load_memory.specs.Rows.{SheetOf}
 use Rattle.world_files.specs.declared.fault.InputFile.{InputFile}
 use Rattle.world_files.specs.declared.fault.InputFile.TheVariants as file
 use Rattle.world_files.specs.declared.fault.OpenFault.{OpenFault}
 use Rattle.world_files.specs.declared.fault.OpenFault.TheVariants as opening
 use Rattle.world_files.specs.declared.files.WorldFiles.{WorldFiles}
 use Rattle.world.specs.Sources.{TableOf}
-use Rattle.world.specs.Worlds.{WorldOf, IsWorld, IsRefusal}
+use Rattle.world.specs.Worlds.{IsRefusal}
 
 -- the text is all that a file has, or both are longer than a text may be
 abbrev pub IsWholeOrLong : ℕ → List ℕ → List ℕ → Type 0
 IsWholeOrLong most bytes text = (text ≡ bytes) ⊎ ((most < length bytes) × (most < length text))
+
+-- the text is all of the bytes, where they are known
+abbrev pub IsTextOf : Option (List ℕ) → List ℕ → Type 0
+IsTextOf known text = IfSome known (λ bytes. text ≡ bytes)
+
+-- the table is that of all of the bytes, where they are known; a byte order mark is none of it
+abbrev pub IsSheetOf : Option (List ℕ) → SheetOf → Type 0
+IsSheetOf known sheet = IfSome known (λ bytes. IsTableOf (strip_bom bytes) sheet)
+
+-- the bytes, where they are known, have this fault as a table; of a failed read and of memory this says nothing
+abbrev pub IsSheetFault : Option (List ℕ) → TableFault → Type 0
+IsSheetFault known fault = IfSome known (λ bytes. FaultIs (strip_bom bytes) fault)
+
+-- what a reader that failed has kept
+abbrev pub reason_of : {A : Type 0} → TableFault → Option A → Option A
+reason_of table.ReadFault kept = kept
+reason_of other kept = None
 
 -- this file can't be opened or read, or is no text; of memory this says nothing
 abbrev pub IsUnread : InputFile → OpenFault → Type 0
@@ -19,14 +41,10 @@ IsUnread file (opening.Table place fault reason) = ⊥
 IsUnread file (opening.World fault) = ⊥
 IsUnread file opening.NoMemory = Unit {0}
 
--- the file of the table of this place can't be opened, or holds none
-abbrev pub IsUnopened : ℕ → OpenFault → Type 0
-IsUnopened place (opening.Table other fault reason) = other ≡ place
-IsUnopened place other = IsUnread (file.Table place) other
-
--- memory is wanted, or the file of one of the tables can't be opened, or holds none
-abbrev pub IsUnopenedOf : WorldFiles → OpenFault → Type 0
-IsUnopenedOf files fault = (fault ≡ opening.NoMemory) ⊎ ((place : ℕ) × (place < length files.tables.items) × IsUnopened place fault)
+-- the file of the table of this place can't be opened, or holds none, for its bytes, where they are known, have the fault
+abbrev pub IsUnopened : Option (List ℕ) → ℕ → OpenFault → Type 0
+IsUnopened known place (opening.Table other fault reason) = (other ≡ place) × IsSheetFault known fault
+IsUnopened known place other = IsUnread (file.Table place) other
 
 -- a table is refused; of memory this says nothing
 abbrev pub IsTableRefused : OpenFault → Type 0
@@ -49,11 +67,7 @@ IsLocated files (opening.Table place fault reason) = place < length files.tables
 IsLocated files (opening.World fault) = Unit {0}
 IsLocated files opening.NoMemory = Unit {0}
 
--- some texts and tables that were read are this world, with this limit
-abbrev pub IsOpened : Option ℕ → WorldOf → Type 0
-IsOpened max w = (schema : List ℕ) × (bindings : List ℕ) × (tables : List TableOf) × IsWorld schema bindings tables max w
-
--- there is no world with this limit of the texts and tables that were read, for this fault, or they weren't read
+-- there is no world with this limit of some texts and tables, for this fault, or they weren't read
 abbrev pub IsUnmade : Option ℕ → OpenFault → Type 0
 IsUnmade max (opening.World fault) = (schema : List ℕ) × (bindings : List ℕ) × (tables : List TableOf) × IsRefusal schema bindings tables max fault
 IsUnmade max other = Unit {0}

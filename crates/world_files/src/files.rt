@@ -1,28 +1,23 @@
-//! Reading files.
+//! Worlds and request lines out of files.
 
-ghost use Rattle.std.specs.Prelude.{◌≡◌, ◌<◌, ◌≤◌, length, IfOk, IfErr, IfSome, string_bytes, string_len};
-ghost use Rattle.std.specs.String.{from_utf8_error_vec};
-ghost use Rattle.world_files.specs.declared.fault.InputFile.TheVariants.{Requests};
-ghost use Rattle.world_files.specs.Opening.{IsOpened, IsUnread, IsUnopened, IsUnopenedOf, IsUnmade, IsLocated, IsWholeOrLong};
+ghost use Rattle.std.specs.Prelude.{◌≡◌, ◌⊎◌, map, IfOk, IfErr, IfSome, string_bytes};
+ghost use Rattle.std.specs.List.{AllZip};
+ghost use Rattle.gq_lexer.specs.declared.lexer.TheConstants.{MAX_BYTES};
+ghost use Rattle.world.specs.Sources.{table_of};
+ghost use Rattle.world_files.specs.declared.fault.InputFile.TheVariants.{Schema, Bindings, Requests};
+ghost use Rattle.world_files.specs.Folders.{IsAllOf};
+ghost use Rattle.world_files.specs.Opening.{IsTextOf, IsSheetOf, IsUnread, IsUnopened, IsLocated, IsWholeOrLong};
+ghost use Rattle.world_files.specs.Files.{IsTableFrom, IsWorldFrom, IsUnopenedFrom, IsUnmadeFrom};
 
 use crate::fault::{InputFile, OpenFault};
-use csv_source::{Table, TableFault};
-use gq_lexer::MAX_BYTES;
+use crate::folder::Folder;
+use crate::reading::{read_schema, read_table, read_text, unread};
+use csv_source::Table;
 use std::alloc::Global;
-use std::fs;
-use std::io::{self, ErrorKind, Read};
-use std::rt::Files;
-use std::string::FromUtf8Error;
 use world::World;
-
-// What is read of a schema: as many bytes as it may have, and the longest character.
-const SCHEMA_FRONT: u64 = 1_048_580;
 
 /// The most bytes that a bindings file may have.
 const MAX_BINDINGS: u32 = 16_777_216;
-
-/// The most bytes that a table's file may have.
-const MAX_TABLE: u32 = 4_294_967_295;
 
 /// A table by its name, and the file that it is in.
 #[derive(Debug, Drop)]
@@ -44,164 +39,88 @@ pub struct WorldFiles {
     pub max_batch: Option<u32>,
 }
 
-// What a failed call on a file is. Want of memory is in no file.
-fn unread(file: InputFile, reason: io::Error) -> OpenFault
-    ensures { IsUnread file result }
+// The text of the schema's file.
+fn schema_file<D: Folder>(alloc: Global, folder: &D, path: &str) -> Result<String, OpenFault>
+    ensures ok { IfOk result (λ text. IfSome (D.holds folder.now path.now) (λ bytes. IsWholeOrLong MAX_BYTES bytes (string_bytes text))) }
+    ensures err { IfErr result (IsUnread Schema) }
 {
-    if reason.kind() == ErrorKind::OutOfMemory {
-        return OpenFault::NoMemory;
-    }
-    OpenFault::Unread { file, reason }
-}
-
-// What is said of a file that is longer than it may be.
-fn too_long() -> io::Error {
-    io::Error::new(ErrorKind::FileTooLarge, "the file is too long")
-}
-
-// What is said of a file that is no text, as the library says it.
-fn no_text() -> io::Error {
-    io::Error::new(ErrorKind::InvalidData, "stream did not contain valid UTF-8")
-}
-
-/// Reads a text of at most this many bytes. It doesn't read further, however long the reader goes on.
-///
-/// # Errors
-///
-/// Why the reader fails; and where it gives no UTF-8, or gives more.
-pub fn read_text<R: Read + Drop>(alloc: Global, reader: R, most: u32) -> io::Result<String>
-    ensures ok { IfOk result (λ text. IfSome (R.remaining reader) (λ bytes. string_bytes text ≡ bytes)) }
-    ensures within { IfOk result (λ text. string_len text ≤ most) }
-{
-    let text = match io::read_to_string(alloc, reader.take(most as u64 + 1)) {
-        Ok(text) => text,
-        Err(error) => return Err(error),
-    };
-    if text.len() > most as usize {
-        return Err(too_long());
-    }
-    Ok(text)
-}
-
-// The text before the first fault, where it is longer than a schema may be.
-fn long_text(error: FromUtf8Error<Global>) -> io::Result<String>
-    ensures ok { IfOk result (λ text. (MAX_BYTES < string_len text) × (string_len text ≤ length (from_utf8_error_vec error).items)) }
-{
-    let front = error.utf8_error().valid_up_to();
-    let mut bytes = error.into_bytes();
-    bytes.truncate(front);
-    match String::from_utf8(bytes) {
-        Ok(text) => {
-            if text.len() > MAX_BYTES {
-                return Ok(text);
-            }
-            Err(no_text())
-        }
-        Err(_) => Err(no_text()),
-    }
-}
-
-/// Reads the text of a schema. Of one that is longer than a schema may be, it returns a front that is too long as well, and
-/// doesn't read further, however long the reader goes on.
-///
-/// # Errors
-///
-/// Why the reader fails; and where what is read is no UTF-8 but for a character that the end cuts.
-pub fn read_schema<R: Read + Drop>(alloc: Global, reader: R) -> io::Result<String>
-    ensures { IfOk result (λ text. IfSome (R.remaining reader) (λ bytes. IsWholeOrLong MAX_BYTES bytes (string_bytes text))) }
-{
-    let mut bytes = Vec::new(alloc);
-    match reader.take(SCHEMA_FRONT).read_to_end(&mut bytes) {
-        Ok(_) => {}
-        Err(error) => return Err(error),
-    }
-    match String::from_utf8(bytes) {
-        Ok(text) => Ok(text),
-        Err(error) => long_text(error),
-    }
-}
-
-fn schema_file<R: Files + AllocGlobal>(rt: &R, path: &str) -> io::Result<String> {
-    let file = fs::open(rt, path)?;
-    read_schema(rt.alloc(), file)
-}
-
-fn bindings_file<R: Files + AllocGlobal>(rt: &R, path: &str) -> io::Result<String> {
-    let file = fs::open(rt, path)?;
-    read_text(rt.alloc(), file, MAX_BINDINGS)
-}
-
-// A reader that keeps the last fault that it met.
-#[derive(Drop)]
-struct Keeping<R> {
-    inner: R,
-    fault: Option<io::Error>,
-}
-
-impl<R: Read> Read for Keeping<R> {
-    fn read(&mut self, buf: &mut [u8]) -> io::Result<usize> {
-        match self.inner.read(buf) {
-            Ok(count) => Ok(count),
-            Err(error) => {
-                self.fault = Some(error);
-                Err(error)
-            }
-        }
-    }
-}
-
-// What a refused table is. Of a file that couldn't be read its reader has kept the reason.
-fn refused(place: usize, fault: TableFault, kept: Option<io::Error>) -> OpenFault
-    ensures { IsUnopened place result }
-{
-    let reason = match fault {
-        TableFault::ReadFault => kept,
-        _ => None,
-    };
-    OpenFault::Table {
-        place,
-        fault,
-        reason,
-    }
-}
-
-// The table of a file. One that is longer than a table may be isn't read to its end.
-fn table_file<R: Files + AllocGlobal>(rt: &R, path: &str, place: usize) -> Result<Table, OpenFault>
-    ensures err { IfErr result (IsUnopened place) }
-{
-    let file = match fs::open(rt, path) {
+    let file = match folder.open(path) {
         Ok(file) => file,
-        Err(error) => return Err(unread(InputFile::Table(place), error)),
+        Err(error) => return Err(unread(InputFile::Schema, error)),
     };
-    let mut front = Keeping {
-        inner: file.take(MAX_TABLE as u64 + 1),
-        fault: None,
-    };
-    let table = Table::read(rt.alloc(), &mut front);
-    if front.inner.limit() == 0 {
-        return Err(unread(InputFile::Table(place), too_long()));
+    match read_schema(alloc, file) {
+        Ok(text) => Ok(text),
+        Err(error) => Err(unread(InputFile::Schema, error)),
     }
-    match table {
-        Ok(table) => Ok(table),
-        Err(fault) => Err(refused(place, fault, front.fault)),
+}
+
+// The text of the bindings' file.
+fn bindings_file<D: Folder>(alloc: Global, folder: &D, path: &str) -> Result<String, OpenFault>
+    ensures ok { IfOk result (λ text. IsTextOf (D.holds folder.now path.now) (string_bytes text)) }
+    ensures err { IfErr result (IsUnread Bindings) }
+{
+    let file = match folder.open(path) {
+        Ok(file) => file,
+        Err(error) => return Err(unread(InputFile::Bindings, error)),
+    };
+    match read_text(alloc, file, MAX_BINDINGS) {
+        Ok(text) => Ok(text),
+        Err(error) => Err(unread(InputFile::Bindings, error)),
+    }
+}
+
+// The table of a file.
+fn table_file<D: Folder>(
+    alloc: Global,
+    folder: &D,
+    path: &str,
+    place: usize,
+) -> Result<Table, OpenFault>
+    ensures ok { IfOk result (IsSheetOf (D.holds folder.now path.now)) }
+    ensures err { IfErr result (IsUnopened (D.holds folder.now path.now) place) }
+{
+    match folder.open(path) {
+        Ok(file) => read_table(alloc, file, place),
+        Err(error) => Err(unread(InputFile::Table(place), error)),
+    }
+}
+
+// A table with its name.
+fn named_table<D: Folder>(
+    alloc: Global,
+    folder: &D,
+    given: &TableFile,
+    place: usize,
+) -> Result<(String, Table), OpenFault>
+    ensures ok { IfOk result (λ table. IsTableFrom (D.holds folder.now) given.now (table_of table)) }
+    ensures err { IfErr result (IsUnopened (D.holds folder.now (string_bytes given.now.file)) place) }
+{
+    let table = match table_file(alloc, folder, given.file.as_str(), place) {
+        Ok(table) => table,
+        Err(fault) => return Err(fault),
+    };
+    match String::from_str(alloc, given.name.as_str()) {
+        Ok(name) => Ok((name, table)),
+        Err(_) => Err(OpenFault::NoMemory),
     }
 }
 
 // The tables of the files, in their order.
-fn table_files<R: Files + AllocGlobal>(
-    rt: &R,
-    files: &WorldFiles,
+fn table_files<D: Folder>(
+    alloc: Global,
+    folder: &D,
+    given: &[TableFile],
 ) -> Result<Vec<(String, Table)>, OpenFault>
-    ensures err { IfErr result (IsUnopenedOf files.now) }
+    ensures ok { IfOk result (λ tables. AllZip (IsTableFrom (D.holds folder.now)) given.now (map table_of tables.items)) }
+    ensures err { IfErr result (λ fault. (fault ≡ OpenFault.NoMemory) ⊎ IsUnopenedFrom (D.holds folder.now) given.now fault) }
 {
-    let mut tables = Vec::new(rt.alloc());
-    for (place, given) in files.tables.iter().enumerate() {
-        let table = match table_file(rt, given.file.as_str(), place) {
+    let mut tables = Vec::new(alloc);
+    for (place, file) in given.iter().enumerate() {
+        let table = match named_table(alloc, folder, file, place) {
             Ok(table) => table,
             Err(fault) => return Err(fault),
         };
-        let name = String::from_str(rt.alloc(), given.name.as_str())?;
-        tables.push((name, table))?;
+        tables.push(table)?;
     }
     Ok(tables)
 }
@@ -213,26 +132,29 @@ fn table_files<R: Files + AllocGlobal>(
 /// `Unread` where the schema, the bindings or a table can't be opened, the first two can't be read or are no UTF-8, or the bindings
 /// have more than 16,777,216 bytes or a table more than 4,294,967,295; `Table` where a table is refused or its file can't be
 /// read; `World` where there is no world of what was read; and want of memory.
-#[tactic(auto, using(crate::proofs::Opened::using_opened))]
-pub fn open_world<R: Files + AllocGlobal>(rt: &R, files: &WorldFiles) -> Result<World, OpenFault>
-    ensures ok { IfOk result (IsOpened files.now.max_batch) }
-    ensures err { IfErr result (IsUnmade files.now.max_batch) }
+pub fn open_world<D: Folder>(
+    alloc: Global,
+    folder: &D,
+    files: &WorldFiles,
+) -> Result<World, OpenFault>
+    ensures ok { IfOk result (IsWorldFrom (D.holds folder.now) files.now) }
+    ensures err { IfErr result (IsUnmadeFrom (D.holds folder.now) files.now) }
     ensures located { IfErr result (IsLocated files.now) }
 {
-    let schema = match schema_file(rt, files.schema.as_str()) {
+    let schema = match schema_file(alloc, folder, files.schema.as_str()) {
         Ok(text) => text,
-        Err(error) => return Err(unread(InputFile::Schema, error)),
+        Err(fault) => return Err(fault),
     };
-    let bindings = match bindings_file(rt, files.bindings.as_str()) {
+    let bindings = match bindings_file(alloc, folder, files.bindings.as_str()) {
         Ok(text) => text,
-        Err(error) => return Err(unread(InputFile::Bindings, error)),
+        Err(fault) => return Err(fault),
     };
-    let tables = match table_files(rt, files) {
+    let tables = match table_files(alloc, folder, files.tables.as_slice()) {
         Ok(tables) => tables,
         Err(fault) => return Err(fault),
     };
     match World::new(
-        rt.alloc(),
+        alloc,
         schema.as_str(),
         bindings.as_str(),
         tables,
@@ -248,10 +170,11 @@ pub fn open_world<R: Files + AllocGlobal>(rt: &R, files: &WorldFiles) -> Result<
 /// # Errors
 ///
 /// `Unread` where it can't be opened, with the reason, and want of memory.
-pub fn open_requests<R: Files>(rt: &R, path: &str) -> Result<R::File, OpenFault>
+pub fn open_requests<D: Folder>(folder: &D, path: &str) -> Result<D::File, OpenFault>
+    ensures ok { IfOk result (λ file. IsAllOf (D.holds folder.now path.now) (D.File.remaining file)) }
     ensures err { IfErr result (IsUnread Requests) }
 {
-    match fs::open(rt, path) {
+    match folder.open(path) {
         Ok(file) => Ok(file),
         Err(error) => Err(unread(InputFile::Requests, error)),
     }

@@ -1,14 +1,19 @@
 //! Worlds out of files, and the sample world.
 //!
-//! The layer above may rely on this: what [`open_world`] makes is a world of some schema, bindings and tables with the limit
-//! that is asked for, and an [`OpenFault`] says which of the files gives none, and why. Which file is opened, in which order,
-//! and what it holds no clause knows.
+//! The layer above may rely on this: what [`open_world`] makes is the world of all that the files of a [`Folder`] hold at the
+//! paths that are given, each table under its name and in its order, with the limit that is asked for; and an [`OpenFault`] says
+//! which of the files gives none, and why. What [`open_requests`] opens has all that the file holds left. Of the files of the
+//! [`System`] no clause knows what they hold. In which order files are opened no clause says.
 #![tactic(auto)]
 
+mod bounded;
 mod fault;
 mod files;
+mod folder;
+mod reading;
 mod sample;
 
 pub use fault::{InputFile, OpenFault};
 pub use files::{TableFile, WorldFiles, open_requests, open_world};
+pub use folder::{Folder, MemoryFile, MemoryFolder, System};
 pub use sample::sample_world;

@@ -6,7 +6,7 @@ use Rattle.std.proofs.lemmas.Result.{IfOk-weaker}
 use Rattle.gq_lexer.specs.declared.lexer.TheConstants.{MAX_BYTES}
 use Rattle.world_files.proofs.Fronts.{front-read, bounded-read}
 use Rattle.world_files.specs.Opening.{IsWholeOrLong}
-use Rattle.world_files.proofs.files.read_schema.Goals as goal
+use Rattle.world_files.proofs.reading.read_schema.Goals as goal
 
 pub returns-in-Ok-from_utf8 : goal.returns-in-Ok-from_utf8
 returns-in-Ok-from_utf8 g c =

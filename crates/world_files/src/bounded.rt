@@ -1,0 +1,64 @@
+//! Reading up to a bound.
+
+ghost use Rattle.std.specs.Prelude.{◌≡◌};
+
+use std::io::{self, ErrorKind, Read};
+
+/// What is said of a file that is longer than it may be.
+pub fn too_long() -> io::Error {
+    io::Error::new(ErrorKind::FileTooLarge, "the file is too long")
+}
+
+/// Gives what a reader has. Behind the first byte more than a bound it fails, so that nothing of a longer file is taken for all of
+/// it. It keeps the last fault that it met.
+#[derive(Drop)]
+pub struct Bounded<R> {
+    inner: R,
+    // How many more bytes it gives: none where more than the bound were there.
+    left: u64,
+    fault: Option<io::Error>,
+}
+
+impl<R> Bounded<R> {
+    /// Gives at most so many bytes, and one more.
+    pub fn new(inner: R, most: u32) -> Self
+        ensures { result.inner ≡ inner }
+    {
+        Bounded {
+            inner,
+            left: most as u64 + 1,
+            fault: None,
+        }
+    }
+
+    /// Whether more bytes than the bound were read.
+    pub fn is_exceeded(&self) -> bool {
+        self.left == 0
+    }
+
+    /// The last fault that it met.
+    pub fn fault(&self) -> Option<io::Error> {
+        self.fault
+    }
+}
+
+impl<R: Read> Read for Bounded<R> {
+    ghost remaining = { λ bounded. R.remaining bounded.inner };
+
+    fn read(&mut self, buf: &mut [u8]) -> io::Result<usize> {
+        if self.left == 0 {
+            return Err(too_long());
+        }
+        let most = self.left.min(buf.len() as u64) as usize;
+        match self.inner.read(&mut buf[..most]) {
+            Ok(count) => {
+                self.left -= count as u64;
+                Ok(count)
+            }
+            Err(error) => {
+                self.fault = Some(error);
+                Err(error)
+            }
+        }
+    }
+}
