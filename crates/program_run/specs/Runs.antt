@@ -1,9 +1,13 @@
 -- What a run of the program writes, and how it ends.
-use Rattle.std.specs.Prelude.{◌≡◌, ◌⊎◌, ℕ, List, [], ◌∷◌, ◌++◌, Option, Some, None, codes, string_bytes}
+use Rattle.std.specs.Prelude.{◌≡◌, ◌⊎◌, ℕ, List, [], ◌∷◌, ◌++◌, Option, Some, None, Result, Ok, Err, codes, string_bytes}
 use Rattle.std.specs.Io.KnownBytes.{Appends, Keeps}
+use Rattle.csv_source.specs.Tables.{SourceOf}
+use Rattle.line_serving.specs.declared.fault.ServeFault.{ServeFault}
 use Rattle.line_serving.specs.declared.fault.ServeFault.TheVariants as serve
+use Rattle.line_serving.specs.Devices.{DevicesOf}
 use Rattle.line_serving.specs.Lines.{line_feed}
 use Rattle.line_serving.specs.Output.{IsCut}
+use Rattle.line_serving.specs.Serving.{Serves}
 use Rattle.command_line.specs.declared.stop.Stop.{Stop}
 use Rattle.command_line.specs.declared.stop.Stop.TheVariants as stop
 use Rattle.command_line.specs.declared.words.Words.{Words}
@@ -15,60 +19,77 @@ use Rattle.world.specs.Sources.{TableOf}
 use Rattle.world.specs.Worlds.{WorldOf, IsWorld}
 use Rattle.world_files.specs.declared.fault.InputFile.TheVariants.{Requests}
 use Rattle.world_files.specs.declared.fault.OpenFault.{OpenFault}
+use Rattle.world_files.specs.Files.{IsWorldFrom, IsUnmadeFrom}
+use Rattle.world_files.specs.Folders.{Holdings, IsAllOf}
 use Rattle.world_files.specs.Opening.{IsUnread, IsLocated, IsUnmade}
+use Rattle.server.specs.Clients.{ClientOf}
+use Rattle.world_answers.specs.Lines.{IsClientOf, answering}
 use Rattle.world_answers.specs.Services.{ServiceOf, within}
-use Rattle.world_answers.specs.Serving.{DevicesOf, ServesAll, StopsServing}
 use Rattle.batch_workers.specs.Workers.{IsBadCount}
 
--- The lines of a reader were served. All of the input was read, and what was written is the output of its lines; or serving
--- stopped at a fault.
+-- nothing was read or written
+pub record IsUntouched (d : DevicesOf) : Type 0 where
+  pub unasked : Keeps d.unread d.rest
+  pub kept : Keeps d.old d.new
+
+-- The lines of a reader were served for a client of the service: each is answered in its session, which starts again before the line.
+abbrev pub ServesClient : ServiceOf → DevicesOf → Result ℕ ServeFault → Type 0
+ServesClient service d result = (client : ClientOf SourceOf) × (later : ClientOf SourceOf) × IsClientOf service client
+    × Serves (answering service) client later d result
+
+-- All of the input was read, and what was written is the output of its lines; or serving stopped at a fault, or before it began for
+-- want of memory.
 abbrev pub IsServed : ServiceOf → DevicesOf → Stop → Type 0
-IsServed service devices stop.Served = (lines : ℕ) × ServesAll service devices lines
-IsServed service devices (stop.Serve fault) = StopsServing service devices fault
-IsServed service devices (stop.Help text) = ⊥
-IsServed service devices (stop.Command text) = ⊥
-IsServed service devices (stop.World fault) = ⊥
-IsServed service devices (stop.Table fault) = ⊥
-IsServed service devices stop.File = ⊥
+IsServed service d stop.Served = (lines : ℕ) × ServesClient service d (Ok lines)
+IsServed service d (stop.Serve fault) = ServesClient service d (Err fault) ⊎ ((fault ≡ serve.NoMemory) × IsUntouched d)
+IsServed service d (stop.Help text) = ⊥
+IsServed service d (stop.Command text) = ⊥
+IsServed service d (stop.World fault) = ⊥
+IsServed service d (stop.Table fault) = ⊥
+IsServed service d stop.File = ⊥
 
 -- the number of workers isn't 1 to 16: that is said, and nothing was read or written
-pub record IsMiscounted (devices : DevicesOf) (end : Stop) : Type 0 where
+pub record IsMiscounted (d : DevicesOf) (end : Stop) : Type 0 where
   pub reported : end ≡ stop.Serve serve.BadCount
-  pub unasked : Keeps devices.unread devices.rest
-  pub kept : Keeps devices.old devices.new
+  pub untouched : IsUntouched d
 
 -- with workers lines are served alike, if there may be so many
 abbrev pub IsServedBy : Option ℕ → ServiceOf → DevicesOf → Stop → Type 0
-IsServedBy None service devices end = IsServed service devices end
-IsServedBy (Some workers) service devices end = (¬ (IsBadCount workers) → IsServed service devices end)
-    × (IsBadCount workers → IsMiscounted devices end)
+IsServedBy None service d end = IsServed service d end
+IsServedBy (Some workers) service d end = (¬ (IsBadCount workers) → IsServed service d end) × (IsBadCount workers → IsMiscounted d end)
 
--- the world of texts and tables that were read
-abbrev pub IsWorldOfSome : Option ℕ → WorldOf → Type 0
-IsWorldOfSome max world = (schema : List ℕ) × (bindings : List ℕ) × (tables : List TableOf) × IsWorld schema bindings tables max world
+-- some texts and tables that were read are this world, with no limit of a batch
+abbrev pub IsSample : WorldOf → Type 0
+IsSample world = (schema : List ℕ) × (bindings : List ℕ) × (tables : List TableOf) × IsWorld schema bindings tables None world
 
--- the end of a run whose files give no world with this limit, or no request lines
-abbrev pub IsUnmadeEnd : Option ℕ → Stop → Type 0
-IsUnmadeEnd max end = (fault : OpenFault) × IsUnmade max fault × (end ≡ stop_of fault)
-
--- no world or no request lines were to be had, and nothing was written
-pub record IsUnserved (max : Option ℕ) (old new : Option (List ℕ)) (end : Stop) : Type 0 where
-  pub unmade : IsUnmadeEnd max end
+-- there was no sample world, and nothing was written
+pub record IsSampleUnmade (old new : Option (List ℕ)) (end : Stop) : Type 0 where
+  pub unmade : (fault : OpenFault) × IsUnmade None fault × (end ≡ stop_of fault)
   pub kept : Keeps old new
 
--- the lines of the reader were served over a world, without any limit, or there was no world and nothing was read
+-- the lines of the reader were served over the sample world, without any limit, or there was no world and nothing was read
 abbrev pub IsSampleRun : DevicesOf → Stop → Type 0
-IsSampleRun devices end = ((world : WorldOf) × IsWorldOfSome None world × IsServed (within None world) devices end)
-    ⊎ (Keeps devices.unread devices.rest × IsUnserved None devices.old devices.new end)
+IsSampleRun d end = ((world : WorldOf) × IsSample world × IsServed (within None world) d end) ⊎ (Keeps d.unread d.rest × IsSampleUnmade d.old d.new end)
 
--- the request lines of a file were served over a world, with the limits of the words
-abbrev pub AreFilesServed : Words → Option (List ℕ) → Option (List ℕ) → Stop → Type 0
-AreFilesServed words old new end = (world : WorldOf) × (unread : Option (List ℕ)) × (rest : Option (List ℕ)) × IsWorldOfSome words.files.max_batch world
-    × IsServedBy words.workers (within words.max_answer world) (record { unread = unread; rest = rest; old = old; new = new }) end
+-- The request lines of a file were served over the world of the other files, with the limits of the words. As far as it is known what the
+-- files hold, the world is of all that they hold, and so are the lines.
+pub record AreFilesServed (holds : Holdings) (words : Words) (old new : Option (List ℕ)) (end : Stop) : Type 0 where
+  pub world : WorldOf
+  pub from : IsWorldFrom holds words.files world
+  pub devices : DevicesOf
+  pub requests : IsAllOf (holds (string_bytes words.requests)) devices.unread
+  pub written : (devices.old ≡ old) × (devices.new ≡ new)
+  pub served : IsServedBy words.workers (within words.max_answer world) devices end
 
--- the request lines of a file were served over the world of the other files; what the files hold isn't known
-abbrev pub IsFilesRun : Words → Option (List ℕ) → Option (List ℕ) → Stop → Type 0
-IsFilesRun words old new end = AreFilesServed words old new end ⊎ IsUnserved words.files.max_batch old new end
+-- no world or no request lines were to be had of the files, and nothing was written
+pub record AreFilesUnserved (holds : Holdings) (words : Words) (old new : Option (List ℕ)) (end : Stop) : Type 0 where
+  pub fault : OpenFault
+  pub unmade : IsUnmadeFrom holds words.files fault ⊎ IsUnread Requests fault
+  pub told : end ≡ stop_of fault
+  pub kept : Keeps old new
+
+abbrev pub IsFilesRun : Holdings → Words → Option (List ℕ) → Option (List ℕ) → Stop → Type 0
+IsFilesRun holds words old new end = AreFilesServed holds words old new end ⊎ AreFilesUnserved holds words old new end
 
 -- the help was written with a line feed, or a front of it went out
 abbrev pub IsShown : List ℕ → Option (List ℕ) → Option (List ℕ) → Stop → Type 0
@@ -86,14 +107,14 @@ EndsAsRefused (stop.Help text) old new end = IsShown (string_bytes text) old new
 EndsAsRefused refusal old new end = (end ≡ refusal) × Keeps old new
 
 -- a run of words: of the files that they name, where they are read, or else of what is said of them
-abbrev pub IsWordsRun : List (List ℕ) → Option (List ℕ) → Option (List ℕ) → Stop → Type 0
-IsWordsRun texts old new end = ((words : Words) × IsRead texts words × IsFilesRun words old new end)
+abbrev pub IsWordsRun : Holdings → List (List ℕ) → Option (List ℕ) → Option (List ℕ) → Stop → Type 0
+IsWordsRun holds texts old new end = ((words : Words) × IsRead texts words × IsFilesRun holds words old new end)
     ⊎ ((refusal : Stop) × IsRefused texts refusal × EndsAsRefused refusal old new end)
 
 -- Without words the sample world is served from the reader. Else nothing is read of it.
-abbrev pub IsProgramRun : List (List ℕ) → DevicesOf → Stop → Type 0
-IsProgramRun [] devices end = IsSampleRun devices end
-IsProgramRun (word ∷ words) devices end = Keeps devices.unread devices.rest × IsWordsRun (word ∷ words) devices.old devices.new end
+abbrev pub IsProgramRun : Holdings → List (List ℕ) → DevicesOf → Stop → Type 0
+IsProgramRun holds [] d end = IsSampleRun d end
+IsProgramRun holds (word ∷ words) d end = Keeps d.unread d.rest × IsWordsRun holds (word ∷ words) d.old d.new end
 
 -- a file of the words can't be opened, or the files of the world give none
 abbrev pub IsUnopenedOf : Words → OpenFault → Type 0

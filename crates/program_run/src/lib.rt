@@ -1,10 +1,12 @@
 //! A run of the program: what its words select, what it writes, and how it ends.
 //!
-//! The layer above may rely on this: what [`run`] wrote is the output of the lines that it read (`specs/Runs.antt`), over a
-//! world and without a limit where there are no words, and else over one with the limits that the words give; that these are the
-//! sample world and the named files no clause says. How it ends is a [`Stop`](command_line::Stop). [`program_words`] are the words of a program after its name.
+//! The layer above may rely on this: what [`run`] wrote is the output of the lines that it read (`specs/Runs.antt`), each answered in
+//! the session of one client over a world, which starts again before it. Without words that is the sample world, without a limit; else it
+//! is one with the limits that the words give. [`run_in`] says of a folder that tells what its files hold that the world is of all that
+//! the named files hold, and the lines are those of the named file. How it ends is a [`Stop`](command_line::Stop). [`program_words`] are
+//! the words of a program after its name.
 #![tactic(auto)]
 
 mod running;
 
-pub use running::{program_words, run};
+pub use running::{program_words, run, run_in};

@@ -1,26 +1,24 @@
 //! A run of the program.
 
-ghost use Rattle.std.specs.Prelude.{◌≡◌, [], ◌∷◌, ◌++◌, map, IfSome, IfErr, OnOk, OnErr, string_bytes};
+ghost use Rattle.std.specs.Prelude.{◌≡◌, [], ◌∷◌, ◌++◌, None, map, IfSome, IfErr, OnOk, OnErr, string_bytes};
 ghost use Rattle.std.specs.Io.KnownBytes.{Appends};
-ghost use Rattle.line_serving.specs.Devices.{device_of};
+ghost use Rattle.line_serving.specs.Devices.{device_of, devices};
 ghost use Rattle.line_serving.specs.Lines.{line_feed};
 ghost use Rattle.line_serving.specs.Output.{IsCut};
-ghost use Rattle.batch_workers.specs.Workers.{IsBadCount};
-ghost use Rattle.program_run.specs.Runs.{IsServed, IsMiscounted, IsServedBy, IsShown, EndsAsRefused, IsSampleRun, IsFilesRun, IsPlaced, IsProgramRun, SaysWhere, IsWordless};
+ghost use Rattle.program_run.specs.Runs.{IsServed, IsServedBy, IsShown, EndsAsRefused, IsSampleRun, IsFilesRun, IsPlaced, IsProgramRun, SaysWhere, IsWordless};
 ghost use Rattle.world_answers.specs.Services.{service_of};
-ghost use Rattle.world_answers.specs.Serving.{devices};
 
 use command_line::{End, LocatedStop, Stop, Words};
 use line_serving::{Counted, DeviceFault, ServeFault};
+use server::{InTurn, Runner, Workers, serve};
 use std::alloc::Global;
 use std::env;
 use std::io::{ErrorKind, Read, Write};
 use std::rt::{Env, Files};
 use std::sync::Wait;
 use std::thread::Threads;
-use world_answers::{Service, serve_limited};
-use world_files::{System, open_requests, open_world, sample_world};
-use world_workers::{NoGate, serve_limited_with};
+use world_answers::{Gate, Gated, NoGate, Service};
+use world_files::{Folder, System, open_requests, open_world, sample_world};
 
 /// What `clap` says of words that are no text.
 const NOT_TEXT: &str = "error: invalid UTF-8 was detected in one or more arguments";
@@ -43,64 +41,56 @@ pub fn program_words<R: Env + AllocGlobal>(rt: &R) -> Result<Vec<String>, Stop>
     Ok(words.skip(1).collect(rt.alloc())?)
 }
 
-/// Serves the lines of a reader.
-fn serve_in_turn<R: Read, W: Write>(
+/// Serves the lines of a reader for a new client of a service; the runner runs the batches.
+fn serve_client<'w, G: Gate + Copy, U: Runner<Gated<'w, G>>, I: Read, W: Write>(
     alloc: Global,
-    service: &Service<'_>,
-    reader: &mut Counted<R>,
-    writer: &mut Counted<W>,
-) -> Stop
-    ensures { IsServed (service_of service.now) (devices R.remaining W.contents reader.old reader.new writer.old writer.new) result }
-{
-    match serve_limited(alloc, service, reader, writer) {
-        Ok(_) => Stop::Served,
-        Err(fault) => Stop::Serve(fault),
-    }
-}
-
-/// Serves the lines of a reader with so many workers.
-fn serve_counted<R: Threads + Wait + AllocGlobal + Sync, I: Read, W: Write>(
-    rt: &R,
-    workers: usize,
-    service: &Service<'_>,
+    service: &Service<'w>,
+    gate: G,
+    runner: &U,
     reader: &mut Counted<I>,
     writer: &mut Counted<W>,
 ) -> Stop
-    ensures run { ¬ (IsBadCount workers) → IsServed (service_of service.now)
-        (devices I.remaining W.contents reader.old reader.new writer.old writer.new) result }
-    ensures miscounted { IsBadCount workers
-        → IsMiscounted (devices I.remaining W.contents reader.old reader.new writer.old writer.new) result }
+    ensures { IsServed (service_of service.now) (devices I.remaining W.contents reader.old reader.new writer.old writer.new) result }
 {
-    match serve_limited_with(rt, service, &NoGate, reader, writer, workers) {
+    let mut client = match service.client(alloc, gate) {
+        Ok(client) => client,
+        Err(_) => return Stop::Serve(ServeFault::NoMemory),
+    };
+    match serve(alloc, &mut client, runner, reader, writer) {
         Ok(_) => Stop::Served,
         Err(fault) => Stop::Serve(fault),
     }
 }
 
 /// Serves the lines of a reader, with workers where their number is given.
-fn serve_words<R: Threads + Wait + AllocGlobal + Sync, I: Read, W: Write>(
+fn serve_words<R: Threads + Wait + AllocGlobal + Sync, G: Gate + Copy, I: Read, W: Write>(
     rt: &R,
     workers: Option<u32>,
     service: &Service<'_>,
+    gate: G,
     reader: &mut Counted<I>,
     writer: &mut Counted<W>,
 ) -> Stop
     ensures { IsServedBy workers (service_of service.now)
         (devices I.remaining W.contents reader.old reader.new writer.old writer.new) result }
 {
-    match workers {
-        Some(workers) => serve_counted(rt, workers as usize, service, reader, writer),
-        None => serve_in_turn(rt.alloc(), service, reader, writer),
+    let Some(count) = workers else {
+        return serve_client(rt.alloc(), service, gate, &InTurn, reader, writer);
+    };
+    match Workers::new(rt, count as usize) {
+        Ok(workers) => serve_client(rt.alloc(), service, gate, &workers, reader, writer),
+        Err(_) => Stop::Serve(ServeFault::BadCount),
     }
 }
 
 /// Serves the lines of a reader over the sample world.
-fn run_sample<R: Read, W: Write>(
+fn run_sample<G: Gate + Copy, I: Read, W: Write>(
     alloc: Global,
-    reader: &mut Counted<R>,
+    gate: G,
+    reader: &mut Counted<I>,
     writer: &mut Counted<W>,
 ) -> Stop
-    ensures { IsSampleRun (devices R.remaining W.contents reader.old reader.new writer.old writer.new) result }
+    ensures { IsSampleRun (devices I.remaining W.contents reader.old reader.new writer.old writer.new) result }
 {
     match sample_world(alloc) {
         Ok(world) => {
@@ -108,7 +98,7 @@ fn run_sample<R: Read, W: Write>(
                 world: &world,
                 max_answer: None,
             };
-            serve_in_turn(alloc, &service, reader, writer)
+            serve_client(alloc, &service, gate, &InTurn, reader, writer)
         }
         Err(fault) => Stop::from(fault),
     }
@@ -125,17 +115,17 @@ fn max_answer(words: &Words) -> Option<usize>
 }
 
 /// Serves the request lines of a file over the world of the other files, with the limits and the workers that the words give.
-#[tactic(auto, using(crate::proofs::Opened::unread_unmade))]
-fn run_files<R: Files + Threads + Wait + AllocGlobal + Sync, W: Write>(
+fn run_files<R: Threads + Wait + AllocGlobal + Sync, D: Folder, G: Gate + Copy, W: Write>(
     rt: &R,
+    folder: &D,
+    gate: G,
     words: &Words,
     writer: &mut Counted<W>,
 ) -> LocatedStop
-    ensures run { IsFilesRun words.now (W.contents (device_of writer.old)) (W.contents (device_of writer.new)) result.stop }
+    ensures run { IsFilesRun (D.holds folder.now) words.now (W.contents (device_of writer.old)) (W.contents (device_of writer.new)) result.stop }
     ensures placed { IsPlaced words.now result }
 {
-    let folder = System::new(rt);
-    let world = match open_world(rt.alloc(), &folder, &words.files) {
+    let world = match open_world(rt.alloc(), folder, &words.files) {
         Ok(world) => world,
         Err(fault) => return LocatedStop::from(fault),
     };
@@ -143,11 +133,12 @@ fn run_files<R: Files + Threads + Wait + AllocGlobal + Sync, W: Write>(
         world: &world,
         max_answer: max_answer(words),
     };
-    match open_requests(&folder, words.requests.as_str()) {
+    match open_requests(folder, words.requests.as_str()) {
         Ok(file) => LocatedStop::from(serve_words(
             rt,
             words.workers,
             &service,
+            gate,
             &mut Counted::new(file),
             writer,
         )),
@@ -207,16 +198,38 @@ pub fn run<R: Files + Threads + Wait + AllocGlobal + Sync, I: Read, W: Write>(
     reader: &mut Counted<I>,
     writer: &mut Counted<W>,
 ) -> End
-    ensures run { IsProgramRun (map string_bytes words.now)
+    ensures run { IsProgramRun (λ _. None) (map string_bytes words.now)
+        (devices I.remaining W.contents reader.old reader.new writer.old writer.new) result.stop }
+    ensures explained { IfSome result.explanation (λ text. SaysWhere (map string_bytes words.now) result.stop (string_bytes text)) }
+{
+    run_in(rt, &System::new(rt), NoGate, words, reader, writer)
+}
+
+/// A run as [`run`] makes it, over the files of a folder. Each batch enters the gate before it is asked.
+pub fn run_in<
+    R: Threads + Wait + AllocGlobal + Sync,
+    D: Folder,
+    G: Gate + Copy,
+    I: Read,
+    W: Write,
+>(
+    rt: &R,
+    folder: &D,
+    gate: G,
+    words: &[String],
+    reader: &mut Counted<I>,
+    writer: &mut Counted<W>,
+) -> End
+    ensures run { IsProgramRun (D.holds folder.now) (map string_bytes words.now)
         (devices I.remaining W.contents reader.old reader.new writer.old writer.new) result.stop }
     ensures explained { IfSome result.explanation (λ text. SaysWhere (map string_bytes words.now) result.stop (string_bytes text)) }
 {
     if words.is_empty() {
-        return End::from(run_sample(rt.alloc(), reader, writer));
+        return End::from(run_sample(rt.alloc(), gate, reader, writer));
     }
     match Words::read(rt.alloc(), words) {
         Ok(words) => {
-            let stop = run_files(rt, &words, writer);
+            let stop = run_files(rt, folder, gate, &words, writer);
             End::of(rt.alloc(), &words, stop)
         }
         Err(stop) => End::from(tell(stop, writer)),
