@@ -1,7 +1,9 @@
 pub mod Sources
 pub mod Clients
 pub mod Plans
+pub mod Runners
 pub mod Answers
 pub mod Arrays
 pub mod Lines
+pub mod Asked
 pub mod Opening

@@ -10,8 +10,8 @@ ghost use Rattle.request_line.specs.Seen.{request_of};
 ghost use Rattle.request_plans.specs.Servers.{ServerOf};
 ghost use Rattle.server.specs.Answers.{AnswersPlan, AnswersRequest, StopsRequest};
 ghost use Rattle.server.specs.Clients.{HasLoaders, client_of};
+ghost use Rattle.server.specs.Runners.{RunsEach};
 
-use crate::runner::Runner;
 use gq_check::Plan;
 use gq_resolve::Limited;
 use load_memory::NoMemory;
@@ -21,43 +21,50 @@ use request_plans::{KeptDocuments, Request, RequestPlan};
 use std::alloc::Global;
 
 // The answer of a plan in a session, within a limit.
-fn answer_plan<S: Asks, R: Runner<S>>(
-    runner: &R,
+fn answer_plan<S: Asks, F: Fn(&mut Session<S>, &Limited<'_, '_>) -> Result<Answer, NoMemory>>(
+    run: &F,
     session: &mut Session<S>,
     plan: &Plan<'_>,
     most: Option<usize>,
 ) -> Result<Answer, NoMemory>
-    requires { length (plan_of plan.now).bindings.loaders ≤ length session.old.loaders }
+    requires runs { RunsEach S.may_tell (F.pre run.now) (F.post run.now) }
+    requires loaders { length (plan_of plan.now).bindings.loaders ≤ length session.old.loaders }
     ensures answered { (s : ServerOf) → IfOk result (λ answer. AnswersPlan S.may_tell (client_of s most session.old) (plan_of plan.now)
         (report_of answer) session.new) }
     ensures stopped { OnErr result (StopsAnswering S.may_tell (state_of session.old) (state_of session.new) (plan_program (plan_of plan.now))) }
+    ensures loaders { length session.new.loaders ≡ length session.old.loaders }
 {
     // A contract sees here that the plan is of a valid document.
     let _ = plan.operation();
-    runner.answer(session, &Limited { plan, most })
+    run(session, &Limited { plan, most })
 }
 
 /// The response to a request: the refusal of its first fault, or the answer of its plan in the session, within a limit.
-pub(crate) fn answer_request<S: Asks, R: Runner<S>>(
+pub(crate) fn answer_request<
+    S: Asks,
+    F: Fn(&mut Session<S>, &Limited<'_, '_>) -> Result<Answer, NoMemory>,
+>(
     alloc: Global,
-    runner: &R,
+    run: &F,
     documents: &mut KeptDocuments<'_>,
     session: &mut Session<S>,
     request: &Request<'_>,
     most: Option<usize>,
 ) -> Result<Answer, NoMemory>
-    requires { HasLoaders documents.old.server session.old }
+    requires runs { RunsEach S.may_tell (F.pre run.now) (F.post run.now) }
+    requires loaders { HasLoaders documents.old.server session.old }
     ensures answered { IfOk result (λ answer. AnswersRequest S.may_tell (client_of documents.old.server most session.old)
         (request_of request.now) (report_of answer) session.new) }
     ensures stopped { OnErr result (StopsRequest S.may_tell (client_of documents.old.server most session.old)
         (request_of request.now) session.new) }
     ensures server { documents.new.server ≡ documents.old.server }
+    ensures loaders { length session.new.loaders ≡ length session.old.loaders }
 {
     if let Some(text) = documents.keep(alloc, request)? {
         return Ok(Answer { text, rounds: 0 });
     }
     match documents.plan(alloc, request)? {
         RequestPlan::Refused(text) => Ok(Answer { text, rounds: 0 }),
-        RequestPlan::Planned(plan) => answer_plan(runner, session, &plan, most),
+        RequestPlan::Planned(plan) => answer_plan(run, session, &plan, most),
     }
 }

@@ -1,6 +1,6 @@
 //! Answers to arrays of requests, whose plans are answered together in one session.
 
-ghost use Rattle.std.specs.Prelude.{◌≡◌, map, IfOk, OnErr, option_map, string_bytes};
+ghost use Rattle.std.specs.Prelude.{◌≡◌, length, map, IfOk, OnErr, option_map, string_bytes};
 ghost use Rattle.load_rounds.specs.SharedRounds.{greatest, report_of};
 ghost use Rattle.request_line.specs.Seen.{requests_of};
 ghost use Rattle.request_plans.specs.Planning.{refusals_of, plans_of};
@@ -8,8 +8,8 @@ ghost use Rattle.gq_check.specs.Plans.{plan_of};
 ghost use Rattle.server.specs.Arrays.{AnswersArray, StopsArray, array_text, in_places};
 ghost use Rattle.server.specs.Clients.{HasLoaders, client_of};
 ghost use Rattle.server.specs.Plans.{AreLimited};
+ghost use Rattle.server.specs.Runners.{RunsAll};
 
-use crate::runner::Runner;
 use gq_check::Plan;
 use gq_resolve::Limited;
 use load_memory::NoMemory;
@@ -86,23 +86,28 @@ fn most_rounds(answers: &[Answer]) -> u32
 
 /// The response to an array of requests, of which `None` is a value that is no request: each value is refused or answered in its place.
 /// All plans are answered in the session, within a limit each.
-pub(crate) fn answer_requests<S: Asks, R: Runner<S>>(
+pub(crate) fn answer_requests<
+    S: Asks,
+    G: Fn(&mut Session<S>, &[Limited<'_, '_>]) -> Result<Vec<Answer>, NoMemory>,
+>(
     alloc: Global,
-    runner: &R,
+    run: &G,
     documents: &mut KeptDocuments<'_>,
     session: &mut Session<S>,
     values: &[Option<Request<'_>>],
     most: Option<usize>,
 ) -> Result<Answer, NoMemory>
-    requires { HasLoaders documents.old.server session.old }
+    requires runs { RunsAll S.may_tell (G.pre run.now) (G.post run.now) }
+    requires loaders { HasLoaders documents.old.server session.old }
     ensures answered { IfOk result (λ answer. AnswersArray S.may_tell (client_of documents.old.server most session.old)
         (requests_of values.now) (report_of answer) session.new) }
     ensures stopped { OnErr result (StopsArray S.may_tell (client_of documents.old.server most session.old) (requests_of values.now) session.new) }
     ensures server { documents.new.server ≡ documents.old.server }
+    ensures loaders { length session.new.loaders ≡ length session.old.loaders }
 {
     documents.keep_each(alloc, values);
     let array = documents.plan_each(alloc, values)?;
     let plans = limited(alloc, array.plans(), most)?;
-    let answers = runner.answer_all(session, &plans)?;
+    let answers = run(session, &plans)?;
     Ok(array_answer(alloc, array.refusals(), &answers)?)
 }

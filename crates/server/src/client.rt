@@ -1,23 +1,30 @@
 //! The session of a client.
 
-ghost use Rattle.std.specs.Prelude.{◌≡◌, None, IfOk, OnOk, OnErr, string_bytes};
+ghost use Rattle.std.specs.Prelude.{◌≡◌, None, All, IfOk, OnOk, OnErr, string_bytes};
+ghost use denote.Param.Send.{IsSync};
 ghost use Rattle.load_rounds.specs.SharedRounds.{report_of};
 ghost use Rattle.request_line.specs.Seen.{request_of, requests_of};
 ghost use Rattle.server.specs.Answers.{AnswersRequest, StopsRequest};
 ghost use Rattle.server.specs.Arrays.{AnswersArray, StopsArray};
+ghost use Rattle.server.specs.Asked.{Answers, Stops};
 ghost use Rattle.server.specs.Clients.{HasLoaders, IsSameClient, begun, client_of};
 ghost use Rattle.server.specs.Lines.{AnswersText, StopsText, ServesLine, StopsLine};
+ghost use Rattle.server.specs.Plans.{HasLoadersFor};
+ghost use Rattle.server.specs.Runners.{RunsPlan, RunsPlans, RunsEach, RunsAll};
 
 use crate::answering::answer_request;
 use crate::arrays::answer_requests;
-use crate::runner::Runner;
+use crate::runner::{Runner, Workers};
+use gq_resolve::Limited;
 use load_memory::NoMemory;
-use load_queue::Asks;
+use load_queue::{Asks, Source};
 use load_rounds::{Answer, Session};
 use request_line::{Line, LineReader};
 use request_plans::{KeptDocuments, Request, Server, not_a_request};
 use std::alloc::Global;
 use std::marker::Model;
+use std::sync::Wait;
+use std::thread::Threads;
 
 /// What a server keeps for one client: a loader for each `loader` line, one memory of what they returned, and the documents of the client's
 /// queries, so that a query that comes again is neither parsed nor checked again (at most 1,024 texts of 262,144 bytes together).
@@ -97,70 +104,28 @@ impl<'s, S> ClientSession<'s, S> {
     }
 }
 
+/// What is asked: a request, several, or text that may be either.
+#[derive(Clone, Copy)]
+pub(crate) enum Asked<'i> {
+    One(&'i Request<'i>),
+    Several(&'i [Option<Request<'i>>]),
+    Text(&'i [u8]),
+}
+
 impl<'s, S: Asks> ClientSession<'s, S> {
-    /// The response to a request: the refusal of its first fault, with its message and its place, for which nothing was asked; or the
-    /// answer of its plan, which has data or errors or both (section 7.1 of the GraphQL specification of October 2021).
-    ///
-    /// # Errors
-    ///
-    /// Only when out of memory: the finished rounds stay, and a round that was out is lost.
-    pub fn answer<R: Runner<S>>(
+    // The response to what is asked, by whoever runs the batches.
+    fn respond_by<
+        F: Fn(&mut Session<S>, &Limited<'_, '_>) -> Result<Answer, NoMemory>,
+        G: Fn(&mut Session<S>, &[Limited<'_, '_>]) -> Result<Vec<Answer>, NoMemory>,
+    >(
         &mut self,
-        runner: &R,
-        request: &Request<'_>,
+        runner: &Runner<F, G>,
+        asked: Asked<'_>,
     ) -> Result<Answer, NoMemory>
-        ensures answered { IfOk result (λ answer. AnswersRequest S.may_tell self.old (request_of request.now) (report_of answer) self.new.session) }
-        ensures stopped { OnErr result (StopsRequest S.may_tell self.old (request_of request.now) self.new.session) }
-        ensures same { IsSameClient self.old self.new }
-    {
-        answer_request(
-            self.alloc,
-            runner,
-            &mut self.documents,
-            &mut self.session,
-            request,
-            self.max_answer,
-        )
-    }
-
-    /// The response to an array of requests, of which `None` is a value that is no request: an array of the response to each, in order.
-    /// They are answered in rounds that they share, so that what several need is asked once.
-    ///
-    /// # Errors
-    ///
-    /// Those of [`answer`](ClientSession::answer).
-    pub fn answer_all<R: Runner<S>>(
-        &mut self,
-        runner: &R,
-        requests: &[Option<Request<'_>>],
-    ) -> Result<Answer, NoMemory>
-        ensures answered { IfOk result (λ answer. AnswersArray S.may_tell self.old (requests_of requests.now) (report_of answer) self.new.session) }
-        ensures stopped { OnErr result (StopsArray S.may_tell self.old (requests_of requests.now) self.new.session) }
-        ensures same { IsSameClient self.old self.new }
-    {
-        answer_requests(
-            self.alloc,
-            runner,
-            &mut self.documents,
-            &mut self.session,
-            requests,
-            self.max_answer,
-        )
-    }
-
-    /// The response to a request that is JSON text, or to an array of 1 to 16: an object with the members `query`, `operationName` and
-    /// `variables`, as clients send it. What is neither is refused with `not a request`.
-    ///
-    /// # Errors
-    ///
-    /// Those of [`answer`](ClientSession::answer).
-    pub fn answer_text<R: Runner<S>>(
-        &mut self,
-        runner: &R,
-        text: &[u8],
-    ) -> Result<Answer, NoMemory>
-        ensures answered { IfOk result (λ answer. AnswersText S.may_tell self.old text.now (report_of answer) self.new.session) }
-        ensures stopped { OnErr result (StopsText S.may_tell self.old text.now self.new.session) }
+        requires one { RunsEach S.may_tell (F.pre runner.now.one) (F.post runner.now.one) }
+        requires all { RunsAll S.may_tell (G.pre runner.now.all) (G.post runner.now.all) }
+        ensures answered { IfOk result (λ answer. Answers S.may_tell self.old asked.entry (report_of answer) self.new.session) }
+        ensures stopped { OnErr result (Stops S.may_tell self.old asked.entry self.new.session) }
         ensures same { IsSameClient self.old self.new }
     {
         let ClientSession {
@@ -170,31 +135,192 @@ impl<'s, S: Asks> ClientSession<'s, S> {
             session,
             max_answer,
         } = self;
-        match lines.read(*alloc, text) {
-            Ok(Line::One(request)) => {
-                answer_request(*alloc, runner, documents, session, &request, *max_answer)
+        let (alloc, most) = (*alloc, *max_answer);
+        match asked {
+            Asked::One(request) => {
+                answer_request(alloc, &runner.one, documents, session, request, most)
             }
-            Ok(Line::Several(values)) => {
-                answer_requests(*alloc, runner, documents, session, &values, *max_answer)
+            Asked::Several(values) => {
+                answer_requests(alloc, &runner.all, documents, session, values, most)
             }
-            Ok(Line::NoRequest) => Ok(Answer {
-                text: not_a_request(*alloc)?,
-                rounds: 0,
-            }),
-            Err(_) => Err(NoMemory),
+            Asked::Text(text) => match lines.read(alloc, text) {
+                Ok(Line::One(request)) => {
+                    answer_request(alloc, &runner.one, documents, session, &request, most)
+                }
+                Ok(Line::Several(values)) => {
+                    answer_requests(alloc, &runner.all, documents, session, &values, most)
+                }
+                Ok(Line::NoRequest) => Ok(Answer {
+                    text: not_a_request(alloc)?,
+                    rounds: 0,
+                }),
+                Err(_) => Err(NoMemory),
+            },
         }
     }
 
+    // The response to what is asked, by this thread.
+    fn respond(&mut self, asked: Asked<'_>) -> Result<Answer, NoMemory>
+        ensures answered { IfOk result (λ answer. Answers S.may_tell self.old asked.entry (report_of answer) self.new.session) }
+        ensures stopped { OnErr result (Stops S.may_tell self.old asked.entry self.new.session) }
+        ensures same { IsSameClient self.old self.new }
+    {
+        let runner = Runner {
+            one: |session: &mut Session<S>, limited: &Limited<'_, '_>| -> Result<Answer, NoMemory>
+                requires { HasLoadersFor session.old limited.now }
+                ensures { RunsPlan S.may_tell session.old limited.now result session.new }
+            { session.answer(limited) },
+            all: |session: &mut Session<S>,
+                  plans: &[Limited<'_, '_>]|
+             -> Result<Vec<Answer>, NoMemory>
+                requires { All (HasLoadersFor session.old) plans.now }
+                ensures { RunsPlans S.may_tell session.old plans.now result session.new }
+            { session.answer_all(plans) },
+        };
+        self.respond_by(&runner, asked)
+    }
+
+    /// The response to a request: the refusal of its first fault, with its message and its place, for which nothing was asked; or the
+    /// answer of its plan, which has data or errors or both (section 7.1 of the GraphQL specification of October 2021).
+    ///
+    /// # Errors
+    ///
+    /// Only when out of memory: the finished rounds stay, and a round that was out is lost.
+    pub fn answer(&mut self, request: &Request<'_>) -> Result<Answer, NoMemory>
+        ensures answered { IfOk result (λ answer. AnswersRequest S.may_tell self.old (request_of request.now) (report_of answer) self.new.session) }
+        ensures stopped { OnErr result (StopsRequest S.may_tell self.old (request_of request.now) self.new.session) }
+        ensures same { IsSameClient self.old self.new }
+    {
+        self.respond(Asked::One(request))
+    }
+
+    /// The response to an array of requests, of which `None` is a value that is no request: an array of the response to each, in order.
+    /// They are answered in rounds that they share, so that what several need is asked once.
+    ///
+    /// # Errors
+    ///
+    /// Those of [`answer`](ClientSession::answer).
+    pub fn answer_all(&mut self, requests: &[Option<Request<'_>>]) -> Result<Answer, NoMemory>
+        ensures answered { IfOk result (λ answer. AnswersArray S.may_tell self.old (requests_of requests.now) (report_of answer) self.new.session) }
+        ensures stopped { OnErr result (StopsArray S.may_tell self.old (requests_of requests.now) self.new.session) }
+        ensures same { IsSameClient self.old self.new }
+    {
+        self.respond(Asked::Several(requests))
+    }
+
+    /// The response to a request that is JSON text, or to an array of 1 to 16: an object with the members `query`, `operationName` and
+    /// `variables`, as clients send it. What is neither is refused with `not a request`.
+    ///
+    /// # Errors
+    ///
+    /// Those of [`answer`](ClientSession::answer).
+    pub fn answer_text(&mut self, text: &[u8]) -> Result<Answer, NoMemory>
+        ensures answered { IfOk result (λ answer. AnswersText S.may_tell self.old text.now (report_of answer) self.new.session) }
+        ensures stopped { OnErr result (StopsText S.may_tell self.old text.now self.new.session) }
+        ensures same { IsSameClient self.old self.new }
+    {
+        self.respond(Asked::Text(text))
+    }
+
     /// The response to a line, in the session, which starts again before it.
-    pub(crate) fn serve_line<R: Runner<S>>(
-        &mut self,
-        runner: &R,
-        line: &[u8],
-    ) -> Result<String, NoMemory>
+    pub(crate) fn serve_line(&mut self, line: &[u8]) -> Result<String, NoMemory>
         ensures served { IfOk result (λ text. ServesLine S.may_tell self.old line.now (string_bytes text) self.new) }
         ensures stopped { OnErr result (StopsLine S.may_tell self.old line.now self.new) }
     {
         self.restart()?;
-        Ok(self.answer_text(runner, line)?.text)
+        Ok(self.respond(Asked::Text(line))?.text)
+    }
+}
+
+impl<'s, S: Source> ClientSession<'s, S> {
+    // The response to what is asked, by workers.
+    fn respond_with<R: Threads + Wait + Sync>(
+        &mut self,
+        workers: &Workers<'_, R>,
+        asked: Asked<'_>,
+    ) -> Result<Answer, NoMemory>
+        ensures answered { IfOk result (λ answer. Answers S.may_answer self.old asked.entry (report_of answer) self.new.session) }
+        ensures stopped { OnErr result (Stops S.may_answer self.old asked.entry self.new.session) }
+        ensures same { IsSameClient self.old self.new }
+    {
+        let runner = Runner {
+            one: |session: &mut Session<S>, limited: &Limited<'_, '_>| -> Result<Answer, NoMemory>
+                requires sync { IsSync R.row × IsSync S.row }
+                requires loaders { HasLoadersFor session.old limited.now }
+                ensures { RunsPlan S.may_answer session.old limited.now result session.new }
+            { workers.answer(session, limited) },
+            all: |session: &mut Session<S>,
+                  plans: &[Limited<'_, '_>]|
+             -> Result<Vec<Answer>, NoMemory>
+                requires sync { IsSync R.row × IsSync S.row }
+                requires loaders { All (HasLoadersFor session.old) plans.now }
+                ensures { RunsPlans S.may_answer session.old plans.now result session.new }
+            { workers.answer_all(session, plans) },
+        };
+        self.respond_by(&runner, asked)
+    }
+
+    /// The response to a request, as [`answer`](ClientSession::answer) gives it; workers run the batches of each round.
+    ///
+    /// # Errors
+    ///
+    /// Those of [`answer`](ClientSession::answer).
+    pub fn answer_with<R: Threads + Wait + Sync>(
+        &mut self,
+        workers: &Workers<'_, R>,
+        request: &Request<'_>,
+    ) -> Result<Answer, NoMemory>
+        ensures answered { IfOk result (λ answer. AnswersRequest S.may_answer self.old (request_of request.now) (report_of answer) self.new.session) }
+        ensures stopped { OnErr result (StopsRequest S.may_answer self.old (request_of request.now) self.new.session) }
+        ensures same { IsSameClient self.old self.new }
+    {
+        self.respond_with(workers, Asked::One(request))
+    }
+
+    /// The response to an array of requests, as [`answer_all`](ClientSession::answer_all) gives it; workers run the batches of each round.
+    ///
+    /// # Errors
+    ///
+    /// Those of [`answer`](ClientSession::answer).
+    pub fn answer_all_with<R: Threads + Wait + Sync>(
+        &mut self,
+        workers: &Workers<'_, R>,
+        requests: &[Option<Request<'_>>],
+    ) -> Result<Answer, NoMemory>
+        ensures answered { IfOk result (λ answer. AnswersArray S.may_answer self.old (requests_of requests.now) (report_of answer) self.new.session) }
+        ensures stopped { OnErr result (StopsArray S.may_answer self.old (requests_of requests.now) self.new.session) }
+        ensures same { IsSameClient self.old self.new }
+    {
+        self.respond_with(workers, Asked::Several(requests))
+    }
+
+    /// The response to JSON text, as [`answer_text`](ClientSession::answer_text) gives it; workers run the batches of each round.
+    ///
+    /// # Errors
+    ///
+    /// Those of [`answer`](ClientSession::answer).
+    pub fn answer_text_with<R: Threads + Wait + Sync>(
+        &mut self,
+        workers: &Workers<'_, R>,
+        text: &[u8],
+    ) -> Result<Answer, NoMemory>
+        ensures answered { IfOk result (λ answer. AnswersText S.may_answer self.old text.now (report_of answer) self.new.session) }
+        ensures stopped { OnErr result (StopsText S.may_answer self.old text.now self.new.session) }
+        ensures same { IsSameClient self.old self.new }
+    {
+        self.respond_with(workers, Asked::Text(text))
+    }
+
+    /// The response to a line, as `serve_line` gives it, by workers.
+    pub(crate) fn serve_line_with<R: Threads + Wait + Sync>(
+        &mut self,
+        workers: &Workers<'_, R>,
+        line: &[u8],
+    ) -> Result<String, NoMemory>
+        ensures served { IfOk result (λ text. ServesLine S.may_answer self.old line.now (string_bytes text) self.new) }
+        ensures stopped { OnErr result (StopsLine S.may_answer self.old line.now self.new) }
+    {
+        self.restart()?;
+        Ok(self.respond_with(workers, Asked::Text(line))?.text)
     }
 }

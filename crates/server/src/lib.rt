@@ -2,8 +2,8 @@
 //!
 //! A [`Server`] has the schema and its bindings, for its whole life. For each client, [`Sessions::session`] makes a
 //! [`ClientSession`]: a loader for each `loader` line over the author's source, and one memory. It answers requests, given by
-//! their parts ([`ClientSession::answer`]), as JSON text ([`ClientSession::answer_text`]) or as the lines of an input ([`serve`]). Who
-//! runs the batches of a round is a parameter: this thread ([`InTurn`]) or several ([`Workers`]).
+//! their parts ([`ClientSession::answer`]), as JSON text ([`ClientSession::answer_text`]) or as the lines of an input ([`serve`]). This
+//! thread runs the batches of a round, or several do ([`Workers`], with which each of these calls has its like: `answer_with`).
 //!
 //! The layer above may rely on this: an answer is always a response, the refusal of the request's first fault or the answer of its
 //! plan, and says of the client's session that was given what happened to it (`specs/Answers.antt`, `specs/Lines.antt`): its loaders
@@ -20,6 +20,7 @@ mod runner;
 mod serving;
 
 pub use client::ClientSession;
+pub use batch_workers::WorkFault;
 pub use gq_bindings::{By, LoaderLine};
 pub use gq_schema::SchemaFault;
 pub use line_serving::{Counted, ServeFault};
@@ -28,5 +29,5 @@ pub use load_queue::{Asks, FetchFault, PerKey, QueueFault, Source};
 pub use load_rounds::{Answer, SessionFault};
 pub use opening::Sessions;
 pub use request_plans::{Request, Server};
-pub use runner::{InTurn, Runner, Workers};
-pub use serving::serve;
+pub use runner::Workers;
+pub use serving::{serve, serve_with};

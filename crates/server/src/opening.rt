@@ -58,7 +58,10 @@ impl Sessions for Server {
         let mut loaders = Vec::with_capacity(alloc, lines.len())?;
         for line in lines {
             let source = source(line);
-            loaders.push(Loader::new(alloc, line.name.as_str(), source, mode_of(line), max_batch)?)?;
+            let loader = Loader::new(alloc, line.name.as_str(), source, mode_of(line), max_batch)?;
+            if loaders.push(loader).is_err() {
+                return Err(QueueFault::NoMemory);
+            }
         }
         match Session::new(alloc, loaders) {
             Ok(session) => Ok(ClientSession::new(alloc, self, session)),
