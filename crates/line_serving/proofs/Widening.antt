@@ -1,10 +1,10 @@
 -- What holds of answers by one relation holds of them by each that it is within, where the states are seen by a function.
-use Rattle.std.proofs.Common.{◌≡◌, ap, subst, sym, inl, inr, ℕ, List, [], ◌∷◌, ◌++◌}
+use Rattle.std.proofs.Common.{◌≡◌, ap, subst, sym, inl, inr, ℕ, List, [], ◌∷◌}
 use Rattle.std.specs.Prelude.{Option, Result, Ok, Err, IfOk, IfErr}
 use Rattle.std.specs.Io.KnownBytes.{Appends}
-use Rattle.line_serving.specs.Answering.{AnsweringOf, AreAnswers, FrontOf, IsNext, IsOutput, MayStop}
+use Rattle.line_serving.specs.Answering.{AnsweringOf, AreAnswers, FrontOf, MayStop}
 use Rattle.line_serving.specs.Devices.{DevicesOf}
-use Rattle.line_serving.specs.Lines.{HasNoLineFeed, ended, input_lines}
+use Rattle.line_serving.specs.Lines.{HasNoLineFeed, input_lines}
 use Rattle.line_serving.specs.Output.{IsCut}
 use Rattle.line_serving.specs.Serving.{AtFault, IsUnanswered, StartsLong, Stopped, IsAnswered, FailsAtEnd, Fails, Serves, ServesAll, StopsServing}
 use Rattle.line_serving.specs.declared.fault.ServeFault.{ServeFault}
@@ -58,9 +58,9 @@ module _ {F G : Type 0} (A : AnsweringOf F) (B : AnsweringOf G) (view : F → G)
 
       cases : (e : ServeFault)
           → AtFault e ((g ≡ s.state) × Sent s.output × StartsLong s.rest) ((g ≡ s.state) × Sent s.output × Read s.rest)
-            (MayStop A s.state s.rest AtEnd g × Cut s.output) (MayStop A s.state s.rest AtEnd g × Sent s.output × IsUnanswered s.rest)
+          (MayStop A s.state s.rest AtEnd g × Cut s.output) (MayStop A s.state s.rest AtEnd g × Sent s.output × IsUnanswered s.rest)
           → AtFault e ((view g ≡ view s.state) × Sent s.output × StartsLong s.rest) ((view g ≡ view s.state) × Sent s.output × Read s.rest)
-            (MayStop B (view s.state) s.rest AtEnd (view g) × Cut s.output) (MayStop B (view s.state) s.rest AtEnd (view g) × Sent s.output × IsUnanswered s.rest)
+          (MayStop B (view s.state) s.rest AtEnd (view g) × Cut s.output) (MayStop B (view s.state) s.rest AtEnd (view g) × Sent s.output × IsUnanswered s.rest)
           × Holds g
       cases fault.LineTooLong k = ((ap view k.0, k.1, k.2), subst Holds (sym k.0) kept)
       cases fault.ReadFault k = ((ap view k.0, k.1, k.2), subst Holds (sym k.0) kept)

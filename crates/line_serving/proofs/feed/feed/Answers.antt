@@ -45,7 +45,7 @@ returns-in-Err-clause-err g c =
     let inv = c.loop-line.invariant in
     let cut = c.in-Some.ensures in
     stopped_at (answering_by g.F.FnMut) c.in-Err.fault _ c.loop-line.answer _ _ (g.W.Write.contents (device_of c.loop-line.writer)) _ _ c.loop-line.pending.items _ _ _ _ _ _ inv.answered.1 inv.answered.0 _ _
-        (omega (arith, inv.count, c.requires.few)) cut.0 inv.answered.2 inv.answered.3 inv.held cut.1 inv.answered.5 inv.answered.6 c.in-Err.ensures.err
+    (omega (arith, inv.count, c.requires.few)) cut.0 inv.answered.2 inv.answered.3 inv.held cut.1 inv.answered.5 inv.answered.6 c.in-Err.ensures.err
 
 pub returns-then-rest-len-clause-err : goal.returns-then-rest-len-clause-err
 returns-then-rest-len-clause-err g c =
