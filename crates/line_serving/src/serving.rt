@@ -1,11 +1,12 @@
 //! Serving: each line is answered by a line.
 
-ghost use Rattle.std.specs.Prelude.{◌≡◌, [], ◌++◌, ◌<◌, ◌≤◌, ◌+◌, ◌^◌, length, OnOk, IfOk, IfErr, vec_len};
+ghost use Rattle.std.specs.Prelude.{◌≡◌, [], ◌++◌, ◌<◌, ◌≤◌, ◌+◌, ◌^◌, length, OnErr, OnOk, IfOk, IfErr, vec_len};
+ghost use Rattle.std.specs.Io.KnownBytes.{ReadConsumes};
 ghost use Rattle.line_serving.specs.Answering.{answering_by};
-ghost use Rattle.line_serving.specs.Devices.{counts_of, devices};
+ghost use Rattle.line_serving.specs.Devices.{counts_of, device_of, devices, CountsFaults, CountsNone, CountsRead, IsReadOut};
 ghost use Rattle.line_serving.specs.Serving.{ReadsAll, StopsAt, SendsLater, ServesAll, StopsServing, ReaderCounts, WriterCounts, IsBounded, HasGrown, Serves};
 
-use crate::device::Counted;
+use crate::device::{Counted, DeviceFault};
 use crate::fault::{NoMemory, ServeFault};
 use crate::feed::{feed, finish};
 use crate::output::{close, send};
@@ -22,8 +23,24 @@ fn new_block(alloc: Global) -> Result<Vec<u8>, NoMemory>
     Ok(vec![in alloc; 0u8; BLOCK]?)
 }
 
-// Reads to the end, and answers each line. Pending answers are written before each further read, so that a client at a pipe
-// sees an answer before it asks again; at the end some may still be pending.
+// Reads a block once nothing is pending, so that a client at a pipe sees its answers before it is asked for more.
+fn read_block<R: Read>(
+    reader: &mut Counted<R>,
+    pending: &Vec<u8>,
+    block: &mut [u8],
+) -> Result<usize, DeviceFault>
+    requires { pending.now.items ≡ [] }
+    ensures bytes { ReadConsumes (R.remaining (device_of reader.old)) (R.remaining (device_of reader.new)) result block.new }
+    ensures within { IfOk result (λ n. n ≤ length block.new) }
+    ensures faults { CountsFaults IsReadOut (counts_of reader.old) (counts_of reader.new) result }
+    ensures ok { IfOk result (CountsRead reader.old reader.new) }
+    ensures err { OnErr result (CountsNone reader.old reader.new) }
+{
+    reader.read(block)
+}
+
+// Reads to the end, and answers each line. Pending answers are written before each further read; at the end some may still be
+// pending.
 fn serve_lines<F: FnMut(&[u8]) -> Result<String, NoMemory>, R: Read, W: Write>(
     alloc: Global,
     answer: &mut F,
@@ -47,7 +64,7 @@ fn serve_lines<F: FnMut(&[u8]) -> Result<String, NoMemory>, R: Read, W: Write>(
     let mut held = Vec::new(alloc);
     let mut count = 0u64;
     loop {
-        let n = match reader.read(block) {
+        let n = match read_block(reader, pending, block) {
             Ok(n) => n,
             Err(_) => return Err(ServeFault::ReadFault),
         };

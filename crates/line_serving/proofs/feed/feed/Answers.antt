@@ -28,14 +28,14 @@ loop-line-preserved g c =
       answered = (
         lines ++ line ∷ [],
         inv.answered.1 ++ ended done.2.0,
-        one_more _ _ _ c.in-Some.after.now _ lines cut.0 inv.answered.2 ∙ ap (λ l. flat_map ended (lines ++ line ∷ []) ++ (l ++ c.in-Some.after.now)) (sym done.0),
+        one_more _ _ _ c.in-Some.after.now _ lines cut.0 inv.answered.2 ∙ ap (λ l. flat_map ended (lines ++ line ∷ []) ++ (l ++ c.in-Some.after.now)) (sym {A = List ℕ} done.0),
         All-push IsLine lines line inv.answered.3 (is_line _ _ inv.held cut.1 done.1),
         count_more _ lines line inv.answered.4,
         are_more (answering_by g.F.FnMut) _ c.loop-line.answer _ lines line inv.answered.1 done.2.0 inv.answered.5 done.2.1,
         sends_trans _ (g.W.Write.contents (device_of c.loop-line.writer)) _ _ c.loop-line.pending.items _ inv.answered.1 (ended done.2.0) inv.answered.6 done.2.2,
       );
       callable = c.in-Ok.ensures.callable;
-      held = subst IsLine (sym done.0) no_line;
+      held = subst IsLine (sym {A = List ℕ} done.0) no_line;
       count = (let e : length c.loop-line.rest.now ≡ length (c.in-Some.line.now ++ line_feed ∷ c.in-Some.after.now) = ap length cut.0 in omega (arith, length-append c.in-Some.line.now (line_feed ∷ c.in-Some.after.now), e, inv.count));
       steady = steady_trans inv.steady c.in-Ok.ensures.faults;
     }

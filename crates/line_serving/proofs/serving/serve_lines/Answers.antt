@@ -28,7 +28,7 @@ returns-in-Err-clause-err g c =
     let was = c.loop-n.invariant.answered in (
       _,
       consumes_keeps _ _ _ _ was.3 c.in-Err.ensures.bytes,
-      fails_read (answering_by g.F.FnMut) _ _ _ _ (g.R.Read.remaining (device_of c.read.new.self)) _ was.0 _ was.1 was.2 c.loop-n.invariant.held was.5 was.6,
+      fails_read (answering_by g.F.FnMut) _ _ _ _ (g.R.Read.remaining (device_of c.read_block.new.reader)) _ was.0 _ was.1 was.2 c.loop-n.invariant.held was.5 was.6,
     )
 
 pub returns-in-Ok-finish-clause-ok : goal.returns-in-Ok-finish-clause-ok
@@ -36,8 +36,8 @@ returns-in-Ok-finish-clause-ok g c =
     let was = c.loop-n.invariant.answered in
     let got = c.in-Ok.ensures.bytes in (
       _,
-      consumes_nothing _ (g.R.Read.remaining (device_of c.loop-n.reader)) _ _ c.read.new.block c.in-Ok.n c.if-n-eq0.true was.3 got.0,
-      got.1 c.if-n-eq0.true (omega (arith, c.read.auto.block, c.loop-n.invariant.block)),
+      consumes_nothing _ (g.R.Read.remaining (device_of c.loop-n.reader)) _ _ c.read_block.new.block c.in-Ok.n c.if-n-eq0.true was.3 got.0,
+      got.1 c.if-n-eq0.true (omega (arith, c.read_block.auto.block, c.loop-n.invariant.block)),
       answered_all (answering_by g.F.FnMut) _ c.loop-n.answer _ _ (g.W.Write.contents (device_of c.loop-n.writer)) _ _ c.loop-n.pending.items _ was.0 _ was.1 c.loop-n.count _ was.2 c.loop-n.invariant.held was.4
           c.in-Ok-finish.ensures.ok.0 was.5 was.6 c.in-Ok-finish.ensures.ok.1,
     )
@@ -47,9 +47,9 @@ returns-in-Err-finish-clause-err g c =
     let was = c.loop-n.invariant.answered in
     let got = c.in-Ok.ensures.bytes in (
       _,
-      consumes_nothing _ (g.R.Read.remaining (device_of c.loop-n.reader)) _ _ c.read.new.block c.in-Ok.n c.if-n-eq0.true was.3 got.0,
+      consumes_nothing _ (g.R.Read.remaining (device_of c.loop-n.reader)) _ _ c.read_block.new.block c.in-Ok.n c.if-n-eq0.true was.3 got.0,
       fails_last (answering_by g.F.FnMut) _ _ c.loop-n.answer _ _ (g.W.Write.contents (device_of c.loop-n.writer)) _ _ c.loop-n.pending.items _ was.0 _ was.1 _ was.2 c.loop-n.invariant.held
-          (got.1 c.if-n-eq0.true (omega (arith, c.read.auto.block, c.loop-n.invariant.block))) was.5 was.6 c.in-Err-finish.ensures.err,
+          (got.1 c.if-n-eq0.true (omega (arith, c.read_block.auto.block, c.loop-n.invariant.block))) was.5 was.6 c.in-Err-finish.ensures.err,
     )
 
 pub returns-in-Err-feed-clause-err : goal.returns-in-Err-feed-clause-err
@@ -58,7 +58,7 @@ returns-in-Err-feed-clause-err g c =
       _,
       consumes_more _ (g.R.Read.remaining (device_of c.loop-n.reader)) _ _ _ _ was.3 c.in-Ok.ensures.bytes.0,
       inl (stopped_later (answering_by g.F.FnMut) c.in-Err-feed.fault _ c.loop-n.answer _ _ (g.W.Write.contents (device_of c.loop-n.writer)) _ _ c.loop-n.pending.items _ was.0 was.1 _ HasNoLineFeed
-          (IsAtEnd (g.R.Read.remaining (device_of c.read.new.self))) was.2 was.5 was.6 c.in-Err-feed.ensures.err),
+          (IsAtEnd (g.R.Read.remaining (device_of c.read_block.new.reader))) was.2 was.5 was.6 c.in-Err-feed.ensures.err),
     )
 
 pub returns-in-Err-send-clause-err : goal.returns-in-Err-send-clause-err
@@ -68,7 +68,7 @@ returns-in-Err-send-clause-err g c =
     let more = now.3 in (
       _,
       consumes_lines _ (g.R.Read.remaining (device_of c.loop-n.reader)) _ was.0 now.0 _ _ _ was.3 c.in-Ok.ensures.bytes.0 now.1,
-      fails_send (answering_by g.F.FnMut) _ _ _ (g.W.Write.contents (device_of c.feed.new.writer)) _ (g.R.Read.remaining (device_of c.read.new.self)) c.feed.new.pending.items c.send.new.pending.items _ _ (was.1 ++ more.0)
+      fails_send (answering_by g.F.FnMut) _ _ _ (g.W.Write.contents (device_of c.feed.new.writer)) _ (g.R.Read.remaining (device_of c.read_block.new.reader)) c.feed.new.pending.items c.send.new.pending.items _ _ (was.1 ++ more.0)
           (All-append IsLine was.0 now.0 was.2 now.1.each)
           (are_append (answering_by g.F.FnMut) _ c.loop-n.answer _ was.0 now.0 was.1 more.0 was.5 more.1)
           (sends_trans _ (g.W.Write.contents (device_of c.loop-n.writer)) _ _ c.loop-n.pending.items _ was.1 more.0 was.6 more.2) c.in-Err-send.ensures.err,
@@ -95,9 +95,9 @@ loop-n-preserved g c =
       callable = c.in-Ok-feed.ensures.callable;
       sent = sent.0;
       held = c.in-Ok-feed.ensures.held;
-      count = count_given c.loop-n.count c.in-Ok-feed.more (given_of c.loop-n.reader) (given_of c.read.new.self) c.in-Ok.n c.read.new.block c.loop-n.invariant.count c.in-Ok-feed.ensures.count counts.given;
+      count = count_given c.loop-n.count c.in-Ok-feed.more (given_of c.loop-n.reader) (given_of c.read_block.new.reader) c.in-Ok.n c.read_block.new.block c.loop-n.invariant.count c.in-Ok-feed.ensures.count counts.given;
       grown = (omega (arith, c.loop-n.invariant.grown.0, counts.called), omega (arith, c.loop-n.invariant.grown.1, counts.given));
-      block = c.read.auto.block ∙ c.loop-n.invariant.block;
+      block = c.read_block.auto.block ∙ c.loop-n.invariant.block;
       read = steady_trans c.loop-n.invariant.read c.in-Ok.ensures.faults;
       written = steady_trans (steady_trans c.loop-n.invariant.written c.in-Ok-feed.ensures.faults) c.in-Ok-send.ensures.faults;
     }
