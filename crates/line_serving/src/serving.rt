@@ -2,9 +2,9 @@
 
 ghost use Rattle.std.specs.Prelude.{◌≡◌, [], ◌++◌, ◌<◌, ◌≤◌, ◌+◌, ◌^◌, length, OnErr, OnOk, IfOk, IfErr, vec_len};
 ghost use Rattle.std.specs.Io.KnownBytes.{ReadConsumes};
-ghost use Rattle.line_serving.specs.Answering.{answering_by};
+ghost use Rattle.line_serving.specs.Answering.{by_calls};
 ghost use Rattle.line_serving.specs.Devices.{counts_of, device_of, devices, CountsFaults, CountsNone, CountsRead, IsReadOut};
-ghost use Rattle.line_serving.specs.Serving.{ReadsAll, StopsAt, SendsLater, ServesAll, StopsServing, ReaderCounts, WriterCounts, IsBounded, HasGrown, Serves};
+ghost use Rattle.line_serving.specs.Serving.{ServesLater, StopsLater, ServesAll, StopsServing, ReaderCounts, WriterCounts, IsBounded, HasGrown, Serves};
 
 use crate::device::{Counted, DeviceFault};
 use crate::fault::{NoMemory, ServeFault};
@@ -52,10 +52,10 @@ fn serve_lines<F: FnMut(&[u8]) -> Result<String, NoMemory>, R: Read, W: Write>(
     requires callable { F.IsAlwaysCallable answer.old }
     requires nothing { pending.old.items ≡ [] }
     requires room { length block.old ≡ 65536 }
-    ensures ok { let d = devices R.remaining W.contents reader.old reader.new writer.old writer.new in
-        IfOk result (ReadsAll (answering_by F.FnMut) answer.old answer.new d (SendsLater d pending.new)) }
-    ensures err { let d = devices R.remaining W.contents reader.old reader.new writer.old writer.new in
-        IfErr result (StopsAt (answering_by F.FnMut) answer.old answer.new d (SendsLater d pending.new)) }
+    ensures ok { IfOk result (ServesLater (by_calls F.FnMut) answer.old answer.new pending.new
+        (devices R.remaining W.contents reader.old reader.new writer.old writer.new)) }
+    ensures err { IfErr result (StopsLater (by_calls F.FnMut) answer.old answer.new pending.new
+        (devices R.remaining W.contents reader.old reader.new writer.old writer.new)) }
     ensures reader { ReaderCounts (counts_of reader.old) (counts_of reader.new) result }
     ensures writer { WriterCounts (counts_of writer.old) (counts_of writer.new) result }
     ensures bounded { OnOk result (IsBounded (counts_of reader.new)) }
@@ -95,10 +95,10 @@ fn serve_blocks<F: FnMut(&[u8]) -> Result<String, NoMemory>, R: Read, W: Write>(
 ) -> Result<u64, ServeFault>
     requires callable { F.IsAlwaysCallable answer.old }
     requires nothing { pending.old.items ≡ [] }
-    ensures ok { let d = devices R.remaining W.contents reader.old reader.new writer.old writer.new in
-        IfOk result (ReadsAll (answering_by F.FnMut) answer.old answer.new d (SendsLater d pending.new)) }
-    ensures err { let d = devices R.remaining W.contents reader.old reader.new writer.old writer.new in
-        IfErr result (StopsAt (answering_by F.FnMut) answer.old answer.new d (SendsLater d pending.new)) }
+    ensures ok { IfOk result (ServesLater (by_calls F.FnMut) answer.old answer.new pending.new
+        (devices R.remaining W.contents reader.old reader.new writer.old writer.new)) }
+    ensures err { IfErr result (StopsLater (by_calls F.FnMut) answer.old answer.new pending.new
+        (devices R.remaining W.contents reader.old reader.new writer.old writer.new)) }
     ensures reader { ReaderCounts (counts_of reader.old) (counts_of reader.new) result }
     ensures writer { WriterCounts (counts_of writer.old) (counts_of writer.new) result }
     ensures bounded { OnOk result (IsBounded (counts_of reader.new)) }
@@ -122,9 +122,9 @@ fn serve_all<F: FnMut(&[u8]) -> Result<String, NoMemory>, R: Read, W: Write>(
     writer: &mut Counted<W>,
 ) -> Result<u64, ServeFault>
     requires { F.IsAlwaysCallable answer.old }
-    ensures ok { IfOk result (ServesAll (answering_by F.FnMut) answer.old answer.new
+    ensures ok { IfOk result (ServesAll (by_calls F.FnMut) answer.old answer.new
         (devices R.remaining W.contents reader.old reader.new writer.old writer.new)) }
-    ensures err { IfErr result (StopsServing (answering_by F.FnMut) answer.old answer.new
+    ensures err { IfErr result (StopsServing (by_calls F.FnMut) answer.old answer.new
         (devices R.remaining W.contents reader.old reader.new writer.old writer.new)) }
     ensures reader { ReaderCounts (counts_of reader.old) (counts_of reader.new) result }
     ensures writer { WriterCounts (counts_of writer.old) (counts_of writer.new) result }
@@ -170,7 +170,7 @@ pub fn serve<F: FnMut(&[u8]) -> Result<String, NoMemory>, R: Read, W: Write>(
     answer: &mut F,
 ) -> Result<u64, ServeFault>
     requires { F.IsAlwaysCallable answer.old }
-    ensures { Serves (answering_by F.FnMut) answer.old answer.new
+    ensures { Serves (by_calls F.FnMut) answer.old answer.new
         (devices R.remaining W.contents reader.old reader.new writer.old writer.new) result }
 {
     serve_all(alloc, answer, reader, writer)

@@ -1,5 +1,5 @@
 use Rattle.std.proofs.Common.{inr}
-use Rattle.line_serving.specs.Answering.{answering_by}
+use Rattle.line_serving.specs.Answering.{by_calls}
 use Rattle.line_serving.specs.Devices.{device_of}
 use Rattle.line_serving.specs.declared.fault.ServeFault.TheVariants as fault
 use Rattle.line_serving.proofs.Feeding.{closed, cut_close, cut_off, stays_failed}
@@ -23,7 +23,7 @@ returns-in-Err-WriteFault-clause-err g c =
     let was = c.in-Err-WriteFault.ensures.err in (
       was.0,
       was.1,
-      stays_failed (answering_by g.F.FnMut) c.in-Err-WriteFault.field-0 _ _ (g.W.Write.contents (device_of c.args.writer.now)) (g.W.Write.contents (device_of c.serve_blocks.new.writer))
+      stays_failed (by_calls g.F.FnMut) c.in-Err-WriteFault.field-0 _ _ (g.W.Write.contents (device_of c.args.writer.now)) (g.W.Write.contents (device_of c.serve_blocks.new.writer))
           (g.R.Read.remaining (device_of c.serve_blocks.new.reader)) c.serve_blocks.new.pending.items was.0 c.in-Err-WriteFault.field-0-is was.2,
     )
 
@@ -32,7 +32,7 @@ returns-in-Ok-close-2-clause-err g c =
     let was = c.in-Err-LineTooLong.ensures.err in (
       was.0,
       was.1,
-      closed (answering_by g.F.FnMut) c.in-Err-LineTooLong.field-0 fault.LineTooLong _ _ (g.W.Write.contents (device_of c.args.writer.now)) (g.W.Write.contents (device_of c.serve_blocks.new.writer)) (g.W.Write.contents (device_of c.close-in-Err-LineTooLong.new.writer))
+      closed (by_calls g.F.FnMut) c.in-Err-LineTooLong.field-0 fault.LineTooLong _ _ (g.W.Write.contents (device_of c.args.writer.now)) (g.W.Write.contents (device_of c.serve_blocks.new.writer)) (g.W.Write.contents (device_of c.close-in-Err-LineTooLong.new.writer))
           (g.R.Read.remaining (device_of c.serve_blocks.new.reader)) c.serve_blocks.new.pending.items was.0 c.in-Err-LineTooLong.field-0-is tt c.in-Ok-close-2.ensures.ok was.2,
     )
 
@@ -41,7 +41,7 @@ returns-in-Err-LineTooLong-clause-err g c =
     let was = c.in-Err-LineTooLong.ensures.err in (
       was.0,
       was.1,
-      cut_off (answering_by g.F.FnMut) c.in-Err-LineTooLong.field-0 fault.LineTooLong _ _ (g.W.Write.contents (device_of c.args.writer.now)) (g.W.Write.contents (device_of c.serve_blocks.new.writer)) (g.W.Write.contents (device_of c.close-in-Err-LineTooLong.new.writer))
+      cut_off (by_calls g.F.FnMut) c.in-Err-LineTooLong.field-0 fault.LineTooLong _ _ (g.W.Write.contents (device_of c.args.writer.now)) (g.W.Write.contents (device_of c.serve_blocks.new.writer)) (g.W.Write.contents (device_of c.close-in-Err-LineTooLong.new.writer))
           (g.R.Read.remaining (device_of c.serve_blocks.new.reader)) c.serve_blocks.new.pending.items was.0 c.in-Err-LineTooLong.field-0-is tt c.in-Err-close.ensures.err was.2,
     )
 
@@ -50,7 +50,7 @@ returns-in-Ok-close-3-clause-err g c =
     let was = c.in-Err-ReadFault.ensures.err in (
       was.0,
       was.1,
-      closed (answering_by g.F.FnMut) c.in-Err-ReadFault.field-0 fault.ReadFault _ _ (g.W.Write.contents (device_of c.args.writer.now)) (g.W.Write.contents (device_of c.serve_blocks.new.writer)) (g.W.Write.contents (device_of c.close-in-Err-ReadFault.new.writer))
+      closed (by_calls g.F.FnMut) c.in-Err-ReadFault.field-0 fault.ReadFault _ _ (g.W.Write.contents (device_of c.args.writer.now)) (g.W.Write.contents (device_of c.serve_blocks.new.writer)) (g.W.Write.contents (device_of c.close-in-Err-ReadFault.new.writer))
           (g.R.Read.remaining (device_of c.serve_blocks.new.reader)) c.serve_blocks.new.pending.items was.0 c.in-Err-ReadFault.field-0-is tt c.in-Ok-close-3.ensures.ok was.2,
     )
 
@@ -59,7 +59,7 @@ returns-in-Err-ReadFault-clause-err g c =
     let was = c.in-Err-ReadFault.ensures.err in (
       was.0,
       was.1,
-      cut_off (answering_by g.F.FnMut) c.in-Err-ReadFault.field-0 fault.ReadFault _ _ (g.W.Write.contents (device_of c.args.writer.now)) (g.W.Write.contents (device_of c.serve_blocks.new.writer)) (g.W.Write.contents (device_of c.close-in-Err-ReadFault.new.writer))
+      cut_off (by_calls g.F.FnMut) c.in-Err-ReadFault.field-0 fault.ReadFault _ _ (g.W.Write.contents (device_of c.args.writer.now)) (g.W.Write.contents (device_of c.serve_blocks.new.writer)) (g.W.Write.contents (device_of c.close-in-Err-ReadFault.new.writer))
           (g.R.Read.remaining (device_of c.serve_blocks.new.reader)) c.serve_blocks.new.pending.items was.0 c.in-Err-ReadFault.field-0-is tt c.in-Err-close-2.ensures.err was.2,
     )
 
@@ -68,7 +68,7 @@ returns-in-Ok-close-4-clause-err g c =
     let was = c.in-Err-NoMemory.ensures.err in (
       was.0,
       was.1,
-      closed (answering_by g.F.FnMut) c.in-Err-NoMemory.field-0 fault.NoMemory _ _ (g.W.Write.contents (device_of c.args.writer.now)) (g.W.Write.contents (device_of c.serve_blocks.new.writer)) (g.W.Write.contents (device_of c.close-in-Err-NoMemory.new.writer))
+      closed (by_calls g.F.FnMut) c.in-Err-NoMemory.field-0 fault.NoMemory _ _ (g.W.Write.contents (device_of c.args.writer.now)) (g.W.Write.contents (device_of c.serve_blocks.new.writer)) (g.W.Write.contents (device_of c.close-in-Err-NoMemory.new.writer))
           (g.R.Read.remaining (device_of c.serve_blocks.new.reader)) c.serve_blocks.new.pending.items was.0 c.in-Err-NoMemory.field-0-is tt c.in-Ok-close-4.ensures.ok was.2,
     )
 
@@ -77,6 +77,6 @@ returns-in-Err-NoMemory-clause-err g c =
     let was = c.in-Err-NoMemory.ensures.err in (
       was.0,
       was.1,
-      cut_off (answering_by g.F.FnMut) c.in-Err-NoMemory.field-0 fault.NoMemory _ _ (g.W.Write.contents (device_of c.args.writer.now)) (g.W.Write.contents (device_of c.serve_blocks.new.writer)) (g.W.Write.contents (device_of c.close-in-Err-NoMemory.new.writer))
+      cut_off (by_calls g.F.FnMut) c.in-Err-NoMemory.field-0 fault.NoMemory _ _ (g.W.Write.contents (device_of c.args.writer.now)) (g.W.Write.contents (device_of c.serve_blocks.new.writer)) (g.W.Write.contents (device_of c.close-in-Err-NoMemory.new.writer))
           (g.R.Read.remaining (device_of c.serve_blocks.new.reader)) c.serve_blocks.new.pending.items was.0 c.in-Err-NoMemory.field-0-is tt c.in-Err-close-3.ensures.err was.2,
     )

@@ -1,7 +1,7 @@
 use Rattle.std.proofs.Common.{subst, inl, [], ◌++◌, refl, sym, ◌∙◌, arith}
 use Rattle.std.specs.Io.KnownBytes.{IsAtEnd}
 use Rattle.std.proofs.lemmas.List.Elements.{All-nil, All-append}
-use Rattle.line_serving.specs.Answering.{answering_by}
+use Rattle.line_serving.specs.Answering.{by_calls}
 use Rattle.line_serving.specs.Devices.{device_of, given_of}
 use Rattle.line_serving.specs.Lines.{IsLine, HasNoLineFeed}
 use Rattle.line_serving.proofs.Known.{sends_kept, sends_trans, steady_same, steady_trans}
@@ -28,7 +28,7 @@ returns-in-Err-clause-err g c =
     let was = c.loop-n.invariant.answered in (
       _,
       consumes_keeps _ _ _ _ was.3 c.in-Err.ensures.bytes,
-      fails_read (answering_by g.F.FnMut) _ _ _ _ (g.R.Read.remaining (device_of c.read_block.new.reader)) _ was.0 _ was.1 was.2 c.loop-n.invariant.held was.5 was.6,
+      fails_read (by_calls g.F.FnMut) _ _ _ _ (g.R.Read.remaining (device_of c.read_block.new.reader)) _ was.0 _ was.1 was.2 c.loop-n.invariant.held was.5 was.6,
     )
 
 pub returns-in-Ok-finish-clause-ok : goal.returns-in-Ok-finish-clause-ok
@@ -38,7 +38,7 @@ returns-in-Ok-finish-clause-ok g c =
       _,
       consumes_nothing _ (g.R.Read.remaining (device_of c.loop-n.reader)) _ _ c.read_block.new.block c.in-Ok.n c.if-n-eq0.true was.3 got.0,
       got.1 c.if-n-eq0.true (omega (arith, c.read_block.auto.block, c.loop-n.invariant.block)),
-      answered_all (answering_by g.F.FnMut) _ c.loop-n.answer _ _ (g.W.Write.contents (device_of c.loop-n.writer)) _ _ c.loop-n.pending.items _ was.0 _ was.1 c.loop-n.count _ was.2 c.loop-n.invariant.held was.4
+      answered_all (by_calls g.F.FnMut) _ c.loop-n.answer _ _ (g.W.Write.contents (device_of c.loop-n.writer)) _ _ c.loop-n.pending.items _ was.0 _ was.1 c.loop-n.count _ was.2 c.loop-n.invariant.held was.4
           c.in-Ok-finish.ensures.ok.0 was.5 was.6 c.in-Ok-finish.ensures.ok.1,
     )
 
@@ -48,7 +48,7 @@ returns-in-Err-finish-clause-err g c =
     let got = c.in-Ok.ensures.bytes in (
       _,
       consumes_nothing _ (g.R.Read.remaining (device_of c.loop-n.reader)) _ _ c.read_block.new.block c.in-Ok.n c.if-n-eq0.true was.3 got.0,
-      fails_last (answering_by g.F.FnMut) _ _ c.loop-n.answer _ _ (g.W.Write.contents (device_of c.loop-n.writer)) _ _ c.loop-n.pending.items _ was.0 _ was.1 _ was.2 c.loop-n.invariant.held
+      fails_last (by_calls g.F.FnMut) _ _ c.loop-n.answer _ _ (g.W.Write.contents (device_of c.loop-n.writer)) _ _ c.loop-n.pending.items _ was.0 _ was.1 _ was.2 c.loop-n.invariant.held
           (got.1 c.if-n-eq0.true (omega (arith, c.read_block.auto.block, c.loop-n.invariant.block))) was.5 was.6 c.in-Err-finish.ensures.err,
     )
 
@@ -57,7 +57,7 @@ returns-in-Err-feed-clause-err g c =
     let was = c.loop-n.invariant.answered in (
       _,
       consumes_more _ (g.R.Read.remaining (device_of c.loop-n.reader)) _ _ _ _ was.3 c.in-Ok.ensures.bytes.0,
-      inl (stopped_later (answering_by g.F.FnMut) c.in-Err-feed.fault _ c.loop-n.answer _ _ (g.W.Write.contents (device_of c.loop-n.writer)) _ _ c.loop-n.pending.items _ was.0 was.1 _ HasNoLineFeed
+      inl (stopped_later (by_calls g.F.FnMut) c.in-Err-feed.fault _ c.loop-n.answer _ _ (g.W.Write.contents (device_of c.loop-n.writer)) _ _ c.loop-n.pending.items _ was.0 was.1 _ HasNoLineFeed
           (IsAtEnd (g.R.Read.remaining (device_of c.read_block.new.reader))) was.2 was.5 was.6 c.in-Err-feed.ensures.err),
     )
 
@@ -68,9 +68,9 @@ returns-in-Err-send-clause-err g c =
     let more = now.3 in (
       _,
       consumes_lines _ (g.R.Read.remaining (device_of c.loop-n.reader)) _ was.0 now.0 _ _ _ was.3 c.in-Ok.ensures.bytes.0 now.1,
-      fails_send (answering_by g.F.FnMut) _ _ _ (g.W.Write.contents (device_of c.feed.new.writer)) _ (g.R.Read.remaining (device_of c.read_block.new.reader)) c.feed.new.pending.items c.send.new.pending.items _ _ (was.1 ++ more.0)
+      fails_send (by_calls g.F.FnMut) _ _ _ (g.W.Write.contents (device_of c.feed.new.writer)) _ (g.R.Read.remaining (device_of c.read_block.new.reader)) c.feed.new.pending.items c.send.new.pending.items _ _ (was.1 ++ more.0)
           (All-append IsLine was.0 now.0 was.2 now.1.each)
-          (are_append (answering_by g.F.FnMut) _ c.loop-n.answer _ was.0 now.0 was.1 more.0 was.5 more.1)
+          (are_append (by_calls g.F.FnMut) _ c.loop-n.answer _ was.0 now.0 was.1 more.0 was.5 more.1)
           (sends_trans _ (g.W.Write.contents (device_of c.loop-n.writer)) _ _ c.loop-n.pending.items _ was.1 more.0 was.6 more.2) c.in-Err-send.ensures.err,
     )
 
@@ -88,7 +88,7 @@ loop-n-preserved g c =
         All-append IsLine was.0 now.0 was.2 now.1.each,
         consumes_lines _ (g.R.Read.remaining (device_of c.loop-n.reader)) _ was.0 now.0 _ _ _ was.3 c.in-Ok.ensures.bytes.0 now.1,
         count_both c.loop-n.count _ _ was.0 now.0 was.4 now.2 refl,
-        are_append (answering_by g.F.FnMut) _ c.loop-n.answer _ was.0 now.0 was.1 more.0 was.5 more.1,
+        are_append (by_calls g.F.FnMut) _ c.loop-n.answer _ was.0 now.0 was.1 more.0 was.5 more.1,
         sends_sent _ _ _ _ sent.0 (sends_close _ (g.W.Write.contents (device_of c.feed.new.writer)) _ c.feed.new.pending.items _
             (sends_trans _ (g.W.Write.contents (device_of c.loop-n.writer)) _ _ c.loop-n.pending.items _ was.1 more.0 was.6 more.2) sent.1),
       );

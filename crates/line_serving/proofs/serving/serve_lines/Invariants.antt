@@ -1,7 +1,7 @@
 use Rattle.std.proofs.Common.{◌≡◌, ℕ, ◌-◌, ◌≤◌, List, [], ◌++◌, length}
 use Rattle.std.specs.List.{All, flat_map}
 use Rattle.std.specs.Io.KnownBytes.{Consumes}
-use Rattle.line_serving.specs.Answering.{AreAnswers, answering_by}
+use Rattle.line_serving.specs.Answering.{AreAnswers, by_calls}
 use Rattle.line_serving.specs.Devices.{bound, calls_of, counts_of, device_of, given_of, IsSteady}
 use Rattle.line_serving.specs.Lines.{IsLine, ended}
 use Rattle.line_serving.specs.Output.{Sends}
@@ -13,7 +13,7 @@ invariant-loop-n g l = record {
   answered : (lines : List (List ℕ)) × (out : List ℕ) × All IsLine lines
       × Consumes (g.R.Read.remaining (device_of l.initial.reader)) (g.R.Read.remaining (device_of l.reader)) (flat_map ended lines ++ l.held.items)
       × (l.count ≡ length lines)
-      × AreAnswers (answering_by g.F.FnMut) l.initial.answer lines out l.answer
+      × AreAnswers (by_calls g.F.FnMut) l.initial.answer lines out l.answer
       × Sends (g.W.Write.contents (device_of l.initial.writer)) [] (g.W.Write.contents (device_of l.writer)) l.pending.items out;
   callable : goal.F-IsAlwaysCallable g l.answer;
   sent : l.pending.items ≡ [];
