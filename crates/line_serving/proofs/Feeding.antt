@@ -8,7 +8,7 @@ use Rattle.std.proofs.lemmas.Grind.{common_steps}
 use Rattle.std.proofs.lemmas.List.Concat.{flat_map-append}
 use Rattle.std.proofs.lemmas.List.Elements.{All-nil, All-cons, All-head, All-tail, All-append, All-push}
 use Rattle.line_serving.specs.Answering.{AnsweringOf, AreAnswers, FrontOf, IsNext, MayStop, WithAnswer, WithAnswers}
-use Rattle.line_serving.specs.Lines.{HasNoLineFeed, IsLine, IsLong, Splits, ended, line_feed, limit, input_lines, last_of, on_first}
+use Rattle.line_serving.specs.Lines.{HasNoLineFeed, IsLine, Splits, ended, line_feed, limit, input_lines, last_of, on_first}
 use Rattle.line_serving.specs.Output.{Sends, IsCut}
 use Rattle.line_serving.specs.Serving.{block_size, IsUnanswered, StartsLong, AtFault, Stopped, IsAnswered, Fails}
 use Rattle.line_serving.specs.declared.fault.ServeFault.{ServeFault}
@@ -138,6 +138,9 @@ consumes_lines a b c lines more held x later h k s = subst (λ t. Consumes a c t
 pub count_given : (m more g h n : ℕ) (blk : List ℕ) → m ≤ g → more ≤ length (take n blk) → h ≡ g + n → m + more ≤ h
 count_given m more g h n blk was few e = grind (arith, common_steps, was, few, e)
 
+abbrev pub IsNoWriteFault : ServeFault → Type 0
+IsNoWriteFault e = AtFault e (Unit {0}) (Unit {0}) ⊥ (Unit {0})
+
 module _ {F : Type 0} (A : AnsweringOf F) where
   pub are_append : (f g h : F) (ls ms : List (List ℕ)) (x y : List ℕ) → AreAnswers A f ls x g → AreAnswers A g ms y h → AreAnswers A f (ls ++ ms) (x ++ y) h
   are_append f g h [] ms x y (e, s) k = subst (λ t. AreAnswers A f ms (t ++ y) h) (sym e) (subst (λ t. AreAnswers A t ms y h) s k)
@@ -154,10 +157,10 @@ module _ {F : Type 0} (A : AnsweringOf F) where
       → length rest ≤ block_size → rest ≡ line ++ line_feed ∷ after → text ≡ flat_map ended lines ++ (held ++ rest) → All IsLine lines → IsLine held → HasNoLineFeed line
       → AreAnswers A f lines x mid → Sends a p b q x
       → AtFault e
-        ((g ≡ mid) × Sends b q c r [] × (limit < length (held ++ line)))
-        ⊥
-        ((length (held ++ line) ≤ limit) × WithAnswer A mid (held ++ line) g (λ out. IsCut b c (q ++ out)))
-        ((length (held ++ line) ≤ limit) × ((g ≡ mid) ⊎ A.stops mid (held ++ line) g) × Sends b q c r [])
+      ((g ≡ mid) × Sends b q c r [] × (limit < length (held ++ line)))
+      ⊥
+      ((length (held ++ line) ≤ limit) × WithAnswer A mid (held ++ line) g (λ out. IsCut b c (q ++ out)))
+      ((length (held ++ line) ≤ limit) × ((g ≡ mid) ⊎ A.stops mid (held ++ line) g) × Sends b q c r [])
       → Stopped A f g text (Sends a p c r) (λ t. IsCut a c (p ++ t)) Read AtEnd e
   stopped_at fault.LineTooLong f mid g a b c p q r text held line after rest x lines Read AtEnd few cut whole each is one are sent h = (
     record { lines = lines; rest = held ++ rest; output = x; state = mid; splits = record { whole = whole; each = each }; answers = are },
@@ -219,7 +222,7 @@ module _ {F : Type 0} (A : AnsweringOf F) where
         state = s.state;
         splits = record {
           whole = ap (λ l. flat_map ended lines ++ l) s.splits.whole ∙ sym (append_assoc (flat_map ended lines) (flat_map ended s.lines) s.rest)
-            ∙ ap (λ l. l ++ s.rest) (sym (flat_map-append ended lines s.lines));
+              ∙ ap (λ l. l ++ s.rest) (sym (flat_map-append ended lines s.lines));
           each = All-append IsLine lines s.lines each s.splits.each;
         };
         answers = are_append f mid s.state lines s.lines x s.output are s.answers;
@@ -231,10 +234,10 @@ module _ {F : Type 0} (A : AnsweringOf F) where
       cases : (e : ServeFault)
           → AtFault e ((g ≡ s.state) × Sends b q c r s.output × StartsLong s.rest) ((g ≡ s.state) × Sends b q c r s.output × ⊥) (MayStop A s.state s.rest ⊥ g × IsCut b c (q ++ s.output)) (MayStop A s.state s.rest ⊥ g × Sends b q c r s.output × IsUnanswered s.rest)
           → AtFault e
-            ((g ≡ s.state) × Sends a p c r (x ++ s.output) × StartsLong s.rest)
-            ((g ≡ s.state) × Sends a p c r (x ++ s.output) × Read s.rest)
-            (MayStop A s.state s.rest AtEnd g × IsCut a c (p ++ (x ++ s.output)))
-            (MayStop A s.state s.rest AtEnd g × Sends a p c r (x ++ s.output) × IsUnanswered s.rest)
+          ((g ≡ s.state) × Sends a p c r (x ++ s.output) × StartsLong s.rest)
+          ((g ≡ s.state) × Sends a p c r (x ++ s.output) × Read s.rest)
+          (MayStop A s.state s.rest AtEnd g × IsCut a c (p ++ (x ++ s.output)))
+          (MayStop A s.state s.rest AtEnd g × Sends a p c r (x ++ s.output) × IsUnanswered s.rest)
       cases fault.LineTooLong k = (k.0, all k.1, k.2)
       cases fault.ReadFault k = absurd k.2
       cases fault.WriteFault k = (may_stop s.state g s.rest AtEnd k.0, cut_sends a b c p q x s.output sent k.1)
@@ -282,33 +285,49 @@ module _ {F : Type 0} (A : AnsweringOf F) where
       )
   fails_last fault.BadCount f mid g a b c p q r lines last x left each is end are sent h = absurd h
 
-  -- what was pending didn't go out whole after another fault
-  cut_at_long : (f g : F) (a b c left : Option (List ℕ)) (p text : List ℕ) (Cut : List ℕ → Type 0)
-      → IsCut b c p → Fails A f g text (Sends a [] b p) Cut left fault.LineTooLong → Fails A f g text (Appends a c) (IsCut a c) left fault.WriteFault
-  cut_at_long f g a b c left p text Cut k (inl (s, h)) = inl (s, (inl h.0, cut_close a b c p s.output h.1 k))
-  cut_at_long f g a b c left p text Cut k (inr h) = absurd h
+  -- what was pending went out after another fault than the writer's
+  closed_at : (e : ServeFault) (f g : F) (a b c left : Option (List ℕ)) (p text : List ℕ) (Cut : List ℕ → Type 0) → IsNoWriteFault e
+      → Appends b c p → Fails A f g text (Sends a [] b p) Cut left e → Fails A f g text (Appends a c) (IsCut a c) left e
+  closed_at fault.LineTooLong f g a b c left p text Cut other h (inl (s, k)) = inl (s, (k.0, sends_close a b c p s.output k.1 h, k.2))
+  closed_at fault.LineTooLong f g a b c left p text Cut other h (inr k) = absurd k
+  closed_at fault.ReadFault f g a b c left p text Cut other h (inl (s, k)) = inl (s, (k.0, sends_close a b c p s.output k.1 h, k.2))
+  closed_at fault.ReadFault f g a b c left p text Cut other h (inr k) = absurd k
+  closed_at fault.WriteFault f g a b c left p text Cut other h k = absurd other
+  closed_at fault.NoMemory f g a b c left p text Cut other h (inl (s, k)) = inl (s, (k.0, sends_close a b c p s.output k.1 h, k.2))
+  closed_at fault.NoMemory f g a b c left p text Cut other h (inr k) = absurd k
+  closed_at fault.BadCount f g a b c left p text Cut other h k = absurd other
 
-  pub cut_long : (e : ServeFault) (f g : F) (a b c left : Option (List ℕ)) (p text : List ℕ) → e ≡ fault.LineTooLong
+  pub closed : (e k : ServeFault) (f g : F) (a b c left : Option (List ℕ)) (p text : List ℕ) → e ≡ k → IsNoWriteFault k
+      → Appends b c p → Fails A f g text (Sends a [] b p) (IsCut a b) left e → Fails A f g text (Appends a c) (IsCut a c) left k
+  closed e k f g a b c left p text is other h fails =
+      closed_at k f g a b c left p text (IsCut a b) other h (subst (λ x. Fails A f g text (Sends a [] b p) (IsCut a b) left x) is fails)
+
+  -- or didn't go out whole
+  cut_at : (e : ServeFault) (f g : F) (a b c left : Option (List ℕ)) (p text : List ℕ) (Cut : List ℕ → Type 0) → IsNoWriteFault e
+      → IsCut b c p → Fails A f g text (Sends a [] b p) Cut left e → Fails A f g text (Appends a c) (IsCut a c) left fault.WriteFault
+  cut_at fault.LineTooLong f g a b c left p text Cut other h (inl (s, k)) = inl (s, (inl k.0, cut_close a b c p s.output k.1 h))
+  cut_at fault.LineTooLong f g a b c left p text Cut other h (inr k) = absurd k
+  cut_at fault.ReadFault f g a b c left p text Cut other h (inl (s, k)) = inl (s, (inl k.0, cut_close a b c p s.output k.1 h))
+  cut_at fault.ReadFault f g a b c left p text Cut other h (inr k) = absurd k
+  cut_at fault.WriteFault f g a b c left p text Cut other h k = absurd other
+  cut_at fault.NoMemory f g a b c left p text Cut other h (inl (s, k)) = inl (s, (k.0, cut_close a b c p s.output k.1 h))
+  cut_at fault.NoMemory f g a b c left p text Cut other h (inr k) = absurd k
+  cut_at fault.BadCount f g a b c left p text Cut other h k = absurd other
+
+  pub cut_off : (e k : ServeFault) (f g : F) (a b c left : Option (List ℕ)) (p text : List ℕ) → e ≡ k → IsNoWriteFault k
       → IsCut b c p → Fails A f g text (Sends a [] b p) (IsCut a b) left e → Fails A f g text (Appends a c) (IsCut a c) left fault.WriteFault
-  cut_long e f g a b c left p text is k h = cut_at_long f g a b c left p text (IsCut a b) k (subst (λ x. Fails A f g text (Sends a [] b p) (IsCut a b) left x) is h)
+  cut_off e k f g a b c left p text is other h fails =
+      cut_at k f g a b c left p text (IsCut a b) other h (subst (λ x. Fails A f g text (Sends a [] b p) (IsCut a b) left x) is fails)
 
-  cut_at_read : (f g : F) (a b c left : Option (List ℕ)) (p text : List ℕ) (Cut : List ℕ → Type 0)
-      → IsCut b c p → Fails A f g text (Sends a [] b p) Cut left fault.ReadFault → Fails A f g text (Appends a c) (IsCut a c) left fault.WriteFault
-  cut_at_read f g a b c left p text Cut k (inl (s, h)) = inl (s, (inl h.0, cut_close a b c p s.output h.1 k))
-  cut_at_read f g a b c left p text Cut k (inr h) = absurd h
+  -- where the writer failed, nothing more was written
+  writer_failed : (f g : F) (left : Option (List ℕ)) (text : List ℕ) (Sent More Cut : List ℕ → Type 0) → Fails A f g text Sent Cut left fault.WriteFault → Fails A f g text More Cut left fault.WriteFault
+  writer_failed f g left text Sent More Cut (inl h) = inl h
+  writer_failed f g left text Sent More Cut (inr h) = inr h
 
-  pub cut_read : (e : ServeFault) (f g : F) (a b c left : Option (List ℕ)) (p text : List ℕ) → e ≡ fault.ReadFault
-      → IsCut b c p → Fails A f g text (Sends a [] b p) (IsCut a b) left e → Fails A f g text (Appends a c) (IsCut a c) left fault.WriteFault
-  cut_read e f g a b c left p text is k h = cut_at_read f g a b c left p text (IsCut a b) k (subst (λ x. Fails A f g text (Sends a [] b p) (IsCut a b) left x) is h)
-
-  cut_at_memory : (f g : F) (a b c left : Option (List ℕ)) (p text : List ℕ) (Cut : List ℕ → Type 0)
-      → IsCut b c p → Fails A f g text (Sends a [] b p) Cut left fault.NoMemory → Fails A f g text (Appends a c) (IsCut a c) left fault.WriteFault
-  cut_at_memory f g a b c left p text Cut k (inl (s, h)) = inl (s, (h.0, cut_close a b c p s.output h.1 k))
-  cut_at_memory f g a b c left p text Cut k (inr h) = absurd h
-
-  pub cut_memory : (e : ServeFault) (f g : F) (a b c left : Option (List ℕ)) (p text : List ℕ) → e ≡ fault.NoMemory
-      → IsCut b c p → Fails A f g text (Sends a [] b p) (IsCut a b) left e → Fails A f g text (Appends a c) (IsCut a c) left fault.WriteFault
-  cut_memory e f g a b c left p text is k h = cut_at_memory f g a b c left p text (IsCut a b) k (subst (λ x. Fails A f g text (Sends a [] b p) (IsCut a b) left x) is h)
+  pub stays_failed : (e : ServeFault) (f g : F) (a b left : Option (List ℕ)) (p text : List ℕ) → e ≡ fault.WriteFault
+      → Fails A f g text (Sends a [] b p) (IsCut a b) left e → Fails A f g text (Appends a b) (IsCut a b) left fault.WriteFault
+  stays_failed e f g a b left p text is fails =
+      writer_failed f g left text (Sends a [] b p) (Appends a b) (IsCut a b) (subst (λ x. Fails A f g text (Sends a [] b p) (IsCut a b) left x) is fails)
 
   pub fails_read : (f g : F) (a c left : Option (List ℕ)) (q : List ℕ) (lines : List (List ℕ)) (held x : List ℕ) → All IsLine lines → IsLine held → AreAnswers A f lines x g → Sends a [] c q x
       → Fails A f g (flat_map ended lines ++ held) (Sends a [] c q) (IsCut a c) left fault.ReadFault

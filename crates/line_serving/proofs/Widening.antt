@@ -1,10 +1,14 @@
 -- What holds of answers by one relation holds of them by each that it is within, where the states are seen by a function.
-use Rattle.std.proofs.Common.{◌≡◌, ap, subst, sym, inl, inr, ℕ, List, [], ◌∷◌, ◌++◌}
-use Rattle.std.specs.Prelude.{Option, Result, Ok, Err, IfOk, IfErr}
+use Rattle.std.proofs.Common.{◌≡◌, ◌∙◌, refl, ap, subst, sym, inl, inr, ℕ, List, [], ◌∷◌}
+use denote.Param.Members.{Mut}
+use denote.Ref.{Bor, MutBor}
+use Rattle.std.specs.declared.alloc.Global.{Global}
+use Rattle.line_serving.specs.declared.fault.NoMemory.{NoMemory}
+use Rattle.std.specs.Prelude.{Option, Result, Ok, Err, IfOk, IfErr, String, string_bytes}
 use Rattle.std.specs.Io.KnownBytes.{Appends}
-use Rattle.line_serving.specs.Answering.{AnsweringOf, AreAnswers, FrontOf, IsNext, IsOutput, MayStop}
+use Rattle.line_serving.specs.Answering.{AnsweringOf, AreAnswers, FrontOf, Gives, MayStop, RunsOut, by_calls}
 use Rattle.line_serving.specs.Devices.{DevicesOf}
-use Rattle.line_serving.specs.Lines.{HasNoLineFeed, ended, input_lines}
+use Rattle.line_serving.specs.Lines.{HasNoLineFeed, input_lines}
 use Rattle.line_serving.specs.Output.{IsCut}
 use Rattle.line_serving.specs.Serving.{AtFault, IsUnanswered, StartsLong, Stopped, IsAnswered, FailsAtEnd, Fails, Serves, ServesAll, StopsServing}
 use Rattle.line_serving.specs.declared.fault.ServeFault.{ServeFault}
@@ -58,9 +62,9 @@ module _ {F G : Type 0} (A : AnsweringOf F) (B : AnsweringOf G) (view : F → G)
 
       cases : (e : ServeFault)
           → AtFault e ((g ≡ s.state) × Sent s.output × StartsLong s.rest) ((g ≡ s.state) × Sent s.output × Read s.rest)
-            (MayStop A s.state s.rest AtEnd g × Cut s.output) (MayStop A s.state s.rest AtEnd g × Sent s.output × IsUnanswered s.rest)
+          (MayStop A s.state s.rest AtEnd g × Cut s.output) (MayStop A s.state s.rest AtEnd g × Sent s.output × IsUnanswered s.rest)
           → AtFault e ((view g ≡ view s.state) × Sent s.output × StartsLong s.rest) ((view g ≡ view s.state) × Sent s.output × Read s.rest)
-            (MayStop B (view s.state) s.rest AtEnd (view g) × Cut s.output) (MayStop B (view s.state) s.rest AtEnd (view g) × Sent s.output × IsUnanswered s.rest)
+          (MayStop B (view s.state) s.rest AtEnd (view g) × Cut s.output) (MayStop B (view s.state) s.rest AtEnd (view g) × Sent s.output × IsUnanswered s.rest)
           × Holds g
       cases fault.LineTooLong k = ((ap view k.0, k.1, k.2), subst Holds (sym k.0) kept)
       cases fault.ReadFault k = ((ap view k.0, k.1, k.2), subst Holds (sym k.0) kept)
@@ -101,3 +105,37 @@ pub serves_widened : {F G : Type 0} (A : AnsweringOf F) (B : AnsweringOf G) (vie
     → (f g : F) (d : DevicesOf) (r : Result ℕ ServeFault) → Serves A f g d r → Serves B (view f) (view g) d r
 serves_widened A B view gives stops f g d r h =
     (serves_kept A B view (λ _. Unit {0}) (λ f line text g _ k. (gives f line text g k, tt)) (λ f line g _ k. (stops f line g k, tt)) f g d r tt h).0
+
+-- the reference is the same, and what it points to keeps the invariant
+abbrev Kept : {F T : Type 0} → (F → MutBor T) → (T → Type 0) → F → F → Type 0
+Kept captured Holds f x = ((captured f).ghost_name ≡ (captured x).ghost_name) × Holds (captured x).now
+
+-- A closure whose state is behind a reference that it captured: each call keeps that reference, and so does serving. `tie` is what the caller
+-- knows of what is left behind it. The steps are the closure's own clauses.
+module _ {F T : Type 0} (m : Mut F (Bor (List ℕ) × Unit {0}) (Result (String Global) NoMemory)) (B : AnsweringOf T) (captured : F → MutBor T) (Holds : T → Type 0)
+    (gives : (f : F) (line : Bor (List ℕ)) (text : String Global) (g : F) → Holds (captured f).now → m.steps f (line, tt) (Ok text) g
+    → B.gives (captured f).now line.now (string_bytes text) (captured g).now × ((captured g).ghost_name ≡ (captured f).ghost_name) × Holds (captured g).now)
+    (stops : (f : F) (line : Bor (List ℕ)) (g : F) → Holds (captured f).now → (e : NoMemory) → m.steps f (line, tt) (Err e) g
+    → B.stops (captured f).now line.now (captured g).now × ((captured g).ghost_name ≡ (captured f).ghost_name) × Holds (captured g).now) where
+  pub serves_behind : (f g : F) (last : T) (d : DevicesOf) (r : Result ℕ ServeFault) → Holds (captured f).now
+      → (tie : (captured f).ghost_name ≡ (captured g).ghost_name → last ≡ (captured g).now)
+      → Serves (by_calls m) f g d r → Serves B (captured f).now last d r × Holds last
+  serves_behind f g last d r holds tie h = (subst (λ t. Serves B (captured f).now t d r) (sym at_last) both.0, subst Holds (sym at_last) both.1.1)
+    where
+      given : (x : F) (line text : List ℕ) (y : F) → Kept captured Holds f x → Gives m x line text y → B.gives (captured x).now line text (captured y).now × Kept captured Holds f y
+      given x line text y kept k =
+          let one = gives x k.called.shown k.given y kept.1 k.called.called.met in (
+            subst (λ t. B.gives (captured x).now line t (captured y).now) k.bytes (subst (λ l. B.gives (captured x).now l (string_bytes k.given) (captured y).now) k.called.shows one.0),
+            (kept.0 ∙ sym one.1, one.2),
+          )
+
+      stopped : (x : F) (line : List ℕ) (y : F) → Kept captured Holds f x → RunsOut m x line y → B.stops (captured x).now line (captured y).now × Kept captured Holds f y
+      stopped x line y kept k =
+          let one = stops x k.called.shown y kept.1 k.fault k.called.called.met in
+          (subst (λ l. B.stops (captured x).now l (captured y).now) k.called.shows one.0, (kept.0 ∙ sym one.1, one.2))
+
+      both : Serves B (captured f).now (captured g).now d r × Kept captured Holds f g
+      both = serves_kept (by_calls m) B (λ x. (captured x).now) (Kept captured Holds f) given stopped f g d r (refl, holds) h
+
+      at_last : last ≡ (captured g).now
+      at_last = tie both.1.0

@@ -24,8 +24,8 @@ pub record RunsOut {F : Type 0} (m : Mut F (Bor (List ℕ) × Unit {0}) (Result 
   pub called : CalledAt m f line (Err fault) g
 
 -- lines are answered by calls, one for each, and f is what is called
-abbrev pub answering_by : {F : Type 0} → Mut F (Bor (List ℕ) × Unit {0}) (Result (String Global) NoMemory) → AnsweringOf F
-answering_by m = record { gives = Gives m; stops = RunsOut m }
+abbrev pub by_calls : {F : Type 0} → Mut F (Bor (List ℕ) × Unit {0}) (Result (String Global) NoMemory) → AnsweringOf F
+by_calls m = record { gives = Gives m; stops = RunsOut m }
 
 -- the bytes are an answer of each line in order, each with a line feed, and the states go from f to g
 abbrev pub AreAnswers : {F : Type 0} → AnsweringOf F → F → List (List ℕ) → List ℕ → F → Type 0

@@ -84,33 +84,37 @@ FailsAnswer A f g line contents old pending new later fault =
     AtFault fault ⊥ ⊥ (WithAnswer A f line g (CutsBy contents old pending new)) (A.stops f line g × SendsBy contents old pending new later [])
 
 -- the same of the last line, where there is one
-abbrev pub FailsLast : {F D : Type 0} → AnsweringOf F → F → F → List ℕ → (D → Option (List ℕ)) → Counted D → Vec ℕ → Counted D → Vec ℕ → ServeFault → Type 0
+abbrev pub FailsLast : {F D : Type 0} → AnsweringOf F → F → F → Vec ℕ → (D → Option (List ℕ)) → Counted D → Vec ℕ → Counted D → Vec ℕ → ServeFault → Type 0
 FailsLast A f g last contents old pending new later fault =
-    AtFault fault ⊥ ⊥ (WithAnswers A f (last_of last) g (CutsBy contents old pending new)) ((last ≢ []) × A.stops f last g × SendsBy contents old pending new later [])
+    AtFault fault ⊥ ⊥ (WithAnswers A f (last_of last.items) g (CutsBy contents old pending new)) ((last.items ≢ []) × A.stops f last.items g × SendsBy contents old pending new later [])
 
 -- the line that was held with its end isn't too long, its answer was sent, and nothing is held
-abbrev pub Finishes : {F : Type 0} → AnsweringOf F → F → F → Vec ℕ → List ℕ → Vec ℕ → (List ℕ → Type 0) → Type 0
-Finishes A f g held end left Sent = (left.items ≡ []) × (length (held.items ++ end) ≤ limit) × WithAnswer A f (held.items ++ end) g Sent
+abbrev pub Ends : {F D : Type 0} → AnsweringOf F → F → F → Vec ℕ → List ℕ → Vec ℕ → (D → Option (List ℕ)) → Counted D → Vec ℕ → Counted D → Vec ℕ → Type 0
+Ends A f g held end left contents old pending new later =
+    (left.items ≡ []) × (length (held.items ++ end) ≤ limit) × WithAnswer A f (held.items ++ end) g (SendsBy contents old pending new later)
 
--- the line is too long, or its answer wasn't sent; where memory ran out it may not have been asked for
-abbrev pub FailsLine : {F D : Type 0} → AnsweringOf F → F → F → List ℕ → (D → Option (List ℕ)) → Counted D → Vec ℕ → Counted D → Vec ℕ → ServeFault → Type 0
-FailsLine A f g line contents old pending new later fault = AtFault fault
-    ((g ≡ f) × SendsBy contents old pending new later [] × (limit < length line))
+-- that line is too long, or its answer wasn't sent; where memory ran out it may not have been asked for
+abbrev pub FailsLine : {F D : Type 0} → AnsweringOf F → F → F → Vec ℕ → List ℕ → (D → Option (List ℕ)) → Counted D → Vec ℕ → Counted D → Vec ℕ → ServeFault → Type 0
+FailsLine A f g held end contents old pending new later fault = AtFault fault
+    ((g ≡ f) × SendsBy contents old pending new later [] × (limit < length (held.items ++ end)))
     ⊥
-    ((length line ≤ limit) × WithAnswer A f line g (CutsBy contents old pending new))
-    ((length line ≤ limit) × ((g ≡ f) ⊎ A.stops f line g) × SendsBy contents old pending new later [])
+    ((length (held.items ++ end) ≤ limit) × WithAnswer A f (held.items ++ end) g (CutsBy contents old pending new))
+    ((length (held.items ++ end) ≤ limit) × ((g ≡ f) ⊎ A.stops f (held.items ++ end) g) × SendsBy contents old pending new later [])
 
 -- of what was held and the block this many lines end, their answers were sent, and the rest is held
-abbrev pub Feeds : {F : Type 0} → AnsweringOf F → F → F → Vec ℕ → List ℕ → Vec ℕ → (List ℕ → Type 0) → ℕ → Type 0
-Feeds A f g held block left Sent n = (lines : List (List ℕ)) × Splits (held.items ++ block) lines left.items × (n ≡ length lines) × WithAnswers A f lines g Sent
+abbrev pub Feeds : {F D : Type 0} → AnsweringOf F → F → F → Vec ℕ → List ℕ → Vec ℕ → (D → Option (List ℕ)) → Counted D → Vec ℕ → Counted D → Vec ℕ → ℕ → Type 0
+Feeds A f g held block left contents old pending new later n =
+    (lines : List (List ℕ)) × Splits (held.items ++ block) lines left.items × (n ≡ length lines) × WithAnswers A f lines g (SendsBy contents old pending new later)
 
--- a fault among the lines of a text, which isn't the reader's
-abbrev pub StopsFeeding : {F D : Type 0} → AnsweringOf F → F → F → List ℕ → (D → Option (List ℕ)) → Counted D → Vec ℕ → Counted D → Vec ℕ → ServeFault → Type 0
-StopsFeeding A f g text contents old pending new later = Stopped A f g text (SendsBy contents old pending new later) (CutsBy contents old pending new) (λ _. ⊥) ⊥
+-- a fault among the lines of what was held and the block, which isn't the reader's
+abbrev pub StopsFeeding : {F D : Type 0} → AnsweringOf F → F → F → Vec ℕ → List ℕ → (D → Option (List ℕ)) → Counted D → Vec ℕ → Counted D → Vec ℕ → ServeFault → Type 0
+StopsFeeding A f g held block contents old pending new later =
+    Stopped A f g (held.items ++ block) (SendsBy contents old pending new later) (CutsBy contents old pending new) (λ _. ⊥) ⊥
 
--- these lines were answered, and n are they and those before
-abbrev pub Totals : {F : Type 0} → AnsweringOf F → F → F → List (List ℕ) → (List ℕ → Type 0) → ℕ → ℕ → Type 0
-Totals A f g lines Sent before n = (n ≡ before + length lines) × WithAnswers A f lines g Sent
+-- the last line was answered, where there is one, and n are it and the lines before
+abbrev pub EndsAll : {F D : Type 0} → AnsweringOf F → F → F → Vec ℕ → ℕ → (D → Option (List ℕ)) → Counted D → Vec ℕ → Counted D → Vec ℕ → ℕ → Type 0
+EndsAll A f g last before contents old pending new later n =
+    (n ≡ before + length (last_of last.items)) × WithAnswers A f (last_of last.items) g (SendsBy contents old pending new later)
 
 -- ---- the whole, from a counted reader to a counted writer
 
@@ -122,9 +126,12 @@ ReadsAll A f g d Sent n = (text : List ℕ) × Consumes d.unread d.rest text × 
 abbrev pub StopsAt : {F : Type 0} → AnsweringOf F → F → F → DevicesOf → (List ℕ → Type 0) → ServeFault → Type 0
 StopsAt A f g d Sent fault = (text : List ℕ) × Consumes d.unread d.rest text × Fails A f g text Sent (IsCut d.old d.new) d.rest fault
 
--- what was to be written went out, or is pending later
-abbrev pub SendsLater : DevicesOf → Vec ℕ → List ℕ → Type 0
-SendsLater d later = Sends d.old [] d.new later.items
+-- both, where what was to be written went out, or is pending later
+abbrev pub ServesLater : {F : Type 0} → AnsweringOf F → F → F → Vec ℕ → DevicesOf → ℕ → Type 0
+ServesLater A f g later d = ReadsAll A f g d (Sends d.old [] d.new later.items)
+
+abbrev pub StopsLater : {F : Type 0} → AnsweringOf F → F → F → Vec ℕ → DevicesOf → ServeFault → Type 0
+StopsLater A f g later d = StopsAt A f g d (Sends d.old [] d.new later.items)
 
 -- all of the input was read, and what was written is the output of its lines; there were so many
 abbrev pub ServesAll : {F : Type 0} → AnsweringOf F → F → F → DevicesOf → ℕ → Type 0

@@ -1,11 +1,10 @@
 //! Lines out of the blocks that are read.
 
 ghost use Rattle.std.specs.Prelude.{◌≡◌, ◌++◌, ◌<◌, ◌≤◌, ◌+◌, ◌-◌, ◌^◌, length, OnOk, IfOk, IfErr};
-ghost use Rattle.line_serving.specs.Answering.{answering_by};
+ghost use Rattle.line_serving.specs.Answering.{by_calls};
 ghost use Rattle.line_serving.specs.Devices.{counts_of};
-ghost use Rattle.line_serving.specs.Lines.{limit, IsLine, last_of};
-ghost use Rattle.line_serving.specs.Output.{SendsBy};
-ghost use Rattle.line_serving.specs.Serving.{block_size, Finishes, FailsLine, Feeds, StopsFeeding, Totals, FailsLast, WriterCounts};
+ghost use Rattle.line_serving.specs.Lines.{limit, IsLine};
+ghost use Rattle.line_serving.specs.Serving.{block_size, Ends, EndsAll, FailsLast, FailsLine, Feeds, StopsFeeding, WriterCounts};
 
 use crate::device::Counted;
 use crate::fault::{NoMemory, ServeFault};
@@ -26,9 +25,9 @@ fn finish_line<F: FnMut(&[u8]) -> Result<String, NoMemory>, W: Write>(
 ) -> Result<(), ServeFault>
     requires callable { F.IsAlwaysCallable answer.old }
     requires held { length held.old.items ≤ limit }
-    ensures ok { OnOk result (Finishes (answering_by F.FnMut) answer.old answer.new held.old line.now held.new
-        (SendsBy W.contents writer.old pending.old writer.new pending.new)) }
-    ensures err { IfErr result (FailsLine (answering_by F.FnMut) answer.old answer.new (held.old.items ++ line.now)
+    ensures ok { OnOk result (Ends (by_calls F.FnMut) answer.old answer.new held.old line.now held.new
+        W.contents writer.old pending.old writer.new pending.new) }
+    ensures err { IfErr result (FailsLine (by_calls F.FnMut) answer.old answer.new held.old line.now
         W.contents writer.old pending.old writer.new pending.new) }
     ensures faults { WriterCounts (counts_of writer.old) (counts_of writer.new) result }
     ensures callable { F.IsAlwaysCallable answer.new }
@@ -65,11 +64,11 @@ pub fn feed<F: FnMut(&[u8]) -> Result<String, NoMemory>, W: Write>(
     requires callable { F.IsAlwaysCallable answer.old }
     requires held { IsLine held.old.items }
     requires few { length block.now ≤ block_size }
-    ensures ok { IfOk result (Feeds (answering_by F.FnMut) answer.old answer.new held.old block.now held.new
-        (SendsBy W.contents writer.old pending.old writer.new pending.new)) }
+    ensures ok { IfOk result (Feeds (by_calls F.FnMut) answer.old answer.new held.old block.now held.new
+        W.contents writer.old pending.old writer.new pending.new) }
     ensures held { OnOk result (IsLine held.new.items) }
     ensures count { IfOk result (λ n. n ≤ length block.now) }
-    ensures err { IfErr result (StopsFeeding (answering_by F.FnMut) answer.old answer.new (held.old.items ++ block.now)
+    ensures err { IfErr result (StopsFeeding (by_calls F.FnMut) answer.old answer.new held.old block.now
         W.contents writer.old pending.old writer.new pending.new) }
     ensures faults { WriterCounts (counts_of writer.old) (counts_of writer.new) result }
     ensures callable { F.IsAlwaysCallable answer.new }
@@ -105,9 +104,9 @@ pub fn finish<F: FnMut(&[u8]) -> Result<String, NoMemory>, W: Write>(
 ) -> Result<u64, ServeFault>
     requires callable { F.IsAlwaysCallable answer.old }
     requires count { count < 2 ^ 63 }
-    ensures ok { IfOk result (Totals (answering_by F.FnMut) answer.old answer.new (last_of held.now.items)
-        (SendsBy W.contents writer.old pending.old writer.new pending.new) count) }
-    ensures err { IfErr result (FailsLast (answering_by F.FnMut) answer.old answer.new held.now.items
+    ensures ok { IfOk result (EndsAll (by_calls F.FnMut) answer.old answer.new held.now count
+        W.contents writer.old pending.old writer.new pending.new) }
+    ensures err { IfErr result (FailsLast (by_calls F.FnMut) answer.old answer.new held.now
         W.contents writer.old pending.old writer.new pending.new) }
     ensures faults { WriterCounts (counts_of writer.old) (counts_of writer.new) result }
 {

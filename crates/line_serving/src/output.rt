@@ -2,10 +2,10 @@
 
 ghost use Rattle.std.specs.Prelude.{◌≡◌, ℕ, List, [], ◌∷◌, ◌++◌, ◌<◌, ◌+◌, OnOk, OnErr, IfOk, IfErr, string_bytes, true, false, if◌then◌else◌};
 ghost use Rattle.std.specs.Io.KnownBytes.{Appends};
-ghost use Rattle.line_serving.specs.Answering.{WithAnswer, answering_by};
+ghost use Rattle.line_serving.specs.Answering.{WithAnswer, by_calls};
 ghost use Rattle.line_serving.specs.Devices.{device_of, counts_of, CountsFaults, IsStuck};
 ghost use Rattle.line_serving.specs.Lines.{ended};
-ghost use Rattle.line_serving.specs.Output.{Sends, SendsBy, IsCut};
+ghost use Rattle.line_serving.specs.Output.{SendsBy, CutsBy, IsCut};
 ghost use Rattle.line_serving.specs.Serving.{FailsAnswer, WriterCounts};
 
 use crate::device::{Counted, DeviceFault};
@@ -44,8 +44,8 @@ fn put<W: Write>(
     pending: &mut Vec<u8>,
     text: &[u8],
 ) -> Result<(), DeviceFault>
-    ensures ok { OnOk result (Sends (W.contents (device_of writer.old)) pending.old.items (W.contents (device_of writer.new)) pending.new.items text.now) }
-    ensures err { OnErr result (IsCut (W.contents (device_of writer.old)) (W.contents (device_of writer.new)) (pending.old.items ++ text.now)) }
+    ensures ok { OnOk result (SendsBy W.contents writer.old pending.old writer.new pending.new text.now) }
+    ensures err { OnErr result (CutsBy W.contents writer.old pending.old writer.new text.now) }
     ensures faults { CountsFaults IsStuck (counts_of writer.old) (counts_of writer.new) result }
 {
     if keep(pending, text) {
@@ -66,8 +66,8 @@ fn put_line<W: Write>(
     pending: &mut Vec<u8>,
     text: &[u8],
 ) -> Result<(), DeviceFault>
-    ensures ok { OnOk result (Sends (W.contents (device_of writer.old)) pending.old.items (W.contents (device_of writer.new)) pending.new.items (ended text.now)) }
-    ensures err { OnErr result (IsCut (W.contents (device_of writer.old)) (W.contents (device_of writer.new)) (pending.old.items ++ ended text.now)) }
+    ensures ok { OnOk result (SendsBy W.contents writer.old pending.old writer.new pending.new (ended text.now)) }
+    ensures err { OnErr result (CutsBy W.contents writer.old pending.old writer.new (ended text.now)) }
     ensures faults { CountsFaults IsStuck (counts_of writer.old) (counts_of writer.new) result }
 {
     match put(writer, pending, text) {
@@ -91,9 +91,9 @@ pub fn answer_line<F: FnMut(&[u8]) -> Result<String, NoMemory>, W: Write>(
     line: &[u8],
 ) -> Result<(), ServeFault>
     requires { F.IsAlwaysCallable answer.old }
-    ensures ok { OnOk result (WithAnswer (answering_by F.FnMut) answer.old line.now answer.new
+    ensures ok { OnOk result (WithAnswer (by_calls F.FnMut) answer.old line.now answer.new
         (SendsBy W.contents writer.old pending.old writer.new pending.new)) }
-    ensures err { IfErr result (FailsAnswer (answering_by F.FnMut) answer.old answer.new line.now
+    ensures err { IfErr result (FailsAnswer (by_calls F.FnMut) answer.old answer.new line.now
         W.contents writer.old pending.old writer.new pending.new) }
     ensures faults { WriterCounts (counts_of writer.old) (counts_of writer.new) result }
     ensures callable { F.IsAlwaysCallable answer.new }

@@ -1,11 +1,12 @@
 //! Serving: each line is answered by a line.
 
-ghost use Rattle.std.specs.Prelude.{◌≡◌, [], ◌++◌, ◌<◌, ◌≤◌, ◌+◌, ◌^◌, length, OnOk, IfOk, IfErr, vec_len};
-ghost use Rattle.line_serving.specs.Answering.{answering_by};
-ghost use Rattle.line_serving.specs.Devices.{counts_of, devices};
-ghost use Rattle.line_serving.specs.Serving.{ReadsAll, StopsAt, SendsLater, ServesAll, StopsServing, ReaderCounts, WriterCounts, IsBounded, HasGrown, Serves};
+ghost use Rattle.std.specs.Prelude.{◌≡◌, [], ◌++◌, ◌<◌, ◌≤◌, ◌+◌, ◌^◌, length, OnErr, OnOk, IfOk, IfErr, vec_len};
+ghost use Rattle.std.specs.Io.KnownBytes.{ReadConsumes};
+ghost use Rattle.line_serving.specs.Answering.{by_calls};
+ghost use Rattle.line_serving.specs.Devices.{counts_of, device_of, devices, CountsFaults, CountsNone, CountsRead, IsReadOut};
+ghost use Rattle.line_serving.specs.Serving.{ServesLater, StopsLater, ServesAll, StopsServing, ReaderCounts, WriterCounts, IsBounded, HasGrown, Serves};
 
-use crate::device::Counted;
+use crate::device::{Counted, DeviceFault};
 use crate::fault::{NoMemory, ServeFault};
 use crate::feed::{feed, finish};
 use crate::output::{close, send};
@@ -22,8 +23,24 @@ fn new_block(alloc: Global) -> Result<Vec<u8>, NoMemory>
     Ok(vec![in alloc; 0u8; BLOCK]?)
 }
 
-// Reads to the end, and answers each line. Pending answers are written before each further read, so that a client at a pipe
-// sees an answer before it asks again; at the end some may still be pending.
+// Reads a block once nothing is pending, so that a client at a pipe sees its answers before it is asked for more.
+fn read_block<R: Read>(
+    reader: &mut Counted<R>,
+    pending: &Vec<u8>,
+    block: &mut [u8],
+) -> Result<usize, DeviceFault>
+    requires { pending.now.items ≡ [] }
+    ensures bytes { ReadConsumes (R.remaining (device_of reader.old)) (R.remaining (device_of reader.new)) result block.new }
+    ensures within { IfOk result (λ n. n ≤ length block.new) }
+    ensures faults { CountsFaults IsReadOut (counts_of reader.old) (counts_of reader.new) result }
+    ensures ok { IfOk result (CountsRead reader.old reader.new) }
+    ensures err { OnErr result (CountsNone reader.old reader.new) }
+{
+    reader.read(block)
+}
+
+// Reads to the end, and answers each line. Pending answers are written before each further read; at the end some may still be
+// pending.
 fn serve_lines<F: FnMut(&[u8]) -> Result<String, NoMemory>, R: Read, W: Write>(
     alloc: Global,
     answer: &mut F,
@@ -35,10 +52,10 @@ fn serve_lines<F: FnMut(&[u8]) -> Result<String, NoMemory>, R: Read, W: Write>(
     requires callable { F.IsAlwaysCallable answer.old }
     requires nothing { pending.old.items ≡ [] }
     requires room { length block.old ≡ 65536 }
-    ensures ok { let d = devices R.remaining W.contents reader.old reader.new writer.old writer.new in
-        IfOk result (ReadsAll (answering_by F.FnMut) answer.old answer.new d (SendsLater d pending.new)) }
-    ensures err { let d = devices R.remaining W.contents reader.old reader.new writer.old writer.new in
-        IfErr result (StopsAt (answering_by F.FnMut) answer.old answer.new d (SendsLater d pending.new)) }
+    ensures ok { IfOk result (ServesLater (by_calls F.FnMut) answer.old answer.new pending.new
+        (devices R.remaining W.contents reader.old reader.new writer.old writer.new)) }
+    ensures err { IfErr result (StopsLater (by_calls F.FnMut) answer.old answer.new pending.new
+        (devices R.remaining W.contents reader.old reader.new writer.old writer.new)) }
     ensures reader { ReaderCounts (counts_of reader.old) (counts_of reader.new) result }
     ensures writer { WriterCounts (counts_of writer.old) (counts_of writer.new) result }
     ensures bounded { OnOk result (IsBounded (counts_of reader.new)) }
@@ -47,7 +64,7 @@ fn serve_lines<F: FnMut(&[u8]) -> Result<String, NoMemory>, R: Read, W: Write>(
     let mut held = Vec::new(alloc);
     let mut count = 0u64;
     loop {
-        let n = match reader.read(block) {
+        let n = match read_block(reader, pending, block) {
             Ok(n) => n,
             Err(_) => return Err(ServeFault::ReadFault),
         };
@@ -78,10 +95,10 @@ fn serve_blocks<F: FnMut(&[u8]) -> Result<String, NoMemory>, R: Read, W: Write>(
 ) -> Result<u64, ServeFault>
     requires callable { F.IsAlwaysCallable answer.old }
     requires nothing { pending.old.items ≡ [] }
-    ensures ok { let d = devices R.remaining W.contents reader.old reader.new writer.old writer.new in
-        IfOk result (ReadsAll (answering_by F.FnMut) answer.old answer.new d (SendsLater d pending.new)) }
-    ensures err { let d = devices R.remaining W.contents reader.old reader.new writer.old writer.new in
-        IfErr result (StopsAt (answering_by F.FnMut) answer.old answer.new d (SendsLater d pending.new)) }
+    ensures ok { IfOk result (ServesLater (by_calls F.FnMut) answer.old answer.new pending.new
+        (devices R.remaining W.contents reader.old reader.new writer.old writer.new)) }
+    ensures err { IfErr result (StopsLater (by_calls F.FnMut) answer.old answer.new pending.new
+        (devices R.remaining W.contents reader.old reader.new writer.old writer.new)) }
     ensures reader { ReaderCounts (counts_of reader.old) (counts_of reader.new) result }
     ensures writer { WriterCounts (counts_of writer.old) (counts_of writer.new) result }
     ensures bounded { OnOk result (IsBounded (counts_of reader.new)) }
@@ -105,9 +122,9 @@ fn serve_all<F: FnMut(&[u8]) -> Result<String, NoMemory>, R: Read, W: Write>(
     writer: &mut Counted<W>,
 ) -> Result<u64, ServeFault>
     requires { F.IsAlwaysCallable answer.old }
-    ensures ok { IfOk result (ServesAll (answering_by F.FnMut) answer.old answer.new
+    ensures ok { IfOk result (ServesAll (by_calls F.FnMut) answer.old answer.new
         (devices R.remaining W.contents reader.old reader.new writer.old writer.new)) }
-    ensures err { IfErr result (StopsServing (answering_by F.FnMut) answer.old answer.new
+    ensures err { IfErr result (StopsServing (by_calls F.FnMut) answer.old answer.new
         (devices R.remaining W.contents reader.old reader.new writer.old writer.new)) }
     ensures reader { ReaderCounts (counts_of reader.old) (counts_of reader.new) result }
     ensures writer { WriterCounts (counts_of writer.old) (counts_of writer.new) result }
@@ -153,7 +170,7 @@ pub fn serve<F: FnMut(&[u8]) -> Result<String, NoMemory>, R: Read, W: Write>(
     answer: &mut F,
 ) -> Result<u64, ServeFault>
     requires { F.IsAlwaysCallable answer.old }
-    ensures { Serves (answering_by F.FnMut) answer.old answer.new
+    ensures { Serves (by_calls F.FnMut) answer.old answer.new
         (devices R.remaining W.contents reader.old reader.new writer.old writer.new) result }
 {
     serve_all(alloc, answer, reader, writer)

@@ -1,7 +1,7 @@
 use Rattle.std.proofs.Common.{subst, ◌≡◌, ◌≢◌, ℕ, List, [], ◌∷◌, ◌++◌, length, inl, refl, sym, ap, ◌∙◌, append-nil, arith, length-append}
 use Rattle.std.specs.List.{flat_map}
 use Rattle.std.proofs.lemmas.List.Elements.{All-nil, All-append, All-push}
-use Rattle.line_serving.specs.Answering.{answering_by}
+use Rattle.line_serving.specs.Answering.{by_calls}
 use Rattle.line_serving.specs.Devices.{device_of}
 use Rattle.line_serving.specs.Lines.{IsLine, ended, line_feed}
 use Rattle.line_serving.proofs.Known.{sends_none, sends_trans, steady_same, steady_trans}
@@ -28,14 +28,14 @@ loop-line-preserved g c =
       answered = (
         lines ++ line ∷ [],
         inv.answered.1 ++ ended done.2.0,
-        one_more _ _ _ c.in-Some.after.now _ lines cut.0 inv.answered.2 ∙ ap (λ l. flat_map ended (lines ++ line ∷ []) ++ (l ++ c.in-Some.after.now)) (sym done.0),
+        one_more _ _ _ c.in-Some.after.now _ lines cut.0 inv.answered.2 ∙ ap (λ l. flat_map ended (lines ++ line ∷ []) ++ (l ++ c.in-Some.after.now)) (sym {A = List ℕ} done.0),
         All-push IsLine lines line inv.answered.3 (is_line _ _ inv.held cut.1 done.1),
         count_more _ lines line inv.answered.4,
-        are_more (answering_by g.F.FnMut) _ c.loop-line.answer _ lines line inv.answered.1 done.2.0 inv.answered.5 done.2.1,
+        are_more (by_calls g.F.FnMut) _ c.loop-line.answer _ lines line inv.answered.1 done.2.0 inv.answered.5 done.2.1,
         sends_trans _ (g.W.Write.contents (device_of c.loop-line.writer)) _ _ c.loop-line.pending.items _ inv.answered.1 (ended done.2.0) inv.answered.6 done.2.2,
       );
       callable = c.in-Ok.ensures.callable;
-      held = subst IsLine (sym done.0) no_line;
+      held = subst IsLine (sym {A = List ℕ} done.0) no_line;
       count = (let e : length c.loop-line.rest.now ≡ length (c.in-Some.line.now ++ line_feed ∷ c.in-Some.after.now) = ap length cut.0 in omega (arith, length-append c.in-Some.line.now (line_feed ∷ c.in-Some.after.now), e, inv.count));
       steady = steady_trans inv.steady c.in-Ok.ensures.faults;
     }
@@ -44,8 +44,8 @@ pub returns-in-Err-clause-err : goal.returns-in-Err-clause-err
 returns-in-Err-clause-err g c =
     let inv = c.loop-line.invariant in
     let cut = c.in-Some.ensures in
-    stopped_at (answering_by g.F.FnMut) c.in-Err.fault _ c.loop-line.answer _ _ (g.W.Write.contents (device_of c.loop-line.writer)) _ _ c.loop-line.pending.items _ _ _ _ _ _ inv.answered.1 inv.answered.0 _ _
-        (omega (arith, inv.count, c.requires.few)) cut.0 inv.answered.2 inv.answered.3 inv.held cut.1 inv.answered.5 inv.answered.6 c.in-Err.ensures.err
+    stopped_at (by_calls g.F.FnMut) c.in-Err.fault _ c.loop-line.answer _ _ (g.W.Write.contents (device_of c.loop-line.writer)) _ _ c.loop-line.pending.items _ _ _ _ _ _ inv.answered.1 inv.answered.0 _ _
+    (omega (arith, inv.count, c.requires.few)) cut.0 inv.answered.2 inv.answered.3 inv.held cut.1 inv.answered.5 inv.answered.6 c.in-Err.ensures.err
 
 pub returns-then-rest-len-clause-err : goal.returns-then-rest-len-clause-err
 returns-then-rest-len-clause-err g c =

@@ -1,6 +1,6 @@
 use Rattle.std.proofs.Common.{◌≡◌, ℕ, ◌+◌, ◌≤◌, List, ◌++◌, length}
 use Rattle.std.specs.List.{All, flat_map}
-use Rattle.line_serving.specs.Answering.{AreAnswers, answering_by}
+use Rattle.line_serving.specs.Answering.{AreAnswers, by_calls}
 use Rattle.line_serving.specs.Devices.{counts_of, device_of, IsSteady}
 use Rattle.line_serving.specs.Lines.{IsLine, ended}
 use Rattle.line_serving.specs.Output.{Sends}
@@ -9,7 +9,7 @@ use Rattle.line_serving.proofs.feed.feed.Given as goal
 abbrev pub invariant-loop-line : goal.invariant-loop-line
 invariant-loop-line g l = record {
   answered : (lines : List (List ℕ)) × (out : List ℕ) × (l.initial.held.items ++ l.block ≡ flat_map ended lines ++ (l.held.items ++ l.rest)) × All IsLine lines × (l.count ≡ length lines)
-      × AreAnswers (answering_by g.F.FnMut) l.initial.answer lines out l.answer
+      × AreAnswers (by_calls g.F.FnMut) l.initial.answer lines out l.answer
       × Sends (g.W.Write.contents (device_of l.initial.writer)) l.initial.pending.items (g.W.Write.contents (device_of l.writer)) l.pending.items out;
   callable : goal.F-IsAlwaysCallable g l.answer;
   held : IsLine l.held.items;

@@ -1,4 +1,3 @@
-use Rattle.std.proofs.Common.{◌∙◌}
 use Rattle.line_serving.proofs.Known.{appends_trans, wrote_more, steady_trans}
 use Rattle.line_serving.proofs.device.Counted.write_whole.Goals as goal
 
