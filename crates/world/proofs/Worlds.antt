@@ -15,7 +15,7 @@ use Rattle.world.specs.declared.fault.WorldFault.{WorldFault}
 use Rattle.world.specs.declared.fault.WorldFault.TheVariants as world
 use Rattle.world.specs.Faults.{lifted}
 use Rattle.world.specs.Sources.{TableOf, names_of, sheet_named, sources_for, IsRefused, IsRefusedTables}
-use Rattle.world.specs.Worlds.{WorldOf, IsLimit, IsSame, IsWorldOf, LacksTables, IsWorld, IsRefusedOver, IsRefusal, MakesWorld, server_of}
+use Rattle.world.specs.Worlds.{WorldOf, IsLimit, IsWorldOf, LacksTables, IsWorld, IsRefusal, MakesWorld, server_of}
 
 abbrev answered : List SourceOf → Result (List SourceOf) WorldFault
 answered ss = Ok ss
