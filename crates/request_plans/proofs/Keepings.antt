@@ -1,10 +1,10 @@
 -- What is kept, and what one text more changes.
-use Rattle.std.proofs.Common.{◌≡◌, ◌∙◌, refl, sym, ap, subst, ℕ, suc, ◌+◌, ◌<◌, ◌≤◌, Bool, true, false, List, [], ◌∷◌, length, map, get_or, slice_get, All, Contains, Option, Some, None, is_some, bytes_eq, string_bytes, string_eq, sum_by, arith, IsPermutation}
+use Rattle.std.proofs.Common.{◌≡◌, ◌∙◌, refl, sym, ap, subst, ℕ, suc, ◌+◌, ◌<◌, ◌≤◌, Bool, true, List, [], ◌∷◌, length, get_or, slice_get, All, Contains, Option, Some, None, is_some, bytes_eq, string_bytes, arith}
 use Rattle.std.specs.Map.{lookup}
 use Rattle.std.specs.declared.string.String.{String}
 use Rattle.std.specs.declared.alloc.Global.{Global}
-use Rattle.std.proofs.lemmas.List.Elements.{All-nil, All-cons, Contains-get_or}
-use Rattle.std.proofs.lemmas.List.Sorted.{IsPermutation-map, All-permutation, Contains-permutation, length_permutation, sum_by-IsPermutation, sum_by_pushed}
+use Rattle.std.proofs.lemmas.List.Elements.{All-nil, All-cons}
+use Rattle.std.proofs.lemmas.List.Sorted.{IsPermutation-map, All-permutation, Contains-permutation, length_permutation, sum_by_pushed}
 use Rattle.std.proofs.lemmas.Map.Entries.{place_from_lookup}
 use Rattle.std.proofs.lemmas.Option.{slice_get_within, get_or_from_slice_get}
 use Rattle.std.proofs.lemmas.List.{get_or-map, length-map}
@@ -16,7 +16,7 @@ use Rattle.schema_syntax.specs.declared.tree.Definition as rust
 use Rattle.gq_schema.specs.Types.{tree_of}
 use Rattle.gq_check.specs.Plans.{KeptParts, kept_document}
 use Rattle.gq_check.specs.Verdict.{IsValid}
-use Rattle.request_plans.specs.Keeping.{most_texts, most_bytes, longest, bytes_of, AreBounded, HasRoom, IsKept, Entry, texts_of, IsKeeping, MakesRoom, fits, emptied, Adds}
+use Rattle.request_plans.specs.Keeping.{most_texts, most_bytes, longest, bytes_of, HasRoom, IsKept, Entry, texts_of, IsKeeping, MakesRoom, fits, emptied, Adds}
 
 -- a query is found by its bytes
 abbrev pub is_query : List ℕ → String Global → Bool

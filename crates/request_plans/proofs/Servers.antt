@@ -1,6 +1,5 @@
 -- A server is the only one of its texts, and then there is no fault.
 use Rattle.std.proofs.Common.{◌≡◌, ◌∙◌, ℕ, List, sym, ap, refl, inl, inr}
-use Rattle.std.specs.Prelude.{Result, Ok, Err, IfOk, IfErr}
 use Rattle.schema_syntax.specs.Tree.{Definition}
 use Rattle.gq_schema.specs.Types.{tree_of}
 use Rattle.gq_schema.specs.Reading.{IsSchema, IsFaultOf}
@@ -9,7 +8,7 @@ use Rattle.gq_bindings.specs.Reading.{bindings_of, accepted, refused}
 use Rattle.gq_bindings.specs.Faults.{Refuses}
 use Rattle.gq_schema.specs.declared.fault.SchemaFault.{SchemaFault}
 use Rattle.gq_schema.specs.declared.fault.SchemaFault.TheVariants as schema
-use Rattle.request_plans.specs.Servers.{ServerOf, IsServer, RefusesBindings, IsServerFault, IsRefusedOver, IsSame, MakesServer}
+use Rattle.request_plans.specs.Servers.{ServerOf, IsServerFault}
 
 same_bindings : (a b : BindingsOf) → accepted a ≡ accepted b → a ≡ b
 same_bindings a b e = cc

@@ -9,7 +9,7 @@ use Rattle.request_line.specs.Requests.{RequestOf, IsRequest, IsNoRequest}
 use Rattle.request_plans.specs.declared.fault.RequestFault.{RequestFault}
 use Rattle.request_plans.specs.declared.plans.ArrayPlan.{ArrayPlan}
 use Rattle.request_plans.specs.declared.plans.RequestPlan.{RequestPlan}
-use Rattle.request_plans.specs.declared.plans.RequestPlan.TheVariants as request
+use Rattle.request_plans.specs.declared.plans.RequestPlan.TheVariants as request_plan
 use Rattle.request_plans.specs.Requests.{IsPlanOf, IsRequestFault, is_want_of_memory, request_message, request_place}
 use Rattle.request_plans.specs.Servers.{ServerOf}
 
@@ -50,8 +50,8 @@ pub record IsRefusal (s : ServerOf) (request : RequestOf) (text : List ℕ) : Ty
 
 -- a request is refused by this text, or has this plan
 abbrev pub PlansRequest : ServerOf → RequestOf → RequestPlan → Type 0
-PlansRequest s asked (request.Refused text) = IsRefusal s asked (string_bytes text)
-PlansRequest s asked (request.Planned plan) = IsPlanned s asked (plan_of plan)
+PlansRequest s asked (request_plan.Refused text) = IsRefusal s asked (string_bytes text)
+PlansRequest s asked (request_plan.Planned plan) = IsPlanned s asked (plan_of plan)
 
 -- ---- the values of an array
 
@@ -67,8 +67,8 @@ HasPlan s (Some request) plan = IsPlanned s request plan
 
 -- a value of an array is refused by this text, or has this plan
 abbrev pub PlansValue : ServerOf → Option RequestOf → RequestPlan → Type 0
-PlansValue s value (request.Refused text) = IsRefused s value (string_bytes text)
-PlansValue s value (request.Planned plan) = HasPlan s value (plan_of plan)
+PlansValue s value (request_plan.Refused text) = IsRefused s value (string_bytes text)
+PlansValue s value (request_plan.Planned plan) = HasPlan s value (plan_of plan)
 
 -- the refusals of values, each in its place
 abbrev pub refusals_of : ArrayPlan → List (Option (List ℕ))

@@ -1,5 +1,5 @@
 -- What the plan of a request is, and why there is none.
-use Rattle.std.specs.Prelude.{◌≡◌, ℕ, Bool, true, false, List, Option, Some, None, Ok, option_map, codes}
+use Rattle.std.specs.Prelude.{◌≡◌, ℕ, Bool, true, false, List, Option, None, Ok, option_map, codes}
 use Rattle.std.specs.Borrow.{Bor}
 use Rattle.text_place.specs.declared.place.Place.{Place}
 use Rattle.gq_lexer.specs.declared.fault.LexFault.{LexFault}

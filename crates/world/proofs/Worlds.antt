@@ -1,22 +1,21 @@
 -- A world is the only one of its texts and tables, and then there is no refusal.
-use Rattle.std.proofs.Common.{◌≡◌, ◌∙◌, ℕ, List, sym, ap, refl, Option}
+use Rattle.std.proofs.Common.{◌≡◌, ◌⊎◌, ◌∙◌, ℕ, List, sym, ap, refl, subst, inl, inr, Option}
 use Rattle.std.specs.Prelude.{Result, Ok, Err, IfOk, IfErr}
-use Rattle.schema_syntax.specs.Tree.{Definition}
-use Rattle.gq_schema.specs.Reading.{IsSchema}
+use Rattle.gq_schema.specs.Types.{tree_of}
+use Rattle.gq_schema.specs.Reading.{IsSchema, IsFaultOf}
 use Rattle.gq_bindings.specs.Tree.{BindingsOf}
-use Rattle.gq_bindings.specs.Reading.{bindings_of, accepted, refused}
-use Rattle.gq_bindings.specs.Faults.{Refuses}
+use Rattle.gq_bindings.specs.Reading.{bindings_of, accepted}
 use Rattle.gq_schema.specs.declared.fault.SchemaFault.{SchemaFault}
 use Rattle.gq_schema.specs.declared.fault.SchemaFault.TheVariants as schema
+use Rattle.csv_source.specs.Reading.{Repeats}
 use Rattle.csv_source.specs.Tables.{SourceOf}
+use Rattle.request_plans.specs.Servers.{ServerOf, IsServer, IsServerFault, MakesServer}
+use Rattle.request_plans.specs.Servers as servers
 use Rattle.world.specs.declared.fault.WorldFault.{WorldFault}
 use Rattle.world.specs.declared.fault.WorldFault.TheVariants as world
 use Rattle.world.specs.Faults.{lifted}
-use Rattle.world.specs.Sources.{TableOf, sheet_named, sources_for, IsRefused, IsRefusedTables}
-use Rattle.world.specs.Worlds.{WorldOf, IsLimit, IsSame, IsRead, IsWorldOver, IsWorld, IsRefusalOver, LacksSource, MakesWorld}
-
-same_bindings : (a b : BindingsOf) → accepted a ≡ accepted b → a ≡ b
-same_bindings a b e = cc
+use Rattle.world.specs.Sources.{TableOf, names_of, sheet_named, sources_for, IsRefused, IsRefusedTables}
+use Rattle.world.specs.Worlds.{WorldOf, IsLimit, IsWorldOf, LacksTables, IsWorld, IsRefusal, MakesWorld, server_of}
 
 abbrev answered : List SourceOf → Result (List SourceOf) WorldFault
 answered ss = Ok ss
@@ -24,87 +23,95 @@ answered ss = Ok ss
 same_sources : (a b : List SourceOf) → answered a ≡ answered b → a ≡ b
 same_sources a b e = cc
 
-module _ (defs : List Definition) (text : List ℕ) (tables : List TableOf) where
-  pub world-unique : (v w : WorldOf) → IsWorldOver defs text tables v → IsWorldOver defs text tables w → v.limit ≡ w.limit → IsSame v w
-  world-unique v w a b limit =
-      let bindings : v.bindings ≡ w.bindings = same_bindings v.bindings w.bindings (sym a.read.accepts ∙ b.read.accepts) in
-      record {
-        definitions = a.same ∙ sym b.same;
-        bindings = bindings;
-        limit = limit;
-        sources = same_sources v.sources w.sources (sym a.answered ∙ (ap (λ (s : BindingsOf). sources_for (sheet_named tables) s.loaders) bindings ∙ b.answered));
-      }
+-- ---- why loaders have no sources
 
-  lacking : (w : WorldOf) → IsWorldOver defs text tables w → (fault : WorldFault) → LacksSource defs text tables fault → ⊥
-  lacking w is fault (b, read, none) =
-      let bindings : b ≡ w.bindings = same_bindings b w.bindings (sym read.accepts ∙ is.read.accepts) in
-      let found : sources_for (sheet_named tables) b.loaders ≡ Ok w.sources = ap (λ (s : BindingsOf). sources_for (sheet_named tables) s.loaders) bindings ∙ is.answered in
-      cc
+-- the tables can't be found by their names
+pub from-tables : (b : BindingsOf) (tables : List TableOf) (fault : WorldFault) → IsRefusedTables tables fault → LacksTables b tables fault
+from-tables b tables world.BadLimit r = absurd r
+from-tables b tables (world.Schema fault) r = absurd r
+from-tables b tables world.DuplicateTable r = r
+from-tables b tables world.NoSuchTable r = absurd r
+from-tables b tables world.NoSuchColumn r = absurd r
+from-tables b tables world.NoMemory r = r
 
-  -- where there is a world, only memory can be wanting
-  pub refusal-none : (w : WorldOf) → IsWorldOver defs text tables w → (fault : WorldFault) → IsRefusalOver defs text tables fault → fault ≡ world.NoMemory
-  refusal-none w is world.BadLimit r = absurd r
-  refusal-none w is (world.Schema (schema.BadBinding line)) r = let e : refused line ≡ accepted w.bindings = sym r ∙ is.read.accepts in cc
-  refusal-none w is (world.Schema (schema.Syntax p)) r = absurd r
-  refusal-none w is (world.Schema (schema.Duplicate p)) r = absurd r
-  refusal-none w is (world.Schema (schema.UnknownType p)) r = absurd r
-  refusal-none w is (world.Schema (schema.BadImplements p)) r = absurd r
-  refusal-none w is (world.Schema schema.NoQueryRoot) r = absurd r
-  refusal-none w is (world.Schema (schema.ReservedName p)) r = absurd r
-  refusal-none w is (world.Schema (schema.NotServed p)) r = absurd r
-  refusal-none w is (world.Schema schema.NoMemory) r = absurd r
-  refusal-none w is (world.Schema (schema.BadKind p)) r = absurd r
-  refusal-none w is (world.Schema (schema.BadDefault p)) r = absurd r
-  refusal-none w is world.DuplicateTable r = absurd (is.read.once r.1)
-  refusal-none w is world.NoSuchTable r = absurd (lacking w is world.NoSuchTable r)
-  refusal-none w is world.NoSuchColumn r = absurd (lacking w is world.NoSuchColumn r)
-  refusal-none w is world.NoMemory r = refl
+-- a loader has no source in them
+pub from-loaders : (b : BindingsOf) (tables : List TableOf) → ¬ (Repeats (names_of tables)) → (fault : WorldFault) → IsRefused (sources_for (sheet_named tables) b.loaders) fault → LacksTables b tables fault
+from-loaders b tables once world.BadLimit r = absurd r
+from-loaders b tables once (world.Schema fault) r = absurd r
+from-loaders b tables once world.DuplicateTable r = absurd r
+from-loaders b tables once world.NoSuchTable r = (once, r)
+from-loaders b tables once world.NoSuchColumn r = (once, r)
+from-loaders b tables once world.NoMemory r = r
 
-  -- the bindings were refused
-  pub from-bindings : (fault : SchemaFault) → Refuses fault (bindings_of defs text) → IsRefusalOver defs text tables (lifted fault)
-  from-bindings (schema.BadBinding line) r = r
-  from-bindings (schema.Syntax p) r = absurd r
-  from-bindings (schema.Duplicate p) r = absurd r
-  from-bindings (schema.UnknownType p) r = absurd r
-  from-bindings (schema.BadImplements p) r = absurd r
-  from-bindings schema.NoQueryRoot r = absurd r
-  from-bindings (schema.ReservedName p) r = absurd r
-  from-bindings (schema.NotServed p) r = absurd r
-  from-bindings schema.NoMemory r = record {}
-  from-bindings (schema.BadKind p) r = absurd r
-  from-bindings (schema.BadDefault p) r = absurd r
+-- ---- the world of a server that texts say
 
-  -- the tables were
-  pub from-tables : (b : BindingsOf) → bindings_of defs text ≡ accepted b → (fault : WorldFault) → IsRefusedTables tables fault → IsRefusalOver defs text tables fault
-  from-tables b accepts world.BadLimit r = absurd r
-  from-tables b accepts (world.Schema fault) r = absurd r
-  from-tables b accepts world.DuplicateTable r = ((b, accepts), r)
-  from-tables b accepts world.NoSuchTable r = absurd r
-  from-tables b accepts world.NoSuchColumn r = absurd r
-  from-tables b accepts world.NoMemory r = r
+module _ (text bindings : List ℕ) (tables : List TableOf) (max : Option ℕ) where
+  pub made-world : (s : ServerOf) → IsLimit max → IsServer text bindings s → (r : Result WorldOf WorldFault) → IfOk r (IsWorldOf s max tables) → IfOk r (IsWorld text bindings tables max)
+  made-world s fits is (Ok w) of = record {
+    fits = fits;
+    limited = of.limited;
+    says = subst (λ (v : ServerOf). IsSchema text (tree_of v.definitions)) (sym of.server) is.says;
+    over = record {
+      same = refl;
+      read = record { accepts = subst (λ (v : ServerOf). bindings_of (tree_of v.definitions) bindings ≡ accepted v.bindings) (sym of.server) is.accepts; once = of.once };
+      answered = subst (λ (v : ServerOf). sources_for (sheet_named tables) v.bindings.loaders ≡ answered w.sources) (sym of.server) of.answered;
+    };
+  }
+  made-world s fits is (Err fault) of = of
 
-  -- a loader was
-  pub from-loaders : (b : BindingsOf) → IsRead defs text tables b → (fault : WorldFault) → IsRefused (sources_for (sheet_named tables) b.loaders) fault → IsRefusalOver defs text tables fault
-  from-loaders b read world.BadLimit r = absurd r
-  from-loaders b read (world.Schema fault) r = absurd r
-  from-loaders b read world.DuplicateTable r = absurd r
-  from-loaders b read world.NoSuchTable r = (b, read, r)
-  from-loaders b read world.NoSuchColumn r = (b, read, r)
-  from-loaders b read world.NoMemory r = r
+  -- the texts of a world say its server
+  pub is-server : (w : WorldOf) → IsWorld text bindings tables max w → IsServer text bindings (server_of w)
+  is-server w is = record { says = is.says; accepts = is.over.read.accepts }
 
-  -- over a schema, a world is made and no other
-  pub made-only : (max : Option ℕ) (r : Result WorldOf WorldFault) → IfOk r (IsWorldOver defs text tables) → IfOk r (λ v. v.limit ≡ max) → IfErr r (IsRefusalOver defs text tables)
-      → (w : WorldOf) → IsWorldOver defs text tables w → w.limit ≡ max → MakesWorld w r
-  made-only max (Ok v) over limit refusal w is fits = world-unique v w over is (limit ∙ sym fits)
-  made-only max (Err fault) over limit refusal w is fits = refusal-none w is fault refusal
+  module _ (s : ServerOf) (w : WorldOf) (is : IsWorld text bindings tables max w) (same : servers.IsSame s (server_of w)) where
+    found : sources_for (sheet_named tables) s.bindings.loaders ≡ answered w.sources
+    found = ap (λ (b : BindingsOf). sources_for (sheet_named tables) b.loaders) same.bindings ∙ is.over.answered
 
--- the world of a schema text
-pub made-world : (schema text : List ℕ) (tables : List TableOf) (max : Option ℕ) (defs : List Definition) → IsLimit max → IsSchema schema defs
-    → (r : Result WorldOf WorldFault) → IfOk r (IsWorldOver defs text tables) → IfOk r (λ v. v.limit ≡ max) → IfOk r (IsWorld schema text tables max)
-made-world schema text tables max defs fits says (Ok v) over limit = record {
-  fits = fits;
-  limited = limit;
-  says = rw over.same says;
-  over = rw over.same over;
-}
-made-world schema text tables max defs fits says (Err fault) over limit = over
+    -- where there is a world, only memory can be wanting
+    lacks-none : (fault : WorldFault) → LacksTables s.bindings tables fault → fault ≡ world.NoMemory
+    lacks-none world.BadLimit r = absurd r
+    lacks-none (world.Schema fault) r = absurd r
+    lacks-none world.DuplicateTable r = absurd (is.over.read.once r)
+    lacks-none world.NoSuchTable r = let e = sym r.1 ∙ found in cc
+    lacks-none world.NoSuchColumn r = let e = sym r.1 ∙ found in cc
+    lacks-none world.NoMemory r = refl
+
+    pub made-only : (r : Result WorldOf WorldFault) → IfOk r (IsWorldOf s max tables) → IfErr r (LacksTables s.bindings tables) → MakesWorld w r
+    made-only (Ok v) of refusal = record {
+      definitions = ap (λ (v : ServerOf). tree_of v.definitions) of.server ∙ same.definitions;
+      bindings = ap (λ (v : ServerOf). v.bindings) of.server ∙ same.bindings;
+      limit = of.limited ∙ sym is.limited;
+      sources = same_sources v.sources w.sources (sym of.answered ∙ found);
+    }
+    made-only (Err fault) of refusal = lacks-none fault refusal
+
+  -- where the texts say no server
+  raised : IsLimit max → (fault : SchemaFault) → IsFaultOf text fault ⊎ servers.IsRefusedOver text bindings fault → IsRefusal text bindings tables max (world.Schema fault)
+  raised fits fault (inl h) = inl (fits, h)
+  raised fits fault (inr h) = inr (record { fits = fits; defs = h.defs; says = h.says; refused = h.refused })
+
+  pub from-server : IsLimit max → (fault : SchemaFault) → IsServerFault text bindings fault → IsRefusal text bindings tables max (lifted fault)
+  from-server fits (schema.BadBinding line) r = raised fits (schema.BadBinding line) r
+  from-server fits (schema.Syntax p) r = raised fits (schema.Syntax p) r
+  from-server fits (schema.Duplicate p) r = raised fits (schema.Duplicate p) r
+  from-server fits (schema.UnknownType p) r = raised fits (schema.UnknownType p) r
+  from-server fits (schema.BadImplements p) r = raised fits (schema.BadImplements p) r
+  from-server fits schema.NoQueryRoot r = raised fits schema.NoQueryRoot r
+  from-server fits (schema.ReservedName p) r = raised fits (schema.ReservedName p) r
+  from-server fits (schema.NotServed p) r = raised fits (schema.NotServed p) r
+  from-server fits schema.NoMemory r = fits
+  from-server fits (schema.BadKind p) r = raised fits (schema.BadKind p) r
+  from-server fits (schema.BadDefault p) r = raised fits (schema.BadDefault p) r
+
+  -- nor have its loaders their sources
+  pub lacks-tables : (s : ServerOf) → IsLimit max → IsServer text bindings s → (fault : WorldFault) → LacksTables s.bindings tables fault → IsRefusal text bindings tables max fault
+  lacks-tables s fits is world.BadLimit r = absurd r
+  lacks-tables s fits is (world.Schema fault) r = absurd r
+  lacks-tables s fits is world.DuplicateTable r = record { fits = fits; defs = tree_of s.definitions; says = is.says; refused = ((s.bindings, is.accepts), r) }
+  lacks-tables s fits is world.NoSuchTable r = record { fits = fits; defs = tree_of s.definitions; says = is.says; refused = (s.bindings, record { accepts = is.accepts; once = r.0 }, r.1) }
+  lacks-tables s fits is world.NoSuchColumn r = record { fits = fits; defs = tree_of s.definitions; says = is.says; refused = (s.bindings, record { accepts = is.accepts; once = r.0 }, r.1) }
+  lacks-tables s fits is world.NoMemory r = fits
+
+  pub fault-world : (s : ServerOf) → IsLimit max → IsServer text bindings s → (r : Result WorldOf WorldFault) → IfErr r (LacksTables s.bindings tables) → IfErr r (IsRefusal text bindings tables max)
+  fault-world s fits is (Ok w) r = r
+  fault-world s fits is (Err fault) r = lacks-tables s fits is fault r
