@@ -1,8 +1,10 @@
 //! The lines of a client.
 
 use crate::directory::Directory;
-use server::{ClientSession, Item, Key, Request, Row, Runner};
+use server::{ClientSession, Item, Key, Request, Row, Workers};
 use std::alloc::Global;
+use std::sync::Wait;
+use std::thread::Threads;
 
 /// The number of the one loader.
 const PERSON_BY_ID: usize = 0;
@@ -51,9 +53,9 @@ fn log(alloc: Global, session: &ClientSession<'_, Directory>) -> anyhow::Result<
 }
 
 // The response to a query, and its rounds.
-fn answer<R: Runner<Directory>>(
+fn answer<R: Threads + Wait + Sync>(
     alloc: Global,
-    runner: &R,
+    workers: &Workers<'_, R>,
     session: &mut ClientSession<'_, Directory>,
     query: &str,
 ) -> anyhow::Result<String> {
@@ -62,14 +64,14 @@ fn answer<R: Runner<Directory>>(
         operation_name: None,
         variables: None,
     };
-    let answer = session.answer(runner, &request)?;
+    let answer = session.answer_with(workers, &request)?;
     Ok(format!(in alloc; "{} rounds: {}", answer.rounds, answer.text)?)
 }
 
 /// What a client reads for its line.
-pub fn reply<R: Runner<Directory>>(
+pub fn reply<R: Threads + Wait + Sync>(
     alloc: Global,
-    runner: &R,
+    workers: &Workers<'_, R>,
     session: &mut ClientSession<'_, Directory>,
     line: &str,
 ) -> anyhow::Result<String> {
@@ -84,6 +86,6 @@ pub fn reply<R: Runner<Directory>>(
         .and_then(|rest| rest.split_once(' '))
     {
         Some((id, name)) => prime(alloc, session, id, name),
-        None => answer(alloc, runner, session, line),
+        None => answer(alloc, workers, session, line),
     }
 }

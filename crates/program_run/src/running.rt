@@ -10,14 +10,14 @@ ghost use Rattle.world_answers.specs.Services.{service_of};
 
 use command_line::{End, LocatedStop, Stop, Words};
 use line_serving::{Counted, DeviceFault, ServeFault};
-use server::{InTurn, Runner, Workers, serve};
+use server::{Workers, serve, serve_with};
 use std::alloc::Global;
 use std::env;
 use std::io::{ErrorKind, Read, Write};
 use std::rt::{Env, Files};
 use std::sync::Wait;
 use std::thread::Threads;
-use world_answers::{Gate, Gated, NoGate, Service};
+use world_answers::{Gate, NoGate, Service};
 use world_files::{Folder, System, open_requests, open_world, sample_world};
 
 /// What `clap` says of words that are no text.
@@ -41,12 +41,11 @@ pub fn program_words<R: Env + AllocGlobal>(rt: &R) -> Result<Vec<String>, Stop>
     Ok(words.skip(1).collect(rt.alloc())?)
 }
 
-/// Serves the lines of a reader for a new client of a service; the runner runs the batches.
-fn serve_client<'w, G: Gate + Copy, U: Runner<Gated<'w, G>>, I: Read, W: Write>(
+/// Serves the lines of a reader for a new client of a service, on this thread.
+fn serve_in_turn<G: Gate + Copy, I: Read, W: Write>(
     alloc: Global,
-    service: &Service<'w>,
+    service: &Service<'_>,
     gate: G,
-    runner: &U,
     reader: &mut Counted<I>,
     writer: &mut Counted<W>,
 ) -> Stop
@@ -56,7 +55,28 @@ fn serve_client<'w, G: Gate + Copy, U: Runner<Gated<'w, G>>, I: Read, W: Write>(
         Ok(client) => client,
         Err(_) => return Stop::Serve(ServeFault::NoMemory),
     };
-    match serve(alloc, &mut client, runner, reader, writer) {
+    match serve(alloc, &mut client, reader, writer) {
+        Ok(_) => Stop::Served,
+        Err(fault) => Stop::Serve(fault),
+    }
+}
+
+/// Serves the lines of a reader for a new client of a service, by workers.
+fn serve_by_workers<R: Threads + Wait + AllocGlobal + Sync, G: Gate + Copy, I: Read, W: Write>(
+    rt: &R,
+    workers: &Workers<'_, R>,
+    service: &Service<'_>,
+    gate: G,
+    reader: &mut Counted<I>,
+    writer: &mut Counted<W>,
+) -> Stop
+    ensures { IsServed (service_of service.now) (devices I.remaining W.contents reader.old reader.new writer.old writer.new) result }
+{
+    let mut client = match service.client(rt.alloc(), gate) {
+        Ok(client) => client,
+        Err(_) => return Stop::Serve(ServeFault::NoMemory),
+    };
+    match serve_with(rt.alloc(), &mut client, workers, reader, writer) {
         Ok(_) => Stop::Served,
         Err(fault) => Stop::Serve(fault),
     }
@@ -75,10 +95,10 @@ fn serve_words<R: Threads + Wait + AllocGlobal + Sync, G: Gate + Copy, I: Read, 
         (devices I.remaining W.contents reader.old reader.new writer.old writer.new) result }
 {
     let Some(count) = workers else {
-        return serve_client(rt.alloc(), service, gate, &InTurn, reader, writer);
+        return serve_in_turn(rt.alloc(), service, gate, reader, writer);
     };
     match Workers::new(rt, count as usize) {
-        Ok(workers) => serve_client(rt.alloc(), service, gate, &workers, reader, writer),
+        Ok(workers) => serve_by_workers(rt, &workers, service, gate, reader, writer),
         Err(_) => Stop::Serve(ServeFault::BadCount),
     }
 }
@@ -98,7 +118,7 @@ fn run_sample<G: Gate + Copy, I: Read, W: Write>(
                 world: &world,
                 max_answer: None,
             };
-            serve_client(alloc, &service, gate, &InTurn, reader, writer)
+            serve_in_turn(alloc, &service, gate, reader, writer)
         }
         Err(fault) => Stop::from(fault),
     }

@@ -8,7 +8,7 @@ use anyhow::{Context, Result};
 use case_files::Question;
 use command_line::Stop;
 use line_serving::{Counted, ServeFault};
-use server::{InTurn, serve};
+use server::serve;
 use std::alloc::Global;
 use std::io::{self, Error, ErrorKind, Read, Write};
 use world_answers::{NoGate, Service};
@@ -49,7 +49,7 @@ pub fn stop_of<R: Read, W: Write>(
     let Ok(mut client) = service.client(alloc, NoGate) else {
         return Stop::Serve(ServeFault::NoMemory);
     };
-    match serve(alloc, &mut client, &InTurn, reader, writer) {
+    match serve(alloc, &mut client, reader, writer) {
         Ok(_) => Stop::Served,
         Err(fault) => Stop::Serve(fault),
     }

@@ -5,8 +5,6 @@ use Rattle.std.specs.Option.{option_map}
 use Rattle.std.proofs.lemmas.List.Elements.{All-nil, All-cons}
 use Rattle.gq_check.specs.Planned.{IsPlan}
 use Rattle.gq_check.specs.Plans.{PlanOf}
-use Rattle.gq_check.specs.Prepared.{prepared}
-use Rattle.gq_check.specs.Verdict.{IsValid}
 use Rattle.load_memory.specs.Keys.{KeyOf}
 use Rattle.load_memory.specs.Replies.{ReplyOf}
 use Rattle.load_queue.specs.Answers.{AnswerOf}
@@ -15,28 +13,13 @@ use Rattle.load_rounds.specs.SharedRounds.{ReportOf, AreShared, SharedHeadline, 
 use Rattle.load_rounds.specs.declared.answer.Answer.{Answer}
 use Rattle.request_line.specs.Requests.{RequestOf}
 use Rattle.request_plans.specs.Servers.{ServerOf}
-use Rattle.request_plans.specs.Planning.{values_of, IsPlanned, IsRefused, HasPlan, PlanValues}
-use Rattle.server.specs.Clients.{ClientOf, client_of}
+use Rattle.request_plans.specs.Planning.{HasPlan, PlanValues}
+use Rattle.request_plans.proofs.Requests.{planned-valid}
+use Rattle.server.specs.Clients.{ClientOf}
 use Rattle.server.specs.Plans.{requests_within}
 use Rattle.server.specs.Arrays.{PlaceOf, refused, answered, IsInPlace, text_in, plans_in, reports_in, in_places, array_text, AnswersArray}
 
--- one of the seen more
-pub taken-more : {X Y : Type 0} (f : X → Y) (xs : List X) (i : ℕ) (x : X) → i < length xs → x ≡ get_or xs i x → take (suc i) (map f xs) ≡ take i (map f xs) ++ f x ∷ []
-taken-more f [] i x lt is = absurd (omega arith)
-taken-more f (y ∷ ys) zero x lt is = ap (λ z. f z ∷ []) (sym is)
-taken-more f (y ∷ ys) (suc i) x lt is = ap (λ zs. f y ∷ zs) (taken-more f ys i x (omega (arith, lt)) is)
-
 -- ---- the plans are over the server's bindings, and of valid documents
-
-pub planned-valid : (s : ServerOf) (r : RequestOf) (p : PlanOf) → IsPlanned s r p → IsPlan p
-planned-valid s r p h = record {
-  document = h.planned.document;
-  valid = subst (λ ds. IsValid ds h.planned.document) (sym h.definitions) h.planned.valid;
-  same = h.planned.fragments;
-  name = r.operation_name;
-  given = values_of r.variables;
-  prepares = ap (λ ds. prepared ds h.planned.document.operations r.operation_name (values_of r.variables)) h.definitions ∙ h.planned.prepared;
-}
 
 module _ (s : ServerOf) where
   plan-bound : (value : Option RequestOf) (p : PlanOf) → HasPlan s value p → p.bindings ≡ s.bindings

@@ -5,8 +5,7 @@ mod books;
 
 use books::Books;
 use server::{
-    ClientSession, Counted, InTurn, Item, Key, Outcome, Request, Row, Server, Sessions, Workers,
-    serve,
+    ClientSession, Counted, Item, Key, Outcome, Request, Row, Server, Sessions, Workers, serve,
 };
 use std::alloc::{AllocGlobal, Global};
 use std::sync::Wait;
@@ -33,7 +32,7 @@ fn asking(query: &str) -> Request<'_> {
 
 // The refusal of a query that isn't valid is a response too.
 fn answer(session: &mut ClientSession<'_, Books>, query: &str) -> anyhow::Result<String> {
-    let answer = session.answer(&InTurn, &asking(query))?;
+    let answer = session.answer(&asking(query))?;
     Ok(answer.text)
 }
 
@@ -44,14 +43,14 @@ fn answer_all(alloc: Global, session: &mut ClientSession<'_, Books>) -> anyhow::
         Some(asking("{book(id:2){title}}")),
         None,
     ];
-    let answer = session.answer_all(&InTurn, &requests)?;
+    let answer = session.answer_all(&requests)?;
     Ok(format!(in alloc; "{} in {} round", answer.text, answer.rounds)?)
 }
 
 // A request as its client sends it.
 fn answer_text(session: &mut ClientSession<'_, Books>) -> anyhow::Result<String> {
     let text = "{\"query\":\"query($id:ID!){book(id:$id){title}}\",\"variables\":{\"id\":3}}";
-    Ok(session.answer_text(&InTurn, text.as_bytes())?.text)
+    Ok(session.answer_text(text.as_bytes())?.text)
 }
 
 // Two threads ask the source: the ids are cut into batches of one, since the session was made so.
@@ -61,14 +60,14 @@ fn answer_with_workers<R: Threads + Wait + AllocGlobal + Sync>(
 ) -> anyhow::Result<String> {
     let mut session = server.session(rt.alloc(), Some(1), |_line| Books)?;
     let workers = Workers::new(rt, 2)?;
-    let answer = session.answer(&workers, &asking("{books(ids:[1,2,9]){title}}"))?;
+    let answer = session.answer_with(&workers, &asking("{books(ids:[1,2,9]){title}}"))?;
     Ok(answer.text)
 }
 
 // An answer of more bytes than the limit is refused.
 fn limit_answers(session: &mut ClientSession<'_, Books>) -> anyhow::Result<String> {
     session.limit_answers(Some(20));
-    let answer = session.answer(&InTurn, &asking("{book(id:1){title}}"))?;
+    let answer = session.answer(&asking("{book(id:1){title}}"))?;
     session.limit_answers(None);
     Ok(answer.text)
 }
@@ -78,7 +77,7 @@ fn prime(alloc: Global, session: &mut ClientSession<'_, Books>) -> anyhow::Resul
     let key = Key::Text(String::from_str(alloc, "9")?);
     let row = Row::new(alloc, &[("id", "9"), ("title", "Unwritten")])?;
     let added = session.prime(BOOK_BY_ID, &key, Item::Rows(vec![in alloc; row]?))?;
-    let answer = session.answer(&InTurn, &asking("{book(id:9){title}}"))?;
+    let answer = session.answer(&asking("{book(id:9){title}}"))?;
     Ok(format!(in alloc; "{added} {} in {} rounds", answer.text, answer.rounds)?)
 }
 
@@ -86,7 +85,7 @@ fn prime(alloc: Global, session: &mut ClientSession<'_, Books>) -> anyhow::Resul
 fn clear(alloc: Global, session: &mut ClientSession<'_, Books>) -> anyhow::Result<String> {
     let key = Key::Text(String::from_str(alloc, "9")?);
     let known = session.clear(BOOK_BY_ID, &key)?;
-    let answer = session.answer(&InTurn, &asking("{book(id:9){title}}"))?;
+    let answer = session.answer(&asking("{book(id:9){title}}"))?;
     session.clear_all(BOOK_BY_ID)?;
     Ok(format!(in alloc; "{known} {}", answer.text)?)
 }
@@ -121,7 +120,7 @@ fn serve_lines(alloc: Global, session: &mut ClientSession<'_, Books>) -> anyhow:
     let mut reader = Counted::new("{\"query\":\"{book(id:1){title}}\"}\n[]\n".as_bytes());
     let mut written = Vec::new(alloc);
     let mut writer = Counted::new(&mut written);
-    let lines = serve(alloc, session, &InTurn, &mut reader, &mut writer)?;
+    let lines = serve(alloc, session, &mut reader, &mut writer)?;
     drop(writer);
     Ok(format!(in alloc; "{}{lines} lines", str::from_utf8(&written)?)?)
 }

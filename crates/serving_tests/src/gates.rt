@@ -3,7 +3,7 @@
 use crate::expect;
 use crate::sample::world;
 use line_serving::{Counted, ServeFault};
-use server::{Workers, serve};
+use server::{Workers, serve_with};
 use std::alloc::{AllocGlobal, Global};
 use std::sync::Wait;
 use std::sync::atomic::{AtomicBool, AtomicU64, Ordering};
@@ -70,7 +70,7 @@ fn served<R: Threads + Wait + AllocGlobal + Sync, G: Gate + Copy>(
     let mut written = Vec::new(alloc);
     let mut reader = Counted::new(lines.as_bytes());
     let mut writer = Counted::new(&mut written);
-    let result = serve(alloc, &mut client, &workers, &mut reader, &mut writer);
+    let result = serve_with(alloc, &mut client, &workers, &mut reader, &mut writer);
     drop(writer);
     report(alloc, &written, result)
 }

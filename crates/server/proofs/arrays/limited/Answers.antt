@@ -2,7 +2,7 @@ use Rattle.std.proofs.Common.{◌≡◌, ◌<◌, ◌++◌, ◌∷◌, [], ◌+�
 use Rattle.std.proofs.lemmas.List.{length-map, map-append, take_all}
 use Rattle.gq_check.specs.Plans.{PlanOf, plan_of}
 use Rattle.server.specs.Plans.{AreLimited, plan_and_limit}
-use Rattle.server.proofs.Values.{taken-more}
+use Rattle.request_plans.proofs.Values.{taken-more}
 use Rattle.server.proofs.arrays.limited.Goals as goal
 
 pub loop-plan-preserved : goal.loop-plan-preserved
