@@ -1,12 +1,19 @@
 -- Plans, each with a limit.
-use Rattle.std.proofs.Common.{◌≡◌, ℕ, List, [], ◌∷◌, map, All, Option, refl, sym, ap, subst, ◌∙◌}
-use Rattle.std.proofs.lemmas.List.Elements.{All-nil, All-cons, All-head, All-tail}
+use Rattle.std.proofs.Common.{◌≡◌, ℕ, List, [], ◌∷◌, map, All, Option, refl, sym, ap, subst, ◌∙◌, ◌≤◌, length, inl}
+use Rattle.std.proofs.lemmas.List.Elements.{All-nil, All-cons, All-head, All-tail, All-weaker}
 use Rattle.gq_check.specs.Plans.{PlanOf, plan_of}
 use Rattle.plan_program.specs.PlanPrograms.{plan_program}
-use Rattle.load_rounds.specs.SharedRounds.{RequestOf, request_of, requests}
+use Rattle.load_memory.specs.Keys.{KeyOf}
+use Rattle.load_queue.specs.Answers.{AnswerOf}
+use Rattle.gq_bindings.specs.Tree.{BindingsOf}
+use Rattle.load_rounds.specs.Headline.{StopsAnswering}
+use Rattle.load_rounds.specs.Sessions.{SessionOf, StateOf}
+use Rattle.load_rounds.specs.SharedRounds.{RequestOf, ReportOf, request_of, requests, together, SharedHeadline}
 use Rattle.gq_resolve.specs.Within.{text_within}
 use Rattle.gq_resolve.specs.declared.limited_plan.Limited.{Limited}
-use Rattle.server.specs.Plans.{AreLimited, plan_and_limit}
+use Rattle.request_plans.specs.Servers.{ServerOf}
+use Rattle.server.specs.Clients.{HasLoaders}
+use Rattle.server.specs.Plans.{AreLimited, HasLoadersFor, plan_and_limit}
 
 map-twice : {A B C : Type 0} (g : B → C) (f : A → B) (xs : List A) → map g (map f xs) ≡ map (λ x. g (f x)) xs
 map-twice g f [] = refl
@@ -29,3 +36,15 @@ module _ (most : Option ℕ) where
       let first : plan_and_limit l ≡ (p, most) = cc are in
       let same : p ≡ plan_of l.plan.now = sym (ap (λ (q : PlanOf × Option ℕ). q.0) first) in
       All-cons (λ (k : Limited). P (plan_of k.plan.now)) l ls (subst P same (All-head P p ps h)) (all-limited P ps ls (cc are) (All-tail P p ps h))
+
+-- the session has the loaders of each plan
+pub enough : {S : Type 0} (session : SessionOf S) (s : ServerOf) (most : Option ℕ) (plans : List PlanOf) (limited : List Limited) → HasLoaders s session → All (λ (p : PlanOf). p.bindings ≡ s.bindings) plans
+    → AreLimited most plans limited → All (HasLoadersFor session) limited
+enough session s most plans limited has bound are =
+    all-limited most (λ (p : PlanOf). length p.bindings.loaders ≤ length session.loaders) plans limited are
+    (All-weaker (λ (p : PlanOf). p.bindings ≡ s.bindings) (λ (p : PlanOf). length p.bindings.loaders ≤ length session.loaders)
+    (λ p e. subst (λ (b : BindingsOf). length b.loaders ≤ length session.loaders) (sym e) has) plans bound)
+
+-- what was answered stays as it would where memory ran out
+pub answered-stops : {S : Type 0} (may : S → List KeyOf → AnswerOf → Type 0) (old new : StateOf S) (rs : List RequestOf) (reports : List ReportOf) → SharedHeadline may old new rs reports → StopsAnswering may old new (together rs)
+answered-stops may old new rs reports h = record { log = h.log; mid = new; made = h.made; end = inl refl; recorded = h.recorded }

@@ -1,5 +1,6 @@
 -- A session keeps its loaders.
-use Rattle.std.proofs.Common.{◌≡◌, ◌∙◌, ◌⊎◌, ℕ, List, [], ◌∷◌, map, length, inl, inr, sym, ap, subst}
+use Rattle.std.proofs.Common.{◌≡◌, ◌∙◌, ◌⊎◌, ℕ, List, [], ◌∷◌, map, length, inl, inr, sym, ap, Result, Ok, Err}
+use Rattle.std.specs.Global.{Vec}
 use Rattle.std.proofs.lemmas.List.{length-map}
 use Rattle.load_memory.specs.Keys.{KeyOf}
 use Rattle.load_memory.specs.Replies.{ReplyOf}
@@ -12,7 +13,13 @@ use Rattle.execution.specs.Rounds.{without_failed}
 use Rattle.execution.specs.Sessions.{Forgot, Lost}
 use Rattle.load_rounds.specs.Calls.{RoundLost}
 use Rattle.load_rounds.specs.Headline.{MakesRounds, StopsAnswering, asked_steps}
-use Rattle.load_rounds.specs.Sessions.{StateOf, rules_of, session_modes, of_first, after_step}
+use Rattle.load_rounds.specs.Sessions.{SessionOf, StateOf, state_of, rules_of, session_modes, of_first}
+use Rattle.load_rounds.specs.SharedRounds.{together}
+use Rattle.load_rounds.specs.declared.answer.Answer.{Answer}
+use Rattle.load_memory.specs.declared.no_memory.NoMemory.{NoMemory}
+use Rattle.gq_resolve.specs.declared.limited_plan.Limited.{Limited}
+use Rattle.server.specs.Plans.{limited_program, limited_requests}
+use Rattle.server.specs.Runners.{RunsPlan, RunsPlans}
 use Rattle.load_rounds.proofs.Stepping.{steps-made}
 
 module _ {S : Type 0} where
@@ -40,3 +47,13 @@ module _ {S : Type 0} where
 
     pub stops-many : StopsAnswering may old new p → length new.loaders ≡ length old.loaders
     stops-many h = made-many new.loaders old.loaders (stops-made h)
+
+-- whoever ran the batches of plans
+module _ {S : Type 0} (may : S → List KeyOf → AnswerOf → Type 0) (old new : SessionOf S) where
+  pub plan-many : (l : Limited) (r : Result Answer NoMemory) → RunsPlan may old l r new → length new.loaders ≡ length old.loaders
+  plan-many l (Ok a) h = rounds-many may (state_of old) (state_of new) (limited_program l) h.answer.log h.answer.made
+  plan-many l (Err e) h = stops-many may (state_of old) (state_of new) (limited_program l) h.stopped
+
+  pub plans-many : (ls : List Limited) (r : Result (Vec Answer) NoMemory) → RunsPlans may old ls r new → length new.loaders ≡ length old.loaders
+  plans-many ls (Ok a) h = rounds-many may (state_of old) (state_of new) (together (limited_requests ls)) h.answers.log h.answers.made
+  plans-many ls (Err e) h = stops-many may (state_of old) (state_of new) (together (limited_requests ls)) h.stopped

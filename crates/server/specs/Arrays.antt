@@ -64,5 +64,5 @@ module _ {S : Type 0} (may : S → List KeyOf → AnswerOf → Type 0) where
   -- Memory ran out: the session is as it was, or the finished rounds of the plans stay, and perhaps one more was lost.
   pub data StopsArray (c : ClientOf S) (values : List (Option RequestOf)) (new : SessionOf S) : Type 0 where
     unplanned : new ≡ c.session → StopsArray c values new
-    stopped : {refusals : List (Option (List ℕ))} {plans : List PlanOf} → PlanValues c.server values refusals plans
+    stopped : (refusals : List (Option (List ℕ))) (plans : List PlanOf) → PlanValues c.server values refusals plans
         → StopsAnswering may (state_of c.session) (state_of new) (together (requests_within c.most plans)) → StopsArray c values new

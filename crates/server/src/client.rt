@@ -50,6 +50,8 @@ impl<'s, S> Model for ClientSession<'s, S> {
 
     ghost Value = { ClientOf S };
 
+    ghost coded = { Prim.hlevel (codes, type_ref.the_row.coded, literal.the_row.coded, S.code) };
+
     ghost view = { λ c. client_of c.documents.server c.max_answer c.session };
 
     ghost invariant = { λ c. HasLoaders c.documents.server c.session };

@@ -1,6 +1,6 @@
 //! Keys of a client's session: what is known of them, loaded, primed and cleared.
 
-ghost use Rattle.std.specs.Prelude.{◌≡◌, ◌≤◌, ◌↔◌, ⊥, [], ◌∷◌, map, length, IfOk, OnOk, OnErr, IsErrOf, is_none, is_some};
+ghost use Rattle.std.specs.Prelude.{◌≡◌, ◌≤◌, ◌↔◌, [], ◌∷◌, map, length, IfOk, OnOk, OnErr, IsErrOf, is_none, is_some};
 ghost use Rattle.load_memory.specs.Keys.{key_of};
 ghost use Rattle.load_memory.specs.Outcomes.{outcome_of, item_of};
 ghost use Rattle.load_memory.specs.Pairs.{look};

@@ -80,7 +80,7 @@ module _ (s : ServiceOf) (old new : SessionOf SourceOf) (over : IsOver s.world o
 
   stops-array : (values : List (Option RequestOf)) → server_arrays.StopsArray may_tell c values new → IsOver s.world (restarted new)
   stops-array values (server_arrays.unplanned same) = same-over same
-  stops-array values (server_arrays.stopped {plans = plans} h a) =
+  stops-array values (server_arrays.stopped refusals plans h a) =
       over-kept s.world old new over (stops-made may_tell (state_of old) (state_of new) (together (requests_within s.most plans)) a)
 
   stops-text : (line : List ℕ) → server_lines.StopsText may_tell c line new → IsOver s.world (restarted new)

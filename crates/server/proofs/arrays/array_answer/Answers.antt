@@ -4,8 +4,8 @@ use Rattle.server.specs.Arrays.{array_text}
 use Rattle.server.proofs.Values.{joined}
 use Rattle.server.proofs.arrays.array_answer.Goals as goal
 
-pub returns : goal.returns
-returns c =
+pub returns-clause-text : goal.returns-clause-text
+returns-clause-text c =
     let seen = λ (s : Bor (List ℕ)). s.now in
     let inside = c.in_ok-inside.ensures.ok ∙ ap (join_by seen (codes ",")) c.deref.ensures.value ∙ joined seen (codes ",") c.in_ok-texts.texts.items in
     let whole : string_bytes c.in_ok-format.field-0 ≡ codes "[" ++ string_bytes c.in_ok-inside.inside ++ codes "]" = simp append_assoc c.in_ok-format.ensures.ok in

@@ -1,0 +1,9 @@
+use Rattle.std.proofs.Common.{inr}
+use Rattle.server.proofs.Outcomes.{anyway}
+use Rattle.server.proofs.client.ClientSession.serve_line_with.Goals as goal
+
+pub returns-in_err-respond_with-clause-stopped : goal.returns-in_err-respond_with-clause-stopped
+returns-in_err-respond_with-clause-stopped g c =
+    let stops = rw c.in_ok-restart.ensures.begun at c.in_err-respond_with.ensures.stopped in
+    let same = rw c.in_ok-restart.ensures.begun at c.in_err-respond_with.ensures.same in
+    anyway _ (record { same = record { server = same.server; most = same.most }; stops = inr stops })
