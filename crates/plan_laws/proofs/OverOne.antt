@@ -1,4 +1,4 @@
--- A world makes its definitions and its bindings from one schema text, so its plans are over one schema.
+-- A server has its definitions and its bindings from one schema text, so its plans are over one schema.
 use Rattle.std.proofs.Common.{◌∙◌, sym, ap, subst, List}
 use Rattle.schema_syntax.specs.Tree.{Definition}
 use Rattle.gq_schema.specs.Fault.{fault_of}
@@ -7,12 +7,12 @@ use Rattle.gq_bindings.specs.Reading.{bindings_of, accepted}
 use Rattle.gq_check.specs.Plans.{PlanOf}
 use Rattle.gq_check.specs.Prepared.{prepared}
 use Rattle.gq_check.specs.Verdict.{IsValid}
-use Rattle.world.specs.Worlds.{WorldOf}
+use Rattle.request_plans.specs.Servers.{ServerOf}
 use Rattle.plan_laws.specs.Met.{IsOverOne}
-use Rattle.plan_laws.specs.OfWorlds.{IsMade, IsPlanOver}
+use Rattle.plan_laws.specs.OfServers.{IsMade, IsPlanOver}
 
-pub world-one : (w : WorldOf) (plan : PlanOf) → IsMade w → IsPlanOver w plan → IsOverOne plan
-world-one w plan made of = record {
+pub server-one : (s : ServerOf) (plan : PlanOf) → IsMade s → IsPlanOver s plan → IsOverOne plan
+server-one s plan made of = record {
   schema = record {
     valid = record {
       document = of.planned.document;
@@ -26,6 +26,6 @@ world-one w plan made of = record {
   };
   read = record {
     text = made.bindings;
-    accepts = ap (λ (defs : List Definition). bindings_of defs made.bindings) of.definitions ∙ (made.is.over.read.accepts ∙ ap (λ (b : BindingsOf). accepted b) (sym of.bindings));
+    accepts = ap (λ (defs : List Definition). bindings_of defs made.bindings) of.definitions ∙ (made.is.accepts ∙ ap (λ (b : BindingsOf). accepted b) (sym of.bindings));
   };
 }

@@ -1,5 +1,5 @@
 pub mod Collecting
 pub mod Levels
 pub mod Met
-pub mod OfWorlds
+pub mod OfServers
 pub mod Unset

@@ -6,11 +6,11 @@ ghost use Rattle.gq_bindings.specs.Tree.{BindingsOf};
 ghost use Rattle.gq_check.specs.Plans.{PlanOf};
 ghost use Rattle.gq_check.specs.Planned.{IsPlan};
 ghost use Rattle.plan_program.specs.PlanPrograms.{most_levels, plan_program};
-ghost use Rattle.world.specs.Worlds.{WorldOf};
+ghost use Rattle.request_plans.specs.Servers.{ServerOf};
 ghost use Rattle.plan_laws.specs.Collecting.{CollectsTheSame, CollectsBySelections};
 ghost use Rattle.plan_laws.specs.Levels.{program_with};
 ghost use Rattle.plan_laws.specs.Met.{CanBeMet, IsMetBy, HasFirst, CanHave, IsDefined, BindsFields, NamesItsLoaders, AsksItsBinding, AreRead, IsOverSchema, IsOverOne};
-ghost use Rattle.plan_laws.specs.OfWorlds.{IsMade, IsPlanOver};
+ghost use Rattle.plan_laws.specs.OfServers.{IsMade, IsPlanOver};
 ghost use Rattle.plan_laws.specs.Unset.{IsRight, has_unset};
 ghost use Rattle.plan_program.specs.Groups.{FieldOf, GroupOf};
 
@@ -53,8 +53,8 @@ pub fn literals_are_right()
         → IsRight plan a.of_type v }
 {}
 
-/// A world reads its bindings over its own schema, so each plan of its requests is over one schema, as
+/// A server reads its bindings over its own schema, so each plan of its requests is over one schema, as
 /// [`met_fields_are_answered`] asks.
-pub fn plans_of_a_world_are_over_one()
-    ensures { (w : WorldOf) (plan : PlanOf) → IsMade w → IsPlanOver w plan → IsOverOne plan }
+pub fn plans_of_a_server_are_over_one()
+    ensures { (s : ServerOf) (plan : PlanOf) → IsMade s → IsPlanOver s plan → IsOverOne plan }
 {}

@@ -1,5 +1,5 @@
 pub mod Limits
 pub mod Loaders
-pub mod Opening
+pub mod Opened
 pub mod Outcomes
 pub mod Values

@@ -1,7 +1,7 @@
 use Rattle.std.proofs.Common.{◌≡◌, take, map}
 use denote.Param.Always.{always_mut}
 use Rattle.gq_bindings.specs.Seen.{loader_of}
-use Rattle.server.proofs.Opening.{OpenedTo}
+use Rattle.server.proofs.Opened.{OpenedTo}
 use Rattle.server.proofs.opening.ServerSessions.session.Given as goal
 
 abbrev pub invariant-loop-line : goal.invariant-loop-line
