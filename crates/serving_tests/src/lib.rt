@@ -1,11 +1,14 @@
-//! Tests over the sample world, of what no clause says: that lines are answered with workers, that these run the batches of a
+//! Tests of what no clause says. Over the sample world: that lines are answered with workers, that these run the batches of a
 //! round at the same time, and that with any number of them the text, the rounds, the logs and the memory are those of an answer
-//! in turn. They need threads, and so are no lines of a file; and they stand apart from `batch_workers` and `world_answers` so
-//! that the gate proves those once.
+//! in turn. These need threads, and so are no lines of a file. Over folders in memory: that long files are read to their ends and
+//! that ten tables are found under their names. They stand apart from `batch_workers`, `world_answers` and `world_files` so that
+//! the gate proves those once.
 #![tactic(auto)]
 
 #[cfg(test)]
 mod alike;
+#[cfg(test)]
+mod folders;
 #[cfg(test)]
 mod gates;
 #[cfg(test)]

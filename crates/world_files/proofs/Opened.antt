@@ -1,5 +1,4 @@
 -- What is known where files give no world.
-use Rattle.std.proofs.Common.{ℕ, Option}
 use Rattle.world_files.specs.declared.fault.OpenFault.{OpenFault}
 use Rattle.world_files.specs.declared.fault.OpenFault.TheVariants as opening
 use Rattle.world_files.specs.declared.files.WorldFiles.{WorldFiles}

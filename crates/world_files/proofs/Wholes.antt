@@ -1,10 +1,9 @@
 -- A front of a schema that is too long: what is said of it holds of all of the schema.
-use Rattle.std.proofs.Common.{◌≡◌, sym, subst, refl, ℕ, ◌<◌, ◌≤◌, List, length, Option, Some, None, IfSome, inl, inr, arith}
+use Rattle.std.proofs.Common.{◌≡◌, refl, ℕ, ◌<◌, ◌≤◌, List, length, Option, Some, None, IfSome, inl, inr, arith}
 use Rattle.gq_lexer.specs.declared.lexer.TheConstants.{MAX_BYTES}
 use Rattle.gq_schema.specs.declared.fault.SchemaFault.{SchemaFault}
 use Rattle.gq_schema.specs.declared.fault.SchemaFault.TheVariants as schema
 use Rattle.gq_schema.specs.Reading.{IsBroken, IsFaultOf}
-use Rattle.gq_schema.specs.Types.{tree_of}
 use Rattle.gq_parser.specs.Fault.{most_bytes}
 use Rattle.schema_syntax.specs.declared.fault.SyntaxFault.{SyntaxFault}
 use Rattle.schema_syntax.specs.Text.{IsTextFault, too_long, of_tokens, before_lexical, memory}

@@ -1,5 +1,5 @@
 -- The world that files hold, and why they hold none.
-use Rattle.std.specs.Prelude.{◌≡◌, ◌<◌, ◌⊎◌, ℕ, List, length, IsSomeAnd, string_bytes}
+use Rattle.std.specs.Prelude.{◌≡◌, ℕ, List, IsSomeAnd, string_bytes}
 use Rattle.std.specs.List.{AllZip, slice_get}
 use Rattle.world.specs.declared.fault.WorldFault.{WorldFault}
 use Rattle.world.specs.Sources.{TableOf}
