@@ -1,5 +1,5 @@
 -- Lines that are served in the session of a world's client have the text of direct execution.
-use Rattle.std.proofs.Common.{◌≡◌, ◌∙◌, ◌⊎◌, ℕ, List, map, inl, inr, refl, sym, ap, subst}
+use Rattle.std.proofs.Common.{◌≡◌, ◌∙◌, ◌⊎◌, ℕ, List, Option, map, inl, inr, sym, ap, subst}
 use Rattle.csv_source.specs.Tables.{SourceOf}
 use Rattle.load_queue.specs.Loaders.{as_made}
 use Rattle.plan_program.specs.PlanPrograms.{plan_program}

@@ -1,0 +1,18 @@
+use Rattle.std.proofs.Common.{refl, sym, subst}
+use Rattle.load_rounds.specs.Sessions.{restarted}
+use Rattle.world_answers.specs.Sessions.{IsOver}
+use Rattle.world_answers.proofs.Loading.{enough}
+use Rattle.world_answers.proofs.Restarting.{over-new}
+use Rattle.world_answers.proofs.service.Service.client.Goals as goal
+
+pub new-client-requires : goal.new-client-requires
+new-client-requires g c =
+    let w = c.args.self.now.world.now in
+    let over = subst (IsOver w) (sym c.in_ok-session.ensures.opened) (over-new w c.in_ok-session.ensures.each) in
+    rw c.server.ensures (enough w c.in_ok-session.session w.bindings refl over)
+
+pub returns : goal.returns
+returns g c =
+    let w = c.args.self.now.world.now in
+    let over = subst (IsOver w) (sym c.in_ok-session.ensures.opened) (over-new w c.in_ok-session.ensures.each) in
+    rw (c.limit_answers.ensures, c.new-client.ensures, c.server.ensures) (record { server = refl; most = refl; over = subst (IsOver w) (sym over.fresh) over })
