@@ -1,6 +1,6 @@
 //! Reading up to a bound.
 
-ghost use Rattle.std.specs.Prelude.{◌≡◌};
+ghost use Rattle.std.specs.Prelude.{◌≡◌, ◌==◌, ◌+◌};
 
 use std::io::{self, ErrorKind, Read};
 
@@ -22,7 +22,8 @@ pub struct Bounded<R> {
 impl<R> Bounded<R> {
     /// Gives at most so many bytes, and one more.
     pub fn new(inner: R, most: u32) -> Self
-        ensures { result.inner ≡ inner }
+        ensures inner { result.inner ≡ inner }
+        ensures left { result.left ≡ most + 1 }
     {
         Bounded {
             inner,
@@ -32,12 +33,16 @@ impl<R> Bounded<R> {
     }
 
     /// Whether more bytes than the bound were read.
-    pub fn is_exceeded(&self) -> bool {
+    pub fn is_exceeded(&self) -> bool
+        ensures { result ≡ (self.now.left == 0) }
+    {
         self.left == 0
     }
 
     /// The last fault that it met.
-    pub fn fault(&self) -> Option<io::Error> {
+    pub fn fault(&self) -> Option<io::Error>
+        ensures { result ≡ self.now.fault }
+    {
         self.fault
     }
 }

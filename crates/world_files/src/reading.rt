@@ -1,6 +1,6 @@
 //! Reading texts and tables.
 
-ghost use Rattle.std.specs.Prelude.{◌≡◌, ◌<◌, ◌≤◌, length, IfOk, IfErr, IfSome, string_bytes, string_len};
+ghost use Rattle.std.specs.Prelude.{◌≡◌, ◌⊎◌, ◌<◌, ◌≤◌, length, IfOk, IfErr, IfSome, string_bytes, string_len};
 ghost use Rattle.std.specs.String.{from_utf8_error_vec};
 ghost use Rattle.world_files.specs.Opening.{IsTextOf, IsSheetOf, IsUnread, IsUnopened, IsWholeOrLong, reason_of};
 
@@ -20,7 +20,8 @@ const MAX_TABLE: u32 = 4_294_967_295;
 
 /// What a failed call on a file is. Want of memory is in no file.
 pub fn unread(file: InputFile, reason: io::Error) -> OpenFault
-    ensures { IsUnread file result }
+    ensures unread { IsUnread file result }
+    ensures reason { (result ≡ OpenFault.NoMemory) ⊎ (result ≡ OpenFault.Unread file reason) }
 {
     if reason.kind() == ErrorKind::OutOfMemory {
         return OpenFault::NoMemory;
