@@ -17,7 +17,7 @@ use std::io::{ErrorKind, Read, Write};
 use std::rt::{Env, Files};
 use std::sync::Wait;
 use std::thread::Threads;
-use world_answers::{Gate, NoGate, Service};
+use world_answers::{Gate, NoGate, Service, lines_are_direct};
 use world_files::{Folder, System, open_requests, open_world, sample_world};
 
 /// What `clap` says of words that are no text.
@@ -55,6 +55,8 @@ fn serve_in_turn<G: Gate + Copy, I: Read, W: Write>(
         Ok(client) => client,
         Err(_) => return Stop::Serve(ServeFault::NoMemory),
     };
+    // A contract sees here that each line has the text of direct execution.
+    lines_are_direct();
     match serve(alloc, &mut client, reader, writer) {
         Ok(_) => Stop::Served,
         Err(fault) => Stop::Serve(fault),
@@ -76,6 +78,8 @@ fn serve_by_workers<R: Threads + Wait + AllocGlobal + Sync, G: Gate + Copy, I: R
         Ok(client) => client,
         Err(_) => return Stop::Serve(ServeFault::NoMemory),
     };
+    // A contract sees here that each line has the text of direct execution.
+    lines_are_direct();
     match serve_with(rt.alloc(), &mut client, workers, reader, writer) {
         Ok(_) => Stop::Served,
         Err(fault) => Stop::Serve(fault),

@@ -1,8 +1,7 @@
 //! Who runs the batches of the rounds in which plans are answered.
 
-ghost use Rattle.std.specs.Prelude.{◌≡◌, ◌↔◌, All, IfOk, OnErr, IsErrOf};
+ghost use Rattle.std.specs.Prelude.{◌≡◌, All, IfOk, IfErr};
 ghost use Rattle.batch_workers.specs.Workers.{IsBadCount};
-ghost use Rattle.load_rounds.specs.Sessions.{state_of};
 ghost use Rattle.server.specs.Plans.{HasLoadersFor};
 ghost use Rattle.server.specs.Runners.{RunsPlan, RunsPlans};
 
@@ -42,8 +41,8 @@ impl<'r, R> Workers<'r, R> {
     ///
     /// [`BadCount`](WorkFault::BadCount) for any other number.
     pub fn new(rt: &'r R, count: usize) -> Result<Workers<'r, R>, WorkFault>
-        ensures count { IfOk result (λ workers. workers ≡ count) }
-        ensures bad_count { IsErrOf result WorkFault.BadCount ↔ IsBadCount count }
+        ensures count { IfOk result (λ workers. (workers ≡ count) × ¬ (IsBadCount count)) }
+        ensures refused { IfErr result (λ fault. (fault ≡ WorkFault.BadCount) × IsBadCount count) }
     {
         if count == 0 || count > MOST_WORKERS {
             return Err(WorkFault::BadCount);

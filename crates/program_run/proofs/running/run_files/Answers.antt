@@ -1,6 +1,7 @@
-use Rattle.std.proofs.Common.{◌≡◌, ◌∙◌, ap, sym, inl, inr, refl}
+use Rattle.std.proofs.Common.{◌≡◌, ◌∙◌, ap, sym, subst, inl, inr, refl}
 use Rattle.std.proofs.KnownBytes.{Keeps-refl}
 use Rattle.line_serving.specs.Devices.{devices}
+use Rattle.world_files.specs.Folders.{IsAllOf}
 use Rattle.command_line.specs.Origins.{origin_of}
 use Rattle.program_run.proofs.running.run_files.Goals as goal
 
@@ -10,8 +11,9 @@ returns-in-Ok-open_requests-clause-run g c =
     rw c.from-in-Ok-open_requests.ensures.0 (inl (record {
       world = c.in-Ok.world;
       from = c.in-Ok.ensures.ok;
-      devices = _;
-      requests = c.in-Ok-open_requests.ensures.ok;
+      devices = devices g.D.File.Read.remaining g.W.Write.contents c.new.result c.serve_words.new.reader c.args.writer.now c.serve_words.new.writer;
+      requests = rw c.new.ensures.device
+          (subst (λ path. IsAllOf (g.D.Folder.holds c.args.folder.now path) (g.D.File.Read.remaining c.in-Ok-open_requests.file)) c.as_str.ensures.value c.in-Ok-open_requests.ensures.ok);
       written = (refl, refl);
       served = served;
     }))
