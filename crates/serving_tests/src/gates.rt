@@ -4,7 +4,7 @@ use crate::expect;
 use crate::sample::world;
 use line_serving::{Counted, ServeFault};
 use server::{Workers, serve_with};
-use std::alloc::{AllocGlobal, Global};
+use std::alloc::{AllocError, AllocGlobal, Global};
 use std::sync::Wait;
 use std::sync::atomic::{AtomicBool, AtomicU64, Ordering};
 use std::test::Fail;
@@ -18,19 +18,25 @@ const TURNS: u32 = 100_000_000;
 /// A gate at which a batch of the first loader and one of the second wait a while for each other. It counts those that went on
 /// alone.
 #[derive(Drop)]
-struct Meeting {
+pub struct Meeting {
     first: AtomicBool,
     second: AtomicBool,
     missed: AtomicU64,
 }
 
 impl Meeting {
-    fn new() -> Meeting {
+    /// Nobody waits, and nobody has missed the other.
+    pub fn new() -> Meeting {
         Meeting {
             first: AtomicBool::new(false),
             second: AtomicBool::new(false),
             missed: AtomicU64::new(0),
         }
+    }
+
+    /// How many went on alone.
+    pub fn missed(&self, alloc: Global) -> Result<String, AllocError> {
+        format!(in alloc; "{}", self.missed.load(Ordering::SeqCst))
     }
 
     // Shows a flag until the other is shown; if it soon isn't, the flag is taken back.
@@ -154,8 +160,7 @@ fn workers_run_batches_at_the_same_time(rt: HostRuntime) -> Result<(), Fail> {
         let gate = Meeting::new();
         let found = served(&rt, &unlimited(&world), &gate, BOTH, workers)?;
         expect(&rt, &found, BOTH_ANSWERED, BOTH);
-        let misses = format!(in rt.alloc(); "{}", gate.missed.load(Ordering::SeqCst))?;
-        expect(&rt, &misses, missed, "missed");
+        expect(&rt, &gate.missed(rt.alloc())?, missed, "missed");
     }
     Ok(())
 }
