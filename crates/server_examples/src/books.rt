@@ -35,6 +35,6 @@ impl Source for Books {
     ghost may_answer = { λ _ keys answer. any_answer keys answer };
 
     fn fetch(&self, alloc: Global, keys: &[Key]) -> Result<Vec<Item>, FetchFault> {
-        keys.iter().map(|key| item(alloc, key)).collect(alloc)
+        keys.iter().map(|key| item(alloc, key)).try_collect(alloc)
     }
 }
