@@ -59,6 +59,6 @@ impl Source for Directory {
         if keys.iter().any(breaks_at) {
             return Err(FetchFault::Failed(String::from_str(alloc, "the directory is down")?));
         }
-        keys.iter().map(|key| item(alloc, key)).collect(alloc)
+        keys.iter().map(|key| item(alloc, key)).try_collect(alloc)
     }
 }

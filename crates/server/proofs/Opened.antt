@@ -1,5 +1,5 @@
 -- Loaders of lines, one more at a time.
-use Rattle.std.proofs.Common.{◌≡◌, ℕ, List, [], ◌∷◌, ◌++◌, length, suc, refl, sym, ap, subst, Option, All}
+use Rattle.std.proofs.Common.{◌≡◌, ℕ, List, [], ◌∷◌, ◌++◌, length, suc, refl, ap, subst, Option, All}
 use Rattle.std.proofs.lemmas.List.Elements.{All-nil, All-cons}
 use denote.Ref.{Bor}
 use denote.Param.Members.{Called, Mut}

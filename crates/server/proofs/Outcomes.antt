@@ -1,10 +1,10 @@
 -- What came of calls.
-use Rattle.std.proofs.Common.{◌≡◌, ◌∙◌, ℕ, List, [], ◌∷◌, map, length, sym, ap, refl, Result, Ok, Err}
+use Rattle.std.proofs.Common.{◌≡◌, ◌∙◌, List, ◌∷◌, map, length, sym, ap, refl, Result, Ok, Err}
 use Rattle.std.specs.Prelude.{IfOk, OnErr, IsErrOf}
 use Rattle.std.proofs.lemmas.List.{length-map}
 use Rattle.load_memory.specs.Keys.{KeyOf}
 use Rattle.load_queue.specs.Answers.{AnswerOf}
-use Rattle.load_queue.specs.Loaders.{LoaderOf, as_made}
+use Rattle.load_queue.specs.Loaders.{as_made}
 use Rattle.execution.specs.Sessions.{Forgot}
 use Rattle.load_rounds.specs.Histories.{Call, IsCallOf}
 use Rattle.load_rounds.specs.Sessions.{SessionOf, StateOf, state_of}

@@ -1,5 +1,5 @@
 -- The values of an array in their places: their refusals, and the answers of their plans.
-use Rattle.std.proofs.Common.{◌≡◌, ◌<◌, ℕ, zero, suc, List, [], ◌∷◌, ◌++◌, map, length, get_or, take, drop, Option, Some, None, All, refl, sym, ap, subst, ◌∙◌, arith, append_assoc, string_bytes}
+use Rattle.std.proofs.Common.{◌≡◌, ◌<◌, ℕ, zero, suc, List, [], ◌∷◌, ◌++◌, map, length, get_or, drop, Option, Some, None, All, refl, sym, ap, subst, ◌∙◌, arith, append_assoc, string_bytes}
 use Rattle.std.specs.List.{AllZip, flat_map, join_by}
 use Rattle.std.specs.Option.{option_map}
 use Rattle.std.proofs.lemmas.List.Elements.{All-nil, All-cons}

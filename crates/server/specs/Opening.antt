@@ -1,12 +1,11 @@
 -- The loaders of a new session.
-use Rattle.std.specs.Prelude.{◌≡◌, ◌⊎◌, ◌<◌, ℕ, Bool, true, false, List, [], ◌∷◌, Option, Some, None, if◌then◌else◌}
+use Rattle.std.specs.Prelude.{◌≡◌, ℕ, List, [], ◌∷◌, Option, Some, None, if◌then◌else◌}
 use denote.Ref.{Bor}
 use Rattle.std.specs.Fn.{Mut, Called}
 use Rattle.load_memory.specs.declared.key.KeyMode.{KeyMode}
 use Rattle.load_memory.specs.declared.key.KeyMode.TheVariants.{Exact, FoldAscii}
 use Rattle.bindings_syntax.specs.Statements.{ByOf}
 use Rattle.load_queue.specs.Loaders.{LoaderOf}
-use Rattle.load_rounds.specs.Sessions.{SessionOf}
 use Rattle.gq_bindings.specs.Tree as bindings
 use Rattle.gq_bindings.specs.Seen.{loader_of}
 use Rattle.gq_bindings.specs.declared.binding.LoaderLine.{LoaderLine}

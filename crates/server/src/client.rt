@@ -119,11 +119,7 @@ impl<'s, S: Asks> ClientSession<'s, S> {
     fn respond_by<
         F: Fn(&mut Session<S>, &Limited<'_, '_>) -> Result<Answer, NoMemory>,
         G: Fn(&mut Session<S>, &[Limited<'_, '_>]) -> Result<Vec<Answer>, NoMemory>,
-    >(
-        &mut self,
-        runner: &Runner<F, G>,
-        asked: Asked<'_>,
-    ) -> Result<Answer, NoMemory>
+    >(&mut self, runner: &Runner<F, G>, asked: Asked<'_>) -> Result<Answer, NoMemory>
         requires one { RunsEach S.may_tell (F.pre runner.now.one) (F.post runner.now.one) }
         requires all { RunsAll S.may_tell (G.pre runner.now.all) (G.post runner.now.all) }
         ensures answered { IfOk result (λ answer. Answers S.may_tell self.old asked.entry (report_of answer) self.new.session) }
@@ -172,9 +168,10 @@ impl<'s, S: Asks> ClientSession<'s, S> {
                 requires { HasLoadersFor session.old limited.now }
                 ensures { RunsPlan S.may_tell session.old limited.now result session.new }
             { session.answer(limited) },
-            all: |session: &mut Session<S>,
-                  plans: &[Limited<'_, '_>]|
-             -> Result<Vec<Answer>, NoMemory>
+            all: |session: &mut Session<S>, plans: &[Limited<'_, '_>]| -> Result<
+                Vec<Answer>,
+                NoMemory,
+            >
                 requires { All (HasLoadersFor session.old) plans.now }
                 ensures { RunsPlans S.may_tell session.old plans.now result session.new }
             { session.answer_all(plans) },
@@ -251,9 +248,10 @@ impl<'s, S: Source> ClientSession<'s, S> {
                 requires loaders { HasLoadersFor session.old limited.now }
                 ensures { RunsPlan S.may_answer session.old limited.now result session.new }
             { workers.answer(session, limited) },
-            all: |session: &mut Session<S>,
-                  plans: &[Limited<'_, '_>]|
-             -> Result<Vec<Answer>, NoMemory>
+            all: |session: &mut Session<S>, plans: &[Limited<'_, '_>]| -> Result<
+                Vec<Answer>,
+                NoMemory,
+            >
                 requires sync { IsSync R.row × IsSync S.row }
                 requires loaders { All (HasLoadersFor session.old) plans.now }
                 ensures { RunsPlans S.may_answer session.old plans.now result session.new }

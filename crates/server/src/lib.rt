@@ -14,13 +14,15 @@
 mod answering;
 mod arrays;
 mod client;
+mod function_source;
 mod keys;
 mod opening;
 mod runner;
 mod serving;
 
-pub use client::ClientSession;
 pub use batch_workers::WorkFault;
+pub use client::ClientSession;
+pub use function_source::{SourceFn, source_fn};
 pub use gq_bindings::{By, LoaderLine};
 pub use gq_schema::SchemaFault;
 pub use line_serving::{Counted, ServeFault};

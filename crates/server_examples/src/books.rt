@@ -31,10 +31,15 @@ fn item(alloc: Global, key: &Key) -> Result<Item, FetchFault> {
     }
 }
 
+/// An item for each key, in order. [`source_fn`](server::source_fn) makes a source of it.
+pub fn fetch_books(alloc: Global, keys: &[Key]) -> Result<Vec<Item>, FetchFault> {
+    keys.iter().map(|key| item(alloc, key)).try_collect(alloc)
+}
+
 impl Source for Books {
     ghost may_answer = { λ _ keys answer. any_answer keys answer };
 
     fn fetch(&self, alloc: Global, keys: &[Key]) -> Result<Vec<Item>, FetchFault> {
-        keys.iter().map(|key| item(alloc, key)).collect(alloc)
+        fetch_books(alloc, keys)
     }
 }

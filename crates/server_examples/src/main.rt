@@ -3,9 +3,10 @@
 
 mod books;
 
-use books::Books;
+use books::{Books, fetch_books};
 use server::{
     ClientSession, Counted, Item, Key, Outcome, Request, Row, Server, Sessions, Workers, serve,
+    serve_with, source_fn,
 };
 use std::alloc::{AllocGlobal, Global};
 use std::sync::Wait;
@@ -53,6 +54,13 @@ fn answer_text(session: &mut ClientSession<'_, Books>) -> anyhow::Result<String>
     Ok(session.answer_text(text.as_bytes())?.text)
 }
 
+// A source that is a function needs no type of its own.
+fn source_of_a_function(alloc: Global, server: &Server) -> anyhow::Result<String> {
+    let books = source_fn(fetch_books);
+    let mut session = server.session(alloc, None, |_line| books)?;
+    Ok(session.answer(&asking("{book(id:3){title}}"))?.text)
+}
+
 // Two threads ask the source: the ids are cut into batches of one, since the session was made so.
 fn answer_with_workers<R: Threads + Wait + AllocGlobal + Sync>(
     rt: &R,
@@ -62,6 +70,31 @@ fn answer_with_workers<R: Threads + Wait + AllocGlobal + Sync>(
     let workers = Workers::new(rt, 2)?;
     let answer = session.answer_with(&workers, &asking("{books(ids:[1,2,9]){title}}"))?;
     Ok(answer.text)
+}
+
+// Requests of an array, with two threads.
+fn answer_all_with_workers<R: Threads + Wait + AllocGlobal + Sync>(
+    rt: &R,
+    server: &Server,
+) -> anyhow::Result<String> {
+    let mut session = server.session(rt.alloc(), Some(1), |_line| Books)?;
+    let workers = Workers::new(rt, 2)?;
+    let requests = [
+        Some(asking("{book(id:1){title}}")),
+        Some(asking("{book(id:2){title}}")),
+    ];
+    Ok(session.answer_all_with(&workers, &requests)?.text)
+}
+
+// A request as its client sends it, with two threads.
+fn answer_text_with_workers<R: Threads + Wait + AllocGlobal + Sync>(
+    rt: &R,
+    server: &Server,
+) -> anyhow::Result<String> {
+    let mut session = server.session(rt.alloc(), Some(1), |_line| Books)?;
+    let workers = Workers::new(rt, 2)?;
+    let text = "{\"query\":\"{books(ids:[2,3]){title}}\"}";
+    Ok(session.answer_text_with(&workers, text.as_bytes())?.text)
 }
 
 // An answer of more bytes than the limit is refused.
@@ -125,21 +158,67 @@ fn serve_lines(alloc: Global, session: &mut ClientSession<'_, Books>) -> anyhow:
     Ok(format!(in alloc; "{}{lines} lines", str::from_utf8(&written)?)?)
 }
 
+// The same with two threads.
+fn serve_lines_with_workers<R: Threads + Wait + AllocGlobal + Sync>(
+    rt: &R,
+    server: &Server,
+) -> anyhow::Result<String> {
+    let alloc = rt.alloc();
+    let mut session = server.session(alloc, Some(1), |_line| Books)?;
+    let workers = Workers::new(rt, 2)?;
+    let mut reader = Counted::new("{\"query\":\"{books(ids:[1,3]){title}}\"}".as_bytes());
+    let mut written = Vec::new(alloc);
+    let mut writer = Counted::new(&mut written);
+    let lines = serve_with(alloc, &mut session, &workers, &mut reader, &mut writer)?;
+    drop(writer);
+    Ok(format!(in alloc; "{}{lines} line", str::from_utf8(&written)?)?)
+}
+
+// The calls that answer requests.
+fn show_requests(
+    rt: &impl Print,
+    alloc: Global,
+    session: &mut ClientSession<'_, Books>,
+) -> anyhow::Result<()> {
+    println!(rt; "answer: {}", answer(session, "{book(id:1){title}}")?)?;
+    println!(rt; "refusal: {}", answer(session, "{book{title}}")?)?;
+    println!(rt; "answer_all: {}", answer_all(alloc, session)?)?;
+    println!(rt; "answer_text: {}", answer_text(session)?)?;
+    println!(rt; "limit_answers: {}", limit_answers(session)?)?;
+    Ok(())
+}
+
+// The calls for keys.
+fn show_keys(
+    rt: &impl Print,
+    alloc: Global,
+    session: &mut ClientSession<'_, Books>,
+) -> anyhow::Result<()> {
+    println!(rt; "prime: {}", prime(alloc, session)?)?;
+    println!(rt; "clear: {}", clear(alloc, session)?)?;
+    println!(rt; "load: {}", load(alloc, session)?)?;
+    println!(rt; "load_many: {}", load_many(alloc, session)?)?;
+    println!(rt; "restart: {}", restart(alloc, session)?)?;
+    Ok(())
+}
+
 fn main(rt: HostRuntime) -> anyhow::Result<()> {
     let alloc = rt.alloc();
     let server = Server::read(alloc, SCHEMA, BINDINGS)?;
     let mut session = server.session(alloc, None, |_line| Books)?;
-    println!(rt; "answer: {}", answer(&mut session, "{book(id:1){title}}")?)?;
-    println!(rt; "refusal: {}", answer(&mut session, "{book{title}}")?)?;
-    println!(rt; "answer_all: {}", answer_all(alloc, &mut session)?)?;
-    println!(rt; "answer_text: {}", answer_text(&mut session)?)?;
-    println!(rt; "Workers: {}", answer_with_workers(&rt, &server)?)?;
-    println!(rt; "limit_answers: {}", limit_answers(&mut session)?)?;
-    println!(rt; "prime: {}", prime(alloc, &mut session)?)?;
-    println!(rt; "clear: {}", clear(alloc, &mut session)?)?;
-    println!(rt; "load: {}", load(alloc, &mut session)?)?;
-    println!(rt; "load_many: {}", load_many(alloc, &mut session)?)?;
-    println!(rt; "restart: {}", restart(alloc, &mut session)?)?;
+    show_requests(&rt, alloc, &mut session)?;
+    show_keys(&rt, alloc, &mut session)?;
     println!(rt; "serve: {}", serve_lines(alloc, &mut session)?)?;
+    println!(rt; "source_fn: {}", source_of_a_function(alloc, &server)?)?;
+    println!(rt; "answer_with: {}", answer_with_workers(&rt, &server)?)?;
+    println!(rt;
+        "answer_all_with: {}",
+        answer_all_with_workers(&rt, &server)?
+    )?;
+    println!(rt;
+        "answer_text_with: {}",
+        answer_text_with_workers(&rt, &server)?
+    )?;
+    println!(rt; "serve_with: {}", serve_lines_with_workers(&rt, &server)?)?;
     Ok(())
 }

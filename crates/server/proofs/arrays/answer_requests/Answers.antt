@@ -1,5 +1,4 @@
-use Rattle.std.proofs.Common.{◌≡◌, ◌∙◌, List, map, sym, ap, subst, string_bytes}
-use Rattle.gq_check.specs.Plans.{plan_of}
+use Rattle.std.proofs.Common.{◌∙◌, map, sym, ap, subst, string_bytes}
 use Rattle.load_rounds.specs.Headline.{StopsAnswering}
 use Rattle.load_rounds.specs.Sessions.{state_of}
 use Rattle.load_rounds.specs.SharedRounds.{greatest, report_of, together, SharedHeadline}
@@ -68,10 +67,10 @@ returns-clause-answered g c =
     let planned = subst (λ x. PlansArray x values array) c.keep_each.ensures c.in_ok-array.ensures in
     let limited = subst (AreLimited most plans) (sym c.deref.ensures.value) (subst (λ ps. AreLimited most ps c.in_ok-plans.plans.items) c.plans.ensures c.in_ok-plans.ensures) in
     let shared = subst (λ rs. SharedHeadline g.S.Asks.may_tell (state_of c.args.session.now) (state_of c.run.new.arg2) rs (map report_of answers)) (limited-asks most plans c.deref.result.now limited)
-        (c.requires.runs.runs _ _ _ _ c.in_ok-answers.ensures).answers in
+    (c.requires.runs.runs _ _ _ _ c.in_ok-answers.ensures).answers in
     let text = c.in_ok-array_answer.ensures.text
-        ∙ ap (λ rs. array_text (in_places rs (map text_of c.deref-2.result.now))) c.refusals.ensures
-        ∙ ap (λ xs. array_text (in_places (refusals_of array) (map text_of xs))) c.deref-2.ensures.value in
+    ∙ ap (λ rs. array_text (in_places rs (map text_of c.deref-2.result.now))) c.refusals.ensures
+    ∙ ap (λ xs. array_text (in_places (refusals_of array) (map text_of xs))) c.deref-2.ensures.value in
     let rounds = c.in_ok-array_answer.ensures.rounds ∙ ap (λ xs. greatest (map report_of xs)) c.deref-2.ensures.value in
     array-answered g.S.Asks.may_tell _ c.run.new.arg2 values (refusals_of array) plans answers (report_of c.in_ok-array_answer.field-0) planned shared text rounds
 

@@ -1,4 +1,4 @@
-use Rattle.std.proofs.Common.{◌≡◌, ◌<◌, ◌++◌, ◌∷◌, [], ◌+◌, ◌≤◌, ◌∙◌, ℕ, Option, add-one, sym, ap, subst, length, take, get_or, map, arith}
+use Rattle.std.proofs.Common.{◌≡◌, ◌++◌, ◌∷◌, [], ◌+◌, ◌≤◌, ◌∙◌, ℕ, Option, add-one, sym, ap, subst, length, take, map, arith}
 use Rattle.std.proofs.lemmas.List.{length-map, map-append, take_all}
 use Rattle.gq_check.specs.Plans.{PlanOf, plan_of}
 use Rattle.server.specs.Plans.{AreLimited, plan_and_limit}

@@ -1,4 +1,4 @@
-use Rattle.std.proofs.Common.{◌≡◌, ◌<◌, ◌++◌, ◌∷◌, [], ◌∙◌, length, get_or, drop, suc, map, option_map, sym, ap, arith, add-one, List, ℕ, Bor, string_bytes}
+use Rattle.std.proofs.Common.{◌≡◌, ◌<◌, ◌++◌, ◌∷◌, [], ◌∙◌, length, drop, suc, map, option_map, sym, ap, add-one, List, ℕ, Bor, string_bytes}
 use Rattle.std.proofs.lemmas.List.{map-append}
 use Rattle.load_rounds.specs.declared.answer.Answer.{Answer}
 use Rattle.server.specs.Arrays.{in_places}

@@ -1,4 +1,4 @@
-use Rattle.std.proofs.Common.{◌≡◌, ◌∙◌, ◌++◌, ◌∷◌, [], ◌+◌, ◌≤◌, List, take, map, length, add-one, ap, subst, refl, arith, rules}
+use Rattle.std.proofs.Common.{◌≡◌, ◌∙◌, ◌++◌, ◌∷◌, [], ◌+◌, List, take, map, length, add-one, ap, subst, refl, arith}
 use Rattle.std.proofs.lemmas.List.{length-map, take_all}
 use Rattle.gq_bindings.specs.Seen.{loader_of}
 use Rattle.gq_bindings.specs.Tree as bindings
@@ -19,7 +19,7 @@ loop-line-preserved g c =
     let pushed : c.push.new.self.items ≡ c.loop-line.loaders.items ++ loader ∷ [] = rw c.if-is_err.ensures.negation at c.push.ensures.items in
     let made : loader ≡ new_loader c.args.max_batch (loader_of line) c.source-source.result = c.in_ok-loader.ensures.made ∙ rw (c.as_str.ensures.value, c.mode_of.ensures) refl in
     let more = opened-more g.F.FnMut c.args.max_batch (take i (map loader_of lines)) c.loop-line.loaders.items c.args.source c.loop-line.source c.source-source.new.self _ c.source-source.result loader
-        c.loop-line.invariant.opened c.source-source.ensures made in
+    c.loop-line.invariant.opened c.source-source.ensures made in
     record {
       callable = mut_next g.F.FnMut c.loop-line.source (_, tt) c.source-source.result c.source-source.new.self c.source-source.new.self c.source-source.ensures refl c.loop-line.invariant.callable;
       lines = c.loop-line.invariant.lines;
