@@ -230,13 +230,7 @@ pub fn run<R: Files + Threads + Wait + AllocGlobal + Sync, I: Read, W: Write>(
 }
 
 /// A run as [`run`] makes it, over the files of a folder. Each batch enters the gate before it is asked.
-pub fn run_in<
-    R: Threads + Wait + AllocGlobal + Sync,
-    D: Folder,
-    G: Gate + Copy,
-    I: Read,
-    W: Write,
->(
+pub fn run_in<R: Threads + Wait + AllocGlobal + Sync, D: Folder, G: Gate + Copy, I: Read, W: Write>(
     rt: &R,
     folder: &D,
     gate: G,

@@ -1,10 +1,11 @@
 -- What answers an array of requests of a client: its answers in brackets, of which those of plans are given over the one session.
-use Rattle.std.specs.Prelude.{◌≡◌, ℕ, List, [], ◌∷◌, ◌++◌, map, Option, Some, None, codes}
+use Rattle.std.specs.Prelude.{◌≡◌, ℕ, List, [], ◌∷◌, ◌++◌, map, option_map, Option, Some, None, codes, string_bytes}
 use Rattle.std.specs.List.{All, AllZip, join_by}
 use Rattle.load_memory.specs.Keys.{KeyOf}
 use Rattle.load_queue.specs.Answers.{AnswerOf}
 use Rattle.gq_check.specs.Plans.{PlanOf}
 use Rattle.gq_check.specs.Planned.{IsPlan}
+use Rattle.load_rounds.specs.declared.answer.Answer.{Answer}
 use Rattle.load_rounds.specs.Headline.{StopsAnswering}
 use Rattle.load_rounds.specs.Sessions.{SessionOf, state_of}
 use Rattle.load_rounds.specs.SharedRounds.{ReportOf, together, greatest, SharedHeadline}
@@ -45,6 +46,10 @@ in_places [] texts = []
 in_places (Some refusal ∷ refusals) texts = refusal ∷ in_places refusals texts
 in_places (None ∷ refusals) [] = in_places refusals []
 in_places (None ∷ refusals) (text ∷ texts) = text ∷ in_places refusals texts
+
+-- the texts of an array: its refusals, and in the other places these answers, in order
+abbrev pub texts_of : List (Option String) → List Answer → List (List ℕ)
+texts_of refusals answers = in_places (map (option_map string_bytes) refusals) (map (λ (a : Answer). string_bytes a.text) answers)
 
 -- texts in brackets, with commas between them
 abbrev pub array_text : List (List ℕ) → List ℕ

@@ -1,7 +1,15 @@
 -- What a contract sees of a client's session.
-use Rattle.std.specs.Prelude.{◌≡◌, ◌≤◌, ℕ, Option, length}
+use Rattle.std.specs.Prelude.{◌≡◌, ◌≤◌, ℕ, List, Option, length}
+use Rattle.load_memory.specs.Keys.{KeyOf}
+use Rattle.load_memory.specs.Outcomes.{ItemOf, OutcomeOf}
+use Rattle.load_memory.specs.Pairs.{PairOf, look}
+use Rattle.load_queue.specs.Answers.{AnswerOf}
+use Rattle.execution.specs.Rounds.{without_failed}
+use Rattle.execution.specs.Sessions.{Cell}
 use Rattle.request_plans.specs.Servers.{ServerOf}
-use Rattle.load_rounds.specs.Sessions.{SessionOf, restarted}
+use Rattle.load_rounds.specs.Calls.{cell_at, pair_at}
+use Rattle.load_rounds.specs.Histories.{Call, IsCallOf}
+use Rattle.load_rounds.specs.Sessions.{SessionOf, restarted, state_of}
 
 -- the server that answers the client, how many bytes an answer has at most, and the session in which it is answered
 pub record ClientOf (S : Type 0) : Type 0 where
@@ -25,3 +33,19 @@ module _ {S : Type 0} where
   pub record IsSameClient (old new : ClientOf S) : Type 0 where
     pub server : new.server ≡ old.server
     pub most : new.most ≡ old.most
+
+  -- a loader's key as the client's memory has it
+  abbrev pub client_cell : ClientOf S → ℕ → KeyOf → Cell
+  client_cell c loader key = cell_at (state_of c.session) loader key
+
+  -- the pair of that key and an item
+  abbrev pub client_pair : ClientOf S → ℕ → KeyOf → ItemOf → PairOf
+  client_pair c loader key item = pair_at (state_of c.session) loader key item
+
+  -- what is known of that key once failed batches are forgotten
+  abbrev pub known_of : ClientOf S → ℕ → KeyOf → Option OutcomeOf
+  known_of c loader key = without_failed (look c.session.pairs) loader (client_cell c loader key).1
+
+  -- what a call makes of the client's session
+  abbrev pub IsClientCall : (S → List KeyOf → AnswerOf → Type 0) → Call → ClientOf S → ClientOf S → Type 0
+  IsClientCall may call old new = IsCallOf may call old.session new.session

@@ -29,8 +29,8 @@ fn answer_plan<S: Asks, F: Fn(&mut Session<S>, &Limited<'_, '_>) -> Result<Answe
 ) -> Result<Answer, NoMemory>
     requires runs { RunsEach S.may_tell (F.pre run.now) (F.post run.now) }
     requires loaders { length (plan_of plan.now).bindings.loaders ≤ length session.old.loaders }
-    ensures answered { (s : ServerOf) → IfOk result (λ answer. AnswersPlan S.may_tell (client_of s most session.old) (plan_of plan.now)
-        (report_of answer) session.new) }
+    ensures answered { (s : ServerOf) → IfOk result (λ a. AnswersPlan S.may_tell (client_of s most session.old) (plan_of plan.now)
+        (report_of a) session.new) }
     ensures stopped { OnErr result (StopsAnswering S.may_tell (state_of session.old) (state_of session.new) (plan_program (plan_of plan.now))) }
     ensures loaders { length session.new.loaders ≡ length session.old.loaders }
 {
@@ -46,24 +46,24 @@ pub(crate) fn answer_request<
 >(
     alloc: Global,
     run: &F,
-    documents: &mut KeptDocuments<'_>,
+    kept: &mut KeptDocuments<'_>,
     session: &mut Session<S>,
     request: &Request<'_>,
     most: Option<usize>,
 ) -> Result<Answer, NoMemory>
     requires runs { RunsEach S.may_tell (F.pre run.now) (F.post run.now) }
-    requires loaders { HasLoaders documents.old.server session.old }
-    ensures answered { IfOk result (λ answer. AnswersRequest S.may_tell (client_of documents.old.server most session.old)
-        (request_of request.now) (report_of answer) session.new) }
-    ensures stopped { OnErr result (StopsRequest S.may_tell (client_of documents.old.server most session.old)
+    requires loaders { HasLoaders kept.old.server session.old }
+    ensures answered { IfOk result (λ a. AnswersRequest S.may_tell (client_of kept.old.server most session.old) (request_of request.now)
+        (report_of a) session.new) }
+    ensures stopped { OnErr result (StopsRequest S.may_tell (client_of kept.old.server most session.old)
         (request_of request.now) session.new) }
-    ensures server { documents.new.server ≡ documents.old.server }
+    ensures server { kept.new.server ≡ kept.old.server }
     ensures loaders { length session.new.loaders ≡ length session.old.loaders }
 {
-    if let Some(text) = documents.keep(alloc, request)? {
+    if let Some(text) = kept.keep(alloc, request)? {
         return Ok(Answer { text, rounds: 0 });
     }
-    match documents.plan(alloc, request)? {
+    match kept.plan(alloc, request)? {
         RequestPlan::Refused(text) => Ok(Answer { text, rounds: 0 }),
         RequestPlan::Planned(plan) => answer_plan(run, session, &plan, most),
     }

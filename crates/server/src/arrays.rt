@@ -5,7 +5,7 @@ ghost use Rattle.load_rounds.specs.SharedRounds.{greatest, report_of};
 ghost use Rattle.request_line.specs.Seen.{requests_of};
 ghost use Rattle.request_plans.specs.Planning.{refusals_of, plans_of};
 ghost use Rattle.gq_check.specs.Plans.{plan_of};
-ghost use Rattle.server.specs.Arrays.{AnswersArray, StopsArray, array_text, in_places};
+ghost use Rattle.server.specs.Arrays.{AnswersArray, StopsArray, array_text, texts_of};
 ghost use Rattle.server.specs.Clients.{HasLoaders, client_of};
 ghost use Rattle.server.specs.Plans.{AreLimited};
 ghost use Rattle.server.specs.Runners.{RunsAll};
@@ -39,8 +39,7 @@ fn texts<'t>(
     refusals: &'t [Option<String>],
     answers: &'t [Answer],
 ) -> Result<Vec<&'t str>, AllocError>
-    ensures { IfOk result (λ texts. map (λ t. t.now) texts.items
-        ≡ in_places (map (option_map string_bytes) refusals.entry.now) (map (λ a. string_bytes a.text) answers.entry.now)) }
+    ensures { IfOk result (λ texts. map (λ t. t.now) texts.items ≡ texts_of refusals.entry.now answers.entry.now) }
 {
     let mut texts = Vec::with_capacity(alloc, refusals.len())?;
     let mut left = answers;
@@ -61,8 +60,7 @@ fn array_answer(
     refusals: &[Option<String>],
     answers: &[Answer],
 ) -> Result<Answer, AllocError>
-    ensures text { IfOk result (λ answer. string_bytes answer.text
-        ≡ array_text (in_places (map (option_map string_bytes) refusals.now) (map (λ a. string_bytes a.text) answers.now))) }
+    ensures text { IfOk result (λ answer. string_bytes answer.text ≡ array_text (texts_of refusals.now answers.now)) }
     ensures rounds { IfOk result (λ answer. answer.rounds ≡ greatest (map report_of answers.now)) }
 {
     let texts = texts(alloc, refusals, answers)?;
@@ -92,21 +90,21 @@ pub(crate) fn answer_requests<
 >(
     alloc: Global,
     run: &G,
-    documents: &mut KeptDocuments<'_>,
+    kept: &mut KeptDocuments<'_>,
     session: &mut Session<S>,
     values: &[Option<Request<'_>>],
     most: Option<usize>,
 ) -> Result<Answer, NoMemory>
     requires runs { RunsAll S.may_tell (G.pre run.now) (G.post run.now) }
-    requires loaders { HasLoaders documents.old.server session.old }
-    ensures answered { IfOk result (λ answer. AnswersArray S.may_tell (client_of documents.old.server most session.old)
-        (requests_of values.now) (report_of answer) session.new) }
-    ensures stopped { OnErr result (StopsArray S.may_tell (client_of documents.old.server most session.old) (requests_of values.now) session.new) }
-    ensures server { documents.new.server ≡ documents.old.server }
+    requires loaders { HasLoaders kept.old.server session.old }
+    ensures answered { IfOk result (λ a. AnswersArray S.may_tell (client_of kept.old.server most session.old)
+        (requests_of values.now) (report_of a) session.new) }
+    ensures stopped { OnErr result (StopsArray S.may_tell (client_of kept.old.server most session.old) (requests_of values.now) session.new) }
+    ensures server { kept.new.server ≡ kept.old.server }
     ensures loaders { length session.new.loaders ≡ length session.old.loaders }
 {
-    documents.keep_each(alloc, values);
-    let array = documents.plan_each(alloc, values)?;
+    kept.keep_each(alloc, values);
+    let array = kept.plan_each(alloc, values)?;
     let plans = limited(alloc, array.plans(), most)?;
     let answers = run(session, &plans)?;
     Ok(array_answer(alloc, array.refusals(), &answers)?)

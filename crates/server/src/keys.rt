@@ -3,12 +3,8 @@
 ghost use Rattle.std.specs.Prelude.{◌≡◌, ◌≤◌, ◌↔◌, [], ◌∷◌, map, length, IfOk, OnOk, OnErr, IsErrOf, is_none, is_some};
 ghost use Rattle.load_memory.specs.Keys.{key_of};
 ghost use Rattle.load_memory.specs.Outcomes.{outcome_of, item_of};
-ghost use Rattle.load_memory.specs.Pairs.{look};
-ghost use Rattle.execution.specs.Rounds.{without_failed};
-ghost use Rattle.load_rounds.specs.Calls.{cell_at, pair_at};
-ghost use Rattle.load_rounds.specs.Histories.{IsCallOf, Loading, StoppedLoading, Priming, Clearing, ClearingAll, Forgetting, any_tell};
-ghost use Rattle.load_rounds.specs.Sessions.{state_of};
-ghost use Rattle.server.specs.Clients.{IsSameClient};
+ghost use Rattle.load_rounds.specs.Histories.{Loading, StoppedLoading, Priming, Clearing, ClearingAll, Forgetting, any_tell};
+ghost use Rattle.server.specs.Clients.{IsClientCall, IsSameClient, client_cell, client_pair, known_of};
 
 use crate::client::ClientSession;
 use load_memory::{Item, Key, Outcome};
@@ -21,11 +17,9 @@ impl<'s, S> ClientSession<'s, S> {
     pub fn prime(&mut self, loader: usize, key: &Key, item: Item) -> Result<bool, SessionFault>
         ensures no_loader { IsErrOf result SessionFault.NoSuchLoader ↔ (length self.old.session.loaders ≤ loader) }
         ensures refused { IsErrOf result SessionFault.NoSuchLoader → self.new ≡ self.old }
-        ensures no_memory { IsErrOf result SessionFault.NoMemory → IsCallOf any_tell Forgetting self.old.session self.new.session }
-        ensures report { IfOk result (λ added. added
-            ≡ is_none (without_failed (look self.old.session.pairs) loader (cell_at (state_of self.old.session) loader (key_of key.now)).1)) }
-        ensures after { OnOk result (IsCallOf any_tell (Priming (pair_at (state_of self.old.session) loader (key_of key.now) (item_of item)))
-            self.old.session self.new.session) }
+        ensures no_memory { IsErrOf result SessionFault.NoMemory → IsClientCall any_tell Forgetting self.old self.new }
+        ensures report { IfOk result (λ added. added ≡ is_none (known_of self.old loader (key_of key.now))) }
+        ensures after { OnOk result (IsClientCall any_tell (Priming (client_pair self.old loader (key_of key.now) (item_of item))) self.old self.new) }
         ensures same { IsSameClient self.old self.new }
     {
         self.session.prime(loader, key, item)
@@ -36,11 +30,9 @@ impl<'s, S> ClientSession<'s, S> {
     pub fn clear(&mut self, loader: usize, key: &Key) -> Result<bool, SessionFault>
         ensures no_loader { IsErrOf result SessionFault.NoSuchLoader ↔ (length self.old.session.loaders ≤ loader) }
         ensures refused { IsErrOf result SessionFault.NoSuchLoader → self.new ≡ self.old }
-        ensures no_memory { IsErrOf result SessionFault.NoMemory → IsCallOf any_tell Forgetting self.old.session self.new.session }
-        ensures report { IfOk result (λ there. there
-            ≡ is_some (without_failed (look self.old.session.pairs) loader (cell_at (state_of self.old.session) loader (key_of key.now)).1)) }
-        ensures after { OnOk result (IsCallOf any_tell (Clearing (cell_at (state_of self.old.session) loader (key_of key.now)))
-            self.old.session self.new.session) }
+        ensures no_memory { IsErrOf result SessionFault.NoMemory → IsClientCall any_tell Forgetting self.old self.new }
+        ensures report { IfOk result (λ there. there ≡ is_some (known_of self.old loader (key_of key.now))) }
+        ensures after { OnOk result (IsClientCall any_tell (Clearing (client_cell self.old loader (key_of key.now))) self.old self.new) }
         ensures same { IsSameClient self.old self.new }
     {
         self.session.clear(loader, key)
@@ -52,7 +44,7 @@ impl<'s, S> ClientSession<'s, S> {
         ensures no_loader { IsErrOf result SessionFault.NoSuchLoader ↔ (length self.old.session.loaders ≤ loader) }
         ensures refused { OnErr result (self.new ≡ self.old) }
         ensures no_other { IsErrOf result SessionFault.NoMemory → ⊥ }
-        ensures after { OnOk result (IsCallOf any_tell (ClearingAll loader) self.old.session self.new.session) }
+        ensures after { OnOk result (IsClientCall any_tell (ClearingAll loader) self.old self.new) }
         ensures same { IsSameClient self.old self.new }
     {
         self.session.clear_all(loader)
@@ -66,9 +58,9 @@ impl<'s, S: Asks> ClientSession<'s, S> {
         ensures no_loader { IsErrOf result SessionFault.NoSuchLoader ↔ (length self.old.session.loaders ≤ loader) }
         ensures refused { IsErrOf result SessionFault.NoSuchLoader → self.new ≡ self.old }
         ensures no_memory { IsErrOf result SessionFault.NoMemory
-            → IsCallOf S.may_tell (StoppedLoading loader (key_of key ∷ [])) self.old.session self.new.session }
-        ensures loaded { IfOk result (λ outcome. IsCallOf S.may_tell (Loading loader (key_of key ∷ []) (outcome_of outcome ∷ []))
-            self.old.session self.new.session) }
+            → IsClientCall S.may_tell (StoppedLoading loader (key_of key ∷ [])) self.old self.new }
+        ensures loaded { IfOk result (λ outcome. IsClientCall S.may_tell (Loading loader (key_of key ∷ []) (outcome_of outcome ∷ []))
+            self.old self.new) }
         ensures same { IsSameClient self.old self.new }
     {
         self.session.load(loader, key)
@@ -80,9 +72,9 @@ impl<'s, S: Asks> ClientSession<'s, S> {
         ensures no_loader { IsErrOf result SessionFault.NoSuchLoader ↔ (length self.old.session.loaders ≤ loader) }
         ensures refused { IsErrOf result SessionFault.NoSuchLoader → self.new ≡ self.old }
         ensures no_memory { IsErrOf result SessionFault.NoMemory
-            → IsCallOf S.may_tell (StoppedLoading loader (map key_of keys.now)) self.old.session self.new.session }
-        ensures loaded { IfOk result (λ outcomes. IsCallOf S.may_tell (Loading loader (map key_of keys.now) (map outcome_of outcomes.items))
-            self.old.session self.new.session) }
+            → IsClientCall S.may_tell (StoppedLoading loader (map key_of keys.now)) self.old self.new }
+        ensures loaded { IfOk result (λ outcomes. IsClientCall S.may_tell (Loading loader (map key_of keys.now) (map outcome_of outcomes.items))
+            self.old self.new) }
         ensures same { IsSameClient self.old self.new }
     {
         self.session.load_many(loader, keys)

@@ -25,13 +25,21 @@ type Asked = (&'static str, Option<&'static str>, &'static str);
 /// Requests that have plans.
 const REQUESTS: &[Asked] = &[
     ("{user(id:1){name}}", None, "null"),
-    ("{a:user(id:1){best{name}} b:user(id:2){name}}", None, "null"),
+    (
+        "{a:user(id:1){best{name}} b:user(id:2){name}}",
+        None,
+        "null",
+    ),
     ("{users{posts{author{name}}}}", None, "null"),
     ("{usersByIds(ids:[3,3,9,1]){name}}", None, "null"),
     ("{user(id:3){best{name}}}", None, "null"),
     ("{user(id:4){name}}", None, "null"),
     ("{users{name}}", None, "null"),
-    ("query($i:ID=\"1\"){user(id:$i){name}}", None, "{\"i\":null}"),
+    (
+        "query($i:ID=\"1\"){user(id:$i){name}}",
+        None,
+        "{\"i\":null}",
+    ),
     ("query($i:ID=\"1\"){user(id:$i){name}}", None, "null"),
     (
         "{named(id:2){__typename ...on User{id} ...on Bot{model} name@skip(if:true)@include(if:true)}}",

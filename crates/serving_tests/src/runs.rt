@@ -78,7 +78,12 @@ fn files_are_read_to_their_ends(rt: HostRuntime) -> Result<(), Fail> {
         file("requests", &requests),
     ];
     let words = "--schema schema --bindings bindings requests rows=rows.csv";
-    expect(&rt, &ran(&rt, &files, NoGate, words)?, &wanted, "long files");
+    expect(
+        &rt,
+        &ran(&rt, &files, NoGate, words)?,
+        &wanted,
+        "long files",
+    );
     Ok(())
 }
 
@@ -131,7 +136,12 @@ fn tables_stand_under_their_names(rt: HostRuntime) -> Result<(), Fail> {
     files.push(file("schema", &schema))?;
     files.push(file("bindings", &bindings))?;
     files.push(file("requests", TEN_ASKED))?;
-    expect(&rt, &ran(&rt, &files, NoGate, &words)?, TEN_ANSWERED, "ten tables");
+    expect(
+        &rt,
+        &ran(&rt, &files, NoGate, &words)?,
+        TEN_ANSWERED,
+        "ten tables",
+    );
     Ok(())
 }
 
@@ -143,7 +153,8 @@ fn files_have_to_be_there(rt: HostRuntime) -> Result<(), Fail> {
     Ok(())
 }
 
-const USERS: &str = "type Query { user(id: ID!): User users: [User!]! } type User { id: ID! name: String! }";
+const USERS: &str =
+    "type Query { user(id: ID!): User users: [User!]! } type User { id: ID! name: String! }";
 
 const USERS_BOUND: &str = "bindings 1
 loader userById users by id
@@ -171,8 +182,15 @@ fn workers_are_as_the_words_say(rt: HostRuntime) -> Result<(), Fail> {
     ];
     for (workers, missed) in [(" --workers 2", "0"), (" --workers 1", "2"), ("", "2")] {
         let gate = Meeting::new();
-        let words = format!(in rt.alloc(); "--schema schema --bindings bindings{workers} requests users=users")?;
-        expect(&rt, &ran(&rt, &files, &gate, &words)?, BOTH_ANSWERED, &words);
+        let words = format!(in rt.alloc();
+            "--schema schema --bindings bindings{workers} requests users=users"
+        )?;
+        expect(
+            &rt,
+            &ran(&rt, &files, &gate, &words)?,
+            BOTH_ANSWERED,
+            &words,
+        );
         expect(&rt, &gate.missed(rt.alloc())?, missed, &words);
     }
     Ok(())
@@ -193,7 +211,8 @@ impl Gate for Batches {
 /// Two keys of one loader.
 const TWO: &str = "{\"query\":\"{a:user(id:1){name} b:user(id:2){name}}\"}";
 
-const TWO_ANSWERED: &str = "{\"data\":{\"a\":{\"name\":\"Ada\"},\"b\":{\"name\":\"Bob\"}}}\n, batches: ";
+const TWO_ANSWERED: &str =
+    "{\"data\":{\"a\":{\"name\":\"Ada\"},\"b\":{\"name\":\"Bob\"}}}\n, batches: ";
 
 /// Words of limits, and what is written and how many batches are asked.
 const LIMITS: &[(&str, &str, u64)] = &[
@@ -219,7 +238,9 @@ fn limits_are_as_the_words_say(rt: HostRuntime) -> Result<(), Fail> {
         let gate = Batches {
             entered: AtomicU64::new(0),
         };
-        let words = format!(in alloc; "--schema schema --bindings bindings{limit} requests users=users")?;
+        let words = format!(in alloc;
+            "--schema schema --bindings bindings{limit} requests users=users"
+        )?;
         let written = ran(&rt, &files, &gate, &words)?;
         let entered = gate.entered.load(Ordering::SeqCst);
         let found = format!(in alloc; "{written}, batches: {entered}")?;

@@ -108,7 +108,7 @@ module _ (s : ServiceOf) where
   pub line-client : (c : ClientOf SourceOf) (line text : List ℕ) (later : ClientOf SourceOf) → IsClientOf s c → server_lines.ServesLine may_tell c line text later → IsClientOf s later
   line-client c line text later is h =
       later-is c later is h.same.server h.same.most (text-over s (restarted c.session) later.session is.over line (record { text = text; rounds = h.rounds })
-          (subst (λ (x : ClientOf SourceOf). server_lines.AnswersText may_tell x line (record { text = text; rounds = h.rounds }) later.session) (client-is c is) h.answers))
+      (subst (λ (x : ClientOf SourceOf). server_lines.AnswersText may_tell x line (record { text = text; rounds = h.rounds }) later.session) (client-is c is) h.answers))
 
   stops-over : (c : ClientOf SourceOf) (line : List ℕ) (later : ClientOf SourceOf) → IsClientOf s c → (later.session ≡ c.session) ⊎ server_lines.StopsText may_tell (begun c) line later.session → IsOver s.world (restarted later.session)
   stops-over c line later is (inl same) = subst (λ x. IsOver s.world (restarted x)) (sym same) is.over

@@ -1,12 +1,15 @@
 -- What answers a line: *Program output*, of one line.
-use Rattle.std.specs.Prelude.{◌≡◌, ℕ, List, Option}
+use Rattle.std.specs.Prelude.{◌≡◌, ℕ, List, Option, Result}
 use Rattle.csv_source.specs.Tables.{SourceOf}
 use Rattle.line_serving.specs.Answering.{AnsweringOf}
+use Rattle.line_serving.specs.Devices.{DevicesOf}
+use Rattle.line_serving.specs.Serving.{Serves}
+use Rattle.line_serving.specs.declared.fault.ServeFault.{ServeFault}
 use Rattle.load_rounds.specs.Sessions.{restarted}
 use Rattle.request_line.specs.Requests.{RequestOf, IsRequest, AreRequests, IsNoRequest}
 use Rattle.request_plans.specs.Planning.{not_a_request}
 use Rattle.server.specs.Clients.{ClientOf}
-use Rattle.server.specs.Lines.{ServesLine, StopsLine}
+use Rattle.server.specs.Lines.{ServesLine, StopsLine, serving}
 use Rattle.world_answers.specs.Answers.{may_tell, AnswersRequest}
 use Rattle.world_answers.specs.Arrays.{AnswersArray}
 use Rattle.world_answers.specs.Services.{ServiceOf, server_in}
@@ -35,3 +38,7 @@ pub record AnswersLine (s : ServiceOf) (c : ClientOf SourceOf) (line text : List
 -- how the lines of a run are answered
 abbrev pub answering : ServiceOf → AnsweringOf (ClientOf SourceOf)
 answering s = record { gives = AnswersLine s; stops = StopsLine may_tell }
+
+-- The lines that are served in the client's session have the text of direct execution each, and the client stays one of the service.
+abbrev pub AreDirect : ServiceOf → ClientOf SourceOf → ClientOf SourceOf → DevicesOf → Result ℕ ServeFault → Type 0
+AreDirect s c later d result = Serves (serving may_tell) c later d result → Serves (answering s) c later d result × IsClientOf s later

@@ -3,12 +3,9 @@
 ghost use Rattle.std.specs.Prelude.{◌≡◌, ℕ, List, Result};
 ghost use Rattle.csv_source.specs.Tables.{SourceOf};
 ghost use Rattle.line_serving.specs.Devices.{DevicesOf};
-ghost use Rattle.line_serving.specs.Serving.{Serves};
 ghost use Rattle.line_serving.specs.declared.fault.ServeFault.{ServeFault};
 ghost use Rattle.server.specs.Clients.{ClientOf};
-ghost use Rattle.server.specs.Lines.{serving};
-ghost use Rattle.world_answers.specs.Answers.{may_tell};
-ghost use Rattle.world_answers.specs.Lines.{IsAnswer, IsClientOf, answering};
+ghost use Rattle.world_answers.specs.Lines.{AreDirect, IsAnswer, IsClientOf};
 ghost use Rattle.world_answers.specs.Services.{ServiceOf};
 
 use gq_check::one_verdict;
@@ -23,5 +20,5 @@ pub fn one_answer()
 /// The lines that are served in a client's session of a service have the text of direct execution each, whoever runs the batches.
 pub fn lines_are_direct()
     ensures { (s : ServiceOf) (c later : ClientOf SourceOf) (d : DevicesOf) (result : Result ℕ ServeFault) → IsClientOf s c
-        → Serves (serving may_tell) c later d result → Serves (answering s) c later d result × IsClientOf s later }
+        → AreDirect s c later d result }
 {}

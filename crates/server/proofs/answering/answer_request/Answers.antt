@@ -18,7 +18,7 @@ pub returns-in-Planned-clause-answered : goal.returns-in-Planned-clause-answered
 returns-in-Planned-clause-answered g c =
     let plan = rw c.in-Planned.is at c.in_ok-text-2.ensures in
     let own = subst (λ s. IsPlanned s (request_of c.args.request.now) (plan_of c.in-Planned.plan)) c.keep.ensures.server plan in
-    IfOk-weaker c.answer_plan.result _ _ (λ answer is. planned own is) (c.answer_plan.ensures.answered c.args.documents.now.server)
+    IfOk-weaker c.answer_plan.result _ _ (λ answer is. planned own is) (c.answer_plan.ensures.answered c.args.kept.now.server)
 
 pub returns-in-Planned-clause-stopped : goal.returns-in-Planned-clause-stopped
 returns-in-Planned-clause-stopped g c =

@@ -16,7 +16,7 @@ use Rattle.server.proofs.arrays.answer_requests.Goals as goal
 pub run-requires : goal.run-requires
 run-requires g c =
     let array = c.in_ok-array.array in
-    let s = c.args.documents.now.server in
+    let s = c.args.kept.now.server in
     let most = c.args.most in
     let values = requests_of c.args.values.now in
     let plans = plans_of array in
