@@ -1,10 +1,9 @@
 //! A directory of people, as a server would ask it over a network: many ids in one call.
 
-ghost use Rattle.std.specs.Prelude.{◌≡◌, IfOk, length};
 ghost use Rattle.server.specs.Sources.{item_for_each};
 
 use server::{FetchFault, Item, Key, Row, Source};
-use std::alloc::{AllocError, Global};
+use std::alloc::Global;
 
 /// The people by id, with their names and the ids of their managers.
 const PEOPLE: [(&str, &str, &str); 4] = [
