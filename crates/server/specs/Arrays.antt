@@ -1,5 +1,5 @@
 -- What answers an array of requests of a client: its answers in brackets, of which those of plans are given over the one session.
-use Rattle.std.specs.Prelude.{◌≡◌, ℕ, List, [], ◌∷◌, ◌++◌, map, option_map, Option, Some, None, codes, string_bytes}
+use Rattle.std.specs.Prelude.{◌≡◌, ℕ, List, [], ◌∷◌, ◌++◌, map, option_map, Option, Some, None, codes, String, string_bytes}
 use Rattle.std.specs.List.{All, AllZip, join_by}
 use Rattle.load_memory.specs.Keys.{KeyOf}
 use Rattle.load_queue.specs.Answers.{AnswerOf}

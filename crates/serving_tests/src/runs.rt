@@ -149,7 +149,7 @@ fn tables_stand_under_their_names(rt: HostRuntime) -> Result<(), Fail> {
 #[test]
 fn files_have_to_be_there(rt: HostRuntime) -> Result<(), Fail> {
     let words = "--schema schema --bindings bindings requests";
-    expect(&rt, &ran(&rt, &[], NoGate, words)?, "X8 FileFault", words);
+    expect(&rt, &ran(&rt, &[], NoGate, words)?, "X2 ReadFault", words);
     Ok(())
 }
 
