@@ -104,7 +104,7 @@ def try_together(module, crate, edits, kept):
     if len(taken) < 2:
         return []
     ran = module.checked(crate, texts, ["--jobs", "1"], kept)
-    failed = [found for found, why in FAILED.findall(ran.stdout) if "it calls" not in why]
+    failed = [found for found, why in FAILED.findall(ran.stdout) if "it calls" not in why and "has no proof" not in why]
     return [edit for edit, own in taken.items() if any(is_of(it, function) for it in failed for function in own)]
 
 

@@ -34,9 +34,8 @@ fn served<R: Read + Drop>(
 ) -> Ending {
     let mut reader = Counted::new(reader);
     let mut writer = Counted::new(narrow);
-    let result = serve(alloc, &mut reader, &mut writer, |line: &[u8]| {
-        answer_of(alloc, fixed, line)
-    });
+    let mut answer = |line: &[u8]| answer_of(alloc, fixed, line);
+    let result = serve(alloc, &mut reader, &mut writer, &mut answer);
     let faults = writer.faults();
     drop(writer);
     (result, reader.faults(), faults)

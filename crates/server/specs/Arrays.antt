@@ -1,6 +1,7 @@
 -- What answers an array of requests of a client: its answers in brackets, of which those of plans are given over the one session.
 use Rattle.std.specs.Prelude.{◌≡◌, ℕ, List, [], ◌∷◌, ◌++◌, map, option_map, Option, Some, None, codes, String, string_bytes}
 use Rattle.std.specs.List.{All, AllZip, join_by}
+use Rattle.std.specs.declared.alloc.Global.{Global}
 use Rattle.load_memory.specs.Keys.{KeyOf}
 use Rattle.load_queue.specs.Answers.{AnswerOf}
 use Rattle.gq_check.specs.Plans.{PlanOf}
@@ -48,7 +49,7 @@ in_places (None ∷ refusals) [] = in_places refusals []
 in_places (None ∷ refusals) (text ∷ texts) = text ∷ in_places refusals texts
 
 -- the texts of an array: its refusals, and in the other places these answers, in order
-abbrev pub texts_of : List (Option String) → List Answer → List (List ℕ)
+abbrev pub texts_of : List (Option (String Global)) → List Answer → List (List ℕ)
 texts_of refusals answers = in_places (map (option_map string_bytes) refusals) (map (λ (a : Answer). string_bytes a.text) answers)
 
 -- texts in brackets, with commas between them
