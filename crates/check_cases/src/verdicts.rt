@@ -8,6 +8,7 @@ use gq_parser::parse;
 use gq_schema::{Input, Schema};
 use serde_json::Value;
 use std::alloc::{AllocError, Global};
+use std::sync::Arc;
 
 /// The message of a fault, and its line and column where it has a place.
 fn displayed_fault(alloc: Global, fault: &CheckFault) -> Result<String, AllocError> {
@@ -49,7 +50,7 @@ fn displayed_plan(alloc: Global, plan: &Plan) -> Result<String, AllocError> {
 
 /// What is reported of a document; `valid` where nothing is.
 pub fn verdict(alloc: Global, schema: &str, text: &str) -> Result<String> {
-    let schema = Schema::read(alloc, schema)?;
+    let schema = Arc::new(alloc, Schema::read(alloc, schema)?)?;
     let document = parse(alloc, text)?;
     match check(alloc, &schema, document) {
         Ok(_) => Ok(String::from_str(alloc, "valid")?),
@@ -67,8 +68,8 @@ struct Request {
 /// A schema with its bindings.
 #[derive(Drop)]
 struct Served {
-    schema: Schema,
-    bindings: Bindings,
+    schema: Arc<Schema>,
+    bindings: Arc<Bindings>,
 }
 
 /// The name of an operation after `of`, and the JSON of variables after `with`.
@@ -86,7 +87,10 @@ fn request_of(alloc: Global, request: &str) -> Result<Request> {
 fn read_served(alloc: Global, asked: &Question) -> Result<Served> {
     let schema = Schema::read(alloc, asked.file(0)?)?;
     let bindings = Bindings::read(alloc, &schema, asked.file(1)?)?;
-    Ok(Served { schema, bindings })
+    Ok(Served {
+        schema: Arc::new(alloc, schema)?,
+        bindings: Arc::new(alloc, bindings)?,
+    })
 }
 
 /// What the plan of a valid document is, or the fault.
@@ -97,8 +101,7 @@ fn planned(alloc: Global, served: &Served, request: &Request, text: &str) -> Res
         Some(name) => Some(name.as_str()),
         None => None,
     };
-    let Served { schema, bindings } = served;
-    match prepare(alloc, schema, bindings, checked, name, &request.variables) {
+    match prepare(alloc, &served.bindings, checked, name, &request.variables) {
         Ok(plan) => Ok(displayed_plan(alloc, &plan)?),
         Err(fault) => Ok(format!(in alloc; "{fault}")?),
     }

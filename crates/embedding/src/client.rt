@@ -16,7 +16,7 @@ fn key_of(alloc: Global, id: &str) -> anyhow::Result<Key> {
 // What a client tells of a person is believed for its session, where nothing is known of that person yet.
 fn prime<'n>(
     alloc: Global,
-    session: &mut ClientSession<'_, Directory>,
+    session: &mut ClientSession<Directory>,
     id: &'n str,
     name: &'n str,
 ) -> anyhow::Result<String> {
@@ -29,7 +29,7 @@ fn prime<'n>(
 // What was known of a person is forgotten, so that the directory is asked again.
 fn clear(
     alloc: Global,
-    session: &mut ClientSession<'_, Directory>,
+    session: &mut ClientSession<Directory>,
     id: &str,
 ) -> anyhow::Result<String> {
     let known = session.clear(PERSON_BY_ID, &key_of(alloc, id)?)?;
@@ -37,7 +37,7 @@ fn clear(
 }
 
 // The batches that the directory was asked, oldest first, each with its round.
-fn log(alloc: Global, session: &ClientSession<'_, Directory>) -> anyhow::Result<String> {
+fn log(alloc: Global, session: &ClientSession<Directory>) -> anyhow::Result<String> {
     let mut text = String::from_str(alloc, "log:")?;
     for batch in session.session().logs(PERSON_BY_ID).unwrap_or(&[]) {
         text.push_str(format!(in alloc; " round {}", batch.round)?.as_str())?;
@@ -56,7 +56,7 @@ fn log(alloc: Global, session: &ClientSession<'_, Directory>) -> anyhow::Result<
 fn answer<R: Threads + Wait + Sync>(
     alloc: Global,
     workers: &Workers<'_, R>,
-    session: &mut ClientSession<'_, Directory>,
+    session: &mut ClientSession<Directory>,
     query: &str,
 ) -> anyhow::Result<String> {
     let request = Request {
@@ -72,7 +72,7 @@ fn answer<R: Threads + Wait + Sync>(
 pub fn reply<R: Threads + Wait + Sync>(
     alloc: Global,
     workers: &Workers<'_, R>,
-    session: &mut ClientSession<'_, Directory>,
+    session: &mut ClientSession<Directory>,
     line: &str,
 ) -> anyhow::Result<String> {
     if line == "log" {

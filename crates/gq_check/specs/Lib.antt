@@ -1,4 +1,3 @@
-pub mod Held
 pub mod Places
 pub mod Plans
 pub mod Prepared

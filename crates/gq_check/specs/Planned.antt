@@ -1,6 +1,9 @@
 -- How plans are prepared, and what holds of every plan: it is prepared from a valid document.
 use Rattle.std.specs.Prelude.{◌≡◌, ℕ, List, Option, Result, Ok, get_or}
+use Rattle.std.specs.Arc.{arc_value}
 use Rattle.std.specs.Borrow.{Bor}
+use Rattle.std.specs.declared.alloc.Global.{Global}
+use Rattle.std.specs.declared.sync.Arc.{Arc}
 use Rattle.serde_json.specs.Data.{Data}
 use Rattle.serde_json.specs.View.{view}
 use Rattle.serde_json.specs.declared.value.Value.{Value}
@@ -9,7 +12,7 @@ use Rattle.gq_parser.specs.Tree.{Document, Operation, Fragment, operation_of}
 use Rattle.schema_syntax.specs.declared.tree.Definition as rust-definition
 use Rattle.schema_syntax.specs.Tree.{Definition}
 use Rattle.gq_schema.specs.Types.{tree_of}
-use Rattle.gq_check.specs.Plans.{PlanParts, PlanOf, plan_of, operations_of}
+use Rattle.gq_check.specs.Plans.{PlanParts, PlanOf, plan_of, operations_of, operations_in}
 use Rattle.gq_check.specs.Prepared.{PreparedOf, FaultOf, asked_name, chosen_operation, prepared_operation, prepared}
 use Rattle.gq_check.specs.Verdict.{IsValid}
 
@@ -32,8 +35,8 @@ pub record IsChosen (defs : List Definition) (o : Operation) (fragments : List F
   pub chosen : chosen_operation document.operations name ≡ Ok o
 
 -- At this place of the operations stands the one that is asked for by this name, or the only one.
-abbrev pub IsChosenAt : List rust-operation.Operation → Option (List ℕ) → ℕ → Type 0
-IsChosenAt os name place = (d : rust-operation.Operation) → chosen_operation (operations_of os) name ≡ Ok (operation_of (get_or os place d))
+abbrev pub IsChosenAt : List (Arc rust-operation.Operation Global) → Option (List ℕ) → ℕ → Type 0
+IsChosenAt os name place = (d : Arc rust-operation.Operation Global) → chosen_operation (operations_in os) name ≡ Ok (operation_of (arc_value (get_or os place d)))
 
 -- what preparing gives over these definitions, of an operation among these that may be asked for by its name, with these values
 abbrev pub preparation : List rust-definition.Definition → List rust-operation.Operation → Option (Bor (List ℕ)) → Value → Result PreparedOf FaultOf

@@ -1,5 +1,8 @@
 -- Plans, without where they lie in memory.
 use Rattle.std.specs.Prelude.{ℕ, Bool, List, Option, map, find, bytes_eq}
+use Rattle.std.specs.Arc.{arc_value}
+use Rattle.std.specs.declared.alloc.Global.{Global}
+use Rattle.std.specs.declared.sync.Arc.{Arc}
 use Rattle.gq_parser.specs.declared.tree.Operation as rust-operation
 use Rattle.gq_parser.specs.declared.tree.Fragment as rust-fragment
 use Rattle.gq_parser.specs.declared.tree.Document as rust-document
@@ -10,8 +13,6 @@ use Rattle.gq_schema.specs.Types.{tree_of}
 use Rattle.gq_bindings.specs.Tree.{BindingsOf}
 use Rattle.variable_values.specs.declared.variable.Variable as rust-variable
 use Rattle.variable_values.specs.Variables.{VariableOf, variables_of}
-use Rattle.gq_check.specs.declared.held.Held.{Held}
-use Rattle.gq_check.specs.Held.{held_of}
 
 -- the parts of a plan as the program holds them
 pub record PlanParts : Type 0 where
@@ -41,19 +42,23 @@ pub record PlanOf : Type 0 where
   pub fragments : List Fragment
   pub variables : List VariableOf
 
--- the parts of a plan that owns or borrows its operation and its fragments
-abbrev pub plan_parts : List rust-definition.Definition → BindingsOf → Held rust-operation.Operation → Held (List rust-fragment.Fragment)
-    → List rust-variable.Variable → PlanParts
-plan_parts definitions bindings operation fragments variables = record {
-  definitions = definitions;
-  bindings = bindings;
-  operation = held_of operation;
-  fragments = held_of fragments;
+-- the parts of a plan that shares these
+abbrev pub plan_parts : Arc (List rust-definition.Definition) Global → Arc BindingsOf Global → Arc rust-operation.Operation Global
+    → Arc (List rust-fragment.Fragment) Global → List rust-variable.Variable → PlanParts
+plan_parts schema bindings operation fragments variables = record {
+  definitions = arc_value schema;
+  bindings = arc_value bindings;
+  operation = arc_value operation;
+  fragments = arc_value fragments;
   variables = variables;
 }
 
 abbrev pub operations_of : List rust-operation.Operation → List Operation
 operations_of os = map operation_of os
+
+-- operations that are shared
+abbrev pub operations_in : List (Arc rust-operation.Operation Global) → List Operation
+operations_in os = operations_of (map arc_value os)
 
 abbrev pub fragments_of : List rust-fragment.Fragment → List Fragment
 fragments_of fs = map fragment_of fs

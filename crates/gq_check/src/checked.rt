@@ -1,6 +1,7 @@
 //! Documents that were checked.
 
 ghost use Rattle.std.specs.Prelude.{◌≡◌};
+ghost use Rattle.std.specs.Arc.{arc_value};
 ghost use Rattle.gq_parser.specs.Tree.{document_of};
 ghost use Rattle.gq_schema.specs.Types.{tree_of};
 ghost use Rattle.gq_check.specs.Verdict.{IsValid};
@@ -8,17 +9,18 @@ ghost use Rattle.gq_check.specs.Verdict.{IsValid};
 use gq_parser::Document;
 use gq_schema::Schema;
 use std::marker::Model;
+use std::sync::Arc;
 
-/// A document that keeps every rule of validation over a schema.
+/// A document that keeps every rule of validation over a schema, which it shares.
 ///
 /// A contract sees it as the document and the definitions of the schema.
 #[derive(Drop)]
-pub struct Checked<'a> {
-    schema: &'a Schema,
+pub struct Checked {
+    schema: Arc<Schema>,
     document: Document,
 }
 
-impl<'a> Model for Checked<'a> {
+impl Model for Checked {
     ghost use Rattle.std.specs.Coded.{codes};
     ghost use Rattle.gq_parser.specs.contracts.tree.TypeRef as type_ref;
     ghost use Rattle.gq_parser.specs.contracts.tree.Literal as literal;
@@ -30,29 +32,30 @@ impl<'a> Model for Checked<'a> {
 
     ghost coded = { Prim.hlevel (codes, type_ref.the_row.coded, literal.the_row.coded, argument.the_row.coded, set.the_row.coded) };
 
+    ghost use Rattle.std.specs.Arc.{arc_value};
     ghost use Rattle.gq_parser.specs.Tree.{document_of};
     ghost use Rattle.gq_schema.specs.Types.{tree_of};
     ghost use Rattle.gq_check.specs.Verdict.{IsValid};
 
-    ghost view = { λ c. record { definitions = c.schema.now; document = c.document } };
+    ghost view = { λ c. record { definitions = arc_value c.schema; document = c.document } };
 
-    ghost invariant = { λ c. IsValid (tree_of c.schema.now) (document_of c.document) };
+    ghost invariant = { λ c. IsValid (tree_of (arc_value c.schema)) (document_of c.document) };
 }
 
-impl<'a> Checked<'a> {
+impl Checked {
     /// A document that keeps every rule.
-    pub(crate) fn of(schema: &'a Schema, document: Document) -> Checked<'a>
-        requires { IsValid (tree_of schema.now) (document_of document) }
-        ensures { result ≡ record { definitions = schema.now; document = document } }
+    pub(crate) fn of(schema: Arc<Schema>, document: Document) -> Checked
+        requires { IsValid (tree_of (arc_value schema)) (document_of document) }
+        ensures { result ≡ record { definitions = arc_value schema; document = document } }
     {
         Checked { schema, document }
     }
 
     /// The schema.
-    pub fn schema(&self) -> &'a Schema
-        ensures { result.now ≡ self.now.definitions }
+    pub fn schema(&self) -> &Arc<Schema>
+        ensures { arc_value result.now ≡ self.now.definitions }
     {
-        self.schema
+        &self.schema
     }
 
     /// The document.
@@ -63,11 +66,12 @@ impl<'a> Checked<'a> {
         &self.document
     }
 
-    /// The document, to be kept.
-    pub(crate) fn into_document(self) -> Document
-        ensures same { result ≡ self.entry.document }
-        ensures valid { IsValid (tree_of self.entry.definitions) (document_of result) }
+    /// The schema and the document, to be kept.
+    pub(crate) fn into_parts(self) -> (Arc<Schema>, Document)
+        ensures schema { arc_value result.0 ≡ self.definitions }
+        ensures document { result.1 ≡ self.document }
+        ensures valid { IsValid (tree_of self.definitions) (document_of result.1) }
     {
-        self.document
+        (self.schema, self.document)
     }
 }

@@ -1,6 +1,7 @@
 //! Checked documents of which many plans are prepared.
 
-ghost use Rattle.std.specs.Prelude.{◌≡◌, IfOk};
+ghost use Rattle.std.specs.Prelude.{◌≡◌, IfOk, map};
+ghost use Rattle.std.specs.Arc.{arc_value};
 ghost use Rattle.gq_schema.specs.Types.{tree_of};
 ghost use Rattle.gq_check.specs.Plans.{kept_document};
 ghost use Rattle.gq_check.specs.Verdict.{IsValid};
@@ -11,18 +12,20 @@ use gq_parser::{Document, Operation};
 use gq_schema::Schema;
 use std::alloc::{AllocError, Global};
 use std::marker::Model;
+use std::sync::Arc;
 
-/// A checked document of which plans are prepared again and again. Its fragments are indexed once, and its plans borrow it.
+/// A checked document of which plans are prepared again and again. Its fragments are indexed once, and its plans share it.
 ///
 /// A contract sees it as its operations, its fragments and the definitions of the schema.
 #[derive(Drop)]
-pub struct KeptDocument<'a> {
-    schema: &'a Schema,
-    operations: Vec<Operation>,
-    fragments: Fragments,
+pub struct KeptDocument {
+    schema: Arc<Schema>,
+    operations: Vec<Arc<Operation>>,
+    fragments: Arc<Fragments>,
 }
 
-impl<'a> Model for KeptDocument<'a> {
+impl Model for KeptDocument {
+    ghost use Rattle.std.specs.Prelude.{map};
     ghost use Rattle.std.specs.Coded.{codes};
     ghost use Rattle.gq_parser.specs.contracts.tree.TypeRef as type_ref;
     ghost use Rattle.gq_parser.specs.contracts.tree.Literal as literal;
@@ -34,32 +37,45 @@ impl<'a> Model for KeptDocument<'a> {
 
     ghost coded = { Prim.hlevel (codes, type_ref.the_row.coded, literal.the_row.coded, argument.the_row.coded, set.the_row.coded) };
 
+    ghost use Rattle.std.specs.Arc.{arc_value};
     ghost use Rattle.gq_schema.specs.Types.{tree_of};
     ghost use Rattle.gq_check.specs.Plans.{document_with};
     ghost use Rattle.gq_check.specs.Verdict.{IsValid};
 
-    ghost view = { λ k. record { definitions = k.schema.now; operations = k.operations.items; fragments = k.fragments } };
+    ghost view = { λ k. record { definitions = arc_value k.schema; operations = map arc_value k.operations.items; fragments = arc_value k.fragments } };
 
-    ghost invariant = { λ k. IsValid (tree_of k.schema.now) (document_with k.operations.items k.fragments) };
+    ghost invariant = { λ k. IsValid (tree_of (arc_value k.schema)) (document_with (map arc_value k.operations.items) (arc_value k.fragments)) };
 }
 
-impl<'a> KeptDocument<'a> {
+// The operations, to be shared.
+fn shared(alloc: Global, operations: Vec<Operation>) -> Result<Vec<Arc<Operation>>, AllocError>
+    ensures { IfOk result (λ shared. map arc_value shared.items ≡ operations.items) }
+{
+    let mut shared = Vec::with_capacity(alloc, operations.len())?;
+    for operation in operations {
+        shared.push(Arc::new(alloc, operation)?)?;
+    }
+    Ok(shared)
+}
+
+impl KeptDocument {
     /// This document.
     ///
     /// # Errors
     ///
-    /// Only where a growth was refused. The document is not given back.
-    pub fn of(alloc: Global, checked: Checked<'a>) -> Result<KeptDocument<'a>, AllocError>
-        ensures definitions { IfOk result (λ kept. kept.definitions ≡ checked.entry.definitions) }
-        ensures operations { IfOk result (λ kept. kept.operations ≡ checked.entry.document.operations.items) }
-        ensures fragments { IfOk result (λ kept. kept.fragments ≡ checked.entry.document.fragments.items) }
+    /// Only when out of memory. The document is not given back.
+    pub fn of(alloc: Global, checked: Checked) -> Result<KeptDocument, AllocError>
+        ensures definitions { IfOk result (λ kept. kept.definitions ≡ checked.definitions) }
+        ensures operations { IfOk result (λ kept. kept.operations ≡ checked.document.operations.items) }
+        ensures fragments { IfOk result (λ kept. kept.fragments ≡ checked.document.fragments.items) }
     {
-        let schema = checked.schema();
+        let (schema, document) = checked.into_parts();
         let Document {
             operations,
             fragments,
-        } = checked.into_document();
-        let fragments = Fragments::of(alloc, fragments)?;
+        } = document;
+        let operations = shared(alloc, operations)?;
+        let fragments = Arc::new(alloc, Fragments::of(alloc, fragments)?)?;
         Ok(KeptDocument {
             schema,
             operations,
@@ -68,15 +84,15 @@ impl<'a> KeptDocument<'a> {
     }
 
     /// The schema.
-    pub fn schema(&self) -> &'a Schema
-        ensures { result.now ≡ self.now.definitions }
+    pub fn schema(&self) -> &Arc<Schema>
+        ensures { arc_value result.now ≡ self.now.definitions }
     {
-        self.schema
+        &self.schema
     }
 
     /// The operations of the document, in the order of the text.
-    pub fn operations(&self) -> &[Operation]
-        ensures same { result.now ≡ self.now.operations }
+    pub fn operations(&self) -> &[Arc<Operation>]
+        ensures same { map arc_value result.now ≡ self.now.operations }
         // The document keeps every rule.
         ensures valid { IsValid (tree_of self.now.definitions) (kept_document self.now) }
     {
@@ -84,8 +100,8 @@ impl<'a> KeptDocument<'a> {
     }
 
     /// The fragments of the document.
-    pub(crate) fn fragments(&self) -> &Fragments
-        ensures { result.now ≡ self.now.fragments }
+    pub(crate) fn fragments(&self) -> &Arc<Fragments>
+        ensures { arc_value result.now ≡ self.now.fragments }
     {
         &self.fragments
     }

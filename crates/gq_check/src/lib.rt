@@ -4,14 +4,13 @@
 //! The layer above may rely on this: a [`Checked`] is a document that keeps every rule of validation over its schema
 //! ([`valid_documents`]), and [`check`] names the first fault of every other document, which is its one verdict
 //! ([`one_verdict`]). A [`Plan`] is an operation of such a document with the values of its variables, and [`prepare`] says why
-//! there is none. A [`KeptDocument`] is a checked one of which [`prepare_kept`] gives the same plans any number of times. A plan's
-//! look-ups take no memory.
+//! there is none. A [`KeptDocument`] is a checked one of which [`prepare_kept`] gives the same plans any number of times. None of
+//! them borrows: each shares the schema, and a plan its bindings and its document too. A plan's look-ups take no memory.
 #![tactic(auto)]
 
 mod checked;
 mod fault;
 mod fragments;
-mod held;
 mod kept;
 mod law;
 mod operation;

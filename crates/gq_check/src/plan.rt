@@ -9,27 +9,27 @@ ghost use Rattle.gq_check.specs.Plans.{plan_of, plan_parts, fragment_in};
 ghost use Rattle.gq_check.specs.Planned.{IsPlan};
 
 use crate::fragments::Fragments;
-use crate::held::Held;
 use crate::variables::Variables;
 use gq_bindings::Bindings;
 use gq_parser::{Fragment, Operation};
 use gq_schema::{Input, Schema};
 use std::marker::Model;
+use std::sync::Arc;
 
 /// An operation of a checked document with the values of its variables, ready to be executed over a schema and its bindings.
-/// It owns its operation and its fragments, or borrows them from a [`KeptDocument`](crate::KeptDocument).
+/// It shares all of these, and borrows nothing.
 ///
 /// A contract sees its parts, and `plan_of` says what they are.
 #[derive(Drop)]
-pub struct Plan<'a> {
-    schema: &'a Schema,
-    bindings: &'a Bindings,
-    operation: Held<'a, Operation>,
-    fragments: Held<'a, Fragments>,
+pub struct Plan {
+    schema: Arc<Schema>,
+    bindings: Arc<Bindings>,
+    operation: Arc<Operation>,
+    fragments: Arc<Fragments>,
     variables: Variables,
 }
 
-impl<'a> Model for Plan<'a> {
+impl Model for Plan {
     ghost use Rattle.std.specs.Coded.{codes};
     ghost use Rattle.gq_parser.specs.contracts.tree.TypeRef as type_ref;
     ghost use Rattle.gq_parser.specs.contracts.tree.Literal as literal;
@@ -42,38 +42,25 @@ impl<'a> Model for Plan<'a> {
 
     ghost coded = { Prim.hlevel (codes, type_ref.the_row.coded, literal.the_row.coded, argument.the_row.coded, set.the_row.coded, input.the_row.coded) };
 
-    ghost use Rattle.gq_check.specs.Held.{held_of};
-    ghost use Rattle.gq_check.specs.Plans.{plan_of};
+    ghost use Rattle.gq_check.specs.Plans.{plan_of, plan_parts};
     ghost use Rattle.gq_check.specs.Planned.{IsPlan};
 
-    ghost view = { λ p. record {
-      definitions = p.schema.now;
-      bindings = p.bindings.now;
-      operation = held_of p.operation;
-      fragments = held_of p.fragments;
-      variables = p.variables;
-    } };
+    ghost view = { λ p. plan_parts p.schema p.bindings p.operation p.fragments p.variables };
 
-    ghost invariant = { λ p. IsPlan (plan_of (record {
-      definitions = p.schema.now;
-      bindings = p.bindings.now;
-      operation = held_of p.operation;
-      fragments = held_of p.fragments;
-      variables = p.variables;
-    })) };
+    ghost invariant = { λ p. IsPlan (plan_of (plan_parts p.schema p.bindings p.operation p.fragments p.variables)) };
 }
 
-impl<'a> Plan<'a> {
+impl Plan {
     /// The plan of these parts, which are prepared from a valid document.
     pub(crate) fn of(
-        schema: &'a Schema,
-        bindings: &'a Bindings,
-        operation: Held<'a, Operation>,
-        fragments: Held<'a, Fragments>,
+        schema: Arc<Schema>,
+        bindings: Arc<Bindings>,
+        operation: Arc<Operation>,
+        fragments: Arc<Fragments>,
         variables: Variables,
-    ) -> Plan<'a>
-        requires { IsPlan (plan_of (plan_parts schema.now bindings.now operation fragments variables)) }
-        ensures { result ≡ plan_parts schema.now bindings.now operation.entry fragments.entry variables }
+    ) -> Plan
+        requires { IsPlan (plan_of (plan_parts schema bindings operation fragments variables)) }
+        ensures { result ≡ plan_parts schema bindings operation fragments variables }
     {
         Plan {
             schema,
@@ -85,17 +72,17 @@ impl<'a> Plan<'a> {
     }
 
     /// The schema.
-    pub fn schema(&self) -> &'a Schema
+    pub fn schema(&self) -> &Schema
         ensures { result.now ≡ self.now.definitions }
     {
-        self.schema
+        &self.schema
     }
 
     /// How the fields of the schema are answered.
-    pub fn bindings(&self) -> &'a Bindings
+    pub fn bindings(&self) -> &Bindings
         ensures { result.now ≡ self.now.bindings }
     {
-        self.bindings
+        &self.bindings
     }
 
     /// The operation that is executed.
@@ -104,21 +91,21 @@ impl<'a> Plan<'a> {
         // It is of a valid document, and the values of its variables are those that were given.
         ensures prepared { IsPlan (plan_of self.now) }
     {
-        self.operation.get()
+        &self.operation
     }
 
     /// The fragments of the document, in the order of the text.
     pub fn fragments(&self) -> &[Fragment]
         ensures { result.now ≡ self.now.fragments }
     {
-        self.fragments.get().as_slice()
+        self.fragments.as_slice()
     }
 
     /// The fragment of this name. It takes constant time.
     pub fn fragment(&self, name: &str) -> Option<&Fragment>
         ensures { option_map fragment_of (option_copied result) ≡ fragment_in (plan_of self.now).fragments name.now }
     {
-        self.fragments.get().get(name)
+        self.fragments.get(name)
     }
 
     /// The value of the variable of this name, without the `$`. `None` if it has no value. It takes constant time.

@@ -1,9 +1,9 @@
 //! Preparing an operation (section 6.1).
 
 ghost use Rattle.std.specs.Prelude.{◌≡◌, Ok, IfOk, IfErr};
+ghost use Rattle.std.specs.Arc.{arc_value};
 ghost use Rattle.gq_parser.specs.Tree.{operation_of};
 ghost use Rattle.gq_schema.specs.Types.{tree_of};
-ghost use Rattle.gq_check.specs.Held.{held_of};
 ghost use Rattle.gq_check.specs.Plans.{fragments_of};
 ghost use Rattle.gq_check.specs.Planned.{IsChosen, preparation, preparation_of, prepared_in};
 ghost use Rattle.gq_check.specs.Prepared.{prepare_fault, IsPrepareFault};
@@ -11,16 +11,16 @@ ghost use Rattle.gq_check.specs.Prepared.{prepare_fault, IsPrepareFault};
 use crate::checked::Checked;
 use crate::fault::PrepareFault;
 use crate::fragments::Fragments;
-use crate::held::Held;
 use crate::kept::KeptDocument;
 use crate::operation::chosen_operation;
 use crate::plan::Plan;
 use crate::variables::Variables;
 use gq_bindings::Bindings;
-use gq_parser::{Document, Operation};
+use gq_parser::Operation;
 use gq_schema::Schema;
 use serde_json::Value;
 use std::alloc::Global;
+use std::sync::Arc;
 use variable_values::{VariableFault, coerce_variables};
 
 impl From<VariableFault> for PrepareFault {
@@ -36,29 +36,28 @@ impl From<VariableFault> for PrepareFault {
 }
 
 // The plan of a chosen operation, with the values that are given for its variables.
-fn with_values<'a>(
+fn with_values(
     alloc: Global,
-    schema: &'a Schema,
-    bindings: &'a Bindings,
-    operation: Held<'a, Operation>,
-    fragments: Held<'a, Fragments>,
+    schema: Arc<Schema>,
+    bindings: Arc<Bindings>,
+    operation: Arc<Operation>,
+    fragments: Arc<Fragments>,
     variables: &Value,
-) -> Result<Plan<'a>, PrepareFault>
-    requires { IsChosen (tree_of schema.now) (operation_of (held_of operation)) (fragments_of (held_of fragments)) }
-    ensures schema { IfOk result (λ plan. plan.definitions ≡ schema.now) }
-    ensures bindings { IfOk result (λ plan. plan.bindings ≡ bindings.now) }
-    ensures fragments { IfOk result (λ plan. plan.fragments ≡ held_of fragments.entry) }
-    ensures ok { IfOk result (λ plan. preparation_of schema.now (held_of operation.entry) variables.now ≡ Ok (prepared_in plan)) }
-    ensures err { IfErr result (IsPrepareFault (preparation_of schema.now (held_of operation.entry) variables.now)) }
+) -> Result<Plan, PrepareFault>
+    requires { IsChosen (tree_of (arc_value schema)) (operation_of (arc_value operation)) (fragments_of (arc_value fragments)) }
+    ensures schema { IfOk result (λ plan. plan.definitions ≡ arc_value schema) }
+    ensures bindings { IfOk result (λ plan. plan.bindings ≡ arc_value bindings) }
+    ensures fragments { IfOk result (λ plan. plan.fragments ≡ arc_value fragments) }
+    ensures ok { IfOk result (λ plan. preparation_of (arc_value schema) (arc_value operation) variables.now ≡ Ok (prepared_in plan)) }
+    ensures err { IfErr result (IsPrepareFault (preparation_of (arc_value schema) (arc_value operation) variables.now)) }
 {
-    let definitions = &operation.get().variables;
-    let variables = coerce_variables(alloc, schema, definitions, variables)?;
+    let variables = coerce_variables(alloc, &schema, &operation.variables, variables)?;
     let variables = Variables::of(alloc, variables)?;
     Ok(Plan::of(schema, bindings, operation, fragments, variables))
 }
 
 /// Prepares an operation of a checked document: the one named `operation_name`, or the only one. `variables` holds the
-/// values of its variables; null means none. The empty string is a name.
+/// values of its variables; null means none. The empty string is a name. The plan shares the document's schema and these bindings.
 ///
 /// # Errors
 ///
@@ -67,60 +66,47 @@ fn with_values<'a>(
 /// [`BadVariable`](PrepareFault::BadVariable) for the first in the order of the definitions.
 /// [`NoMemory`](PrepareFault::NoMemory) comes as soon as memory runs out, before any fault that would have been found
 /// later. The document is dropped then.
-pub fn prepare<'a>(
+pub fn prepare(
     alloc: Global,
-    schema: &'a Schema,
-    bindings: &'a Bindings,
-    checked: Checked<'a>,
+    bindings: &Arc<Bindings>,
+    checked: Checked,
     operation_name: Option<&str>,
     variables: &Value,
-) -> Result<Plan<'a>, PrepareFault>
-    requires { checked.definitions ≡ schema.now }
-    ensures schema { IfOk result (λ plan. plan.definitions ≡ schema.now) }
-    ensures bindings { IfOk result (λ plan. plan.bindings ≡ bindings.now) }
-    ensures fragments { IfOk result (λ plan. plan.fragments ≡ checked.entry.document.fragments.items) }
-    ensures ok { IfOk result (λ plan. preparation schema.now checked.entry.document.operations.items
+) -> Result<Plan, PrepareFault>
+    ensures schema { IfOk result (λ plan. plan.definitions ≡ checked.definitions) }
+    ensures bindings { IfOk result (λ plan. plan.bindings ≡ arc_value bindings.now) }
+    ensures fragments { IfOk result (λ plan. plan.fragments ≡ checked.document.fragments.items) }
+    ensures ok { IfOk result (λ plan. preparation checked.definitions checked.document.operations.items
         operation_name.entry variables.now ≡ Ok (prepared_in plan)) }
-    ensures err { IfErr result (IsPrepareFault (preparation schema.now checked.entry.document.operations.items operation_name.entry variables.now)) }
+    ensures err { IfErr result (IsPrepareFault (preparation checked.definitions checked.document.operations.items operation_name.entry variables.now)) }
 {
-    let Document {
-        mut operations,
-        fragments,
-    } = checked.into_document();
-    let place = chosen_operation(alloc, &operations, operation_name)?;
-    let operation = Held::Owned(operations.swap_remove(place));
-    let fragments = Held::Owned(Fragments::of(alloc, fragments)?);
-    with_values(alloc, schema, bindings, operation, fragments, variables)
+    let kept = KeptDocument::of(alloc, checked)?;
+    prepare_kept(alloc, bindings, &kept, operation_name, variables)
 }
 
-/// The plan of an operation of a kept document, as [`prepare`] gives it. It borrows the document, and nothing of it is copied.
+/// The plan of an operation of a kept document, as [`prepare`] gives it. It shares the document, and nothing of it is copied.
 ///
 /// # Errors
 ///
 /// Those of [`prepare`].
-pub fn prepare_kept<'a>(
+pub fn prepare_kept(
     alloc: Global,
-    bindings: &'a Bindings,
-    kept: &'a KeptDocument<'a>,
+    bindings: &Arc<Bindings>,
+    kept: &KeptDocument,
     operation_name: Option<&str>,
     variables: &Value,
-) -> Result<Plan<'a>, PrepareFault>
+) -> Result<Plan, PrepareFault>
     ensures schema { IfOk result (λ plan. plan.definitions ≡ kept.now.definitions) }
-    ensures bindings { IfOk result (λ plan. plan.bindings ≡ bindings.now) }
+    ensures bindings { IfOk result (λ plan. plan.bindings ≡ arc_value bindings.now) }
     ensures fragments { IfOk result (λ plan. plan.fragments ≡ kept.now.fragments) }
     ensures ok { IfOk result (λ plan. preparation kept.now.definitions kept.now.operations operation_name.entry variables.now ≡ Ok (prepared_in plan)) }
     ensures err { IfErr result (IsPrepareFault (preparation kept.now.definitions kept.now.operations operation_name.entry variables.now)) }
 {
     let operations = kept.operations();
     let place = chosen_operation(alloc, operations, operation_name)?;
-    let operation = Held::Lent(&operations[place]);
-    let fragments = Held::Lent(kept.fragments());
-    with_values(
-        alloc,
-        kept.schema(),
-        bindings,
-        operation,
-        fragments,
-        variables,
-    )
+    let schema = Arc::try_clone(kept.schema())?;
+    let bindings = Arc::try_clone(bindings)?;
+    let operation = Arc::try_clone(&operations[place])?;
+    let fragments = Arc::try_clone(kept.fragments())?;
+    with_values(alloc, schema, bindings, operation, fragments, variables)
 }

@@ -1,6 +1,7 @@
 //! Validation (section 5).
 
 ghost use Rattle.std.specs.Prelude.{◌≡◌, IfOk, IfErr, OnOk};
+ghost use Rattle.std.specs.Arc.{arc_value};
 ghost use Rattle.gq_parser.specs.Tree.{document_of};
 ghost use Rattle.gq_schema.specs.Types.{tree_of};
 ghost use Rattle.gq_check.specs.Verdict.{IsVerdict, IsValid, IsCheckFault};
@@ -13,6 +14,7 @@ use gq_parser::Document;
 use gq_schema::Schema;
 use spread_graph::Graph;
 use std::alloc::Global;
+use std::sync::Arc;
 
 // Whether a document keeps every rule, and else its first fault.
 fn validate(alloc: Global, schema: &Schema, document: &Document) -> Result<(), CheckFault>
@@ -28,7 +30,7 @@ fn validate(alloc: Global, schema: &Schema, document: &Document) -> Result<(), C
     }
 }
 
-/// The document, where it keeps every rule of validation over a schema.
+/// The document, where it keeps every rule of validation over a schema, which it then shares.
 ///
 /// # Errors
 ///
@@ -36,12 +38,12 @@ fn validate(alloc: Global, schema: &Schema, document: &Document) -> Result<(), C
 /// number at its earliest place, but Field Selection Merging; [`TooDeep`](CheckFault::TooDeep) for the earliest such operation;
 /// [`TooComplex`](CheckFault::TooComplex); [`Rule`](CheckFault::Rule) for Field Selection Merging.
 /// [`NoMemory`](CheckFault::NoMemory) comes when out of memory. The document is dropped in each of these cases.
-pub fn check(alloc: Global, schema: &Schema, document: Document) -> Result<Checked<'_>, CheckFault>
-    ensures schema { IfOk result (λ checked. checked.definitions ≡ schema.now) }
+pub fn check(alloc: Global, schema: &Arc<Schema>, document: Document) -> Result<Checked, CheckFault>
+    ensures schema { IfOk result (λ checked. checked.definitions ≡ arc_value schema.now) }
     ensures document { IfOk result (λ checked. checked.document ≡ document) }
-    ensures ok { IfOk result (λ checked. IsValid (tree_of schema.now) (document_of checked.document)) }
-    ensures err { IfErr result (IsCheckFault (IsVerdict (tree_of schema.now) (document_of document))) }
+    ensures ok { IfOk result (λ checked. IsValid (tree_of (arc_value schema.now)) (document_of checked.document)) }
+    ensures err { IfErr result (IsCheckFault (IsVerdict (tree_of (arc_value schema.now)) (document_of document))) }
 {
     validate(alloc, schema, &document)?;
-    Ok(Checked::of(schema, document))
+    Ok(Checked::of(Arc::try_clone(schema)?, document))
 }

@@ -49,7 +49,7 @@ pub struct Stopped<'p> {
 }
 
 // The root object (section 6.2.1).
-fn begun<'p>(tour: &Tour<'_, 'p, '_>) -> Result<Rooted<'p>, NoMemory>
+fn begun<'p>(tour: &Tour<'_, 'p>) -> Result<Rooted<'p>, NoMemory>
     ensures { IfOk result (IsRooted (plan_of tour.now.plan.now)) }
 {
     let ty = tour.plan.schema().root();
@@ -63,7 +63,7 @@ fn begun<'p>(tour: &Tour<'_, 'p, '_>) -> Result<Rooted<'p>, NoMemory>
 
 // Goes over the whole plan, into a sink in which nothing waits at a later group.
 fn gone_over<'p, S: Sink + Drop>(
-    tour: &Tour<'_, 'p, '_>,
+    tour: &Tour<'_, 'p>,
     rooted: Rooted<'p>,
     out: S,
 ) -> Result<Walked<'p, S>, NoMemory>
@@ -87,7 +87,7 @@ fn gone_over<'p, S: Sink + Drop>(
 
 // Goes over the whole plan, and writes as long as nothing is missing and the text isn't too long.
 fn written<'p>(
-    tour: &Tour<'_, 'p, '_>,
+    tour: &Tour<'_, 'p>,
     most: usize,
     rooted: Rooted<'p>,
 ) -> Result<Walked<'p, Output>, NoMemory>
@@ -106,7 +106,7 @@ fn written<'p>(
 }
 
 /// The response of a plan over a memory that has all that it needs.
-pub fn responded<'p>(tour: &Tour<'_, 'p, '_>, rooted: Rooted<'p>) -> Result<Answered, NoMemory>
+pub fn responded<'p>(tour: &Tour<'_, 'p>, rooted: Rooted<'p>) -> Result<Answered, NoMemory>
     ensures { IsRooted (plan_on tour.now) rooted.entry → IfOk result (IsResponse (plan_on tour.now) tour.now.memory.now) }
 {
     let walked = gone_over(tour, rooted, Builder::new(tour.alloc))?;
@@ -115,7 +115,7 @@ pub fn responded<'p>(tour: &Tour<'_, 'p, '_>, rooted: Rooted<'p>) -> Result<Answ
 
 /// The same where its text may have so many bytes. None where it is certain that it is longer.
 pub fn responded_within<'p>(
-    tour: &Tour<'_, 'p, '_>,
+    tour: &Tour<'_, 'p>,
     rooted: Rooted<'p>,
     most: usize,
 ) -> Result<Option<Answered>, NoMemory>
@@ -128,7 +128,7 @@ pub fn responded_within<'p>(
 
 // Goes on at the positions that wait, and looks for loads alone.
 fn searched<'p>(
-    tour: &Tour<'_, 'p, '_>,
+    tour: &Tour<'_, 'p>,
     rooted: Rooted<'p>,
     waiting: Waiting,
 ) -> Result<Walked<'p, Output>, NoMemory>
@@ -156,7 +156,7 @@ fn searched<'p>(
 
 // Goes on from where an execution stopped, or begins it.
 fn advanced<'p>(
-    tour: &Tour<'_, 'p, '_>,
+    tour: &Tour<'_, 'p>,
     most: usize,
     stopped: Option<Stopped<'p>>,
 ) -> Result<Walked<'p, Output>, NoMemory>
@@ -178,7 +178,7 @@ fn advanced<'p>(
 /// Goes on with each load that the memory has. Where nothing is missing, it comes to the end, and has written an answer without
 /// errors that isn't longer than so many bytes. Else it adds what is missing to the wants, and keeps where it stopped.
 pub fn advance<'p>(
-    tour: &Tour<'_, 'p, '_>,
+    tour: &Tour<'_, 'p>,
     most: usize,
     stopped: &mut Option<Stopped<'p>>,
     wants: &mut Wants,

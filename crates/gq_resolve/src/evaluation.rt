@@ -25,7 +25,7 @@ use std::alloc::Global;
 /// Only when out of memory. The wants then hold what they held, and the first of the loads to add.
 pub fn evaluate(
     alloc: Global,
-    plan: &Plan<'_>,
+    plan: &Plan,
     memory: &Memory,
     wants: &mut Wants,
 ) -> Result<Poll<Answered>, NoMemory>

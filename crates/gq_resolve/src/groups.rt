@@ -289,7 +289,7 @@ fn is_only(schema: &Schema, groups: &[Group<'_>], group: usize, ty: &str) -> boo
 
 // Prepares what is asked of the objects of a type.
 fn meet<'p>(
-    tour: &Tour<'_, 'p, '_>,
+    tour: &Tour<'_, 'p>,
     groups: &mut Vec<Group<'p>>,
     children: &Children<'p>,
     ty: &str,
@@ -342,7 +342,7 @@ fn children_of<'p>(
 
 /// The members of the objects of a type below a group.
 pub fn shape_of<'p>(
-    tour: &Tour<'_, 'p, '_>,
+    tour: &Tour<'_, 'p>,
     groups: &mut Vec<Group<'p>>,
     group: usize,
     ty: &str,

@@ -24,7 +24,7 @@ fn fields_in(set: &SelectionSet) -> usize {
 }
 
 /// How many groups are kept prepared at most.
-pub fn most_kept(plan: &Plan<'_>) -> usize {
+pub fn most_kept(plan: &Plan) -> usize {
     let mut fields = fields_in(&plan.operation().selection_set);
     for fragment in plan.fragments() {
         fields = fields.saturating_add(fields_in(&fragment.selection_set));

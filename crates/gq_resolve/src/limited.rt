@@ -35,7 +35,7 @@ fn limited(alloc: Global, text: String, most: usize) -> Result<String, NoMemory>
 /// The text of an answer of which nothing is missing, or its refusal where that has more bytes. An answer without errors was
 /// written, if it isn't too long. Any other is built first.
 pub fn limited_answer<'p>(
-    tour: &Tour<'_, 'p, '_>,
+    tour: &Tour<'_, 'p>,
     walked: Walked<'p, Output>,
     most: usize,
 ) -> Result<String, NoMemory>

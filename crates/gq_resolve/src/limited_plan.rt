@@ -16,13 +16,13 @@ use std::alloc::Global;
 /// A plan with a limit. It is executed as the plan is, and its text is that of the plan's answer if that has at most so many
 /// bytes. A longer one is refused, and the text is that of the refusal: an execution keeps no more of it than the limit needs.
 #[derive(Drop)]
-pub struct Limited<'p, 'a> {
-    pub plan: &'p Plan<'a>,
+pub struct Limited<'p> {
+    pub plan: &'p Plan,
     /// How many bytes the text of an answer has at most. Without a limit it is executed just as the plan is.
     pub most: Option<usize>,
 }
 
-impl<'p, 'a: 'p> Execute<'p, RootState<'p, 'a>> for Limited<'p, 'a> {
+impl<'p> Execute<'p, RootState<'p>> for Limited<'p> {
     ghost program = { λ limited. plan_program (plan_of limited.plan.now) };
 
     ghost text_of = { λ limited. text_within limited.most };
@@ -31,13 +31,13 @@ impl<'p, 'a: 'p> Execute<'p, RootState<'p, 'a>> for Limited<'p, 'a> {
 
     ghost fits = { λ limited state m. (plan_in state ≡ plan_of limited.plan.now) × FitsMemory state m };
 
-    fn start(&'p self) -> RootState<'p, 'a> {
+    fn start(&'p self) -> RootState<'p> {
         RootState::new(self.plan)
     }
 
     fn execute(
         &'p self,
-        progress: &mut RootState<'p, 'a>,
+        progress: &mut RootState<'p>,
         alloc: Global,
         memory: &Memory,
         wants: &mut Wants,

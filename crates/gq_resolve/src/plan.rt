@@ -13,7 +13,7 @@ use load_memory::{Memory, NoMemory};
 use load_queue::Wants;
 use std::alloc::Global;
 
-impl<'p, 'a: 'p> Execute<'p, RootState<'p, 'a>> for Plan<'a> {
+impl<'p> Execute<'p, RootState<'p>> for Plan {
     ghost program = { λ plan. plan_program (plan_of plan) };
 
     ghost text_of = { λ _. answer_text };
@@ -22,13 +22,13 @@ impl<'p, 'a: 'p> Execute<'p, RootState<'p, 'a>> for Plan<'a> {
 
     ghost fits = { λ plan state m. (plan_in state ≡ plan_of plan) × FitsMemory state m };
 
-    fn start(&'p self) -> RootState<'p, 'a> {
+    fn start(&'p self) -> RootState<'p> {
         RootState::new(self)
     }
 
     fn execute(
         &'p self,
-        progress: &mut RootState<'p, 'a>,
+        progress: &mut RootState<'p>,
         alloc: Global,
         memory: &Memory,
         wants: &mut Wants,

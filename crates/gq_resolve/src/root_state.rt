@@ -25,17 +25,17 @@ use std::alloc::Global;
 
 /// The execution of a plan, which goes on where it stopped.
 #[derive(Drop)]
-pub struct RootState<'p, 'a> {
-    plan: &'p Plan<'a>,
+pub struct RootState<'p> {
+    plan: &'p Plan,
     /// How many groups are kept at most.
     most: usize,
     /// Nothing before it is polled, after it has answered, and after it was out of memory: it then begins at its root.
     stopped: Option<Stopped<'p>>,
 }
 
-impl<'p, 'a> RootState<'p, 'a> {
+impl<'p> RootState<'p> {
     /// The execution of a plan, of which nothing is done. It takes no memory.
-    pub fn new(plan: &'p Plan<'a>) -> RootState<'p, 'a>
+    pub fn new(plan: &'p Plan) -> RootState<'p>
         ensures plan { plan_in result ≡ plan_of plan.now }
         ensures fits { (m : MemoryOf) → FitsMemory result m }
     {
@@ -116,7 +116,7 @@ impl<'p, 'a> RootState<'p, 'a> {
     }
 }
 
-impl<'p, 'a> Resolve for RootState<'p, 'a> {
+impl<'p> Resolve for RootState<'p> {
     ghost plan = { plan_in };
 
     ghost program = { λ s. plan_program (plan_in s) };

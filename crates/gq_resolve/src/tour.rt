@@ -25,9 +25,9 @@ use std::alloc::Global;
 
 /// What a walk goes over.
 #[derive(Clone, Copy, Drop)]
-pub struct Tour<'w, 'p, 'a> {
+pub struct Tour<'w, 'p> {
     pub alloc: Global,
-    pub plan: &'p Plan<'a>,
+    pub plan: &'p Plan,
     pub memory: &'w Memory,
     /// How many groups are kept at most, beside those on the way to the current object.
     pub most: usize,
@@ -50,7 +50,7 @@ pub struct Loading {
     pub nullability: Nullability,
 }
 
-impl<'w, 'p, 'a> Tour<'w, 'p, 'a> {
+impl<'w, 'p> Tour<'w, 'p> {
     /// An object over a row, with so many levels of objects below it.
     #[cycle(tour)]
     pub fn object<S: Sink>(

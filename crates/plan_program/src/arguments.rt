@@ -113,7 +113,7 @@ fn value_of_variable(ty: &TypeRef, value: &Input) -> Result<Option<Input>, Alloc
 }
 
 // The value of a variable; an absent one is null.
-fn variable_value(plan: &Plan<'_>, ty: &TypeRef, name: &str) -> Result<Option<Input>, AllocError>
+fn variable_value(plan: &Plan, ty: &TypeRef, name: &str) -> Result<Option<Input>, AllocError>
     ensures { Coerces (variable_value (is_non_null (type_of ty.now)) (value_in (plan_of plan.now).variables name.now)) result }
 {
     match plan.variable(name) {
@@ -125,7 +125,7 @@ fn variable_value(plan: &Plan<'_>, ty: &TypeRef, name: &str) -> Result<Option<In
 // What a literal gives at a type that is no list.
 fn name_value(
     alloc: Global,
-    plan: &Plan<'_>,
+    plan: &Plan,
     ty: &TypeRef,
     literal: &Literal,
 ) -> Result<Option<Input>, AllocError>
@@ -148,7 +148,7 @@ fn name_value(
 #[cycle(literal)]
 fn literal_value(
     alloc: Global,
-    plan: &Plan<'_>,
+    plan: &Plan,
     ty: &TypeRef,
     literal: &Literal,
 ) -> Result<Option<Input>, AllocError>
@@ -174,7 +174,7 @@ fn literal_value(
 #[cycle(literal)]
 fn one_value(
     alloc: Global,
-    plan: &Plan<'_>,
+    plan: &Plan,
     ty: &TypeRef,
     literal: &Literal,
 ) -> Result<Option<Input>, AllocError>
@@ -188,7 +188,7 @@ fn one_value(
 #[cycle(literal)]
 fn list_value(
     alloc: Global,
-    plan: &Plan<'_>,
+    plan: &Plan,
     ty: &TypeRef,
     literals: &[Literal],
 ) -> Result<Option<Input>, AllocError>
@@ -214,7 +214,7 @@ fn or_refused(input: Option<Input>) -> Coerced
 }
 
 // What becomes of an argument for which nothing is given.
-fn default_value(alloc: Global, plan: &Plan<'_>, argument: &ArgDef) -> Result<Coerced, AllocError>
+fn default_value(alloc: Global, plan: &Plan, argument: &ArgDef) -> Result<Coerced, AllocError>
     ensures { IfOk result (λ value. coerced_seen value
         ≡ default_value (plan_of plan.now) (argument_of argument.now).of_type (argument_of argument.now).default) }
 {
@@ -236,7 +236,7 @@ fn default_value(alloc: Global, plan: &Plan<'_>, argument: &ArgDef) -> Result<Co
 // What becomes of an argument that is given by a variable.
 fn by_variable(
     alloc: Global,
-    plan: &Plan<'_>,
+    plan: &Plan,
     argument: &ArgDef,
     name: &str,
 ) -> Result<Coerced, AllocError>
@@ -252,7 +252,7 @@ fn by_variable(
 // What becomes of an argument for which a literal is given.
 fn given_value(
     alloc: Global,
-    plan: &Plan<'_>,
+    plan: &Plan,
     argument: &ArgDef,
     literal: &Literal,
 ) -> Result<Coerced, AllocError>
@@ -274,7 +274,7 @@ fn given_value(
 
 fn argument_value(
     alloc: Global,
-    plan: &Plan<'_>,
+    plan: &Plan,
     argument: &ArgDef,
     given: &[Argument],
 ) -> Result<Coerced, AllocError>
@@ -289,7 +289,7 @@ fn argument_value(
 
 fn coerced_arguments(
     alloc: Global,
-    plan: &Plan<'_>,
+    plan: &Plan,
     given: &[Argument],
     arguments: &[ArgDef],
 ) -> Result<Args, ArgFault>
@@ -324,7 +324,7 @@ fn coerced_arguments(
 /// `NoMemory` only when out of memory.
 pub fn arguments_of(
     alloc: Global,
-    plan: &Plan<'_>,
+    plan: &Plan,
     ty: &str,
     group: &Group<'_>,
 ) -> Result<Args, ArgFault>

@@ -24,7 +24,7 @@ fn is_true_input(input: &Input) -> bool
     }
 }
 
-fn is_true_variable(plan: &Plan<'_>, name: &str) -> bool
+fn is_true_variable(plan: &Plan, name: &str) -> bool
     ensures { result ≡ is_true_input (value_in (plan_of plan.now).variables name.now) }
 {
     match plan.variable(name) {
@@ -33,7 +33,7 @@ fn is_true_variable(plan: &Plan<'_>, name: &str) -> bool
     }
 }
 
-fn is_true(plan: &Plan<'_>, literal: &Literal) -> bool
+fn is_true(plan: &Plan, literal: &Literal) -> bool
     ensures { result ≡ is_true (plan_of plan.now) (literal_of literal.now) }
 {
     match &literal.value {
@@ -62,7 +62,7 @@ pub fn given_to<'p>(given: &'p [Argument], name: &str) -> Option<&'p Literal>
 }
 
 // Whether the argument `if` is true.
-fn holds(plan: &Plan<'_>, directive: &Directive) -> bool
+fn holds(plan: &Plan, directive: &Directive) -> bool
     ensures { result ≡ holds (plan_of plan.now) (directive_of directive.now) }
 {
     match given_to(&directive.arguments, "if") {
@@ -71,7 +71,7 @@ fn holds(plan: &Plan<'_>, directive: &Directive) -> bool
     }
 }
 
-fn leaves_out(plan: &Plan<'_>, directive: &Directive) -> bool
+fn leaves_out(plan: &Plan, directive: &Directive) -> bool
     ensures { result ≡ leaves_out (plan_of plan.now) (directive_of directive.now) }
 {
     if directive.name.as_str() == "skip" {
@@ -84,7 +84,7 @@ fn leaves_out(plan: &Plan<'_>, directive: &Directive) -> bool
 }
 
 /// Whether `@skip` is true or `@include` isn't (sections 3.13.1 and 3.13.2).
-pub fn is_left_out(plan: &Plan<'_>, directives: &[Directive]) -> bool
+pub fn is_left_out(plan: &Plan, directives: &[Directive]) -> bool
     ensures { result ≡ is_left_out (plan_of plan.now) (directives_of directives.now) }
 {
     for directive in directives {
@@ -96,14 +96,14 @@ pub fn is_left_out(plan: &Plan<'_>, directives: &[Directive]) -> bool
 }
 
 /// Whether fragments on a type apply to an object type (section 6.3.2, DoesFragmentTypeApply).
-pub fn applies(plan: &Plan<'_>, condition: &TypeCondition, ty: &str) -> bool
+pub fn applies(plan: &Plan, condition: &TypeCondition, ty: &str) -> bool
     ensures { result ≡ applies (plan_of plan.now) (Some (condition_of condition.now)) ty.now }
 {
     plan.schema().can_be(condition.name.as_str(), ty)
 }
 
 /// The same of an inline fragment, which may have no type.
-pub fn applies_inline(plan: &Plan<'_>, condition: &Option<TypeCondition>, ty: &str) -> bool
+pub fn applies_inline(plan: &Plan, condition: &Option<TypeCondition>, ty: &str) -> bool
     ensures { result ≡ applies (plan_of plan.now) (condition_if condition.now) ty.now }
 {
     match condition {

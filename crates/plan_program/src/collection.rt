@@ -26,7 +26,7 @@ struct Rest<'p> {
 
 // What a fragment leaves to collect, where it applies.
 fn rest_of_fragment<'p>(
-    plan: &'p Plan<'_>,
+    plan: &'p Plan,
     ty: &str,
     enterable: usize,
     name: &str,
@@ -53,7 +53,7 @@ fn rest_of_fragment<'p>(
 #[tactic(auto, using(crate::proofs::Rests::some_steps))]
 fn collect_one<'p>(
     alloc: Global,
-    plan: &'p Plan<'_>,
+    plan: &'p Plan,
     ty: &str,
     enterable: usize,
     selection: &'p Selection,
@@ -98,7 +98,7 @@ fn collect_one<'p>(
 // are left.
 fn collect_first<'p>(
     alloc: Global,
-    plan: &'p Plan<'_>,
+    plan: &'p Plan,
     ty: &str,
     rest: Rest<'p>,
     left: &mut Vec<Rest<'p>>,
@@ -128,7 +128,7 @@ fn collect_first<'p>(
 // kept in a list. Where nothing is inside a selection, the list stays empty.
 fn collect_from<'p>(
     alloc: Global,
-    plan: &'p Plan<'_>,
+    plan: &'p Plan,
     ty: &str,
     selections: &'p [Selection],
     so_far: &mut Collected<'p>,
@@ -149,7 +149,7 @@ fn collect_from<'p>(
 // Collects what a field selects.
 fn collect_field<'p>(
     alloc: Global,
-    plan: &'p Plan<'_>,
+    plan: &'p Plan,
     ty: &str,
     field: &'p Field,
     so_far: &mut Collected<'p>,
@@ -170,7 +170,7 @@ fn collect_field<'p>(
 /// Only when out of memory.
 pub fn collect<'p>(
     alloc: Global,
-    plan: &'p Plan<'_>,
+    plan: &'p Plan,
     ty: &str,
     selections: &'p [Selection],
 ) -> Result<Vec<Group<'p>>, NoMemory>
@@ -188,7 +188,7 @@ pub fn collect<'p>(
 /// Only when out of memory.
 pub fn collect_subfields<'p>(
     alloc: Global,
-    plan: &'p Plan<'_>,
+    plan: &'p Plan,
     ty: &str,
     fields: &[&'p Field],
 ) -> Result<Vec<Group<'p>>, NoMemory>

@@ -223,7 +223,7 @@ fn have_loaders(steps: &[Step], loaders: usize) -> bool
 // The key of a load by one of the bindings' loaders; nothing where it is null or there is no such loader.
 fn key_of_load<'p>(
     alloc: Global,
-    plan: &Plan<'_>,
+    plan: &Plan,
     args: &Args,
     loader: usize,
     source: &'p KeySource,
@@ -240,7 +240,7 @@ fn key_of_load<'p>(
 // What a binding asks for.
 fn bound_asked<'p>(
     alloc: Global,
-    plan: &Plan<'_>,
+    plan: &Plan,
     ty: &'p TypeRef,
     children: Children<'p>,
     args: &Args,
@@ -303,7 +303,7 @@ fn children_of<'p>(ty: &'p TypeRef, place: Place, fields: Vec<&'p Field>) -> Chi
 // What a group asks for by the definition of its field.
 fn defined_asked<'p>(
     alloc: Global,
-    plan: &'p Plan<'_>,
+    plan: &'p Plan,
     ty: &str,
     definition: &'p FieldDef,
     first: &'p Field,
@@ -341,7 +341,7 @@ fn null_at<'p>(key: &'p str, place: Place) -> Prepared<'p>
 
 fn prepare_one<'p>(
     alloc: Global,
-    plan: &'p Plan<'_>,
+    plan: &'p Plan,
     ty: &str,
     group: Group<'p>,
 ) -> Result<Prepared<'p>, AllocError>
@@ -380,7 +380,7 @@ fn prepare_one<'p>(
 /// Only when out of memory.
 pub fn prepare_groups<'p>(
     alloc: Global,
-    plan: &'p Plan<'_>,
+    plan: &'p Plan,
     ty: &str,
     groups: Vec<Group<'p>>,
 ) -> Result<Vec<Prepared<'p>>, NoMemory>

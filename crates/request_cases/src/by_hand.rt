@@ -165,7 +165,7 @@ fn stage_name(stage: Stage) -> &'static str {
 pub fn abandoned(
     alloc: Global,
     session: &mut Session<CountingSource<'_>>,
-    plan: &Plan<'_>,
+    plan: &Plan,
 ) -> Result<String> {
     if session.loaders().len() < plan.loaders() {
         bail!("too few loaders");

@@ -155,7 +155,7 @@ fn call_loader(alloc: Global, session: &mut Asking<'_>, call: &str, words: &str)
 }
 
 /// The rounds of an answer and its text.
-fn answer(alloc: Global, session: &mut Asking<'_>, plan: &Plan<'_>) -> Result<String> {
+fn answer(alloc: Global, session: &mut Asking<'_>, plan: &Plan) -> Result<String> {
     let answer = answer_in_turn(session, plan)??;
     Ok(format!(in alloc; "{} {}", answer.rounds, answer.text)?)
 }

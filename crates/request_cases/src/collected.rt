@@ -29,7 +29,7 @@ fn put_input(text: &mut String, input: &Input) -> Result<(), AllocError> {
 fn put_arguments(
     text: &mut String,
     alloc: Global,
-    plan: &Plan<'_>,
+    plan: &Plan,
     ty: &str,
     group: &Group<'_>,
 ) -> Result<()> {
@@ -46,7 +46,7 @@ fn put_arguments(
 }
 
 /// The response keys that selections give an object type, each with the number of its fields and its arguments.
-fn collected(alloc: Global, plan: &Plan<'_>, ty: &str, selections: &[Selection]) -> Result<String> {
+fn collected(alloc: Global, plan: &Plan, ty: &str, selections: &[Selection]) -> Result<String> {
     let mut text = String::new(alloc);
     for group in &collect(alloc, plan, ty, selections)? {
         text.push_str(if text.is_empty() { "" } else { "; " })?;
@@ -57,7 +57,7 @@ fn collected(alloc: Global, plan: &Plan<'_>, ty: &str, selections: &[Selection])
 }
 
 /// The same of what the root selects if the type is `Query`, and otherwise of what its first field selects.
-pub fn fields_report(alloc: Global, plan: &Plan<'_>, ty: &str) -> Result<String> {
+pub fn fields_report(alloc: Global, plan: &Plan, ty: &str) -> Result<String> {
     let root = plan.operation().selection_set.selections.as_slice();
     if ty == "Query" {
         return collected(alloc, plan, ty, root);

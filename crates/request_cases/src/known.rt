@@ -32,7 +32,7 @@ pub fn wanted(alloc: Global, world: &World, loaders: usize, wants: &Wants) -> Re
 }
 
 /// The answer of a plan, or what it waits for, by building it.
-fn evaluated(alloc: Global, world: &World, plan: &Plan<'_>, memory: &Memory) -> Result<String>
+fn evaluated(alloc: Global, world: &World, plan: &Plan, memory: &Memory) -> Result<String>
     requires { length (plan_of plan.now).bindings.loaders ≤ length memory.now.modes }
 {
     let mut wants = Wants::new(alloc, memory)?;
@@ -43,7 +43,7 @@ fn evaluated(alloc: Global, world: &World, plan: &Plan<'_>, memory: &Memory) -> 
 }
 
 /// The same, written straight from the rows.
-fn written(alloc: Global, world: &World, plan: &Plan<'_>, memory: &Memory) -> Result<String>
+fn written(alloc: Global, world: &World, plan: &Plan, memory: &Memory) -> Result<String>
     requires { length (plan_of plan.now).bindings.loaders ≤ length memory.now.modes }
 {
     let mut wants = Wants::new(alloc, memory)?;
@@ -55,7 +55,7 @@ fn written(alloc: Global, world: &World, plan: &Plan<'_>, memory: &Memory) -> Re
 }
 
 /// What both give, which has to be the same.
-pub fn report(alloc: Global, world: &World, plan: &Plan<'_>, memory: &Memory) -> Result<String> {
+pub fn report(alloc: Global, world: &World, plan: &Plan, memory: &Memory) -> Result<String> {
     if plan.loaders() > memory.modes().len() {
         bail!("too few loaders");
     }

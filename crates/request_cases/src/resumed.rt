@@ -24,7 +24,7 @@ use world::World;
 fn polled(
     alloc: Global,
     world: &World,
-    state: &mut RootState<'_, '_>,
+    state: &mut RootState<'_>,
     memory: &Memory,
 ) -> Result<String>
     requires loaders { length (plan_in state.old).bindings.loaders ≤ length memory.now.modes }
@@ -65,8 +65,8 @@ fn ordered(alloc: Global, world: &World, orders: &[Order]) -> Result<String> {
 fn compared(
     alloc: Global,
     world: &World,
-    plan: &Plan<'_>,
-    state: &mut RootState<'_, '_>,
+    plan: &Plan,
+    state: &mut RootState<'_>,
     memory: &Memory,
 ) -> Result<String>
     requires loaders { length (plan_in state.old).bindings.loaders ≤ length memory.now.modes }
@@ -104,7 +104,7 @@ fn check_orders(alloc: Global, world: &World, orders: &[Order], anew: &str) -> R
 pub fn answered<S: Asks, R: Wait + AllocGlobal>(
     rt: &R,
     world: &World,
-    plan: &Plan<'_>,
+    plan: &Plan,
     session: &mut Session<S>,
 ) -> Result<Answer>
     requires { length (plan_of plan.now).bindings.loaders ≤ length session.old.loaders }

@@ -21,7 +21,7 @@ use std::sync::{Arc, Wait};
 use world::World;
 
 /// The plans of queries, each on a line.
-fn plans_of<'w>(alloc: Global, world: &'w World, text: &str) -> Result<Vec<Plan<'w>>> {
+fn plans_of(alloc: Global, world: &World, text: &str) -> Result<Vec<Plan>> {
     let mut plans = Vec::new(alloc);
     for line in text.lines() {
         plans.push(plan_of(alloc, world, line)?.ok().context("no plan")?)?;
@@ -30,7 +30,7 @@ fn plans_of<'w>(alloc: Global, world: &'w World, text: &str) -> Result<Vec<Plan<
 }
 
 /// Whether a session has the loaders of each plan.
-fn has_loaders<S>(session: &Session<S>, plans: &[Plan<'_>]) -> bool
+fn has_loaders<S>(session: &Session<S>, plans: &[Plan]) -> bool
     ensures { result ≡ true → All (λ plan. length (plan_seen plan).bindings.loaders ≤ length session.now.loaders) plans.now }
 {
     for plan in plans {
@@ -42,7 +42,7 @@ fn has_loaders<S>(session: &Session<S>, plans: &[Plan<'_>]) -> bool
 }
 
 /// Answers in turn.
-fn answer_in_turn<S: Asks>(session: &mut Session<S>, plans: &[Plan<'_>]) -> Result<Vec<Answer>> {
+fn answer_in_turn<S: Asks>(session: &mut Session<S>, plans: &[Plan]) -> Result<Vec<Answer>> {
     if !has_loaders(session, plans) {
         bail!("too few loaders");
     }
@@ -75,7 +75,7 @@ fn answered<'p, E: Drop, P: Execute<'p, E>, S: Asks, R: Wait + AllocGlobal>(
 fn answer_by_hand<S: Asks, R: Wait + AllocGlobal>(
     rt: &R,
     session: &mut Session<S>,
-    plans: &[Plan<'_>],
+    plans: &[Plan],
 ) -> Result<Vec<Answer>> {
     if !has_loaders(session, plans) {
         bail!("too few loaders");

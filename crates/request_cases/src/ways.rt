@@ -25,7 +25,7 @@ use world::World;
 /// An answer in turn.
 pub fn answer_in_turn<S: Asks>(
     session: &mut Session<S>,
-    plan: &Plan<'_>,
+    plan: &Plan,
 ) -> Result<Result<Answer, NoMemory>> {
     if session.loaders().len() < plan.loaders() {
         bail!("too few loaders");
@@ -54,7 +54,7 @@ fn report(
 }
 
 /// What is reported of an answer in turn. Over what is known then, both ways of execution have to give its text.
-fn in_turn(alloc: Global, world: &World, plan: &Plan<'_>, manner: &Manner<'_>) -> Result<String> {
+fn in_turn(alloc: Global, world: &World, plan: &Plan, manner: &Manner<'_>) -> Result<String> {
     let counters = counters(alloc, world)?;
     let mut session = session(alloc, world, &counters, manner)?;
     let answer = answer_in_turn(&mut session, plan)?;
@@ -71,7 +71,7 @@ fn in_turn(alloc: Global, world: &World, plan: &Plan<'_>, manner: &Manner<'_>) -
 fn by_hand<R: Wait + AllocGlobal>(
     rt: &R,
     world: &World,
-    plan: &Plan<'_>,
+    plan: &Plan,
     manner: &Manner<'_>,
 ) -> Result<String> {
     let alloc = rt.alloc();
@@ -97,7 +97,7 @@ fn by_hand<R: Wait + AllocGlobal>(
 fn resumed<R: Wait + AllocGlobal>(
     rt: &R,
     world: &World,
-    plan: &Plan<'_>,
+    plan: &Plan,
     manner: &Manner<'_>,
 ) -> Result<String> {
     let alloc = rt.alloc();
@@ -128,7 +128,7 @@ fn blocked_on<
 fn by_executor<R: Wait + RandomSource + AllocGlobal>(
     rt: &R,
     world: &World,
-    plan: &Plan<'_>,
+    plan: &Plan,
     manner: &Manner<'_>,
 ) -> Result<String> {
     let counters = counters(rt.alloc(), world)?;
@@ -144,7 +144,7 @@ fn by_executor<R: Wait + RandomSource + AllocGlobal>(
 pub fn answer_report<R: Wait + RandomSource + AllocGlobal>(
     rt: &R,
     world: &World,
-    plan: &Plan<'_>,
+    plan: &Plan,
     manner: &Manner<'_>,
 ) -> Result<String> {
     let report = in_turn(rt.alloc(), world, plan, manner)?;

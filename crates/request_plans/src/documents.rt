@@ -35,13 +35,13 @@ const LONGEST: usize = 32_768;
 ///
 /// A contract sees it as the server and the texts whose documents are kept.
 #[derive(Drop)]
-pub struct KeptDocuments<'s> {
-    server: &'s Server,
-    documents: HashMap<String, KeptDocument<'s>>,
+pub struct KeptDocuments {
+    server: Server,
+    documents: HashMap<String, KeptDocument>,
     bytes: usize,
 }
 
-impl<'s> Model for KeptDocuments<'s> {
+impl Model for KeptDocuments {
     ghost use Rattle.std.specs.Coded.{codes};
     ghost use Rattle.gq_parser.specs.contracts.tree.TypeRef as type_ref;
     ghost use Rattle.gq_parser.specs.contracts.tree.Literal as literal;
@@ -51,17 +51,17 @@ impl<'s> Model for KeptDocuments<'s> {
 
     ghost coded = { Prim.hlevel (codes, type_ref.the_row.coded, literal.the_row.coded) };
 
-    ghost view = { λ k. record { server = k.server.now; texts = texts_of k.documents.entries } };
+    ghost view = { λ k. record { server = k.server; texts = texts_of k.documents.entries } };
 
-    ghost invariant = { λ k. IsKeeping k.server.now.definitions k.documents.entries k.bytes };
+    ghost invariant = { λ k. IsKeeping k.server.definitions k.documents.entries k.bytes };
 }
 
 // The document of a query, to be kept.
-fn new_document<'s>(
+fn new_document(
     alloc: Global,
-    server: &'s Server,
+    server: &Server,
     query: &str,
-) -> Result<KeptDocument<'s>, RequestFault>
+) -> Result<KeptDocument, RequestFault>
     ensures ok { IfOk result (IsKept server.now.definitions query.now) }
     ensures err { (name : Option (List ℕ)) (given : Data) → IfErr result (IsRequestFault (tree_of server.now.definitions) query.now name given) }
 {
@@ -76,7 +76,7 @@ fn new_document<'s>(
 }
 
 // Lets all documents go, where one more with a text of so many bytes doesn't fit.
-fn make_room(documents: &mut HashMap<String, KeptDocument<'_>>, bytes: &mut usize, more: usize)
+fn make_room(documents: &mut HashMap<String, KeptDocument>, bytes: &mut usize, more: usize)
     requires fits { more ≤ longest }
     requires short { bytes.old ≤ most_bytes }
     ensures { MakesRoom documents.old.entries bytes.old more documents.new.entries bytes.new }
@@ -88,16 +88,16 @@ fn make_room(documents: &mut HashMap<String, KeptDocument<'_>>, bytes: &mut usiz
 }
 
 // Adds a document by its text, which isn't there yet.
-fn add<'s>(
-    documents: &mut HashMap<String, KeptDocument<'s>>,
+fn add(
+    documents: &mut HashMap<String, KeptDocument>,
     bytes: &mut usize,
     text: String,
-    kept: KeptDocument<'s>,
+    kept: KeptDocument,
 ) -> Result<(), AllocError>
     requires new { get_by_text documents.old (string_bytes text) ≡ None }
     requires short { bytes.old ≤ most_bytes }
     requires long { length (string_bytes text) ≤ longest }
-    ensures ok { OnOk result (Adds documents.old.entries bytes.old text kept.entry documents.new.entries bytes.new) }
+    ensures ok { OnOk result (Adds documents.old.entries bytes.old text kept documents.new.entries bytes.new) }
     ensures err { OnErr result ((documents.new.entries ≡ documents.old.entries) × (bytes.new ≡ bytes.old)) }
 {
     let more = text.len();
@@ -110,10 +110,10 @@ fn add<'s>(
     }
 }
 
-impl<'s> KeptDocuments<'s> {
+impl KeptDocuments {
     /// No documents yet, over this server.
-    pub fn new(alloc: Global, server: &'s Server) -> KeptDocuments<'s>
-        ensures { result ≡ record { server = server.now; texts = [] } }
+    pub fn new(alloc: Global, server: Server) -> KeptDocuments
+        ensures { result ≡ record { server = server; texts = [] } }
     {
         KeptDocuments {
             server,
@@ -123,11 +123,11 @@ impl<'s> KeptDocuments<'s> {
     }
 
     /// The server.
-    pub fn server(&self) -> &'s Server
+    pub fn server(&self) -> &Server
         ensures server { result.now ≡ self.now.server }
         ensures bounded { AreBounded self.now.texts }
     {
-        self.server
+        &self.server
     }
 
     /// Keeps the document of a query, unless it is kept already or longer than any that is kept.
@@ -150,7 +150,7 @@ impl<'s> KeptDocuments<'s> {
         if query.len() > LONGEST {
             return Ok(());
         }
-        let kept = match new_document(alloc, self.server, query) {
+        let kept = match new_document(alloc, &self.server, query) {
             Ok(kept) => kept,
             Err(fault) => return Err(fault),
         };
@@ -164,7 +164,7 @@ impl<'s> KeptDocuments<'s> {
         }
     }
 
-    /// The plan of a query, as [`Server::plan`] gives it. Where the document of its query is kept, the plan borrows it: then
+    /// The plan of a query, as [`Server::plan`] gives it. Where the document of its query is kept, the plan shares it: then
     /// nothing is parsed, and only the variables are checked.
     ///
     /// # Errors
@@ -176,7 +176,7 @@ impl<'s> KeptDocuments<'s> {
         query: &str,
         operation_name: Option<&str>,
         variables: &Value,
-    ) -> Result<Plan<'_>, RequestFault>
+    ) -> Result<Plan, RequestFault>
         ensures schema { IfOk result (λ plan. plan.definitions ≡ self.now.server.definitions) }
         ensures bindings { IfOk result (λ plan. plan.bindings ≡ self.now.server.bindings) }
         ensures ok { IfOk result (λ p. IsPlanOf (tree_of self.now.server.definitions) query.now

@@ -13,7 +13,7 @@ use request_line::Request;
 use serde_json::Value;
 use std::alloc::{AllocError, Global};
 
-impl<'s> KeptDocuments<'s> {
+impl KeptDocuments {
     /// Keeps the document of a request's query, unless it is kept already or longer than any that is kept. Returns the text
     /// that refuses the request where its query is no valid document.
     ///
@@ -52,13 +52,13 @@ impl<'s> KeptDocuments<'s> {
         }
     }
 
-    /// What a request asks. If the document of its query is kept, its plan borrows it, and nothing is parsed. That changes
+    /// What a request asks. If the document of its query is kept, its plan shares it, and nothing is parsed. That changes
     /// neither the plan nor the refusal.
     ///
     /// # Errors
     ///
     /// Only when out of memory.
-    pub fn plan(&self, alloc: Global, request: &Request<'_>) -> Result<RequestPlan<'_>, AllocError>
+    pub fn plan(&self, alloc: Global, request: &Request<'_>) -> Result<RequestPlan, AllocError>
         ensures { IfOk result (PlansRequest self.now.server (request_of request.now)) }
     {
         let none = Value::Null;
@@ -77,7 +77,7 @@ impl<'s> KeptDocuments<'s> {
         &self,
         alloc: Global,
         value: &Option<Request<'_>>,
-    ) -> Result<RequestPlan<'_>, AllocError>
+    ) -> Result<RequestPlan, AllocError>
         ensures { IfOk result (PlansValue self.now.server (option_map request_of value.now)) }
     {
         match value {
@@ -98,7 +98,7 @@ impl<'s> KeptDocuments<'s> {
         &self,
         alloc: Global,
         values: &[Option<Request<'_>>],
-    ) -> Result<ArrayPlan<'_>, AllocError>
+    ) -> Result<ArrayPlan, AllocError>
         ensures { IfOk result (PlansArray self.now.server (requests_of values.now)) }
     {
         let mut array = ArrayPlan::new(alloc);

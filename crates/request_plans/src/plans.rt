@@ -10,25 +10,25 @@ use std::alloc::{AllocError, Global};
 
 /// What a request asks.
 #[derive(Drop)]
-pub enum RequestPlan<'p> {
+pub enum RequestPlan {
     /// Nothing: this text refuses it.
     Refused(String),
     /// What this plan asks.
-    Planned(Plan<'p>),
+    Planned(Plan),
 }
 
 /// What the values of an array ask.
 #[derive(Drop)]
-pub struct ArrayPlan<'p> {
+pub struct ArrayPlan {
     // The refusal of each value, in order. A value without one has a plan.
     refusals: Vec<Option<String>>,
     // The plans, in order.
-    plans: Vec<Plan<'p>>,
+    plans: Vec<Plan>,
 }
 
-impl<'p> ArrayPlan<'p> {
+impl ArrayPlan {
     /// Of no values yet.
-    pub fn new(alloc: Global) -> ArrayPlan<'p>
+    pub fn new(alloc: Global) -> ArrayPlan
         ensures { (s : ServerOf) → PlansArray s [] result }
     {
         ArrayPlan {
@@ -42,8 +42,8 @@ impl<'p> ArrayPlan<'p> {
     /// # Errors
     ///
     /// Only when out of memory; then this is to be dropped.
-    pub fn push(&mut self, plan: RequestPlan<'p>) -> Result<(), AllocError>
-        ensures { OnOk result (AddsPlan self.old plan.entry self.new) }
+    pub fn push(&mut self, plan: RequestPlan) -> Result<(), AllocError>
+        ensures { OnOk result (AddsPlan self.old plan self.new) }
     {
         match plan {
             RequestPlan::Refused(text) => self.refusals.push(Some(text))?,
@@ -63,7 +63,7 @@ impl<'p> ArrayPlan<'p> {
     }
 
     /// The plans of the values that aren't refused, in order.
-    pub fn plans(&self) -> &[Plan<'p>]
+    pub fn plans(&self) -> &[Plan]
         ensures { map plan_of result.now ≡ plans_of self.now }
     {
         &self.plans

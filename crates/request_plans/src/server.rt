@@ -1,6 +1,7 @@
 //! Servers.
 
 ghost use Rattle.std.specs.Prelude.{◌≡◌, ℕ, List, Option, IfOk, IfErr, length};
+ghost use Rattle.std.specs.Arc.{arc_value};
 ghost use Rattle.serde_json.specs.Data.{Data};
 ghost use Rattle.serde_json.specs.View.{view};
 ghost use Rattle.gq_parser.specs.Fault.{IsDocumentOf};
@@ -17,16 +18,17 @@ use gq_check::{Checked, Plan, check, prepare};
 use gq_parser::parse;
 use gq_schema::{Schema, SchemaFault};
 use serde_json::Value;
-use std::alloc::Global;
+use std::alloc::{AllocError, Global};
 use std::marker::Model;
+use std::sync::Arc;
 
-/// A schema, and how its fields are answered.
+/// A schema, and how its fields are answered. Its clones share both, so that a clone copies nothing.
 ///
 /// A contract sees it as the definitions of the schema and the bindings.
 #[derive(Drop)]
 pub struct Server {
-    schema: Schema,
-    bindings: Bindings,
+    schema: Arc<Schema>,
+    bindings: Arc<Bindings>,
 }
 
 impl Model for Server {
@@ -39,15 +41,17 @@ impl Model for Server {
 
     ghost coded = { Prim.hlevel (codes, type_ref.the_row.coded, literal.the_row.coded) };
 
-    ghost view = { λ s. record { definitions = s.schema; bindings = s.bindings } };
+    ghost use Rattle.std.specs.Arc.{arc_value};
+
+    ghost view = { λ s. record { definitions = arc_value s.schema; bindings = arc_value s.bindings } };
 }
 
 /// The checked document of a query.
-pub(crate) fn checked<'s>(
+pub(crate) fn checked(
     alloc: Global,
-    server: &'s Server,
+    server: &Server,
     query: &str,
-) -> Result<Checked<'s>, RequestFault>
+) -> Result<Checked, RequestFault>
     ensures definitions { IfOk result (λ c. c.definitions ≡ server.now.definitions) }
     ensures says { IfOk result (λ c. IsDocumentOf query.now (document_of c.document)) }
     ensures valid { IfOk result (λ c. IsValid (tree_of server.now.definitions) (document_of c.document)) }
@@ -84,22 +88,26 @@ impl Server {
             Ok(schema) => schema,
             Err(fault) => return Err(fault),
         };
-        match Bindings::read(alloc, &schema, bindings) {
-            Ok(bindings) => Ok(Server { schema, bindings }),
-            Err(fault) => Err(fault),
-        }
+        let bindings = match Bindings::read(alloc, &schema, bindings) {
+            Ok(bindings) => bindings,
+            Err(fault) => return Err(fault),
+        };
+        Ok(Server {
+            schema: Arc::new(alloc, schema)?,
+            bindings: Arc::new(alloc, bindings)?,
+        })
     }
 
     /// The schema.
-    pub fn schema(&self) -> &Schema
-        ensures { result.now ≡ self.now.definitions }
+    pub fn schema(&self) -> &Arc<Schema>
+        ensures { arc_value result.now ≡ self.now.definitions }
     {
         &self.schema
     }
 
     /// How the fields of the schema are answered.
-    pub fn bindings(&self) -> &Bindings
-        ensures { result.now ≡ self.now.bindings }
+    pub fn bindings(&self) -> &Arc<Bindings>
+        ensures { arc_value result.now ≡ self.now.bindings }
     {
         &self.bindings
     }
@@ -112,7 +120,7 @@ impl Server {
     }
 
     /// The plan of a request: its query is parsed and checked, and the operation of this name, or the only one, is prepared
-    /// with the values that are given for its variables.
+    /// with the values that are given for its variables. The plan shares the schema and the bindings, and outlives the server.
     ///
     /// # Errors
     ///
@@ -124,7 +132,7 @@ impl Server {
         query: &str,
         operation_name: Option<&str>,
         variables: &Value,
-    ) -> Result<Plan<'_>, RequestFault>
+    ) -> Result<Plan, RequestFault>
         ensures schema { IfOk result (λ plan. plan.definitions ≡ self.now.definitions) }
         ensures bindings { IfOk result (λ plan. plan.bindings ≡ self.now.bindings) }
         ensures ok { IfOk result (λ plan. IsPlanOf (tree_of self.now.definitions) query.now
@@ -137,7 +145,6 @@ impl Server {
         };
         match prepare(
             alloc,
-            self.schema(),
             self.bindings(),
             checked,
             operation_name,
@@ -146,5 +153,16 @@ impl Server {
             Ok(plan) => Ok(plan),
             Err(fault) => Err(RequestFault::Prepare(fault)),
         }
+    }
+}
+
+impl Clone for Server {
+    ghost is_clone = { λ s t. t ≡ s };
+
+    fn clone(&self) -> Result<Server, AllocError> {
+        Ok(Server {
+            schema: Arc::try_clone(&self.schema)?,
+            bindings: Arc::try_clone(&self.bindings)?,
+        })
     }
 }

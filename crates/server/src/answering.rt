@@ -21,10 +21,10 @@ use request_plans::{KeptDocuments, Request, RequestPlan};
 use std::alloc::Global;
 
 // The answer of a plan in a session, within a limit.
-fn answer_plan<S: Asks, F: Fn(&mut Session<S>, &Limited<'_, '_>) -> Result<Answer, NoMemory>>(
+fn answer_plan<S: Asks, F: Fn(&mut Session<S>, &Limited<'_>) -> Result<Answer, NoMemory>>(
     run: &F,
     session: &mut Session<S>,
-    plan: &Plan<'_>,
+    plan: &Plan,
     most: Option<usize>,
 ) -> Result<Answer, NoMemory>
     requires runs { RunsEach S.may_tell (F.pre run.now) (F.post run.now) }
@@ -42,11 +42,11 @@ fn answer_plan<S: Asks, F: Fn(&mut Session<S>, &Limited<'_, '_>) -> Result<Answe
 /// The response to a request: the refusal of its first fault, or the answer of its plan in the session, within a limit.
 pub(crate) fn answer_request<
     S: Asks,
-    F: Fn(&mut Session<S>, &Limited<'_, '_>) -> Result<Answer, NoMemory>,
+    F: Fn(&mut Session<S>, &Limited<'_>) -> Result<Answer, NoMemory>,
 >(
     alloc: Global,
     run: &F,
-    kept: &mut KeptDocuments<'_>,
+    kept: &mut KeptDocuments,
     session: &mut Session<S>,
     request: &Request<'_>,
     most: Option<usize>,

@@ -19,11 +19,11 @@ use request_plans::{KeptDocuments, Request};
 use std::alloc::{AllocError, Global};
 
 // The plans in order, each with this limit.
-fn limited<'p, 'a>(
+fn limited<'p>(
     alloc: Global,
-    plans: &'p [Plan<'a>],
+    plans: &'p [Plan],
     most: Option<usize>,
-) -> Result<Vec<Limited<'p, 'a>>, AllocError>
+) -> Result<Vec<Limited<'p>>, AllocError>
     ensures { IfOk result (λ limited. AreLimited most (map plan_of plans.entry.now) limited.items) }
 {
     let mut limited = Vec::with_capacity(alloc, plans.len())?;
@@ -86,11 +86,11 @@ fn most_rounds(answers: &[Answer]) -> u32
 /// All plans are answered in the session, within a limit each.
 pub(crate) fn answer_requests<
     S: Asks,
-    G: Fn(&mut Session<S>, &[Limited<'_, '_>]) -> Result<Vec<Answer>, NoMemory>,
+    G: Fn(&mut Session<S>, &[Limited<'_>]) -> Result<Vec<Answer>, NoMemory>,
 >(
     alloc: Global,
     run: &G,
-    kept: &mut KeptDocuments<'_>,
+    kept: &mut KeptDocuments,
     session: &mut Session<S>,
     values: &[Option<Request<'_>>],
     most: Option<usize>,

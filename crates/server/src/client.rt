@@ -34,15 +34,15 @@ use std::thread::Threads;
 ///
 /// A contract sees the server, the limit on answers, and the session.
 #[derive(Drop)]
-pub struct ClientSession<'s, S> {
+pub struct ClientSession<S> {
     alloc: Global,
-    documents: KeptDocuments<'s>,
+    documents: KeptDocuments,
     lines: LineReader,
     pub(crate) session: Session<S>,
     max_answer: Option<usize>,
 }
 
-impl<'s, S> Model for ClientSession<'s, S> {
+impl<S> Model for ClientSession<S> {
     ghost use Rattle.std.specs.Coded.{codes};
     ghost use Rattle.gq_parser.specs.contracts.tree.TypeRef as type_ref;
     ghost use Rattle.gq_parser.specs.contracts.tree.Literal as literal;
@@ -57,12 +57,12 @@ impl<'s, S> Model for ClientSession<'s, S> {
     ghost invariant = { λ c. HasLoaders c.documents.server c.session };
 }
 
-impl<'s, S> ClientSession<'s, S> {
+impl<S> ClientSession<S> {
     /// A session of a server's client, which has a loader for each `loader` line of the server's bindings, in order. Answers have no
     /// limit.
-    pub fn new(alloc: Global, server: &'s Server, session: Session<S>) -> ClientSession<'s, S>
-        requires { HasLoaders server.now session }
-        ensures { result ≡ client_of server.now None session }
+    pub fn new(alloc: Global, server: Server, session: Session<S>) -> ClientSession<S>
+        requires { HasLoaders server session }
+        ensures { result ≡ client_of server None session }
     {
         ClientSession {
             alloc,
@@ -82,7 +82,7 @@ impl<'s, S> ClientSession<'s, S> {
     }
 
     /// The server.
-    pub fn server(&self) -> &'s Server
+    pub fn server(&self) -> &Server
         ensures server { result.now ≡ self.now.server }
         ensures loaders { HasLoaders self.now.server self.now.session }
     {
@@ -114,11 +114,11 @@ pub(crate) enum Asked<'i> {
     Text(&'i [u8]),
 }
 
-impl<'s, S: Asks> ClientSession<'s, S> {
+impl<S: Asks> ClientSession<S> {
     // The response to what is asked, by whoever runs the batches.
     fn respond_by<
-        F: Fn(&mut Session<S>, &Limited<'_, '_>) -> Result<Answer, NoMemory>,
-        G: Fn(&mut Session<S>, &[Limited<'_, '_>]) -> Result<Vec<Answer>, NoMemory>,
+        F: Fn(&mut Session<S>, &Limited<'_>) -> Result<Answer, NoMemory>,
+        G: Fn(&mut Session<S>, &[Limited<'_>]) -> Result<Vec<Answer>, NoMemory>,
     >(&mut self, runner: &Runner<F, G>, asked: Asked<'_>) -> Result<Answer, NoMemory>
         requires one { RunsEach S.may_tell (F.pre runner.now.one) (F.post runner.now.one) }
         requires all { RunsAll S.may_tell (G.pre runner.now.all) (G.post runner.now.all) }
@@ -164,11 +164,11 @@ impl<'s, S: Asks> ClientSession<'s, S> {
         ensures same { IsSameClient self.old self.new }
     {
         let runner = Runner {
-            one: |session: &mut Session<S>, limited: &Limited<'_, '_>| -> Result<Answer, NoMemory>
+            one: |session: &mut Session<S>, limited: &Limited<'_>| -> Result<Answer, NoMemory>
                 requires { HasLoadersFor session.old limited.now }
                 ensures { RunsPlan S.may_tell session.old limited.now result session.new }
             { session.answer(limited) },
-            all: |session: &mut Session<S>, plans: &[Limited<'_, '_>]| -> Result<
+            all: |session: &mut Session<S>, plans: &[Limited<'_>]| -> Result<
                 Vec<Answer>,
                 NoMemory,
             >
@@ -231,7 +231,7 @@ impl<'s, S: Asks> ClientSession<'s, S> {
     }
 }
 
-impl<'s, S: Source> ClientSession<'s, S> {
+impl<S: Source> ClientSession<S> {
     // The response to what is asked, by workers.
     fn respond_with<R: Threads + Wait + Sync>(
         &mut self,
@@ -243,12 +243,12 @@ impl<'s, S: Source> ClientSession<'s, S> {
         ensures same { IsSameClient self.old self.new }
     {
         let runner = Runner {
-            one: |session: &mut Session<S>, limited: &Limited<'_, '_>| -> Result<Answer, NoMemory>
+            one: |session: &mut Session<S>, limited: &Limited<'_>| -> Result<Answer, NoMemory>
                 requires sync { IsSync R.row × IsSync S.row }
                 requires loaders { HasLoadersFor session.old limited.now }
                 ensures { RunsPlan S.may_answer session.old limited.now result session.new }
             { workers.answer(session, limited) },
-            all: |session: &mut Session<S>, plans: &[Limited<'_, '_>]| -> Result<
+            all: |session: &mut Session<S>, plans: &[Limited<'_>]| -> Result<
                 Vec<Answer>,
                 NoMemory,
             >

@@ -11,7 +11,7 @@ use load_memory::{Item, Key, Outcome};
 use load_queue::Asks;
 use load_rounds::SessionFault;
 
-impl<'s, S> ClientSession<'s, S> {
+impl<S> ClientSession<S> {
     /// Forgets failed batches, and then adds an item for a loader's key unless the key is known. Returns true if it was added. Loaders are
     /// numbered from 0, in the order of their lines.
     pub fn prime(&mut self, loader: usize, key: &Key, item: Item) -> Result<bool, SessionFault>
@@ -51,7 +51,7 @@ impl<'s, S> ClientSession<'s, S> {
     }
 }
 
-impl<'s, S: Asks> ClientSession<'s, S> {
+impl<S: Asks> ClientSession<S> {
     /// Loads one key of a loader, after it forgets failed batches. Returns a copy of the key's outcome: the known one, or else what the source
     /// returns in a round of this one key, which is kept.
     pub fn load(&mut self, loader: usize, key: Key) -> Result<Outcome, SessionFault>

@@ -27,7 +27,7 @@ pub trait Sessions {
         alloc: Global,
         max_batch: Option<u32>,
         source: F,
-    ) -> Result<ClientSession<'_, S>, QueueFault>
+    ) -> Result<ClientSession<S>, QueueFault>
         requires { F.IsAlwaysCallable source };
 }
 
@@ -47,7 +47,7 @@ impl Sessions for Server {
         alloc: Global,
         max_batch: Option<u32>,
         mut source: F,
-    ) -> Result<ClientSession<'_, S>, QueueFault>
+    ) -> Result<ClientSession<S>, QueueFault>
         requires { F.IsAlwaysCallable source }
         ensures server { IfOk result (λ client. client.server ≡ self.now) }
         ensures unlimited { IfOk result (λ client. client.most ≡ None) }
@@ -63,8 +63,9 @@ impl Sessions for Server {
                 return Err(QueueFault::NoMemory);
             }
         }
+        let server = self.clone()?;
         match Session::new(alloc, loaders) {
-            Ok(session) => Ok(ClientSession::new(alloc, self, session)),
+            Ok(session) => Ok(ClientSession::new(alloc, server, session)),
             Err(_) => Err(QueueFault::NoMemory),
         }
     }

@@ -56,7 +56,7 @@ impl<'r, R: Threads + Wait + Sync> Workers<'r, R> {
     pub(crate) fn answer<S: Source>(
         &self,
         session: &mut Session<S>,
-        limited: &Limited<'_, '_>,
+        limited: &Limited<'_>,
     ) -> Result<Answer, NoMemory>
         requires { HasLoadersFor session.old limited.now }
         ensures { RunsPlan S.may_answer session.old limited.now result session.new }
@@ -72,7 +72,7 @@ impl<'r, R: Threads + Wait + Sync> Workers<'r, R> {
     pub(crate) fn answer_all<S: Source>(
         &self,
         session: &mut Session<S>,
-        plans: &[Limited<'_, '_>],
+        plans: &[Limited<'_>],
     ) -> Result<Vec<Answer>, NoMemory>
         requires { All (HasLoadersFor session.old) plans.now }
         ensures { RunsPlans S.may_answer session.old plans.now result session.new }

@@ -26,7 +26,7 @@ use std::thread::Threads;
 /// read by then. If the writer fails after another fault, the fault is `WriteFault`.
 pub fn serve<S: Asks, I: Read, W: Write>(
     alloc: Global,
-    client: &mut ClientSession<'_, S>,
+    client: &mut ClientSession<S>,
     reader: &mut Counted<I>,
     writer: &mut Counted<W>,
 ) -> Result<u64, ServeFault>
@@ -54,7 +54,7 @@ pub fn serve<S: Asks, I: Read, W: Write>(
 /// Those of [`serve`].
 pub fn serve_with<S: Source, R: Threads + Wait + Sync, I: Read, W: Write>(
     alloc: Global,
-    client: &mut ClientSession<'_, S>,
+    client: &mut ClientSession<S>,
     workers: &Workers<'_, R>,
     reader: &mut Counted<I>,
     writer: &mut Counted<W>,

@@ -32,13 +32,13 @@ fn asking(query: &str) -> Request<'_> {
 }
 
 // The refusal of a query that isn't valid is a response too.
-fn answer(session: &mut ClientSession<'_, Books>, query: &str) -> anyhow::Result<String> {
+fn answer(session: &mut ClientSession<Books>, query: &str) -> anyhow::Result<String> {
     let answer = session.answer(&asking(query))?;
     Ok(answer.text)
 }
 
 // Requests that are answered together share their rounds: this takes one, of which `rounds` tells.
-fn answer_all(alloc: Global, session: &mut ClientSession<'_, Books>) -> anyhow::Result<String> {
+fn answer_all(alloc: Global, session: &mut ClientSession<Books>) -> anyhow::Result<String> {
     let requests = [
         Some(asking("{book(id:1){title}}")),
         Some(asking("{book(id:2){title}}")),
@@ -49,7 +49,7 @@ fn answer_all(alloc: Global, session: &mut ClientSession<'_, Books>) -> anyhow::
 }
 
 // A request as its client sends it.
-fn answer_text(session: &mut ClientSession<'_, Books>) -> anyhow::Result<String> {
+fn answer_text(session: &mut ClientSession<Books>) -> anyhow::Result<String> {
     let text = "{\"query\":\"query($id:ID!){book(id:$id){title}}\",\"variables\":{\"id\":3}}";
     Ok(session.answer_text(text.as_bytes())?.text)
 }
@@ -98,7 +98,7 @@ fn answer_text_with_workers<R: Threads + Wait + AllocGlobal + Sync>(
 }
 
 // An answer of more bytes than the limit is refused.
-fn limit_answers(session: &mut ClientSession<'_, Books>) -> anyhow::Result<String> {
+fn limit_answers(session: &mut ClientSession<Books>) -> anyhow::Result<String> {
     session.limit_answers(Some(20));
     let answer = session.answer(&asking("{book(id:1){title}}"))?;
     session.limit_answers(None);
@@ -106,7 +106,7 @@ fn limit_answers(session: &mut ClientSession<'_, Books>) -> anyhow::Result<Strin
 }
 
 // What is primed isn't asked.
-fn prime(alloc: Global, session: &mut ClientSession<'_, Books>) -> anyhow::Result<String> {
+fn prime(alloc: Global, session: &mut ClientSession<Books>) -> anyhow::Result<String> {
     let key = Key::Text(String::from_str(alloc, "9")?);
     let row = Row::new(alloc, &[("id", "9"), ("title", "Unwritten")])?;
     let added = session.prime(BOOK_BY_ID, &key, Item::Rows(vec![in alloc; row]?))?;
@@ -115,7 +115,7 @@ fn prime(alloc: Global, session: &mut ClientSession<'_, Books>) -> anyhow::Resul
 }
 
 // What is cleared is asked again.
-fn clear(alloc: Global, session: &mut ClientSession<'_, Books>) -> anyhow::Result<String> {
+fn clear(alloc: Global, session: &mut ClientSession<Books>) -> anyhow::Result<String> {
     let key = Key::Text(String::from_str(alloc, "9")?);
     let known = session.clear(BOOK_BY_ID, &key)?;
     let answer = session.answer(&asking("{book(id:9){title}}"))?;
@@ -124,7 +124,7 @@ fn clear(alloc: Global, session: &mut ClientSession<'_, Books>) -> anyhow::Resul
 }
 
 // One key, by itself.
-fn load(alloc: Global, session: &mut ClientSession<'_, Books>) -> anyhow::Result<String> {
+fn load(alloc: Global, session: &mut ClientSession<Books>) -> anyhow::Result<String> {
     let outcome = session.load(BOOK_BY_ID, Key::Text(String::from_str(alloc, "2")?))?;
     match outcome {
         Outcome::Rows(rows) => Ok(format!(in alloc; "{} row", rows.len())?),
@@ -133,7 +133,7 @@ fn load(alloc: Global, session: &mut ClientSession<'_, Books>) -> anyhow::Result
 }
 
 // Several keys, in one round.
-fn load_many(alloc: Global, session: &mut ClientSession<'_, Books>) -> anyhow::Result<String> {
+fn load_many(alloc: Global, session: &mut ClientSession<Books>) -> anyhow::Result<String> {
     let one = Key::Text(String::from_str(alloc, "1")?);
     let other = Key::Text(String::from_str(alloc, "7")?);
     let outcomes = session.load_many(BOOK_BY_ID, &[one, other])?;
@@ -141,7 +141,7 @@ fn load_many(alloc: Global, session: &mut ClientSession<'_, Books>) -> anyhow::R
 }
 
 // The batches that were asked, and a session that starts again.
-fn restart(alloc: Global, session: &mut ClientSession<'_, Books>) -> anyhow::Result<String> {
+fn restart(alloc: Global, session: &mut ClientSession<Books>) -> anyhow::Result<String> {
     let asked = session.session().logs(BOOK_BY_ID).unwrap_or(&[]).len();
     session.restart()?;
     let left = session.session().logs(BOOK_BY_ID).unwrap_or(&[]).len();
@@ -149,7 +149,7 @@ fn restart(alloc: Global, session: &mut ClientSession<'_, Books>) -> anyhow::Res
 }
 
 // The lines of any reader, to any writer.
-fn serve_lines(alloc: Global, session: &mut ClientSession<'_, Books>) -> anyhow::Result<String> {
+fn serve_lines(alloc: Global, session: &mut ClientSession<Books>) -> anyhow::Result<String> {
     let mut reader = Counted::new("{\"query\":\"{book(id:1){title}}\"}\n[]\n".as_bytes());
     let mut written = Vec::new(alloc);
     let mut writer = Counted::new(&mut written);
@@ -178,7 +178,7 @@ fn serve_lines_with_workers<R: Threads + Wait + AllocGlobal + Sync>(
 fn show_requests(
     rt: &impl Print,
     alloc: Global,
-    session: &mut ClientSession<'_, Books>,
+    session: &mut ClientSession<Books>,
 ) -> anyhow::Result<()> {
     println!(rt; "answer: {}", answer(session, "{book(id:1){title}}")?)?;
     println!(rt; "refusal: {}", answer(session, "{book{title}}")?)?;
@@ -192,7 +192,7 @@ fn show_requests(
 fn show_keys(
     rt: &impl Print,
     alloc: Global,
-    session: &mut ClientSession<'_, Books>,
+    session: &mut ClientSession<Books>,
 ) -> anyhow::Result<()> {
     println!(rt; "prime: {}", prime(alloc, session)?)?;
     println!(rt; "clear: {}", clear(alloc, session)?)?;

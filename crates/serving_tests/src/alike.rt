@@ -175,7 +175,7 @@ fn session<'w>(
 fn answered<R: Threads + Wait + AllocGlobal + Sync>(
     rt: &R,
     session: &mut Session<CsvSource<'_>>,
-    plan: &Plan<'_>,
+    plan: &Plan,
     workers: usize,
 ) -> Result<Answer, WorkFault>
     requires { length (plan_seen plan.now).bindings.loaders ≤ length session.old.loaders }
@@ -187,7 +187,7 @@ fn answered<R: Threads + Wait + AllocGlobal + Sync>(
 fn answer_report<R: Threads + Wait + AllocGlobal + Sync>(
     rt: &R,
     world: &World,
-    plan: &Plan<'_>,
+    plan: &Plan,
     limit: Option<u32>,
     workers: Option<usize>,
 ) -> Result<String, Fail> {
@@ -203,7 +203,7 @@ fn answer_report<R: Threads + Wait + AllocGlobal + Sync>(
 }
 
 /// The plan of a request over a world.
-fn plan_of<'w>(alloc: Global, world: &'w World, asked: &Asked) -> Result<Plan<'w>, Fail> {
+fn plan_of(alloc: Global, world: &World, asked: &Asked) -> Result<Plan, Fail> {
     let (query, operation_name, variables) = *asked;
     let values = Value::from_str(alloc, variables)?;
     match world.server().plan(alloc, query, operation_name, &values) {

@@ -14,7 +14,7 @@ use load_memory::Key;
 use load_rounds::{Answer, Session};
 use std::alloc::{AllocError, AllocGlobal, Global};
 use std::process::Abort;
-use std::sync::Wait;
+use std::sync::{Arc, Wait};
 use std::test::Fail;
 use std::thread::Threads;
 
@@ -232,7 +232,7 @@ const BREAKDOWNS: &[Case] = &[
 fn answered<R: Threads + Wait + Sync>(
     rt: &R,
     session: &mut Session<Probe<'_>>,
-    plan: &Plan<'_>,
+    plan: &Plan,
     workers: usize,
 ) -> Result<Answer, WorkFault>
     requires { length (plan_seen plan.now).bindings.loaders ≤ length session.old.loaders }
@@ -244,7 +244,7 @@ fn answered<R: Threads + Wait + Sync>(
 fn answer<R: Threads + Wait + Sync>(
     rt: &R,
     session: &mut Session<Probe<'_>>,
-    plan: &Plan<'_>,
+    plan: &Plan,
     workers: usize,
 ) -> Result<Result<Answer, WorkFault>, Fail> {
     if session.loaders().len() < plan.loaders() {
@@ -304,8 +304,8 @@ pub fn asked(
 /// What is reported of the answers of a new session is what is wanted.
 fn expect_case<R: Threads + Wait + AllocGlobal + Abort + Sync>(
     rt: &R,
-    schema: &Schema,
-    bindings: &Bindings,
+    schema: &Arc<Schema>,
+    bindings: &Arc<Bindings>,
     case: &Case,
     workers: usize,
 ) -> Result<(), Fail> {

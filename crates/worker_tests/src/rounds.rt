@@ -86,7 +86,7 @@ fn first_round<'p, S: Source, E: Drop, P: Execute<'p, E>, R: Threads + Wait + Al
 fn plan_round<S: Source, R: Threads + Wait + AllocGlobal + Sync>(
     rt: &R,
     session: &mut Session<S>,
-    plan: &Plan<'_>,
+    plan: &Plan,
     workers: usize,
 ) -> Result<String, Fail>
     requires loaders { length (plan_seen plan.now).bindings.loaders ≤ length session.old.loaders }

@@ -10,6 +10,7 @@ use load_queue::Loader;
 use load_rounds::Session;
 use serde_json::Value;
 use std::alloc::{AllocError, Global};
+use std::sync::Arc;
 use std::test::Fail;
 
 const SCHEMA: &str =
@@ -119,22 +120,22 @@ pub fn session<'b>(
 }
 
 /// The types, and how their fields are answered.
-pub fn read(alloc: Global) -> Result<(Schema, Bindings), Fail> {
+pub fn read(alloc: Global) -> Result<(Arc<Schema>, Arc<Bindings>), Fail> {
     let schema = Schema::read(alloc, SCHEMA)?;
     let bindings = Bindings::read(alloc, &schema, BINDINGS)?;
-    Ok((schema, bindings))
+    Ok((Arc::new(alloc, schema)?, Arc::new(alloc, bindings)?))
 }
 
 /// The plan of a query without variables.
-pub fn plan_of<'w>(
+pub fn plan_of(
     alloc: Global,
-    schema: &'w Schema,
-    bindings: &'w Bindings,
+    schema: &Arc<Schema>,
+    bindings: &Arc<Bindings>,
     query: &str,
-) -> Result<Plan<'w>, Fail> {
+) -> Result<Plan, Fail> {
     let document = parse(alloc, query)?;
     let checked = check(alloc, schema, document)?;
-    Ok(prepare(alloc, schema, bindings, checked, None, &Value::Null)?)
+    Ok(prepare(alloc, bindings, checked, None, &Value::Null)?)
 }
 
 /// Adds a key to a text.

@@ -36,7 +36,7 @@ const NONE_MET: &str =
 const BOTH_ASKED: &str = "userById 1: 1; allUsers 1: all; 2 orders, 2 calls, 2 known";
 
 /// Whether a session has the loaders of each plan.
-fn has_loaders<S>(session: &Session<S>, plans: &[Plan<'_>]) -> bool
+fn has_loaders<S>(session: &Session<S>, plans: &[Plan]) -> bool
     ensures { result ≡ true → All (λ plan. length (plan_seen plan).bindings.loaders ≤ length session.now.loaders) plans.now }
 {
     for plan in plans {
@@ -51,7 +51,7 @@ fn has_loaders<S>(session: &Session<S>, plans: &[Plan<'_>]) -> bool
 fn answers<R: Threads + Wait + Sync>(
     rt: &R,
     session: &mut Session<Probe<'_>>,
-    plans: &[Plan<'_>],
+    plans: &[Plan],
     workers: usize,
 ) -> Result<Result<Vec<Answer>, WorkFault>, Fail> {
     if !has_loaders(session, plans) {

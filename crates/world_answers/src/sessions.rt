@@ -65,11 +65,12 @@ impl<'w> Service<'w> {
         &self,
         alloc: Global,
         gate: G,
-    ) -> Result<ClientSession<'w, Gated<'w, G>>, NoMemory>
+    ) -> Result<ClientSession<Gated<'w, G>>, NoMemory>
         ensures { IfOk result (IsClientOf (service_of self.now)) }
     {
         let session = gated_session(alloc, self.world, gate)?;
-        let mut client = ClientSession::new(alloc, self.world.server(), session);
+        let server = self.world.server().clone()?;
+        let mut client = ClientSession::new(alloc, server, session);
         client.limit_answers(self.max_answer);
         Ok(client)
     }
