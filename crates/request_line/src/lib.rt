@@ -3,7 +3,8 @@
 //! The layer above may rely on this: [`LineReader::read`] returns the one request that a line is, or those of an array of 1 to 16
 //! values, or that the line is neither (`IsRequest`, `AreRequests` and `IsNoRequest` in `specs/Requests.antt`). A line reads as
 //! `serde_json` reads it, whose limit of nesting is part of that. One reader is kept from line to line: where a line is one
-//! request without variables, the request's parts lie in the line and in the reader, and nothing is allocated for them.
+//! request whose variables are strings, booleans and nulls, its query and the name of its operation lie in the line and in the
+//! reader, and memory is taken for the variables alone.
 #![tactic(auto)]
 
 mod line;

@@ -8,7 +8,6 @@ ghost use Rattle.request_line.specs.Seen.{IsReading};
 use crate::line::Line;
 use crate::plain::read_plain;
 use json::Scratch;
-use memchr::memmem;
 use serde_json::Value;
 use serde_json::error::Category;
 use std::alloc::Global;
@@ -38,19 +37,17 @@ fn read_value(alloc: Global, line: &[u8]) -> Result<Option<Value>, NoMemory>
     }
 }
 
-// What a line asks that has no variables, as [`read_plain`] returns it.
+// What a line asks that is read as [`read_plain`] reads it.
 fn read_plain_line<'l>(
+    alloc: Global,
     line: &'l [u8],
     scratch: &'l mut Scratch,
+    variables: &'l mut Value,
 ) -> Result<Option<Line<'l>>, NoMemory>
     ensures { IfOk result (λ read. IfSome read (IsReading line.now)) }
 {
-    // A line with variables is left to `serde_json` before any of it is read.
-    if memmem::find(line, b"\"variables\"").is_some() {
-        return Ok(None);
-    }
     match str::from_utf8(line) {
-        Ok(text) => match read_plain(text, scratch) {
+        Ok(text) => match read_plain(alloc, text, scratch, variables) {
             Ok(read) => Ok(read),
             Err(_) => Err(NoMemory),
         },
@@ -81,11 +78,12 @@ fn read_line<'l>(
     alloc: Global,
     line: &'l [u8],
     scratch: &'l mut Scratch,
+    variables: &'l mut Value,
     value: &'l mut Value,
 ) -> Result<Line<'l>, NoMemory>
     ensures { IfOk result (IsReading line.now) }
 {
-    match read_plain_line(line, scratch) {
+    match read_plain_line(alloc, line, scratch, variables) {
         Ok(Some(found)) => Ok(found),
         Ok(None) => read_as_value(alloc, line, value),
         Err(want) => Err(want),
@@ -97,6 +95,8 @@ fn read_line<'l>(
 pub struct LineReader {
     // Where strings with escapes are written, and the index of a line.
     scratch: Scratch,
+    // The variables of the last line, if it was read without a value of its own.
+    variables: Value,
     // The value of the last line, if it was read as one.
     value: Value,
 }
@@ -106,6 +106,7 @@ impl LineReader {
     pub fn new(alloc: Global) -> LineReader {
         LineReader {
             scratch: Scratch::new(alloc),
+            variables: Value::Null,
             value: Value::Null,
         }
     }
@@ -122,7 +123,14 @@ impl LineReader {
     pub fn read<'l>(&'l mut self, alloc: Global, line: &'l [u8]) -> Result<Line<'l>, NoMemory>
         ensures { IfOk result (IsReading line.now) }
     {
+        self.variables = Value::Null;
         self.value = Value::Null;
-        read_line(alloc, line, &mut self.scratch, &mut self.value)
+        read_line(
+            alloc,
+            line,
+            &mut self.scratch,
+            &mut self.variables,
+            &mut self.value,
+        )
     }
 }
