@@ -1,5 +1,5 @@
 -- The headline of one request, and of a list of it alone; and how many rounds several requests take.
-use Rattle.std.proofs.Common.{◌≡◌, ◌≢◌, ℕ, suc, ◌≤◌, List, [], ◌∷◌, length, refl, ap, subst, ◌∙◌, sym, arith}
+use Rattle.std.proofs.Common.{◌≡◌, ◌≢◌, ◌⊎◌, ℕ, suc, ◌≤◌, List, [], ◌∷◌, length, refl, ap, subst, ◌∙◌, sym, arith}
 use Rattle.std.proofs.lemmas.List.{append-nil}
 use Rattle.load_memory.specs.Keys.{KeyOf}
 use Rattle.load_memory.specs.Replies.{ReplyOf}
@@ -11,7 +11,8 @@ use Rattle.execution.specs.Front.{front, missing, firsts}
 use Rattle.execution.specs.Rounds.{RuleOf, modes_of, may_at, round_orders, AreReplies, AreRounds, after_round, one_unless_empty, own_rounds, without_failed}
 use Rattle.execution.specs.Sessions.{Step, Forgot, AreApart, asked_cells}
 use Rattle.load_rounds.specs.Sessions.{StateOf, rules_of, session_modes, after_steps}
-use Rattle.load_rounds.specs.Headline.{asked_steps, Headline}
+use Rattle.load_rounds.specs.Calls.{RoundLost}
+use Rattle.load_rounds.specs.Headline.{asked_steps, Headline, StopsAnswering}
 use Rattle.load_rounds.specs.SharedRounds.{RequestOf, ReportOf, items_from, together, greatest, AreShared, SharedHeadline}
 
 front-one : (modes : List KeyMode) (r : RequestOf) (M : Memory) → front modes (together (r ∷ [])) M ≡ front modes r.program M
@@ -65,6 +66,23 @@ module _ {S : Type 0} (may : S → List KeyOf → AnswerOf → Type 0) (old new 
         counted = omega (arith, longest);
         chained = h.answers.0.chained;
         fewest = h.answers.0.fewest;
+      }
+
+  -- what stays after want of memory
+  pub stops-one : (r : RequestOf) → StopsAnswering may old new (together (r ∷ [])) → StopsAnswering may old new r.program
+  stops-one r h =
+      let rules : List RuleOf = rules_of old in
+      let M0 : Memory = without_failed old.memory in
+      let same = λ (M : Memory). front-one (modes_of rules) r M in
+      record {
+        log = h.log;
+        mid = h.mid;
+        made = record {
+          rounds = rounds-same rules (together (r ∷ [])) r.program same (may_at may old.loaders) M0 h.log h.mid.memory h.made.rounds;
+          after = h.made.after ∙ ap (λ (steps : List Step). after_steps old (Forgot ∷ steps)) (steps-same rules (together (r ∷ [])) r.program same M0 h.log);
+        };
+        end = subst (λ (loads : List Load). (new ≡ h.mid) ⊎ RoundLost h.mid new loads) (same h.mid.memory) h.end;
+        recorded = h.recorded;
       }
 
   pub headline-alone : (r : RequestOf) (report : ReportOf) → Headline may old new r.program r.text_of report.text report.rounds → SharedHeadline may old new (r ∷ []) (report ∷ [])

@@ -1,5 +1,6 @@
 //! Shared rounds by hand: answers to several plans on their way, whose rounds the caller runs.
 ghost use Rattle.std.specs.Prelude.{◌≡◌, ◌≤◌, ◌<◌, ◌^◌, All, map, length, IfOk, OnOk, OnErr};
+ghost use Rattle.load_memory.specs.Replies.{reply_of};
 ghost use Rattle.load_memory.specs.Shelves.{IsOn, shown};
 ghost use Rattle.execution.specs.Sessions.{Forgot};
 
@@ -8,7 +9,7 @@ use crate::run::Stage;
 use crate::session::Session;
 use crate::together::Together;
 use execution::Execute;
-use load_memory::{NoMemory, Receipt, Shelf};
+use load_memory::{NoMemory, Receipt, Reply, Shelf};
 use load_queue::{Asks, Order};
 use std::marker::Model;
 
@@ -77,6 +78,7 @@ impl<'p, P, E> RunAll<'p, P, E> {
 
 impl<'p, E: Drop, P: Execute<'p, E>> RunAll<'p, P, E> {
     ghost use Rattle.load_rounds.specs.Sessions.{state_of, memory_of};
+    ghost use Rattle.load_rounds.specs.Histories.{any_tell};
     ghost use Rattle.load_rounds.specs.Runs.{received, AreReceivedIn, IsAsked, RunsAsked, TakesReceipts, IsUnasked};
     ghost use Rattle.load_rounds.specs.SharedRounds.{joint};
     ghost use Rattle.load_rounds.specs.SharedRuns.{FitsRun, FitsLater, KeepsFitting, IsNextAll, GoesOnFrom, AnswersFrom};
@@ -139,6 +141,34 @@ impl<'p, E: Drop, P: Execute<'p, E>> RunAll<'p, P, E> {
     {
         self.stage = Stage::Failed;
         session.receive(shelf, receipts)?;
+        self.stage = Stage::Ready;
+        Ok(())
+    }
+
+    /// Does what [`take`](RunAll::take) does with replies that it is handed: no shelf, so that nothing waits, and no copy of a key or
+    /// an outcome. A reply may have any answer; what the sources may answer counts where the contract says what was done since the
+    /// run was begun.
+    ///
+    /// When out of memory, the session is as it was, and the round is lost. The replies are gone then.
+    pub fn take_owned<S: Asks>(
+        &mut self,
+        session: &mut Session<S>,
+        replies: Vec<Reply>,
+    ) -> Result<(), NoMemory>
+        requires out { self.old.stage ≡ Stage.Out }
+        requires latest { IsAsked (joint P.program P.text_of self.old.plans) (state_of session.old) }
+        requires round { AreReceivedIn any_tell (joint P.program P.text_of self.old.plans) (state_of session.old) (map reply_of replies.items) }
+        ensures taken { OnOk result (state_of session.new ≡ received (state_of session.old) (map reply_of replies.items)) }
+        ensures ready { OnOk result (self.new ≡ record self.old { stage = Stage.Ready }) }
+        ensures fits { OnOk result (KeepsFitting P.program P.text_of P.loaders P.fits self.old self.new
+            (memory_of session.old) (memory_of session.new)) }
+        ensures lost { OnErr result (state_of session.new ≡ state_of session.old) }
+        ensures failed { OnErr result (self.new ≡ record self.old { stage = Stage.Failed }) }
+        ensures run { AreReceivedIn S.may_tell (joint P.program P.text_of self.old.plans) (state_of session.old) (map reply_of replies.items)
+            → GoesOnFrom P.program P.text_of S.may_tell (state_of session.old) (state_of session.new) self.old self.new }
+    {
+        self.stage = Stage::Failed;
+        session.receive_owned(replies)?;
         self.stage = Stage::Ready;
         Ok(())
     }

@@ -1,0 +1,119 @@
+-- How far a hand is, and what its calls make of that.
+use Rattle.std.proofs.Common.{◌≡◌, ◌<◌, ◌∙◌, ◌⊎◌, ℕ, List, [], ◌∷◌, map, length, refl, ap, sym, subst, arith, inl, inr, false}
+use Rattle.std.proofs.lemmas.List.{length-map}
+use Rattle.std.proofs.lemmas.List.Elements.{All-head, All-tail, All-nil, All-cons}
+use Rattle.std.proofs.lemmas.List.Sorted.{IsPermutation-refl}
+use Rattle.std.specs.Prelude.{All}
+use Rattle.load_memory.specs.Keys.{KeyOf}
+use Rattle.load_memory.specs.Replies.{ReplyOf}
+use Rattle.load_memory.proofs.ReplyPairs.{All-of_map}
+use Rattle.load_queue.specs.Answers.{AnswerOf}
+use Rattle.load_queue.specs.Loaders.{LoaderOf, as_made, stored_in}
+use Rattle.load_queue.specs.Orders.{OrderOf}
+use Rattle.execution.specs.Program.{Program}
+use Rattle.execution.specs.Completion.{AnsweredOf}
+use Rattle.execution.specs.Front.{keys_for}
+use Rattle.execution.specs.Loads.{Load}
+use Rattle.execution.specs.Rounds.{RuleOf, rule_of, any_answer, may_at, AreReplies}
+use Rattle.execution.specs.Sessions.{Forgot, Lost}
+use Rattle.load_rounds.specs.Headline.{StopsAnswering}
+use Rattle.load_rounds.specs.Sessions.{SessionOf, StateOf, state_of, rules_of, after_step, of_first}
+use Rattle.load_rounds.specs.Runs.{AreReceived, front_in, orders_in, received, IsAsked, IsRound, IsUnasked}
+use Rattle.load_rounds.specs.SharedRounds.{joint, requests, AreAnswers}
+use Rattle.load_rounds.specs.SharedRuns.{RunAllOf, IsRunAll}
+use Rattle.load_rounds.specs.declared.run.Stage.TheVariants as stage
+use Rattle.load_rounds.proofs.Numbering.{orders-below, orders-loads}
+use Rattle.load_rounds.proofs.Runs.{run-stops, round-asked, round-orders}
+use Rattle.load_rounds.proofs.Stepping.{steps-made}
+use Rattle.rounds_by_hand.specs.declared.hand.Advance.{Advance}
+use Rattle.rounds_by_hand.specs.declared.hand.Advance.TheVariants as did
+use Rattle.rounds_by_hand.specs.declared.pending.Pending.{Pending}
+use Rattle.rounds_by_hand.specs.declared.pending.Pending.TheVariants.{Out, In}
+use Rattle.rounds_by_hand.specs.Pending.{order_in, is_in, IsAnswered}
+use Rattle.rounds_by_hand.specs.Hands.{FarOf, handed, out, over, IsOutWith, HasGone, GoesFrom, TellsFrom, StopsFrom}
+
+-- orders of which none is answered
+pub none-answered : (may : ℕ → List KeyOf → AnswerOf → Type 0) (ps : List Pending) → All (λ one. is_in one ≡ false) ps → All (IsAnswered may) ps
+none-answered may [] away = All-nil (IsAnswered may)
+none-answered may (p ∷ ps) away = All-cons (IsAnswered may) p ps (go p (All-head (λ one. is_in one ≡ false) p ps away)) (none-answered may ps (All-tail (λ one. is_in one ≡ false) p ps away))
+  where
+    go : (one : Pending) → is_in one ≡ false → IsAnswered may one
+    go (Out order) e = tt
+    go (In reply) e = absurd (cc e)
+
+module _ {S : Type 0} where
+  -- a session keeps its loaders
+  made-many : (as' bs : List (LoaderOf S)) → map as_made as' ≡ map as_made bs → length as' ≡ length bs
+  made-many as' bs e = sym (length-map as' as_made) ∙ ap length e ∙ length-map bs as_made
+
+  pub lost-many : (old new : StateOf S) (loads : List Load) → new ≡ after_step old (Lost loads) → length new.loaders ≡ length old.loaders
+  lost-many old new loads e = made-many new.loaders old.loaders (ap (λ (s : StateOf S). map as_made s.loaders) e ∙ steps-made old (Lost loads ∷ []))
+
+  pub forgot-many : (old new : StateOf S) → new ≡ after_step old Forgot → length new.loaders ≡ length old.loaders
+  forgot-many old new e = ap (λ (s : StateOf S). length s.loaders) e
+
+  pub unasked-many : (p : Program) (old new : StateOf S) → IsUnasked p old new → length new.loaders ≡ length old.loaders
+  unasked-many p old new (inl same) = ap (λ (s : StateOf S). length s.loaders) same
+  unasked-many p old new (inr lost) = lost-many old new (of_first lost.loaders (front_in old p)) lost.after
+
+  pub received-many : (old new : StateOf S) (replies : List ReplyOf) → new ≡ received old replies → length new.loaders ≡ length old.loaders
+  received-many old new replies e = ap (λ (s : StateOf S). length s.loaders) e ∙ length-map old.loaders (λ l. stored_in l old.rounds)
+
+  -- each order of a round is of one of the loaders
+  pub have-loaders : (s : StateOf S) (p : Program) → All (λ (o : OrderOf). o.loader < length s.loaders) (orders_in s p)
+  have-loaders s p =
+      let rules : List RuleOf = rules_of s in
+      let below = orders-below 0 (length s.loaders) rules (λ m. keys_for m (front_in s p)) (omega (arith, length-map s.loaders rule_of)) in
+      rw (← orders-loads 0 rules (front_in s p)) below
+
+  pub orders-have : (s : StateOf S) (p : Program) (ps : List Pending) → map order_in ps ≡ orders_in s p → All (λ one. (order_in one).loader < length s.loaders) ps
+  orders-have s p ps e = All-of_map order_in (λ (o : OrderOf). o.loader < length s.loaders) ps (rw e (have-loaders s p))
+
+  -- the replies to them, in order
+  pub received-in : (may : S → List KeyOf → AnswerOf → Type 0) (s : StateOf S) (p : Program) (ps : List Pending) (replies : List ReplyOf) → map order_in ps ≡ orders_in s p → AreReplies (may_at may s.loaders) (map order_in ps) replies
+      → AreReceived (may_at may s.loaders) (orders_in s p) replies
+  received-in may s p ps replies e fit = record { replies = replies; fit = rw e at fit; moved = IsPermutation-refl replies }
+
+  module _ {P E : Type 0} (program : P → Program) (text_of : P → AnsweredOf → List ℕ) (may : S → List KeyOf → AnswerOf → Type 0) where
+    -- a run that is dropped
+    pub stops : (begun now : StateOf S) (run : RunAllOf P E) (plans : List P) → run.plans ≡ plans → IsRunAll program text_of may begun now run → StopsAnswering may begun now (joint program text_of plans)
+    stops begun now run plans e is =
+        subst (λ ps. StopsAnswering may begun now (joint program text_of ps)) e (run-stops may (joint program text_of run.plans) begun now run.executions.rounds run.stage is.is)
+
+    -- what holds of the session whatever comes next
+    pub gone-stops : (begun now : SessionOf S) (plans : List P) (far : FarOf P E) → HasGone program text_of may begun now plans far → (now ≡ begun) ⊎ StopsAnswering may (state_of begun) (state_of now) (joint program text_of plans)
+    gone-stops begun now plans handed h = inl h
+    gone-stops begun now plans (out run ps) h = inr (stops (state_of begun) (state_of now) run plans h.0 h.1)
+    gone-stops begun now plans over h = inr h
+
+    pub goes-weaker : (from more : SessionOf S → Type 0) (now : SessionOf S) (plans others : List P) (far : FarOf P E) → others ≡ plans → ((begun : SessionOf S) → from begun → more begun)
+        → GoesFrom program text_of may more now others far → GoesFrom program text_of may from now plans far
+    goes-weaker from more now plans others far e to goes = λ begun h. subst (λ ps. HasGone program text_of may begun now ps far) e (goes begun (to begun h))
+
+  module _ {P E : Type 0} (program : P → Program) (text_of : P → AnsweredOf → List ℕ) where
+    -- the orders of a round that was just made
+    pub out-with : (old new : StateOf S) (plans : List P) (later : RunAllOf P E) (orders : List OrderOf) (ps : List Pending) → later.plans ≡ plans → later.stage ≡ stage.Out → IsRound (joint program text_of plans) old new orders
+        → map order_in ps ≡ orders → All (λ one. is_in one ≡ false) ps → IsOutWith program text_of new later ps
+    out-with old new plans later orders ps e stage is same none = record {
+      stage = stage;
+      latest = subst (λ qs. IsAsked (joint program text_of qs) new) (sym e) (round-asked (joint program text_of plans) old new orders is);
+      orders = same ∙ sym (round-orders (joint program text_of plans) old new orders is) ∙ ap (λ qs. orders_in new (joint program text_of qs)) (sym e);
+      answers = none-answered any_answer ps none;
+    }
+
+  module _ {P : Type 0} (program : P → Program) (text_of : P → AnsweredOf → List ℕ) (may : S → List KeyOf → AnswerOf → Type 0) where
+    -- failed batches were forgotten, and nothing else was done
+    pub forgot-stops : (begun now : StateOf S) (plans : List P) → now ≡ after_step begun Forgot → StopsAnswering may begun now (joint program text_of plans)
+    forgot-stops begun now plans e =
+        run-stops may (joint program text_of plans) begun now 0 stage.Ready (record { log = []; made = record { rounds = λ l k. ap (λ (s : StateOf S). s.memory l k) e; after = e }; counted = refl })
+
+    pub tells-weaker : (from more : SessionOf S → Type 0) (now : SessionOf S) (plans others : List P) (did : Advance) → others ≡ plans → ((begun : SessionOf S) → from begun → more begun)
+        → TellsFrom program text_of may more now others did → TellsFrom program text_of may from now plans did
+    tells-weaker from more now plans others (did.Finished answers) e to tells = λ begun h. subst (λ ps. AreAnswers may (state_of begun) (state_of now) (requests program text_of ps) answers) e (tells begun (to begun h))
+    tells-weaker from more now plans others did.Round e to tells = tt
+    tells-weaker from more now plans others did.Waiting e to tells = tt
+    tells-weaker from more now plans others did.Over e to tells = tt
+
+    pub stops-weaker : (from more : SessionOf S → Type 0) (now : SessionOf S) (plans others : List P) → others ≡ plans → ((begun : SessionOf S) → from begun → more begun)
+        → StopsFrom program text_of may more now others → StopsFrom program text_of may from now plans
+    stops-weaker from more now plans others e to tells = λ begun h. subst (λ ps. StopsAnswering may (state_of begun) (state_of now) (joint program text_of ps)) e (tells begun (to begun h))

@@ -1,0 +1,49 @@
+use Rattle.std.proofs.Common.{◌≡◌, ◌≤◌, ◌∙◌, sym, subst, refl, length}
+use Rattle.std.specs.Prelude.{All}
+use Rattle.rounds_by_hand.specs.Hands.{HasGone, IsUnderway, out}
+use Rattle.rounds_by_hand.proofs.Far.{tells-weaker}
+use Rattle.rounds_by_hand.proofs.hand.Hand.ask_and_advance.Goals as goal
+use Rattle.rounds_by_hand.proofs.hand.Hand.ask_and_advance.Goals.{in-Over, in-Handed+in_ok-begin-in-Handed, in-Out+in_ok-far-in-Out}
+
+pub finish_round-requires : goal.finish_round-requires
+finish_round-requires g c κs =
+    let far = sym c.replace.ensures.value ∙ c.in-Out.is in
+    let enough = rw (← c.self.view_is) at c.requires.enough in
+    let round = rw far at (rw (← c.self.view_is) at c.requires.round) in
+    ((refl, tt), (subst (All (λ plan. g.P.Execute.loaders plan ≤ length c.self.inside.session.loaders)) (sym round.0) enough, (round.1, round.2)))
+
+pub returns-clause-underway : goal.returns-clause-underway
+returns-clause-underway g c = λ begun h.
+    let own = rw (← c.self.view_is) at h in
+    let value = sym c.replace.ensures.value in
+    elim c.match-replace.branch [
+      | in-Over w ↦ rw (w.far-is, w.self-inside-is) (rw (value ∙ w.in-Over.is) at own)
+      | in-Handed+in_ok-begin-in-Handed w ↦ rw (w.far-is, w.self-inside-is) (w.in_ok-begin-in-Handed.ensures.went begun (rw (value ∙ w.in-Handed.is) at own))
+      | in-Out+in_ok-far-in-Out w ↦
+          let gone = rw (value ∙ w.in-Out.is) at own in
+          let next = w.in_ok-far-in-Out.ensures.went begun (refl, gone.1, gone.2) in
+          rw (w.far-is, w.self-inside-is) (rw gone.0 at next)
+    ]
+
+pub returns-clause-answers : goal.returns-clause-answers
+returns-clause-answers g c =
+    let program = g.P.Execute.program in
+    let text_of = g.P.Execute.text_of in
+    let may = g.S.Asks.may_tell in
+    let s = c.self.inside.session in
+    let plans = c.self.inside.plans.now in
+    let value = sym c.replace.ensures.value in
+    elim c.match-replace.branch [
+      | in-Over w ↦ rw w.far-is tt
+      | in-Handed+in_ok-begin-in-Handed w ↦
+          let tells = tells-weaker program text_of may (λ begun. IsUnderway program text_of may begun c.args.self.now) (λ begun. s ≡ begun) w.begin.new.session plans plans w.in_ok-begin-in-Handed.advance refl
+          (λ begun h. rw (value ∙ w.in-Handed.is) at (rw (← c.self.view_is) at h)) w.in_ok-begin-in-Handed.ensures.tells in
+          rw (w.far-is, w.self-inside-is) tells
+      | in-Out+in_ok-far-in-Out w ↦
+          let run = w.in-Out.run' in
+          let pending = w.in-Out.pending.items in
+          let round = rw (value ∙ w.in-Out.is) at (rw (← c.self.view_is) at c.requires.round) in
+          let tells = tells-weaker program text_of may (λ begun. IsUnderway program text_of may begun c.args.self.now) (λ begun. HasGone program text_of may begun s run.plans (out run pending)) w.finish_round.new.session plans run.plans w.in_ok-far-in-Out.advance round.0
+          (λ begun h. let gone = rw (value ∙ w.in-Out.is) at (rw (← c.self.view_is) at h) in (refl, gone.1, gone.2)) w.in_ok-far-in-Out.ensures.tells in
+          rw (w.far-is, w.self-inside-is) tells
+    ]

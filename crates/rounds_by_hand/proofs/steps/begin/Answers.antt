@@ -1,0 +1,35 @@
+use Rattle.std.proofs.Common.{◌≡◌, ◌∙◌, ap, subst}
+use Rattle.std.proofs.lemmas.Result.{IfOk-weaker, on_err_weaker}
+use Rattle.execution.specs.Sessions.{Forgot}
+use Rattle.load_rounds.specs.Sessions.{state_of, after_step}
+use Rattle.load_rounds.specs.SharedRuns.{IsRunAll}
+use Rattle.load_rounds.proofs.States.{on-err}
+use Rattle.rounds_by_hand.proofs.Far.{forgot-stops, tells-weaker, stops-weaker}
+use Rattle.rounds_by_hand.proofs.steps.begin.Goals as goal
+
+pub returns-in_err-run-clause-stopped : goal.returns-in_err-run-clause-stopped
+returns-in_err-run-clause-stopped g c =
+    on-err c.from_residual.result (λ begun e. forgot-stops g.P.Execute.program g.P.Execute.text_of g.S.Asks.may_tell (state_of begun) (state_of c.begin_all.new.self) c.args.plans.now
+    (c.in_err-run.ensures.forgot ∙ ap (λ s. after_step (state_of s) Forgot) e))
+
+pub returns-clause-tells : goal.returns-clause-tells
+returns-clause-tells g c =
+    let program = g.P.Execute.program in
+    let text_of = g.P.Execute.text_of in
+    let may = g.S.Asks.may_tell in
+    let mid = c.begin_all.new.self in
+    let run = c.in_ok-run.run' in
+    IfOk-weaker c.go_on.result _ _
+    (λ gone tells. tells-weaker program text_of may (λ begun. c.args.session.now ≡ begun) (λ begun. IsRunAll program text_of may (state_of begun) (state_of mid) run) c.go_on.new.session c.args.plans.now run.plans gone.1 c.in_ok-run.ensures.run.0
+    (λ begun e. subst (λ s. IsRunAll program text_of may (state_of s) (state_of mid) run) e c.in_ok-run.ensures.begun) tells) c.go_on.ensures.tells
+
+pub returns-clause-stopped : goal.returns-clause-stopped
+returns-clause-stopped g c =
+    let program = g.P.Execute.program in
+    let text_of = g.P.Execute.text_of in
+    let may = g.S.Asks.may_tell in
+    let mid = c.begin_all.new.self in
+    let run = c.in_ok-run.run' in
+    on_err_weaker c.go_on.result
+    (λ tells. stops-weaker program text_of may (λ begun. c.args.session.now ≡ begun) (λ begun. IsRunAll program text_of may (state_of begun) (state_of mid) run) c.go_on.new.session c.args.plans.now run.plans c.in_ok-run.ensures.run.0
+    (λ begun e. subst (λ s. IsRunAll program text_of may (state_of s) (state_of mid) run) e c.in_ok-run.ensures.begun) tells) c.go_on.ensures.stopped

@@ -1,0 +1,156 @@
+-- What contracts see of rounds by hand, and what was done since they were begun.
+use Rattle.std.specs.Prelude.{◌≡◌, ◌≤◌, ℕ, Bool, true, false, List, [], map, length, All}
+use Rattle.std.specs.List.{list_all}
+use Rattle.load_memory.specs.Keys.{KeyOf}
+use Rattle.load_memory.specs.Pairs.{MemoryOf}
+use Rattle.load_queue.specs.Answers.{AnswerOf}
+use Rattle.execution.specs.Program.{Program}
+use Rattle.execution.specs.Completion.{AnsweredOf}
+use Rattle.execution.specs.Rounds.{any_answer, may_at}
+use Rattle.load_rounds.specs.Sessions.{SessionOf, StateOf, state_of, memory_of}
+use Rattle.load_rounds.specs.Headline.{StopsAnswering}
+use Rattle.load_rounds.specs.Runs.{orders_in, IsAsked}
+use Rattle.load_rounds.specs.SharedRounds.{requests, joint, AreAnswers}
+use Rattle.load_rounds.specs.SharedRuns.{RunAllOf, IsRunAll, FitsLater}
+use Rattle.load_rounds.specs.declared.run.Stage.TheVariants as stage
+use Rattle.rounds_by_hand.specs.declared.hand.Advance.{Advance}
+use Rattle.rounds_by_hand.specs.declared.hand.Advance.TheVariants.{Finished, Round, Waiting, Over}
+use Rattle.rounds_by_hand.specs.declared.hand.Far.{Far}
+use Rattle.rounds_by_hand.specs.declared.hand.Far.TheVariants as rust
+use Rattle.rounds_by_hand.specs.declared.pending.Pending.{Pending}
+use Rattle.rounds_by_hand.specs.Pending.{order_in, is_in, IsAnswered}
+
+-- how far they are: nothing is done yet, or a round of a run is out with its orders, or nothing more can be done
+pub data FarOf (P E : Type 0) : Type 0 where
+  handed : FarOf P E
+  out : RunAllOf P E → List Pending → FarOf P E
+  over : FarOf P E
+
+-- the session, what is answered in it, and how far that is
+pub record HandOf (S P E : Type 0) : Type 0 where
+  pub session : SessionOf S
+  pub plans : List P
+  pub far : FarOf P E
+
+-- No public clause names it. What contracts see of how far they are.
+abbrev pub far_of : {P E : Type 0} → Far P E → FarOf P E
+far_of rust.Handed = handed
+far_of (rust.Out run pending) = out run pending.items
+far_of rust.Over = over
+
+module _ {P E : Type 0} where
+  -- the orders of the round that is out
+  abbrev pub pending_in : FarOf P E → List Pending
+  pending_in handed = []
+  pending_in (out run pending) = pending
+  pending_in over = []
+
+  -- nothing is done yet, or each order of the round is answered
+  abbrev pub can_advance : FarOf P E → Bool
+  can_advance handed = true
+  can_advance (out run pending) = list_all is_in pending
+  can_advance over = false
+
+  -- a round is out, none of whose orders is answered
+  abbrev pub IsNewRound : FarOf P E → Type 0
+  IsNewRound handed = ⊥
+  IsNewRound (out run pending) = All (λ one. is_in one ≡ false) pending
+  IsNewRound over = ⊥
+
+  -- a round is out, some of whose orders aren't answered
+  abbrev pub IsWaiting : FarOf P E → Type 0
+  IsWaiting handed = ⊥
+  IsWaiting (out run pending) = list_all is_in pending ≡ false
+  IsWaiting over = ⊥
+
+  abbrev pub IsOver : FarOf P E → Type 0
+  IsOver far = far ≡ over
+
+  -- a step gave the answers and is over, or a new round is out
+  abbrev pub IsStep : FarOf P E → Advance → Type 0
+  IsStep far (Finished answers) = IsOver far
+  IsStep far Round = IsNewRound far
+  IsStep far Waiting = ⊥
+  IsStep far Over = ⊥
+
+module _ {S P : Type 0} (program : P → Program) (text_of : P → AnsweredOf → List ℕ) (may : S → List KeyOf → AnswerOf → Type 0) where
+  -- from whichever session they were begun: the answers have the headline
+  abbrev pub TellsFrom : (SessionOf S → Type 0) → SessionOf S → List P → Advance → Type 0
+  TellsFrom from now plans (Finished answers) =
+      (begun : SessionOf S) → from begun → AreAnswers may (state_of begun) (state_of now) (requests program text_of plans) answers
+  TellsFrom from now plans Round = Unit {0}
+  TellsFrom from now plans Waiting = Unit {0}
+  TellsFrom from now plans Over = Unit {0}
+
+  -- after want of memory: the finished rounds stay, and perhaps one more was lost
+  abbrev pub StopsFrom : (SessionOf S → Type 0) → SessionOf S → List P → Type 0
+  StopsFrom from now plans = (begun : SessionOf S) → from begun → StopsAnswering may (state_of begun) (state_of now) (joint program text_of plans)
+
+module _ {S P E : Type 0} where
+  -- what a call did
+  abbrev pub Advances : HandOf S P E → HandOf S P E → Advance → Type 0
+  Advances old new (Finished answers) = (can_advance old.far ≡ true) × IsOver new.far
+  Advances old new Round = (can_advance old.far ≡ true) × IsNewRound new.far
+  Advances old new Waiting = IsWaiting old.far × (new ≡ old)
+  Advances old new Over = IsOver old.far × (new ≡ old)
+
+  -- the same of a call that asks the sources for the orders that nobody answered: it never waits
+  abbrev pub AsksAndAdvances : HandOf S P E → HandOf S P E → Advance → Type 0
+  AsksAndAdvances old new (Finished answers) = ¬ (IsOver old.far) × IsOver new.far
+  AsksAndAdvances old new Round = ¬ (IsOver old.far) × IsNewRound new.far
+  AsksAndAdvances old new Waiting = ⊥
+  AsksAndAdvances old new Over = IsOver old.far × (new ≡ old)
+
+  module _ (program : P → Program) (text_of : P → AnsweredOf → List ℕ) where
+    -- A round is out, the latest of the session. Its orders are the batches of all that is needed and missing, and each that is answered
+    -- has an outcome for each key.
+    pub record IsOutWith (s : StateOf S) (run : RunAllOf P E) (pending : List Pending) : Type 0 where
+      pub stage : run.stage ≡ stage.Out
+      pub latest : IsAsked (joint program text_of run.plans) s
+      pub orders : map order_in pending ≡ orders_in s (joint program text_of run.plans)
+      pub answers : All (IsAnswered any_answer) pending
+
+    -- the orders of the round that is out are the batches of all that these plans need and the session lacks
+    abbrev pub AreBatches : StateOf S → List P → FarOf P E → Type 0
+    AreBatches s plans handed = Unit {0}
+    AreBatches s plans (out run pending) = map order_in pending ≡ orders_in s (joint program text_of plans)
+    AreBatches s plans over = Unit {0}
+
+    abbrev pub AreOrders : HandOf S P E → Type 0
+    AreOrders h = AreBatches (state_of h.session) h.plans h.far
+
+    module _ (loaders : P → ℕ) (fits : P → E → MemoryOf → Type 0) where
+      abbrev pub HoldsFar : SessionOf S → List P → FarOf P E → Type 0
+      HoldsFar session plans handed = Unit {0}
+      HoldsFar session plans (out run pending) =
+          (run.plans ≡ plans) × IsOutWith (state_of session) run pending × FitsLater program text_of loaders fits run (memory_of session)
+      HoldsFar session plans over = Unit {0}
+
+      -- What holds between calls: the session has the loaders of each plan, and the round that is out is of a run that fits it.
+      pub record Holds (session : SessionOf S) (plans : List P) (far : FarOf P E) : Type 0 where
+        pub enough : All (λ plan. loaders plan ≤ length session.loaders) plans
+        pub round : HoldsFar session plans far
+
+    module _ (may : S → List KeyOf → AnswerOf → Type 0) where
+      -- the session as it is, by how far they are
+      abbrev pub HasGone : SessionOf S → SessionOf S → List P → FarOf P E → Type 0
+      HasGone begun now plans handed = now ≡ begun
+      HasGone begun now plans (out run pending) =
+          (run.plans ≡ plans) × IsRunAll program text_of may (state_of begun) (state_of now) run × All (IsAnswered (may_at may now.loaders)) pending
+      HasGone begun now plans over = StopsAnswering may (state_of begun) (state_of now) (joint program text_of plans)
+
+      -- They were begun on this session, as it was then. Since then nothing but their rounds was made in it, and each order was answered as
+      -- its source may answer it.
+      abbrev pub IsUnderway : SessionOf S → HandOf S P E → Type 0
+      IsUnderway begun h = HasGone begun h.session h.plans h.far
+
+      -- from whichever session they were begun: they have gone so far
+      abbrev pub GoesFrom : (SessionOf S → Type 0) → SessionOf S → List P → FarOf P E → Type 0
+      GoesFrom from now plans far = (begun : SessionOf S) → from begun → HasGone begun now plans far
+
+      -- the same of the calls of a hand
+      abbrev pub GoesOn : HandOf S P E → HandOf S P E → Type 0
+      GoesOn old new = GoesFrom (λ begun. IsUnderway begun old) new.session new.plans new.far
+
+      abbrev pub AnswersFrom : HandOf S P E → HandOf S P E → Advance → Type 0
+      AnswersFrom old new advance = TellsFrom program text_of may (λ begun. IsUnderway begun old) new.session new.plans advance

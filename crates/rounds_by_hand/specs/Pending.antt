@@ -1,0 +1,54 @@
+-- Orders of a round that is out, some of which are answered.
+use Rattle.std.specs.Prelude.{◌≡◌, ℕ, Bool, true, false, List, length, slice_get, Option, Some, None, Result}
+use Rattle.std.specs.List.{slice_set}
+use Rattle.std.specs.Global.{Vec}
+use Rattle.load_memory.specs.Keys.{KeyOf}
+use Rattle.load_memory.specs.Replies.{ReplyOf, reply_of}
+use Rattle.load_memory.specs.declared.outcome.Item.{Item}
+use Rattle.load_memory.specs.declared.reply.Reply.{Reply}
+use Rattle.load_queue.specs.Answers.{AnswerOf, outcomes_of}
+use Rattle.load_queue.specs.Fetched.{Fetched, Follow}
+use Rattle.load_queue.specs.Loaders.{LoaderOf}
+use Rattle.load_queue.specs.Orders.{OrderOf, order_of}
+use Rattle.load_queue.specs.declared.source.FetchFault.{FetchFault}
+use Rattle.rounds_by_hand.specs.declared.pending.Pending.{Pending}
+use Rattle.rounds_by_hand.specs.declared.pending.Pending.TheVariants.{Out, In}
+
+-- the order, also where it is answered
+abbrev pub order_in : Pending → OrderOf
+order_in (Out order) = order
+order_in (In reply) = order_of reply.loader (reply_of reply).keys
+
+abbrev pub is_in : Pending → Bool
+is_in (Out order) = false
+is_in (In reply) = true
+
+-- there is an order of this number, and it is answered
+abbrev pub is_in_at : Option Pending → Bool
+is_in_at None = false
+is_in_at (Some pending) = is_in pending
+
+-- the outcomes are those of an answer that may be given
+pub record HasAnswer (may : ℕ → List KeyOf → AnswerOf → Type 0) (reply : ReplyOf) : Type 0 where
+  pub answer : AnswerOf
+  pub may_be : may reply.loader reply.keys answer
+  pub outcomes : reply.outcomes ≡ outcomes_of (length reply.keys) answer
+
+-- where it is answered, it has an answer that may be given
+abbrev pub IsAnswered : (ℕ → List KeyOf → AnswerOf → Type 0) → Pending → Type 0
+IsAnswered may (Out order) = Unit {0}
+IsAnswered may (In reply) = HasAnswer may (reply_of reply)
+
+-- the order of this number, which was out, has got the reply that follows from an answer; the others are as they were
+pub record TakesAnswer (old : List Pending) (number : ℕ) (answer : Result (Vec Item) FetchFault) (new : List Pending) : Type 0 where
+  pub order : OrderOf
+  pub reply : Reply
+  pub was : slice_get old number ≡ Some (Out order)
+  pub loader : reply.loader ≡ order.loader
+  pub keys : (reply_of reply).keys ≡ order.keys
+  pub outcomes : Follow (reply_of reply).outcomes answer (length order.keys)
+  pub put : new ≡ slice_set old number (In reply)
+
+-- the answer is one that the source of the order's loader may give
+abbrev pub MayAnswer : {S : Type 0} → (S → List KeyOf → AnswerOf → Type 0) → List (LoaderOf S) → OrderOf → Result (Vec Item) FetchFault → Type 0
+MayAnswer {S} may loaders order answer = (asked : LoaderOf S) → slice_get loaders order.loader ≡ Some asked → Fetched (may asked.source order.keys) answer

@@ -1,0 +1,28 @@
+//! Why an answer to an order wasn't taken.
+use load_memory::NoMemory;
+use thiserror::Error;
+
+/// Why an answer to an order wasn't taken.
+#[derive(Clone, Copy, Debug, PartialEq, Eq, Error)]
+pub enum TakeFault {
+    /// No round is out, or it has no order of that number. Nothing has changed.
+    #[error("no such order")]
+    NoSuchOrder,
+    /// The order was answered already. Nothing has changed.
+    #[error("the order was answered already")]
+    Answered,
+    /// Out of memory, here or as the answer. The round is lost, and the session can only be taken back.
+    #[error("out of memory")]
+    NoMemory,
+}
+
+impl From<NoMemory> for TakeFault {
+    ghost use Rattle.std.specs.Prelude.{◌≡◌};
+    ghost use Rattle.rounds_by_hand.specs.declared.fault.TakeFault.TheVariants.{NoMemory};
+
+    ghost from_gives = { λ _ fault. fault ≡ NoMemory };
+
+    fn from(_e: NoMemory) -> TakeFault {
+        TakeFault::NoMemory
+    }
+}

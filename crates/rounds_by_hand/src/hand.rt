@@ -1,0 +1,209 @@
+//! Answers to several plans, in rounds by hand, with the session in which they are answered.
+ghost use Rattle.std.specs.Prelude.{◌≡◌, ◌≤◌, ◌↔◌, ◌⊎◌, All, length, map, slice_get, true, IfOk, IfSome, OnOk, OnErr, IsErrOf};
+ghost use Rattle.load_rounds.specs.Headline.{StopsAnswering};
+ghost use Rattle.load_rounds.specs.Sessions.{SessionOf, state_of, memory_of};
+ghost use Rattle.load_rounds.specs.SharedRounds.{joint};
+
+use crate::fault::TakeFault;
+use crate::pending::{Pending, all_out, are_in, replies_to, take_answer};
+use crate::steps::{begin, finish_round};
+use execution::Execute;
+use load_memory::{Item, NoMemory};
+use load_queue::{Asks, FetchFault};
+use load_rounds::{Answer, RunAll, Session};
+use std::marker::Model;
+use std::mem;
+
+/// How far they are.
+#[derive(Drop)]
+pub(crate) enum Far<'p, P, E> {
+    /// Nothing is done yet.
+    Handed,
+    /// A round is out, with its orders.
+    Out(RunAll<'p, P, E>, Vec<Pending>),
+    /// Nothing more can be done.
+    Over,
+}
+
+/// What a call of [`Hand::advance`] did.
+#[derive(Drop)]
+pub enum Advance {
+    /// Nothing is missing any more. There is an answer for each plan, in order.
+    Finished(Vec<Answer>),
+    /// A new round is out. Its orders are to be answered.
+    Round,
+    /// Nothing: the round that is out has an order that isn't answered.
+    Waiting,
+    /// Nothing: the answers were given before, or memory ran out.
+    Over,
+}
+
+/// Answers to several plans, in rounds that they share and that the caller runs, with the session in which they are answered. While they
+/// are under way, nothing else can change the session.
+///
+/// It is used in turns. [`advance`](Hand::advance) returns the answers, or a new round is out: then the caller answers each of the orders
+/// ([`orders`](Hand::orders)) by its number, in any order ([`answer`](Hand::answer)), and advances again.
+///
+/// A contract sees the session, the plans, and how far they are. `Holds` of `specs/Hands.antt` is what each call needs and keeps: the
+/// session has the loaders of each plan, as where they were begun. (In this kit no invariant of the type can say it, since it speaks of what
+/// a trait with a lifetime says.) What was done in the session since they were begun is
+/// `IsUnderway` of `specs/Hands.antt`: each call keeps it, and in the end it is the headline.
+#[derive(Drop)]
+pub struct Hand<'p, S, P, E> {
+    session: Session<S>,
+    plans: &'p [P],
+    far: Far<'p, P, E>,
+}
+
+impl<'p, S, P, E> Model for Hand<'p, S, P, E> {
+    ghost use Rattle.rounds_by_hand.specs.Hands.{HandOf, far_of};
+
+    ghost Value = { HandOf S P E };
+
+    ghost view = { λ h. record { session = h.session; plans = h.plans.now; far = far_of h.far } };
+}
+
+impl<'p, S, P, E> Hand<'p, S, P, E> {
+    ghost use Rattle.rounds_by_hand.specs.Hands.{handed, pending_in};
+
+    /// Answers to these plans in the session, of which nothing is done. It takes no memory. The session is to have the loaders of each
+    /// plan, before the first call.
+    pub fn new(session: Session<S>, plans: &'p [P]) -> Hand<'p, S, P, E>
+        ensures { result ≡ record { session = session; plans = plans.now; far = handed } }
+    {
+        Hand {
+            session,
+            plans,
+            far: Far::Handed,
+        }
+    }
+
+    /// The orders of the round that is out, each with its reply once it is answered. There are none where no round is out.
+    pub fn orders(&self) -> &[Pending]
+        ensures { result.now ≡ pending_in self.now.far }
+    {
+        match &self.far {
+            Far::Out(_, pending) => pending,
+            _ => &[],
+        }
+    }
+
+    /// The session as it is: what is known, and each batch that was asked. A round that is out is in its logs as not stored.
+    pub fn session(&self) -> &Session<S>
+        ensures { result.now ≡ self.now.session }
+    {
+        &self.session
+    }
+}
+
+impl<'p, S: Asks, P: Execute<'p, E>, E: Drop> Hand<'p, S, P, E> {
+    ghost use Rattle.rounds_by_hand.specs.Hands.{Advances, AsksAndAdvances, AnswersFrom, GoesOn, Holds, IsOver, IsUnderway, pending_in};
+    ghost use Rattle.rounds_by_hand.specs.Pending.{TakesAnswer, MayAnswer, is_in_at, order_in};
+
+    /// Stores the round that is out, if each of its orders is answered, and goes on over what is known: returns the answers, or makes the
+    /// next round. The first call begins, and forgets failed batches.
+    ///
+    /// # Errors
+    ///
+    /// Only when out of memory: the finished rounds stay, and a round that was out is lost. It is over then.
+    pub fn advance(&mut self) -> Result<Advance, NoMemory>
+        requires { Holds P.program P.text_of P.loaders P.fits self.old.session self.old.plans self.old.far }
+        ensures holds { Holds P.program P.text_of P.loaders P.fits self.new.session self.new.plans self.new.far }
+        ensures advanced { IfOk result (Advances self.old self.new) }
+        ensures over { OnErr result (IsOver self.new.far) }
+        ensures underway { GoesOn P.program P.text_of S.may_tell self.old self.new }
+        ensures answers { IfOk result (AnswersFrom P.program P.text_of S.may_tell self.old self.new) }
+        ensures plans { self.new.plans ≡ self.old.plans }
+        ensures loaders { length self.new.session.loaders ≡ length self.old.session.loaders }
+    {
+        let (far, advance) = match mem::replace(&mut self.far, Far::Over) {
+            Far::Over => (Far::Over, Advance::Over),
+            Far::Handed => begin(&mut self.session, self.plans)?,
+            Far::Out(run, pending) => {
+                if are_in(&pending) {
+                    finish_round(&mut self.session, run, pending)?
+                } else {
+                    (Far::Out(run, pending), Advance::Waiting)
+                }
+            }
+        };
+        self.far = far;
+        Ok(advance)
+    }
+
+    /// Does what [`advance`](Hand::advance) does, but asks the sources of the session for the orders that nobody has answered. So it never
+    /// waits.
+    ///
+    /// # Errors
+    ///
+    /// Those of [`advance`](Hand::advance).
+    pub fn ask_and_advance(&mut self) -> Result<Advance, NoMemory>
+        requires { Holds P.program P.text_of P.loaders P.fits self.old.session self.old.plans self.old.far }
+        ensures holds { Holds P.program P.text_of P.loaders P.fits self.new.session self.new.plans self.new.far }
+        ensures advanced { IfOk result (AsksAndAdvances self.old self.new) }
+        ensures over { OnErr result (IsOver self.new.far) }
+        ensures underway { GoesOn P.program P.text_of S.may_tell self.old self.new }
+        ensures answers { IfOk result (AnswersFrom P.program P.text_of S.may_tell self.old self.new) }
+        ensures plans { self.new.plans ≡ self.old.plans }
+        ensures loaders { length self.new.session.loaders ≡ length self.old.session.loaders }
+    {
+        let (far, advance) = match mem::replace(&mut self.far, Far::Over) {
+            Far::Over => (Far::Over, Advance::Over),
+            Far::Handed => begin(&mut self.session, self.plans)?,
+            Far::Out(run, pending) => finish_round(&mut self.session, run, pending)?,
+        };
+        self.far = far;
+        Ok(advance)
+    }
+
+    /// Answers the order of this number in the round that is out, with items that came from elsewhere, or with a fault of the whole batch.
+    /// An answer that hasn't an item for each key fails the batch.
+    ///
+    /// # Errors
+    ///
+    /// [`NoSuchOrder`](TakeFault::NoSuchOrder) and [`Answered`](TakeFault::Answered): nothing has changed then.
+    /// [`NoMemory`](TakeFault::NoMemory) when out of memory, or where that is the answer: the round is lost, and it is over.
+    pub fn answer(
+        &mut self,
+        number: usize,
+        answer: Result<Vec<Item>, FetchFault>,
+    ) -> Result<(), TakeFault>
+        requires { Holds P.program P.text_of P.loaders P.fits self.old.session self.old.plans self.old.far }
+        ensures holds { Holds P.program P.text_of P.loaders P.fits self.new.session self.new.plans self.new.far }
+        ensures no_order { IsErrOf result TakeFault.NoSuchOrder ↔ (length (pending_in self.old.far) ≤ number) }
+        ensures answered { IsErrOf result TakeFault.Answered ↔ (is_in_at (slice_get (pending_in self.old.far) number) ≡ true) }
+        ensures none { IsErrOf result TakeFault.NoSuchOrder → self.new ≡ self.old }
+        ensures kept { IsErrOf result TakeFault.Answered → self.new ≡ self.old }
+        ensures over { IsErrOf result TakeFault.NoMemory → IsOver self.new.far }
+        ensures taken { OnOk result (TakesAnswer (pending_in self.old.far) number answer (pending_in self.new.far)) }
+        // It is still as the sources may answer, if this answer is.
+        ensures underway { OnOk result (IfSome (slice_get (pending_in self.old.far) number)
+            (λ one. MayAnswer S.may_tell self.old.session.loaders (order_in one) answer → GoesOn P.program P.text_of S.may_tell self.old self.new)) }
+        ensures stopped { OnErr result (GoesOn P.program P.text_of S.may_tell self.old self.new) }
+        ensures session { self.new.session ≡ self.old.session }
+        ensures plans { self.new.plans ≡ self.old.plans }
+    {
+        let Far::Out(_, pending) = &mut self.far else {
+            return Err(TakeFault::NoSuchOrder);
+        };
+        match take_answer(pending, number, answer) {
+            Ok(()) => Ok(()),
+            Err(TakeFault::NoMemory) => {
+                self.far = Far::Over;
+                Err(TakeFault::NoMemory)
+            }
+            Err(TakeFault::NoSuchOrder) => Err(TakeFault::NoSuchOrder),
+            Err(TakeFault::Answered) => Err(TakeFault::Answered),
+        }
+    }
+
+    /// Gives the session back, whatever is done: the finished rounds stay, and a round that is out is lost. Its batches stay in the logs
+    /// as not stored.
+    pub fn into_session(self) -> Session<S>
+        ensures session { result ≡ self.entry.session }
+        ensures stopped { (begun : SessionOf S) → IsUnderway P.program P.text_of S.may_tell begun self.entry
+            → (result ≡ begun) ⊎ StopsAnswering S.may_tell (state_of begun) (state_of result) (joint P.program P.text_of self.entry.plans) }
+    {
+        self.session
+    }
+}

@@ -1,0 +1,18 @@
+//! Rounds by hand: answers whose orders the caller answers itself, by number and in any order, in a session that no one else can change
+//! meanwhile.
+//!
+//! The layer above may rely on this: a [`Hand`] owns its session until it is given back. Whoever answered the orders, and in whatever
+//! order, what was done in the session since the hand was begun is `IsUnderway` of `specs/Hands.antt`, which each call keeps: rounds were
+//! made and nothing else, each order was answered as its source may answer it, and in the end the answers have the headline of
+//! `load_rounds`. An answer that no source may give is taken too, and then nothing is promised of the answers' texts. The requests of
+//! these calls are what the hand was made with, the loaders that the plans need, and each call keeps that.
+#![tactic(auto)]
+
+pub mod fault;
+pub mod hand;
+pub mod pending;
+mod steps;
+
+pub use fault::TakeFault;
+pub use hand::{Advance, Hand};
+pub use pending::Pending;

@@ -1,0 +1,111 @@
+//! The orders of a round that is out.
+ghost use Rattle.std.specs.Prelude.{◌≡◌, ◌≤◌, ◌<◌, ◌↔◌, All, IfOk, OnOk, IsErrOf, length, map, slice_get, true, false};
+ghost use Rattle.std.specs.List.{list_all};
+ghost use Rattle.load_memory.specs.Replies.{reply_of};
+ghost use Rattle.execution.specs.Rounds.{any_answer, may_at, AreReplies, IsReply};
+ghost use Rattle.load_rounds.specs.Histories.{any_tell};
+ghost use Rattle.rounds_by_hand.specs.Pending.{order_in, is_in, is_in_at, IsAnswered, TakesAnswer};
+
+use crate::fault::TakeFault;
+use load_memory::{Item, NoMemory, Reply};
+use load_queue::{Asks, FetchFault, Loader, Order};
+use std::alloc::Global;
+use std::mem;
+
+/// An order of a round that is out, or the reply to it. Its number is its place among the orders of the round.
+#[derive(Drop)]
+pub enum Pending {
+    /// It is still to be answered.
+    Out(Order),
+    /// It was answered.
+    In(Reply),
+}
+
+/// The orders of a round, none of which is answered yet.
+pub(crate) fn all_out(orders: Vec<Order>) -> Result<Vec<Pending>, NoMemory>
+    ensures orders { IfOk result (λ pending. map order_in pending.items ≡ orders.items) }
+    ensures out { IfOk result (λ pending. All (λ one. is_in one ≡ false) pending.items) }
+{
+    let mut pending = Vec::with_capacity(*orders.allocator(), orders.len())?;
+    for order in orders {
+        pending.push(Pending::Out(order))?;
+    }
+    Ok(pending)
+}
+
+/// Whether each order was answered.
+pub(crate) fn are_in(pending: &[Pending]) -> bool
+    ensures { result ≡ list_all is_in pending.now }
+{
+    for one in pending {
+        if let Pending::Out(_) = one {
+            return false;
+        }
+    }
+    true
+}
+
+// The reply to an order, for which its source is asked if nobody has answered it.
+fn reply_to<S: Asks>(alloc: Global, one: Pending, loaders: &[Loader<S>]) -> Result<Reply, NoMemory>
+    requires { (order_in one).loader < length loaders.now }
+    ensures any { IsAnswered any_answer one → IfOk result (λ r. IsReply (may_at any_tell loaders.now) (order_in one) (reply_of r)) }
+    ensures told { IsAnswered (may_at S.may_tell loaders.now) one
+        → IfOk result (λ r. IsReply (may_at S.may_tell loaders.now) (order_in one) (reply_of r)) }
+{
+    match one {
+        Pending::Out(order) => order.run(alloc, loaders),
+        Pending::In(reply) => Ok(reply),
+    }
+}
+
+/// The replies to the orders of a round, in order. The source is asked for those that nobody has answered.
+pub(crate) fn replies_to<S: Asks>(
+    pending: Vec<Pending>,
+    loaders: &[Loader<S>],
+) -> Result<Vec<Reply>, NoMemory>
+    requires { All (λ one. (order_in one).loader < length loaders.now) pending.items }
+    ensures any { All (IsAnswered any_answer) pending.items
+        → IfOk result (λ rs. AreReplies (may_at any_tell loaders.now) (map order_in pending.items) (map reply_of rs.items)) }
+    ensures told { All (IsAnswered (may_at S.may_tell loaders.now)) pending.items
+        → IfOk result (λ rs. AreReplies (may_at S.may_tell loaders.now) (map order_in pending.items) (map reply_of rs.items)) }
+{
+    let alloc = *pending.allocator();
+    let mut replies = Vec::with_capacity(alloc, pending.len())?;
+    for one in pending {
+        replies.push(reply_to(alloc, one, loaders)?)?;
+    }
+    Ok(replies)
+}
+
+/// Answers the order of this number, and spends it.
+pub(crate) fn take_answer(
+    pending: &mut Vec<Pending>,
+    number: usize,
+    answer: Result<Vec<Item>, FetchFault>,
+) -> Result<(), TakeFault>
+    ensures no_order { IsErrOf result TakeFault.NoSuchOrder ↔ (length pending.old.items ≤ number) }
+    ensures answered { IsErrOf result TakeFault.Answered ↔ (is_in_at (slice_get pending.old.items number) ≡ true) }
+    ensures none { IsErrOf result TakeFault.NoSuchOrder → pending.new.items ≡ pending.old.items }
+    ensures kept { IsErrOf result TakeFault.Answered → pending.new.items ≡ pending.old.items }
+    ensures taken { OnOk result (TakesAnswer pending.old.items number answer pending.new.items) }
+{
+    if number >= pending.len() {
+        return Err(TakeFault::NoSuchOrder);
+    }
+    let alloc = *pending.allocator();
+    let blank = Pending::In(Reply {
+        loader: 0,
+        keys: Vec::new(alloc),
+        outcomes: Vec::new(alloc),
+    });
+    match mem::replace(&mut pending[number], blank) {
+        Pending::Out(order) => {
+            pending[number] = Pending::In(order.answered(alloc, answer)?);
+            Ok(())
+        }
+        Pending::In(reply) => {
+            pending[number] = Pending::In(reply);
+            Err(TakeFault::Answered)
+        }
+    }
+}

@@ -1,0 +1,99 @@
+//! What a call does, on the parts of a hand.
+ghost use Rattle.std.specs.Prelude.{◌≡◌, ◌≤◌, All, length, IfOk, OnErr};
+ghost use Rattle.execution.specs.Rounds.{may_at};
+ghost use Rattle.load_rounds.specs.Sessions.{SessionOf, state_of, memory_of};
+ghost use Rattle.load_rounds.specs.SharedRuns.{IsRunAll, FitsRun, FitsLater, KeepsFitting, GoesOnFrom};
+ghost use Rattle.rounds_by_hand.specs.Hands.{far_of, out, IsOutWith, IsStep, HoldsFar, HasGone, GoesFrom, StopsFrom, TellsFrom};
+ghost use Rattle.rounds_by_hand.specs.Pending.{IsAnswered};
+
+use crate::hand::{Advance, Far};
+use crate::pending::{Pending, all_out, replies_to};
+use execution::Execute;
+use load_memory::NoMemory;
+use load_queue::Asks;
+use load_rounds::{NextAll, RunAll, Session, Stage};
+
+// Goes on with a run over what is known.
+fn go_on<'p, E: Drop, P: Execute<'p, E>, S: Asks>(
+    session: &mut Session<S>,
+    run: RunAll<'p, P, E>,
+) -> Result<(Far<'p, P, E>, Advance), NoMemory>
+    requires ready { run.stage ≡ Stage.Ready }
+    requires enough { All (λ plan. P.loaders plan ≤ length session.old.loaders) run.plans }
+    requires fits { FitsRun P.program P.text_of P.loaders P.fits run (memory_of session.old) }
+    ensures holds { IfOk result (λ gone. HoldsFar P.program P.text_of P.loaders P.fits session.new run.entry.plans (far_of gone.0)) }
+    ensures step { IfOk result (λ gone. IsStep (far_of gone.0) gone.1) }
+    ensures went { IfOk result (λ gone. GoesFrom P.program P.text_of S.may_tell
+        (λ begun. IsRunAll P.program P.text_of S.may_tell (state_of begun) (state_of session.old) run.entry) session.new run.entry.plans (far_of gone.0)) }
+    ensures tells { IfOk result (λ gone. TellsFrom P.program P.text_of S.may_tell
+        (λ begun. IsRunAll P.program P.text_of S.may_tell (state_of begun) (state_of session.old) run.entry) session.new run.entry.plans gone.1) }
+    ensures stopped { OnErr result (StopsFrom P.program P.text_of S.may_tell
+        (λ begun. IsRunAll P.program P.text_of S.may_tell (state_of begun) (state_of session.old) run.entry) session.new run.entry.plans) }
+    ensures loaders { length session.new.loaders ≡ length session.old.loaders }
+{
+    let mut run = run;
+    match run.next_round(session)? {
+        NextAll::Finished(answers) => Ok((Far::Over, Advance::Finished(answers))),
+        NextAll::Round(orders) => Ok((Far::Out(run, all_out(orders)?), Advance::Round)),
+    }
+}
+
+/// Begins answers to these plans, and goes on with them over what is known.
+pub(crate) fn begin<'p, E: Drop, P: Execute<'p, E>, S: Asks>(
+    session: &mut Session<S>,
+    plans: &'p [P],
+) -> Result<(Far<'p, P, E>, Advance), NoMemory>
+    requires enough { All (λ plan. P.loaders plan ≤ length session.old.loaders) plans.now }
+    ensures holds { IfOk result (λ gone. HoldsFar P.program P.text_of P.loaders P.fits session.new plans.now (far_of gone.0)) }
+    ensures step { IfOk result (λ gone. IsStep (far_of gone.0) gone.1) }
+    ensures went { IfOk result (λ gone. GoesFrom P.program P.text_of S.may_tell (λ begun. session.old ≡ begun) session.new plans.now (far_of gone.0)) }
+    ensures tells { IfOk result (λ gone. TellsFrom P.program P.text_of S.may_tell (λ begun. session.old ≡ begun) session.new plans.now gone.1) }
+    ensures stopped { OnErr result (StopsFrom P.program P.text_of S.may_tell (λ begun. session.old ≡ begun) session.new plans.now) }
+    ensures loaders { length session.new.loaders ≡ length session.old.loaders }
+{
+    let run = session.begin_all(plans)?;
+    go_on(session, run)
+}
+
+// Stores the replies to the round that is out. The sources are asked for the orders that nobody has answered.
+fn store<'p, E: Drop, P: Execute<'p, E>, S: Asks>(
+    session: &mut Session<S>,
+    run: RunAll<'p, P, E>,
+    pending: Vec<Pending>,
+) -> Result<RunAll<'p, P, E>, NoMemory>
+    requires { IsOutWith P.program P.text_of (state_of session.old) run pending.items }
+    ensures ready { IfOk result (λ later. later ≡ record run.entry { stage = Stage.Ready }) }
+    ensures fits { IfOk result (λ later. KeepsFitting P.program P.text_of P.loaders P.fits run.entry later (memory_of session.old) (memory_of session.new)) }
+    ensures ran { All (IsAnswered (may_at S.may_tell session.old.loaders)) pending.items
+        → IfOk result (λ later. GoesOnFrom P.program P.text_of S.may_tell (state_of session.old) (state_of session.new) run.entry later) }
+    ensures lost { OnErr result (state_of session.new ≡ state_of session.old) }
+    ensures loaders { length session.new.loaders ≡ length session.old.loaders }
+{
+    let mut run = run;
+    let replies = replies_to(pending, session.loaders())?;
+    run.take_owned(session, replies)?;
+    Ok(run)
+}
+
+/// Stores the round that is out, and goes on over what is known then. The sources are asked for the orders that nobody has answered.
+pub(crate) fn finish_round<'p, E: Drop, P: Execute<'p, E>, S: Asks>(
+    session: &mut Session<S>,
+    run: RunAll<'p, P, E>,
+    pending: Vec<Pending>,
+) -> Result<(Far<'p, P, E>, Advance), NoMemory>
+    requires enough { All (λ plan. P.loaders plan ≤ length session.old.loaders) run.plans }
+    requires out { IsOutWith P.program P.text_of (state_of session.old) run pending.items }
+    requires fits { FitsLater P.program P.text_of P.loaders P.fits run (memory_of session.old) }
+    ensures holds { IfOk result (λ gone. HoldsFar P.program P.text_of P.loaders P.fits session.new run.entry.plans (far_of gone.0)) }
+    ensures step { IfOk result (λ gone. IsStep (far_of gone.0) gone.1) }
+    ensures went { IfOk result (λ gone. GoesFrom P.program P.text_of S.may_tell
+        (λ begun. HasGone P.program P.text_of S.may_tell begun session.old run.entry.plans (out run.entry pending.items)) session.new run.entry.plans (far_of gone.0)) }
+    ensures tells { IfOk result (λ gone. TellsFrom P.program P.text_of S.may_tell
+        (λ begun. HasGone P.program P.text_of S.may_tell begun session.old run.entry.plans (out run.entry pending.items)) session.new run.entry.plans gone.1) }
+    ensures stopped { OnErr result (StopsFrom P.program P.text_of S.may_tell
+        (λ begun. HasGone P.program P.text_of S.may_tell begun session.old run.entry.plans (out run.entry pending.items)) session.new run.entry.plans) }
+    ensures loaders { length session.new.loaders ≡ length session.old.loaders }
+{
+    let run = store(session, run, pending)?;
+    go_on(session, run)
+}
