@@ -25,12 +25,7 @@ struct Rest<'p> {
 }
 
 // What a fragment leaves to collect, where it applies.
-fn rest_of_fragment<'p>(
-    plan: &'p Plan,
-    ty: &str,
-    enterable: usize,
-    name: &str,
-) -> Option<Rest<'p>>
+fn rest_of_fragment<'p>(plan: &'p Plan, ty: &str, enterable: usize, name: &str) -> Option<Rest<'p>>
     ensures entered { (so_far : _) → collect_rest_if (plan_of plan.now) ty.now so_far result ≡ entering (plan_of plan.now) ty.now enterable so_far name.now }
     ensures steps { steps_if (plan_of plan.now).fragments result ≤ steps_inside (plan_of plan.now).fragments enterable }
 {

@@ -54,11 +54,7 @@ pub fn world_of(alloc: Global, asked: &Question, limit: Option<u32>) -> Result<W
 }
 
 /// The plan of a query, behind which the values of its variables may stand, as `with {"i":1}`; or why it has none.
-pub fn plan_of(
-    alloc: Global,
-    world: &World,
-    text: &str,
-) -> Result<Result<Plan, RequestFault>> {
+pub fn plan_of(alloc: Global, world: &World, text: &str) -> Result<Result<Plan, RequestFault>> {
     Ok(match text.split_once(" with ") {
         Some((query, variables)) => {
             let variables = Value::from_str(alloc, variables)?;

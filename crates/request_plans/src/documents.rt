@@ -57,11 +57,7 @@ impl Model for KeptDocuments {
 }
 
 // The document of a query, to be kept.
-fn new_document(
-    alloc: Global,
-    server: &Server,
-    query: &str,
-) -> Result<KeptDocument, RequestFault>
+fn new_document(alloc: Global, server: &Server, query: &str) -> Result<KeptDocument, RequestFault>
     ensures ok { IfOk result (IsKept server.now.definitions query.now) }
     ensures err { (name : Option (List ℕ)) (given : Data) → IfErr result (IsRequestFault (tree_of server.now.definitions) query.now name given) }
 {

@@ -47,11 +47,7 @@ impl Model for Server {
 }
 
 /// The checked document of a query.
-pub(crate) fn checked(
-    alloc: Global,
-    server: &Server,
-    query: &str,
-) -> Result<Checked, RequestFault>
+pub(crate) fn checked(alloc: Global, server: &Server, query: &str) -> Result<Checked, RequestFault>
     ensures definitions { IfOk result (λ c. c.definitions ≡ server.now.definitions) }
     ensures says { IfOk result (λ c. IsDocumentOf query.now (document_of c.document)) }
     ensures valid { IfOk result (λ c. IsValid (tree_of server.now.definitions) (document_of c.document)) }
@@ -143,13 +139,7 @@ impl Server {
             Ok(checked) => checked,
             Err(fault) => return Err(fault),
         };
-        match prepare(
-            alloc,
-            self.bindings(),
-            checked,
-            operation_name,
-            variables,
-        ) {
+        match prepare(alloc, self.bindings(), checked, operation_name, variables) {
             Ok(plan) => Ok(plan),
             Err(fault) => Err(RequestFault::Prepare(fault)),
         }

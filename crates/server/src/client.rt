@@ -168,10 +168,7 @@ impl<S: Asks> ClientSession<S> {
                 requires { HasLoadersFor session.old limited.now }
                 ensures { RunsPlan S.may_tell session.old limited.now result session.new }
             { session.answer(limited) },
-            all: |session: &mut Session<S>, plans: &[Limited<'_>]| -> Result<
-                Vec<Answer>,
-                NoMemory,
-            >
+            all: |session: &mut Session<S>, plans: &[Limited<'_>]| -> Result<Vec<Answer>, NoMemory>
                 requires { All (HasLoadersFor session.old) plans.now }
                 ensures { RunsPlans S.may_tell session.old plans.now result session.new }
             { session.answer_all(plans) },
@@ -248,10 +245,7 @@ impl<S: Source> ClientSession<S> {
                 requires loaders { HasLoadersFor session.old limited.now }
                 ensures { RunsPlan S.may_answer session.old limited.now result session.new }
             { workers.answer(session, limited) },
-            all: |session: &mut Session<S>, plans: &[Limited<'_>]| -> Result<
-                Vec<Answer>,
-                NoMemory,
-            >
+            all: |session: &mut Session<S>, plans: &[Limited<'_>]| -> Result<Vec<Answer>, NoMemory>
                 requires sync { IsSync R.row × IsSync S.row }
                 requires loaders { All (HasLoadersFor session.old) plans.now }
                 ensures { RunsPlans S.may_answer session.old plans.now result session.new }
