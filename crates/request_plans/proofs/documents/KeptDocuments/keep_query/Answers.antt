@@ -10,7 +10,7 @@ returns-then-contains_key-clause-kept c =
 
 pub invariant_of-self : goal.invariant_of-self
 invariant_of-self c =
-    let defs = c.self.inside.server.now.definitions in
+    let defs = c.self.inside.server.definitions in
     let query = c.args.query.now in
     let below : length query ≤ longest = omega (arith, c.if-query-gt-LONGEST.false) in
     elim c.match-add.branch [
@@ -28,7 +28,7 @@ returns-clause-kept c =
 pub returns-clause-stay : goal.returns-clause-stay
 returns-clause-stay c =
     λ room t h.
-    let defs = c.self.inside.server.now.definitions in
+    let defs = c.self.inside.server.definitions in
     let query = c.args.query.now in
     let fits = rw (← c.self.view_is) at room in
     let was = rw (← c.self.view_is) at h in
@@ -39,7 +39,7 @@ returns-clause-stay c =
 
 pub returns-clause-bounded : goal.returns-clause-bounded
 returns-clause-bounded c =
-    let defs = c.self.inside.server.now.definitions in
+    let defs = c.self.inside.server.definitions in
     let query = c.args.query.now in
     let below : length query ≤ longest = omega (arith, c.if-query-gt-LONGEST.false) in
     elim c.match-add.branch [

@@ -20,7 +20,7 @@ returns-in-Ok-prepare-clause-ok c =
       says = c.in-Ok.ensures.says;
       valid = c.in-Ok.ensures.valid;
       fragments = ap (λ (fs : List Fragment). fragments_of fs) c.in-Ok-prepare.ensures.fragments;
-      prepared = subst (λ (ds : List Definition). prepared (tree_of ds) (map operation_of checked.operations.items) name given ≡ Ok (record { operation = plan.operation; variables = plan.variables })) c.schema.ensures c.in-Ok-prepare.ensures.ok;
+      prepared = subst (λ (ds : List Definition). prepared (tree_of ds) (map operation_of checked.operations.items) name given ≡ Ok (record { operation = plan.operation; variables = plan.variables })) c.in-Ok.ensures.definitions c.in-Ok-prepare.ensures.ok;
     }
 
 pub returns-in-Err-prepare-clause-err : goal.returns-in-Err-prepare-clause-err
@@ -32,7 +32,7 @@ returns-in-Err-prepare-clause-err c =
       document = document_of checked;
       says = c.in-Ok.ensures.says;
       valid = c.in-Ok.ensures.valid;
-      fault = subst (λ (ds : List Definition). IsPrepareFault (prepared (tree_of ds) (map operation_of checked.operations.items) name given) c.in-Err-prepare.fault) c.schema.ensures c.in-Err-prepare.ensures.err;
+      fault = subst (λ (ds : List Definition). IsPrepareFault (prepared (tree_of ds) (map operation_of checked.operations.items) name given) c.in-Err-prepare.fault) c.in-Ok.ensures.definitions c.in-Err-prepare.ensures.err;
     }
 
 pub returns-in-Err-clause-err : goal.returns-in-Err-clause-err
