@@ -37,7 +37,8 @@ new-requires-in-Ok g c =
     take_all c.loop-line.line-index (map loader_of lines) (omega (arith, length-map lines loader_of, c.loop-line-test.false)) ∙ c.loop-line.invariant.lines in
     let many = opened-many g.F.FnMut c.args.max_batch (take c.loop-line.line-index (map loader_of lines)) c.loop-line.loaders.items c.args.source c.loop-line.source c.loop-line.invariant.opened in
     let most : length c.loop-line.loaders.items ≡ length c.args.self.now.bindings.loaders = many ∙ ap length all in
-    rw c.in-Ok.ensures (omega (arith, most))
+    let same : c.in_ok-server.server ≡ c.args.self.now = grind arith in
+    rw (same, c.in-Ok.ensures) (omega (arith, most))
 
 pub returns-in-Ok-clause-loaders : goal.returns-in-Ok-clause-loaders
 returns-in-Ok-clause-loaders g c =
