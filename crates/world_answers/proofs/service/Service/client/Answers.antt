@@ -1,4 +1,4 @@
-use Rattle.std.proofs.Common.{refl, sym, subst}
+use Rattle.std.proofs.Common.{◌≡◌, refl, sym, subst, arith}
 use Rattle.load_rounds.specs.Sessions.{restarted}
 use Rattle.world_answers.specs.Sessions.{IsOver}
 use Rattle.world_answers.proofs.Loading.{enough}
@@ -9,10 +9,12 @@ pub new-client-requires : goal.new-client-requires
 new-client-requires g c =
     let w = c.args.self.now.world.now in
     let over = subst (IsOver w) (sym c.in_ok-session.ensures.opened) (over-new w c.in_ok-session.ensures.each) in
-    rw c.server.ensures (enough w c.in_ok-session.session w.bindings refl over)
+    let same : c.in_ok-server.server ≡ c.server.result.now = grind arith in
+    rw (same, c.server.ensures) (enough w c.in_ok-session.session w.bindings refl over)
 
 pub returns : goal.returns
 returns g c =
     let w = c.args.self.now.world.now in
     let over = subst (IsOver w) (sym c.in_ok-session.ensures.opened) (over-new w c.in_ok-session.ensures.each) in
-    rw (c.limit_answers.ensures, c.new-client.ensures, c.server.ensures) (record { server = refl; most = refl; over = subst (IsOver w) (sym over.fresh) over })
+    let same : c.in_ok-server.server ≡ c.server.result.now = grind arith in
+    rw (c.limit_answers.ensures, c.new-client.ensures, same, c.server.ensures) (record { server = refl; most = refl; over = subst (IsOver w) (sym over.fresh) over })
