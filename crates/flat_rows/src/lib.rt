@@ -5,7 +5,9 @@
 #![tactic(auto)]
 
 mod fault;
+mod reply;
 mod texts;
 
 pub use fault::FlatFault;
+pub use reply::{FlatReply, KEY_FAULT};
 pub use texts::FlatTexts;
