@@ -1,11 +1,12 @@
 -- Numbers of rows, one key after another, and rows that lie one after another.
 use Rattle.std.proofs.Common.{◌≡◌, ◌≢◌, ◌≤◌, ◌<◌, ◌+◌, ◌*◌, ℕ, zero, suc, get_or, List, [], ◌∷◌, ◌++◌, take, drop, map, length, length-drop, refl, sym, ap, ◌∙◌, arith}
-use Rattle.std.proofs.lemmas.List.{drop_more, drop_all, drop-drop, get_or-drop, map_more}
+use Rattle.std.proofs.lemmas.List.{drop_more, drop_all, drop-drop, get_or-drop, map_more, append_assoc, append-nil}
 use Rattle.std.proofs.Math.Nat.{mul-le-mul_left, mul_comm, suc-mul, zero-mul}
 use Rattle.std.proofs.lemmas.Bool.{ne_eqb}
 use Rattle.load_memory.specs.Cells.{pieces, beyond}
 use Rattle.load_memory.proofs.PieceLaws.{pieces-more}
-use Rattle.flat_rows.specs.Replies.{fault_mark, total_rows, total_faults}
+use Rattle.load_memory.specs.Outcomes.{ItemOf}
+use Rattle.flat_rows.specs.Replies.{fault_mark, rows_in, faults_in, total_rows, total_faults, item_said, items_of}
 
 module _ (counts : List ℕ) (i : ℕ) where
   abbrev count : ℕ
@@ -82,3 +83,29 @@ map-next f at i xs d lt =
 pub no-piece : (width : ℕ) (cells : List (List ℕ)) → pieces width 0 cells ≡ []
 unfolding pieces
 no-piece width cells = refl
+
+-- ---- the items of the keys, one after another
+module _ (counts : List ℕ) (i : ℕ) (lt : i < length counts) where
+  pub rows-more : total_rows (drop i counts) ≡ rows_in (get_or counts i 0) + total_rows (drop (i + 1) counts)
+  unfolding total_rows
+  rows-more = rw (drop_more counts i 0 lt) refl
+
+  pub faults-more : total_faults (drop i counts) ≡ faults_in (get_or counts i 0) + total_faults (drop (i + 1) counts)
+  unfolding total_faults
+  faults-more = rw (drop_more counts i 0 lt) refl
+
+  module _ (names : List (List ℕ)) (all : List (List (List ℕ))) (texts : List (List ℕ)) (at fault : ℕ) where
+    pub said-more : (done : List ItemOf) (x : ItemOf) (rows faults : ℕ) → x ≡ item_said names (drop at all) (drop fault texts) (get_or counts i 0)
+        → rows ≡ rows_in (get_or counts i 0) → faults ≡ faults_in (get_or counts i 0)
+        → (done ++ x ∷ []) ++ items_of names (drop (at + rows) all) (drop (fault + faults) texts) (drop (i + 1) counts) ≡ done ++ items_of names (drop at all) (drop fault texts) (drop i counts)
+    unfolding items_of
+    said-more done x rows faults same r f =
+        let n = get_or counts i 0 in
+        let next : x ∷ items_of names (drop (at + rows) all) (drop (fault + faults) texts) (drop (i + 1) counts) ≡ items_of names (drop at all) (drop fault texts) (drop i counts)
+        = rw (drop_more counts i 0 lt, same, r, f, drop-drop (rows_in n) at all, drop-drop (faults_in n) fault texts) refl in
+        append_assoc done (x ∷ []) (items_of names (drop (at + rows) all) (drop (fault + faults) texts) (drop (i + 1) counts)) ∙ ap (λ l. done ++ l) next
+
+pub said-all : (counts : List ℕ) (i : ℕ) → length counts ≤ i → (names : List (List ℕ)) (all : List (List (List ℕ))) (faults : List (List ℕ)) (done : List ItemOf)
+    → done ++ items_of names all faults (drop i counts) ≡ done
+unfolding items_of
+said-all counts i past names all faults done = rw (drop_all i counts past) (append-nil done)
