@@ -1,5 +1,5 @@
 -- What a flat reply says.
-use Rattle.std.specs.Prelude.{ℕ, ◌+◌, ◌*◌, List, [], ◌∷◌, map, take, drop, get_or, if◌then◌else◌, ◌==◌, count_by, sum_by}
+use Rattle.std.specs.Prelude.{ℕ, ◌+◌, ◌*◌, List, [], ◌∷◌, map, take, drop, get_or, if◌then◌else◌, ◌==◌}
 use Rattle.load_memory.specs.Cells.{pieces}
 use Rattle.load_memory.specs.Outcomes.{ItemOf, rows, key_fault}
 use Rattle.load_memory.specs.Rows.{paired}

@@ -21,7 +21,7 @@ pub enum FlatFault {
     /// There are rows, and no column.
     #[error("rows of no column")]
     NoColumn,
-    /// There are more than 4,294,967,294 rows.
+    /// There are more than 4,294,967,295 rows.
     #[error("too many rows")]
     TooManyRows,
     #[error("out of memory")]

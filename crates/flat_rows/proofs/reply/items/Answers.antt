@@ -1,4 +1,4 @@
-use Rattle.std.proofs.Common.{length, ◌≡◌, ◌≤◌, ◌+◌, drop, map, sym, ap, ◌∙◌, arith}
+use Rattle.std.proofs.Common.{length, ◌≡◌, drop, map, sym, ap, ◌∙◌, arith}
 use Rattle.std.proofs.lemmas.List.{map_push}
 use Rattle.load_memory.specs.Outcomes.{item_of}
 use Rattle.flat_rows.proofs.ReplyLaws.{rows-more, faults-more, said-more, said-all}

@@ -1,4 +1,4 @@
-use Rattle.std.proofs.Common.{[], length, get_or, arith}
+use Rattle.std.proofs.Common.{[], arith}
 use Rattle.load_memory.specs.Rows.{paired}
 use Rattle.flat_rows.proofs.ReplyLaws.{map-next}
 use Rattle.flat_rows.proofs.reply.rows_at.Goals as goal

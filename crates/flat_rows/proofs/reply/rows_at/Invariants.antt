@@ -1,5 +1,4 @@
 use Rattle.std.proofs.Common.{◌≡◌, map, take, drop}
-use Rattle.std.specs.Arc.{arc_value}
 use Rattle.load_memory.specs.Rows.{paired}
 use Rattle.flat_rows.proofs.reply.rows_at.Given as goal
 

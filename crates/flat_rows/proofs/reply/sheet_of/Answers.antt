@@ -1,6 +1,5 @@
-use Rattle.std.proofs.Common.{◌≡◌, ◌<◌, ◌≤◌, ◌+◌, ◌*◌, ◌++◌, ◌∷◌, [], take, drop, length, refl, sym, arith}
+use Rattle.std.proofs.Common.{◌≤◌, drop, length, refl, arith}
 use Rattle.std.proofs.lemmas.List.{length-take-le}
-use Rattle.load_memory.specs.Cells.{pieces}
 use Rattle.load_memory.proofs.PieceLaws.{length-pieces}
 use Rattle.flat_rows.proofs.ReplyLaws.{one-more, row-more, times-more, times-none, no-piece}
 use Rattle.flat_rows.proofs.reply.sheet_of.Goals as goal

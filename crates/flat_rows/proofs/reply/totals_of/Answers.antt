@@ -1,4 +1,4 @@
-use Rattle.std.proofs.Common.{◌≡◌, ◌+◌, ◌≤◌, arith}
+use Rattle.std.proofs.Common.{arith}
 use Rattle.flat_rows.proofs.ReplyLaws.{rows-fault, faults-fault, rows-rows, faults-rows, rows-none, faults-none}
 use Rattle.flat_rows.proofs.reply.totals_of.Goals as goal
 use Rattle.flat_rows.proofs.reply.totals_of.Goals.{then-count, else-count+in_ok-rows}
