@@ -46,12 +46,12 @@ enum {
     RZ_REPLIED = -11,      /* the order has a reply */
     RZ_NO_LOADER = -12,    /* no loader of this number */
     RZ_BAD_KEY = -13,      /* a key has another number of texts than 0, 1 or 2 */
-    RZ_BAD_ENDS = -14,     /* a text ends before it begins, past the bytes, or inside a character */
+    RZ_BAD_ENDS = -14,     /* a text ends before it begins, past the bytes or inside a character, or the last one isn't the bytes' end */
     RZ_BAD_COUNT = -15,    /* rows for another number of keys than the order has */
-    RZ_TOO_FEW_TEXTS = -16,
-    RZ_TEXTS_LEFT = -17,   /* more texts, or more bytes, than columns and rows take */
+    RZ_TOO_FEW_TEXTS = -16, /* fewer texts than columns, rows and faults take */
+    RZ_TEXTS_LEFT = -17,   /* more texts than columns, rows and faults take */
     RZ_NO_COLUMN = -18,    /* rows of no column */
-    RZ_TOO_MANY_ROWS = -19 /* more than 4,294,967,294 rows in one reply */
+    RZ_TOO_MANY_ROWS = -19 /* more than 4,294,967,295 rows in one reply */
 };
 
 /* In the place of a number of rows. */
@@ -131,8 +131,9 @@ int32_t rz_orders(rz_handle *client, uint32_t *loaders, size_t loaders_len, uint
                   uint32_t *ends, size_t ends_len, uint8_t *bytes, size_t bytes_len);
 
 /* Takes the reply to an order, numbered from 0: rows has for each key, in order, how many rows it has, or RZ_KEY_FAULT. The texts are the
-   names of the columns, and then of each key its rows' fields (an empty one is null), or why it has none. RZ_NO_ORDER, RZ_REPLIED, and the
-   codes from RZ_BAD_ENDS on and RZ_NOT_UTF8 where the reply is malformed: the order waits as before. */
+   names of the columns, then the fields of all rows, key after key and row after row (an empty one is null), and then of each key with a
+   fault why it has no rows. RZ_NO_ORDER, RZ_REPLIED, RZ_BAD_COUNT; RZ_NOT_UTF8 and the codes from RZ_BAD_ENDS on where the reply is
+   malformed: the order waits as before. */
 int32_t rz_take_rows(rz_handle *client, size_t order, size_t columns, const uint32_t *rows, size_t rows_len, const uint32_t *ends, size_t ends_len,
                      const uint8_t *bytes, size_t bytes_len);
 

@@ -1,0 +1,228 @@
+//! The reply to one order.
+ghost use Rattle.std.specs.Prelude.{◌≡◌, ◌<◌, ◌≤◌, ◌+◌, ◌*◌, ◌^◌, IfOk, IfErr, IfSome, IfNone, OnOk, map, take, drop, length, []};
+ghost use Rattle.std.specs.Arc.{arc_value};
+ghost use Rattle.load_memory.specs.Cells.{cut, pieces};
+ghost use Rattle.load_memory.specs.Outcomes.{item_of};
+ghost use Rattle.load_memory.specs.Rows.{draft_with_names, draft_with_row, paired};
+ghost use Rattle.flat_rows.specs.Faults.{CountFault, ReplyFault};
+ghost use Rattle.flat_rows.specs.Replies.{faults_in, item_said, items_of, items_said, rows_in, texts_wanted, total_faults, total_rows};
+
+use crate::fault::FlatFault;
+use crate::texts::FlatTexts;
+use load_memory::{Item, NoMemory, Row, Sheet, SheetBuilder};
+use std::alloc::Global;
+use std::sync::Arc;
+
+/// What stands for a number of rows where a key has a fault.
+pub const KEY_FAULT: u32 = u32::MAX;
+
+/// The reply to one order, as a host lays it out.
+#[derive(Clone, Copy)]
+pub struct FlatReply<'h> {
+    /// How many columns there are.
+    pub columns: usize,
+    /// For each key, in order, how many rows it has, or [`KEY_FAULT`].
+    pub rows: &'h [u32],
+    /// For each text where it ends in `bytes`: the names of the columns, the fields of all rows, key after key and row after row, and then of
+    /// each key with a fault why it has no rows.
+    pub ends: &'h [u32],
+    /// The texts, in UTF-8, each from where the one before it ends.
+    pub bytes: &'h [u8],
+}
+
+// How many rows all keys have, and how many keys a fault.
+#[derive(Clone, Copy)]
+struct Totals {
+    rows: u32,
+    faults: usize,
+}
+
+// `None` where there are more rows than 32 bits count.
+fn totals_of(counts: &[u32]) -> Option<Totals>
+    ensures some { IfSome result (λ t. (t.rows ≡ total_rows counts.now) × (t.faults ≡ total_faults counts.now)) }
+    ensures none { IfNone result (2 ^ 32 ≤ total_rows counts.now) }
+{
+    let mut rows = 0u32;
+    let mut faults = 0usize;
+    for count in counts {
+        if *count == KEY_FAULT {
+            faults += 1;
+        } else {
+            rows = rows.checked_add(*count)?;
+        }
+    }
+    Some(Totals { rows, faults })
+}
+
+// A sheet with the first texts as its columns.
+fn with_columns(
+    alloc: Global,
+    columns: usize,
+    texts: &FlatTexts<'_>,
+) -> Result<SheetBuilder, NoMemory>
+    requires { columns ≤ length texts.now }
+    ensures { IfOk result (λ b. b ≡ draft_with_names (take columns texts.now)) }
+{
+    let mut sheet = SheetBuilder::new(alloc);
+    for i in 0..columns {
+        sheet.add_column(texts.get(i))?;
+    }
+    Ok(sheet)
+}
+
+// Adds a row of the texts from a place on.
+fn add_row(sheet: &mut SheetBuilder, texts: &FlatTexts<'_>, at: usize) -> Result<(), NoMemory>
+    requires none { sheet.old.begun ≡ [] }
+    requires within { at + length sheet.old.names ≤ length texts.now }
+    requires room { length sheet.old.rows + 1 < 2 ^ 32 }
+    ensures { OnOk result (sheet.new ≡ draft_with_row sheet.old (take (length sheet.old.names) (drop at texts.now))) }
+{
+    let (width, _texts) = (sheet.width(), texts.len());
+    for i in 0..width {
+        sheet.add_field(texts.get(at + i))?;
+    }
+    sheet.end_row();
+    Ok(())
+}
+
+// The sheet of so many columns and rows.
+fn sheet_of(
+    alloc: Global,
+    columns: usize,
+    rows: u32,
+    texts: &FlatTexts<'_>,
+) -> Result<Sheet, NoMemory>
+    requires { columns + rows * columns ≤ length texts.now }
+    ensures { IfOk result (λ s. s ≡ record { names = take columns texts.now; rows = pieces columns rows (drop columns texts.now) }) }
+{
+    let _texts = texts.len();
+    let mut sheet = with_columns(alloc, columns, texts)?;
+    let mut at = columns;
+    for _ in 0..rows {
+        add_row(&mut sheet, texts, at)?;
+        at += columns;
+    }
+    Ok(sheet.finish())
+}
+
+// So many rows of a sheet, from one on.
+fn rows_at(alloc: Global, sheet: &Arc<Sheet>, at: u32, count: u32) -> Result<Vec<Row>, NoMemory>
+    requires { at + count ≤ length (arc_value sheet.now).rows }
+    ensures { let s = arc_value sheet.now in IfOk result (λ r. r.items ≡ map (paired s.names) (take count (drop at s.rows))) }
+{
+    let _rows = sheet.len();
+    let mut rows = Vec::with_capacity(alloc, count as usize)?;
+    for i in 0..count {
+        rows.push(Row::of_sheet(sheet, at + i)?)?;
+    }
+    Ok(rows)
+}
+
+// How many rows a key takes, and how many faults.
+fn taken(count: u32) -> (u32, usize)
+    ensures { (result.0 ≡ rows_in count) × (result.1 ≡ faults_in count) }
+{
+    if count == KEY_FAULT {
+        (0, 1)
+    } else {
+        (count, 0)
+    }
+}
+
+// The rows of a key from one on, or its fault, which is a text.
+fn item(
+    alloc: Global,
+    count: u32,
+    sheet: &Arc<Sheet>,
+    at: u32,
+    texts: &FlatTexts<'_>,
+    fault: usize,
+) -> Result<Item, NoMemory>
+    requires rows { at + rows_in count ≤ length (arc_value sheet.now).rows }
+    requires faults { fault + faults_in count ≤ length texts.now }
+    ensures { let s = arc_value sheet.now in IfOk result (λ i. item_of i ≡ item_said s.names (drop at s.rows) (drop fault texts.now) count) }
+{
+    if count == KEY_FAULT {
+        Ok(Item::KeyFault(String::from_str(alloc, texts.get(fault))?))
+    } else {
+        Ok(Item::Rows(rows_at(alloc, sheet, at, count)?))
+    }
+}
+
+// The items of the keys, whose faults are the texts from one on.
+fn items(
+    alloc: Global,
+    counts: &[u32],
+    sheet: &Arc<Sheet>,
+    texts: &FlatTexts<'_>,
+    faults: usize,
+) -> Result<Vec<Item>, NoMemory>
+    requires rows { total_rows counts.now ≡ length (arc_value sheet.now).rows }
+    requires faults { faults + total_faults counts.now ≤ length texts.now }
+    ensures { let s = arc_value sheet.now in IfOk result (λ r. map item_of r.items ≡ items_of s.names s.rows (drop faults texts.now) counts.now) }
+{
+    let (_rows, _texts) = (sheet.len(), texts.len());
+    let mut items = Vec::with_capacity(alloc, counts.len())?;
+    let mut at = 0u32;
+    let mut fault = faults;
+    for count in counts {
+        let (rows, faults) = taken(*count);
+        items.push(item(alloc, *count, sheet, at, texts, fault)?)?;
+        at += rows;
+        fault += faults;
+    }
+    Ok(items)
+}
+
+// How many texts so many columns, rows and faults take. `None` where `usize` doesn't count them.
+fn wanted(columns: usize, totals: &Totals) -> Option<usize>
+    ensures some { IfSome result (λ n. n ≡ columns + totals.now.rows * columns + totals.now.faults) }
+    ensures none { IfNone result (2 ^ 64 ≤ columns + totals.now.rows * columns + totals.now.faults) }
+{
+    let cells = (totals.rows as usize).checked_mul(columns)?;
+    columns.checked_add(cells)?.checked_add(totals.faults)
+}
+
+// How many rows and faults there are, where that is what so many texts have.
+fn checked(columns: usize, counts: &[u32], texts: usize) -> Result<Totals, FlatFault>
+    ensures rows { IfOk result (λ t. (t.rows ≡ total_rows counts.now) × (t.faults ≡ total_faults counts.now)) }
+    ensures texts { IfOk result (λ _. texts ≡ texts_wanted columns counts.now) }
+    ensures fault { IfErr result (CountFault columns counts.now texts) }
+{
+    let Some(totals) = totals_of(counts) else {
+        return Err(FlatFault::TooManyRows);
+    };
+    if columns == 0 && totals.rows > 0 {
+        return Err(FlatFault::NoColumn);
+    }
+    let Some(wanted) = wanted(columns, &totals) else {
+        return Err(FlatFault::TooFewTexts);
+    };
+    if texts < wanted {
+        return Err(FlatFault::TooFewTexts);
+    }
+    if texts > wanted {
+        return Err(FlatFault::TextsLeft);
+    }
+    Ok(totals)
+}
+
+impl FlatReply<'_> {
+    /// An item for each key, in order. All rows share one sheet.
+    ///
+    /// # Errors
+    ///
+    /// `NotUtf8`, `BadEnds`; then `TooManyRows`, `NoColumn`; then `TooFewTexts`, `TextsLeft`; and `NoMemory`.
+    pub fn items(&self, alloc: Global) -> Result<Vec<Item>, FlatFault>
+        ensures ok { let texts = cut self.now.bytes.now 0 self.now.ends.now in
+            IfOk result (λ r. map item_of r.items ≡ items_said self.now.columns self.now.rows.now texts) }
+        ensures fault { let r = self.now in IfErr result (ReplyFault r.columns r.rows.now r.ends.now r.bytes.now) }
+    {
+        let texts = FlatTexts::new(self.bytes, self.ends)?;
+        let totals = checked(self.columns, self.rows, texts.len())?;
+        let sheet = sheet_of(alloc, self.columns, totals.rows, &texts)?;
+        let sheet = Arc::new(alloc, sheet)?;
+        let faults = texts.len() - totals.faults;
+        Ok(items(alloc, self.rows, &sheet, &texts, faults)?)
+    }
+}
