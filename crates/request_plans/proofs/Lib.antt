@@ -1,5 +1,4 @@
 pub mod Keepings
 pub mod KeptPlans
-pub mod Servers
 pub mod Requests
 pub mod Values
