@@ -12,7 +12,7 @@ use Rattle.gq_parser.specs.Tree.{Document, Operation, Fragment, operation_of}
 use Rattle.schema_syntax.specs.declared.tree.Definition as rust-definition
 use Rattle.schema_syntax.specs.Tree.{Definition}
 use Rattle.gq_schema.specs.Types.{tree_of}
-use Rattle.gq_check.specs.Plans.{PlanParts, PlanOf, plan_of, operations_of, operations_in}
+use Rattle.gq_check.specs.Plans.{CheckedParts, PlanParts, PlanOf, plan_of, operations_of, operations_in}
 use Rattle.gq_check.specs.Prepared.{PreparedOf, FaultOf, asked_name, chosen_operation, prepared_operation, prepared}
 use Rattle.gq_check.specs.Verdict.{IsValid}
 
@@ -41,6 +41,10 @@ IsChosenAt os name place = (d : Arc rust-operation.Operation Global) → chosen_
 -- what preparing gives over these definitions, of an operation among these that may be asked for by its name, with these values
 abbrev pub preparation : List rust-definition.Definition → List rust-operation.Operation → Option (Bor (List ℕ)) → Value → Result PreparedOf FaultOf
 preparation defs os name given = prepared (tree_of defs) (operations_of os) (asked_name name) (view given)
+
+-- the same of a document that was found valid
+abbrev pub preparation_in : CheckedParts → Option (Bor (List ℕ)) → Value → Result PreparedOf FaultOf
+preparation_in checked = preparation checked.definitions checked.document.operations.items
 
 -- the same of an operation that was chosen
 abbrev pub preparation_of : List rust-definition.Definition → rust-operation.Operation → Value → Result PreparedOf FaultOf

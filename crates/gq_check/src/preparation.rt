@@ -5,7 +5,7 @@ ghost use Rattle.std.specs.Arc.{arc_value};
 ghost use Rattle.gq_parser.specs.Tree.{operation_of};
 ghost use Rattle.gq_schema.specs.Types.{tree_of};
 ghost use Rattle.gq_check.specs.Plans.{fragments_of};
-ghost use Rattle.gq_check.specs.Planned.{IsChosen, preparation, preparation_of, prepared_in};
+ghost use Rattle.gq_check.specs.Planned.{IsChosen, preparation, preparation_in, preparation_of, prepared_in};
 ghost use Rattle.gq_check.specs.Prepared.{prepare_fault, IsPrepareFault};
 
 use crate::checked::Checked;
@@ -76,9 +76,8 @@ pub fn prepare(
     ensures schema { IfOk result (λ plan. plan.definitions ≡ checked.definitions) }
     ensures bindings { IfOk result (λ plan. plan.bindings ≡ arc_value bindings.now) }
     ensures fragments { IfOk result (λ plan. plan.fragments ≡ checked.document.fragments.items) }
-    ensures ok { IfOk result (λ plan. preparation checked.definitions checked.document.operations.items
-        operation_name.entry variables.now ≡ Ok (prepared_in plan)) }
-    ensures err { IfErr result (IsPrepareFault (preparation checked.definitions checked.document.operations.items operation_name.entry variables.now)) }
+    ensures ok { IfOk result (λ plan. preparation_in checked operation_name.entry variables.now ≡ Ok (prepared_in plan)) }
+    ensures err { IfErr result (IsPrepareFault (preparation_in checked operation_name.entry variables.now)) }
 {
     let kept = KeptDocument::of(alloc, checked)?;
     prepare_kept(alloc, bindings, &kept, operation_name, variables)

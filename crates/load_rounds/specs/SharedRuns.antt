@@ -12,7 +12,7 @@ use Rattle.load_rounds.specs.Sessions.{StateOf, rules_of, session_modes}
 use Rattle.execution.specs.Executes.{FitsFrom}
 use Rattle.load_rounds.specs.SharedRounds.{RequestOf, ReportOf, requests, report_of, together, joint, AreTexts, AreAnswers}
 use Rattle.load_rounds.specs.Together.{PartOf, TogetherOf, plans_in, CountRounds, FitParts}
-use Rattle.load_rounds.specs.Runs.{front_in, IsRound, IsRun}
+use Rattle.load_rounds.specs.Runs.{front_in, IsRound, IsRun, AreReceivedIn}
 use Rattle.load_rounds.specs.declared.run.Stage.{Stage}
 use Rattle.load_rounds.specs.declared.run.Stage.TheVariants.{Ready, Out, Finished, Failed}
 use Rattle.load_rounds.specs.declared.run_all.NextAll.{NextAll}
@@ -54,6 +54,11 @@ module _ {S : Type 0} where
     -- From whichever state the run was begun: the session is as the run before the call left it, and then as the run after it does.
     abbrev pub GoesOnFrom : (S → List KeyOf → AnswerOf → Type 0) → StateOf S → StateOf S → RunAllOf P E → RunAllOf P E → Type 0
     GoesOnFrom may old new run later = (begun : StateOf S) → IsRunAll may begun old run → IsRunAll may begun new later
+
+    -- the same where the replies to the round that is out are as the sources may give them
+    abbrev pub GoesOnIfReceived : (S → List KeyOf → AnswerOf → Type 0) → StateOf S → StateOf S → RunAllOf P E → RunAllOf P E → List ReplyOf → Type 0
+    GoesOnIfReceived may old new run later replies =
+        AreReceivedIn may (joint program text_of run.plans) old replies → GoesOnFrom may old new run later
 
     -- and the answers have the headline, from there
     abbrev pub AnswersFrom : (S → List KeyOf → AnswerOf → Type 0) → StateOf S → StateOf S → RunAllOf P E → NextAll → Type 0

@@ -81,7 +81,7 @@ impl<'p, E: Drop, P: Execute<'p, E>> RunAll<'p, P, E> {
     ghost use Rattle.load_rounds.specs.Histories.{any_tell};
     ghost use Rattle.load_rounds.specs.Runs.{received, AreReceivedIn, IsAsked, RunsAsked, TakesReceipts, IsUnasked};
     ghost use Rattle.load_rounds.specs.SharedRounds.{joint};
-    ghost use Rattle.load_rounds.specs.SharedRuns.{FitsRun, FitsLater, KeepsFitting, IsNextAll, GoesOnFrom, AnswersFrom};
+    ghost use Rattle.load_rounds.specs.SharedRuns.{FitsRun, FitsLater, KeepsFitting, IsNextAll, GoesOnFrom, GoesOnIfReceived, AnswersFrom};
 
     /// Goes on with each plan that isn't finished, in order. Returns the answers if nothing is missing, and otherwise the orders of
     /// the next round, which is then out.
@@ -164,8 +164,8 @@ impl<'p, E: Drop, P: Execute<'p, E>> RunAll<'p, P, E> {
             (memory_of session.old) (memory_of session.new)) }
         ensures lost { OnErr result (state_of session.new ≡ state_of session.old) }
         ensures failed { OnErr result (self.new ≡ record self.old { stage = Stage.Failed }) }
-        ensures run { AreReceivedIn S.may_tell (joint P.program P.text_of self.old.plans) (state_of session.old) (map reply_of replies.items)
-            → GoesOnFrom P.program P.text_of S.may_tell (state_of session.old) (state_of session.new) self.old self.new }
+        ensures run { GoesOnIfReceived P.program P.text_of S.may_tell
+            (state_of session.old) (state_of session.new) self.old self.new (map reply_of replies.items) }
     {
         self.stage = Stage::Failed;
         session.receive_owned(replies)?;
