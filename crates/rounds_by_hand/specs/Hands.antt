@@ -1,9 +1,12 @@
 -- What contracts see of rounds by hand, and what was done since they were begun.
-use Rattle.std.specs.Prelude.{◌≡◌, ◌≤◌, ℕ, Bool, true, false, List, [], map, length, All}
+use Rattle.std.specs.Prelude.{◌≡◌, ◌≤◌, ◌⊎◌, ℕ, Bool, true, false, List, [], Result, map, length, All}
 use Rattle.std.specs.List.{list_all}
+use Rattle.std.specs.Global.{Vec}
 use Rattle.load_memory.specs.Keys.{KeyOf}
 use Rattle.load_memory.specs.Pairs.{MemoryOf}
+use Rattle.load_memory.specs.declared.outcome.Item.{Item}
 use Rattle.load_queue.specs.Answers.{AnswerOf}
+use Rattle.load_queue.specs.declared.source.FetchFault.{FetchFault}
 use Rattle.execution.specs.Program.{Program}
 use Rattle.execution.specs.Completion.{AnsweredOf}
 use Rattle.execution.specs.Rounds.{any_answer, may_at}
@@ -11,14 +14,14 @@ use Rattle.load_rounds.specs.Sessions.{SessionOf, StateOf, state_of, memory_of}
 use Rattle.load_rounds.specs.Headline.{StopsAnswering}
 use Rattle.load_rounds.specs.Runs.{orders_in, IsAsked}
 use Rattle.load_rounds.specs.SharedRounds.{requests, joint, AreAnswers}
-use Rattle.load_rounds.specs.SharedRuns.{RunAllOf, IsRunAll, FitsLater}
+use Rattle.load_rounds.specs.SharedRuns.{RunAllOf, IsRunAll, FitsLater, GoesOnFrom}
 use Rattle.load_rounds.specs.declared.run.Stage.TheVariants as stage
 use Rattle.rounds_by_hand.specs.declared.hand.Advance.{Advance}
 use Rattle.rounds_by_hand.specs.declared.hand.Advance.TheVariants.{Finished, Round, Waiting, Over}
 use Rattle.rounds_by_hand.specs.declared.hand.Far.{Far}
 use Rattle.rounds_by_hand.specs.declared.hand.Far.TheVariants as rust
 use Rattle.rounds_by_hand.specs.declared.pending.Pending.{Pending}
-use Rattle.rounds_by_hand.specs.Pending.{order_in, is_in, IsAnswered}
+use Rattle.rounds_by_hand.specs.Pending.{order_in, is_in, IsAnswered, MayAnswer}
 
 -- how far they are: nothing is done yet, or a round of a run is out with its orders, or nothing more can be done
 pub data FarOf (P E : Type 0) : Type 0 where
@@ -110,15 +113,6 @@ module _ {S P E : Type 0} where
       pub orders : map order_in pending ≡ orders_in s (joint program text_of run.plans)
       pub answers : All (IsAnswered any_answer) pending
 
-    -- the orders of the round that is out are the batches of all that these plans need and the session lacks
-    abbrev pub AreBatches : StateOf S → List P → FarOf P E → Type 0
-    AreBatches s plans handed = Unit {0}
-    AreBatches s plans (out run pending) = map order_in pending ≡ orders_in s (joint program text_of plans)
-    AreBatches s plans over = Unit {0}
-
-    abbrev pub AreOrders : HandOf S P E → Type 0
-    AreOrders h = AreBatches (state_of h.session) h.plans h.far
-
     module _ (loaders : P → ℕ) (fits : P → E → MemoryOf → Type 0) where
       abbrev pub HoldsFar : SessionOf S → List P → FarOf P E → Type 0
       HoldsFar session plans handed = Unit {0}
@@ -154,3 +148,39 @@ module _ {S P E : Type 0} where
 
       abbrev pub AnswersFrom : HandOf S P E → HandOf S P E → Advance → Type 0
       AnswersFrom old new advance = TellsFrom program text_of may (λ begun. IsUnderway begun old) new.session new.plans advance
+
+      -- the same where an order is answered, if the answer is one that the order's source may give
+      abbrev pub GoesOnIfMay : Result (Vec Item) FetchFault → HandOf S P E → HandOf S P E → Pending → Type 0
+      GoesOnIfMay answer old new one = MayAnswer may old.session.loaders (order_in one) answer → GoesOn old new
+
+      -- The session as it is when they are given up: as they were begun on it, or with the finished rounds, and perhaps one more that was lost.
+      abbrev pub GivesUp : HandOf S P E → SessionOf S → Type 0
+      GivesUp old now =
+          (begun : SessionOf S) → IsUnderway begun old → (now ≡ begun) ⊎ StopsAnswering may (state_of begun) (state_of now) (joint program text_of old.plans)
+
+      -- what a step does, from whichever session the run was begun on
+      module _ (old : SessionOf S) (run : RunAllOf P E) (new : SessionOf S) where
+        -- where no round is out
+        abbrev pub RunGoes : FarOf P E → Type 0
+        RunGoes far = GoesFrom (λ begun. IsRunAll program text_of may (state_of begun) (state_of old) run) new run.plans far
+
+        abbrev pub RunTells : Advance → Type 0
+        RunTells advance = TellsFrom program text_of may (λ begun. IsRunAll program text_of may (state_of begun) (state_of old) run) new run.plans advance
+
+        abbrev pub RunStops : Type 0
+        RunStops = StopsFrom program text_of may (λ begun. IsRunAll program text_of may (state_of begun) (state_of old) run) new run.plans
+
+        -- where a round is out, with its orders
+        abbrev pub OutGoes : List Pending → FarOf P E → Type 0
+        OutGoes pending far = GoesFrom (λ begun. HasGone begun old run.plans (out run pending)) new run.plans far
+
+        abbrev pub OutTells : List Pending → Advance → Type 0
+        OutTells pending advance = TellsFrom program text_of may (λ begun. HasGone begun old run.plans (out run pending)) new run.plans advance
+
+        abbrev pub OutStops : List Pending → Type 0
+        OutStops pending = StopsFrom program text_of may (λ begun. HasGone begun old run.plans (out run pending)) new run.plans
+
+        -- where each order of the round is answered as its source may answer it: the round is stored
+        abbrev pub GoesOnIfAnswered : List Pending → RunAllOf P E → Type 0
+        GoesOnIfAnswered pending later =
+            All (IsAnswered (may_at may old.loaders)) pending → GoesOnFrom program text_of may (state_of old) (state_of new) run later

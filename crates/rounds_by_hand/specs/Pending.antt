@@ -1,5 +1,5 @@
 -- Orders of a round that is out, some of which are answered.
-use Rattle.std.specs.Prelude.{◌≡◌, ℕ, Bool, true, false, List, length, slice_get, Option, Some, None, Result}
+use Rattle.std.specs.Prelude.{◌≡◌, ℕ, All, Bool, true, false, List, map, length, slice_get, Option, Some, None, Result}
 use Rattle.std.specs.List.{slice_set}
 use Rattle.std.specs.Global.{Vec}
 use Rattle.load_memory.specs.Keys.{KeyOf}
@@ -11,6 +11,7 @@ use Rattle.load_queue.specs.Fetched.{Fetched, Follow}
 use Rattle.load_queue.specs.Loaders.{LoaderOf}
 use Rattle.load_queue.specs.Orders.{OrderOf, order_of}
 use Rattle.load_queue.specs.declared.source.FetchFault.{FetchFault}
+use Rattle.execution.specs.Rounds.{AreReplies}
 use Rattle.rounds_by_hand.specs.declared.pending.Pending.{Pending}
 use Rattle.rounds_by_hand.specs.declared.pending.Pending.TheVariants.{Out, In}
 
@@ -38,6 +39,14 @@ pub record HasAnswer (may : ℕ → List KeyOf → AnswerOf → Type 0) (reply :
 abbrev pub IsAnswered : (ℕ → List KeyOf → AnswerOf → Type 0) → Pending → Type 0
 IsAnswered may (Out order) = Unit {0}
 IsAnswered may (In reply) = HasAnswer may (reply_of reply)
+
+-- replies to these orders, in order, each with an answer that may be given
+abbrev pub AreRepliesTo : (ℕ → List KeyOf → AnswerOf → Type 0) → List Pending → List Reply → Type 0
+AreRepliesTo may pending replies = AreReplies may (map order_in pending) (map reply_of replies)
+
+-- the same where each answer that is there already may be given
+abbrev pub AreRepliesIfAnswered : (ℕ → List KeyOf → AnswerOf → Type 0) → List Pending → List Reply → Type 0
+AreRepliesIfAnswered may pending replies = All (IsAnswered may) pending → AreRepliesTo may pending replies
 
 -- the order of this number, which was out, has got the reply that follows from an answer; the others are as they were
 pub record TakesAnswer (old : List Pending) (number : ℕ) (answer : Result (Vec Item) FetchFault) (new : List Pending) : Type 0 where

@@ -1,11 +1,8 @@
 //! Answers to several plans, in rounds by hand, with the session in which they are answered.
-ghost use Rattle.std.specs.Prelude.{◌≡◌, ◌≤◌, ◌↔◌, ◌⊎◌, All, length, map, slice_get, true, IfOk, IfSome, OnOk, OnErr, IsErrOf};
-ghost use Rattle.load_rounds.specs.Headline.{StopsAnswering};
-ghost use Rattle.load_rounds.specs.Sessions.{SessionOf, state_of, memory_of};
-ghost use Rattle.load_rounds.specs.SharedRounds.{joint};
+ghost use Rattle.std.specs.Prelude.{◌≡◌, ◌≤◌, ◌↔◌, length, slice_get, true, IfOk, IfSome, OnOk, OnErr, IsErrOf};
 
 use crate::fault::TakeFault;
-use crate::pending::{Pending, all_out, are_in, replies_to, take_answer};
+use crate::pending::{Pending, are_in, take_answer};
 use crate::steps::{begin, finish_round};
 use execution::Execute;
 use load_memory::{Item, NoMemory};
@@ -97,8 +94,8 @@ impl<'p, S, P, E> Hand<'p, S, P, E> {
 }
 
 impl<'p, S: Asks, P: Execute<'p, E>, E: Drop> Hand<'p, S, P, E> {
-    ghost use Rattle.rounds_by_hand.specs.Hands.{Advances, AsksAndAdvances, AnswersFrom, GoesOn, Holds, IsOver, IsUnderway, pending_in};
-    ghost use Rattle.rounds_by_hand.specs.Pending.{TakesAnswer, MayAnswer, is_in_at, order_in};
+    ghost use Rattle.rounds_by_hand.specs.Hands.{Advances, AsksAndAdvances, AnswersFrom, GoesOn, GoesOnIfMay, GivesUp, Holds, IsOver, pending_in};
+    ghost use Rattle.rounds_by_hand.specs.Pending.{TakesAnswer, is_in_at};
 
     /// Stores the round that is out, if each of its orders is answered, and goes on over what is known: returns the answers, or makes the
     /// next round. The first call begins, and forgets failed batches.
@@ -116,19 +113,10 @@ impl<'p, S: Asks, P: Execute<'p, E>, E: Drop> Hand<'p, S, P, E> {
         ensures plans { self.new.plans ≡ self.old.plans }
         ensures loaders { length self.new.session.loaders ≡ length self.old.session.loaders }
     {
-        let (far, advance) = match mem::replace(&mut self.far, Far::Over) {
-            Far::Over => (Far::Over, Advance::Over),
-            Far::Handed => begin(&mut self.session, self.plans)?,
-            Far::Out(run, pending) => {
-                if are_in(&pending) {
-                    finish_round(&mut self.session, run, pending)?
-                } else {
-                    (Far::Out(run, pending), Advance::Waiting)
-                }
-            }
-        };
-        self.far = far;
-        Ok(advance)
+        if !are_in(self.orders()) {
+            return Ok(Advance::Waiting);
+        }
+        self.ask_and_advance()
     }
 
     /// Does what [`advance`](Hand::advance) does, but asks the sources of the session for the orders that nobody has answered. So it never
@@ -178,7 +166,7 @@ impl<'p, S: Asks, P: Execute<'p, E>, E: Drop> Hand<'p, S, P, E> {
         ensures taken { OnOk result (TakesAnswer (pending_in self.old.far) number answer (pending_in self.new.far)) }
         // It is still as the sources may answer, if this answer is.
         ensures underway { OnOk result (IfSome (slice_get (pending_in self.old.far) number)
-            (λ one. MayAnswer S.may_tell self.old.session.loaders (order_in one) answer → GoesOn P.program P.text_of S.may_tell self.old self.new)) }
+            (GoesOnIfMay P.program P.text_of S.may_tell answer self.old self.new)) }
         ensures stopped { OnErr result (GoesOn P.program P.text_of S.may_tell self.old self.new) }
         ensures session { self.new.session ≡ self.old.session }
         ensures plans { self.new.plans ≡ self.old.plans }
@@ -201,8 +189,7 @@ impl<'p, S: Asks, P: Execute<'p, E>, E: Drop> Hand<'p, S, P, E> {
     /// as not stored.
     pub fn into_session(self) -> Session<S>
         ensures session { result ≡ self.entry.session }
-        ensures stopped { (begun : SessionOf S) → IsUnderway P.program P.text_of S.may_tell begun self.entry
-            → (result ≡ begun) ⊎ StopsAnswering S.may_tell (state_of begun) (state_of result) (joint P.program P.text_of self.entry.plans) }
+        ensures stopped { GivesUp P.program P.text_of S.may_tell self.entry result }
     {
         self.session
     }

@@ -2,9 +2,9 @@
 ghost use Rattle.std.specs.Prelude.{◌≡◌, ◌≤◌, ◌<◌, ◌↔◌, All, IfOk, OnOk, IsErrOf, length, map, slice_get, true, false};
 ghost use Rattle.std.specs.List.{list_all};
 ghost use Rattle.load_memory.specs.Replies.{reply_of};
-ghost use Rattle.execution.specs.Rounds.{any_answer, may_at, AreReplies, IsReply};
+ghost use Rattle.execution.specs.Rounds.{any_answer, may_at, IsReply};
 ghost use Rattle.load_rounds.specs.Histories.{any_tell};
-ghost use Rattle.rounds_by_hand.specs.Pending.{order_in, is_in, is_in_at, IsAnswered, TakesAnswer};
+ghost use Rattle.rounds_by_hand.specs.Pending.{order_in, is_in, is_in_at, IsAnswered, AreRepliesTo, AreRepliesIfAnswered, TakesAnswer};
 
 use crate::fault::TakeFault;
 use load_memory::{Item, NoMemory, Reply};
@@ -65,9 +65,8 @@ pub(crate) fn replies_to<S: Asks>(
 ) -> Result<Vec<Reply>, NoMemory>
     requires { All (λ one. (order_in one).loader < length loaders.now) pending.items }
     ensures any { All (IsAnswered any_answer) pending.items
-        → IfOk result (λ rs. AreReplies (may_at any_tell loaders.now) (map order_in pending.items) (map reply_of rs.items)) }
-    ensures told { All (IsAnswered (may_at S.may_tell loaders.now)) pending.items
-        → IfOk result (λ rs. AreReplies (may_at S.may_tell loaders.now) (map order_in pending.items) (map reply_of rs.items)) }
+        → IfOk result (λ rs. AreRepliesTo (may_at any_tell loaders.now) pending.items rs.items) }
+    ensures told { IfOk result (λ rs. AreRepliesIfAnswered (may_at S.may_tell loaders.now) pending.items rs.items) }
 {
     let alloc = *pending.allocator();
     let mut replies = Vec::with_capacity(alloc, pending.len())?;

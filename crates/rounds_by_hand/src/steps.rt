@@ -1,10 +1,9 @@
 //! What a call does, on the parts of a hand.
 ghost use Rattle.std.specs.Prelude.{◌≡◌, ◌≤◌, All, length, IfOk, OnErr};
-ghost use Rattle.execution.specs.Rounds.{may_at};
 ghost use Rattle.load_rounds.specs.Sessions.{SessionOf, state_of, memory_of};
-ghost use Rattle.load_rounds.specs.SharedRuns.{IsRunAll, FitsRun, FitsLater, KeepsFitting, GoesOnFrom};
-ghost use Rattle.rounds_by_hand.specs.Hands.{far_of, out, IsOutWith, IsStep, HoldsFar, HasGone, GoesFrom, StopsFrom, TellsFrom};
-ghost use Rattle.rounds_by_hand.specs.Pending.{IsAnswered};
+ghost use Rattle.load_rounds.specs.SharedRuns.{FitsRun, FitsLater, KeepsFitting};
+ghost use Rattle.rounds_by_hand.specs.Hands.{far_of, IsOutWith, IsStep, HoldsFar, GoesFrom, StopsFrom, TellsFrom};
+ghost use Rattle.rounds_by_hand.specs.Hands.{RunGoes, RunTells, RunStops, OutGoes, OutTells, OutStops, GoesOnIfAnswered};
 
 use crate::hand::{Advance, Far};
 use crate::pending::{Pending, all_out, replies_to};
@@ -23,12 +22,9 @@ fn go_on<'p, E: Drop, P: Execute<'p, E>, S: Asks>(
     requires fits { FitsRun P.program P.text_of P.loaders P.fits run (memory_of session.old) }
     ensures holds { IfOk result (λ gone. HoldsFar P.program P.text_of P.loaders P.fits session.new run.entry.plans (far_of gone.0)) }
     ensures step { IfOk result (λ gone. IsStep (far_of gone.0) gone.1) }
-    ensures went { IfOk result (λ gone. GoesFrom P.program P.text_of S.may_tell
-        (λ begun. IsRunAll P.program P.text_of S.may_tell (state_of begun) (state_of session.old) run.entry) session.new run.entry.plans (far_of gone.0)) }
-    ensures tells { IfOk result (λ gone. TellsFrom P.program P.text_of S.may_tell
-        (λ begun. IsRunAll P.program P.text_of S.may_tell (state_of begun) (state_of session.old) run.entry) session.new run.entry.plans gone.1) }
-    ensures stopped { OnErr result (StopsFrom P.program P.text_of S.may_tell
-        (λ begun. IsRunAll P.program P.text_of S.may_tell (state_of begun) (state_of session.old) run.entry) session.new run.entry.plans) }
+    ensures went { IfOk result (λ gone. RunGoes P.program P.text_of S.may_tell session.old run.entry session.new (far_of gone.0)) }
+    ensures tells { IfOk result (λ gone. RunTells P.program P.text_of S.may_tell session.old run.entry session.new gone.1) }
+    ensures stopped { OnErr result (RunStops P.program P.text_of S.may_tell session.old run.entry session.new) }
     ensures loaders { length session.new.loaders ≡ length session.old.loaders }
 {
     let mut run = run;
@@ -64,8 +60,7 @@ fn store<'p, E: Drop, P: Execute<'p, E>, S: Asks>(
     requires { IsOutWith P.program P.text_of (state_of session.old) run pending.items }
     ensures ready { IfOk result (λ later. later ≡ record run.entry { stage = Stage.Ready }) }
     ensures fits { IfOk result (λ later. KeepsFitting P.program P.text_of P.loaders P.fits run.entry later (memory_of session.old) (memory_of session.new)) }
-    ensures ran { All (IsAnswered (may_at S.may_tell session.old.loaders)) pending.items
-        → IfOk result (λ later. GoesOnFrom P.program P.text_of S.may_tell (state_of session.old) (state_of session.new) run.entry later) }
+    ensures ran { IfOk result (GoesOnIfAnswered P.program P.text_of S.may_tell session.old run.entry session.new pending.items) }
     ensures lost { OnErr result (state_of session.new ≡ state_of session.old) }
     ensures loaders { length session.new.loaders ≡ length session.old.loaders }
 {
@@ -86,12 +81,9 @@ pub(crate) fn finish_round<'p, E: Drop, P: Execute<'p, E>, S: Asks>(
     requires fits { FitsLater P.program P.text_of P.loaders P.fits run (memory_of session.old) }
     ensures holds { IfOk result (λ gone. HoldsFar P.program P.text_of P.loaders P.fits session.new run.entry.plans (far_of gone.0)) }
     ensures step { IfOk result (λ gone. IsStep (far_of gone.0) gone.1) }
-    ensures went { IfOk result (λ gone. GoesFrom P.program P.text_of S.may_tell
-        (λ begun. HasGone P.program P.text_of S.may_tell begun session.old run.entry.plans (out run.entry pending.items)) session.new run.entry.plans (far_of gone.0)) }
-    ensures tells { IfOk result (λ gone. TellsFrom P.program P.text_of S.may_tell
-        (λ begun. HasGone P.program P.text_of S.may_tell begun session.old run.entry.plans (out run.entry pending.items)) session.new run.entry.plans gone.1) }
-    ensures stopped { OnErr result (StopsFrom P.program P.text_of S.may_tell
-        (λ begun. HasGone P.program P.text_of S.may_tell begun session.old run.entry.plans (out run.entry pending.items)) session.new run.entry.plans) }
+    ensures went { IfOk result (λ gone. OutGoes P.program P.text_of S.may_tell session.old run.entry session.new pending.items (far_of gone.0)) }
+    ensures tells { IfOk result (λ gone. OutTells P.program P.text_of S.may_tell session.old run.entry session.new pending.items gone.1) }
+    ensures stopped { OnErr result (OutStops P.program P.text_of S.may_tell session.old run.entry session.new pending.items) }
     ensures loaders { length session.new.loaders ≡ length session.old.loaders }
 {
     let run = store(session, run, pending)?;
