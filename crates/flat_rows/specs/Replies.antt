@@ -1,6 +1,6 @@
 -- What a flat reply says.
-use Rattle.std.specs.Prelude.{ℕ, ◌+◌, ◌*◌, List, [], ◌∷◌, map, take, drop, get_or, if◌then◌else◌, ◌==◌}
-use Rattle.load_memory.specs.Cells.{pieces}
+use Rattle.std.specs.Prelude.{ℕ, ◌≡◌, ◌<◌, ◌+◌, ◌*◌, List, [], ◌∷◌, map, take, drop, get_or, if◌then◌else◌, ◌==◌}
+use Rattle.load_memory.specs.Cells.{cut, pieces}
 use Rattle.load_memory.specs.Outcomes.{ItemOf, rows, key_fault}
 use Rattle.load_memory.specs.Rows.{paired}
 
@@ -43,3 +43,11 @@ abbrev pub items_said : ℕ → List ℕ → List (List ℕ) → List ItemOf
 items_said columns counts texts =
     let total = total_rows counts in
     items_of (take columns texts) (pieces columns total (drop columns texts)) (drop (columns + total * columns) texts) counts
+
+-- the items of a reply: its texts are those of the bytes that end at these places
+abbrev pub reply_items : ℕ → List ℕ → List ℕ → List ℕ → List ItemOf
+reply_items columns counts ends bytes = items_said columns counts (cut bytes 0 ends)
+
+-- there are rows, and no column
+abbrev pub LacksColumn : ℕ → List ℕ → Type 0
+LacksColumn columns counts = (columns ≡ 0) × (0 < total_rows counts)

@@ -1,6 +1,5 @@
 //! Why a reply isn't taken.
 use load_memory::NoMemory;
-use std::alloc::{AllocError, AllocFailed};
 use thiserror::Error;
 
 /// Why a reply isn't taken.
@@ -35,28 +34,6 @@ impl From<NoMemory> for FlatFault {
     ghost from_gives = { λ _ e. e ≡ NoMemory };
 
     fn from(_e: NoMemory) -> FlatFault {
-        FlatFault::NoMemory
-    }
-}
-
-impl From<AllocError> for FlatFault {
-    ghost use Rattle.std.specs.Prelude.{◌≡◌};
-    ghost use Rattle.flat_rows.specs.declared.fault.FlatFault.TheVariants.{NoMemory};
-
-    ghost from_gives = { λ _ e. e ≡ NoMemory };
-
-    fn from(_e: AllocError) -> FlatFault {
-        FlatFault::NoMemory
-    }
-}
-
-impl<T: Drop> From<AllocFailed<T>> for FlatFault {
-    ghost use Rattle.std.specs.Prelude.{◌≡◌};
-    ghost use Rattle.flat_rows.specs.declared.fault.FlatFault.TheVariants.{NoMemory};
-
-    ghost from_gives = { λ _ e. e ≡ NoMemory };
-
-    fn from(_e: AllocFailed<T>) -> FlatFault {
         FlatFault::NoMemory
     }
 }

@@ -1,7 +1,7 @@
 //! Rows as a host of another language lays them out: numbers and texts in flat buffers.
 //!
-//! The layer above may rely on this: what a [`FlatReply`] says is one definition, `items_said`, and is read
-//! whole or refused with a fault that is true of it (`IsFault`). All rows of a reply share one sheet.
+//! The layer above may rely on this: what a [`FlatReply`] says is one definition, `reply_items`, and is read
+//! whole or refused with its first fault (`ReplyFault`). All rows of a reply share one sheet.
 #![tactic(auto)]
 
 mod fault;

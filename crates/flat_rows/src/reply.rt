@@ -1,11 +1,11 @@
 //! The reply to one order.
-ghost use Rattle.std.specs.Prelude.{◌≡◌, ◌<◌, ◌≤◌, ◌+◌, ◌*◌, ◌^◌, IfOk, IfErr, IfSome, IfNone, OnOk, map, take, drop, length, []};
+ghost use Rattle.std.specs.Prelude.{◌≡◌, ◌<◌, ◌≤◌, ◌+◌, ◌*◌, ◌^◌, ◌↔◌, IsTrue, IfOk, IfErr, IfSome, IfNone, OnOk, map, take, drop, length, []};
 ghost use Rattle.std.specs.Arc.{arc_value};
-ghost use Rattle.load_memory.specs.Cells.{cut, pieces};
+ghost use Rattle.load_memory.specs.Cells.{pieces};
 ghost use Rattle.load_memory.specs.Outcomes.{item_of};
 ghost use Rattle.load_memory.specs.Rows.{draft_with_names, draft_with_row, paired};
 ghost use Rattle.flat_rows.specs.Faults.{CountFault, ReplyFault};
-ghost use Rattle.flat_rows.specs.Replies.{faults_in, item_said, items_of, items_said, rows_in, texts_wanted, total_faults, total_rows};
+ghost use Rattle.flat_rows.specs.Replies.{LacksColumn, faults_in, item_said, items_of, reply_items, rows_in, texts_wanted, total_faults, total_rows};
 
 use crate::fault::FlatFault;
 use crate::texts::FlatTexts;
@@ -40,6 +40,7 @@ struct Totals {
 // `None` where there are more rows than 32 bits count.
 fn totals_of(counts: &[u32]) -> Option<Totals>
     ensures some { IfSome result (λ t. (t.rows ≡ total_rows counts.now) × (t.faults ≡ total_faults counts.now)) }
+    ensures few { IfSome result (λ _. total_rows counts.now < 2 ^ 32) }
     ensures none { IfNone result (2 ^ 32 ≤ total_rows counts.now) }
 {
     let mut rows = 0u32;
@@ -103,6 +104,13 @@ fn sheet_of(
         at += columns;
     }
     Ok(sheet.finish())
+}
+
+// The sheet, to be shared by its rows.
+fn shared(alloc: Global, sheet: Sheet) -> Result<Arc<Sheet>, NoMemory>
+    ensures { IfOk result (λ shared. arc_value shared ≡ sheet) }
+{
+    Ok(Arc::new(alloc, sheet)?)
 }
 
 // So many rows of a sheet, from one on.
@@ -174,6 +182,13 @@ fn items(
     Ok(items)
 }
 
+// Whether there are rows, and no column.
+fn lacks_column(columns: usize, rows: u32) -> bool
+    ensures { IsTrue result ↔ (columns ≡ 0) × (0 < rows) }
+{
+    columns == 0 && rows > 0
+}
+
 // How many texts so many columns, rows and faults take. `None` where `usize` doesn't count them.
 fn wanted(columns: usize, totals: &Totals) -> Option<usize>
     ensures some { IfSome result (λ n. n ≡ columns + totals.now.rows * columns + totals.now.faults) }
@@ -192,7 +207,7 @@ fn checked(columns: usize, counts: &[u32], texts: usize) -> Result<Totals, FlatF
     let Some(totals) = totals_of(counts) else {
         return Err(FlatFault::TooManyRows);
     };
-    if columns == 0 && totals.rows > 0 {
+    if lacks_column(columns, totals.rows) {
         return Err(FlatFault::NoColumn);
     }
     let Some(wanted) = wanted(columns, &totals) else {
@@ -212,16 +227,17 @@ impl FlatReply<'_> {
     ///
     /// # Errors
     ///
-    /// `NotUtf8`, `BadEnds`; then `TooManyRows`, `NoColumn`; then `TooFewTexts`, `TextsLeft`; and `NoMemory`.
+    /// The first of these that is true: `NotUtf8`, `BadEnds`, `TooManyRows`, `NoColumn`, `TooFewTexts` and `TextsLeft`. `NoMemory` comes
+    /// when out of memory, before any fault that would have been found later.
     pub fn items(&self, alloc: Global) -> Result<Vec<Item>, FlatFault>
-        ensures ok { let texts = cut self.now.bytes.now 0 self.now.ends.now in
-            IfOk result (λ r. map item_of r.items ≡ items_said self.now.columns self.now.rows.now texts) }
+        ensures ok { let r = self.now in
+            IfOk result (λ items. map item_of items.items ≡ reply_items r.columns r.rows.now r.ends.now r.bytes.now) }
         ensures fault { let r = self.now in IfErr result (ReplyFault r.columns r.rows.now r.ends.now r.bytes.now) }
     {
         let texts = FlatTexts::new(self.bytes, self.ends)?;
         let totals = checked(self.columns, self.rows, texts.len())?;
         let sheet = sheet_of(alloc, self.columns, totals.rows, &texts)?;
-        let sheet = Arc::new(alloc, sheet)?;
+        let sheet = shared(alloc, sheet)?;
         let faults = texts.len() - totals.faults;
         Ok(items(alloc, self.rows, &sheet, &texts, faults)?)
     }
