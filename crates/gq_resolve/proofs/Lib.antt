@@ -16,3 +16,5 @@ pub mod BuildingTrees
 pub mod Sizes
 pub mod Bounding
 pub mod Limiting
+pub mod KeyByKey
+pub mod ReadingOn

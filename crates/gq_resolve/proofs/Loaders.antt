@@ -25,12 +25,12 @@ use Rattle.gq_resolve.specs.Built.{step_in, IsNumbered, AreNumbered}
 
 abbrev mutual
   -- each load is of one of the first so many loaders, and a list's items are numbered from 0, and an object's fields have keys
-  Fits : ℕ → Program → Type 0
+  pub Fits : ℕ → Program → Type 0
   Fits n (Is leaf_value) = Unit {0}
   Fits n (Read load next) = (load.loader < n) × ((o : OutcomeOf) → Fits n (next o))
   Fits n (Under kind below) = AllFit n kind 0 below
 
-  AllFit : ℕ → Kind → ℕ → Programs → Type 0
+  pub AllFit : ℕ → Kind → ℕ → Programs → Type 0
   AllFit n kind i End = Unit {0}
   AllFit n kind i (With position p ps) = (step_in kind i position.part ≡ position.part) × Fits n p × AllFit n kind (suc i) ps
 

@@ -17,4 +17,7 @@ pub mod Built
 pub mod Limited
 pub mod Bounded
 pub mod Within
+pub mod Counting
+pub mod KeyByKey
+pub mod Adding
 pub mod PlanLoads

@@ -48,8 +48,8 @@ pub struct Stopped<'p> {
     pub waiting: Option<Waiting>,
 }
 
-// The root object (section 6.2.1).
-fn begun<'p>(tour: &Tour<'_, 'p>) -> Result<Rooted<'p>, NoMemory>
+/// The root object (section 6.2.1).
+pub fn begun<'p>(tour: &Tour<'_, 'p>) -> Result<Rooted<'p>, NoMemory>
     ensures { IfOk result (IsRooted (plan_of tour.now.plan.now)) }
 {
     let ty = tour.plan.schema().root();
@@ -61,8 +61,8 @@ fn begun<'p>(tour: &Tour<'_, 'p>) -> Result<Rooted<'p>, NoMemory>
     Ok(Rooted { members, groups })
 }
 
-// Goes over the whole plan, into a sink in which nothing waits at a later group.
-fn gone_over<'p, S: Sink + Drop>(
+/// Goes over the whole plan, into a sink in which nothing waits at a later group.
+pub fn gone_over<'p, S: Sink + Drop>(
     tour: &Tour<'_, 'p>,
     rooted: Rooted<'p>,
     out: S,

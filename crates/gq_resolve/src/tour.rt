@@ -152,9 +152,9 @@ impl<'w, 'p> Tour<'w, 'p> {
         }
     }
 
-    // What an outcome gives.
+    /// What an outcome gives.
     #[cycle(tour)]
-    fn go_on<S: Sink>(
+    pub fn go_on<S: Sink>(
         &self,
         at: &mut Progress<'p, S>,
         to: Loading,
