@@ -3,3 +3,4 @@ pub mod Loaders
 pub mod Opened
 pub mod Outcomes
 pub mod Values
+pub mod Counts

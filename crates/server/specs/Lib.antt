@@ -7,3 +7,4 @@ pub mod Arrays
 pub mod Lines
 pub mod Asked
 pub mod Opening
+pub mod Counts

@@ -8,12 +8,14 @@ ghost use Rattle.server.specs.Answers.{AnswersRequest, StopsRequest};
 ghost use Rattle.server.specs.Arrays.{AnswersArray, StopsArray};
 ghost use Rattle.server.specs.Asked.{Answers, Stops};
 ghost use Rattle.server.specs.Clients.{HasLoaders, IsSameClient, begun, client_of};
+ghost use Rattle.server.specs.Counts.{CountsText};
 ghost use Rattle.server.specs.Lines.{AnswersText, StopsText, ServesLine, StopsLine};
 ghost use Rattle.server.specs.Plans.{HasLoadersFor};
 ghost use Rattle.server.specs.Runners.{RunsPlan, RunsPlans, RunsEach, RunsAll};
 
 use crate::answering::answer_request;
 use crate::arrays::answer_requests;
+use crate::counting::line_read;
 use crate::runner::{Runner, Workers};
 use gq_resolve::Limited;
 use load_memory::NoMemory;
@@ -94,6 +96,26 @@ impl<S> ClientSession<S> {
         ensures { result.now ≡ self.now.session }
     {
         &self.session
+    }
+
+    /// How many loads the answer to a text reads, over what the session knows: each as often as it is read, and for an array those of all
+    /// its requests. So many calls a plain executor makes, which asks for one key at a time and remembers nothing. Called after
+    /// [`answer_text`](ClientSession::answer_text) with the same text, it says what that answer would have taken so. What is no request or is
+    /// refused reads none; `u64::MAX` stands for that number and all above it.
+    ///
+    /// It asks for nothing, and goes over the whole answer again.
+    ///
+    /// # Errors
+    ///
+    /// Only when out of memory.
+    pub fn loads_read(&mut self, text: &[u8]) -> Result<u64, NoMemory>
+        ensures counts { IfOk result (CountsText self.old.server self.old.session text.now) }
+        ensures same { self.new ≡ self.old }
+    {
+        match self.lines.read(self.alloc, text) {
+            Ok(line) => line_read(self.alloc, &self.documents, &self.session, &line),
+            Err(_) => Err(NoMemory),
+        }
     }
 
     /// Starts again: nothing is known of any key, the logs are empty, and no round was made. The documents stay. When out of memory,

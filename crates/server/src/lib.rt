@@ -14,6 +14,7 @@
 mod answering;
 mod arrays;
 mod client;
+mod counting;
 mod function_source;
 mod keys;
 mod opening;
