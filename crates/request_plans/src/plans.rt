@@ -68,4 +68,12 @@ impl ArrayPlan {
     {
         &self.plans
     }
+
+    /// The refusals and the plans, as [`refusals`](ArrayPlan::refusals) and [`plans`](ArrayPlan::plans) show them.
+    pub fn into_parts(self) -> (Vec<Option<String>>, Vec<Plan>)
+        ensures refusals { map (option_map string_bytes) result.0.items ≡ refusals_of self }
+        ensures plans { map plan_of result.1.items ≡ plans_of self }
+    {
+        (self.refusals, self.plans)
+    }
 }

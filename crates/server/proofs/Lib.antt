@@ -1,3 +1,6 @@
+pub mod Asking
+pub mod Bounding
+pub mod Handing
 pub mod Limits
 pub mod Loaders
 pub mod Opened

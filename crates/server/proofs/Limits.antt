@@ -15,7 +15,7 @@ use Rattle.request_plans.specs.Servers.{ServerOf}
 use Rattle.server.specs.Clients.{HasLoaders}
 use Rattle.server.specs.Plans.{AreLimited, HasLoadersFor, plan_and_limit}
 
-map-twice : {A B C : Type 0} (g : B → C) (f : A → B) (xs : List A) → map g (map f xs) ≡ map (λ x. g (f x)) xs
+pub map-twice : {A B C : Type 0} (g : B → C) (f : A → B) (xs : List A) → map g (map f xs) ≡ map (λ x. g (f x)) xs
 map-twice g f [] = refl
 map-twice g f (x ∷ xs) = ap (λ l. g (f x) ∷ l) (map-twice g f xs)
 

@@ -88,7 +88,7 @@ module _ (s : ServerOf) where
       }
 
 -- the same of what the program holds
-texts-report : (answers : List Answer) → map (λ (t : ReportOf). t.text) (map report_of answers) ≡ map (λ (a : Answer). string_bytes a.text) answers
+pub texts-report : (answers : List Answer) → map (λ (t : ReportOf). t.text) (map report_of answers) ≡ map (λ (a : Answer). string_bytes a.text) answers
 texts-report [] = refl
 texts-report (a ∷ as') = ap (λ ts. string_bytes a.text ∷ ts) (texts-report as')
 

@@ -8,3 +8,6 @@ pub mod Lines
 pub mod Asked
 pub mod Opening
 pub mod Counts
+pub mod Bounded
+pub mod Planned
+pub mod Hands

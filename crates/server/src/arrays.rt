@@ -54,8 +54,8 @@ fn texts<'t>(
     Ok(texts)
 }
 
-// The response to an array: the refusals of its values, and in the other places these answers.
-fn array_answer(
+/// The response to an array: the refusals of its values, and in the other places these answers.
+pub(crate) fn array_answer(
     alloc: Global,
     refusals: &[Option<String>],
     answers: &[Answer],

@@ -1,6 +1,6 @@
 //! The session of a client.
 
-ghost use Rattle.std.specs.Prelude.{◌≡◌, None, All, IfOk, OnOk, OnErr, string_bytes};
+ghost use Rattle.std.specs.Prelude.{◌≡◌, ◌≤◌, ◌↔◌, true, None, All, length, IfOk, OnOk, OnErr, string_bytes};
 ghost use denote.Param.Send.{IsSync};
 ghost use Rattle.load_rounds.specs.SharedRounds.{report_of};
 ghost use Rattle.request_line.specs.Seen.{request_of, requests_of};
@@ -16,6 +16,7 @@ ghost use Rattle.server.specs.Runners.{RunsPlan, RunsPlans, RunsEach, RunsAll};
 use crate::answering::answer_request;
 use crate::arrays::answer_requests;
 use crate::counting::line_read;
+use crate::planned::{PlannedRequest, plan_none, plan_one, plan_several};
 use crate::runner::{Runner, Workers};
 use gq_resolve::Limited;
 use load_memory::NoMemory;
@@ -37,11 +38,11 @@ use std::thread::Threads;
 /// A contract sees the server, the limit on answers, and the session.
 #[derive(Drop)]
 pub struct ClientSession<S> {
-    alloc: Global,
-    documents: KeptDocuments,
-    lines: LineReader,
+    pub(crate) alloc: Global,
+    pub(crate) documents: KeptDocuments,
+    pub(crate) lines: LineReader,
     pub(crate) session: Session<S>,
-    max_answer: Option<usize>,
+    pub(crate) max_answer: Option<usize>,
 }
 
 impl<S> Model for ClientSession<S> {
@@ -125,6 +126,76 @@ impl<S> ClientSession<S> {
         ensures kept { OnErr result (self.new ≡ self.old) }
     {
         self.session.restart()
+    }
+}
+
+impl<S> ClientSession<S> {
+    ghost use Rattle.server.specs.Planned.{PlansAsked, one, several, text as asked_text};
+
+    /// What a request asks of this client: its plan, within the client's limit as it is now, or the text that refuses it. It is answered
+    /// by hand ([`by_hand`](ClientSession::by_hand)) or as a future ([`into_answering`](ClientSession::into_answering)). Nothing is asked.
+    ///
+    /// # Errors
+    ///
+    /// Only when out of memory.
+    pub fn plan(&mut self, request: &Request<'_>) -> Result<PlannedRequest, NoMemory>
+        ensures planned { IfOk result (PlansAsked self.old (one (request_of request.now))) }
+        ensures fits { IfOk result (λ planned. planned.loaders ≤ length self.new.session.loaders) }
+        ensures same { self.new ≡ self.old }
+    {
+        let array = plan_one(self.alloc, &mut self.documents, request)?;
+        Ok(PlannedRequest::of(self.documents.server(), array, false, self.max_answer)?)
+    }
+
+    /// What the requests of an array ask, of which `None` is a value that is no request. Each is planned or refused, as
+    /// [`plan`](ClientSession::plan) does it.
+    ///
+    /// # Errors
+    ///
+    /// Only when out of memory.
+    pub fn plan_all(&mut self, requests: &[Option<Request<'_>>]) -> Result<PlannedRequest, NoMemory>
+        ensures planned { IfOk result (PlansAsked self.old (several (requests_of requests.now))) }
+        ensures fits { IfOk result (λ planned. planned.loaders ≤ length self.new.session.loaders) }
+        ensures same { self.new ≡ self.old }
+    {
+        let array = plan_several(self.alloc, &mut self.documents, requests)?;
+        Ok(PlannedRequest::of(self.documents.server(), array, true, self.max_answer)?)
+    }
+
+    /// What a request that is JSON text asks, or an array of 1 to 16, as [`answer_text`](ClientSession::answer_text) takes it. What is
+    /// neither is refused with `not a request`.
+    ///
+    /// # Errors
+    ///
+    /// Only when out of memory.
+    pub fn plan_text(&mut self, text: &[u8]) -> Result<PlannedRequest, NoMemory>
+        ensures planned { IfOk result (PlansAsked self.old (asked_text text.now)) }
+        ensures fits { IfOk result (λ planned. planned.loaders ≤ length self.new.session.loaders) }
+        ensures same { self.new ≡ self.old }
+    {
+        match self.lines.read(self.alloc, text) {
+            Ok(Line::One(request)) => {
+                let array = plan_one(self.alloc, &mut self.documents, &request)?;
+                Ok(PlannedRequest::of(self.documents.server(), array, false, self.max_answer)?)
+            }
+            Ok(Line::Several(values)) => {
+                let array = plan_several(self.alloc, &mut self.documents, &values)?;
+                Ok(PlannedRequest::of(self.documents.server(), array, true, self.max_answer)?)
+            }
+            Ok(Line::NoRequest) => {
+                let array = plan_none(self.alloc)?;
+                Ok(PlannedRequest::of(self.documents.server(), array, false, self.max_answer)?)
+            }
+            Err(_) => Err(NoMemory),
+        }
+    }
+
+    /// Whether this client's session has the loaders of what was planned. It has those of what it planned itself, and of what was planned
+    /// by another client of its server.
+    pub fn can_answer(&self, planned: &PlannedRequest) -> bool
+        ensures { (result ≡ true) ↔ (planned.now.loaders ≤ length self.now.session.loaders) }
+    {
+        planned.loaders() <= self.session.loaders().len()
     }
 }
 

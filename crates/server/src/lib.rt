@@ -13,17 +13,23 @@
 
 mod answering;
 mod arrays;
+mod bounded;
+mod by_hand;
 mod client;
 mod counting;
 mod function_source;
+mod future;
 mod keys;
 mod opening;
+mod planned;
 mod runner;
 mod serving;
 
 pub use batch_workers::WorkFault;
+pub use by_hand::{ByHand, Step};
 pub use client::ClientSession;
 pub use function_source::{SourceFn, source_fn};
+pub use future::ClientAnswering;
 pub use gq_bindings::{By, LoaderLine};
 pub use gq_schema::SchemaFault;
 pub use line_serving::{Counted, ServeFault};
@@ -31,6 +37,8 @@ pub use load_memory::{Item, Key, NoMemory, Outcome, Row};
 pub use load_queue::{Asks, FetchFault, PerKey, QueueFault, Source};
 pub use load_rounds::{Answer, SessionFault};
 pub use opening::Sessions;
+pub use planned::PlannedRequest;
 pub use request_plans::{Request, Server};
+pub use rounds_by_hand::{Pending, TakeFault};
 pub use runner::Workers;
 pub use serving::{serve, serve_with};

@@ -3,12 +3,15 @@
 
 mod books;
 
+use anyhow::bail;
 use books::{Books, fetch_books};
+use futures::executor::block_on;
 use server::{
-    ClientSession, Counted, Item, Key, Outcome, Request, Row, Server, Sessions, Workers, serve,
-    serve_with, source_fn,
+    ByHand, ClientSession, Counted, Item, Key, Outcome, Pending, Request, Row, Server, Sessions,
+    Step, Workers, serve, serve_with, source_fn,
 };
 use std::alloc::{AllocGlobal, Global};
+use std::random::RandomSource;
 use std::sync::Wait;
 use std::thread::Threads;
 
@@ -22,6 +25,9 @@ field Query.books each bookById arg ids";
 
 /// The number of the one loader.
 const BOOK_BY_ID: usize = 0;
+
+/// At most how many rounds a request by hand gets. (A `for` ends by itself; of a `loop` that would have to be proved.)
+const MOST_ROUNDS: u32 = 8;
 
 fn asking(query: &str) -> Request<'_> {
     Request {
@@ -95,6 +101,60 @@ fn answer_text_with_workers<R: Threads + Wait + AllocGlobal + Sync>(
     let workers = Workers::new(rt, 2)?;
     let text = "{\"query\":\"{books(ids:[2,3]){title}}\"}";
     Ok(session.answer_text_with(&workers, text.as_bytes())?.text)
+}
+
+// The caller answers the orders of a round itself, here the last one first. A batch may fail as a whole.
+fn answer_orders(alloc: Global, by_hand: &mut ByHand<'_, Books>) -> anyhow::Result<()> {
+    for number in (0..by_hand.orders().len()).rev() {
+        if let Some(Pending::Out(order)) = by_hand.orders().get(number) {
+            let items = fetch_books(alloc, order.keys());
+            by_hand.answer(number, items)?;
+        }
+    }
+    Ok(())
+}
+
+// A request by hand. Its ids are cut into batches of one, as the session was made.
+fn by_hand(alloc: Global, server: &Server) -> anyhow::Result<String> {
+    let mut client = server.session(alloc, Some(1), |_line| Books)?;
+    let planned = client.plan(&asking("{books(ids:[1,3,1]){title}}"))?;
+    let mut by_hand = client.by_hand(&planned);
+    for _round in 0..MOST_ROUNDS {
+        match by_hand.advance()? {
+            Step::Answered(answer) => return Ok(answer.text),
+            _ => answer_orders(alloc, &mut by_hand)?,
+        }
+    }
+    bail!("too many rounds")
+}
+
+// A request that is refused is answered by the first call, and the client can be taken back at any time.
+fn refused_by_hand(alloc: Global, server: &Server) -> anyhow::Result<String> {
+    let mut client = server.session(alloc, None, |_line| Books)?;
+    let planned = client.plan_text("{}".as_bytes())?;
+    let mut by_hand = client.by_hand(&planned);
+    let step = by_hand.advance()?;
+    let asked = by_hand
+        .into_client()
+        .session()
+        .logs(BOOK_BY_ID)
+        .unwrap_or(&[])
+        .len();
+    match step {
+        Step::Answered(answer) => Ok(format!(in alloc; "{} after {asked} batches", answer.text)?),
+        _ => bail!("no answer"),
+    }
+}
+
+// An array of requests as a future, which asks the sources of the session, a round for each poll.
+fn as_a_future<R: Wait + RandomSource + AllocGlobal>(
+    rt: &R,
+    server: &Server,
+) -> anyhow::Result<String> {
+    let mut client = server.session(rt.alloc(), None, |_line| Books)?;
+    let planned = client.plan_all(&[Some(asking("{book(id:2){title}}")), None])?;
+    let (_client, answer) = block_on(rt, client.into_answering(&planned))?;
+    Ok(answer?.text)
 }
 
 // An answer of more bytes than the limit is refused.
@@ -220,5 +280,8 @@ fn main(rt: HostRuntime) -> anyhow::Result<()> {
         answer_text_with_workers(&rt, &server)?
     )?;
     println!(rt; "serve_with: {}", serve_lines_with_workers(&rt, &server)?)?;
+    println!(rt; "by_hand: {}", by_hand(alloc, &server)?)?;
+    println!(rt; "refused by hand: {}", refused_by_hand(alloc, &server)?)?;
+    println!(rt; "into_answering: {}", as_a_future(&rt, &server)?)?;
     Ok(())
 }

@@ -1,0 +1,241 @@
+-- What is planned of what is asked, and what answers it or stops it.
+use Rattle.std.proofs.Common.{◌≡◌, ◌∙◌, ◌⊎◌, ◌++◌, ℕ, Bool, true, false, List, [], ◌∷◌, map, option_map, length, Option, Some, None, Result, Ok, Err, refl, sym, ap, subst, inl, inr, string_bytes}
+use Rattle.std.specs.Prelude.{String, IfOk, slice_get}
+use Rattle.std.specs.declared.alloc.Global.{Global}
+use Rattle.load_memory.specs.Keys.{KeyOf}
+use Rattle.load_memory.specs.Replies.{ReplyOf}
+use Rattle.load_queue.specs.Answers.{AnswerOf}
+use Rattle.gq_check.specs.Plans.{PlanOf}
+use Rattle.gq_resolve.specs.Within.{text_within}
+use Rattle.plan_program.specs.PlanPrograms.{plan_program}
+use Rattle.load_rounds.specs.Headline.{StopsAnswering}
+use Rattle.load_rounds.specs.Sessions.{SessionOf, StateOf, state_of}
+use Rattle.load_rounds.specs.SharedRounds.{ReportOf, RequestOf as AskedFor, request_of, requests, together, joint, AreShared, SharedHeadline, greatest, report_of}
+use Rattle.load_rounds.specs.declared.answer.Answer.{Answer}
+use Rattle.load_rounds.proofs.Requests.{headline-one, stops-one}
+use Rattle.request_line.specs.Requests.{RequestOf, IsRequest, AreRequests, IsNoRequest}
+use Rattle.request_plans.specs.Planning.{PlanValues, PlansValue, PlansRequest, refusals_of, plans_of, not_a_request}
+use Rattle.request_plans.specs.declared.plans.ArrayPlan.{ArrayPlan}
+use Rattle.request_plans.specs.declared.plans.RequestPlan.{RequestPlan}
+use Rattle.request_plans.specs.declared.plans.RequestPlan.TheVariants as request_plan
+use Rattle.request_plans.specs.Servers.{ServerOf}
+use Rattle.request_plans.proofs.Requests.{planned-valid}
+use Rattle.server.specs.Answers.{unasked, AnswersRequest, refused, planned, StopsRequest, unplanned, stopped}
+use Rattle.server.specs.Arrays as arrays
+use Rattle.server.specs.Bounded.{AreBounded, bounded_program, bounded_text}
+use Rattle.server.specs.Clients.{ClientOf}
+use Rattle.server.specs.Lines as lines
+use Rattle.server.specs.Plans.{requests_within}
+use Rattle.server.specs.Planned.{AskedOf, one, several, text, PlannedOf, refuses_one, is_refused, IsTextPlanned, no_request, request, several_requests, IsPlannedAs, PlansAsked, IsOneResponse, IsResponseOf, IsResponse, AnswersAsked, StopsAsked}
+use Rattle.server.specs.declared.bounded.BoundedPlan.{BoundedPlan}
+use Rattle.server.proofs.Bounding.{bounded-asks}
+use Rattle.server.proofs.Values.{array-answered, texts-report}
+
+-- of no plans there are none within a limit, and the other way round
+none-bounded : (most : Option ℕ) (bs : List BoundedPlan) → AreBounded most [] bs → bs ≡ []
+none-bounded most [] are = refl
+none-bounded most (b ∷ bs) are = absurd (cc are)
+
+bounded-none : (most : Option ℕ) (plans : List PlanOf) → AreBounded most plans [] → plans ≡ []
+bounded-none most [] are = refl
+bounded-none most (p ∷ ps) are = absurd (cc are)
+
+refused-none : (many : Bool) (bs : List BoundedPlan) → refuses_one many bs ≡ true → bs ≡ []
+refused-none true bs e = absurd (cc e)
+refused-none false [] e = refl
+refused-none false (b ∷ bs) e = absurd (cc e)
+
+refused-plans : (most : Option ℕ) (many : Bool) (plans : List PlanOf) (bs : List BoundedPlan) → AreBounded most plans bs → refuses_one many bs ≡ true → plans ≡ []
+refused-plans most many plans bs are e = bounded-none most plans (subst (AreBounded most plans) (refused-none many bs e) are)
+
+-- one request, whose refusal is all that there is
+module _ (s : ServerOf) (value : Option RequestOf) where
+  -- it is refused
+  pub one-refusal : (refusals : List (Option (List ℕ))) (plans : List PlanOf) → PlanValues s (value ∷ []) refusals plans → plans ≡ [] → (t : List ℕ) × (refusals ≡ Some t ∷ []) × PlanValues s (value ∷ []) (Some t ∷ []) []
+  one-refusal [] plans h e = absurd h
+  one-refusal (Some t ∷ []) [] h e = (t, refl, h)
+  one-refusal (Some t ∷ []) (p ∷ ps) h e = absurd (cc e)
+  one-refusal (Some t ∷ r ∷ rs) plans h e = absurd h.1
+  one-refusal (None ∷ rs) [] h e = absurd h
+  one-refusal (None ∷ rs) (p ∷ ps) h e = absurd (cc e)
+
+module _ {S : Type 0} (may : S → List KeyOf → AnswerOf → Type 0) (c : ClientOf S) (new : SessionOf S) where
+  -- ---- answers
+
+  alone : (p : PlanOf) (reports : List ReportOf) (report : ReportOf) → SharedHeadline may (state_of c.session) (state_of new) (requests_within c.most (p ∷ [])) reports → IsResponseOf false (None ∷ []) reports report
+      → SharedHeadline may (state_of c.session) (state_of new) (requests_within c.most (p ∷ [])) (report ∷ [])
+  alone p [] report h e = absurd h.answers
+  alone p (t ∷ []) report h e = subst (λ (x : ReportOf). SharedHeadline may (state_of c.session) (state_of new) (requests_within c.most (p ∷ [])) (x ∷ [])) (sym e) h
+  alone p (t ∷ u ∷ us) report h e = absurd h.answers.1
+
+  one-answered : (r : RequestOf) (refusals : List (Option (List ℕ))) (plans : List PlanOf) (bs : List BoundedPlan) (reports : List ReportOf) (report : ReportOf) → PlanValues c.server (Some r ∷ []) refusals plans
+      → AreBounded c.most plans bs → refuses_one false bs ≡ false → SharedHeadline may (state_of c.session) (state_of new) (requests_within c.most plans) reports → IsResponseOf false refusals reports report → AnswersRequest may c r report new
+  one-answered r [] plans bs reports report h are e shared is = absurd h
+  one-answered r (Some t ∷ []) [] bs reports report h are e shared is = absurd (cc (ap (refuses_one false) (sym (none-bounded c.most bs are)) ∙ e))
+  one-answered r (Some t ∷ []) (p ∷ ps) bs reports report h are e shared is = absurd h.1
+  one-answered r (Some t ∷ x ∷ rs) plans bs reports report h are e shared is = absurd h.1
+  one-answered r (None ∷ rs) [] bs reports report h are e shared is = absurd h
+  one-answered r (None ∷ []) (p ∷ []) bs reports report h are e shared is =
+      let own = alone p reports report shared is in
+      planned h.0 (record { valid = planned-valid c.server r p h.0; headline = headline-one may (state_of c.session) (state_of new) (request_of (plan_program p) (text_within c.most)) report own })
+  one-answered r (None ∷ []) (p ∷ q ∷ ps) bs reports report h are e shared is = absurd h.1
+  one-answered r (None ∷ x ∷ rs) (p ∷ ps) bs reports report h are e shared is = absurd h.1
+
+  several-answered : (values : List (Option RequestOf)) (refusals : List (Option (List ℕ))) (plans : List PlanOf) (answers : List Answer) (report : ReportOf) → PlanValues c.server values refusals plans
+      → SharedHeadline may (state_of c.session) (state_of new) (requests_within c.most plans) (map report_of answers) → IsResponseOf true refusals (map report_of answers) report → arrays.AnswersArray may c values report new
+  several-answered values refusals plans answers report h shared is =
+      array-answered may c new values refusals plans answers report h shared (is.0 ∙ ap (λ ts. arrays.array_text (arrays.in_places refusals ts)) (texts-report answers)) is.1
+
+  text-answered : (t : List ℕ) (many : Bool) (refusals : List (Option (List ℕ))) (plans : List PlanOf) (bs : List BoundedPlan) (answers : List Answer) (report : ReportOf) → IsTextPlanned c.server t many refusals plans
+      → AreBounded c.most plans bs → refuses_one many bs ≡ false → SharedHeadline may (state_of c.session) (state_of new) (requests_within c.most plans) (map report_of answers) → IsResponseOf many refusals (map report_of answers) report
+      → lines.AnswersText may c t report new
+  text-answered t many refusals plans bs answers report (no_request is m h) are e shared response =
+      absurd (no-plan refusals plans h (subst (λ b. refuses_one b bs ≡ false) m e))
+    where
+      none-here : (rs : List (Option (List ℕ))) (ps : List PlanOf) → PlanValues c.server (None ∷ []) rs ps → ps ≡ []
+      none-here [] ps k = absurd k
+      none-here (Some u ∷ []) [] k = refl
+      none-here (Some u ∷ []) (p ∷ ps) k = absurd k.1
+      none-here (Some u ∷ x ∷ rs) ps k = absurd k.1
+      none-here (None ∷ rs) [] k = absurd k
+      none-here (None ∷ rs) (p ∷ ps) k = absurd k.0
+
+      no-plan : (rs : List (Option (List ℕ))) (ps : List PlanOf) → PlanValues c.server (None ∷ []) rs ps → refuses_one false bs ≡ false → ⊥
+      no-plan [] ps k f = k
+      no-plan (Some u ∷ []) [] k f = cc (ap (refuses_one false) (sym (none-bounded c.most bs (subst (λ qs. AreBounded c.most qs bs) (none-here refusals plans h) are))) ∙ f)
+      no-plan (Some u ∷ []) (p ∷ ps) k f = k.1
+      no-plan (Some u ∷ x ∷ rs) ps k f = k.1
+      no-plan (None ∷ rs) [] k f = k
+      no-plan (None ∷ rs) (p ∷ ps) k f = k.0
+  text-answered t many refusals plans bs answers report (request is m h) are e shared response =
+      lines.request is (one-answered _ refusals plans bs (map report_of answers) report h are (subst (λ b. refuses_one b bs ≡ false) m e) shared (subst (λ b. IsResponseOf b refusals (map report_of answers) report) m response))
+  text-answered t many refusals plans bs answers report (several_requests is m h) are e shared response =
+      lines.several is (several-answered _ refusals plans answers report h shared (subst (λ b. IsResponseOf b refusals (map report_of answers) report) m response))
+
+  pub asked-answered : (asked : AskedOf) (what : PlannedOf) (answers : List Answer) (report : ReportOf) → PlansAsked c asked what → is_refused what ≡ false
+      → SharedHeadline may (state_of c.session) (state_of new) (requests bounded_program bounded_text what.plans) (map report_of answers) → IsResponse what (map report_of answers) report → AnswersAsked may c asked report new
+  asked-answered (one r) what answers report h e shared response =
+      let asks = subst (λ rs. SharedHeadline may (state_of c.session) (state_of new) rs (map report_of answers)) (bounded-asks c.most h.plans what.plans h.bounded) shared in
+      let m = h.planned_as.0 in
+      one-answered r what.refusals h.plans what.plans (map report_of answers) report h.planned_as.1 h.bounded (subst (λ b. refuses_one b what.plans ≡ false) m e) asks (subst (λ b. IsResponseOf b what.refusals (map report_of answers) report) m response)
+  asked-answered (several values) what answers report h e shared response =
+      let asks = subst (λ rs. SharedHeadline may (state_of c.session) (state_of new) rs (map report_of answers)) (bounded-asks c.most h.plans what.plans h.bounded) shared in
+      several-answered values what.refusals h.plans answers report h.planned_as.1 asks (subst (λ b. IsResponseOf b what.refusals (map report_of answers) report) h.planned_as.0 response)
+  asked-answered (text t) what answers report h e shared response =
+      let asks = subst (λ rs. SharedHeadline may (state_of c.session) (state_of new) rs (map report_of answers)) (bounded-asks c.most h.plans what.plans h.bounded) shared in
+      text-answered t what.many what.refusals h.plans what.plans answers report h.planned_as h.bounded e asks response
+
+  -- ---- stops
+
+  one-stops : (r : RequestOf) (refusals : List (Option (List ℕ))) (plans : List PlanOf) (bs : List BoundedPlan) → PlanValues c.server (Some r ∷ []) refusals plans → AreBounded c.most plans bs → (refuses_one false bs ≡ true → new ≡ c.session)
+      → (new ≡ c.session) ⊎ StopsAnswering may (state_of c.session) (state_of new) (together (requests_within c.most plans)) → StopsRequest may c r new
+  one-stops r refusals plans bs h are same (inl e) = unplanned e
+  one-stops r [] plans bs h are same (inr st) = absurd h
+  one-stops r (Some t ∷ []) [] bs h are same (inr st) = unplanned (same (ap (refuses_one false) (none-bounded c.most bs are)))
+  one-stops r (Some t ∷ []) (p ∷ ps) bs h are same (inr st) = absurd h.1
+  one-stops r (Some t ∷ x ∷ rs) plans bs h are same (inr st) = absurd h.1
+  one-stops r (None ∷ rs) [] bs h are same (inr st) = absurd h
+  one-stops r (None ∷ []) (p ∷ []) bs h are same (inr st) = stopped h.0 (stops-one may (state_of c.session) (state_of new) (request_of (plan_program p) (text_within c.most)) st)
+  one-stops r (None ∷ []) (p ∷ q ∷ ps) bs h are same (inr st) = absurd h.1
+  one-stops r (None ∷ x ∷ rs) (p ∷ ps) bs h are same (inr st) = absurd h.1
+
+  none-stops : (refusals : List (Option (List ℕ))) (plans : List PlanOf) (bs : List BoundedPlan) → PlanValues c.server (None ∷ []) refusals plans → AreBounded c.most plans bs → (refuses_one false bs ≡ true → new ≡ c.session) → new ≡ c.session
+  none-stops [] plans bs h are same = absurd h
+  none-stops (Some t ∷ []) [] bs h are same = same (ap (refuses_one false) (none-bounded c.most bs are))
+  none-stops (Some t ∷ []) (p ∷ ps) bs h are same = absurd h.1
+  none-stops (Some t ∷ x ∷ rs) plans bs h are same = absurd h.1
+  none-stops (None ∷ rs) [] bs h are same = absurd h
+  none-stops (None ∷ rs) (p ∷ ps) bs h are same = absurd h.0
+
+  several-stops : (values : List (Option RequestOf)) (refusals : List (Option (List ℕ))) (plans : List PlanOf) → PlanValues c.server values refusals plans
+      → (new ≡ c.session) ⊎ StopsAnswering may (state_of c.session) (state_of new) (together (requests_within c.most plans)) → arrays.StopsArray may c values new
+  several-stops values refusals plans h (inl e) = arrays.unplanned e
+  several-stops values refusals plans h (inr st) = arrays.stopped refusals plans h st
+
+  text-stops : (t : List ℕ) (many : Bool) (refusals : List (Option (List ℕ))) (plans : List PlanOf) (bs : List BoundedPlan) → IsTextPlanned c.server t many refusals plans → AreBounded c.most plans bs → (refuses_one many bs ≡ true → new ≡ c.session)
+      → (new ≡ c.session) ⊎ StopsAnswering may (state_of c.session) (state_of new) (together (requests_within c.most plans)) → lines.StopsText may c t new
+  text-stops t many refusals plans bs (no_request is m h) are same st = lines.unread (none-stops refusals plans bs h are (subst (λ b. refuses_one b bs ≡ true → new ≡ c.session) m same))
+  text-stops t many refusals plans bs (request is m h) are same st = lines.request is (one-stops _ refusals plans bs h are (subst (λ b. refuses_one b bs ≡ true → new ≡ c.session) m same) st)
+  text-stops t many refusals plans bs (several_requests is m h) are same st = lines.several is (several-stops _ refusals plans h st)
+
+  pub asked-stops : (asked : AskedOf) (what : PlannedOf) → PlansAsked c asked what → (is_refused what ≡ true → new ≡ c.session) → (new ≡ c.session) ⊎ StopsAnswering may (state_of c.session) (state_of new) (joint bounded_program bounded_text what.plans)
+      → StopsAsked may c asked new
+  asked-stops asked what h same st = go asked h.planned_as (subst (λ rs. (new ≡ c.session) ⊎ StopsAnswering may (state_of c.session) (state_of new) (together rs)) (bounded-asks c.most h.plans what.plans h.bounded) st)
+    where
+      go : (a : AskedOf) → IsPlannedAs c.server a what.many what.refusals h.plans → (new ≡ c.session) ⊎ StopsAnswering may (state_of c.session) (state_of new) (together (requests_within c.most h.plans)) → StopsAsked may c a new
+      go (one r) as' end = one-stops r what.refusals h.plans what.plans as'.1 h.bounded (subst (λ b. refuses_one b what.plans ≡ true → new ≡ c.session) as'.0 same) end
+      go (several values) as' end = several-stops values what.refusals h.plans as'.1 end
+      go (text t) as' end = text-stops t what.many what.refusals h.plans what.plans as' h.bounded same end
+
+-- ---- a request that is refused
+
+module _ {S : Type 0} (may : S → List KeyOf → AnswerOf → Type 0) (c : ClientOf S) where
+  refused-one : (r : RequestOf) (refusals : List (Option (List ℕ))) (plans : List PlanOf) (report : ReportOf) → PlanValues c.server (Some r ∷ []) refusals plans → plans ≡ [] → IsResponseOf false refusals [] report → AnswersRequest may c r report c.session
+  refused-one r refusals plans report h e response =
+      let t = one-refusal c.server (Some r) refusals plans h e in
+      refused t.2.0 (subst (λ rs. IsResponseOf false rs [] report) t.1 response) refl
+
+  refused-text : (t : List ℕ) (many : Bool) (refusals : List (Option (List ℕ))) (plans : List PlanOf) (bs : List BoundedPlan) (report : ReportOf) → IsTextPlanned c.server t many refusals plans → plans ≡ [] → refuses_one many bs ≡ true
+      → IsResponseOf many refusals [] report → lines.AnswersText may c t report c.session
+  refused-text t many refusals plans bs report (no_request is m h) none e response =
+      let u = one-refusal c.server None refusals plans h none in
+      let own = subst (λ b. IsResponseOf b refusals [] report) m response in
+      let said : report ≡ unasked u.0 = subst (λ rs. IsResponseOf false rs [] report) u.1 own in
+      lines.no_request is (said ∙ ap unasked u.2.0) refl
+  refused-text t many refusals plans bs report (request is m h) none e response =
+      lines.request is (refused-one _ refusals plans report h none (subst (λ b. IsResponseOf b refusals [] report) m response))
+  refused-text t many refusals plans bs report (several_requests is m h) none e response = absurd (cc (ap (λ b. refuses_one b bs) (sym m) ∙ e))
+
+  pub asked-refused : (asked : AskedOf) (what : PlannedOf) (report : ReportOf) → PlansAsked c asked what → is_refused what ≡ true → IsResponse what [] report → AnswersAsked may c asked report c.session
+  asked-refused (one r) what report h e response =
+      refused-one r what.refusals h.plans report h.planned_as.1 (refused-plans c.most what.many h.plans what.plans h.bounded e) (subst (λ b. IsResponseOf b what.refusals [] report) h.planned_as.0 response)
+  asked-refused (several values) what report h e response = absurd (cc (ap (λ b. refuses_one b what.plans) (sym h.planned_as.0) ∙ e))
+  asked-refused (text t) what report h e response =
+      refused-text t what.many what.refusals h.plans what.plans report h.planned_as (refused-plans c.most what.many h.plans what.plans h.bounded e) e response
+
+-- ---- planning
+
+-- what is asked of a client is planned as the plans and refusals that stand for it
+pub asks : {S : Type 0} (c : ClientOf S) (asked : AskedOf) (many : Bool) (array : ArrayPlan) (what : PlannedOf) → what.many ≡ many → what.refusals ≡ refusals_of array → AreBounded c.most (plans_of array) what.plans
+    → IsPlannedAs c.server asked many (refusals_of array) (plans_of array) → PlansAsked c asked what
+asks c asked many array what m r are h = record {
+  plans = plans_of array;
+  bounded = are;
+  planned_as = subst (λ b. IsPlannedAs c.server asked b what.refusals (plans_of array)) (sym m) (subst (λ rs. IsPlannedAs c.server asked many rs (plans_of array)) (sym r) h);
+}
+
+-- what a request asks is what the value asks that it is
+pub request-value : (s : ServerOf) (r : RequestOf) (plan : RequestPlan) → PlansRequest s r plan → PlansValue s (Some r) plan
+request-value s r (request_plan.Refused said) h = h
+request-value s r (request_plan.Planned plan) h = h
+
+-- ---- responses
+
+-- the refusal that comes first is the response of one request
+pub refusal-some : (refusals : List (Option (String Global))) (text : String Global) → slice_get refusals 0 ≡ Some (Some text) → IsOneResponse (map (option_map string_bytes) refusals) [] (unasked (string_bytes text))
+refusal-some [] said e = absurd (cc e)
+refusal-some (Some t ∷ []) said e = let same : t ≡ said = cc e in ap (λ u. unasked (string_bytes u)) (sym same)
+refusal-some (Some t ∷ r ∷ rs) said e = tt
+refusal-some (None ∷ rs) said e = absurd (cc e)
+
+pub refusal-none : (refusals : List (Option (String Global))) (report : ReportOf) → ((text : String Global) → slice_get refusals 0 ≡ Some (Some text) → ⊥) → IsOneResponse (map (option_map string_bytes) refusals) [] report
+refusal-none [] report none = tt
+refusal-none (Some t ∷ []) report none = absurd (none t refl)
+refusal-none (Some t ∷ r ∷ rs) report none = tt
+refusal-none (None ∷ rs) report none = tt
+
+-- the response of one request is the last of the answers, of which there is one
+pub last-response : (refusals : List (Option (List ℕ))) (before : List Answer) (answer : Answer) → IsOneResponse refusals (map report_of (before ++ answer ∷ [])) (report_of answer)
+last-response refusals [] answer = refl
+last-response refusals (a ∷ []) answer = tt
+last-response refusals (a ∷ b ∷ bs) answer = tt
+
+-- an array's response
+pub array-response : (refusals : List (Option (List ℕ))) (answers : List Answer) (report : ReportOf) → report.text ≡ arrays.array_text (arrays.in_places refusals (map (λ (a : Answer). string_bytes a.text) answers))
+    → report.rounds ≡ greatest (map report_of answers) → IsResponseOf true refusals (map report_of answers) report
+array-response refusals answers report said rounds = (said ∙ ap (λ ts. arrays.array_text (arrays.in_places refusals ts)) (sym (texts-report answers)), rounds)
+
+pub array-responds : {E : Type 0} (r : Result Answer E) (refusals : List (Option (List ℕ))) (answers : List Answer) → IfOk r (λ a. string_bytes a.text ≡ arrays.array_text (arrays.in_places refusals (map (λ (a : Answer). string_bytes a.text) answers)))
+    → IfOk r (λ a. a.rounds ≡ greatest (map report_of answers)) → IfOk r (λ a. IsResponseOf true refusals (map report_of answers) (report_of a))
+array-responds (Ok a) refusals answers said rounds = array-response refusals answers (report_of a) said rounds
+array-responds (Err e) refusals answers said rounds = tt

@@ -1,0 +1,164 @@
+-- What a hand did, and what is made of it for the client that it is of.
+use Rattle.std.proofs.Common.{◌≡◌, ◌≤◌, ◌∙◌, ◌⊎◌, ℕ, true, false, List, [], map, length, All, Option, Some, None, Result, Ok, Err, refl, sym, ap, subst, inl, inr, arith}
+use Rattle.std.proofs.lemmas.List.Elements.{All-weaker}
+use Rattle.std.specs.Prelude.{◌↔◌, IfSome, OnOk}
+use Rattle.std.specs.Global.{Vec}
+use Rattle.load_memory.specs.Keys.{KeyOf}
+use Rattle.load_memory.specs.declared.no_memory.NoMemory.{NoMemory}
+use Rattle.load_memory.specs.declared.outcome.Item.{Item}
+use Rattle.load_queue.specs.Answers.{AnswerOf}
+use Rattle.load_queue.specs.declared.source.FetchFault.{FetchFault}
+use Rattle.gq_resolve.specs.declared.root_state.RootState.{RootState}
+use Rattle.load_rounds.specs.Headline.{StopsAnswering}
+use Rattle.load_rounds.specs.Sessions.{SessionOf, state_of}
+use Rattle.load_rounds.specs.SharedRounds.{SharedHeadline, requests, joint, report_of}
+use Rattle.load_rounds.specs.declared.answer.Answer.{Answer}
+use Rattle.rounds_by_hand.specs.Hands as hands
+use Rattle.rounds_by_hand.specs.Hands.{FarOf, HandOf, handed, out, over, HasGone, IsOver, IsNewRound, can_advance, pending_in}
+use Rattle.rounds_by_hand.specs.declared.hand.Advance.{Advance}
+use Rattle.rounds_by_hand.specs.declared.hand.Advance.TheVariants as did
+use Rattle.rounds_by_hand.specs.declared.pending.Pending.{Pending}
+use Rattle.request_plans.specs.Servers.{ServerOf}
+use Rattle.server.specs.Bounded.{bounded_program, bounded_text, bounded_loaders}
+use Rattle.server.specs.Clients.{ClientOf, HasLoaders, IsSameClient, client_of}
+use Rattle.server.specs.Hands.{ByHandOf, by_hand_of, IsFinished, IsStepOf, Ends, Steps, AsksAndSteps, GivesFrom, Responds, GivesUp, GoesOn, GoesOnIfMay, HoldsByHand}
+use Rattle.server.specs.Planned.{AskedOf, PlannedOf, PlansAsked, AnswersAsked, IsResponse, is_refused}
+use Rattle.server.specs.declared.bounded.BoundedPlan.{BoundedPlan}
+use Rattle.server.specs.declared.by_hand.Step.{Step}
+use Rattle.server.specs.declared.by_hand.Step.TheVariants as step
+use Rattle.server.proofs.Asking.{asked-answered, asked-refused, asked-stops}
+
+-- what is made of what a hand did is of the same kind
+each-step : (planned : PlannedOf) (T : Advance → Step → Type 0) → ((answers : Vec Answer) (answer : Answer) → IsResponse planned (map report_of answers.items) (report_of answer) → T (did.Finished answers) (step.Answered answer))
+    → T did.Round step.Round → T did.Waiting step.Waiting → T did.Over step.Over → (d : Advance) (s : Step) → IsStepOf planned d s → T d s
+each-step planned T finished round waiting over' (did.Finished answers) (step.Answered answer) is = finished answers answer is
+each-step planned T finished round waiting over' (did.Finished answers) step.Round is = absurd is
+each-step planned T finished round waiting over' (did.Finished answers) step.Waiting is = absurd is
+each-step planned T finished round waiting over' (did.Finished answers) step.Over is = absurd is
+each-step planned T finished round waiting over' did.Round (step.Answered answer) is = absurd is
+each-step planned T finished round waiting over' did.Round step.Round is = round
+each-step planned T finished round waiting over' did.Round step.Waiting is = absurd is
+each-step planned T finished round waiting over' did.Round step.Over is = absurd is
+each-step planned T finished round waiting over' did.Waiting (step.Answered answer) is = absurd is
+each-step planned T finished round waiting over' did.Waiting step.Round is = absurd is
+each-step planned T finished round waiting over' did.Waiting step.Waiting is = waiting
+each-step planned T finished round waiting over' did.Waiting step.Over is = absurd is
+each-step planned T finished round waiting over' did.Over (step.Answered answer) is = absurd is
+each-step planned T finished round waiting over' did.Over step.Round is = absurd is
+each-step planned T finished round waiting over' did.Over step.Waiting is = absurd is
+each-step planned T finished round waiting over' did.Over step.Over is = over'
+
+-- a new round isn't the end
+pub round-open : {P E : Type 0} (far : FarOf P E) → IsNewRound far → ¬ (IsOver far)
+round-open handed is e = absurd is
+round-open (out run pending) is e = absurd (cc e)
+round-open over is e = absurd is
+
+-- of a hand of which nothing is done no order can be answered
+pub answer-keeps : {S P E : Type 0} (old new : HandOf S P E) (number : ℕ) (Refused : Type 0) → (Refused ↔ (length (pending_in old.far) ≤ number)) → (Refused → new ≡ old) → old.far ≡ handed → new.far ≡ handed
+answer-keeps old new number Refused when same e =
+    let none : length (pending_in old.far) ≤ number = subst (λ far. length (pending_in far) ≤ number) (sym e) (omega arith) in
+    ap (λ (h : HandOf _ _ _). h.far) (same (when.1 none)) ∙ e
+
+module _ {S : Type 0} (server : ServerOf) (most : Option ℕ) (planned : PlannedOf) where
+  -- the hand with the client that it is of
+  abbrev pub held : HandOf S BoundedPlan RootState → ByHandOf S
+  held hand = by_hand_of (client_of server most hand.session) planned hand.far
+
+  pub steps : (old new : HandOf S BoundedPlan RootState) (d : Advance) (s : Step) → IsStepOf planned d s → hands.Advances old new d → Steps (held old) (held new) s
+  steps old new = each-step planned (λ d s. hands.Advances old new d → Steps (held old) (held new) s) (λ answers answer is h. (h.0, inr h.1)) (λ h. h) (λ h. (h.0, ap held h.1)) (λ h. (h.0, ap held h.1))
+
+  pub asks-steps : (old new : HandOf S BoundedPlan RootState) (d : Advance) (s : Step) → IsStepOf planned d s → hands.AsksAndAdvances old new d → AsksAndSteps (held old) (held new) s
+  asks-steps old new = each-step planned (λ d s. hands.AsksAndAdvances old new d → AsksAndSteps (held old) (held new) s) (λ answers answer is h. (h.0, inr h.1)) (λ h. h) (λ h. h) (λ h. (h.0, ap held h.1))
+
+  -- where there are answers it is over
+  pub finished : (old new : HandOf S BoundedPlan RootState) (d : Advance) → IsFinished d → hands.Advances old new d → Ends (held old) (held new)
+  finished old new (did.Finished answers) is h = inr h.1
+  finished old new did.Round is h = absurd is
+  finished old new did.Waiting is h = absurd is
+  finished old new did.Over is h = absurd is
+
+  pub finished-asks : (old new : HandOf S BoundedPlan RootState) (d : Advance) → IsFinished d → hands.AsksAndAdvances old new d → Ends (held old) (held new)
+  finished-asks old new (did.Finished answers) is h = inr h.1
+  finished-asks old new did.Round is h = absurd is
+  finished-asks old new did.Waiting is h = absurd is
+  finished-asks old new did.Over is h = absurd is
+
+  -- a request that is refused stays as it is
+  pub refused-steps : (hand : HandOf S BoundedPlan RootState) → is_refused planned ≡ true → hand.far ≡ handed → (answer : Answer) → Steps (held hand) (held hand) (step.Answered answer)
+  refused-steps hand refused far answer = (ap can_advance far, inl (refused, refl))
+
+  pub refused-asks : (hand : HandOf S BoundedPlan RootState) → is_refused planned ≡ true → hand.far ≡ handed → (answer : Answer) → AsksAndSteps (held hand) (held hand) (step.Answered answer)
+  refused-asks hand refused far answer = (λ e. absurd (cc (sym far ∙ e)), inl (refused, refl))
+
+  module _ (may : S → List KeyOf → AnswerOf → Type 0) where
+    -- what was done for the plans of the hand was done for what is planned
+    as-planned : (begun : SessionOf S) (hand : HandOf S BoundedPlan RootState) (ps qs : List BoundedPlan) → ps ≡ qs → HasGone bounded_program bounded_text may begun hand.session ps hand.far → HasGone bounded_program bounded_text may begun hand.session qs hand.far
+    as-planned begun hand ps qs e h = subst (λ (plans : List BoundedPlan). HasGone bounded_program bounded_text may begun hand.session plans hand.far) e h
+
+    pub goes : (old new : HandOf S BoundedPlan RootState) → old.plans ≡ planned.plans → new.plans ≡ old.plans → hands.GoesOn bounded_program bounded_text may old new → GoesOn may (held old) (held new)
+    goes old new is same go = λ begun h. as-planned begun new new.plans planned.plans (same ∙ is) (go begun (as-planned begun old planned.plans old.plans (sym is) h))
+
+    pub responds : (old new : HandOf S BoundedPlan RootState) → old.plans ≡ planned.plans → new.plans ≡ old.plans → is_refused planned ≡ false → (d : Advance) (s : Step) → IsStepOf planned d s
+        → hands.AnswersFrom bounded_program bounded_text may old new d → Responds may (held old) (held new) s
+    responds old new is same open' =
+        each-step planned (λ d s. hands.AnswersFrom bounded_program bounded_text may old new d → Responds may (held old) (held new) s) answered (λ _. tt) (λ _. tt) (λ _. tt)
+      where
+        answered : (answers : Vec Answer) (answer : Answer) → IsResponse planned (map report_of answers.items) (report_of answer) → hands.AnswersFrom bounded_program bounded_text may old new (did.Finished answers)
+            → Responds may (held old) (held new) (step.Answered answer)
+        answered answers answer response tells c asked h p =
+            let shared = tells c.session (as-planned c.session old planned.plans old.plans (sym is) h) in
+            let asked-for = subst (λ (plans : List BoundedPlan). SharedHeadline may (state_of c.session) (state_of new.session) (requests bounded_program bounded_text plans) (map report_of answers.items)) (same ∙ is) shared in
+            asked-answered may c new.session asked planned answers.items (report_of answer) p open' asked-for response
+
+    -- the session of a request that is refused is as it was
+    untouched : (begun : SessionOf S) (hand : HandOf S BoundedPlan RootState) → hand.far ≡ handed → HasGone bounded_program bounded_text may begun hand.session planned.plans hand.far → hand.session ≡ begun
+    untouched begun hand e h = subst (λ (far : FarOf BoundedPlan RootState). HasGone bounded_program bounded_text may begun hand.session planned.plans far) e h
+
+    pub refusal-responds : (hand : HandOf S BoundedPlan RootState) → is_refused planned ≡ true → hand.far ≡ handed → (answer : Answer) → IsResponse planned [] (report_of answer) → Responds may (held hand) (held hand) (step.Answered answer)
+    refusal-responds hand refused far answer response c asked h p =
+        subst (λ (s : SessionOf S). AnswersAsked may c asked (report_of answer) s) (sym (untouched c.session hand far h)) (asked-refused may c asked planned (report_of answer) p refused response)
+
+    pub gives-up : (hand : HandOf S BoundedPlan RootState) (session : SessionOf S) → hand.plans ≡ planned.plans → (is_refused planned ≡ true → hand.far ≡ handed) → session ≡ hand.session
+        → hands.GivesUp bounded_program bounded_text may hand session → GivesUp may (held hand) (client_of server most session)
+    gives-up hand session is far same up c asked h p =
+        let end = up c.session (as-planned c.session hand planned.plans hand.plans (sym is) h) in
+        let ended = subst (λ (plans : List BoundedPlan). (session ≡ c.session) ⊎ StopsAnswering may (state_of c.session) (state_of session) (joint bounded_program bounded_text plans)) is end in
+        asked-stops may c session asked planned p (λ refused. same ∙ untouched c.session hand (far refused) h) ended
+
+    -- an order is answered
+    pub goes-if-may : {X E : Type 0} (r : Result X E) (at' : Option Pending) (answer : Result (Vec Item) FetchFault) (old new : HandOf S BoundedPlan RootState) → old.plans ≡ planned.plans → new.plans ≡ old.plans
+        → OnOk r (IfSome at' (hands.GoesOnIfMay bounded_program bounded_text may answer old new)) → OnOk r (IfSome at' (GoesOnIfMay may answer (held old) (held new)))
+    goes-if-may (Ok x) (Some one) answer old new is same h = λ can. goes old new is same (h can)
+    goes-if-may (Ok x) None answer old new is same h = tt
+    goes-if-may (Err e) at' answer old new is same h = tt
+
+-- what holds of a client that is handed in
+pub handed-in : {S : Type 0} (client : ClientOf S) (planned : PlannedOf) (hand : HandOf S BoundedPlan RootState) → HasLoaders client.server client.session → hand ≡ record { session = client.session; plans = planned.plans; far = handed }
+    → All (λ (b : BoundedPlan). bounded_loaders b ≤ planned.loaders) planned.plans → planned.loaders ≤ length client.session.loaders → HoldsByHand (client_of client.server client.most hand.session) planned hand
+handed-in {S} client planned hand has e each fits =
+    let enough = All-weaker (λ (b : BoundedPlan). bounded_loaders b ≤ planned.loaders) (λ (b : BoundedPlan). bounded_loaders b ≤ length client.session.loaders) (λ b below. omega (arith, below, fits)) planned.plans each in
+    subst (λ (h : HandOf S BoundedPlan RootState). HoldsByHand (client_of client.server client.most h.session) planned h) (sym e)
+    (record { loaders = has; plans = refl; holds = record { enough = enough; round = tt }; refused = λ _. refl })
+
+-- ---- as a future
+
+module _ {S : Type 0} (may : S → List KeyOf → AnswerOf → Type 0) (b new : ByHandOf S) (goes-on : GoesOn may b new) (planned : new.planned ≡ b.planned) (same : IsSameClient b.client new.client) where
+  same-planned : (c : ClientOf S) (asked : AskedOf) → PlansAsked c asked b.planned → PlansAsked c asked new.planned
+  same-planned c asked p = subst (λ (what : PlannedOf). PlansAsked c asked what) (sym planned) p
+
+  -- what comes of it after a round came of it before
+  pub polled-again : (given : ClientOf S × Result Answer NoMemory) → GivesFrom may new given → GivesFrom may b given
+  polled-again given g = record {
+    answered = λ c asked h p. g.answered c asked (goes-on c.session h) (same-planned c asked p);
+    stopped = λ c asked h p. g.stopped c asked (goes-on c.session h) (same-planned c asked p);
+    same = record { server = g.same.server ∙ same.server; most = g.same.most ∙ same.most };
+  }
+
+  -- memory ran out
+  pub polled-failed : (client : ClientOf S) (e : NoMemory) → client ≡ new.client → GivesUp may new client → GivesFrom may b (client, Err e)
+  polled-failed client e is up = record {
+    answered = λ c asked h p. tt;
+    stopped = λ c asked h p. up c asked (goes-on c.session h) (same-planned c asked p);
+    same = subst (λ (later : ClientOf S). IsSameClient b.client later) (sym is) same;
+  }

@@ -1,0 +1,223 @@
+//! A client that is answered by hand: the caller asks its sources itself.
+
+ghost use Rattle.std.specs.Prelude.{◌≡◌, ◌≤◌, ◌↔◌, length, true, slice_get, IfOk, IfSome, OnOk, OnErr, IsErrOf};
+ghost use Rattle.rounds_by_hand.specs.Hands.{handed, over, IsOver, pending_in};
+ghost use Rattle.rounds_by_hand.specs.Pending.{TakesAnswer, is_in_at};
+ghost use Rattle.server.specs.Clients.{IsSameClient};
+ghost use Rattle.server.specs.Hands.{IsFinished, IsStepOf};
+
+use crate::bounded::BoundedPlan;
+use crate::client::ClientSession;
+use crate::planned::PlannedRequest;
+use gq_resolve::RootState;
+use load_memory::{Item, NoMemory};
+use load_queue::{Asks, FetchFault};
+use load_rounds::Answer;
+use request_line::LineReader;
+use request_plans::KeptDocuments;
+use rounds_by_hand::{Advance, Hand, Pending, TakeFault};
+use std::alloc::{AllocError, Global};
+use std::marker::Model;
+
+/// What a call of [`ByHand::advance`] did.
+#[derive(Drop)]
+pub enum Step {
+    /// What was asked is answered, or refused.
+    Answered(Answer),
+    /// A new round is out. Its orders are to be answered.
+    Round,
+    /// Nothing: the round that is out has an order that isn't answered.
+    Waiting,
+    /// Nothing: it has answered, or memory ran out.
+    Over,
+}
+
+/// What was asked of a client, on its way to the answer, in rounds that the caller runs. It owns the client meanwhile, so no one else can
+/// change its session.
+///
+/// It is used in turns. [`advance`](ByHand::advance) returns the answer, or a new round is out: then the caller answers each of its orders
+/// ([`orders`](ByHand::orders)) by its number, in any order ([`answer`](ByHand::answer)), and advances again. How it asks, and what, is
+/// the caller's affair: one source after another, or all at the same time. At any time it gives the client back
+/// ([`into_client`](ByHand::into_client)).
+///
+/// A contract sees the client, what is planned, and how far that is. What was done since it was begun is `IsUnderway` of
+/// `specs/Hands.antt`: each call keeps it, and in the end it says of the answer what [`ClientSession::answer`] says.
+#[derive(Drop)]
+pub struct ByHand<'p, S> {
+    alloc: Global,
+    documents: KeptDocuments,
+    lines: LineReader,
+    max_answer: Option<usize>,
+    planned: &'p PlannedRequest,
+    hand: Hand<'p, S, BoundedPlan, RootState<'p>>,
+}
+
+impl<'p, S> Model for ByHand<'p, S> {
+    ghost use Rattle.std.specs.Coded.{codes};
+    ghost use Rattle.gq_parser.specs.contracts.tree.TypeRef as type_ref;
+    ghost use Rattle.gq_parser.specs.contracts.tree.Literal as literal;
+    ghost use Rattle.gq_parser.specs.contracts.tree.Argument as argument;
+    ghost use Rattle.gq_parser.specs.contracts.tree.Field as field;
+    ghost use Rattle.gq_parser.specs.contracts.tree.Inline as inline;
+    ghost use Rattle.gq_parser.specs.contracts.tree.SelectionSet as set;
+    ghost use Rattle.gq_schema.specs.contracts.input.Input as input;
+    ghost use Rattle.server.specs.Clients.{client_of};
+    ghost use Rattle.server.specs.Hands.{ByHandOf, HoldsByHand, by_hand_of};
+
+    ghost Value = { ByHandOf S };
+
+    ghost coded = { Prim.hlevel (codes, type_ref.the_row.coded, literal.the_row.coded, argument.the_row.coded, field.the_row.coded, inline.the_row.coded, set.the_row.coded, input.the_row.coded, S.code) };
+
+    ghost view = { λ b. by_hand_of (client_of b.documents.server b.max_answer b.hand.session) b.planned.now b.hand.far };
+
+    ghost invariant = { λ b. HoldsByHand (client_of b.documents.server b.max_answer b.hand.session) b.planned.now b.hand };
+}
+
+impl<S> ClientSession<S> {
+    ghost use Rattle.server.specs.Hands.{by_hand_of};
+
+    /// What was planned, to be answered in this client's session by hand. Nothing is done before the first call of
+    /// [`advance`](ByHand::advance), and it takes no memory. What was planned by this client, or by another of its server, may be
+    /// answered; [`can_answer`](ClientSession::can_answer) tells where that isn't known.
+    pub fn by_hand<'p>(self, planned: &'p PlannedRequest) -> ByHand<'p, S>
+        requires { planned.now.loaders ≤ length self.session.loaders }
+        ensures { result ≡ by_hand_of self planned.now handed }
+    {
+        let ClientSession {
+            alloc,
+            documents,
+            lines,
+            session,
+            max_answer,
+        } = self;
+        ByHand {
+            alloc,
+            documents,
+            lines,
+            max_answer,
+            planned,
+            hand: Hand::new(session, &planned.plans),
+        }
+    }
+}
+
+// What is made of what the hand did.
+fn step_of(alloc: Global, planned: &PlannedRequest, advance: Advance) -> Result<Step, AllocError>
+    ensures made { IfOk result (IsStepOf planned.now advance) }
+    // Only a response takes memory.
+    ensures finished { OnErr result (IsFinished advance) }
+{
+    match advance {
+        Advance::Finished(answers) => Ok(Step::Answered(planned.response(alloc, answers)?)),
+        Advance::Round => Ok(Step::Round),
+        Advance::Waiting => Ok(Step::Waiting),
+        Advance::Over => Ok(Step::Over),
+    }
+}
+
+impl<'p, S> ByHand<'p, S> {
+    /// The orders of the round that is out, each with its reply once it is answered. There are none where no round is out.
+    pub fn orders(&self) -> &[Pending]
+        ensures { result.now ≡ pending_in self.now.far }
+    {
+        self.hand.orders()
+    }
+}
+
+impl<'p, S: Asks> ByHand<'p, S> {
+    ghost use Rattle.server.specs.Hands.{AsksAndSteps, Ends, GivesUp, GoesOn, GoesOnIfMay, Responds, Steps};
+
+    /// Stores the round that is out, if each of its orders is answered, and goes on over what is known then: returns the answer, or makes
+    /// the next round. The first call begins. A request that is refused is answered by each call, and no round is made.
+    ///
+    /// # Errors
+    ///
+    /// Only when out of memory: the finished rounds stay, and a round that was out is lost. It is over then, unless it is a request that is
+    /// refused, which can be asked for again.
+    pub fn advance(&mut self) -> Result<Step, NoMemory>
+        ensures stepped { IfOk result (Steps self.old self.new) }
+        ensures ended { OnErr result (Ends self.old self.new) }
+        ensures underway { GoesOn S.may_tell self.old self.new }
+        ensures answered { IfOk result (Responds S.may_tell self.old self.new) }
+        ensures same { IsSameClient self.old.client self.new.client }
+        ensures planned { self.new.planned ≡ self.old.planned }
+    {
+        if self.planned.is_refused() {
+            return Ok(Step::Answered(self.planned.response(self.alloc, Vec::new(self.alloc))?));
+        }
+        let advance = self.hand.advance()?;
+        Ok(step_of(self.alloc, self.planned, advance)?)
+    }
+
+    /// Does what [`advance`](ByHand::advance) does, but asks the sources of the session for the orders that nobody has answered. So it never
+    /// waits.
+    ///
+    /// # Errors
+    ///
+    /// Those of [`advance`](ByHand::advance).
+    pub fn ask_and_advance(&mut self) -> Result<Step, NoMemory>
+        ensures stepped { IfOk result (AsksAndSteps self.old self.new) }
+        ensures ended { OnErr result (Ends self.old self.new) }
+        ensures underway { GoesOn S.may_tell self.old self.new }
+        ensures answered { IfOk result (Responds S.may_tell self.old self.new) }
+        ensures same { IsSameClient self.old.client self.new.client }
+        ensures planned { self.new.planned ≡ self.old.planned }
+    {
+        if self.planned.is_refused() {
+            return Ok(Step::Answered(self.planned.response(self.alloc, Vec::new(self.alloc))?));
+        }
+        let advance = self.hand.ask_and_advance()?;
+        Ok(step_of(self.alloc, self.planned, advance)?)
+    }
+
+    /// Answers the order of this number in the round that is out, with items that came from elsewhere, or with a fault of the whole batch.
+    /// An answer that hasn't an item for each key fails the batch.
+    ///
+    /// # Errors
+    ///
+    /// [`NoSuchOrder`](TakeFault::NoSuchOrder) and [`Answered`](TakeFault::Answered): nothing has changed then.
+    /// [`NoMemory`](TakeFault::NoMemory) when out of memory, or where that is the answer: the round is lost, and it is over.
+    pub fn answer(
+        &mut self,
+        number: usize,
+        answer: Result<Vec<Item>, FetchFault>,
+    ) -> Result<(), TakeFault>
+        ensures no_order { IsErrOf result TakeFault.NoSuchOrder ↔ (length (pending_in self.old.far) ≤ number) }
+        ensures answered { IsErrOf result TakeFault.Answered ↔ (is_in_at (slice_get (pending_in self.old.far) number) ≡ true) }
+        ensures none { IsErrOf result TakeFault.NoSuchOrder → self.new ≡ self.old }
+        ensures kept { IsErrOf result TakeFault.Answered → self.new ≡ self.old }
+        ensures over { IsErrOf result TakeFault.NoMemory → IsOver self.new.far }
+        ensures taken { OnOk result (TakesAnswer (pending_in self.old.far) number answer (pending_in self.new.far)) }
+        // It is still as the sources may answer, if this answer is.
+        ensures underway { OnOk result (IfSome (slice_get (pending_in self.old.far) number)
+            (GoesOnIfMay S.may_tell answer self.old self.new)) }
+        ensures stopped { OnErr result (GoesOn S.may_tell self.old self.new) }
+        ensures client { self.new.client ≡ self.old.client }
+        ensures planned { self.new.planned ≡ self.old.planned }
+    {
+        self.hand.answer(number, answer)
+    }
+
+    /// Gives the client back, whatever is done. The finished rounds stay in its session; a round that is out is lost, and its batches stay
+    /// in the logs as not stored.
+    pub fn into_client(self) -> ClientSession<S>
+        ensures client { result ≡ self.entry.client }
+        ensures stopped { GivesUp S.may_tell self.entry result }
+    {
+        let ByHand {
+            alloc,
+            documents,
+            lines,
+            max_answer,
+            hand,
+            ..
+        } = self;
+        ClientSession {
+            alloc,
+            documents,
+            lines,
+            session: hand.into_session(),
+            max_answer,
+        }
+    }
+}

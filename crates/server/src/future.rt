@@ -1,0 +1,75 @@
+//! Answers as futures.
+
+ghost use Rattle.std.specs.Prelude.{◌≡◌, ◌≤◌, length, true, Some};
+ghost use Rattle.futures.specs.Poll.{IfReady, OnPending};
+ghost use Rattle.futures.specs.Task.{Covers, Keeps};
+ghost use Rattle.rounds_by_hand.specs.Hands.{handed};
+
+use crate::by_hand::{ByHand, Step};
+use crate::client::ClientSession;
+use crate::planned::PlannedRequest;
+use futures::Future;
+use futures::task::{Context, Poll};
+use load_memory::NoMemory;
+use load_queue::Asks;
+use load_rounds::Answer;
+
+/// A future of an answer, which owns its client meanwhile. Its output is the client and the answer, or that memory ran out. Each poll
+/// makes one round at most, over the sources of the session, and asks to be polled again; the first one begins. A request that is refused
+/// is answered by the first poll.
+#[derive(Drop)]
+pub struct ClientAnswering<'p, S> {
+    by_hand: Option<ByHand<'p, S>>,
+}
+
+impl<S> ClientSession<S> {
+    ghost use Rattle.server.specs.Hands.{by_hand_of, CanPoll};
+
+    /// The answer to what was planned, as a future. Nothing is done before the first poll, and it takes no memory. Its output says what
+    /// [`answer`](ClientSession::answer) says, of this client as it is handed in.
+    pub fn into_answering<'p>(self, planned: &'p PlannedRequest) -> ClientAnswering<'p, S>
+        requires { planned.now.loaders ≤ length self.session.loaders }
+        ensures begun { result.by_hand ≡ Some (by_hand_of self planned.now handed) }
+        ensures can { CanPoll result.by_hand }
+    {
+        ClientAnswering {
+            by_hand: Some(self.by_hand(planned)),
+        }
+    }
+}
+
+impl<'p, S: Asks + Drop> Future for ClientAnswering<'p, S> {
+    ghost use Rattle.server.specs.Hands.{CanPoll, Gives};
+
+    type Output = (ClientSession<S>, Result<Answer, NoMemory>);
+
+    ghost can_poll = { λ a. CanPoll a.by_hand };
+
+    ghost gives = { λ a out. Gives S.may_tell a.by_hand out };
+
+    ghost needs = { λ a s. ⊥ };
+
+    fn poll(&mut self, cx: &mut Context<'_>) -> Poll<(ClientSession<S>, Result<Answer, NoMemory>)>
+        requires { CanPoll self.old.by_hand }
+        ensures value { IfReady result (λ out. Gives S.may_tell self.old.by_hand out) }
+        ensures again { OnPending result (CanPoll self.new.by_hand) }
+        ensures same { OnPending result ((out : _) → Gives S.may_tell self.new.by_hand out → Gives S.may_tell self.old.by_hand out) }
+        ensures registered { OnPending result (Covers cx.new (λ _. ⊥)) }
+        ensures kept { Keeps cx.old cx.new }
+        ensures yielded { OnPending result (cx.new.is_woken ≡ true) }
+    {
+        let Some(by_hand) = self.by_hand.take() else {
+            unreachable!()
+        };
+        let mut by_hand = by_hand;
+        match by_hand.ask_and_advance() {
+            Ok(Step::Answered(answer)) => Poll::Ready((by_hand.into_client(), Ok(answer))),
+            Ok(Step::Round) => {
+                self.by_hand = Some(by_hand);
+                cx.yield_now()
+            }
+            Ok(Step::Waiting) | Ok(Step::Over) => unreachable!(),
+            Err(fault) => Poll::Ready((by_hand.into_client(), Err(fault))),
+        }
+    }
+}
