@@ -1,6 +1,7 @@
 pub mod Asking
 pub mod Bounding
 pub mod Handing
+pub mod Crossing
 pub mod Limits
 pub mod Loaders
 pub mod Opened

@@ -24,6 +24,7 @@ mod opening;
 mod planned;
 mod runner;
 mod serving;
+mod threads;
 
 pub use batch_workers::WorkFault;
 pub use by_hand::{ByHand, Step};

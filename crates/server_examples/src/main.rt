@@ -208,6 +208,16 @@ fn restart(alloc: Global, session: &mut ClientSession<Books>) -> anyhow::Result<
     Ok(format!(in alloc; "{asked} batches, then {left}")?)
 }
 
+// How many calls execution one key at a time makes for a request, which asks for a key as often as it is needed.
+fn loads_read(alloc: Global, server: &Server) -> anyhow::Result<String> {
+    let mut session = server.session(alloc, None, |_line| Books)?;
+    let text = "{\"query\":\"{books(ids:[1,2,1,3]){title}}\"}";
+    session.answer_text(text.as_bytes())?;
+    let calls = session.loads_read(text.as_bytes())?;
+    let batches = session.session().logs(BOOK_BY_ID).unwrap_or(&[]).len();
+    Ok(format!(in alloc; "{calls} calls, and {batches} batch was asked")?)
+}
+
 // The lines of any reader, to any writer.
 fn serve_lines(alloc: Global, session: &mut ClientSession<Books>) -> anyhow::Result<String> {
     let mut reader = Counted::new("{\"query\":\"{book(id:1){title}}\"}\n[]\n".as_bytes());
@@ -283,5 +293,6 @@ fn main(rt: HostRuntime) -> anyhow::Result<()> {
     println!(rt; "by_hand: {}", by_hand(alloc, &server)?)?;
     println!(rt; "refused by hand: {}", refused_by_hand(alloc, &server)?)?;
     println!(rt; "into_answering: {}", as_a_future(&rt, &server)?)?;
+    println!(rt; "loads_read: {}", loads_read(alloc, &server)?)?;
     Ok(())
 }

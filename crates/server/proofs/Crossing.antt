@@ -1,0 +1,93 @@
+-- What may go to other threads, and what they may share, in steps: the prover keeps no such proof of a type that holds one that holds itself, as
+-- a schema holds values, and searches through it at each demand. `server_send`, `server_sync` and `client_send` are for those who start threads.
+-- Assumes nothing.
+use denote.RattleType.{RattleType}
+use denote.Param.Send.{IsSend, IsSync, sendable}
+use denote.Param.SendFields.{declared_send}
+use Rattle.std.proofs.Crossing as over
+use Rattle.std.proofs.MapsCrossing as maps
+use Rattle.gq_parser.proofs.tree.Selection.TheLaws.TheKnot as selection
+use Rattle.gq_parser.proofs.tree.TypeRef.TheLaws.TheKnot as type_ref
+use Rattle.gq_parser.proofs.tree.Value.TheLaws.TheKnot as value
+use Rattle.gq_parser.specs.contracts.tree.Fragment as fragment
+use Rattle.gq_parser.specs.contracts.tree.Operation as operation
+use Rattle.gq_schema.specs.contracts.schema.Schema as schema
+use Rattle.gq_bindings.specs.contracts.read.Bindings as bindings
+use Rattle.gq_bindings.proofs.read.Bindings.TheSendSync as bindings_cross
+use Rattle.gq_check.specs.contracts.kept.KeptDocument as kept
+use Rattle.request_plans.specs.contracts.server.Server as server
+use Rattle.request_plans.specs.contracts.documents.KeptDocuments as documents
+use Rattle.gq_check.specs.contracts.checked.Checked as checked
+use Rattle.gq_check.specs.contracts.plan.Plan as plan
+use Rattle.gq_schema.proofs.input.Input.TheLaws.TheKnot as input
+use Rattle.variable_values.specs.contracts.variable.Variable as variable
+use Rattle.request_plans.specs.contracts.plans.RequestPlan as request_plan
+use Rattle.request_plans.specs.contracts.plans.ArrayPlan as array_plan
+use Rattle.load_rounds.proofs.session.Session.TheSendSync as session
+use Rattle.request_line.specs.contracts.reader.LineReader as reader
+use Rattle.serde_json.proofs.value.Value.TheLaws.TheKnot as json
+use Rattle.server.specs.contracts.client.ClientSession as client
+use Rattle.server.specs.contracts.client.ClientSession.TheInside as inside
+
+pub schema_send : IsSend schema.the_row
+schema_send = search (over.crosses, maps.crosses, sendable, value.send-Literal, type_ref.send-TypeRef) depth 40 fits 10000
+
+pub schema_sync : IsSync schema.the_row
+schema_sync = search (over.crosses, maps.crosses, sendable, value.sync-Literal, type_ref.sync-TypeRef) depth 40 fits 10000
+
+pub operation_send : IsSend operation.the_row
+operation_send = search (over.crosses, maps.crosses, sendable, value.send-Literal, value.send-Argument, type_ref.send-TypeRef, selection.send-SelectionSet) depth 40 fits 10000
+
+pub operation_sync : IsSync operation.the_row
+operation_sync = search (over.crosses, maps.crosses, sendable, value.sync-Literal, value.sync-Argument, type_ref.sync-TypeRef, selection.sync-SelectionSet) depth 40 fits 10000
+
+pub server_send : IsSend server.the_row
+server_send = search (over.crosses, sendable, schema_send, schema_sync, bindings_cross.the_send, bindings_cross.the_sync) depth 20
+
+pub server_sync : IsSync server.the_row
+server_sync = search (over.crosses, sendable, schema_send, schema_sync, bindings_cross.the_send, bindings_cross.the_sync) depth 20
+
+pub fragment_send : IsSend fragment.the_row
+fragment_send = search (over.crosses, maps.crosses, sendable, value.send-Literal, value.send-Argument, selection.send-SelectionSet) depth 40 fits 10000
+
+pub fragment_sync : IsSync fragment.the_row
+fragment_sync = search (over.crosses, maps.crosses, sendable, value.sync-Literal, value.sync-Argument, selection.sync-SelectionSet) depth 40 fits 10000
+
+pub variable_send : IsSend variable.the_row
+variable_send = search (over.crosses, maps.crosses, sendable, input.send-Input) depth 40 fits 10000
+
+pub variable_sync : IsSync variable.the_row
+variable_sync = search (over.crosses, maps.crosses, sendable, input.sync-Input) depth 40 fits 10000
+
+pub checked_send : IsSend checked.the_row
+checked_send = search (over.crosses, sendable, schema_send, schema_sync, operation_send, fragment_send) depth 20
+
+pub kept_send : IsSend kept.the_row
+kept_send = search (over.crosses, maps.crosses, sendable, schema_send, schema_sync, operation_send, operation_sync, fragment_send, fragment_sync) depth 40 fits 10000
+
+pub kept_sync : IsSync kept.the_row
+kept_sync = search (over.crosses, maps.crosses, sendable, schema_send, schema_sync, operation_send, operation_sync, fragment_send, fragment_sync) depth 40 fits 10000
+
+pub plan_send : IsSend plan.the_row
+plan_send = search (over.crosses, maps.crosses, sendable, schema_send, schema_sync, bindings_cross.the_send, bindings_cross.the_sync, operation_send, operation_sync, fragment_send, fragment_sync, variable_send) depth 40 fits 10000
+
+pub plan_sync : IsSync plan.the_row
+plan_sync = search (over.crosses, maps.crosses, sendable, schema_send, schema_sync, bindings_cross.the_send, bindings_cross.the_sync, operation_send, operation_sync, fragment_send, fragment_sync, variable_sync) depth 40 fits 10000
+
+pub request_plan_send : IsSend request_plan.the_row
+request_plan_send = search (over.crosses, maps.crosses, sendable, plan_send) depth 20
+
+pub array_plan_send : IsSend array_plan.the_row
+array_plan_send = search (over.crosses, maps.crosses, sendable, plan_send) depth 20
+
+pub documents_send : IsSend documents.the_row
+documents_send = search (over.crosses, maps.crosses, sendable, server_send, kept_send) depth 40 fits 10000
+
+pub reader_send : IsSend reader.the_row
+reader_send = search (over.crosses, maps.crosses, sendable, json.send-Value) depth 40 fits 10000
+
+pub inside_send : (S : RattleType) → IsSend S → IsSend (inside.the_row S)
+inside_send S s = declared_send (inside.the_type S) (search sendable depth 20, (search documents_send, (search reader_send, (search (session.the_send, sendable, s) depth 20, (search sendable depth 20, tt)))))
+
+pub client_send : (S : RattleType) → IsSend S → IsSend (client.the_row S)
+client_send S s = let i = inside_send S s in record { owned = λ d vs x. (i.owned x.0 vs, tt); leaving = λ k d w. tt }

@@ -1,0 +1,55 @@
+//! What may go to other threads, and what they may share. The check proves it of these types at the calls here, of which none is made at
+//! run time. So a type that ceases to be so is refused here, and not first in the crate of someone who starts threads.
+
+use crate::client::ClientSession;
+use gq_check::{Checked, KeptDocument, Plan};
+use request_plans::{ArrayPlan, KeptDocuments, RequestPlan, Server};
+use std::marker::{Send, Sync};
+
+fn goes<T: Send>(_: &T) {}
+
+fn is_shared<T: Sync>(_: &T) {}
+
+fn server_goes(server: &Server) {
+    goes(server)
+}
+
+fn server_is_shared(server: &Server) {
+    is_shared(server)
+}
+
+fn plan_goes(plan: &Plan) {
+    goes(plan)
+}
+
+fn plan_is_shared(plan: &Plan) {
+    is_shared(plan)
+}
+
+fn kept_document_goes(kept_document: &KeptDocument) {
+    goes(kept_document)
+}
+
+fn kept_document_is_shared(kept_document: &KeptDocument) {
+    is_shared(kept_document)
+}
+
+fn checked_goes(checked: &Checked) {
+    goes(checked)
+}
+
+fn request_plan_goes(request_plan: &RequestPlan) {
+    goes(request_plan)
+}
+
+fn array_plan_goes(array_plan: &ArrayPlan) {
+    goes(array_plan)
+}
+
+fn kept_documents_goes(kept_documents: &KeptDocuments) {
+    goes(kept_documents)
+}
+
+fn client_goes<S: Send>(client: &ClientSession<S>) {
+    goes(client)
+}
