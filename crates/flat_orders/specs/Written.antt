@@ -46,6 +46,11 @@ all_texts lists = flat_map texts_in (keys_in lists)
 abbrev pub size_of : List (List ℕ) → ℕ
 size_of texts = sum_by length texts
 
+-- buffers are of just the size that the lists take: for the numbers of keys, the numbers of texts, the ends and the bytes
+abbrev pub AreOfSize : List (List KeyOf) → List ℕ → List ℕ → List ℕ → List ℕ → Type 0
+AreOfSize lists counts shapes ends bytes = (length counts ≡ length lists) × (length shapes ≡ length (keys_in lists))
+    × (length ends ≡ length (all_texts lists)) × (length bytes ≡ size_of (all_texts lists))
+
 -- these buffers are the lists, written
 pub record AreWritten (lists : List (List KeyOf)) (counts shapes : List ℕ) (texts : List (List ℕ)) : Type 0 where
   pub counts_are : counts ≡ map length lists

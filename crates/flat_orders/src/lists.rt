@@ -3,7 +3,7 @@ ghost use Rattle.std.specs.Prelude.{◌≡◌, ◌++◌, ◌∷◌, [], IfOk, On
 ghost use Rattle.load_memory.specs.Cells.{cut};
 ghost use Rattle.load_memory.specs.Keys.{key_of};
 ghost use Rattle.std.specs.List.{flat_map};
-ghost use Rattle.flat_orders.specs.Written.{all_texts, keys_in, lists_said, shape_of, size_of, texts_in};
+ghost use Rattle.flat_orders.specs.Written.{AreOfSize, all_texts, keys_in, lists_said, shape_of, size_of, texts_in};
 
 use crate::texts::{TextBuffer, WrongSize};
 use load_memory::{Key, NoMemory};
@@ -151,8 +151,7 @@ impl KeyLists {
     ) -> Result<(), WrongSize>
         ensures copied { OnOk result (lists_said counts.new shapes.new (cut bytes.new 0 ends.new) ≡ self.now) }
         ensures kept { OnErr result ((counts.new ≡ counts.old) × (shapes.new ≡ shapes.old) × (ends.new ≡ ends.old) × (bytes.new ≡ bytes.old)) }
-        ensures refused { OnErr result (¬ ((length counts.old ≡ length self.now) × (length shapes.old ≡ length (keys_in self.now))
-            × (length ends.old ≡ length (all_texts self.now)) × (length bytes.old ≡ size_of (all_texts self.now)))) }
+        ensures refused { OnErr result (¬ (AreOfSize self.now counts.old shapes.old ends.old bytes.old)) }
     {
         if counts.len() != self.counts.len() || shapes.len() != self.shapes.len() {
             return Err(WrongSize);

@@ -99,8 +99,8 @@ impl FlatOrders {
         bytes: &mut [u8],
     ) -> Result<(), WrongSize>
         ensures copied { OnOk result (orders_said loaders.new counts.new shapes.new (cut bytes.new 0 ends.new) ≡ self.now) }
-        ensures numbers { OnErr result ((loaders.new ≡ loaders.old) × (counts.new ≡ counts.old) × (shapes.new ≡ shapes.old)) }
-        ensures texts { OnErr result ((ends.new ≡ ends.old) × (bytes.new ≡ bytes.old)) }
+        ensures kept { OnErr result ((loaders.new ≡ loaders.old) × (counts.new ≡ counts.old) × (shapes.new ≡ shapes.old)) }
+        ensures kept_texts { OnErr result ((ends.new ≡ ends.old) × (bytes.new ≡ bytes.old)) }
     {
         if loaders.len() != self.loaders.len() {
             return Err(WrongSize);
