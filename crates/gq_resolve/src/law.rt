@@ -16,8 +16,8 @@ ghost use Rattle.plan_program.specs.PlanPrograms.{plan_program};
 /// calls, just as many as loads are counted. What answers more is asked as often then: so the sources of a memory are, where each of its
 /// pairs is what they answer to its key.
 pub fn loads_are_calls()
-    ensures each { (p : Program) (R : Reader) (calls : List _) (t : _) → IsKeyByKey p calls t → AreGivenBy R calls
-        → (called_loads calls ≡ needs p R) × (t ≡ tree p R) }
+    ensures each { (p : Program) (R : Reader) (cs : List _) (t : _) → IsKeyByKey p cs t → AreGivenBy R cs
+        → (called_loads cs ≡ needs p R) × (t ≡ tree p R) }
     ensures some { (p : Program) (R : Reader) → is_open (tree p R) ≡ false → MakesCalls p R (count_read p R) }
     ensures only { (p : Program) (R : Reader) (count : ℕ) → MakesCalls p R count → count ≡ count_read p R }
     ensures more { (p : Program) (R Q : Reader) → AnswersMore R Q → is_open (tree p R) ≡ false → count_read p Q ≡ count_read p R }
