@@ -22,6 +22,9 @@ max_answer_rule = record (new_rule (codes "max-answer")) { long = Some (codes "m
 abbrev pub explain_rule : Rule
 explain_rule = record (new_rule (codes "explain")) { long = Some (codes "explain"); action = Some SetTrue }
 
+abbrev pub trace_rule : Rule
+trace_rule = record (new_rule (codes "trace")) { long = Some (codes "trace"); value_names = 1 }
+
 abbrev pub requests_rule : Rule
 requests_rule = record (new_rule (codes "REQUESTS")) { required = true }
 
@@ -34,8 +37,8 @@ unnamed = let a : App = new_app (codes "query_cli") in record a { top = record a
 
 -- the options
 abbrev pub options : App
-options = with_rule (with_rule (with_rule (with_rule (with_rule (with_rule unnamed schema_rule) bindings_rule) workers_rule) max_batch_rule) max_answer_rule) explain_rule
+options = with_rule (with_rule (with_rule (with_rule (with_rule (with_rule (with_rule unnamed schema_rule) bindings_rule) workers_rule) max_batch_rule) max_answer_rule) explain_rule) trace_rule
 
--- two files, three numbers and a flag if wanted, a file of requests, and any number of tables
+-- two files, three numbers, a flag and a file of a trace if wanted, a file of requests, and any number of tables
 abbrev pub command_line : App
 command_line = with_rule (with_rule options requests_rule) table_rule

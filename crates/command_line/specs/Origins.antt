@@ -53,6 +53,7 @@ origin_of_serve serve.ReadFault = in_file file.Requests location.Whole
 origin_of_serve serve.WriteFault = Some (record { subject = subject.Output; location = location.Whole })
 origin_of_serve serve.NoMemory = None
 origin_of_serve serve.BadCount = None
+origin_of_serve serve.TraceFault = Some (record { subject = subject.Trace; location = location.Whole })
 
 -- where a fault is by itself; of a table and of a file the end alone can't tell
 abbrev pub origin_of : Stop → Option Origin
@@ -64,12 +65,13 @@ origin_of (stop.Table fault) = None
 origin_of stop.File = None
 origin_of (stop.Serve fault) = origin_of_serve fault
 
--- the file that couldn't be opened, or the place of a fault in what was read
+-- the file that couldn't be opened or created, or the place of a fault in what was read
 abbrev pub origin_of_opening : OpenFault → Option Origin
 origin_of_opening (opening.Unread input reason) = in_file input (location.Reason reason)
 origin_of_opening (opening.Table place fault (Some reason)) = in_file (file.Table place) (location.Reason reason)
 origin_of_opening (opening.Table place fault None) = in_file (file.Table place) location.Whole
 origin_of_opening (opening.World fault) = origin_of_world fault
+origin_of_opening (opening.Uncreated reason) = Some (record { subject = subject.Trace; location = location.Reason reason })
 origin_of_opening opening.NoMemory = None
 
 -- the path of a file of the words
@@ -79,10 +81,15 @@ path_of words file.Bindings = string_bytes words.files.bindings
 path_of words (file.Table place) = option_map_or (λ t. string_bytes t.file) (slice_get words.files.tables.items place) []
 path_of words file.Requests = string_bytes words.requests
 
+-- the path of the trace's file, empty where nothing is traced
+abbrev pub trace_of : Words → List ℕ
+trace_of words = option_map_or string_bytes words.trace []
+
 -- the name of what a fault is about
 abbrev pub file_of : Words → Subject → List ℕ
 file_of words (subject.Input input) = path_of words input
 file_of words subject.Output = codes "standard output"
+file_of words subject.Trace = trace_of words
 
 -- The file, and where in it: behind colons a line and a column, or behind a colon and a space what the system says. A fault of
 -- the bindings in line 0 is in no line.

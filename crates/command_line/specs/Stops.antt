@@ -39,6 +39,7 @@ status_of_serve serve.LineTooLong = 4
 status_of_serve serve.ReadFault = 4
 status_of_serve serve.WriteFault = 4
 status_of_serve serve.NoMemory = 5
+status_of_serve serve.TraceFault = 4
 
 -- the exit status
 abbrev pub status_of : Stop → ℕ
@@ -71,9 +72,10 @@ line_of (stop.Table fault) = line_of_table fault
 line_of stop.File = codes "X2 ReadFault"
 line_of (stop.Serve fault) = serving.code_and_name fault
 
--- how a run ends where files can't be opened
+-- how a run ends where files can't be opened or created
 abbrev pub stop_of : OpenFault → Stop
 stop_of (opening.Unread file reason) = stop.File
 stop_of (opening.Table place fault reason) = stop.Table fault
 stop_of (opening.World fault) = stop.World fault
+stop_of (opening.Uncreated reason) = stop.Serve serve.TraceFault
 stop_of opening.NoMemory = stop.Serve serve.NoMemory

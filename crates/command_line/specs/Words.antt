@@ -1,5 +1,5 @@
 -- The parts of a command line.
-use Rattle.std.specs.Prelude.{◌≡◌, ◌≢◌, ◌⊎◌, ◌<◌, ◌^◌, ℕ, List, [], ◌∷◌, ◌++◌, Bool, true, false, Option, Some, None, MatchOption, Any, codes, map, string_bytes, unwrap_or}
+use Rattle.std.specs.Prelude.{◌≡◌, ◌≢◌, ◌⊎◌, ◌<◌, ◌^◌, ℕ, List, [], ◌∷◌, ◌++◌, Bool, true, false, Option, Some, None, MatchOption, Any, codes, map, option_map, string_bytes, unwrap_or}
 use Rattle.std.specs.Global.{Vec}
 use Rattle.std.specs.List.{All}
 use Rattle.std.specs.Option.{SomeIff}
@@ -59,6 +59,7 @@ pub record IsWords (rows : List Row) (words : Words) : Type 0 where
   pub max_batch : IsNumber (one_of (codes "max-batch") rows) words.files.max_batch
   pub max_answer : IsNumber (one_of (codes "max-answer") rows) words.max_answer
   pub explain : IsFlag (one_of (codes "explain") rows) words.explain
+  pub trace : option_map string_bytes words.trace ≡ first_of (codes "trace") rows
   pub requests : string_bytes words.requests ≡ text_at rows (codes "REQUESTS")
   pub tables : AreTables (table_words rows) words.files.tables.items
 

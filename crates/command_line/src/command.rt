@@ -2,7 +2,7 @@
 
 ghost use Rattle.std.specs.Prelude.{◌≡◌, IfOk, false};
 ghost use Rattle.clap.specs.Words.{app_of, rule_of};
-ghost use Rattle.command_line.specs.Command.{command_line, schema_rule, bindings_rule, workers_rule, max_batch_rule, max_answer_rule, explain_rule, requests_rule, table_rule};
+ghost use Rattle.command_line.specs.Command.{command_line, schema_rule, bindings_rule, workers_rule, max_batch_rule, max_answer_rule, explain_rule, trace_rule, requests_rule, table_rule};
 
 use clap::{Arg, ArgAction, Command};
 use std::alloc::{AllocError, Global};
@@ -58,6 +58,16 @@ fn explain<'a>(alloc: Global) -> Arg<'a>
         .help("Where a fault ends the run, say in a second line in which file it is, and where")
 }
 
+// The option for the file of a trace.
+fn trace<'a>(alloc: Global) -> Arg<'a>
+    ensures rule { rule_of result ≡ trace_rule }
+    ensures local { result.global ≡ false }
+{
+    Arg::new(alloc, "trace").long("trace").value_name("F").help(
+        "Write a line of JSON for each request line to this file: the batches that were asked for it, round by round",
+    )
+}
+
 // An option for a file.
 fn schema<'a>(alloc: Global) -> Arg<'a>
     ensures rule { rule_of result ≡ schema_rule }
@@ -107,7 +117,7 @@ Exit status:
   0  every line was answered, or help or the version was asked for
   2  the command line is refused
   3  the schema, the bindings or a table is refused
-  4  a file can't be opened or read, a line is too long, or an answer can't be written
+  4  a file can't be opened or read, a line is too long, or an answer or the trace can't be written
   5  memory was refused
 
 Examples:
@@ -129,6 +139,7 @@ pub fn command<'a>(alloc: Global) -> Result<Command<'a>, AllocError>
         .arg(max_batch(alloc))?
         .arg(max_answer(alloc))?
         .arg(explain(alloc))?
+        .arg(trace(alloc))?
         .arg(requests(alloc))?
         .arg(tables(alloc))
 }

@@ -2,7 +2,7 @@
 
 ghost use Rattle.std.specs.Prelude.{◌≡◌, IfOk, IfSome, None, string_bytes};
 ghost use Rattle.command_line.specs.Stops.{stop_of};
-ghost use Rattle.command_line.specs.Origins.{in_file, origin_of_schema, origin_of_world, origin_of_serve, origin_of, origin_of_opening, path_of, file_of, IsWritten, Explains};
+ghost use Rattle.command_line.specs.Origins.{in_file, origin_of_schema, origin_of_world, origin_of_serve, origin_of, origin_of_opening, path_of, trace_of, file_of, IsWritten, Explains};
 
 use crate::stop::Stop;
 use crate::words::Words;
@@ -21,6 +21,8 @@ pub enum Subject {
     Input(InputFile),
     /// No file of the words, but standard output.
     Output,
+    /// The file of the trace.
+    Trace,
 }
 
 /// Where in a file a fault is, or why the file can't be read.
@@ -111,6 +113,10 @@ fn origin_of_serve(fault: ServeFault) -> Option<Origin>
             subject: Subject::Output,
             location: Location::Whole,
         }),
+        ServeFault::TraceFault => Some(Origin {
+            subject: Subject::Trace,
+            location: Location::Whole,
+        }),
         ServeFault::BadCount | ServeFault::NoMemory => None,
     }
 }
@@ -129,7 +135,7 @@ impl Stop {
     }
 }
 
-// The file that couldn't be opened, or the place of a fault in what was read.
+// The file that couldn't be opened or created, or the place of a fault in what was read.
 fn origin_of_opening(fault: &OpenFault) -> Option<Origin>
     ensures { result ≡ origin_of_opening fault.now }
 {
@@ -146,6 +152,10 @@ fn origin_of_opening(fault: &OpenFault) -> Option<Origin>
             ..
         } => in_file(InputFile::Table(*place), Location::Whole),
         OpenFault::World(fault) => origin_of_world(fault),
+        OpenFault::Uncreated(reason) => Some(Origin {
+            subject: Subject::Trace,
+            location: Location::Reason(*reason),
+        }),
         OpenFault::NoMemory => None,
     }
 }
@@ -187,6 +197,16 @@ impl Words {
         }
     }
 
+    // The path of the trace's file, empty where nothing is traced.
+    fn trace_path(&self) -> &str
+        ensures { result.now ≡ trace_of self.now }
+    {
+        match &self.trace {
+            Some(path) => path.as_str(),
+            None => "",
+        }
+    }
+
     // The name of what a fault is about.
     fn file(&self, subject: Subject) -> &str
         ensures { result.now ≡ file_of self.now subject }
@@ -194,6 +214,7 @@ impl Words {
         match subject {
             Subject::Input(file) => self.path(file),
             Subject::Output => "standard output",
+            Subject::Trace => self.trace_path(),
         }
     }
 }

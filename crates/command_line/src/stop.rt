@@ -27,7 +27,7 @@ pub enum Stop {
     Table(TableFault),
     /// A file can't be opened or read before serving begins, or is no text where it has to be.
     File,
-    /// Serving stopped, or memory ran out before it began.
+    /// Serving stopped, or before it began memory ran out or the file of the trace couldn't be created.
     Serve(ServeFault),
 }
 
@@ -64,7 +64,10 @@ fn status_of_serve(fault: ServeFault) -> u8
 {
     match fault {
         ServeFault::BadCount => 2,
-        ServeFault::LineTooLong | ServeFault::ReadFault | ServeFault::WriteFault => 4,
+        ServeFault::LineTooLong
+        | ServeFault::ReadFault
+        | ServeFault::WriteFault
+        | ServeFault::TraceFault => 4,
         ServeFault::NoMemory => 5,
     }
 }
@@ -109,6 +112,7 @@ impl From<OpenFault> for Stop {
             OpenFault::Unread { .. } => Stop::File,
             OpenFault::Table { fault, .. } => Stop::Table(fault),
             OpenFault::World(fault) => Stop::World(fault),
+            OpenFault::Uncreated(_) => Stop::Serve(ServeFault::TraceFault),
             OpenFault::NoMemory => Stop::Serve(ServeFault::NoMemory),
         }
     }

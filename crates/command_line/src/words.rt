@@ -1,7 +1,7 @@
 //! The words of a command line.
 
-ghost use Rattle.std.specs.Prelude.{◌≡◌, ℕ, List, IfOk, IfErr, MatchOption, map, string_bytes};
-ghost use Rattle.clap.specs.Words.{found_of, kind_of, rows_of, one_of};
+ghost use Rattle.std.specs.Prelude.{◌≡◌, ℕ, List, IfOk, IfErr, MatchOption, map, option_map, string_bytes};
+ghost use Rattle.clap.specs.Words.{found_of, kind_of, rows_of, first_of, one_of};
 ghost use Rattle.command_line.specs.Words.{HasNoEquals, joined, text_at, table_words, NamesTables, IsNumber, IsFlag, IsWords, IsRead, IsRefused, IsUnread, Refuses};
 
 use crate::command::command;
@@ -13,7 +13,7 @@ use std::alloc::{AllocError, Global};
 use world_files::{TableFile, WorldFiles};
 
 /// The parts of a command line: `--schema F --bindings F [--workers N] [--max-batch N]
-/// [--max-answer BYTES] [--explain] REQUESTS [NAME=F]..`.
+/// [--max-answer BYTES] [--explain] [--trace F] REQUESTS [NAME=F]..`.
 #[derive(Debug, Drop)]
 pub struct Words {
     /// The files of the world, with the tables in the order of their words, and the batch limit.
@@ -24,6 +24,8 @@ pub struct Words {
     pub max_answer: Option<u32>,
     /// Whether a run that ends by a fault says where it is.
     pub explain: bool,
+    /// The file of the trace, which is created; `None`: nothing is traced.
+    pub trace: Option<String>,
     /// The file of the request lines.
     pub requests: String,
 }
@@ -53,6 +55,20 @@ fn text_of(alloc: Global, matches: &ArgMatches<'_>, id: &str) -> Result<String, 
     ensures { IfOk result (λ text. string_bytes text ≡ text_at (rows_of (found_of matches.now)) id.now) }
 {
     String::from_str(alloc, matches.get_str(id).unwrap_or(""))
+}
+
+// The text of an option, where it is given.
+fn given_text(
+    alloc: Global,
+    matches: &ArgMatches<'_>,
+    id: &str,
+) -> Result<Option<String>, AllocError>
+    ensures { IfOk result (λ given. option_map string_bytes given ≡ first_of id.now (rows_of (found_of matches.now))) }
+{
+    match matches.get_str(id) {
+        Some(text) => Ok(Some(String::from_str(alloc, text)?)),
+        None => Ok(None),
+    }
 }
 
 // The number of an argument, where it is given.
@@ -125,6 +141,7 @@ fn words_of(alloc: Global, matches: &ArgMatches<'_>) -> Result<Words, Stop>
         workers: number_of(matches, "workers"),
         max_answer: number_of(matches, "max-answer"),
         explain: is_given(matches, "explain"),
+        trace: given_text(alloc, matches, "trace")?,
         requests: text_of(alloc, matches, "REQUESTS")?,
     })
 }

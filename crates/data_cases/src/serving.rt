@@ -3,7 +3,7 @@
 use crate::devices::{Narrow, Slow};
 use crate::keys::bytes_of;
 use anyhow::{Context, Result, bail};
-use line_serving::{Counted, NoMemory, ServeFault, serve};
+use line_serving::{Counted, LineFault, ServeFault, serve};
 use std::alloc::{AllocError, Global};
 use std::io::{ErrorKind, Read};
 
@@ -14,9 +14,9 @@ type Ending = (Result<u64, ServeFault>, u64, u64);
 
 /// The answer of a line: a text, if there is one; otherwise the line itself, or `?` where it is no text. A line that begins with
 /// `!` wants memory.
-fn answer_of(alloc: Global, fixed: Option<&'static str>, line: &[u8]) -> Result<String, NoMemory> {
+fn answer_of(alloc: Global, fixed: Option<&'static str>, line: &[u8]) -> Result<String, LineFault> {
     if line.starts_with(b"!") {
-        return Err(NoMemory);
+        return Err(LineFault::NoMemory);
     }
     let text = match (fixed, str::from_utf8(line)) {
         (Some(text), _) => text,

@@ -7,12 +7,14 @@ use Rattle.std.proofs.lemmas.List.{flat_map_more}
 use Rattle.std.proofs.lemmas.Grind.{common_steps}
 use Rattle.std.proofs.lemmas.List.Concat.{flat_map-append}
 use Rattle.std.proofs.lemmas.List.Elements.{All-nil, All-cons, All-head, All-tail, All-append, All-push}
-use Rattle.line_serving.specs.Answering.{AnsweringOf, AreAnswers, FrontOf, IsNext, MayStop, WithAnswer, WithAnswers}
+use Rattle.line_serving.specs.Answering.{AnsweringOf, AreAnswers, FrontOf, IsNext, IsStopped, MayStop, StopsOne, StopsNext, WithAnswer, WithAnswers}
 use Rattle.line_serving.specs.Lines.{HasNoLineFeed, IsLine, Splits, ended, line_feed, limit, input_lines, last_of, on_first}
 use Rattle.line_serving.specs.Output.{Sends, IsCut}
 use Rattle.line_serving.specs.Serving.{block_size, IsUnanswered, StartsLong, AtFault, Stopped, IsAnswered, Fails}
 use Rattle.line_serving.specs.declared.fault.ServeFault.{ServeFault}
 use Rattle.line_serving.specs.declared.fault.ServeFault.TheVariants as fault
+use Rattle.line_serving.specs.declared.fault.LineFault.{LineFault}
+use Rattle.line_serving.specs.declared.fault.LineFault.TheVariants as at
 use Rattle.line_serving.proofs.Known.{sends_kept, consumes_none, consumes_trans, sends_same, sends_trans, cut_sends, cut_same, same_text, appends_trans, cut_after}
 
 pub is_line : (held line : List ℕ) → IsLine held → HasNoLineFeed line → length (held ++ line) ≤ limit → IsLine (held ++ line)
@@ -139,7 +141,7 @@ pub count_given : (m more g h n : ℕ) (blk : List ℕ) → m ≤ g → more ≤
 count_given m more g h n blk was few e = grind (arith, common_steps, was, few, e)
 
 abbrev pub IsNoWriteFault : ServeFault → Type 0
-IsNoWriteFault e = AtFault e (Unit {0}) (Unit {0}) ⊥ (Unit {0})
+IsNoWriteFault e = AtFault e (Unit {0}) (Unit {0}) ⊥ (λ _. Unit {0})
 
 module _ {F : Type 0} (A : AnsweringOf F) where
   pub are_append : (f g h : F) (ls ms : List (List ℕ)) (x y : List ℕ) → AreAnswers A f ls x g → AreAnswers A g ms y h → AreAnswers A f (ls ++ ms) (x ++ y) h
@@ -160,7 +162,7 @@ module _ {F : Type 0} (A : AnsweringOf F) where
       ((g ≡ mid) × Sends b q c r [] × (limit < length (held ++ line)))
       ⊥
       ((length (held ++ line) ≤ limit) × WithAnswer A mid (held ++ line) g (λ out. IsCut b c (q ++ out)))
-      ((length (held ++ line) ≤ limit) × ((g ≡ mid) ⊎ A.stops mid (held ++ line) g) × Sends b q c r [])
+      (λ k. (length (held ++ line) ≤ limit) × StopsOne A k mid (held ++ line) g × Sends b q c r [])
       → Stopped A f g text (Sends a p c r) (λ t. IsCut a c (p ++ t)) Read AtEnd e
   stopped_at fault.LineTooLong f mid g a b c p q r text held line after rest x lines Read AtEnd few cut whole each is one are sent h = (
     record { lines = lines; rest = held ++ rest; output = x; state = mid; splits = record { whole = whole; each = each }; answers = are },
@@ -198,14 +200,32 @@ module _ {F : Type 0} (A : AnsweringOf F) where
     (may stop, sends_nothing a b c p q r x sent k, behind held rest is few),
   )
     where
-      may : (g ≡ mid) ⊎ A.stops mid (held ++ line) g → MayStop A mid (held ++ rest) AtEnd g
+      may : (g ≡ mid) ⊎ A.stops at.NoMemory mid (held ++ line) g → IsStopped A at.NoMemory mid (held ++ rest) AtEnd g
       may (inl same) = inl same
       may (inr stops) = inr (held ++ line, next_line held line after rest AtEnd cut is one short, stops)
   stopped_at fault.BadCount f mid g a b c p q r text held line after rest x lines Read AtEnd few cut whole each is one are sent h = absurd h
+  stopped_at fault.TraceFault f mid g a b c p q r text held line after rest x lines Read AtEnd few cut whole each is one are sent (short, stops, k) = (
+    record { lines = lines; rest = held ++ rest; output = x; state = mid; splits = record { whole = whole; each = each }; answers = are },
+    ((held ++ line, next_line held line after rest AtEnd cut is one short, stops), sends_nothing a b c p q r x sent k, behind held rest is few),
+  )
+
+  stops_next : (e : LineFault) (s g : F) (rest : List ℕ) (AtEnd : Type 0) → StopsNext A e s rest ⊥ g → StopsNext A e s rest AtEnd g
+  stops_next e s g rest AtEnd (line, next, stops) = (line, record { first = next.first; whole = λ none. absurd (next.whole none); short = next.short }, stops)
 
   may_stop : (s g : F) (rest : List ℕ) (AtEnd : Type 0) → MayStop A s rest ⊥ g → MayStop A s rest AtEnd g
   may_stop s g rest AtEnd (inl same) = inl same
-  may_stop s g rest AtEnd (inr (line, next, stops)) = inr (line, record { first = next.first; whole = λ none. absurd (next.whole none); short = next.short }, stops)
+  may_stop s g rest AtEnd (inr (e, next)) = inr (e, stops_next e s g rest AtEnd next)
+
+  is_stopped : (e : LineFault) (s g : F) (rest : List ℕ) (AtEnd : Type 0) → IsStopped A e s rest ⊥ g → IsStopped A e s rest AtEnd g
+  is_stopped at.NoMemory s g rest AtEnd (inl same) = inl same
+  is_stopped at.NoMemory s g rest AtEnd (inr next) = inr (stops_next at.NoMemory s g rest AtEnd next)
+  is_stopped at.TraceFault s g rest AtEnd next = stops_next at.TraceFault s g rest AtEnd next
+
+  -- where the writer fails at last
+  stopped_may : (e : LineFault) (s g : F) (rest : List ℕ) (AtEnd : Type 0) → IsStopped A e s rest AtEnd g → MayStop A s rest AtEnd g
+  stopped_may at.NoMemory s g rest AtEnd (inl same) = inl same
+  stopped_may at.NoMemory s g rest AtEnd (inr next) = inr (at.NoMemory, next)
+  stopped_may at.TraceFault s g rest AtEnd next = inr (at.TraceFault, next)
 
   -- lines before, and what came after them
   pub stopped_later : (e : ServeFault) (f mid g : F) (a b c : Option (List ℕ)) (p q r : List ℕ) (lines : List (List ℕ)) (x text : List ℕ) (Read : List ℕ → Type 0) (AtEnd : Type 0)
@@ -232,17 +252,18 @@ module _ {F : Type 0} (A : AnsweringOf F) where
       all k = sends_trans a b c p q r x s.output sent k
 
       cases : (e : ServeFault)
-          → AtFault e ((g ≡ s.state) × Sends b q c r s.output × StartsLong s.rest) ((g ≡ s.state) × Sends b q c r s.output × ⊥) (MayStop A s.state s.rest ⊥ g × IsCut b c (q ++ s.output)) (MayStop A s.state s.rest ⊥ g × Sends b q c r s.output × IsUnanswered s.rest)
+          → AtFault e ((g ≡ s.state) × Sends b q c r s.output × StartsLong s.rest) ((g ≡ s.state) × Sends b q c r s.output × ⊥) (MayStop A s.state s.rest ⊥ g × IsCut b c (q ++ s.output)) (λ k. IsStopped A k s.state s.rest ⊥ g × Sends b q c r s.output × IsUnanswered s.rest)
           → AtFault e
           ((g ≡ s.state) × Sends a p c r (x ++ s.output) × StartsLong s.rest)
           ((g ≡ s.state) × Sends a p c r (x ++ s.output) × Read s.rest)
           (MayStop A s.state s.rest AtEnd g × IsCut a c (p ++ (x ++ s.output)))
-          (MayStop A s.state s.rest AtEnd g × Sends a p c r (x ++ s.output) × IsUnanswered s.rest)
+          (λ k. IsStopped A k s.state s.rest AtEnd g × Sends a p c r (x ++ s.output) × IsUnanswered s.rest)
       cases fault.LineTooLong k = (k.0, all k.1, k.2)
       cases fault.ReadFault k = absurd k.2
       cases fault.WriteFault k = (may_stop s.state g s.rest AtEnd k.0, cut_sends a b c p q x s.output sent k.1)
-      cases fault.NoMemory k = (may_stop s.state g s.rest AtEnd k.0, all k.1, k.2)
+      cases fault.NoMemory k = (is_stopped at.NoMemory s.state g s.rest AtEnd k.0, all k.1, k.2)
       cases fault.BadCount k = absurd k
+      cases fault.TraceFault k = (is_stopped at.TraceFault s.state g s.rest AtEnd k.0, all k.1, k.2)
 
   -- the answers of whole lines and of a last one are the output
   output_split : (f mid g : F) (lines : List (List ℕ)) (last x y : List ℕ) → All IsLine lines → IsLine last → AreAnswers A f lines x mid → AreAnswers A mid (last_of last) y g
@@ -267,7 +288,7 @@ module _ {F : Type 0} (A : AnsweringOf F) where
   pub fails_last : (e : ServeFault) (f mid g : F) (a b c : Option (List ℕ)) (p q r : List ℕ) (lines : List (List ℕ)) (last x : List ℕ) (left : Option (List ℕ))
       → All IsLine lines → IsLine last → IsAtEnd left
       → AreAnswers A f lines x mid → Sends a p b q x
-      → AtFault e ⊥ ⊥ (WithAnswers A mid (last_of last) g (λ out. IsCut b c (q ++ out))) ((last ≢ []) × A.stops mid last g × Sends b q c r [])
+      → AtFault e ⊥ ⊥ (WithAnswers A mid (last_of last) g (λ out. IsCut b c (q ++ out))) (λ k. (last ≢ []) × A.stops k mid last g × Sends b q c r [])
       → Fails A f g (flat_map ended lines ++ last) (Sends a p c r) (λ t. IsCut a c (p ++ t)) left e
   fails_last fault.LineTooLong f mid g a b c p q r lines last x left each is end are sent h = absurd h
   fails_last fault.ReadFault f mid g a b c p q r lines last x left each is end are sent h = absurd h
@@ -284,6 +305,11 @@ module _ {F : Type 0} (A : AnsweringOf F) where
         (inr (last, next_last last (IsAtEnd left) is some end, stops), sends_nothing a b c p q r x sent k, behind_line last is),
       )
   fails_last fault.BadCount f mid g a b c p q r lines last x left each is end are sent h = absurd h
+  fails_last fault.TraceFault f mid g a b c p q r lines last x left each is end are sent (some, stops, k) =
+      inl (
+        record { lines = lines; rest = last; output = x; state = mid; splits = record { whole = refl; each = each }; answers = are },
+        ((last, next_last last (IsAtEnd left) is some end, stops), sends_nothing a b c p q r x sent k, behind_line last is),
+      )
 
   -- what was pending went out after another fault than the writer's
   closed_at : (e : ServeFault) (f g : F) (a b c left : Option (List ℕ)) (p text : List ℕ) (Cut : List ℕ → Type 0) → IsNoWriteFault e
@@ -296,6 +322,8 @@ module _ {F : Type 0} (A : AnsweringOf F) where
   closed_at fault.NoMemory f g a b c left p text Cut other h (inl (s, k)) = inl (s, (k.0, sends_close a b c p s.output k.1 h, k.2))
   closed_at fault.NoMemory f g a b c left p text Cut other h (inr k) = absurd k
   closed_at fault.BadCount f g a b c left p text Cut other h k = absurd other
+  closed_at fault.TraceFault f g a b c left p text Cut other h (inl (s, k)) = inl (s, (k.0, sends_close a b c p s.output k.1 h, k.2))
+  closed_at fault.TraceFault f g a b c left p text Cut other h (inr k) = absurd k
 
   pub closed : (e k : ServeFault) (f g : F) (a b c left : Option (List ℕ)) (p text : List ℕ) → e ≡ k → IsNoWriteFault k
       → Appends b c p → Fails A f g text (Sends a [] b p) (IsCut a b) left e → Fails A f g text (Appends a c) (IsCut a c) left k
@@ -310,9 +338,11 @@ module _ {F : Type 0} (A : AnsweringOf F) where
   cut_at fault.ReadFault f g a b c left p text Cut other h (inl (s, k)) = inl (s, (inl k.0, cut_close a b c p s.output k.1 h))
   cut_at fault.ReadFault f g a b c left p text Cut other h (inr k) = absurd k
   cut_at fault.WriteFault f g a b c left p text Cut other h k = absurd other
-  cut_at fault.NoMemory f g a b c left p text Cut other h (inl (s, k)) = inl (s, (k.0, cut_close a b c p s.output k.1 h))
+  cut_at fault.NoMemory f g a b c left p text Cut other h (inl (s, k)) = inl (s, (stopped_may at.NoMemory s.state g s.rest (IsAtEnd left) k.0, cut_close a b c p s.output k.1 h))
   cut_at fault.NoMemory f g a b c left p text Cut other h (inr k) = absurd k
   cut_at fault.BadCount f g a b c left p text Cut other h k = absurd other
+  cut_at fault.TraceFault f g a b c left p text Cut other h (inl (s, k)) = inl (s, (stopped_may at.TraceFault s.state g s.rest (IsAtEnd left) k.0, cut_close a b c p s.output k.1 h))
+  cut_at fault.TraceFault f g a b c left p text Cut other h (inr k) = absurd k
 
   pub cut_off : (e k : ServeFault) (f g : F) (a b c left : Option (List ℕ)) (p text : List ℕ) → e ≡ k → IsNoWriteFault k
       → IsCut b c p → Fails A f g text (Sends a [] b p) (IsCut a b) left e → Fails A f g text (Appends a c) (IsCut a c) left fault.WriteFault

@@ -4,28 +4,33 @@ use Rattle.std.specs.Fn.{CalledAt}
 use denote.Param.Members.{Mut}
 use denote.Ref.{Bor}
 use Rattle.std.specs.declared.alloc.Global.{Global}
-use Rattle.line_serving.specs.declared.fault.NoMemory.{NoMemory}
+use Rattle.line_serving.specs.declared.fault.LineFault.{LineFault}
+use Rattle.line_serving.specs.declared.fault.LineFault.TheVariants.{NoMemory, TraceFault}
 use Rattle.line_serving.specs.Lines.{limit, HasNoLineFeed, Splits, ended, input_lines}
 
--- From a state a line is given a text, and leaves a state; or memory runs out at the line, and leaves a state.
+-- From a state a line is given a text, and leaves a state; or a fault keeps it from its answer, and leaves a state.
 pub record AnsweringOf (F : Type 0) : Type 1 where
   pub gives : F → List ℕ → List ℕ → F → Type 0
-  pub stops : F → List ℕ → F → Type 0
+  pub stops : LineFault → F → List ℕ → F → Type 0
+
+-- nothing but memory keeps a line from its answer
+abbrev pub at_memory : {F : Type 0} → (F → List ℕ → F → Type 0) → LineFault → F → List ℕ → F → Type 0
+at_memory runs_out NoMemory f line g = runs_out f line g
+at_memory runs_out TraceFault f line g = ⊥
 
 -- a call of f with this line may give this text, and leave g
-pub record Gives {F : Type 0} (m : Mut F (Bor (List ℕ) × Unit {0}) (Result (String Global) NoMemory)) (f : F) (line text : List ℕ) (g : F) : Type 0 where
+pub record Gives {F : Type 0} (m : Mut F (Bor (List ℕ) × Unit {0}) (Result (String Global) LineFault)) (f : F) (line text : List ℕ) (g : F) : Type 0 where
   pub given : String Global
   pub called : CalledAt m f line (Ok given) g
   pub bytes : string_bytes given ≡ text
 
--- a call of f with this line may run out of memory, and leave g
-pub record RunsOut {F : Type 0} (m : Mut F (Bor (List ℕ) × Unit {0}) (Result (String Global) NoMemory)) (f : F) (line : List ℕ) (g : F) : Type 0 where
-  pub fault : NoMemory
-  pub called : CalledAt m f line (Err fault) g
+-- a call of f with this line may end with this fault, and leave g
+abbrev pub Stops : {F : Type 0} → Mut F (Bor (List ℕ) × Unit {0}) (Result (String Global) LineFault) → LineFault → F → List ℕ → F → Type 0
+Stops m fault f line g = CalledAt m f line (Err fault) g
 
 -- lines are answered by calls, one for each, and f is what is called
-abbrev pub by_calls : {F : Type 0} → Mut F (Bor (List ℕ) × Unit {0}) (Result (String Global) NoMemory) → AnsweringOf F
-by_calls m = record { gives = Gives m; stops = RunsOut m }
+abbrev pub by_calls : {F : Type 0} → Mut F (Bor (List ℕ) × Unit {0}) (Result (String Global) LineFault) → AnsweringOf F
+by_calls m = record { gives = Gives m; stops = Stops m }
 
 -- the bytes are an answer of each line in order, each with a line feed, and the states go from f to g
 abbrev pub AreAnswers : {F : Type 0} → AnsweringOf F → F → List (List ℕ) → List ℕ → F → Type 0
@@ -60,6 +65,20 @@ pub record IsNext (rest line : List ℕ) (AtEnd : Type 0) : Type 0 where
   pub whole : HasNoLineFeed rest → AtEnd
   pub short : length line ≤ limit
 
--- the state is still f, or memory ran out at the next line, and left g
+-- a fault keeps the line from its answer, and left g; memory may run out before the line is asked for
+abbrev pub StopsOne : {F : Type 0} → AnsweringOf F → LineFault → F → List ℕ → F → Type 0
+StopsOne A NoMemory f line g = (g ≡ f) ⊎ A.stops NoMemory f line g
+StopsOne A TraceFault f line g = A.stops TraceFault f line g
+
+-- a fault keeps the next line from its answer, and left g
+abbrev pub StopsNext : {F : Type 0} → AnsweringOf F → LineFault → F → List ℕ → Type 0 → F → Type 0
+StopsNext A fault f rest AtEnd g = (line : List ℕ) × IsNext rest line AtEnd × A.stops fault f line g
+
+-- the same; where memory ran out, the state may still be f
+abbrev pub IsStopped : {F : Type 0} → AnsweringOf F → LineFault → F → List ℕ → Type 0 → F → Type 0
+IsStopped A NoMemory f rest AtEnd g = (g ≡ f) ⊎ StopsNext A NoMemory f rest AtEnd g
+IsStopped A TraceFault f rest AtEnd g = StopsNext A TraceFault f rest AtEnd g
+
+-- the state is still f, or a fault keeps the next line from its answer, and left g
 abbrev pub MayStop : {F : Type 0} → AnsweringOf F → F → List ℕ → Type 0 → F → Type 0
-MayStop A f rest AtEnd g = (g ≡ f) ⊎ ((line : List ℕ) × IsNext rest line AtEnd × A.stops f line g)
+MayStop A f rest AtEnd g = (g ≡ f) ⊎ ((fault : LineFault) × StopsNext A fault f rest AtEnd g)

@@ -1,5 +1,5 @@
 -- What is seen of a counted device, and how its faults are counted.
-use Rattle.std.specs.Prelude.{◌≡◌, ◌<◌, ◌≤◌, ◌+◌, ◌-◌, ◌^◌, ◌⊎◌, ℕ, List, min, Option, Result, Ok, Err, MatchResult}
+use Rattle.std.specs.Prelude.{◌≡◌, ◌<◌, ◌≤◌, ◌+◌, ◌-◌, ◌^◌, ◌⊎◌, ℕ, List, min, Bool, true, Option, Result, Ok, Err, MatchResult}
 use Rattle.line_serving.specs.declared.calls.Called.{Called}
 use Rattle.line_serving.specs.declared.calls.CallFault.{CallFault}
 use Rattle.line_serving.specs.declared.calls.CallFault.TheVariants.{Interrupted, Failed}
@@ -65,16 +65,25 @@ flushed (Err fault) = Err Failed
 
 -- ---- the faults of a counted device
 
--- what a device has counted: its faults, the calls of it and the bytes that they gave, those that failed, and the interruptions in a row
+-- what a device has counted: its faults, the calls of it and the bytes that they gave, those that failed, and the interruptions in a row;
+-- and whether nothing was written since the last flush that went well
 pub record CountsOf : Type 0 where
   pub faults : ℕ
   pub calls : ℕ
   pub given : ℕ
   pub failed : ℕ
   pub interrupted : ℕ
+  pub flushed : Bool
 
 abbrev pub counts_of : {D : Type 0} → Counted D → CountsOf
-counts_of c = record { faults = c.faults; calls = c.called.calls; given = c.called.given; failed = c.called.failed; interrupted = c.called.interrupted }
+counts_of c = record {
+  faults = c.faults;
+  calls = c.called.calls;
+  given = c.called.given;
+  failed = c.called.failed;
+  interrupted = c.called.interrupted;
+  flushed = c.called.flushed;
+}
 
 -- a reader met a bound, and is called no more
 abbrev pub IsReadOut : CountsOf → Type 0
@@ -83,6 +92,10 @@ IsReadOut c = (bound ≤ c.calls) ⊎ (bound ≤ c.given)
 -- a writer met a bound
 abbrev pub IsStuck : CountsOf → Type 0
 IsStuck c = bound ≤ c.interrupted
+
+-- a writer was flushed after all that was written to it
+abbrev pub IsFlushed : CountsOf → Type 0
+IsFlushed c = c.flushed ≡ true
 
 -- no fault was counted, and no call failed
 pub record IsSteady (old new : CountsOf) : Type 0 where

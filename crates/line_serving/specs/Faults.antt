@@ -1,7 +1,7 @@
 -- How faults are named for a user.
 use Rattle.std.specs.Prelude.{ℕ, List, codes}
 use Rattle.line_serving.specs.declared.fault.ServeFault.{ServeFault}
-use Rattle.line_serving.specs.declared.fault.ServeFault.TheVariants.{LineTooLong, ReadFault, WriteFault, NoMemory, BadCount}
+use Rattle.line_serving.specs.declared.fault.ServeFault.TheVariants.{LineTooLong, ReadFault, WriteFault, NoMemory, BadCount, TraceFault}
 
 -- the code and the name of a fault
 abbrev pub code_and_name : ServeFault → List ℕ
@@ -10,3 +10,4 @@ code_and_name ReadFault = codes "X2 ReadFault"
 code_and_name WriteFault = codes "X3 WriteFault"
 code_and_name NoMemory = codes "X4 NoMemory"
 code_and_name BadCount = codes "X5 BadCount"
+code_and_name TraceFault = codes "X8 TraceFault"

@@ -1,23 +1,29 @@
 -- What serving reads and writes.
-use Rattle.std.specs.Prelude.{◌≡◌, ◌≢◌, ◌<◌, ◌≤◌, ◌+◌, ◌⊎◌, ℕ, List, [], ◌++◌, length, Option, Result, IfOk, IfErr, OnOk, MatchResult}
+use Rattle.std.specs.Prelude.{◌≡◌, ◌≢◌, ◌<◌, ◌≤◌, ◌+◌, ◌⊎◌, ℕ, List, [], ◌++◌, length, Option, Result, IfOk, IfErr, OnOk, MatchResult, String}
 use Rattle.std.specs.List.{All}
 use Rattle.std.specs.Io.KnownBytes.{Appends, Consumes, IsAtEnd}
 use Rattle.std.specs.Global.{Vec}
+use denote.Param.Members.{Mut}
+use denote.Ref.{Bor}
+use Rattle.std.specs.declared.alloc.Global.{Global}
 use Rattle.line_serving.specs.declared.device.Counted.{Counted}
 use Rattle.line_serving.specs.declared.fault.ServeFault.{ServeFault}
 use Rattle.line_serving.specs.declared.fault.ServeFault.TheVariants as fault
-use Rattle.line_serving.specs.Answering.{AnsweringOf, FrontOf, IsOutput, MayStop, WithAnswer, WithAnswers}
-use Rattle.line_serving.specs.Devices.{bound, CountsOf, DevicesOf, HasFault, IsReadOut, IsSteady, IsStuck}
+use Rattle.line_serving.specs.declared.fault.LineFault.{LineFault}
+use Rattle.line_serving.specs.declared.fault.LineFault.TheVariants.{NoMemory, TraceFault}
+use Rattle.line_serving.specs.Answering.{AnsweringOf, by_calls, FrontOf, IsOutput, IsStopped, MayStop, StopsOne, WithAnswer, WithAnswers}
+use Rattle.line_serving.specs.Devices.{bound, CountsOf, DevicesOf, HasFault, IsFlushed, IsReadOut, IsSteady, IsStuck}
 use Rattle.line_serving.specs.Lines.{limit, HasNoLineFeed, IsLine, IsLong, Splits, input_lines, last_of}
 use Rattle.line_serving.specs.Output.{Sends, SendsBy, CutsBy, IsCut}
 
 -- what holds at each fault; workers aren't counted while lines are served
-abbrev pub AtFault : ServeFault → Type 0 → Type 0 → Type 0 → Type 0 → Type 0
-AtFault fault.LineTooLong long read write memory = long
-AtFault fault.ReadFault long read write memory = read
-AtFault fault.WriteFault long read write memory = write
-AtFault fault.NoMemory long read write memory = memory
-AtFault fault.BadCount long read write memory = ⊥
+abbrev pub AtFault : ServeFault → Type 0 → Type 0 → Type 0 → (LineFault → Type 0) → Type 0
+AtFault fault.LineTooLong long read write line = long
+AtFault fault.ReadFault long read write line = read
+AtFault fault.WriteFault long read write line = write
+AtFault fault.NoMemory long read write line = line NoMemory
+AtFault fault.BadCount long read write line = ⊥
+AtFault fault.TraceFault long read write line = line TraceFault
 
 -- the most bytes that are read at once
 abbrev pub block_size : ℕ
@@ -37,14 +43,15 @@ abbrev pub StartsLong : List ℕ → Type 0
 StartsLong rest = (line : List ℕ) × (more : List ℕ) × IsLong rest line more
 
 -- Whole lines stand at the front of the text. Their answers were sent at a fault, or a front of them where the writer failed; after them
--- comes a line that is too long, or no whole line where the reader failed, or where memory ran out no more than was read at once.
--- The state is what these lines left. Only where memory ran out, at a last call, is it what that one left; the writer may have failed then.
+-- comes a line that is too long, or no whole line where the reader failed, or where memory ran out or a trace couldn't be written no more
+-- than was read at once. The state is what these lines left. Only where a last call stopped is it what that one left; the writer may have
+-- failed then.
 abbrev pub Stopped : {F : Type 0} → AnsweringOf F → F → F → List ℕ → (List ℕ → Type 0) → (List ℕ → Type 0) → (List ℕ → Type 0) → Type 0 → ServeFault → Type 0
 Stopped A f g text Sent Cut Read AtEnd fault = (s : FrontOf A f text) × AtFault fault
     ((g ≡ s.state) × Sent s.output × StartsLong s.rest)
     ((g ≡ s.state) × Sent s.output × Read s.rest)
     (MayStop A s.state s.rest AtEnd g × Cut s.output)
-    (MayStop A s.state s.rest AtEnd g × Sent s.output × IsUnanswered s.rest)
+    (λ e. IsStopped A e s.state s.rest AtEnd g × Sent s.output × IsUnanswered s.rest)
 
 -- each line of the text was answered, and this many there were
 pub record IsAnswered {F : Type 0} (A : AnsweringOf F) (f g : F) (text : List ℕ) (n : ℕ) (Sent : List ℕ → Type 0) : Type 0 where
@@ -64,29 +71,34 @@ pub record FailsAtEnd {F : Type 0} (A : AnsweringOf F) (f g : F) (text : List �
 -- serving stopped at a fault
 abbrev pub Fails : {F : Type 0} → AnsweringOf F → F → F → List ℕ → (List ℕ → Type 0) → (List ℕ → Type 0) → Option (List ℕ) → ServeFault → Type 0
 Fails A f g text Sent Cut remaining fault =
-    Stopped A f g text Sent Cut HasNoLineFeed (IsAtEnd remaining) fault ⊎ AtFault fault ⊥ ⊥ (FailsAtEnd A f g text Cut remaining) ⊥
+    Stopped A f g text Sent Cut HasNoLineFeed (IsAtEnd remaining) fault ⊎ AtFault fault ⊥ ⊥ (FailsAtEnd A f g text Cut remaining) (λ _. ⊥)
 
 -- The writer counted one fault where serving stopped at its fault, and none elsewhere.
 abbrev pub WriterCounts : {T : Type 0} → CountsOf → CountsOf → Result T ServeFault → Type 0
 WriterCounts old new result = MatchResult result (λ _. IsSteady old new)
-    (λ fault. AtFault fault (IsSteady old new) (IsSteady old new) (HasFault IsStuck old new) (IsSteady old new))
+    (λ fault. AtFault fault (IsSteady old new) (IsSteady old new) (HasFault IsStuck old new) (λ _. IsSteady old new))
 
 -- The reader counted one fault where serving stopped at its fault, and none elsewhere, unless the writer failed after it.
 abbrev pub ReaderCounts : {T : Type 0} → CountsOf → CountsOf → Result T ServeFault → Type 0
 ReaderCounts old new result = MatchResult result (λ _. IsSteady old new)
-    (λ fault. AtFault fault (IsSteady old new) (HasFault IsReadOut old new) (IsSteady old new ⊎ HasFault IsReadOut old new) (IsSteady old new))
+    (λ fault. AtFault fault (IsSteady old new) (HasFault IsReadOut old new) (IsSteady old new ⊎ HasFault IsReadOut old new) (λ _. IsSteady old new))
+
+-- All that was written was flushed, unless the writer failed.
+abbrev pub WriterFlushed : {T : Type 0} → CountsOf → Result T ServeFault → Type 0
+WriterFlushed counts result = MatchResult result (λ _. IsFlushed counts)
+    (λ fault. AtFault fault (IsFlushed counts) (IsFlushed counts) (Unit {0}) (λ _. IsFlushed counts))
 
 -- ---- lines and blocks, by a counted writer with what is pending before and later
 
--- the writer failed in what was pending and the answer of the line, or memory ran out at the line
+-- the writer failed in what was pending and the answer of the line, or a fault kept the line from its answer
 abbrev pub FailsAnswer : {F D : Type 0} → AnsweringOf F → F → F → List ℕ → (D → Option (List ℕ)) → Counted D → Vec ℕ → Counted D → Vec ℕ → ServeFault → Type 0
 FailsAnswer A f g line contents old pending new later fault =
-    AtFault fault ⊥ ⊥ (WithAnswer A f line g (CutsBy contents old pending new)) (A.stops f line g × SendsBy contents old pending new later [])
+    AtFault fault ⊥ ⊥ (WithAnswer A f line g (CutsBy contents old pending new)) (λ e. A.stops e f line g × SendsBy contents old pending new later [])
 
 -- the same of the last line, where there is one
 abbrev pub FailsLast : {F D : Type 0} → AnsweringOf F → F → F → Vec ℕ → (D → Option (List ℕ)) → Counted D → Vec ℕ → Counted D → Vec ℕ → ServeFault → Type 0
 FailsLast A f g last contents old pending new later fault =
-    AtFault fault ⊥ ⊥ (WithAnswers A f (last_of last.items) g (CutsBy contents old pending new)) ((last.items ≢ []) × A.stops f last.items g × SendsBy contents old pending new later [])
+    AtFault fault ⊥ ⊥ (WithAnswers A f (last_of last.items) g (CutsBy contents old pending new)) (λ e. (last.items ≢ []) × A.stops e f last.items g × SendsBy contents old pending new later [])
 
 -- the line that was held with its end isn't too long, its answer was sent, and nothing is held
 abbrev pub Ends : {F D : Type 0} → AnsweringOf F → F → F → Vec ℕ → List ℕ → Vec ℕ → (D → Option (List ℕ)) → Counted D → Vec ℕ → Counted D → Vec ℕ → Type 0
@@ -99,7 +111,7 @@ FailsLine A f g held end contents old pending new later fault = AtFault fault
     ((g ≡ f) × SendsBy contents old pending new later [] × (limit < length (held.items ++ end)))
     ⊥
     ((length (held.items ++ end) ≤ limit) × WithAnswer A f (held.items ++ end) g (CutsBy contents old pending new))
-    ((length (held.items ++ end) ≤ limit) × ((g ≡ f) ⊎ A.stops f (held.items ++ end) g) × SendsBy contents old pending new later [])
+    (λ e. (length (held.items ++ end) ≤ limit) × StopsOne A e f (held.items ++ end) g × SendsBy contents old pending new later [])
 
 -- of what was held and the block this many lines end, their answers were sent, and the rest is held
 abbrev pub Feeds : {F D : Type 0} → AnsweringOf F → F → F → Vec ℕ → List ℕ → Vec ℕ → (D → Option (List ℕ)) → Counted D → Vec ℕ → Counted D → Vec ℕ → ℕ → Type 0
@@ -141,6 +153,19 @@ ServesAll A f g d = ReadsAll A f g d (Appends d.old d.new)
 abbrev pub StopsServing : {F : Type 0} → AnsweringOf F → F → F → DevicesOf → ServeFault → Type 0
 StopsServing A f g d = StopsAt A f g d (Appends d.old d.new)
 
+-- the same, where the lines are answered by calls
+abbrev pub ServesBy : {F : Type 0} → Mut F (Bor (List ℕ) × Unit {0}) (Result (String Global) LineFault) → F → F → Vec ℕ → DevicesOf → ℕ → Type 0
+ServesBy m = ServesLater (by_calls m)
+
+abbrev pub StopsBy : {F : Type 0} → Mut F (Bor (List ℕ) × Unit {0}) (Result (String Global) LineFault) → F → F → Vec ℕ → DevicesOf → ServeFault → Type 0
+StopsBy m = StopsLater (by_calls m)
+
+abbrev pub ServesAllBy : {F : Type 0} → Mut F (Bor (List ℕ) × Unit {0}) (Result (String Global) LineFault) → F → F → DevicesOf → ℕ → Type 0
+ServesAllBy m = ServesAll (by_calls m)
+
+abbrev pub StopsServingBy : {F : Type 0} → Mut F (Bor (List ℕ) × Unit {0}) (Result (String Global) LineFault) → F → F → DevicesOf → ServeFault → Type 0
+StopsServingBy m = StopsServing (by_calls m)
+
 -- past a bound of the reader no input is served to its end
 abbrev pub IsBounded : CountsOf → Type 0
 IsBounded c = (c.calls ≤ bound) × (c.given < bound)
@@ -154,5 +179,6 @@ pub record Serves {F : Type 0} (A : AnsweringOf F) (f g : F) (d : DevicesOf) (re
   pub stopped : IfErr result (StopsServing A f g d)
   pub reader : ReaderCounts d.reader_old d.reader_new result
   pub writer : WriterCounts d.writer_old d.writer_new result
+  pub flushed : WriterFlushed d.writer_new result
   pub bounded : OnOk result (IsBounded d.reader_new)
   pub grown : HasGrown d.reader_old d.reader_new

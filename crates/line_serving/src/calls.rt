@@ -1,6 +1,6 @@
 //! Devices that count the calls of them.
 
-ghost use Rattle.std.specs.Prelude.{◌≡◌, ℕ, ◌<◌, ◌≤◌, length, IfOk};
+ghost use Rattle.std.specs.Prelude.{◌≡◌, ℕ, ◌<◌, ◌≤◌, length, IfOk, true, false, is_ok};
 ghost use Rattle.std.specs.Io.KnownBytes.{Keeps, ReadConsumes, WriteAppends};
 ghost use Rattle.line_serving.specs.Devices.{CountsCall, failed_after, flushed, interrupted_after};
 
@@ -23,6 +23,7 @@ pub struct Called<D> {
     given: u64,
     failed: u64,
     interrupted: u64,
+    flushed: bool,
 }
 
 impl<D> Called<D> {
@@ -31,6 +32,7 @@ impl<D> Called<D> {
         ensures device { result.device ≡ device }
         ensures calls { (result.calls ≡ 0) × (result.given ≡ 0) }
         ensures faults { (result.failed ≡ 0) × (result.interrupted ≡ 0) }
+        ensures flushed { result.flushed ≡ true }
     {
         Called {
             device,
@@ -38,7 +40,16 @@ impl<D> Called<D> {
             given: 0,
             failed: 0,
             interrupted: 0,
+            flushed: true,
         }
+    }
+
+    /// The device.
+    pub fn into_inner(self) -> D
+        ensures { result ≡ self.device }
+    {
+        let Called { device, .. } = self;
+        device
     }
 
     /// How many calls there were.
@@ -65,6 +76,7 @@ impl<D> Called<D> {
     // Counts what kept a call from giving or taking anything.
     fn count_fault(&mut self, fault: CallFault)
         ensures same { (self.new.device ≡ self.old.device) × (self.new.calls ≡ self.old.calls) × (self.new.given ≡ self.old.given) }
+        ensures flushed { self.new.flushed ≡ self.old.flushed }
         ensures failed { self.new.failed ≡ failed_after (Err fault) self.old.failed }
         ensures interrupted { self.new.interrupted ≡ interrupted_after (Err fault) self.old.interrupted }
     {
@@ -84,6 +96,7 @@ impl<D> Called<D> {
     // Counts a call.
     fn count(&mut self, outcome: Result<usize, CallFault>)
         ensures device { self.new.device ≡ self.old.device }
+        ensures flushed { self.new.flushed ≡ self.old.flushed }
         ensures counts { CountsCall self.old self.new outcome }
     {
         let calls = &mut self.calls;
@@ -123,6 +136,7 @@ impl<W: Write> Called<W> {
         ensures bytes { WriteAppends (W.contents self.old.device) (W.contents self.new.device) result bytes.now }
         ensures some { IfOk result (λ n. (0 < n) × (n ≤ length bytes.now)) }
         ensures counts { CountsCall self.old self.new result }
+        ensures flushed { self.new.flushed ≡ false }
     {
         let outcome = match self.device.write(bytes) {
             Ok(0) => Err(CallFault::Failed),
@@ -131,6 +145,7 @@ impl<W: Write> Called<W> {
             Err(_) => Err(CallFault::Failed),
         };
         self.count(outcome);
+        self.flushed = false;
         outcome
     }
 
@@ -138,14 +153,17 @@ impl<W: Write> Called<W> {
     pub fn flush(&mut self) -> Result<(), CallFault>
         ensures bytes { Keeps (W.contents self.old.device) (W.contents self.new.device) }
         ensures counts { CountsCall self.old self.new (flushed result) }
+        ensures flushed { self.new.flushed ≡ is_ok result }
     {
         match self.device.flush() {
             Ok(()) => {
                 self.count(Ok(0));
+                self.flushed = true;
                 Ok(())
             }
             Err(_) => {
                 self.count(Err(CallFault::Failed));
+                self.flushed = false;
                 Err(CallFault::Failed)
             }
         }

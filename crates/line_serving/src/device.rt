@@ -1,8 +1,8 @@
 //! Readers and writers whose faults are counted.
 
-ghost use Rattle.std.specs.Prelude.{◌≡◌, ℕ, List, ◌++◌, ◌<◌, ◌≤◌, ◌+◌, ◌-◌, ◌^◌, length, take, drop, OnOk, OnErr, IfOk};
+ghost use Rattle.std.specs.Prelude.{◌≡◌, ℕ, List, ◌++◌, ◌<◌, ◌≤◌, ◌+◌, ◌-◌, ◌^◌, length, take, drop, OnOk, OnErr, IfOk, true};
 ghost use Rattle.std.specs.Io.KnownBytes.{Appends, Keeps, ReadConsumes, WriteAppends};
-ghost use Rattle.line_serving.specs.Devices.{device_of, faults_of, counts_of, counted, CountsFaults, IsReadOut, IsStuck, CountsRead, CountsNone};
+ghost use Rattle.line_serving.specs.Devices.{device_of, faults_of, counts_of, counted, CountsFaults, IsFlushed, IsReadOut, IsStuck, CountsRead, CountsNone};
 ghost use Rattle.line_serving.specs.Output.{IsCut};
 
 use crate::calls::{CallFault, Called};
@@ -30,12 +30,20 @@ impl<D> Counted<D> {
     /// A device without a fault.
     pub fn new(device: D) -> Counted<D>
         ensures device { device_of result ≡ device }
-        ensures counts { counts_of result ≡ record { faults = 0; calls = 0; given = 0; failed = 0; interrupted = 0 } }
+        ensures counts { counts_of result ≡ record { faults = 0; calls = 0; given = 0; failed = 0; interrupted = 0; flushed = true } }
     {
         Counted {
             called: Called::new(device),
             faults: 0,
         }
+    }
+
+    /// The device, which isn't counted any more.
+    pub fn into_inner(self) -> D
+        ensures { result ≡ device_of self }
+    {
+        let Counted { called, .. } = self;
+        called.into_inner()
     }
 
     /// The faults so far. At `u64::MAX` the count stays.
@@ -124,6 +132,7 @@ impl<W: Write> Counted<W> {
     pub fn flush(&mut self) -> Result<(), DeviceFault>
         ensures bytes { Keeps (W.contents (device_of self.old)) (W.contents (device_of self.new)) }
         ensures faults { CountsFaults IsStuck (counts_of self.old) (counts_of self.new) result }
+        ensures flushed { OnOk result (IsFlushed (counts_of self.new)) }
     {
         match self.called.flush() {
             Ok(()) => Ok(()),

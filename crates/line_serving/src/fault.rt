@@ -8,14 +8,24 @@ use std::error::Error as StdError;
 use std::fmt;
 use thiserror::Error;
 
-/// Out of memory.
+/// Why a line has no answer.
 #[derive(Clone, Copy, Debug, PartialEq, Eq, Error)]
-#[error("out of memory")]
-pub struct NoMemory;
+pub enum LineFault {
+    /// Out of memory.
+    #[error("out of memory")]
+    NoMemory,
+    /// What is traced of the line can't be written.
+    #[error("the trace can't be written")]
+    TraceFault,
+}
 
-impl From<AllocError> for NoMemory {
-    fn from(_error: AllocError) -> NoMemory {
-        NoMemory
+impl From<AllocError> for LineFault {
+    ghost use Rattle.line_serving.specs.declared.fault.LineFault.TheVariants.{NoMemory};
+
+    ghost from_gives = { λ _ fault. fault ≡ NoMemory };
+
+    fn from(_error: AllocError) -> LineFault {
+        LineFault::NoMemory
     }
 }
 
@@ -32,6 +42,8 @@ pub enum ServeFault {
     NoMemory,
     /// The number of workers is not 1 to 16.
     BadCount,
+    /// What is traced of a line can't be written, where lines are traced.
+    TraceFault,
 }
 
 impl ServeFault {
@@ -45,6 +57,7 @@ impl ServeFault {
             ServeFault::WriteFault => "X3 WriteFault",
             ServeFault::NoMemory => "X4 NoMemory",
             ServeFault::BadCount => "X5 BadCount",
+            ServeFault::TraceFault => "X8 TraceFault",
         }
     }
 }
@@ -61,13 +74,3 @@ impl fmt::Display for ServeFault {
 }
 
 impl StdError for ServeFault {}
-
-impl From<NoMemory> for ServeFault {
-    ghost use Rattle.line_serving.specs.declared.fault.ServeFault.TheVariants.{NoMemory};
-
-    ghost from_gives = { λ _ e. e ≡ NoMemory };
-
-    fn from(_fault: NoMemory) -> ServeFault {
-        ServeFault::NoMemory
-    }
-}

@@ -7,7 +7,7 @@ ghost use Rattle.line_serving.specs.Lines.{limit, IsLine};
 ghost use Rattle.line_serving.specs.Serving.{block_size, Ends, EndsAll, FailsLast, FailsLine, Feeds, StopsFeeding, WriterCounts};
 
 use crate::device::Counted;
-use crate::fault::{NoMemory, ServeFault};
+use crate::fault::{LineFault, ServeFault};
 use crate::lines::cut_line;
 use crate::output::answer_line;
 use std::io::Write;
@@ -16,7 +16,7 @@ use std::io::Write;
 const LIMIT: usize = 4_194_304;
 
 // Answers the line that `held` and `line` are together. Nothing is held then.
-fn finish_line<F: FnMut(&[u8]) -> Result<String, NoMemory>, W: Write>(
+fn finish_line<F: FnMut(&[u8]) -> Result<String, LineFault>, W: Write>(
     answer: &mut F,
     writer: &mut Counted<W>,
     pending: &mut Vec<u8>,
@@ -54,7 +54,7 @@ fn finish_line<F: FnMut(&[u8]) -> Result<String, NoMemory>, W: Write>(
 }
 
 /// Answers each line that ends in the block, keeps the rest in `held`, and returns how many lines there were.
-pub fn feed<F: FnMut(&[u8]) -> Result<String, NoMemory>, W: Write>(
+pub fn feed<F: FnMut(&[u8]) -> Result<String, LineFault>, W: Write>(
     answer: &mut F,
     writer: &mut Counted<W>,
     pending: &mut Vec<u8>,
@@ -95,7 +95,7 @@ pub fn feed<F: FnMut(&[u8]) -> Result<String, NoMemory>, W: Write>(
 
 /// Answers the last line, where the input ends without a line feed, and says how many lines there were with the `count`
 /// before.
-pub fn finish<F: FnMut(&[u8]) -> Result<String, NoMemory>, W: Write>(
+pub fn finish<F: FnMut(&[u8]) -> Result<String, LineFault>, W: Write>(
     answer: &mut F,
     writer: &mut Counted<W>,
     pending: &mut Vec<u8>,

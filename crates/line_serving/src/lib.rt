@@ -18,5 +18,5 @@ mod output;
 mod serving;
 
 pub use device::{Counted, DeviceFault};
-pub use fault::{NoMemory, ServeFault};
+pub use fault::{LineFault, ServeFault};
 pub use serving::serve;

@@ -3,13 +3,13 @@
 ghost use Rattle.std.specs.Prelude.{◌≡◌, ℕ, List, [], ◌∷◌, ◌++◌, ◌<◌, ◌+◌, OnOk, OnErr, IfOk, IfErr, string_bytes, true, false, if◌then◌else◌};
 ghost use Rattle.std.specs.Io.KnownBytes.{Appends};
 ghost use Rattle.line_serving.specs.Answering.{WithAnswer, by_calls};
-ghost use Rattle.line_serving.specs.Devices.{device_of, counts_of, CountsFaults, IsStuck};
+ghost use Rattle.line_serving.specs.Devices.{device_of, counts_of, CountsFaults, IsFlushed, IsStuck};
 ghost use Rattle.line_serving.specs.Lines.{ended};
 ghost use Rattle.line_serving.specs.Output.{SendsBy, CutsBy, IsCut};
 ghost use Rattle.line_serving.specs.Serving.{FailsAnswer, WriterCounts};
 
 use crate::device::{Counted, DeviceFault};
-use crate::fault::{NoMemory, ServeFault};
+use crate::fault::{LineFault, ServeFault};
 use std::io::Write;
 
 /// Once this many bytes are pending, they are written before more are added. A text of this length is written directly.
@@ -83,8 +83,8 @@ fn put_line<W: Write>(
 ///
 /// # Errors
 ///
-/// `WriteFault` and `NoMemory`. After `NoMemory` nothing of the answer was written.
-pub fn answer_line<F: FnMut(&[u8]) -> Result<String, NoMemory>, W: Write>(
+/// `WriteFault`, `NoMemory` and `TraceFault`. After the last two nothing of the answer was written.
+pub fn answer_line<F: FnMut(&[u8]) -> Result<String, LineFault>, W: Write>(
     answer: &mut F,
     writer: &mut Counted<W>,
     pending: &mut Vec<u8>,
@@ -103,7 +103,8 @@ pub fn answer_line<F: FnMut(&[u8]) -> Result<String, NoMemory>, W: Write>(
             Ok(()) => Ok(()),
             Err(_) => Err(ServeFault::WriteFault),
         },
-        Err(_) => Err(ServeFault::NoMemory),
+        Err(LineFault::NoMemory) => Err(ServeFault::NoMemory),
+        Err(LineFault::TraceFault) => Err(ServeFault::TraceFault),
     }
 }
 
@@ -111,6 +112,7 @@ pub fn answer_line<F: FnMut(&[u8]) -> Result<String, NoMemory>, W: Write>(
 pub fn close<W: Write>(writer: &mut Counted<W>, pending: &mut Vec<u8>) -> Result<(), DeviceFault>
     ensures ok { OnOk result (Appends (W.contents (device_of writer.old)) (W.contents (device_of writer.new)) pending.old.items) }
     ensures err { OnErr result (IsCut (W.contents (device_of writer.old)) (W.contents (device_of writer.new)) pending.old.items) }
+    ensures flushed { OnOk result (IsFlushed (counts_of writer.new)) }
     ensures faults { CountsFaults IsStuck (counts_of writer.old) (counts_of writer.new) result }
 {
     match send(writer, pending) {

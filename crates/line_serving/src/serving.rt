@@ -4,23 +4,23 @@ ghost use Rattle.std.specs.Prelude.{◌≡◌, [], ◌++◌, ◌<◌, ◌≤◌,
 ghost use Rattle.std.specs.Io.KnownBytes.{ReadConsumes};
 ghost use Rattle.line_serving.specs.Answering.{by_calls};
 ghost use Rattle.line_serving.specs.Devices.{counts_of, device_of, devices, CountsFaults, CountsNone, CountsRead, IsReadOut};
-ghost use Rattle.line_serving.specs.Serving.{ServesLater, StopsLater, ServesAll, StopsServing, ReaderCounts, WriterCounts, IsBounded, HasGrown, Serves};
+ghost use Rattle.line_serving.specs.Serving.{ServesBy, StopsBy, ServesAllBy, StopsServingBy, ReaderCounts, WriterCounts, WriterFlushed, IsBounded, HasGrown, Serves};
 
 use crate::device::{Counted, DeviceFault};
-use crate::fault::{NoMemory, ServeFault};
+use crate::fault::{LineFault, ServeFault};
 use crate::feed::{feed, finish};
 use crate::output::{close, send};
-use std::alloc::Global;
+use std::alloc::{AllocError, Global};
 use std::io::{Read, Write};
 
 /// How many bytes are read at a time.
 const BLOCK: usize = 65_536;
 
 // A block to read into.
-fn new_block(alloc: Global) -> Result<Vec<u8>, NoMemory>
+fn new_block(alloc: Global) -> Result<Vec<u8>, AllocError>
     ensures { IfOk result (λ block. vec_len block ≡ 65536) }
 {
-    Ok(vec![in alloc; 0u8; BLOCK]?)
+    vec![in alloc; 0u8; BLOCK]
 }
 
 // Reads a block once nothing is pending, so that a client at a pipe sees its answers before it is asked for more.
@@ -41,7 +41,7 @@ fn read_block<R: Read>(
 
 // Reads to the end, and answers each line. Pending answers are written before each further read; at the end some may still be
 // pending.
-fn serve_lines<F: FnMut(&[u8]) -> Result<String, NoMemory>, R: Read, W: Write>(
+fn serve_lines<F: FnMut(&[u8]) -> Result<String, LineFault>, R: Read, W: Write>(
     alloc: Global,
     answer: &mut F,
     reader: &mut Counted<R>,
@@ -52,9 +52,9 @@ fn serve_lines<F: FnMut(&[u8]) -> Result<String, NoMemory>, R: Read, W: Write>(
     requires callable { F.IsAlwaysCallable answer.old }
     requires nothing { pending.old.items ≡ [] }
     requires room { length block.old ≡ 65536 }
-    ensures ok { IfOk result (ServesLater (by_calls F.FnMut) answer.old answer.new pending.new
+    ensures ok { IfOk result (ServesBy F.FnMut answer.old answer.new pending.new
         (devices R.remaining W.contents reader.old reader.new writer.old writer.new)) }
-    ensures err { IfErr result (StopsLater (by_calls F.FnMut) answer.old answer.new pending.new
+    ensures err { IfErr result (StopsBy F.FnMut answer.old answer.new pending.new
         (devices R.remaining W.contents reader.old reader.new writer.old writer.new)) }
     ensures reader { ReaderCounts (counts_of reader.old) (counts_of reader.new) result }
     ensures writer { WriterCounts (counts_of writer.old) (counts_of writer.new) result }
@@ -86,7 +86,7 @@ fn serve_lines<F: FnMut(&[u8]) -> Result<String, NoMemory>, R: Read, W: Write>(
 }
 
 // Reads to the end, and answers each line. What is pending may not be written yet.
-fn serve_blocks<F: FnMut(&[u8]) -> Result<String, NoMemory>, R: Read, W: Write>(
+fn serve_blocks<F: FnMut(&[u8]) -> Result<String, LineFault>, R: Read, W: Write>(
     alloc: Global,
     answer: &mut F,
     reader: &mut Counted<R>,
@@ -95,9 +95,9 @@ fn serve_blocks<F: FnMut(&[u8]) -> Result<String, NoMemory>, R: Read, W: Write>(
 ) -> Result<u64, ServeFault>
     requires callable { F.IsAlwaysCallable answer.old }
     requires nothing { pending.old.items ≡ [] }
-    ensures ok { IfOk result (ServesLater (by_calls F.FnMut) answer.old answer.new pending.new
+    ensures ok { IfOk result (ServesBy F.FnMut answer.old answer.new pending.new
         (devices R.remaining W.contents reader.old reader.new writer.old writer.new)) }
-    ensures err { IfErr result (StopsLater (by_calls F.FnMut) answer.old answer.new pending.new
+    ensures err { IfErr result (StopsBy F.FnMut answer.old answer.new pending.new
         (devices R.remaining W.contents reader.old reader.new writer.old writer.new)) }
     ensures reader { ReaderCounts (counts_of reader.old) (counts_of reader.new) result }
     ensures writer { WriterCounts (counts_of writer.old) (counts_of writer.new) result }
@@ -115,19 +115,20 @@ fn serve_blocks<F: FnMut(&[u8]) -> Result<String, NoMemory>, R: Read, W: Write>(
 }
 
 // Reads to the end, answers each line, and writes and flushes what is pending.
-fn serve_all<F: FnMut(&[u8]) -> Result<String, NoMemory>, R: Read, W: Write>(
+fn serve_all<F: FnMut(&[u8]) -> Result<String, LineFault>, R: Read, W: Write>(
     alloc: Global,
     answer: &mut F,
     reader: &mut Counted<R>,
     writer: &mut Counted<W>,
 ) -> Result<u64, ServeFault>
     requires { F.IsAlwaysCallable answer.old }
-    ensures ok { IfOk result (ServesAll (by_calls F.FnMut) answer.old answer.new
+    ensures ok { IfOk result (ServesAllBy F.FnMut answer.old answer.new
         (devices R.remaining W.contents reader.old reader.new writer.old writer.new)) }
-    ensures err { IfErr result (StopsServing (by_calls F.FnMut) answer.old answer.new
+    ensures err { IfErr result (StopsServingBy F.FnMut answer.old answer.new
         (devices R.remaining W.contents reader.old reader.new writer.old writer.new)) }
     ensures reader { ReaderCounts (counts_of reader.old) (counts_of reader.new) result }
     ensures writer { WriterCounts (counts_of writer.old) (counts_of writer.new) result }
+    ensures flushed { WriterFlushed (counts_of writer.new) result }
     ensures bounded { OnOk result (IsBounded (counts_of reader.new)) }
     ensures grown { HasGrown (counts_of reader.old) (counts_of reader.new) }
 {
@@ -150,20 +151,24 @@ fn serve_all<F: FnMut(&[u8]) -> Result<String, NoMemory>, R: Read, W: Write>(
             Ok(()) => Err(ServeFault::NoMemory),
             Err(_) => Err(ServeFault::WriteFault),
         },
+        Err(ServeFault::TraceFault) => match close(writer, &mut pending) {
+            Ok(()) => Err(ServeFault::TraceFault),
+            Err(_) => Err(ServeFault::WriteFault),
+        },
         Err(ServeFault::BadCount) => unreachable!(),
     }
 }
 
 /// Answers each line of the reader by a line to the writer, and says how many there were. `answer` is called once for each
-/// line, in order, and gives its answer, both without a line feed; it fails only when out of memory. A line ends at a line
-/// feed or at the end of the input; a last line feed begins no further line. The writer is flushed once, at the end, after a
-/// fault of the reader, a line that is too long, and when out of memory.
+/// line, in order, and gives its answer, both without a line feed; it fails when out of memory, or where it can't write what it
+/// traces of the line. A line ends at a line feed or at the end of the input; a last line feed begins no further line. The writer
+/// is flushed once, at the end, after a fault of the reader or of a call of `answer`, and after a line that is too long.
 ///
 /// # Errors
 ///
-/// `LineTooLong` for a line of more than 4,194,304 bytes, `ReadFault`, `WriteFault` and `NoMemory`. How far the reader was
-/// read then isn't said. Where the writer fails after another fault, that is `WriteFault`.
-pub fn serve<F: FnMut(&[u8]) -> Result<String, NoMemory>, R: Read, W: Write>(
+/// `LineTooLong` for a line of more than 4,194,304 bytes, `ReadFault`, `WriteFault`, `NoMemory`, and `TraceFault` where a call of
+/// `answer` gave it. How far the reader was read then isn't said. Where the writer fails after another fault, that is `WriteFault`.
+pub fn serve<F: FnMut(&[u8]) -> Result<String, LineFault>, R: Read, W: Write>(
     alloc: Global,
     reader: &mut Counted<R>,
     writer: &mut Counted<W>,

@@ -6,7 +6,7 @@ use Rattle.line_serving.specs.Devices.{DevicesOf}
 use Rattle.world_files.specs.Folders.{Holdings}
 use Rattle.program_run.specs.Runs.{IsProgramRun, IsWordsRun}
 
-pub words-run : {A : Type 0} (f : A → List ℕ) (holds : Holdings) (ws : List A) (d : DevicesOf) (end : Stop) → (length ws ≡ 0 → ⊥) → Keeps d.unread d.rest → IsWordsRun holds (map f ws) d.old d.new end
-    → IsProgramRun holds (map f ws) d end
-words-run f holds [] d end some same h = absurd (some refl)
-words-run f holds (w ∷ ws) d end some same h = (same, h)
+pub words-run : {A : Type 0} (f : A → List ℕ) (holds written : Holdings) (ws : List A) (d : DevicesOf) (end : Stop) → (length ws ≡ 0 → ⊥) → Keeps d.unread d.rest → IsWordsRun holds written (map f ws) d.old d.new end
+    → IsProgramRun holds written (map f ws) d end
+words-run f holds written [] d end some same h = absurd (some refl)
+words-run f holds written (w ∷ ws) d end some same h = (same, h)

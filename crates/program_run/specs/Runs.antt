@@ -1,17 +1,17 @@
 -- What a run of the program writes, and how it ends.
-use Rattle.std.specs.Prelude.{◌≡◌, ◌⊎◌, ℕ, List, [], ◌∷◌, ◌++◌, Option, Some, None, Result, Ok, Err, codes, string_bytes}
+use Rattle.std.specs.Prelude.{◌≡◌, ◌⊎◌, ℕ, List, [], ◌∷◌, ◌++◌, map, Option, Some, None, String, codes, string_bytes}
+use Rattle.std.specs.declared.alloc.Global.{Global}
 use Rattle.std.specs.Io.KnownBytes.{Appends, Keeps}
-use Rattle.csv_source.specs.Tables.{SourceOf}
-use Rattle.line_serving.specs.declared.fault.ServeFault.{ServeFault}
 use Rattle.line_serving.specs.declared.fault.ServeFault.TheVariants as serve
-use Rattle.line_serving.specs.Devices.{DevicesOf}
+use Rattle.line_serving.specs.Devices.{DevicesOf, device_of}
+use Rattle.line_serving.specs.declared.device.Counted.{Counted}
 use Rattle.line_serving.specs.Lines.{line_feed}
 use Rattle.line_serving.specs.Output.{IsCut}
-use Rattle.line_serving.specs.Serving.{Serves}
 use Rattle.command_line.specs.declared.stop.Stop.{Stop}
 use Rattle.command_line.specs.declared.stop.Stop.TheVariants as stop
 use Rattle.command_line.specs.declared.words.Words.{Words}
 use Rattle.command_line.specs.Words.{IsRead, IsRefused}
+use Rattle.command_line.specs.declared.origin.End.{End}
 use Rattle.command_line.specs.declared.origin.LocatedStop.{LocatedStop}
 use Rattle.command_line.specs.Stops.{stop_of}
 use Rattle.command_line.specs.Origins.{origin_of, origin_of_opening, Explains}
@@ -20,43 +20,13 @@ use Rattle.world.specs.Worlds.{WorldOf, IsWorld}
 use Rattle.world_files.specs.declared.fault.InputFile.TheVariants.{Requests}
 use Rattle.world_files.specs.declared.fault.OpenFault.{OpenFault}
 use Rattle.world_files.specs.Files.{IsWorldFrom, IsUnmadeFrom}
-use Rattle.world_files.specs.Folders.{Holdings, IsAllOf}
-use Rattle.world_files.specs.Opening.{IsUnread, IsLocated, IsUnmade}
-use Rattle.server.specs.Clients.{ClientOf}
-use Rattle.world_answers.specs.Lines.{IsClientOf, answering}
-use Rattle.world_answers.specs.Services.{ServiceOf, within}
-use Rattle.batch_workers.specs.Workers.{IsBadCount}
-
--- nothing was read or written
-pub record IsUntouched (d : DevicesOf) : Type 0 where
-  pub unasked : Keeps d.unread d.rest
-  pub kept : Keeps d.old d.new
-
--- The lines of a reader were served for a client of the service: each is answered in its session, which starts again before the line.
-abbrev pub ServesClient : ServiceOf → DevicesOf → Result ℕ ServeFault → Type 0
-ServesClient service d result = (client : ClientOf SourceOf) × (later : ClientOf SourceOf) × IsClientOf service client
-    × Serves (answering service) client later d result
-
--- All of the input was read, and what was written is the output of its lines; or serving stopped at a fault, or before it began for
--- want of memory.
-abbrev pub IsServed : ServiceOf → DevicesOf → Stop → Type 0
-IsServed service d stop.Served = (lines : ℕ) × ServesClient service d (Ok lines)
-IsServed service d (stop.Serve fault) = ServesClient service d (Err fault) ⊎ ((fault ≡ serve.NoMemory) × IsUntouched d)
-IsServed service d (stop.Help text) = ⊥
-IsServed service d (stop.Command text) = ⊥
-IsServed service d (stop.World fault) = ⊥
-IsServed service d (stop.Table fault) = ⊥
-IsServed service d stop.File = ⊥
-
--- the number of workers isn't 1 to 16: that is said, and nothing was read or written
-pub record IsMiscounted (d : DevicesOf) (end : Stop) : Type 0 where
-  pub reported : end ≡ stop.Serve serve.BadCount
-  pub untouched : IsUntouched d
-
--- with workers lines are served alike, if there may be so many
-abbrev pub IsServedBy : Option ℕ → ServiceOf → DevicesOf → Stop → Type 0
-IsServedBy None service d end = IsServed service d end
-IsServedBy (Some workers) service d end = (¬ (IsBadCount workers) → IsServed service d end) × (IsBadCount workers → IsMiscounted d end)
+use Rattle.world_files.specs.Folders.{Holdings, IsAllOf, WritesNoOther}
+use Rattle.world_files.specs.Opening.{IsUnread, IsUncreated, IsLocated, IsUnmade}
+use Rattle.program_run.specs.Serving.{IsServed, IsServedBy}
+use Rattle.program_run.specs.Tracing.{IsTracedTo}
+use Rattle.world_answers.specs.Services.{ServiceOf, service_of, within}
+use Rattle.world_answers.specs.declared.service.Service.{Service}
+use Rattle.program_run.specs.declared.context.Run.{Run}
 
 -- some texts and tables that were read are this world, with no limit of a batch
 abbrev pub IsSample : WorldOf → Type 0
@@ -71,15 +41,23 @@ pub record IsSampleUnmade (old new : Option (List ℕ)) (end : Stop) : Type 0 wh
 abbrev pub IsSampleRun : DevicesOf → Stop → Type 0
 IsSampleRun d end = ((world : WorldOf) × IsSample world × IsServed (within None world) d end) ⊎ (Keeps d.unread d.rest × IsSampleUnmade d.old d.new end)
 
--- The request lines of a file were served over the world of the other files, with the limits of the words. As far as it is known what the
--- files hold, the world is of all that they hold, and so are the lines.
-pub record AreFilesServed (holds : Holdings) (words : Words) (old new : Option (List ℕ)) (end : Stop) : Type 0 where
+-- Lines were served; and where the words name a file for a trace, their trace is what was written to it.
+abbrev pub IsServedTo : Option (String Global) → Holdings → Option ℕ → ServiceOf → DevicesOf → Stop → Type 0
+IsServedTo None written workers service d end = IsServedBy workers service d end
+IsServedTo (Some path) written workers service d end = IsTracedTo (written (string_bytes path)) workers service d end
+
+abbrev pub IsServedFor : Words → Holdings → ServiceOf → DevicesOf → Stop → Type 0
+IsServedFor words written service d end = IsServedTo words.trace written words.workers service d end
+
+-- The request lines of a file were served over the world of the other files, with the limits and the trace of the words. As far as it is
+-- known what the files hold, the world is of all that they hold, and so are the lines.
+pub record AreFilesServed (holds written : Holdings) (words : Words) (old new : Option (List ℕ)) (end : Stop) : Type 0 where
   pub world : WorldOf
   pub from : IsWorldFrom holds words.files world
   pub devices : DevicesOf
   pub requests : IsAllOf (holds (string_bytes words.requests)) devices.unread
-  pub written : (devices.old ≡ old) × (devices.new ≡ new)
-  pub served : IsServedBy words.workers (within words.max_answer world) devices end
+  pub answers : (devices.old ≡ old) × (devices.new ≡ new)
+  pub served : IsServedFor words written (within words.max_answer world) devices end
 
 -- no world or no request lines were to be had of the files, and nothing was written
 pub record AreFilesUnserved (holds : Holdings) (words : Words) (old new : Option (List ℕ)) (end : Stop) : Type 0 where
@@ -88,8 +66,12 @@ pub record AreFilesUnserved (holds : Holdings) (words : Words) (old new : Option
   pub told : end ≡ stop_of fault
   pub kept : Keeps old new
 
-abbrev pub IsFilesRun : Holdings → Words → Option (List ℕ) → Option (List ℕ) → Stop → Type 0
-IsFilesRun holds words old new end = AreFilesServed holds words old new end ⊎ AreFilesUnserved holds words old new end
+abbrev pub IsFilesRun : Holdings → Holdings → Words → Option (List ℕ) → Option (List ℕ) → Stop → Type 0
+IsFilesRun holds written words old new end = AreFilesServed holds written words old new end ⊎ AreFilesUnserved holds words old new end
+
+-- no file is written but one that the words name for a trace
+abbrev pub WritesTrace : Words → Holdings → Holdings → Type 0
+WritesTrace words before after = (after ≡ before) ⊎ ((path : String Global) × (words.trace ≡ Some path) × WritesNoOther (string_bytes path) before after)
 
 -- the help was written with a line feed, or a front of it went out
 abbrev pub IsShown : List ℕ → Option (List ℕ) → Option (List ℕ) → Stop → Type 0
@@ -107,18 +89,47 @@ EndsAsRefused (stop.Help text) old new end = IsShown (string_bytes text) old new
 EndsAsRefused refusal old new end = (end ≡ refusal) × Keeps old new
 
 -- a run of words: of the files that they name, where they are read, or else of what is said of them
-abbrev pub IsWordsRun : Holdings → List (List ℕ) → Option (List ℕ) → Option (List ℕ) → Stop → Type 0
-IsWordsRun holds texts old new end = ((words : Words) × IsRead texts words × IsFilesRun holds words old new end)
+abbrev pub IsWordsRun : Holdings → Holdings → List (List ℕ) → Option (List ℕ) → Option (List ℕ) → Stop → Type 0
+IsWordsRun holds written texts old new end = ((words : Words) × IsRead texts words × IsFilesRun holds written words old new end)
     ⊎ ((refusal : Stop) × IsRefused texts refusal × EndsAsRefused refusal old new end)
 
 -- Without words the sample world is served from the reader. Else nothing is read of it.
-abbrev pub IsProgramRun : Holdings → List (List ℕ) → DevicesOf → Stop → Type 0
-IsProgramRun holds [] d end = IsSampleRun d end
-IsProgramRun holds (word ∷ words) d end = Keeps d.unread d.rest × IsWordsRun holds (word ∷ words) d.old d.new end
+abbrev pub IsProgramRun : Holdings → Holdings → List (List ℕ) → DevicesOf → Stop → Type 0
+IsProgramRun holds written [] d end = IsSampleRun d end
+IsProgramRun holds written (word ∷ words) d end = Keeps d.unread d.rest × IsWordsRun holds written (word ∷ words) d.old d.new end
 
--- a file of the words can't be opened, or the files of the world give none
+-- ---- the same, as the functions of a run see it
+
+-- a folder that doesn't tell what its files hold
+abbrev pub unknown : Holdings
+unknown path = None
+
+-- lines were served with the workers and the trace of a run's words
+abbrev pub ServesFor : {R G : Type 0} → Holdings → Run R G → Service → DevicesOf → LocatedStop → Type 0
+ServesFor written run service d end = IsServedFor run.words.now written (service_of service) d end.stop
+
+-- a run of words that are read, to a writer whose contents a function says
+abbrev pub RunsFiles : {R G W : Type 0} → Holdings → Holdings → Run R G → (W → Option (List ℕ)) → Counted W → Counted W → LocatedStop → Type 0
+RunsFiles holds written run contents old new end = IsFilesRun holds written run.words.now (contents (device_of old)) (contents (device_of new)) end.stop
+
+-- a run of the words of a program
+abbrev pub RunsIn : Holdings → Holdings → List (String Global) → DevicesOf → End → Type 0
+RunsIn holds written words d end = IsProgramRun holds written (map string_bytes words) d end.stop
+
+-- ---- what is written and what is said besides
+
+-- a run writes no file but one that its words name for a trace, where they are read
+abbrev pub WritesOnlyTrace : List (List ℕ) → Holdings → Holdings → Type 0
+WritesOnlyTrace texts before after = (after ≡ before) ⊎ ((words : Words) × IsRead texts words × WritesTrace words before after)
+
+-- where the fault of serving is, or why the file of the trace can't be created
+abbrev pub IsPlacedTrace : LocatedStop → Type 0
+IsPlacedTrace end = (end.origin ≡ origin_of end.stop)
+    ⊎ ((fault : OpenFault) × IsUncreated fault × (end.stop ≡ stop_of fault) × (end.origin ≡ origin_of_opening fault))
+
+-- a file of the words can't be opened or created, or the files of the world give none
 abbrev pub IsUnopenedOf : Words → OpenFault → Type 0
-IsUnopenedOf words fault = IsLocated words.files fault ⊎ IsUnread Requests fault
+IsUnopenedOf words fault = IsLocated words.files fault ⊎ IsUnread Requests fault ⊎ IsUncreated fault
 
 -- where the fault is: what the end itself says, or what is known of the files that were to be opened
 abbrev pub IsPlaced : Words → LocatedStop → Type 0

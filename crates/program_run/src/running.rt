@@ -1,13 +1,18 @@
 //! A run of the program.
 
-ghost use Rattle.std.specs.Prelude.{◌≡◌, [], ◌∷◌, ◌++◌, None, map, IfSome, IfErr, OnOk, OnErr, string_bytes};
+ghost use Rattle.std.specs.Prelude.{◌≡◌, [], ◌∷◌, ◌++◌, map, IfSome, IfErr, OnOk, OnErr, string_bytes};
 ghost use Rattle.std.specs.Io.KnownBytes.{Appends};
 ghost use Rattle.line_serving.specs.Devices.{device_of, devices};
 ghost use Rattle.line_serving.specs.Lines.{line_feed};
 ghost use Rattle.line_serving.specs.Output.{IsCut};
-ghost use Rattle.program_run.specs.Runs.{IsServed, IsServedBy, IsShown, EndsAsRefused, IsSampleRun, IsFilesRun, IsPlaced, IsProgramRun, SaysWhere, IsWordless};
+ghost use Rattle.program_run.specs.Serving.{IsServed, IsServedBy};
+ghost use Rattle.program_run.specs.Runs.{IsShown, EndsAsRefused, IsSampleRun, IsPlaced, IsPlacedTrace, RunsFiles, RunsIn, SaysWhere, ServesFor, unknown, IsWordless, WritesTrace, WritesOnlyTrace};
+ghost use Rattle.program_run.specs.Tracing.{TracesTo};
 ghost use Rattle.world_answers.specs.Services.{service_of};
+ghost use Rattle.world_files.specs.Folders.{WritesNoOther};
 
+use crate::context::Run;
+use crate::tracing::{Traced, trace_service};
 use command_line::{End, LocatedStop, Stop, Words};
 use line_serving::{Counted, DeviceFault, ServeFault};
 use server::{Workers, serve, serve_with};
@@ -18,7 +23,7 @@ use std::rt::{Env, Files};
 use std::sync::Wait;
 use std::thread::Threads;
 use world_answers::{Gate, NoGate, Service, lines_are_direct};
-use world_files::{Folder, System, open_requests, open_world, sample_world};
+use world_files::{Folder, System, create_trace, open_requests, open_world, sample_world};
 
 /// What `clap` says of words that are no text.
 const NOT_TEXT: &str = "error: invalid UTF-8 was detected in one or more arguments";
@@ -138,34 +143,87 @@ fn max_answer(words: &Words) -> Option<usize>
     }
 }
 
-/// Serves the request lines of a file over the world of the other files, with the limits and the workers that the words give.
-fn run_files<R: Threads + Wait + AllocGlobal + Sync, D: Folder, G: Gate + Copy, W: Write>(
-    rt: &R,
-    folder: &D,
-    gate: G,
-    words: &Words,
+/// Serves the lines of a reader, and traces them to the file of a path, which is created first.
+fn trace_requests<
+    R: Threads + Wait + AllocGlobal + Sync,
+    D: Folder,
+    G: Gate + Copy,
+    I: Read,
+    W: Write,
+>(
+    run: &Run<'_, R, G>,
+    folder: &mut D,
+    path: &str,
+    service: &Service<'_>,
+    reader: &mut Counted<I>,
     writer: &mut Counted<W>,
 ) -> LocatedStop
-    ensures run { IsFilesRun (D.holds folder.now) words.now (W.contents (device_of writer.old)) (W.contents (device_of writer.new)) result.stop }
-    ensures placed { IsPlaced words.now result }
+    ensures run { TracesTo (D.written folder.new path.now) run.now service.now
+        (devices I.remaining W.contents reader.old reader.new writer.old writer.new) result }
+    ensures placed { IsPlacedTrace result }
+    ensures others { WritesNoOther path.now (D.written folder.old) (D.written folder.new) }
 {
-    let world = match open_world(rt.alloc(), folder, &words.files) {
+    let file = match create_trace(folder, path) {
+        Ok(file) => file,
+        Err(fault) => return LocatedStop::from(fault),
+    };
+    let Traced { stop, trace } = trace_service(run, service, Counted::new(file), reader, writer);
+    folder.close(path, trace.into_inner());
+    LocatedStop::from(stop)
+}
+
+/// Serves the lines of a reader, with a trace where the words name a file for it.
+fn serve_requests<
+    R: Threads + Wait + AllocGlobal + Sync,
+    D: Folder,
+    G: Gate + Copy,
+    I: Read,
+    W: Write,
+>(
+    run: &Run<'_, R, G>,
+    folder: &mut D,
+    service: &Service<'_>,
+    reader: &mut Counted<I>,
+    writer: &mut Counted<W>,
+) -> LocatedStop
+    ensures run { ServesFor (D.written folder.new) run.now service.now
+        (devices I.remaining W.contents reader.old reader.new writer.old writer.new) result }
+    ensures placed { IsPlacedTrace result }
+    ensures written { WritesTrace run.now.words.now (D.written folder.old) (D.written folder.new) }
+{
+    match &run.words.trace {
+        Some(path) => trace_requests(run, folder, path.as_str(), service, reader, writer),
+        None => LocatedStop::from(serve_words(
+            run.rt,
+            run.words.workers,
+            service,
+            run.gate,
+            reader,
+            writer,
+        )),
+    }
+}
+
+/// Serves the request lines of a file over the world of the other files, with the limits, the workers and the trace that the words give.
+fn run_files<R: Threads + Wait + AllocGlobal + Sync, D: Folder, G: Gate + Copy, W: Write>(
+    run: &Run<'_, R, G>,
+    folder: &mut D,
+    writer: &mut Counted<W>,
+) -> LocatedStop
+    ensures run { RunsFiles (D.holds folder.old) (D.written folder.new) run.now W.contents writer.old writer.new result }
+    ensures placed { IsPlaced run.now.words.now result }
+    ensures written { WritesTrace run.now.words.now (D.written folder.old) (D.written folder.new) }
+{
+    let world = match open_world(run.rt.alloc(), folder, &run.words.files) {
         Ok(world) => world,
         Err(fault) => return LocatedStop::from(fault),
     };
     let service = Service {
         world: &world,
-        max_answer: max_answer(words),
+        max_answer: max_answer(run.words),
     };
-    match open_requests(folder, words.requests.as_str()) {
-        Ok(file) => LocatedStop::from(serve_words(
-            rt,
-            words.workers,
-            &service,
-            gate,
-            &mut Counted::new(file),
-            writer,
-        )),
+    match open_requests(folder, run.words.requests.as_str()) {
+        Ok(file) => serve_requests(run, folder, &service, &mut Counted::new(file), writer),
         Err(fault) => LocatedStop::from(fault),
     }
 }
@@ -222,32 +280,39 @@ pub fn run<R: Files + Threads + Wait + AllocGlobal + Sync, I: Read, W: Write>(
     reader: &mut Counted<I>,
     writer: &mut Counted<W>,
 ) -> End
-    ensures run { IsProgramRun (λ _. None) (map string_bytes words.now)
-        (devices I.remaining W.contents reader.old reader.new writer.old writer.new) result.stop }
+    ensures run { RunsIn unknown unknown words.now
+        (devices I.remaining W.contents reader.old reader.new writer.old writer.new) result }
     ensures explained { IfSome result.explanation (λ text. SaysWhere (map string_bytes words.now) result.stop (string_bytes text)) }
 {
-    run_in(rt, &System::new(rt), NoGate, words, reader, writer)
+    run_in(rt, &mut System::new(rt), NoGate, words, reader, writer)
 }
 
-/// A run as [`run`] makes it, over the files of a folder. Each batch enters the gate before it is asked.
+/// A run as [`run`] makes it, over the files of a folder. Each batch enters the gate before it is asked. The file of a trace is created
+/// once all other files are opened; when the run ends, it is closed. No other file is written.
 pub fn run_in<R: Threads + Wait + AllocGlobal + Sync, D: Folder, G: Gate + Copy, I: Read, W: Write>(
     rt: &R,
-    folder: &D,
+    folder: &mut D,
     gate: G,
     words: &[String],
     reader: &mut Counted<I>,
     writer: &mut Counted<W>,
 ) -> End
-    ensures run { IsProgramRun (D.holds folder.now) (map string_bytes words.now)
-        (devices I.remaining W.contents reader.old reader.new writer.old writer.new) result.stop }
+    ensures run { RunsIn (D.holds folder.old) (D.written folder.new) words.now
+        (devices I.remaining W.contents reader.old reader.new writer.old writer.new) result }
     ensures explained { IfSome result.explanation (λ text. SaysWhere (map string_bytes words.now) result.stop (string_bytes text)) }
+    ensures written { WritesOnlyTrace (map string_bytes words.now) (D.written folder.old) (D.written folder.new) }
 {
     if words.is_empty() {
         return End::from(run_sample(rt.alloc(), gate, reader, writer));
     }
     match Words::read(rt.alloc(), words) {
         Ok(words) => {
-            let stop = run_files(rt, folder, gate, &words, writer);
+            let run = Run {
+                rt,
+                words: &words,
+                gate,
+            };
+            let stop = run_files(&run, folder, writer);
             End::of(rt.alloc(), &words, stop)
         }
         Err(stop) => End::from(tell(stop, writer)),

@@ -6,7 +6,7 @@ use crate::sources::{counters, session};
 use crate::ways::answer_in_turn;
 use crate::worlds::{plan_of, refusal};
 use anyhow::Result;
-use line_serving::{Counted, NoMemory, serve};
+use line_serving::{Counted, LineFault, serve};
 use std::alloc::Global;
 use std::sync::atomic::{AtomicU64, Ordering};
 use world::World;
@@ -31,7 +31,7 @@ fn counted_line(
     world: &World,
     calls: &AtomicU64,
     line: &[u8],
-) -> Result<String, NoMemory> {
+) -> Result<String, LineFault> {
     calls.fetch_add(1, Ordering::SeqCst);
     match line_report(alloc, world, line) {
         Ok(text) => Ok(text),

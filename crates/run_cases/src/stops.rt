@@ -39,6 +39,7 @@ fn serve_fault(name: &str) -> Result<ServeFault> {
         "WriteFault" => ServeFault::WriteFault,
         "NoMemory" => ServeFault::NoMemory,
         "BadCount" => ServeFault::BadCount,
+        "TraceFault" => ServeFault::TraceFault,
         _ => bail!("no such fault"),
     })
 }

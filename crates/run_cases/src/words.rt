@@ -38,6 +38,9 @@ fn parts(alloc: Global, words: &Words) -> Result<String, AllocError> {
     if words.explain {
         report.push_str(", explained")?;
     }
+    if let Some(path) = &words.trace {
+        write!(report, ", traced to {path}")?;
+    }
     for table in &words.files.tables {
         write!(report, ", table {:?} in {:?}", table.name, table.file)?;
     }

@@ -4,7 +4,7 @@ use Rattle.load_memory.specs.Keys.{KeyOf}
 use Rattle.load_queue.specs.Answers.{AnswerOf}
 use Rattle.load_rounds.specs.Sessions.{SessionOf}
 use Rattle.load_rounds.specs.SharedRounds.{ReportOf}
-use Rattle.line_serving.specs.Answering.{AnsweringOf}
+use Rattle.line_serving.specs.Answering.{AnsweringOf, at_memory}
 use Rattle.request_line.specs.Requests.{RequestOf, IsRequest, AreRequests, IsNoRequest}
 use Rattle.request_plans.specs.Planning.{not_a_request}
 use Rattle.server.specs.Clients.{ClientOf, IsSameClient, begun}
@@ -38,4 +38,4 @@ module _ {S : Type 0} (may : S → List KeyOf → AnswerOf → Type 0) where
 
   -- how lines are served, from one state of the client to the next
   abbrev pub serving : AnsweringOf (ClientOf S)
-  serving = record { gives = ServesLine; stops = StopsLine }
+  serving = record { gives = ServesLine; stops = at_memory StopsLine }

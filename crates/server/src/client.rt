@@ -312,7 +312,7 @@ impl<S: Asks> ClientSession<S> {
     }
 
     /// The response to a line, in the session, which starts again before it.
-    pub(crate) fn serve_line(&mut self, line: &[u8]) -> Result<String, NoMemory>
+    pub fn serve_line(&mut self, line: &[u8]) -> Result<String, NoMemory>
         ensures served { IfOk result (λ text. ServesLine S.may_tell self.old line.now (string_bytes text) self.new) }
         ensures stopped { OnErr result (StopsLine S.may_tell self.old line.now self.new) }
     {
@@ -399,7 +399,7 @@ impl<S: Source> ClientSession<S> {
     }
 
     /// The response to a line, as `serve_line` gives it, by workers.
-    pub(crate) fn serve_line_with<R: Threads + Wait + Sync>(
+    pub fn serve_line_with<R: Threads + Wait + Sync>(
         &mut self,
         workers: &Workers<'_, R>,
         line: &[u8],

@@ -1,14 +1,14 @@
 //! Request lines, answered one after another.
 
-ghost use Rattle.std.specs.Prelude.{IfOk, OnErr, string_bytes};
+ghost use Rattle.std.specs.Prelude.{IfOk, IfErr, string_bytes};
 ghost use denote.Param.Send.{IsSync};
 ghost use Rattle.line_serving.specs.Devices.{devices};
 ghost use Rattle.line_serving.specs.Serving.{Serves};
-ghost use Rattle.server.specs.Lines.{ServesLine, StopsLine, serving};
+ghost use Rattle.server.specs.Lines.{ServesLine, serving};
 
 use crate::client::ClientSession;
 use crate::runner::Workers;
-use line_serving::{Counted, NoMemory, ServeFault, serve as serve_lines};
+use line_serving::{Counted, LineFault, ServeFault, serve as serve_lines};
 use load_queue::{Asks, Source};
 use std::alloc::Global;
 use std::io::{Read, Write};
@@ -32,13 +32,13 @@ pub fn serve<S: Asks, I: Read, W: Write>(
 ) -> Result<u64, ServeFault>
     ensures { Serves (serving S.may_tell) client.old client.new (devices I.remaining W.contents reader.old reader.new writer.old writer.new) result }
 {
-    let mut answer = |line: &[u8]| -> Result<String, NoMemory>
+    let mut answer = |line: &[u8]| -> Result<String, LineFault>
         ensures served { IfOk result (λ text. ServesLine S.may_tell client.entry.now line.now (string_bytes text) client.exit.now) }
-        ensures stopped { OnErr result (StopsLine S.may_tell client.entry.now line.now client.exit.now) }
+        ensures stopped { IfErr result (λ fault. (serving S.may_tell).stops fault client.entry.now line.now client.exit.now) }
     {
         match client.serve_line(line) {
             Ok(text) => Ok(text),
-            Err(_) => Err(NoMemory),
+            Err(_) => Err(LineFault::NoMemory),
         }
     };
     match serve_lines(alloc, reader, writer, &mut answer) {
@@ -61,14 +61,14 @@ pub fn serve_with<S: Source, R: Threads + Wait + Sync, I: Read, W: Write>(
 ) -> Result<u64, ServeFault>
     ensures { Serves (serving S.may_answer) client.old client.new (devices I.remaining W.contents reader.old reader.new writer.old writer.new) result }
 {
-    let mut answer = |line: &[u8]| -> Result<String, NoMemory>
+    let mut answer = |line: &[u8]| -> Result<String, LineFault>
         requires { IsSync R.row × IsSync S.row }
         ensures served { IfOk result (λ text. ServesLine S.may_answer client.entry.now line.now (string_bytes text) client.exit.now) }
-        ensures stopped { OnErr result (StopsLine S.may_answer client.entry.now line.now client.exit.now) }
+        ensures stopped { IfErr result (λ fault. (serving S.may_answer).stops fault client.entry.now line.now client.exit.now) }
     {
         match client.serve_line_with(workers, line) {
             Ok(text) => Ok(text),
-            Err(_) => Err(NoMemory),
+            Err(_) => Err(LineFault::NoMemory),
         }
     };
     match serve_lines(alloc, reader, writer, &mut answer) {

@@ -24,11 +24,11 @@ fn ran<R: Threads + Wait + AllocGlobal + Sync, G: Gate + Copy>(
     for word in line.split(' ') {
         words.push(String::from_str(alloc, word)?)?;
     }
-    let folder = MemoryFolder { files };
+    let mut folder = MemoryFolder::new(alloc, files);
     let mut written = Vec::new(alloc);
     let mut reader = Counted::new("".as_bytes());
     let mut writer = Counted::new(&mut written);
-    let end = run_in(rt, &folder, gate, &words, &mut reader, &mut writer);
+    let end = run_in(rt, &mut folder, gate, &words, &mut reader, &mut writer);
     drop(writer);
     let text = str::from_utf8(&written)?;
     let last = end.stop.line();
@@ -36,7 +36,7 @@ fn ran<R: Threads + Wait + AllocGlobal + Sync, G: Gate + Copy>(
 }
 
 /// A file of a text.
-fn file<'b>(path: &'b str, text: &'b str) -> MemoryFile<'b> {
+pub fn file<'b>(path: &'b str, text: &'b str) -> MemoryFile<'b> {
     MemoryFile {
         path,
         bytes: text.as_bytes(),

@@ -7,6 +7,9 @@ use Rattle.load_rounds.specs.Sessions.{SessionOf, state_of, restarted}
 use Rattle.load_rounds.specs.SharedRounds.{ReportOf, together}
 use Rattle.request_line.specs.Requests.{RequestOf}
 use Rattle.request_plans.specs.Planning.{IsRefusal}
+use Rattle.line_serving.specs.Answering.{at_memory}
+use Rattle.line_serving.specs.declared.fault.LineFault.{LineFault}
+use Rattle.line_serving.specs.declared.fault.LineFault.TheVariants as fault
 use Rattle.server.specs.Clients.{ClientOf, client_of, begun}
 use Rattle.server.specs.Answers as server
 use Rattle.server.specs.Arrays as server_arrays
@@ -117,3 +120,8 @@ module _ (s : ServiceOf) where
 
   pub stops-client : (c : ClientOf SourceOf) (line : List ℕ) (later : ClientOf SourceOf) → IsClientOf s c → server_lines.StopsLine may_tell c line later → IsClientOf s later
   stops-client c line later is h = later-is c later is h.same.server h.same.most (stops-over c line later is h.stops)
+
+  -- only want of memory keeps a line from its answer
+  pub stopped-client : (e : LineFault) (c : ClientOf SourceOf) (line : List ℕ) (later : ClientOf SourceOf) → IsClientOf s c → at_memory (server_lines.StopsLine may_tell) e c line later → IsClientOf s later
+  stopped-client fault.NoMemory c line later is h = stops-client c line later is h
+  stopped-client fault.TraceFault c line later is h = absurd h

@@ -1,7 +1,7 @@
 -- What answers a line: *Program output*, of one line.
 use Rattle.std.specs.Prelude.{◌≡◌, ℕ, List, Option, Result}
 use Rattle.csv_source.specs.Tables.{SourceOf}
-use Rattle.line_serving.specs.Answering.{AnsweringOf}
+use Rattle.line_serving.specs.Answering.{AnsweringOf, at_memory}
 use Rattle.line_serving.specs.Devices.{DevicesOf}
 use Rattle.line_serving.specs.Serving.{Serves}
 use Rattle.line_serving.specs.declared.fault.ServeFault.{ServeFault}
@@ -37,7 +37,7 @@ pub record AnswersLine (s : ServiceOf) (c : ClientOf SourceOf) (line text : List
 
 -- how the lines of a run are answered
 abbrev pub answering : ServiceOf → AnsweringOf (ClientOf SourceOf)
-answering s = record { gives = AnswersLine s; stops = StopsLine may_tell }
+answering s = record { gives = AnswersLine s; stops = at_memory (StopsLine may_tell) }
 
 -- The lines that are served in the client's session have the text of direct execution each, and the client stays one of the service.
 abbrev pub AreDirect : ServiceOf → ClientOf SourceOf → ClientOf SourceOf → DevicesOf → Result ℕ ServeFault → Type 0

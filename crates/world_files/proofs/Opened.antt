@@ -11,4 +11,5 @@ pub unmade_from : (holds : Holdings) (files : WorldFiles) (fault : OpenFault) â†
 unmade_from holds files (opening.Unread input reason) h = tt
 unmade_from holds files (opening.Table place fault reason) h = tt
 unmade_from holds files (opening.World fault) h = (h.schema, h.bindings, h.tables, h.refused)
+unmade_from holds files (opening.Uncreated reason) h = absurd h
 unmade_from holds files opening.NoMemory h = tt

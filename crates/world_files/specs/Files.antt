@@ -47,4 +47,5 @@ abbrev pub IsUnmadeFrom : Holdings → WorldFiles → OpenFault → Type 0
 IsUnmadeFrom holds files (opening.Unread file reason) = IsFileOf files file
 IsUnmadeFrom holds files (opening.Table place fault reason) = IsSomeAnd (slice_get files.tables.items place) (λ given. IsSheetFault (holds (string_bytes given.file)) fault)
 IsUnmadeFrom holds files (opening.World fault) = IsRefusedFrom holds files fault
+IsUnmadeFrom holds files (opening.Uncreated reason) = ⊥
 IsUnmadeFrom holds files opening.NoMemory = Unit {0}

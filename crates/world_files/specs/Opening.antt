@@ -39,7 +39,16 @@ abbrev pub IsUnread : InputFile → OpenFault → Type 0
 IsUnread file (opening.Unread other reason) = other ≡ file
 IsUnread file (opening.Table place fault reason) = ⊥
 IsUnread file (opening.World fault) = ⊥
+IsUnread file (opening.Uncreated reason) = ⊥
 IsUnread file opening.NoMemory = Unit {0}
+
+-- the file of the trace can't be created; of memory this says nothing
+abbrev pub IsUncreated : OpenFault → Type 0
+IsUncreated (opening.Unread file reason) = ⊥
+IsUncreated (opening.Table place fault reason) = ⊥
+IsUncreated (opening.World fault) = ⊥
+IsUncreated (opening.Uncreated reason) = Unit {0}
+IsUncreated opening.NoMemory = Unit {0}
 
 -- the file of the table of this place can't be opened, or holds none, for its bytes, where they are known, have the fault
 abbrev pub IsUnopened : Option (List ℕ) → ℕ → OpenFault → Type 0
@@ -51,6 +60,7 @@ abbrev pub IsTableRefused : OpenFault → Type 0
 IsTableRefused (opening.Unread file reason) = ⊥
 IsTableRefused (opening.Table place fault reason) = Unit {0}
 IsTableRefused (opening.World fault) = ⊥
+IsTableRefused (opening.Uncreated reason) = ⊥
 IsTableRefused opening.NoMemory = Unit {0}
 
 -- a file that a world is made of
@@ -65,9 +75,11 @@ abbrev pub IsLocated : WorldFiles → OpenFault → Type 0
 IsLocated files (opening.Unread file reason) = IsFileOf files file
 IsLocated files (opening.Table place fault reason) = place < length files.tables.items
 IsLocated files (opening.World fault) = Unit {0}
+IsLocated files (opening.Uncreated reason) = ⊥
 IsLocated files opening.NoMemory = Unit {0}
 
 -- there is no world with this limit of some texts and tables, for this fault, or they weren't read
 abbrev pub IsUnmade : Option ℕ → OpenFault → Type 0
 IsUnmade max (opening.World fault) = (schema : List ℕ) × (bindings : List ℕ) × (tables : List TableOf) × IsRefusal schema bindings tables max fault
+IsUnmade max (opening.Uncreated reason) = ⊥
 IsUnmade max other = Unit {0}

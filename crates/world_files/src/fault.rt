@@ -19,7 +19,7 @@ pub enum InputFile {
     Requests,
 }
 
-/// Why files give no world, or no request lines.
+/// Why files give no world or no request lines, or a trace can't be created.
 #[derive(Debug, Drop)]
 pub enum OpenFault {
     /// A file can't be opened or read, is too long, or is no text where it has to be.
@@ -36,6 +36,8 @@ pub enum OpenFault {
     },
     /// There is no world of the texts and the tables that were read.
     World(WorldFault),
+    /// The file of the trace can't be created.
+    Uncreated(io::Error),
     NoMemory,
 }
 

@@ -1,12 +1,12 @@
 //! Worlds and request lines out of files.
 
-ghost use Rattle.std.specs.Prelude.{◌≡◌, ◌⊎◌, map, IfOk, IfErr, IfSome, string_bytes};
+ghost use Rattle.std.specs.Prelude.{◌≡◌, ◌⊎◌, map, IfOk, IfErr, IfSome, OnOk, string_bytes};
 ghost use Rattle.std.specs.List.{AllZip};
 ghost use Rattle.gq_lexer.specs.declared.lexer.TheConstants.{MAX_BYTES};
 ghost use Rattle.world.specs.Sources.{table_of};
 ghost use Rattle.world_files.specs.declared.fault.InputFile.TheVariants.{Schema, Bindings, Requests};
-ghost use Rattle.world_files.specs.Folders.{IsAllOf};
-ghost use Rattle.world_files.specs.Opening.{IsTextOf, IsSheetOf, IsUnread, IsUnopened, IsLocated, IsWholeOrLong};
+ghost use Rattle.world_files.specs.Folders.{IsAllOf, WritesNoOther};
+ghost use Rattle.world_files.specs.Opening.{IsTextOf, IsSheetOf, IsUnread, IsUncreated, IsUnopened, IsLocated, IsWholeOrLong};
 ghost use Rattle.world_files.specs.Files.{IsTableFrom, IsWorldFrom, IsUnopenedFrom, IsUnmadeFrom};
 
 use crate::fault::{InputFile, OpenFault};
@@ -14,6 +14,7 @@ use crate::folder::Folder;
 use crate::reading::{read_schema, read_table, read_text, unread};
 use csv_source::Table;
 use std::alloc::Global;
+use std::io::ErrorKind;
 use world::World;
 
 /// The most bytes that a bindings file may have.
@@ -177,5 +178,23 @@ pub fn open_requests<D: Folder>(folder: &D, path: &str) -> Result<D::File, OpenF
     match folder.open(path) {
         Ok(file) => Ok(file),
         Err(error) => Err(unread(InputFile::Requests, error)),
+    }
+}
+
+/// An empty file for the trace, in place of one that may be there.
+///
+/// # Errors
+///
+/// `Uncreated` with the reason, and want of memory.
+pub fn create_trace<D: Folder>(folder: &mut D, path: &str) -> Result<D::Created, OpenFault>
+    ensures empty { IfOk result (λ file. D.Created.contents file ≡ D.fresh) }
+    ensures created { OnOk result (D.is_created folder.new path.now) }
+    ensures others { WritesNoOther path.now (D.written folder.old) (D.written folder.new) }
+    ensures err { IfErr result IsUncreated }
+{
+    match folder.create(path) {
+        Ok(created) => Ok(created),
+        Err(error) if error.kind() == ErrorKind::OutOfMemory => Err(OpenFault::NoMemory),
+        Err(error) => Err(OpenFault::Uncreated(error)),
     }
 }

@@ -2,8 +2,9 @@
 //!
 //! The layer above may rely on this: what [`open_world`] makes is the world of all that the files of a [`Folder`] hold at the
 //! paths that are given, each table under its name and in its order, with the limit that is asked for; and an [`OpenFault`] says
-//! which of the files gives none, and why. What [`open_requests`] opens has all that the file holds left. Of the files of the
-//! [`System`] no clause knows what they hold. In which order files are opened no clause says.
+//! which of the files gives none, and why. What [`open_requests`] opens has all that the file holds left. What [`create_trace`] creates
+//! is empty, and once it is closed the folder holds all that was written to it. Of the files of the [`System`] no clause knows what they
+//! hold. In which order files are opened no clause says.
 #![tactic(auto)]
 
 mod bounded;
@@ -14,6 +15,6 @@ mod reading;
 mod sample;
 
 pub use fault::{InputFile, OpenFault};
-pub use files::{TableFile, WorldFiles, open_requests, open_world};
-pub use folder::{Folder, MemoryFile, MemoryFolder, System};
+pub use files::{TableFile, WorldFiles, create_trace, open_requests, open_world};
+pub use folder::{CreatedFile, Folder, MemoryFile, MemoryFolder, System, SystemFile};
 pub use sample::sample_world;

@@ -15,5 +15,5 @@ pub returns-in-Ok-clause-err : goal.returns-in-Ok-clause-err
 returns-in-Ok-clause-err g c = (
   string_bytes c.in-Ok.text,
   record { given = c.in-Ok.text; called = called_at g.F.FnMut c.answer.ensures c.in-Ok.is; bytes = refl },
-  cut_same _ _ _ _ c.in-Err-put_line.ensures.err (ap (λ text. c.args.pending.now.items ++ ended text) c.as_bytes.ensures.value),
+  cut_same _ _ _ _ c.in-Err.ensures.err (ap (λ text. c.args.pending.now.items ++ ended text) c.as_bytes.ensures.value),
 )

@@ -80,3 +80,21 @@ returns-in-Err-NoMemory-clause-err g c =
       cut_off (by_calls g.F.FnMut) c.in-Err-NoMemory.field-0 fault.NoMemory _ _ (g.W.Write.contents (device_of c.args.writer.now)) (g.W.Write.contents (device_of c.serve_blocks.new.writer)) (g.W.Write.contents (device_of c.close-in-Err-NoMemory.new.writer))
           (g.R.Read.remaining (device_of c.serve_blocks.new.reader)) c.serve_blocks.new.pending.items was.0 c.in-Err-NoMemory.field-0-is tt c.in-Err-close-3.ensures.err was.2,
     )
+
+pub returns-in-Ok-close-5-clause-err : goal.returns-in-Ok-close-5-clause-err
+returns-in-Ok-close-5-clause-err g c =
+    let was = c.in-Err-TraceFault.ensures.err in (
+      was.0,
+      was.1,
+      closed (by_calls g.F.FnMut) c.in-Err-TraceFault.field-0 fault.TraceFault _ _ (g.W.Write.contents (device_of c.args.writer.now)) (g.W.Write.contents (device_of c.serve_blocks.new.writer)) (g.W.Write.contents (device_of c.close-in-Err-TraceFault.new.writer))
+          (g.R.Read.remaining (device_of c.serve_blocks.new.reader)) c.serve_blocks.new.pending.items was.0 c.in-Err-TraceFault.field-0-is tt c.in-Ok-close-5.ensures.ok was.2,
+    )
+
+pub returns-in-Err-TraceFault-clause-err : goal.returns-in-Err-TraceFault-clause-err
+returns-in-Err-TraceFault-clause-err g c =
+    let was = c.in-Err-TraceFault.ensures.err in (
+      was.0,
+      was.1,
+      cut_off (by_calls g.F.FnMut) c.in-Err-TraceFault.field-0 fault.TraceFault _ _ (g.W.Write.contents (device_of c.args.writer.now)) (g.W.Write.contents (device_of c.serve_blocks.new.writer)) (g.W.Write.contents (device_of c.close-in-Err-TraceFault.new.writer))
+          (g.R.Read.remaining (device_of c.serve_blocks.new.reader)) c.serve_blocks.new.pending.items was.0 c.in-Err-TraceFault.field-0-is tt c.in-Err-close-4.ensures.err was.2,
+    )

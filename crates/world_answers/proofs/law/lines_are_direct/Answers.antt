@@ -2,12 +2,12 @@ use Rattle.line_serving.proofs.Widening.{serves_kept}
 use Rattle.server.specs.Lines.{serving}
 use Rattle.world_answers.specs.Answers.{may_tell}
 use Rattle.world_answers.specs.Lines.{IsClientOf, answering}
-use Rattle.world_answers.proofs.Serving.{line-direct, line-client, stops-client}
+use Rattle.world_answers.proofs.Serving.{line-direct, line-client, stopped-client}
 use Rattle.world_answers.proofs.law.lines_are_direct.Goals as goal
 
 pub returns : goal.returns
 returns c = λ s f g d r is served.
     serves_kept (serving may_tell) (answering s) (λ x. x) (IsClientOf s)
     (λ x line text y holds h. (line-direct s x line text y holds h, line-client s x line text y holds h))
-    (λ x line y holds h. (h, stops-client s x line y holds h))
+    (λ e x line y holds h. (h, stopped-client s e x line y holds h))
     f g d r is served
