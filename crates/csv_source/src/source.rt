@@ -75,7 +75,7 @@ fn rows_by(alloc: Global, index: &ColumnIndex, key: &Key) -> Result<Vec<Row>, No
         ≡ rows_of_key (source_by x.rows x.column x.mode) (key_of key.now)) }
 {
     match key {
-        Key::Text(text) => index.rows(alloc, text),
+        Key::Text(text) => index.rows(alloc, text.as_str()),
         Key::All => Ok(Vec::new(alloc)),
         Key::Pair(..) => Ok(Vec::new(alloc)),
     }
@@ -87,7 +87,7 @@ fn rows_by_two(alloc: Global, index: &PairIndex, key: &Key) -> Result<Vec<Row>, 
         ≡ rows_of_key (source_by_two x.rows x.column x.second x.mode) (key_of key.now)) }
 {
     match key {
-        Key::Pair(one, two) => index.rows(alloc, one, two),
+        Key::Pair(pair) => index.rows(alloc, pair.one.as_str(), pair.two.as_str()),
         Key::All => Ok(Vec::new(alloc)),
         Key::Text(_) => Ok(Vec::new(alloc)),
     }

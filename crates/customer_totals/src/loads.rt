@@ -8,7 +8,7 @@ use load_rounds::Session;
 use std::alloc::{AllocError, Global};
 
 fn key_of(alloc: Global, id: &str) -> Result<Key, AllocError> {
-    Ok(Key::Text(String::from_str(alloc, id)?))
+    Key::of_text(alloc, id)
 }
 
 // The name in a customer's row.

@@ -24,7 +24,7 @@ pub fn look_up<'m>(
     ensures wants { OnOk result (wants.new ≡ wanting wants.old (lacked memory.now (load_of loader id.now))) }
     ensures loaders { length wants.new ≡ length wants.old }
 {
-    let key = Key::Text(String::from_str(alloc, id)?);
+    let key = Key::of_text(alloc, id)?;
     let cached = cache_key(alloc, &key, memory.mode(loader))?;
     let found = memory.get(loader, &cached);
     if found.is_none() {

@@ -25,7 +25,7 @@ impl Source for Scripted {
         let mut items = Vec::new(alloc);
         for i in 0..n {
             let text = match keys.get(i) {
-                Some(Key::Text(text)) => text.clone()?,
+                Some(Key::Text(text)) => text.to_string(alloc)?,
                 _ => String::new(alloc),
             };
             items.push(Item::KeyFault(text))?;
@@ -48,7 +48,7 @@ fn push_keys(
         match key {
             Key::All => text.push_str("all")?,
             Key::Text(key) => text.push_str(key.as_str())?,
-            Key::Pair(one, two) => write!(text, "({one},{two})")?,
+            Key::Pair(pair) => write!(text, "({},{})", pair.one, pair.two)?,
         }
         text.push(' ')?;
     }

@@ -10,7 +10,7 @@ use std::thread::Threads;
 const PERSON_BY_ID: usize = 0;
 
 fn key_of(alloc: Global, id: &str) -> anyhow::Result<Key> {
-    Ok(Key::Text(String::from_str(alloc, id)?))
+    Ok(Key::of_text(alloc, id)?)
 }
 
 // What a client tells of a person is believed for its session, where nothing is known of that person yet.

@@ -73,7 +73,7 @@ pub fn gone_over<'p, S: Sink + Drop>(
     let Rooted { members, groups } = rooted;
     let mut at = Progress {
         groups,
-        probe: CacheKey::new(tour.alloc),
+        probe: CacheKey::new(),
         out,
     };
     let row = Row::new(tour.alloc, &[])?;
@@ -137,7 +137,7 @@ fn searched<'p>(
     let Rooted { members, groups } = rooted;
     let mut at = Progress {
         groups,
-        probe: CacheKey::new(tour.alloc),
+        probe: CacheKey::new(),
         out: Output::unwritten(tour.alloc),
     };
     for position in waiting {

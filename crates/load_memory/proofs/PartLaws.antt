@@ -23,13 +23,13 @@ use Rattle.load_memory.proofs.Looks.{same_key-is, first-none, look-append, prime
 pub key-eq : (k x : Key) → (key_eq.eq-value).it k x ≡ same_key (key_of k) (key_of x)
 key-eq key.All key.All = refl
 key-eq key.All (key.Text t) = refl
-key-eq key.All (key.Pair s t) = refl
+key-eq key.All (key.Pair p) = refl
 key-eq (key.Text s) key.All = refl
 key-eq (key.Text s) (key.Text t) = refl
-key-eq (key.Text s) (key.Pair t u) = refl
-key-eq (key.Pair s t) key.All = refl
-key-eq (key.Pair s t) (key.Text u) = refl
-key-eq (key.Pair s t) (key.Pair u v) = refl
+key-eq (key.Text s) (key.Pair p) = refl
+key-eq (key.Pair p) key.All = refl
+key-eq (key.Pair p) (key.Text t) = refl
+key-eq (key.Pair p) (key.Pair q) = refl
 
 pub cache-eq : (k x : CacheKey) → (cache_eq.eq-value).it k x ≡ same_key (cache_of k) (cache_of x)
 cache-eq k x = key-eq k.form x.form

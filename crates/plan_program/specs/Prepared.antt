@@ -30,7 +30,7 @@ leaf_value_seen leaf_value.Null = Null
 leaf_value_seen (leaf_value.Fault t) = Fault (string_bytes t)
 
 abbrev pub part_from_seen : rust-part.PartFrom → PartFrom
-part_from_seen (part.Fixed t) = fixed_part (option_map (λ s. string_bytes s) t)
+part_from_seen (part.Fixed t) = fixed_part t
 part_from_seen (part.Column c) = column_part c.now
 
 abbrev pub key_from_seen : rust-key.KeyFrom → KeyFrom

@@ -1,6 +1,6 @@
 //! Preparation of groups: all that is the same for each row.
 
-ghost use Rattle.std.specs.Prelude.{◌≡◌, IfOk, Some, false, map, string_bytes};
+ghost use Rattle.std.specs.Prelude.{◌≡◌, IfOk, Some, false, map};
 ghost use Rattle.std.specs.Option.{option_map, option_copied};
 ghost use Rattle.gq_parser.specs.Tree.{type_of};
 ghost use Rattle.gq_parser.specs.Types.{is_non_null};
@@ -24,17 +24,17 @@ use gq_check::Plan;
 use gq_lexer::Place;
 use gq_parser::{Field, TypeRef};
 use gq_schema::{FieldDef, Input};
-use load_memory::{Key, NoMemory};
+use load_memory::{Key, NoMemory, Text};
 use std::alloc::{AllocError, Global};
 use std::sync::Arc;
 
 // The text that an argument's value is in a key.
-fn text_of_input(alloc: Global, input: &Input) -> Result<Option<String>, AllocError>
-    ensures { IfOk result (λ text. option_map (λ t. string_bytes t) text ≡ text_of_input (input_of input.now)) }
+fn text_of_input(alloc: Global, input: &Input) -> Result<Option<Text>, AllocError>
+    ensures { IfOk result (λ text. text ≡ text_of_input (input_of input.now)) }
 {
     match input {
-        Input::Text(text) => Ok(Some(text.clone()?)),
-        Input::Int(number) => Ok(Some(number.to_string(alloc)?)),
+        Input::Text(text) => Ok(Some(Text::from_str(alloc, text.as_str())?)),
+        Input::Int(number) => Ok(Some(Text::from(number.to_string(alloc)?))),
         Input::Null => Ok(None),
         Input::Bool(_) => Ok(None),
         Input::List(_) => Ok(None),

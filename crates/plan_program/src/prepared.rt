@@ -3,7 +3,7 @@
 use gq_bindings::Step;
 use gq_lexer::Place;
 use gq_parser::{Field, TypeRef};
-use load_memory::Key;
+use load_memory::{Key, Text};
 use std::sync::Arc;
 
 /// The own value of a position with nothing below it.
@@ -22,7 +22,7 @@ pub enum LeafValue {
 #[derive(Drop)]
 pub enum PartFrom<'p> {
     /// The text of an argument; none where it is null.
-    Fixed(Option<String>),
+    Fixed(Option<Text>),
     /// A column of the row.
     Column(&'p str),
 }

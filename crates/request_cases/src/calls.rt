@@ -17,7 +17,7 @@ use world::World;
 type Asking<'w> = Session<CountingSource<'w>>;
 
 fn key_of(alloc: Global, text: &str) -> Result<Key, AllocError> {
-    Ok(Key::Text(String::from_str(alloc, text)?))
+    Key::of_text(alloc, text)
 }
 
 /// The keys that spaces part; an empty text has none.

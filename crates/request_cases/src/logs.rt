@@ -17,7 +17,7 @@ pub fn push_keys(text: &mut String, keys: &[Key]) -> Result<(), AllocError> {
         match key {
             Key::All => text.push_str("all")?,
             Key::Text(key) => text.push_str(key.as_str())?,
-            Key::Pair(one, two) => write!(text, "({one},{two})")?,
+            Key::Pair(pair) => write!(text, "({},{})", pair.one, pair.two)?,
         }
         mark = " ";
     }

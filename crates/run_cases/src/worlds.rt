@@ -115,9 +115,9 @@ fn key_of(alloc: Global, text: &str) -> Result<Key, AllocError> {
         return Ok(Key::All);
     }
     if let Some((one, two)) = parts_of(text) {
-        return Ok(Key::Pair(String::from_str(alloc, one)?, String::from_str(alloc, two)?));
+        return Key::of_pair(alloc, one, two);
     }
-    Ok(Key::Text(String::from_str(alloc, text)?))
+    Key::of_text(alloc, text)
 }
 
 /// The parts of a pair.

@@ -34,7 +34,7 @@ pub use future::ClientAnswering;
 pub use gq_bindings::{By, LoaderLine};
 pub use gq_schema::SchemaFault;
 pub use line_serving::{Counted, ServeFault};
-pub use load_memory::{Item, Key, NoMemory, Outcome, Row};
+pub use load_memory::{Item, Key, NoMemory, Outcome, Row, Text, TextPair};
 pub use load_queue::{Asks, FetchFault, PerKey, QueueFault, Source};
 pub use load_rounds::{Answer, SessionFault};
 pub use opening::Sessions;

@@ -167,7 +167,7 @@ fn limit_answers(session: &mut ClientSession<Books>) -> anyhow::Result<String> {
 
 // What is primed isn't asked.
 fn prime(alloc: Global, session: &mut ClientSession<Books>) -> anyhow::Result<String> {
-    let key = Key::Text(String::from_str(alloc, "9")?);
+    let key = Key::of_text(alloc, "9")?;
     let row = Row::new(alloc, &[("id", "9"), ("title", "Unwritten")])?;
     let added = session.prime(BOOK_BY_ID, &key, Item::Rows(vec![in alloc; row]?))?;
     let answer = session.answer(&asking("{book(id:9){title}}"))?;
@@ -176,7 +176,7 @@ fn prime(alloc: Global, session: &mut ClientSession<Books>) -> anyhow::Result<St
 
 // What is cleared is asked again.
 fn clear(alloc: Global, session: &mut ClientSession<Books>) -> anyhow::Result<String> {
-    let key = Key::Text(String::from_str(alloc, "9")?);
+    let key = Key::of_text(alloc, "9")?;
     let known = session.clear(BOOK_BY_ID, &key)?;
     let answer = session.answer(&asking("{book(id:9){title}}"))?;
     session.clear_all(BOOK_BY_ID)?;
@@ -185,7 +185,7 @@ fn clear(alloc: Global, session: &mut ClientSession<Books>) -> anyhow::Result<St
 
 // One key, by itself.
 fn load(alloc: Global, session: &mut ClientSession<Books>) -> anyhow::Result<String> {
-    let outcome = session.load(BOOK_BY_ID, Key::Text(String::from_str(alloc, "2")?))?;
+    let outcome = session.load(BOOK_BY_ID, Key::of_text(alloc, "2")?)?;
     match outcome {
         Outcome::Rows(rows) => Ok(format!(in alloc; "{} row", rows.len())?),
         _ => Ok(String::from_str(alloc, "a fault")?),
@@ -194,8 +194,8 @@ fn load(alloc: Global, session: &mut ClientSession<Books>) -> anyhow::Result<Str
 
 // Several keys, in one round.
 fn load_many(alloc: Global, session: &mut ClientSession<Books>) -> anyhow::Result<String> {
-    let one = Key::Text(String::from_str(alloc, "1")?);
-    let other = Key::Text(String::from_str(alloc, "7")?);
+    let one = Key::of_text(alloc, "1")?;
+    let other = Key::of_text(alloc, "7")?;
     let outcomes = session.load_many(BOOK_BY_ID, &[one, other])?;
     Ok(format!(in alloc; "{} outcomes", outcomes.len())?)
 }

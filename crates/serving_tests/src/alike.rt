@@ -125,7 +125,7 @@ fn push_known(
     match key {
         Key::All => write!(text, " all: ")?,
         Key::Text(key) => write!(text, " {key}: ")?,
-        Key::Pair(one, two) => write!(text, " ({one},{two}): ")?,
+        Key::Pair(pair) => write!(text, " ({},{}): ", pair.one, pair.two)?,
     }
     let cached = cache_key(*text.allocator(), key, memory.mode(number))?;
     match memory.get(number, &cached) {

@@ -347,7 +347,7 @@ fn broken_sources_are_reported_as_in_turn(rt: HostRuntime) -> Result<(), Fail> {
 }
 
 fn text_key(alloc: Global, key: &str) -> Result<Key, AllocError> {
-    Ok(Key::Text(String::from_str(alloc, key)?))
+    Key::of_text(alloc, key)
 }
 
 /// The first of these users and one who isn't there were loaded before.

@@ -143,6 +143,6 @@ pub fn push_key(text: &mut String, key: &Key) -> Result<(), AllocError> {
     match key {
         Key::All => text.push_str("all"),
         Key::Text(key) => text.push_str(key.as_str()),
-        Key::Pair(one, two) => write!(text, "({one},{two})"),
+        Key::Pair(pair) => write!(text, "({},{})", pair.one, pair.two),
     }
 }
