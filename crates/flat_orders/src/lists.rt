@@ -54,10 +54,10 @@ fn write_key(shapes: &mut Vec<u32>, texts: &mut TextBuffer, key: &Key) -> Result
             shapes.push(1)?;
             texts.push(text.as_str())?;
         }
-        Key::Pair(one, two) => {
+        Key::Pair(pair) => {
             shapes.push(2)?;
-            texts.push(one.as_str())?;
-            texts.push(two.as_str())?;
+            texts.push(pair.one.as_str())?;
+            texts.push(pair.two.as_str())?;
         }
     }
     Ok(())

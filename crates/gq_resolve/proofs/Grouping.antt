@@ -1,4 +1,5 @@
 -- Groups that are more and more, and shapes that are kept.
+use Rattle.std.specs.Arc.{arc_value}
 use Rattle.std.proofs.Common.{◌≡◌, ℕ, zero, suc, ◌<◌, ◌≤◌, ◌+◌, true, List, [], ◌∷◌, ◌++◌, take, length, get_or, set, refl, sym, ap, subst, ◌∙◌, arith, length-append, length-set, Some, None, string_bytes}
 use Rattle.std.specs.List.{All, slice_get}
 use Rattle.std.specs.Option.{option_map_or}
@@ -81,7 +82,7 @@ length-more xs y = length-append xs (y ∷ [])
 shape-more : (plan : PlanOf) (old new : List Group) (children : ChildrenOf) (s : Shape) → length old ≤ length new → ((v : View) → Covers plan new v → Covers plan old v) → IsShape plan old children s → IsShape plan new children s
 shape-more plan old new children s le covers made = record {
   makes = record {
-    known = λ n m among. asked-more (length old) (length new) (get_or s.members.value.items n m).asks le (made.makes.known n m among);
+    known = λ n m among. asked-more (length old) (length new) (get_or (arc_value s.members).items n m).asks le (made.makes.known n m among);
     members = λ v c. made.makes.members v (covers v c);
   };
   only = made.only;
@@ -132,12 +133,12 @@ children-there gs i g e = ap (λ o. option_map_or (λ (x : Group). children_in x
 right-there : (plan : PlanOf) (gs : List Group) (i : ℕ) (g : Group) → slice_get gs i ≡ Some g → AreRight plan gs → IsRight plan gs g
 right-there plan gs i g e h = subst (IsRight plan gs) (get_or_from_slice_get gs i g g e) (h i g (slice_get_within gs i g e))
 
-pub kept-there : (gs : List Group) (i k : ℕ) (g : Group) (s : Shape) (ty : List ℕ) → i < length gs → g ≡ get_or gs i g → k < length g.shapes.items → s ≡ get_or g.shapes.items k s → string_bytes s.ty ≡ ty → AreKept gs i ty s.members.value.items
+pub kept-there : (gs : List Group) (i k : ℕ) (g : Group) (s : Shape) (ty : List ℕ) → i < length gs → g ≡ get_or gs i g → k < length g.shapes.items → s ≡ get_or g.shapes.items k s → string_bytes s.ty ≡ ty → AreKept gs i ty (arc_value s.members).items
 kept-there gs i k g s ty within same lt is name = λ plan h.
     let there : slice_get gs i ≡ Some g = slice_get-get_or gs i g within ∙ ap Some (sym same) in
     let here : IsShape plan gs (children_in g.children) s = subst (IsShape plan gs (children_in g.children)) (sym is) (right-there plan gs i g there h k s lt) in
-    subst (λ (b : ChildrenOf). Makes plan gs s.members.value.items (type_prepared plan b ty)) (sym (children-there gs i g there))
-    (subst (λ (t : List ℕ). Makes plan gs s.members.value.items (type_prepared plan (children_in g.children) t)) name here.makes)
+    subst (λ (b : ChildrenOf). Makes plan gs (arc_value s.members).items (type_prepared plan b ty)) (sym (children-there gs i g there))
+    (subst (λ (t : List ℕ). Makes plan gs (arc_value s.members).items (type_prepared plan (children_in g.children) t)) name here.makes)
 
 -- ---- a shape that is kept
 
@@ -230,7 +231,7 @@ pub shaped-kept : (plan : PlanOf) (most : ℕ) (gs : List Group) (group : ℕ) (
 shaped-kept plan most gs group ty ms h = record { grows = grows-self plan gs; front = λ le. take_all (length gs) gs (omega arith); makes = λ r. h plan r }
 
 -- a shape that was made is kept, where there was such a group
-pub shaped-then : (plan : PlanOf) (most : ℕ) (old mid new : List Group) (count group : ℕ) (ty : List ℕ) (s : Shape) (ms : List Member) → count ≡ length old → string_bytes s.ty ≡ ty → s.members.value.items ≡ ms
+pub shaped-then : (plan : PlanOf) (most : ℕ) (old mid new : List Group) (count group : ℕ) (ty : List ℕ) (s : Shape) (ms : List Member) → count ≡ length old → string_bytes s.ty ≡ ty → (arc_value s.members).items ≡ ms
     → (s.only ≡ true → IsOnly plan.definitions (children_at old group) ty) → AreMade old mid (type_prepared plan (children_at old group) ty) ms → ((p : PlanOf) → (group < count → IsShape p mid (children_at mid group) s) → Grows p mid new) → (most ≤ count → new ≡ mid) → IsShaped plan most old new group ty ms
 shaped-then plan most old mid new count group ty s ms counted name same only h kept full =
     let made : Makes plan mid ms (type_prepared plan (children_at old group) ty) = h.makes plan in

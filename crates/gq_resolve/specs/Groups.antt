@@ -114,7 +114,7 @@ pub record IsOnly (defs : List Definition) (children : ChildrenOf) (ty : List �
   pub same : ty ≡ children.type_name
 
 pub record IsShape (plan : PlanOf) (gs : List Group) (children : ChildrenOf) (s : Shape) : Type 0 where
-  pub makes : Makes plan gs s.members.value.items (type_prepared plan children (string_bytes s.ty))
+  pub makes : Makes plan gs (arc_value s.members).items (type_prepared plan children (string_bytes s.ty))
   pub only : s.only ≡ true → IsOnly plan.definitions children (string_bytes s.ty)
 
 abbrev pub IsRight : PlanOf → List Group → Group → Type 0

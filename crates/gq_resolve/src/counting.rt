@@ -152,7 +152,7 @@ pub fn loads_read(alloc: Global, plan: &Plan, memory: &Memory) -> Result<u64, No
     let Rooted { groups, .. } = rooted;
     let mut at = Progress {
         groups,
-        probe: CacheKey::new(alloc),
+        probe: CacheKey::new(),
         out,
     };
     read_all(&tour, memory, &mut at)

@@ -1,6 +1,7 @@
 //! What is the same for all rows: what a plan asks of the objects below each load, prepared once.
 
 ghost use Rattle.std.specs.Prelude.{◌≡◌, ◌<◌, ◌≤◌, IfOk, IfSome, IsTrue, OnOk, map};
+ghost use Rattle.std.specs.Arc.{arc_value};
 ghost use Rattle.gq_schema.specs.Types.{tree_of};
 ghost use Rattle.gq_bindings.specs.Seen.{step_of};
 ghost use Rattle.gq_check.specs.Plans.{plan_of};
@@ -20,7 +21,6 @@ use plan_program::{
     Children, KeyFrom, LeafValue, Prepared, ValueFrom, collect_subfields, prepare_groups,
 };
 use std::alloc::Global;
-use std::rc::Rc;
 use std::sync::Arc;
 
 /// What is done with the rows of a load.
@@ -72,7 +72,7 @@ pub struct Shape<'p> {
     pub ty: String,
     /// Whether all objects below the group have this type, since the group's field is of it.
     pub only: bool,
-    pub members: Rc<Vec<Member<'p>>>,
+    pub members: Arc<Vec<Member<'p>>>,
 }
 
 /// A group of fields that loads: what is done with the rows, and the shapes of the objects that were met there.
@@ -249,15 +249,15 @@ fn kept<'p>(
     groups: &[Group<'p>],
     group: usize,
     ty: &str,
-) -> Result<Option<Rc<Vec<Member<'p>>>>, NoMemory>
-    ensures { IfOk result (λ found. IfSome found (λ members. AreKept groups.now group ty.now members.value.items)) }
+) -> Result<Option<Arc<Vec<Member<'p>>>>, NoMemory>
+    ensures { IfOk result (λ found. IfSome found (λ members. AreKept groups.now group ty.now (arc_value members).items)) }
 {
     if group >= groups.len() {
         return Ok(None);
     }
     for shape in &groups[group].shapes {
         if shape.ty.as_str() == ty {
-            return Ok(Some(shape.members.clone()?));
+            return Ok(Some(Arc::try_clone(&shape.members)?));
         }
     }
     Ok(None)
@@ -267,14 +267,14 @@ fn kept<'p>(
 pub fn only_members<'p>(
     groups: &[Group<'p>],
     group: usize,
-) -> Result<Option<Rc<Vec<Member<'p>>>>, NoMemory>
-    ensures { IfOk result (λ found. IfSome found (λ members. AreOnly groups.now group members.value.items)) }
+) -> Result<Option<Arc<Vec<Member<'p>>>>, NoMemory>
+    ensures { IfOk result (λ found. IfSome found (λ members. AreOnly groups.now group (arc_value members).items)) }
 {
     if group >= groups.len() {
         return Ok(None);
     }
     match groups[group].shapes.first() {
-        Some(shape) if shape.only => Ok(Some(shape.members.clone()?)),
+        Some(shape) if shape.only => Ok(Some(Arc::try_clone(&shape.members)?)),
         _ => Ok(None),
     }
 }
@@ -293,14 +293,14 @@ fn meet<'p>(
     groups: &mut Vec<Group<'p>>,
     children: &Children<'p>,
     ty: &str,
-) -> Result<Rc<Vec<Member<'p>>>, NoMemory>
+) -> Result<Arc<Vec<Member<'p>>>, NoMemory>
     ensures { IfOk result (λ members. Meets (plan_of tour.now.plan.now) (children_seen children.now) ty.now
-        groups.old.items groups.new.items members.value.items) }
+        groups.old.items groups.new.items (arc_value members).items) }
 {
     let collected = collect_subfields(tour.alloc, tour.plan, ty, &children.fields)?;
     let all = prepare_groups(tour.alloc, tour.plan, ty, collected)?;
     let members = members_of(tour.alloc, groups, all)?;
-    Ok(Rc::new(tour.alloc, members)?)
+    Ok(Arc::new(tour.alloc, members)?)
 }
 
 // Keeps the members of a type below a group that is one of the first so many, fewer than the most.
@@ -346,8 +346,8 @@ pub fn shape_of<'p>(
     groups: &mut Vec<Group<'p>>,
     group: usize,
     ty: &str,
-) -> Result<Rc<Vec<Member<'p>>>, NoMemory>
-    ensures { IfOk result (λ members. IsShaped (plan_of tour.now.plan.now) tour.now.most groups.old.items groups.new.items group ty.now members.value.items) }
+) -> Result<Arc<Vec<Member<'p>>>, NoMemory>
+    ensures { IfOk result (λ members. IsShaped (plan_of tour.now.plan.now) tour.now.most groups.old.items groups.new.items group ty.now (arc_value members).items) }
 {
     if let Some(members) = kept(groups, group, ty)? {
         return Ok(members);
@@ -359,7 +359,7 @@ pub fn shape_of<'p>(
     let shape = Shape {
         ty: String::from_str(tour.alloc, ty)?,
         only,
-        members: members.clone()?,
+        members: Arc::try_clone(&members)?,
     };
     keep(groups, count, tour.most, group, shape)?;
     Ok(members)

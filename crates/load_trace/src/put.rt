@@ -20,10 +20,10 @@ fn put_key(writer: &mut Writer, key: &Key) -> Result<(), AllocError>
     match key {
         Key::All => writer.null(),
         Key::Text(text) => writer.string(text.as_str()),
-        Key::Pair(one, two) => {
+        Key::Pair(pair) => {
             writer.begin_array()?;
-            writer.string(one.as_str())?;
-            writer.string(two.as_str())?;
+            writer.string(pair.one.as_str())?;
+            writer.string(pair.two.as_str())?;
             writer.end_array()
         }
     }

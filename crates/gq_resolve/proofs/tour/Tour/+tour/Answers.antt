@@ -1,3 +1,4 @@
+use Rattle.std.specs.Arc.{arc_value}
 use Rattle.std.proofs.Common.{◌≡◌, ◌-◌, ◌∙◌, ◌<◌, ◌++◌, rules, ℕ, List, [], ◌∷◌, map, length, arith, sym, ap, subst, refl, Option, Some, Vec, Global, string_bytes, false}
 use Rattle.std.specs.Prelude.{OnOk}
 use Rattle.std.specs.Option.{option_map, option_copied}
@@ -204,8 +205,8 @@ row-as plan gs lent v onward cov lt row defs name ty same said named is =
 
 pub row_object-returns-in-Some : goal.row_object-returns-in-Some
 row_object-returns-in-Some g t c =
-    let lent : c.in-Some.members.value.items ≡ c.deref-in-Some-2.result.now = sym (c.deref-in-Some-2.ensures.value ∙ ap (λ (xs : Vec Member Global). xs.items) c.deref-in-Some.ensures) in
-    let only : AreOnly c.deref.result.now c.args.to.onward.group c.in-Some.members.value.items = rw c.in-Some.is at c.in_ok-members.ensures in
+    let lent : (arc_value c.in-Some.members).items ≡ c.deref-in-Some-2.result.now = sym (c.deref-in-Some-2.ensures.value ∙ ap (λ (xs : Vec Member Global). xs.items) c.deref-in-Some.ensures) in
+    let only : AreOnly c.deref.result.now c.args.to.onward.group (arc_value c.in-Some.members).items = rw c.in-Some.is at c.in_ok-members.ensures in
     c.only_object.ensures (subst (λ (gs : List Group). AreOnly gs c.args.to.onward.group c.deref-in-Some-2.result.now) c.deref.ensures.value
     (subst (λ (ms : List Member). AreOnly c.deref.result.now c.args.to.onward.group ms) lent only))
 
@@ -240,7 +241,7 @@ row_object-returns-in-Fault g t c =
 pub typed_object-returns : goal.typed_object-returns
 typed_object-returns g t c =
     let old : List Group = c.args.at.now.groups.items in
-    let lent : c.in_ok-members.members.value.items ≡ c.deref-2.result.now = sym (c.deref-2.ensures.value ∙ ap (λ (xs : Vec Member Global). xs.items) c.deref.ensures) in
+    let lent : (arc_value c.in_ok-members.members).items ≡ c.deref-2.result.now = sym (c.deref-2.ensures.value ∙ ap (λ (xs : Vec Member Global). xs.items) c.deref.ensures) in
     let shaped : IsShaped (plan_of c.args.self.now.plan.now) c.args.self.now.most old c.shape_of.new.groups.items c.args.to.onward.group c.args.ty.now c.deref-2.result.now = rw (← lent) c.in_ok-members.ensures in
     goes-let_go g.S.Sink.waits g.met.S.Sink.narrow (search rules) c.waiting-held.ensures
     (goes-made (is_non_null c.args.to.nullability) (lookup c.args.self.now.memory.now) c.args.to.onward.levels (c.args.to.onward.levels - 1) c.args.to.onward.group c.args.ty.now c.args.row.now c.args.at.now _ c.object.new.at c.deref-2.result.now (laws g)
