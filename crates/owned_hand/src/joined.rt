@@ -9,7 +9,7 @@ use crate::handed_in::HandedIn;
 use foreign_handles::Slot;
 use server::{ByHand, PlannedRequest};
 use std::alloc::{AllocError, Global};
-use std::marker::Model;
+use std::marker::{Model, Send};
 
 /// A planned request, and what is done of it by hand, which borrows it. The planned request lies in a box that is lent as long as this lives.
 pub(crate) struct Joined {
@@ -23,6 +23,9 @@ pub(crate) struct Joined {
 impl Model for Joined {
     ghost also_owns = { λ j. joined j.life j.planned j.of j.place j.state };
 }
+
+// What it owns names no thread.
+unsafe impl Send for Joined {}
 
 impl Joined {
     // Joins a planned request and a place, which is empty.

@@ -1,0 +1,12 @@
+//! What may go to other threads. The check proves it at the call here, which is never made at run time. So if it ceases to be so, it is refused
+//! here, and not first in the crate of someone who starts threads.
+ghost use Rattle.std.specs.Prelude.{◌≡◌};
+
+use crate::owned::OwnedByHand;
+use foreign_handles::sent;
+
+fn owned_by_hand_goes(owned: OwnedByHand) -> OwnedByHand
+    ensures { result ≡ owned }
+{
+    sent(owned)
+}
