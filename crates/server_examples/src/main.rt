@@ -6,13 +6,15 @@ mod books;
 use anyhow::bail;
 use books::{Books, fetch_books};
 use futures::executor::block_on;
+use owned_hand::{HandedIn, OwnedByHand};
 use server::{
-    ByHand, ClientSession, Counted, Item, Key, Outcome, Pending, Request, Row, Server, Sessions,
-    Step, Workers, serve, serve_with, source_fn,
+    ByHand, ClientSession, Counted, FetchFault, Item, Key, NoMemory, Outcome, Pending, Request,
+    Row, Server, Sessions, Step, Workers, serve, serve_with, source_fn,
 };
 use std::alloc::{AllocGlobal, Global};
 use std::random::RandomSource;
 use std::sync::Wait;
+use std::thread;
 use std::thread::Threads;
 
 const SCHEMA: &str = "type Query { book(id: ID!): Book books(ids: [ID!]!): [Book]! }
@@ -144,6 +146,64 @@ fn refused_by_hand(alloc: Global, server: &Server) -> anyhow::Result<String> {
         Step::Answered(answer) => Ok(format!(in alloc; "{} after {asked} batches", answer.text)?),
         _ => bail!("no answer"),
     }
+}
+
+// What the books give for the orders of a round that is out, of which none is answered yet.
+fn fetch_orders(
+    alloc: Global,
+    orders: &[Pending],
+) -> Result<Vec<Result<Vec<Item>, FetchFault>>, NoMemory> {
+    let mut answers = Vec::new(alloc);
+    for order in orders {
+        if let Pending::Out(order) = order {
+            answers.push(fetch_books(alloc, order.keys()))?;
+        }
+    }
+    Ok(answers)
+}
+
+// Takes a request by hand to its answer, on whichever thread has it.
+fn answer_owned(alloc: Global, owned: OwnedByHand) -> anyhow::Result<String> {
+    let mut owned = owned;
+    for _round in 0..MOST_ROUNDS {
+        if let Step::Answered(answer) = owned.advance()? {
+            return Ok(answer.text);
+        }
+        let answers = owned.see_orders(&mut (), |orders, _| fetch_orders(alloc, orders))?;
+        for (number, items) in answers.into_iter().enumerate() {
+            owned.answer(number, items)?;
+        }
+    }
+    bail!("too many rounds")
+}
+
+// A client and its plan in one value, which goes to another thread.
+fn owned_by_hand<R: Threads + AllocGlobal>(rt: &R, server: &Server) -> anyhow::Result<String> {
+    let alloc = rt.alloc();
+    let mut client = server.session(alloc, Some(1), |_line| HandedIn)?;
+    let planned = client.plan(&asking("{books(ids:[3,1]){title}}"))?;
+    let Ok(owned) = OwnedByHand::new(alloc, client, planned) else {
+        bail!("out of memory")
+    };
+    let answering = thread::spawn(rt, move || answer_owned(alloc, owned))?;
+    answering.join(rt)
+}
+
+// A request in a session of its own.
+fn answer_in_session(alloc: Global, server: &Server, query: &str) -> anyhow::Result<String> {
+    let mut session = server.session(alloc, None, |_line| Books)?;
+    answer(&mut session, query)
+}
+
+// Two threads share a server. Each has a session of its own.
+fn share_a_server<R: Threads + AllocGlobal>(rt: &R, server: &Server) -> anyhow::Result<String> {
+    let alloc = rt.alloc();
+    let (theirs, mine) = thread::join(
+        rt,
+        || answer_in_session(alloc, server, "{book(id:2){title}}"),
+        || answer_in_session(alloc, server, "{book(id:3){title}}"),
+    );
+    Ok(format!(in alloc; "{} and {}", theirs?, mine?)?)
 }
 
 // An array of requests as a future, which asks the sources of the session, a round for each poll.
@@ -292,6 +352,8 @@ fn main(rt: HostRuntime) -> anyhow::Result<()> {
     println!(rt; "serve_with: {}", serve_lines_with_workers(&rt, &server)?)?;
     println!(rt; "by_hand: {}", by_hand(alloc, &server)?)?;
     println!(rt; "refused by hand: {}", refused_by_hand(alloc, &server)?)?;
+    println!(rt; "owned by hand: {}", owned_by_hand(&rt, &server)?)?;
+    println!(rt; "a shared server: {}", share_a_server(&rt, &server)?)?;
     println!(rt; "into_answering: {}", as_a_future(&rt, &server)?)?;
     println!(rt; "loads_read: {}", loads_read(alloc, &server)?)?;
     Ok(())
