@@ -1,4 +1,4 @@
-//! Each call of `server`, in an example of a few lines. The program prints what each gives.
+//! Each call of `server`, and a client by hand that owns its plan, in an example of a few lines. The program prints what each gives.
 #![tactic(auto)]
 
 mod books;
