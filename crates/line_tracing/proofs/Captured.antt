@@ -27,6 +27,8 @@ module _ {F S T : Type 0} (contents : T → Option (List ℕ)) (A : AnsweringOf 
       → StopsTracing A e (seen (captured f).now) line.now (seen (captured g).now) × ((captured g).ghost_name ≡ (captured f).ghost_name)) where
     pub serves_traced : (f g : F) (last : TracedClient S T) (d : DevicesOf) (r : Result ℕ ServeFault) → ((captured f).ghost_name ≡ (captured g).ghost_name → last ≡ (captured g).now)
         → Serves (by_calls m) f g d r → ServesTraced contents A (captured f).now last d r
-    serves_traced f g last d r tie h = record { serves =
-        serves_widened by_client (tracing A) seen (λ f line text g k. k) (λ e f line g k. k) (captured f).now last d r
-        (serves_behind m by_client captured (λ _. Unit {0}) (λ f line text g left k. let one = gives f line text g k in (one.0, one.1, tt)) (λ f line g left e k. let one = stops f line g e k in (one.0, one.1, tt)) f g last d r tt tie h).0 }
+    serves_traced f g last d r tie h = record {
+      serves =
+          serves_widened by_client (tracing A) seen (λ f line text g k. k) (λ e f line g k. k) (captured f).now last d r
+          (serves_behind m by_client captured (λ _. Unit {0}) (λ f line text g left k. let one = gives f line text g k in (one.0, one.1, tt)) (λ f line g left e k. let one = stops f line g e k in (one.0, one.1, tt)) f g last d r tt tie h).0;
+    }
