@@ -189,6 +189,23 @@ fn owned_by_hand<R: Threads + AllocGlobal>(rt: &R, server: &Server) -> anyhow::R
     answering.join(rt)
 }
 
+// A request in a session of its own.
+fn answer_in_session(alloc: Global, server: &Server, query: &str) -> anyhow::Result<String> {
+    let mut session = server.session(alloc, None, |_line| Books)?;
+    answer(&mut session, query)
+}
+
+// Two threads share a server. Each has a session of its own.
+fn share_a_server<R: Threads + AllocGlobal>(rt: &R, server: &Server) -> anyhow::Result<String> {
+    let alloc = rt.alloc();
+    let (theirs, mine) = thread::join(
+        rt,
+        || answer_in_session(alloc, server, "{book(id:2){title}}"),
+        || answer_in_session(alloc, server, "{book(id:3){title}}"),
+    );
+    Ok(format!(in alloc; "{} and {}", theirs?, mine?)?)
+}
+
 // An array of requests as a future, which asks the sources of the session, a round for each poll.
 fn as_a_future<R: Wait + RandomSource + AllocGlobal>(
     rt: &R,
@@ -336,6 +353,7 @@ fn main(rt: HostRuntime) -> anyhow::Result<()> {
     println!(rt; "by_hand: {}", by_hand(alloc, &server)?)?;
     println!(rt; "refused by hand: {}", refused_by_hand(alloc, &server)?)?;
     println!(rt; "owned by hand: {}", owned_by_hand(&rt, &server)?)?;
+    println!(rt; "a shared server: {}", share_a_server(&rt, &server)?)?;
     println!(rt; "into_answering: {}", as_a_future(&rt, &server)?)?;
     println!(rt; "loads_read: {}", loads_read(alloc, &server)?)?;
     Ok(())
