@@ -36,7 +36,7 @@ fn report_of_bytes(alloc: Global, lines: &mut LineReader, line: &[u8]) -> Result
 /// What a request line asks.
 pub fn report(alloc: Global, text: &str) -> Result<String> {
     let line = bytes_of(alloc, text)?;
-    let mut lines = LineReader::new(alloc);
+    let mut lines = LineReader::new();
     report_of_bytes(alloc, &mut lines, line.as_slice())
 }
 
@@ -44,7 +44,7 @@ pub fn report(alloc: Global, text: &str) -> Result<String> {
 /// reader reads them all.
 pub fn fronts_report(alloc: Global, text: &str) -> Result<String> {
     let line = bytes_of(alloc, text)?;
-    let mut lines = LineReader::new(alloc);
+    let mut lines = LineReader::new();
     for end in 0..line.len() {
         let front = report_of_bytes(alloc, &mut lines, &line[..end])?;
         if front.as_str() != "none" {

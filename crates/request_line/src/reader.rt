@@ -93,8 +93,9 @@ fn read_line<'l>(
 /// What reads request lines, one after another.
 #[derive(Drop)]
 pub struct LineReader {
-    // Where strings with escapes are written, and the index of a line.
-    scratch: Scratch,
+    // Where strings with escapes are written, and the index of a line. It has 16 KiB, so it stands in a box: whoever holds a reader moves
+    // it cheaply. The first line makes it.
+    scratch: Option<Box<Scratch>>,
     // The variables of the last line, if it was read without a value of its own.
     variables: Value,
     // The value of the last line, if it was read as one.
@@ -103,9 +104,9 @@ pub struct LineReader {
 
 impl LineReader {
     /// A reader, which allocates nothing until it reads.
-    pub fn new(alloc: Global) -> LineReader {
+    pub fn new() -> LineReader {
         LineReader {
-            scratch: Scratch::new(alloc),
+            scratch: None,
             variables: Value::Null,
             value: Value::Null,
         }
@@ -125,12 +126,10 @@ impl LineReader {
     {
         self.variables = Value::Null;
         self.value = Value::Null;
-        read_line(
-            alloc,
-            line,
-            &mut self.scratch,
-            &mut self.variables,
-            &mut self.value,
-        )
+        let make = || Box::new(alloc, Scratch::new(alloc));
+        let Ok(scratch) = self.scratch.get_or_try_insert_with(make) else {
+            return Err(NoMemory);
+        };
+        read_line(alloc, line, scratch, &mut self.variables, &mut self.value)
     }
 }

@@ -70,7 +70,7 @@ impl<S> ClientSession<S> {
         ClientSession {
             alloc,
             documents: KeptDocuments::new(alloc, server),
-            lines: LineReader::new(alloc),
+            lines: LineReader::new(),
             session,
             max_answer: None,
         }
