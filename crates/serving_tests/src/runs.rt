@@ -36,7 +36,7 @@ fn ran<R: Threads + Wait + AllocGlobal + Sync, G: Gate + Copy>(
 }
 
 /// A file of a text.
-fn file<'b>(path: &'b str, text: &'b str) -> MemoryFile<'b> {
+pub fn file<'b>(path: &'b str, text: &'b str) -> MemoryFile<'b> {
     MemoryFile {
         path,
         bytes: text.as_bytes(),
