@@ -1,0 +1,325 @@
+/* Calls that a caller gets wrong, and the code of each; and that nothing is lost by them: after each, the request goes on and is answered.
+   Prints what isn't as wanted, and how many calls were made. To be run under valgrind too: no byte may be left.
+
+   refusals SCHEMA BINDINGS, those of examples/ */
+#include "rudzkvano.h"
+#include <stdio.h>
+#include <stdlib.h>
+#include <string.h>
+
+static int calls, wrong;
+
+static void wants(int line, const char *call, long got, long wanted) {
+    calls++;
+    if (got != wanted) {
+        wrong++;
+        printf("line %d: %s gives %ld and not %ld\n", line, call, got, wanted);
+    }
+}
+#define WANTS(call, wanted) wants(__LINE__, #call, (long)(call), wanted)
+
+#define TEXT(s) (const uint8_t *)(s), strlen(s)
+
+static uint8_t *read_file(const char *path, size_t *len) {
+    FILE *file = fopen(path, "rb");
+    if (!file) { perror(path); exit(2); }
+    fseek(file, 0, SEEK_END);
+    *len = (size_t)ftell(file);
+    rewind(file);
+    uint8_t *bytes = malloc(*len + 1);
+    if (fread(bytes, 1, *len, file) != *len) exit(2);
+    fclose(file);
+    return bytes;
+}
+
+static const char *LINE = "{\"query\":\"{user(id:1){name best{name}}}\"}";
+
+/* Handles that are empty, or hold an object of another kind. */
+static void handles(rz_handle *server, rz_handle *client) {
+    rz_handle empty = {0}, other = {0};
+    rz_sizes_t sizes;
+    rz_log_sizes_t log;
+    rz_loader_sizes loaders;
+    uint32_t word, none[1];
+    uint8_t byte[1];
+    rz_close(&empty);
+    WANTS(rz_next(&empty), RZ_BAD_HANDLE);
+    WANTS(rz_next(server), RZ_BAD_HANDLE);
+    WANTS(rz_begin(&empty, TEXT(LINE)), RZ_BAD_HANDLE);
+    WANTS(rz_begin(server, TEXT(LINE)), RZ_BAD_HANDLE);
+    WANTS(rz_begin_request(&empty, TEXT("{a}"), TEXT(""), TEXT("")), RZ_BAD_HANDLE);
+    WANTS(rz_begin_request(server, TEXT("{a}"), TEXT(""), TEXT("")), RZ_BAD_HANDLE);
+    WANTS(rz_share(&empty, &other), RZ_BAD_HANDLE);
+    WANTS(rz_share(client, &other), RZ_BAD_HANDLE);
+    WANTS(rz_client(&empty, &other, none, 0), RZ_BAD_HANDLE);
+    WANTS(rz_client(client, &other, none, 0), RZ_BAD_HANDLE);
+    WANTS(rz_sizes(server, &sizes), RZ_BAD_HANDLE);
+    WANTS(rz_orders(server, none, 0, none, 0, none, 0, none, 0, byte, 0), RZ_BAD_HANDLE);
+    WANTS(rz_take_rows(server, 0, 0, none, 0, none, 0, byte, 0), RZ_BAD_HANDLE);
+    WANTS(rz_take_failed(&empty, 0, TEXT("down")), RZ_BAD_HANDLE);
+    WANTS(rz_answer(server, byte, 0), RZ_BAD_HANDLE);
+    WANTS(rz_cancel(server), RZ_BAD_HANDLE);
+    WANTS(rz_restart(&empty), RZ_BAD_HANDLE);
+    WANTS(rz_limit_answers(server, 1), RZ_BAD_HANDLE);
+    WANTS(rz_clear_all(server, 0), RZ_BAD_HANDLE);
+    WANTS(rz_clear(server, 0, none, 0, byte, 0, &word), RZ_BAD_HANDLE);
+    WANTS(rz_log_sizes(&empty, 0, &log), RZ_BAD_HANDLE);
+    WANTS(rz_loaders_sizes(client, &loaders), RZ_BAD_HANDLE);
+    WANTS(other.at != NULL, 0);
+}
+
+/* Schemas, bindings and limits that are refused. What the handle held stays. */
+static void opening(rz_handle *server, const uint8_t *schema, size_t schema_len, const uint8_t *bindings, size_t bindings_len) {
+    rz_handle opened = {0}, client = {0};
+    rz_fault fault = {0};
+    rz_loader_sizes loaders;
+    uint32_t limits[16] = {0};
+    WANTS(rz_open(&opened, (const uint8_t *)"\xff", 1, bindings, bindings_len, &fault), RZ_NOT_UTF8);
+    WANTS(rz_open(&opened, schema, schema_len, (const uint8_t *)"\xff", 1, &fault), RZ_NOT_UTF8);
+    WANTS(rz_open(&opened, TEXT("type Query { a: Nope }"), bindings, bindings_len, &fault), RZ_BAD_SCHEMA);
+    WANTS(fault.number, 3);
+    WANTS(fault.line, 1);
+    WANTS(fault.column, 17);
+    WANTS(fault.in_bindings, 0);
+    WANTS(rz_open(server, schema, schema_len, TEXT("bindings 1\nloader x"), &fault), RZ_BAD_SCHEMA);
+    WANTS(fault.number, 8);
+    WANTS(fault.line, 2);
+    WANTS(fault.in_bindings, 1);
+    WANTS(opened.at != NULL, 0);
+    WANTS(rz_loaders_sizes(server, &loaders), RZ_DONE);
+    WANTS(rz_client(server, &client, limits, loaders.loaders + 1), RZ_BAD_SIZE);
+    limits[0] = 65536;
+    WANTS(rz_client(server, &client, limits, loaders.loaders), RZ_BAD_LIMIT);
+    WANTS(client.at != NULL, 0);
+    WANTS(rz_loaders(server, limits, loaders.loaders, limits, 0, (uint8_t *)limits, loaders.bytes), RZ_BAD_SIZE);
+}
+
+/* Calls out of turn. */
+static void turns(rz_handle *client) {
+    rz_sizes_t sizes;
+    uint32_t none[1], word;
+    uint8_t byte[1];
+    WANTS(rz_next(client), RZ_IDLE);
+    WANTS(rz_cancel(client), RZ_IDLE);
+    WANTS(rz_answer(client, byte, 0), RZ_IDLE);
+    WANTS(rz_take_rows(client, 0, 0, none, 0, none, 0, byte, 0), RZ_NO_ORDER);
+    WANTS(rz_begin(client, TEXT(LINE)), RZ_DONE);
+    WANTS(rz_begin(client, TEXT(LINE)), RZ_BUSY);
+    WANTS(rz_begin_request(client, TEXT("{a}"), TEXT(""), TEXT("")), RZ_BUSY);
+    WANTS(rz_take_failed(client, 0, TEXT("down")), RZ_NO_ORDER);
+    WANTS(rz_answer(client, byte, 0), RZ_IDLE);
+    WANTS(rz_next(client), RZ_ROUND);
+    WANTS(rz_next(client), RZ_WAITING);
+    WANTS(rz_begin(client, TEXT(LINE)), RZ_BUSY);
+    WANTS(rz_restart(client), RZ_BUSY);
+    WANTS(rz_limit_answers(client, 9), RZ_BUSY);
+    WANTS(rz_clear_all(client, 0), RZ_BUSY);
+    WANTS(rz_clear(client, 0, none, 0, byte, 0, &word), RZ_BUSY);
+    WANTS(rz_sizes(client, &sizes), RZ_DONE);
+    WANTS(sizes.orders, 1);
+    WANTS(sizes.answer, 0);
+    WANTS(rz_orders(client, none, 0, none, 0, none, 0, none, 0, byte, 0), RZ_BAD_SIZE);
+    WANTS(rz_answer(client, byte, 0), RZ_IDLE);
+}
+
+/* Replies that are refused: each leaves the order waiting. The columns are id, name and best; the one key has one row. */
+static void replies(rz_handle *client) {
+    uint32_t rows[2] = {1, 0}, faults[1] = {RZ_KEY_FAULT}, many[1] = {0xFFFFFFFEu};
+    uint32_t ends[7] = {2, 6, 10, 11, 14, 15, 15}, falls[6] = {2, 6, 10, 14, 11, 15}, past[6] = {2, 6, 10, 11, 14, 99};
+    uint32_t inside[6] = {2, 6, 10, 11, 12, 15};
+    const char *bytes = "idnamebest1Ada2";
+    WANTS(rz_take_rows(client, 1, 3, rows, 1, ends, 6, TEXT(bytes)), RZ_NO_ORDER);
+    WANTS(rz_take_rows(client, SIZE_MAX, 3, rows, 1, ends, 6, TEXT(bytes)), RZ_NO_ORDER);
+    WANTS(rz_take_failed(client, 1, TEXT("down")), RZ_NO_ORDER);
+    WANTS(rz_take_failed(client, 0, (const uint8_t *)"\xff", 1), RZ_NOT_UTF8);
+    WANTS(rz_take_rows(client, 0, 3, rows, 2, ends, 6, TEXT(bytes)), RZ_BAD_COUNT);
+    WANTS(rz_take_rows(client, 0, 3, rows, 0, ends, 6, TEXT(bytes)), RZ_BAD_COUNT);
+    WANTS(rz_take_rows(client, 0, 3, rows, 1, ends, 6, TEXT("idnamebest1A\xff" "a2")), RZ_NOT_UTF8);
+    WANTS(rz_take_rows(client, 0, 3, rows, 1, falls, 6, TEXT(bytes)), RZ_BAD_ENDS);
+    WANTS(rz_take_rows(client, 0, 3, rows, 1, past, 6, TEXT(bytes)), RZ_BAD_ENDS);
+    WANTS(rz_take_rows(client, 0, 3, rows, 1, inside, 6, TEXT("idnamebest1\xc3\xa4" "a2")), RZ_BAD_ENDS);
+    WANTS(rz_take_rows(client, 0, 3, rows, 1, ends, 6, TEXT("idnamebest1Ada2left")), RZ_BAD_ENDS);
+    WANTS(rz_take_rows(client, 0, 3, many, 1, ends, 6, TEXT(bytes)), RZ_TOO_FEW_TEXTS);
+    WANTS(rz_take_rows(client, 0, SIZE_MAX, rows, 1, ends, 6, TEXT(bytes)), RZ_TOO_FEW_TEXTS);
+    WANTS(rz_take_rows(client, 0, 0, rows, 1, ends, 6, TEXT(bytes)), RZ_NO_COLUMN);
+    WANTS(rz_take_rows(client, 0, 3, rows, 1, ends, 5, TEXT("idnamebest1Ada")), RZ_TOO_FEW_TEXTS);
+    WANTS(rz_take_rows(client, 0, 3, rows, 1, ends, 7, TEXT(bytes)), RZ_TEXTS_LEFT);
+    WANTS(rz_take_rows(client, 0, 3, faults, 1, ends, 3, TEXT("idnamebest")), RZ_TOO_FEW_TEXTS);
+    WANTS(rz_next(client), RZ_WAITING);
+    WANTS(rz_take_rows(client, 0, 3, rows, 1, ends, 6, TEXT(bytes)), RZ_DONE);
+    WANTS(rz_take_rows(client, 0, 3, rows, 1, ends, 6, TEXT(bytes)), RZ_REPLIED);
+    WANTS(rz_take_failed(client, 0, TEXT("down")), RZ_REPLIED);
+}
+
+/* The second round, a failed batch, and the answer. */
+static void answer(rz_handle *client) {
+    rz_sizes_t sizes;
+    uint8_t text[256];
+    WANTS(rz_next(client), RZ_ROUND);
+    WANTS(rz_take_failed(client, 0, TEXT("the table is down")), RZ_DONE);
+    WANTS(rz_next(client), RZ_DONE);
+    WANTS(rz_next(client), RZ_DONE);
+    WANTS(rz_take_failed(client, 0, TEXT("down")), RZ_NO_ORDER);
+    WANTS(rz_cancel(client), RZ_IDLE);
+    WANTS(rz_sizes(client, &sizes), RZ_DONE);
+    WANTS(sizes.rounds, 2);
+    WANTS(sizes.orders, 0);
+    WANTS(rz_answer(client, text, sizes.answer - 1), RZ_BAD_SIZE);
+    WANTS(rz_answer(client, text, sizes.answer), RZ_DONE);
+    printf("%.*s\n", (int)sizes.answer, (char *)text);
+}
+
+/* What is known, and what was asked. */
+static void known(rz_handle *client) {
+    uint32_t ends[3] = {1, 2, 3}, fault_ends[2] = {2, 6}, none[1], word = 9, rounds[4], stored[4], keys[4], texts[8], at[8];
+    uint8_t byte[1], bytes[64], text[256];
+    rz_log_sizes_t log;
+    rz_sizes_t sizes;
+    WANTS(rz_log_sizes(client, 99, &log), RZ_NO_LOADER);
+    WANTS(rz_log_sizes(client, 0, &log), RZ_DONE);
+    WANTS(log.batches, 2);
+    WANTS(log.keys, 2);
+    WANTS(rz_log(client, 0, rounds, 1, stored, 2, keys, 2, texts, 2, at, 2, bytes, log.bytes), RZ_BAD_SIZE);
+    WANTS(rz_log(client, 0, rounds, 2, stored, 2, keys, 2, texts, 2, at, 2, bytes, log.bytes), RZ_DONE);
+    WANTS(rounds[0], 1);
+    WANTS(rounds[1], 2);
+    WANTS(stored[1], 1);
+    WANTS(bytes[0], '1');
+    WANTS(rz_clear_all(client, 99), RZ_NO_LOADER);
+    WANTS(rz_answer(client, byte, 0), RZ_IDLE);
+    WANTS(rz_clear(client, 99, ends, 1, TEXT("1"), &word), RZ_NO_LOADER);
+    WANTS(rz_clear(client, 0, ends, 3, TEXT("123"), &word), RZ_BAD_KEY);
+    WANTS(rz_clear(client, 0, ends, 2, TEXT("1"), &word), RZ_BAD_ENDS);
+    WANTS(rz_clear(client, 0, ends, 1, (const uint8_t *)"\xff", 1, &word), RZ_NOT_UTF8);
+    WANTS(word, 9);
+    WANTS(rz_clear(client, 0, ends, 1, TEXT("1"), &word), RZ_DONE);
+    WANTS(word, 1);
+    WANTS(rz_clear(client, 0, ends, 1, TEXT("1"), &word), RZ_DONE);
+    WANTS(word, 0);
+    WANTS(rz_prime(client, 0, ends, 1, TEXT("1"), 1, 1, fault_ends, 1, TEXT("id"), &word), RZ_TOO_FEW_TEXTS);
+    WANTS(rz_prime(client, 0, ends, 1, TEXT("1"), 1, RZ_KEY_FAULT, fault_ends, 2, TEXT("idgone"), &word), RZ_DONE);
+    WANTS(word, 1);
+    WANTS(rz_prime(client, 0, ends, 1, TEXT("1"), 1, 0, fault_ends, 1, TEXT("id"), &word), RZ_DONE);
+    WANTS(word, 0);
+    WANTS(rz_begin(client, TEXT(LINE)), RZ_DONE);
+    WANTS(rz_next(client), RZ_DONE);
+    WANTS(rz_sizes(client, &sizes), RZ_DONE);
+    WANTS(sizes.rounds, 0);
+    WANTS(rz_answer(client, text, sizes.answer), RZ_DONE);
+    printf("%.*s\n", (int)sizes.answer, (char *)text);
+    WANTS(rz_restart(client), RZ_DONE);
+    WANTS(rz_log_sizes(client, 0, &log), RZ_DONE);
+    WANTS(log.batches, 0);
+    WANTS(rz_orders(client, none, 0, none, 0, none, 0, none, 0, byte, 0), RZ_NO_ORDER);
+}
+
+/* Prints the answer that is there. */
+static void print_answer(rz_handle *client) {
+    rz_sizes_t sizes;
+    uint8_t text[512];
+    WANTS(rz_sizes(client, &sizes), RZ_DONE);
+    WANTS(sizes.answer < sizeof text, 1);
+    WANTS(rz_answer(client, text, sizes.answer), RZ_DONE);
+    printf("%.*s\n", (int)sizes.answer, (char *)text);
+}
+
+/* Begins a request by its parts, which is answered at once. */
+static void answer_parts(rz_handle *client, const char *query, const char *operation, const char *variables) {
+    WANTS(rz_begin_request(client, TEXT(query), TEXT(operation), TEXT(variables)), RZ_DONE);
+    WANTS(rz_next(client), RZ_DONE);
+    print_answer(client);
+}
+
+/* Requests that aren't valid are answered at once. */
+static void parts(rz_handle *client) {
+    const char *two = "query A{__typename} query B($b:Boolean!){b:__typename@include(if:$b)}";
+    answer_parts(client, two, "A", "");
+    answer_parts(client, two, "B", "{\"b\":true}");
+    answer_parts(client, two, "B", "");
+    answer_parts(client, two, "C", "");
+    answer_parts(client, "{nosuch}", "", "{}");
+    answer_parts(client, "", "", "null");
+    answer_parts(client, "{__typename}", "", "[]");
+    answer_parts(client, "{__typename}", "", "{\"a\":1");
+    answer_parts(client, "{__typename}", "", "{} {}");
+    answer_parts(client, "{\xff}", "", "");
+    answer_parts(client, "{__typename}", "\xff", "");
+}
+
+/* A request that is given up can be begun again; of an array each value has its answer, within the limit, or what it does wrong. */
+static void requests(rz_handle *client) {
+    WANTS(rz_begin(client, TEXT("{")), RZ_DONE);
+    WANTS(rz_next(client), RZ_DONE);
+    print_answer(client);
+    WANTS(rz_limit_answers(client, 20), RZ_DONE);
+    WANTS(rz_begin(client, TEXT(LINE)), RZ_DONE);
+    WANTS(rz_next(client), RZ_ROUND);
+    WANTS(rz_cancel(client), RZ_DONE);
+    WANTS(rz_next(client), RZ_IDLE);
+    WANTS(rz_begin(client, TEXT("[{\"query\":\"{user(id:1){name}}\"},{\"query\":\"{nosuch}\"},3]")), RZ_DONE);
+    WANTS(rz_next(client), RZ_ROUND);
+    WANTS(rz_take_failed(client, 0, TEXT("down")), RZ_DONE);
+    WANTS(rz_next(client), RZ_DONE);
+    print_answer(client);
+}
+
+/* A reply of more rows than there can be, to an order of two keys. */
+static void many_rows(rz_handle *client) {
+    const uint32_t rows[] = {UINT32_MAX - 1, 2}, ends[] = {2};
+    WANTS(rz_begin(client, TEXT("{\"query\":\"{a:user(id:1){id} b:user(id:2){id}}\"}")), RZ_DONE);
+    WANTS(rz_next(client), RZ_ROUND);
+    WANTS(rz_take_rows(client, 0, 1, rows, 2, ends, 1, TEXT("id")), RZ_TOO_MANY_ROWS);
+    WANTS(rz_take_rows(client, 0, 0, rows, 2, ends, 1, TEXT("id")), RZ_TOO_MANY_ROWS);
+    WANTS(rz_take_rows(client, 0, 1, rows, 1, ends, 1, TEXT("id")), RZ_BAD_COUNT);
+    WANTS(rz_next(client), RZ_WAITING);
+    WANTS(rz_cancel(client), RZ_DONE);
+}
+
+/* The codes and their names. */
+static void codes(void) {
+    uint8_t name[64];
+    WANTS(rz_version() >= RZ_VERSION, 1);
+    WANTS(rz_code_name(0, name, 64), 0);
+    WANTS(rz_code_name(-20, name, 64), 0);
+    WANTS(rz_code_text(RZ_BAD_HANDLE, name, 3) > 3, 1);
+    for (int32_t code = -1; code >= -19; code--) {
+        size_t len = rz_code_name(code, name, 64);
+        WANTS(len > 3 && len < 64 && memcmp(name, "RZ_", 3) == 0, 1);
+        printf("%d %.*s\n", code, (int)len, (char *)name);
+    }
+}
+
+int main(int argc, char **argv) {
+    if (argc != 3) { fprintf(stderr, "refusals SCHEMA BINDINGS\n"); return 2; }
+    size_t schema_len, bindings_len;
+    uint8_t *schema = read_file(argv[1], &schema_len), *bindings = read_file(argv[2], &bindings_len);
+    rz_handle server = {0}, other = {0}, client = {0};
+    rz_fault fault;
+    uint32_t none[1];
+    codes();
+    WANTS(rz_open(&server, schema, schema_len, bindings, bindings_len, &fault), RZ_DONE);
+    WANTS(rz_share(&server, &other), RZ_DONE);
+    rz_close(&server);
+    WANTS(rz_share(&other, &server), RZ_DONE);
+    WANTS(rz_client(&server, &client, none, 0), RZ_DONE);
+    rz_close(&server);
+    handles(&other, &client);
+    opening(&other, schema, schema_len, bindings, bindings_len);
+    turns(&client);
+    replies(&client);
+    answer(&client);
+    known(&client);
+    parts(&client);
+    many_rows(&client);
+    requests(&client);
+    WANTS(rz_client(&other, &client, none, 0), RZ_DONE);
+    WANTS(rz_next(&client), RZ_IDLE);
+    rz_close(&client);
+    rz_close(&client);
+    WANTS(rz_next(&client), RZ_BAD_HANDLE);
+    rz_close(&other);
+    free(schema);
+    free(bindings);
+    printf("%d calls, %d wrong\n", calls, wrong);
+    return wrong != 0;
+}

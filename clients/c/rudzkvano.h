@@ -1,0 +1,176 @@
+/* Rudzkvano for C: a GraphQL query executor with DataLoader batching, whose batches the caller runs.
+
+   A server is a schema with its bindings. A client has a memory of what the loaders returned, and answers one request at a time: rz_begin or
+   rz_begin_request starts it, and rz_next goes on until it returns RZ_DONE. Where it returns RZ_ROUND, a round of orders is out: rz_sizes and
+   rz_orders say which loader is to be asked for which keys, and rz_take_rows or rz_take_failed takes the reply to each order, in any order.
+   Then rz_next goes on. rz_answer copies the response, which is JSON text. A request that isn't valid is answered with its error.
+
+   Handles. An rz_handle of zeros is empty. What it holds is freed by rz_close, or when another object is put into it; don't copy it while it
+   holds something. A call gets each handle once: the handles of one call are different structs. A handle is passed to one call at a time, from
+   any thread, and passing it on to another thread is ordered by a lock, a thread's start or its end. To answer on several threads, give each
+   one a server handle of its own by rz_share. While a call runs, the handles it was given are empty. No call may be made from a signal
+   handler, nor in the child of a fork.
+
+   Memory. The library calls malloc, realloc and free. All data is copied: into buffers of the caller, or out of them before the call
+   returns. No pointer is null, not even to a buffer of no elements. A length counts elements. Buffers that a call fills are given at just
+   the size that the call for sizes told, or the call returns RZ_BAD_SIZE; they have nothing in common with the call's other buffers.
+
+   Texts are flat: one buffer of bytes (UTF-8), and for each text the place where it ends, counted in bytes from the buffer's start. A text
+   begins where the one before it ends.
+
+   Codes. RZ_DONE or more is how it went. Less than 0 is a refusal: nothing has changed, unless the call says otherwise. */
+#ifndef RUDZKVANO_H
+#define RUDZKVANO_H
+#include <stddef.h>
+#include <stdint.h>
+#ifdef __cplusplus
+extern "C" {
+#endif
+
+typedef struct { void *at; } rz_handle;
+
+enum {
+    RZ_DONE = 0,
+    RZ_ROUND = 1,           /* rz_next: a round of orders is out */
+    RZ_WAITING = 2,         /* rz_next: an order of the round that is out has no reply yet */
+    RZ_NO_MEMORY = -1,      /* out of memory */
+    RZ_BAD_HANDLE = -2,     /* the handle is empty, or holds an object of another kind */
+    RZ_NOT_UTF8 = -3,       /* a text isn't UTF-8 */
+    RZ_BAD_SCHEMA = -4,     /* the schema or the bindings are refused: the fault says why and where */
+    RZ_BAD_SIZE = -5,       /* a buffer or a list hasn't the size that the call wants */
+    RZ_BAD_LIMIT = -6,      /* a limit over 65,535 keys */
+    RZ_BUSY = -7,           /* a request is being answered */
+    RZ_IDLE = -8,           /* no request is being answered, or it has no answer yet */
+    RZ_STOPPED = -9,        /* memory ran out in this request: begin it again */
+    RZ_NO_ORDER = -10,      /* no round is out, or it has no order of this number */
+    RZ_REPLIED = -11,       /* the order has a reply */
+    RZ_NO_LOADER = -12,     /* no loader of this number */
+    RZ_BAD_KEY = -13,       /* a key has another number of texts than 0, 1 or 2 */
+    RZ_BAD_ENDS = -14,      /* a text ends before it begins, past the bytes or inside a character, or the last one isn't the bytes' end */
+    RZ_BAD_COUNT = -15,     /* rows for another number of keys than the order has */
+    RZ_TOO_FEW_TEXTS = -16, /* fewer texts than columns, rows and faults take */
+    RZ_TEXTS_LEFT = -17,    /* more texts than columns, rows and faults take */
+    RZ_NO_COLUMN = -18,     /* rows of no column */
+    RZ_TOO_MANY_ROWS = -19  /* more than 4,294,967,295 rows in one reply */
+};
+
+/* In the place of a number of rows: the key has a fault, and one text says which. */
+#define RZ_KEY_FAULT UINT32_MAX
+
+/* ---- The library. */
+
+/* The version of this header. It goes with a library whose rz_version is the same, or has the same major number and a larger rest. */
+#define RZ_VERSION 65536u
+
+/* The version of the library: 65536 * major + 256 * minor + patch. */
+uint32_t rz_version(void);
+
+/* The name of a code, as "RZ_BAD_ENDS", or a few words on it: as much as fits into bytes. Returns the whole length; 0 for a number that is
+   no refusal. */
+size_t rz_code_name(int32_t code, uint8_t *bytes, size_t bytes_len);
+size_t rz_code_text(int32_t code, uint8_t *bytes, size_t bytes_len);
+
+/* ---- Servers. */
+
+/* line and column from 1, the column in characters; 0 where a fault has none. number n is the fault Sn of docs/BINDINGS.md. in_bindings is 1
+   where the line is one of the bindings, and else 0. */
+typedef struct { uint64_t line, column; uint32_t number, in_bindings; } rz_fault;
+
+/* Reads a schema and its bindings. RZ_NOT_UTF8, RZ_BAD_SCHEMA (only then *fault is written), RZ_NO_MEMORY: server is as it was. */
+int32_t rz_open(rz_handle *server, const uint8_t *schema, size_t schema_len, const uint8_t *bindings, size_t bindings_len, rz_fault *fault);
+
+/* Puts the same server into another handle too. It is freed with the last of its handles and clients. */
+int32_t rz_share(rz_handle *server, rz_handle *other);
+
+/* The loaders of the bindings, numbered from 0. kinds has one number for each: how many texts a key has (0 to 2), and 4 more where keys are
+   compared without the case of A to Z. Each loader has four texts: its name, its table, and the two columns that it is by (empty for none). */
+typedef struct { size_t loaders, bytes; } rz_loader_sizes;
+int32_t rz_loaders_sizes(rz_handle *server, rz_loader_sizes *sizes);
+int32_t rz_loaders(rz_handle *server, uint32_t *kinds, size_t kinds_len, uint32_t *ends, size_t ends_len, uint8_t *bytes, size_t bytes_len);
+
+/* ---- Clients. */
+
+/* Puts a client of a server into a handle of its own. It knows nothing. limits has for each loader how many keys one order may have, and 0
+   for no limit; or it has no element, and then there is none. RZ_BAD_SIZE where it has another length; RZ_BAD_LIMIT. */
+int32_t rz_client(rz_handle *server, rz_handle *client, const uint32_t *limits, size_t limits_len);
+
+/* From now on the text of an answer has at most so many bytes, that of each value of an array by itself; 0 for no limit. A longer one is
+   refused with "answer too long", in the answer. RZ_BUSY. */
+int32_t rz_limit_answers(rz_handle *client, size_t bytes);
+
+/* Forgets all keys, logs and rounds, and keeps the documents of queries. RZ_BUSY, RZ_NO_MEMORY. */
+int32_t rz_restart(rz_handle *client);
+
+/* ---- Requests. */
+
+/* Begins the answer to a request that is JSON text, or to an array of 1 to 16 of these. What the text does wrong is answered. RZ_BUSY;
+   RZ_NO_MEMORY, and then the answer that was there is let go. */
+int32_t rz_begin(rz_handle *client, const uint8_t *line, size_t line_len);
+
+/* Begins the answer to a query. operation is the name of the operation to run, and empty for none. variables is the JSON text of an object, and
+   empty for none. What these texts do wrong is answered, as in a request that is JSON text. RZ_BUSY, RZ_NO_MEMORY as above. */
+int32_t rz_begin_request(rz_handle *client, const uint8_t *query, size_t query_len, const uint8_t *operation, size_t operation_len,
+                         const uint8_t *variables, size_t variables_len);
+
+/* Gives up the request that is being answered. The finished rounds stay known, and the round that is out is lost. RZ_IDLE. */
+int32_t rz_cancel(rz_handle *client);
+
+/* Goes on. RZ_DONE: there is an answer. RZ_ROUND: a round is out. RZ_WAITING: an order of it has no reply yet, and nothing changes. RZ_IDLE.
+   RZ_NO_MEMORY, and RZ_STOPPED after a reply that memory ran out at: the request is given up. The finished rounds stay known. */
+int32_t rz_next(rz_handle *client);
+
+/* What the buffers of rz_orders and rz_answer have to hold; 0 of a round where none is out, and of an answer where there is none. rounds is how
+   many rounds the answer took. */
+typedef struct { size_t orders, keys, texts, bytes, answer; uint64_t rounds; } rz_sizes_t;
+int32_t rz_sizes(rz_handle *client, rz_sizes_t *sizes);
+
+/* The orders of the round that is out. For each order the number of its loader, and how many keys it has; for each key how many texts it has
+   (0 asks for all rows, 2 are a pair); and the texts. */
+int32_t rz_orders(rz_handle *client, uint32_t *loaders, size_t loaders_len, uint32_t *keys, size_t keys_len, uint32_t *texts, size_t texts_len,
+                  uint32_t *ends, size_t ends_len, uint8_t *bytes, size_t bytes_len);
+
+/* Takes the reply to an order, numbered from 0: rows has for each key, in order, how many rows it has, or RZ_KEY_FAULT. The texts are the
+   names of the columns, then the fields of all rows, key after key and row after row (an empty one is null), and then of each key with a
+   fault why it has no rows. Refused are, in this order, RZ_NO_ORDER, RZ_BAD_COUNT, RZ_NOT_UTF8, RZ_BAD_ENDS, RZ_TOO_MANY_ROWS, RZ_NO_COLUMN,
+   RZ_TOO_FEW_TEXTS, RZ_TEXTS_LEFT, RZ_REPLIED: the order waits as before. RZ_NO_MEMORY: it waits as before, or the request is stopped,
+   which rz_next tells. */
+int32_t rz_take_rows(rz_handle *client, size_t order, size_t columns, const uint32_t *rows, size_t rows_len, const uint32_t *ends, size_t ends_len,
+                     const uint8_t *bytes, size_t bytes_len);
+
+/* Takes it that the batch of an order failed as a whole, with this text. RZ_NO_ORDER, RZ_NOT_UTF8, RZ_REPLIED; RZ_NO_MEMORY as above. */
+int32_t rz_take_failed(rz_handle *client, size_t order, const uint8_t *text, size_t text_len);
+
+/* The answer of the request that was answered last. It stays until the next is begun, or a call changes the client. RZ_IDLE. */
+int32_t rz_answer(rz_handle *client, uint8_t *bytes, size_t bytes_len);
+
+/* ---- What is known. Loaders are numbered from 0. A key is passed as its 0, 1 or 2 texts. Each of these lets an answer go. RZ_BUSY,
+   RZ_NO_LOADER, RZ_BAD_KEY, RZ_NOT_UTF8, RZ_BAD_ENDS, RZ_NO_MEMORY. */
+
+/* Knows this item for a key, unless something is known of it: *primed is 1 where it was added, and else 0. rows is a number of rows or
+   RZ_KEY_FAULT, and the texts are as those of rz_take_rows for one key. */
+int32_t rz_prime(rz_handle *client, size_t loader, const uint32_t *key_ends, size_t key_ends_len, const uint8_t *key_bytes, size_t key_bytes_len,
+                 size_t columns, uint32_t rows, const uint32_t *ends, size_t ends_len, const uint8_t *bytes, size_t bytes_len, uint32_t *primed);
+
+/* Forgets a key: *was_known is 1 where something was known of it, and else 0. */
+int32_t rz_clear(rz_handle *client, size_t loader, const uint32_t *key_ends, size_t key_ends_len, const uint8_t *key_bytes, size_t key_bytes_len,
+                 uint32_t *was_known);
+
+/* Forgets all keys of a loader. */
+int32_t rz_clear_all(rz_handle *client, size_t loader);
+
+/* ---- What was asked. */
+
+/* The batches that a loader was asked for since the client was made or started again, in order: for each its round, from 1, whether its
+   replies were stored (1) or are out or lost (0), and its keys, as rz_orders has them. RZ_BUSY, RZ_NO_LOADER. */
+typedef struct { size_t batches, keys, texts, bytes; } rz_log_sizes_t;
+int32_t rz_log_sizes(rz_handle *client, size_t loader, rz_log_sizes_t *sizes);
+int32_t rz_log(rz_handle *client, size_t loader, uint32_t *rounds, size_t rounds_len, uint32_t *stored, size_t stored_len, uint32_t *keys,
+               size_t keys_len, uint32_t *texts, size_t texts_len, uint32_t *ends, size_t ends_len, uint8_t *bytes, size_t bytes_len);
+
+/* Frees what a handle holds. It is empty then, and may be closed again. */
+void rz_close(rz_handle *handle);
+
+#ifdef __cplusplus
+}
+#endif
+#endif

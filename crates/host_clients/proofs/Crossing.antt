@@ -1,0 +1,46 @@
+-- A client that another language runs names no thread, and so what a handle holds: in steps, as in the `Crossing` of `server`. `object_send` is for
+-- the crate of exports. Assumes nothing.
+use denote.Param.Send.{IsSend, sendable}
+use denote.Param.SendFields.{declared_send, variants_send, VariantsHave}
+use Rattle.std.proofs.Crossing as over
+use Rattle.server.proofs.Crossing.{client_send, server_send}
+use Rattle.server.specs.contracts.client.ClientSession as session
+use Rattle.owned_hand.proofs.handed_in.HandedIn.TheSendSync as handed_in_crosses
+use Rattle.owned_hand.specs.contracts.handed_in.HandedIn as handed_in
+use Rattle.owned_hand.proofs.owned.OwnedByHand.TheSendSync as owned_crosses
+use Rattle.flat_orders.proofs.orders.FlatOrders.TheSendSync as orders_cross
+use Rattle.host_clients.specs.contracts.answered.AnsweredClient as answered
+use Rattle.host_clients.specs.contracts.answered.AnsweredClient.TheInside as answered_inside
+use Rattle.host_clients.specs.contracts.asked.AskedTexts as asked
+use Rattle.host_clients.specs.contracts.client.HostClient as client
+use Rattle.host_clients.specs.contracts.object.Object as object
+use Rattle.host_clients.specs.contracts.under_way.UnderWay as under_way
+use Rattle.host_clients.specs.contracts.under_way.UnderWay.TheInside as under_way_inside
+
+session_send : IsSend (session.the_row handed_in.the_row)
+session_send = client_send handed_in.the_row handed_in_crosses.the_send
+
+asked_send : IsSend asked.the_row
+asked_send = search (over.crosses, sendable) depth 20
+
+answered_inside_send : IsSend answered_inside.the_row
+answered_inside_send = declared_send answered_inside.the_type (session_send, (asked_send, (search (over.crosses, sendable) depth 20, (search sendable depth 20, tt))))
+
+answered_send : IsSend answered.the_row
+answered_send = let i = answered_inside_send in record { owned = λ d vs x. (i.owned x.0 vs, tt); leaving = λ k d w. tt }
+
+under_way_inside_send : IsSend under_way_inside.the_row
+under_way_inside_send = declared_send under_way_inside.the_type (owned_crosses.the_send, (asked_send, (orders_cross.the_send, tt)))
+
+under_way_send : IsSend under_way.the_row
+under_way_send = let i = under_way_inside_send in record { owned = λ d vs x. (i.owned x.0 vs, tt); leaving = λ k d w. tt }
+
+held_client_send : IsSend client.the_row
+held_client_send = search (over.crosses, sendable, session_send, under_way_send, answered_send) depth 20
+
+variants : VariantsHave IsSend object.the_type.parts
+variants = ((server_send, tt), ((held_client_send, tt), tt))
+
+-- the parts say all of the record
+pub object_send : IsSend object.the_row
+object_send = variants_send (record { name = _; args = _; types = _; parts = object.the_type.parts; D = _; as_values = _; make = _; eta = _; beta = _ }) variants

@@ -1,0 +1,50 @@
+-- New loaders, one after another.
+use Rattle.std.proofs.Common.{◌≡◌, ◌<◌, ◌≤◌, ◌+◌, ◌++◌, ℕ, suc, List, [], ◌∷◌, get_or, drop, map, length, refl, sym, ap, ◌∙◌, subst, All}
+use Rattle.std.proofs.lemmas.List.{append_assoc, append-nil, drop_more, drop_all}
+use Rattle.std.proofs.lemmas.List.Elements.{All-nil, All-cons}
+use Rattle.load_queue.specs.Loaders.{LoaderOf}
+use Rattle.gq_bindings.specs.Tree as bindings
+use Rattle.gq_bindings.specs.Seen.{loader_of}
+use Rattle.gq_bindings.specs.declared.binding.LoaderLine.{LoaderLine}
+use Rattle.server.specs.Opening.{new_loader}
+use Rattle.owned_hand.specs.declared.handed_in.HandedIn.{HandedIn}
+use Rattle.host_clients.specs.Opening.{AreNewLoaders, handed_in, limit_at, limits_after}
+
+-- nobody has asked a new loader
+pub none-asked : (limits : List ℕ) (lines : List bindings.LoaderOf) (loaders : List (LoaderOf HandedIn)) → AreNewLoaders handed_in limits lines loaders
+    → All (λ (l : LoaderOf HandedIn). l.log ≡ []) loaders
+none-asked limits [] [] are = All-nil (λ (l : LoaderOf HandedIn). l.log ≡ [])
+none-asked limits [] (l ∷ ls) are = absurd are
+none-asked limits (line ∷ lines) [] are = absurd are
+none-asked limits (line ∷ lines) (l ∷ ls) are =
+    All-cons (λ (o : LoaderOf HandedIn). o.log ≡ []) l ls (ap (λ (o : LoaderOf HandedIn). o.log) are.0) (none-asked (limits_after limits) lines ls are.1)
+
+-- there is one for each line
+pub as-many : (limits : List ℕ) (lines : List bindings.LoaderOf) (loaders : List (LoaderOf HandedIn)) → AreNewLoaders handed_in limits lines loaders → length lines ≡ length loaders
+as-many limits [] [] are = refl
+as-many limits [] (l ∷ ls) are = absurd are
+as-many limits (line ∷ lines) [] are = absurd are
+as-many limits (line ∷ lines) (l ∷ ls) are = ap suc (as-many (limits_after limits) lines ls are.1)
+
+-- what are the loaders of the lines that are left are, after those that there are, the loaders of all lines
+abbrev pub SoFar : List ℕ → List ℕ → List LoaderLine → ℕ → List (LoaderOf HandedIn) → Type 0
+SoFar limits left lines i done = (more : List (LoaderOf HandedIn)) → AreNewLoaders handed_in left (map loader_of (drop i lines)) more
+    → AreNewLoaders handed_in limits (map loader_of lines) (done ++ more)
+
+pub so-none : (limits : List ℕ) (lines : List LoaderLine) → SoFar limits limits lines 0 []
+so-none limits lines = λ more are. are
+
+pub so-next : (limits left rest : List ℕ) (lines : List LoaderLine) (i : ℕ) (line : LoaderLine) → i < length lines → line ≡ get_or lines i line → (done : List (LoaderOf HandedIn))
+    (loader : LoaderOf HandedIn) → SoFar limits left lines i done → loader ≡ new_loader (limit_at left) (loader_of line) handed_in → rest ≡ limits_after left
+    → SoFar limits rest lines (i + 1) (done ++ loader ∷ [])
+so-next limits left rest lines i line lt is done loader so made e = λ more are.
+    let cons : drop i lines ≡ line ∷ drop (i + 1) lines = drop_more lines i line lt ∙ ap (λ x. x ∷ drop (i + 1) lines) (sym is) in
+    let front : AreNewLoaders handed_in left (map loader_of (drop i lines)) (loader ∷ more) =
+    rw cons (made, subst (λ r. AreNewLoaders handed_in r (map loader_of (drop (i + 1) lines)) more) e are) in
+    rw (append_assoc done (loader ∷ []) more) (so (loader ∷ more) front)
+
+pub so-all : (limits left : List ℕ) (lines : List LoaderLine) (i : ℕ) → length lines ≤ i → (done : List (LoaderOf HandedIn)) → SoFar limits left lines i done
+    → AreNewLoaders handed_in limits (map loader_of lines) done
+so-all limits left lines i past done so =
+    let none : AreNewLoaders handed_in left (map loader_of (drop i lines)) [] = rw (drop_all i lines past) tt in
+    rw append-nil at (so [] none)

@@ -1,0 +1,142 @@
+-- What is on its way to the answer, after a call of what is done by hand.
+use Rattle.std.proofs.Common.{◌≡◌, ◌∙◌, ℕ, zero, suc, List, [], ◌∷◌, map, refl, sym, ap, subst, string_bytes, Ok, Err, Some}
+use Rattle.std.specs.Prelude.{Result, IfSome, slice_get}
+use Rattle.std.specs.List.{slice_set}
+use Rattle.std.specs.Global.{Vec}
+use Rattle.load_memory.specs.Keys.{KeyOf}
+use Rattle.load_memory.specs.declared.outcome.Item.{Item}
+use Rattle.load_queue.specs.Fetched.{Fetched}
+use Rattle.load_queue.specs.Loaders.{LoaderOf}
+use Rattle.load_queue.specs.Orders.{OrderOf}
+use Rattle.load_queue.specs.declared.source.FetchFault.{FetchFault}
+use Rattle.load_queue.specs.declared.source.FetchFault.TheVariants.{Failed, NoMemory}
+use Rattle.load_rounds.specs.Histories.{any_tell}
+use Rattle.load_rounds.specs.declared.answer.Answer.{Answer}
+use Rattle.rounds_by_hand.specs.Hands.{handed, pending_in, IsNewRound, IsOver}
+use Rattle.rounds_by_hand.specs.Pending.{MayAnswer, TakesAnswer, order_in}
+use Rattle.rounds_by_hand.specs.declared.pending.Pending.{Pending}
+use Rattle.rounds_by_hand.specs.declared.pending.Pending.TheVariants.{In, Out}
+use Rattle.server.specs.Clients.{ClientOf, IsSameClient}
+use Rattle.server.specs.Hands.{ByHandOf, by_hand_of, IsUnderway, GoesOn, GoesOnIfMay, GivesUp, Responds}
+use Rattle.server.specs.Planned.{PlannedOf, PlansAsked}
+use Rattle.load_rounds.specs.SharedRounds.{report_of}
+use Rattle.server.specs.declared.by_hand.Step.TheVariants.{Answered}
+use Rattle.owned_hand.specs.declared.handed_in.HandedIn.{HandedIn}
+use Rattle.host_clients.specs.Asked.{HostAsked, PlansHost, AnswersHost}
+use Rattle.host_clients.specs.Clients.{AnswersIt, IsBegunWith, MakesRound, StopsIt, Takes}
+use Rattle.host_clients.specs.UnderWay.{UnderWayOf, IsOf, IsAnswerOf, HoldsUnderWay, orders_out}
+
+-- what is begun
+pub holds-begun : (hand : ByHandOf HandedIn) (c : ClientOf HandedIn) (planned : PlannedOf) (asked : HostAsked) (orders : List OrderOf) → hand ≡ by_hand_of c planned handed
+    → PlansHost c asked planned → orders ≡ [] → HoldsUnderWay hand asked orders
+holds-begun hand c planned asked orders is plans none = rw (is, none) (record {
+  is_of = record { begun = c; of_server = refl; underway = refl; planned = plans };
+  orders_are = refl;
+})
+
+pub begun-with : (hand : ByHandOf HandedIn) (c now : ClientOf HandedIn) (planned : PlannedOf) (asked : HostAsked) → hand ≡ by_hand_of now planned handed → now ≡ c → PlansHost c asked planned
+    → (hand.client ≡ c) × IsBegunWith asked (record { hand = hand; asked = asked })
+begun-with hand c now planned asked is same plans = rw (is, same) (refl, record { asked_is = refl; planned = plans; far = refl })
+
+plans-same : (c : ClientOf HandedIn) (asked : HostAsked) (old new : PlannedOf) → new ≡ old → PlansHost c asked old → PlansHost c asked new
+plans-same c asked old new e plans = subst (PlansHost c asked) (sym e) plans
+
+module _ (old new : ByHandOf HandedIn) (goes : GoesOn any_tell old new) (same : new.planned ≡ old.planned) where
+  pub is-of-after : (asked : HostAsked) → IsSameClient old.client new.client → IsOf old asked → IsOf new asked
+  is-of-after asked client of = record {
+    begun = of.begun;
+    of_server = client.server ∙ of.of_server;
+    underway = goes of.begun.session of.underway;
+    planned = plans-same of.begun asked old.planned new.planned same of.planned;
+  }
+
+  pub gives-up-before : (c : ClientOf HandedIn) → GivesUp any_tell new c → GivesUp any_tell old c
+  gives-up-before c gives = λ begun asked underway plans. gives begun asked (goes begun.session underway) (subst (PlansAsked begun asked) (sym same) plans)
+
+-- what answers it answers what was asked
+pub answers-host : (old new : ByHandOf HandedIn) (answer : Answer) → Responds any_tell old new (Answered answer) → (c : ClientOf HandedIn) (asked : HostAsked)
+    → IsUnderway any_tell c.session old → PlansHost c asked old.planned → AnswersHost any_tell c asked (report_of answer) new.client.session
+answers-host old new answer responds c asked underway plans = record { asked = plans.asked; asks = plans.asks; answers = responds c plans.asked underway plans.plans }
+
+pub answer-of : (old new : ByHandOf HandedIn) (asked : HostAsked) (answer : Answer) (c : ClientOf HandedIn) → IsOf old asked → IsSameClient old.client new.client
+    → Responds any_tell old new (Answered answer) → c ≡ new.client → IsAnswerOf c.server asked (string_bytes answer.text) answer.rounds
+answer-of old new asked answer c of client responds is = record {
+  begun = of.begun;
+  later = new.client.session;
+  of_server = sym (ap (λ (x : ClientOf HandedIn). x.server) is ∙ client.server ∙ of.of_server);
+  answers = answers-host old new answer responds of.begun asked of.underway of.planned;
+}
+
+-- what comes of a call of what is done by hand
+module _ (u : UnderWayOf) (new : ByHandOf HandedIn) (client : IsSameClient u.hand.client new.client) (c : ClientOf HandedIn) (is : c ≡ new.client) where
+  same-client : IsSameClient u.hand.client c
+  same-client = subst (IsSameClient u.hand.client) (sym is) client
+
+  pub answers-it : (answer : Answer) → Responds any_tell u.hand new (Answered answer)
+      → AnswersIt u (record { client = c; asked = u.asked; text = string_bytes answer.text; rounds = answer.rounds })
+  answers-it answer responds = record {
+    asked_is = refl;
+    same = same-client;
+    answers = λ d underway plans. subst (λ (x : ClientOf HandedIn). AnswersHost any_tell d u.asked (report_of answer) x.session) (sym is)
+        (answers-host u.hand new answer responds d u.asked underway plans);
+  }
+
+  pub stops-it : GoesOn any_tell u.hand new → new.planned ≡ u.hand.planned → GivesUp any_tell new c → StopsIt u c
+  stops-it goes same gives = record { same = same-client; stops = gives-up-before u.hand new goes same c gives }
+
+pub makes-round : (u : UnderWayOf) (new : ByHandOf HandedIn) → IsSameClient u.hand.client new.client → GoesOn any_tell u.hand new → new.planned ≡ u.hand.planned → IsNewRound new.far
+    → MakesRound u (record { hand = new; asked = u.asked })
+makes-round u new client goes same round = record { asked_is = refl; planned_is = same; same = client; goes_on = goes; round = round }
+
+pub holds-after : (old new : ByHandOf HandedIn) (asked : HostAsked) (orders : List OrderOf) → IsSameClient old.client new.client → GoesOn any_tell old new → new.planned ≡ old.planned → IsOf old asked
+    → orders ≡ orders_out new → HoldsUnderWay new asked orders
+holds-after old new asked orders client goes same of are = record { is_of = is-of-after old new goes same asked client of; orders_are = are }
+
+-- the sources may answer anything
+fetched-any : (source : HandedIn) (keys : List KeyOf) (answer : Result (Vec Item) FetchFault) → Fetched (any_tell source keys) answer
+fetched-any source keys (Ok items) = tt
+fetched-any source keys (Err (Failed text)) = tt
+fetched-any source keys (Err NoMemory) = tt
+
+pub may-answer : (loaders : List (LoaderOf HandedIn)) (order : OrderOf) (answer : Result (Vec Item) FetchFault) → MayAnswer any_tell loaders order answer
+may-answer loaders order answer = λ asked is. fetched-any asked.source order.keys answer
+
+-- an order that takes an answer goes on
+pub goes-on-with : (old new : ByHandOf HandedIn) (number : ℕ) (answer : Result (Vec Item) FetchFault) (one : Pending) → slice_get (pending_in old.far) number ≡ Some one
+    → IfSome (slice_get (pending_in old.far) number) (GoesOnIfMay any_tell answer old new) → GoesOn any_tell old new
+goes-on-with old new number answer one is goes = (rw is at goes) (may-answer old.client.session.loaders (order_in one) answer)
+
+-- ---- an order takes an answer
+
+set-same : {X Y : Type 0} (f : X → Y) (xs : List X) (n : ℕ) (x y : X) → slice_get xs n ≡ Some x → f y ≡ f x → map f (slice_set xs n y) ≡ map f xs
+set-same f [] n x y is e = refl
+set-same f (z ∷ zs) zero x y is e = let same : z ≡ x = cc in ap (λ w. w ∷ map f zs) (e ∙ sym (ap f same))
+set-same f (z ∷ zs) (suc n) x y is e = ap (λ ws. f z ∷ ws) (set-same f zs n x y is e)
+
+-- the orders stay the same
+pub orders-kept : (old new : List Pending) (number : ℕ) (answer : Result (Vec Item) FetchFault) → TakesAnswer old number answer new → map order_in new ≡ map order_in old
+orders-kept old new number answer t =
+    let same : order_in (In t.reply) ≡ order_in (Out t.order) = rw (t.loader, t.keys) refl in
+    ap (map order_in) t.put ∙ set-same order_in old number (Out t.order) (In t.reply) t.was same
+
+module _ (old new : ByHandOf HandedIn) (number : ℕ) (answer : Result (Vec Item) FetchFault) (takes : TakesAnswer (pending_in old.far) number answer (pending_in new.far))
+    (goes : IfSome (slice_get (pending_in old.far) number) (GoesOnIfMay any_tell answer old new)) (client : new.client ≡ old.client) (same : new.planned ≡ old.planned) where
+  pub goes-taken : GoesOn any_tell old new
+  goes-taken = goes-on-with old new number answer (Out takes.order) takes.was goes
+
+  pub holds-taken : (asked : HostAsked) (orders : List OrderOf) → HoldsUnderWay old asked orders → HoldsUnderWay new asked orders
+  holds-taken asked orders h = record {
+    is_of = is-of-after old new goes-taken same asked (record { server = ap (λ (x : ClientOf HandedIn). x.server) client; most = ap (λ (x : ClientOf HandedIn). x.most) client }) h.is_of;
+    orders_are = h.orders_are ∙ sym (orders-kept _ _ number answer takes);
+  }
+
+  pub takes-it : (asked : HostAsked) → Takes number answer (record { hand = old; asked = asked }) (record { hand = new; asked = asked })
+  takes-it asked = record { asked_is = refl; planned_is = same; client_is = client; goes_on = goes-taken; takes = takes }
+
+-- where memory ran out, there are no orders
+pub holds-over : (old new : ByHandOf HandedIn) (asked : HostAsked) (orders : List OrderOf) → GoesOn any_tell old new → new.client ≡ old.client → new.planned ≡ old.planned → IsOver new.far → orders ≡ []
+    → IsOf old asked → HoldsUnderWay new asked orders
+holds-over old new asked orders goes client same over none of = record {
+  is_of = is-of-after old new goes same asked (record { server = ap (λ (x : ClientOf HandedIn). x.server) client; most = ap (λ (x : ClientOf HandedIn). x.most) client }) of;
+  orders_are = none ∙ sym (ap (λ far. map order_in (pending_in far)) over);
+}

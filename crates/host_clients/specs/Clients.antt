@@ -1,0 +1,131 @@
+-- What the calls of a client make of it.
+use Rattle.std.specs.Prelude.{ℕ, ◌≡◌, ◌⊎◌, List, Bool, true, false, Option, Some, None, Result, Ok, Err, map, length, slice_get, option_map, String, string_bytes}
+use Rattle.std.specs.Global.{Vec, Global}
+use Rattle.load_memory.specs.Outcomes.{ItemOf, item_of}
+use Rattle.load_memory.specs.declared.outcome.Item.{Item}
+use Rattle.load_queue.specs.declared.source.FetchFault.{FetchFault}
+use Rattle.load_queue.specs.declared.source.FetchFault.TheVariants.{Failed}
+use Rattle.flat_orders.specs.Orders.{keys_of}
+use Rattle.load_rounds.specs.Histories.{any_tell}
+use Rattle.rounds_by_hand.specs.Hands.{handed, pending_in, IsNewRound, IsWaiting, IsOver}
+use Rattle.rounds_by_hand.specs.Pending.{TakesAnswer}
+use Rattle.server.specs.Clients.{ClientOf, IsSameClient}
+use Rattle.server.specs.Hands.{IsUnderway, GoesOn, GivesUp}
+use Rattle.owned_hand.specs.declared.handed_in.HandedIn.{HandedIn}
+use Rattle.host_clients.specs.Asked.{HostAsked, PlansHost, AnswersHost}
+use Rattle.host_clients.specs.UnderWay.{UnderWayOf, AnsweredOf, report_in, orders_out}
+use Rattle.host_clients.specs.declared.fault.Fault.{Fault}
+use Rattle.host_clients.specs.declared.fault.Fault.TheVariants as fault
+use Rattle.host_clients.specs.declared.client.HostClient.{HostClient}
+use Rattle.host_clients.specs.declared.client.HostClient.TheVariants.{Idle, Asked, Answered, Moved}
+use Rattle.host_clients.specs.declared.client.Progress.{Progress}
+use Rattle.host_clients.specs.declared.client.Progress.TheVariants.{Done, Round, Waiting}
+
+-- the client, as it is
+abbrev pub client_in : HostClient → Option (ClientOf HandedIn)
+client_in (Idle c) = Some c
+client_in (Asked u) = Some u.hand.client
+client_in (Answered a) = Some a.client
+client_in Moved = None
+
+-- a request is being answered
+abbrev pub is_busy : HostClient → Bool
+is_busy (Idle c) = false
+is_busy (Asked u) = true
+is_busy (Answered a) = false
+is_busy Moved = true
+
+-- it is planned for the client, and nothing is asked yet
+pub record IsBegunWith (asked : HostAsked) (u : UnderWayOf) : Type 0 where
+  pub asked_is : u.asked ≡ asked
+  pub planned : PlansHost u.hand.client asked u.hand.planned
+  pub far : u.hand.far ≡ handed
+
+-- what comes of what a client is asked: it is begun, or memory ran out, and the client is as it was
+abbrev pub Begins : ClientOf HandedIn → HostAsked → HostClient → Result (Unit {0}) Fault → Type 0
+Begins c asked (Asked u) (Ok _) = (u.hand.client ≡ c) × IsBegunWith asked u
+Begins c asked (Idle same) (Err e) = (same ≡ c) × (e ≡ fault.NoMemory)
+Begins c asked new result = ⊥
+
+-- a client that wasn't busy has begun what it was asked
+abbrev pub IsBegun : HostClient → HostAsked → HostClient → Type 0
+IsBegun old asked (Asked u) = (client_in old ≡ Some u.hand.client) × IsBegunWith asked u
+IsBegun old asked new = ⊥
+
+-- from whichever client it was begun: this answers it in the client's session
+pub record AnswersIt (u : UnderWayOf) (a : AnsweredOf) : Type 0 where
+  pub asked_is : a.asked ≡ u.asked
+  pub same : IsSameClient u.hand.client a.client
+  pub answers : (c : ClientOf HandedIn) → IsUnderway any_tell c.session u.hand → PlansHost c u.asked u.hand.planned
+      → AnswersHost any_tell c u.asked (report_in a) a.client.session
+
+-- a new round is out
+pub record MakesRound (u v : UnderWayOf) : Type 0 where
+  pub asked_is : v.asked ≡ u.asked
+  pub planned_is : v.hand.planned ≡ u.hand.planned
+  pub same : IsSameClient u.hand.client v.hand.client
+  pub goes_on : GoesOn any_tell u.hand v.hand
+  pub round : IsNewRound v.hand.far
+
+-- it is given up: the finished rounds stay in the client's session, and perhaps one more was lost
+pub record StopsIt (u : UnderWayOf) (c : ClientOf HandedIn) : Type 0 where
+  pub same : IsSameClient u.hand.client c
+  pub stops : GivesUp any_tell u.hand c
+
+-- memory runs out, or it ran out before
+abbrev pub IsStopFault : UnderWayOf → Fault → Type 0
+IsStopFault u e = (e ≡ fault.NoMemory) ⊎ ((e ≡ fault.Stopped) × IsOver u.hand.far)
+
+-- what comes of going on
+abbrev pub GoesOnWith : UnderWayOf → HostClient → Result Progress Fault → Type 0
+GoesOnWith u (Answered a) (Ok Done) = AnswersIt u a
+GoesOnWith u (Asked v) (Ok Round) = MakesRound u v
+GoesOnWith u (Asked v) (Ok Waiting) = IsWaiting u.hand.far × (v ≡ u)
+GoesOnWith u (Idle c) (Err e) = StopsIt u c × IsStopFault u e
+GoesOnWith u new result = ⊥
+
+-- an order of the round that is out takes an answer, and the others stay as they are
+pub record Takes (number : ℕ) (answer : Result (Vec Item) FetchFault) (u v : UnderWayOf) : Type 0 where
+  pub asked_is : v.asked ≡ u.asked
+  pub planned_is : v.hand.planned ≡ u.hand.planned
+  pub client_is : v.hand.client ≡ u.hand.client
+  pub goes_on : GoesOn any_tell u.hand v.hand
+  pub takes : TakesAnswer (pending_in u.hand.far) number answer (pending_in v.hand.far)
+
+-- what a call to go on makes of a client
+abbrev pub Advances : HostClient → HostClient → Result Progress Fault → Type 0
+Advances (Idle c) new result = (new ≡ Idle c) × (result ≡ Err fault.Idle)
+Advances (Asked u) new result = GoesOnWith u new result
+Advances (Answered a) new result = (new ≡ Answered a) × (result ≡ Ok Done)
+Advances Moved new result = (new ≡ Moved) × (result ≡ Err fault.Idle)
+
+-- a reply is taken for an order: these items, as the host laid them out
+pub record TakesItems (number : ℕ) (said : List ItemOf) (u v : UnderWayOf) : Type 0 where
+  pub items : Vec Item
+  pub are_said : map item_of items.items ≡ said
+  pub takes : Takes number (Ok items) u v
+
+abbrev pub TakesReply : ℕ → List ItemOf → HostClient → HostClient → Type 0
+TakesReply number said (Asked u) (Asked v) = TakesItems number said u v
+TakesReply number said old new = ⊥
+
+-- it is taken that the batch of an order failed as a whole, with this text
+pub record FailsOrder (number : ℕ) (said : List ℕ) (u v : UnderWayOf) : Type 0 where
+  pub text : String Global
+  pub is_said : string_bytes text ≡ said
+  pub takes : Takes number (Err (Failed text)) u v
+
+abbrev pub TakesFailure : ℕ → List ℕ → HostClient → HostClient → Type 0
+TakesFailure number said (Asked u) (Asked v) = FailsOrder number said u v
+TakesFailure number said old new = ⊥
+
+-- what is on its way to the answer is given up
+abbrev pub Cancels : HostClient → HostClient → Result (Unit {0}) Fault → Type 0
+Cancels (Asked u) (Idle c) (Ok done) = StopsIt u c
+Cancels (Asked u) new result = ⊥
+Cancels old new result = (new ≡ old) × (result ≡ Err fault.Idle)
+
+-- the order of this number in the round that is out has so many keys
+abbrev pub HasCount : ℕ → ℕ → HostClient → Type 0
+HasCount number count (Asked u) = option_map (λ o. length (keys_of o)) (slice_get (orders_out u.hand) number) ≡ Some count
+HasCount number count client = ⊥

@@ -1,0 +1,10 @@
+pub mod Faults
+pub mod Opening
+pub mod Asked
+pub mod Texts
+pub mod UnderWay
+pub mod Clients
+pub mod LoaderTexts
+pub mod Logs
+pub mod Known
+pub mod Objects

@@ -1,0 +1,22 @@
+-- What is made of objects.
+use Rattle.std.specs.Prelude.{◌≡◌, ℕ, List, Result, Ok, Err}
+use Rattle.host_clients.specs.Opening.{IsNewClient}
+use Rattle.host_clients.specs.declared.fault.Fault.{Fault}
+use Rattle.host_clients.specs.declared.fault.Fault.TheVariants as fault
+use Rattle.host_clients.specs.declared.object.Object.{Object}
+use Rattle.host_clients.specs.declared.object.Object.TheVariants.{Server, Client}
+
+-- the same server once more; what is none isn't shared
+abbrev pub Shares : Object → Result Object Fault → Type 0
+Shares (Server s) (Ok object) = object ≡ Server s
+Shares (Server s) (Err e) = e ≡ fault.NoMemory
+Shares (Client c) (Ok object) = ⊥
+Shares (Client c) (Err e) = e ≡ fault.BadHandle
+
+-- a client of the server, which knows nothing; what is no server has none
+abbrev pub MakesClient : List ℕ → Object → Result Object Fault → Type 0
+MakesClient limits (Server s) (Ok (Server t)) = ⊥
+MakesClient limits (Server s) (Ok (Client c)) = IsNewClient s limits c
+MakesClient limits (Server s) (Err e) = Unit {0}
+MakesClient limits (Client c) (Ok object) = ⊥
+MakesClient limits (Client c) (Err e) = e ≡ fault.BadHandle

@@ -1,0 +1,71 @@
+-- Why a schema or its bindings are refused, as C is told, and the loaders of a new client.
+use Rattle.std.specs.Prelude.{ℕ, ◌≡◌, List, [], ◌∷◌, true, false, Option, Some, None, if◌then◌else◌, ◌==◌, IsUtf8}
+use Rattle.text_place.specs.declared.place.Place.{Place}
+use Rattle.gq_schema.specs.declared.fault.SchemaFault.{SchemaFault}
+use Rattle.gq_schema.specs.declared.fault.SchemaFault.TheVariants as schema
+use Rattle.load_queue.specs.Loaders.{LoaderOf}
+use Rattle.gq_bindings.specs.Tree as bindings
+use Rattle.request_plans.specs.Servers.{ServerOf, IsServerFault}
+use Rattle.server.specs.Opening.{new_loader}
+use Rattle.owned_hand.specs.declared.handed_in.HandedIn.{HandedIn}
+use Rattle.host_clients.specs.declared.client.HostClient.{HostClient}
+use Rattle.host_clients.specs.declared.client.HostClient.TheVariants.{Idle}
+use Rattle.host_clients.specs.declared.opening.OpenFault.{OpenFault}
+use Rattle.host_clients.specs.declared.opening.OpenFault.TheVariants.{NotUtf8, Refused, NoMemory}
+use Rattle.host_clients.specs.declared.opening.FaultPlace.{FaultPlace}
+
+abbrev pub fault_at : ℕ → Place → FaultPlace
+fault_at number at = record { number = number; line = at.line; column = at.column; in_bindings = false }
+
+abbrev pub fault_without : ℕ → FaultPlace
+fault_without number = record { number = number; line = 0; column = 0; in_bindings = false }
+
+-- the fault Sn has the number n
+abbrev pub place_of : SchemaFault → FaultPlace
+place_of (schema.Syntax at) = fault_at 1 at
+place_of (schema.Duplicate at) = fault_at 2 at
+place_of (schema.UnknownType at) = fault_at 3 at
+place_of (schema.BadImplements at) = fault_at 4 at
+place_of schema.NoQueryRoot = fault_without 5
+place_of (schema.ReservedName at) = fault_at 6 at
+place_of (schema.NotServed at) = fault_at 7 at
+place_of (schema.BadBinding line) = record { number = 8; line = line; column = 0; in_bindings = true }
+place_of schema.NoMemory = fault_without 9
+place_of (schema.BadKind at) = fault_at 10 at
+place_of (schema.BadDefault at) = fault_at 11 at
+
+-- 0 is no limit
+abbrev pub limit_of : ℕ → Option ℕ
+limit_of n = if n == 0 then None else Some n
+
+-- the limit of the loader of a number, where no limits are given or one for each loader
+abbrev pub limit_at : List ℕ → Option ℕ
+limit_at [] = None
+limit_at (n ∷ ns) = limit_of n
+
+abbrev pub limits_after : List ℕ → List ℕ
+limits_after [] = []
+limits_after (n ∷ ns) = ns
+
+-- new loaders of these lines, in order, each with its limit
+abbrev pub AreNewLoaders : {S : Type 0} → S → List ℕ → List bindings.LoaderOf → List (LoaderOf S) → Type 0
+AreNewLoaders source limits [] [] = Unit {0}
+AreNewLoaders source limits [] (l ∷ ls) = ⊥
+AreNewLoaders source limits (line ∷ lines) [] = ⊥
+AreNewLoaders source limits (line ∷ lines) (l ∷ ls) = (l ≡ new_loader (limit_at limits) line source) × AreNewLoaders source (limits_after limits) lines ls
+
+-- the source of every loader, which is never asked
+abbrev pub handed_in : HandedIn
+handed_in = record {}
+
+-- a client of this server, which knows nothing: it has a new loader for each of the server's lines, and no round was made
+abbrev pub IsNewClient : ServerOf → List ℕ → HostClient → Type 0
+IsNewClient server limits (Idle c) = (c.server ≡ server) × (c.most ≡ None) × (c.session.pairs ≡ []) × (c.session.rounds ≡ 0)
+    × AreNewLoaders handed_in limits server.bindings.loaders c.session.loaders
+IsNewClient server limits other = ⊥
+
+-- why no server is made of these texts. Of memory this says nothing.
+abbrev pub RefusesOpening : List ℕ → List ℕ → OpenFault → Type 0
+RefusesOpening schema bindings NotUtf8 = ¬ (IsUtf8 schema × IsUtf8 bindings)
+RefusesOpening schema bindings (Refused place) = (fault : SchemaFault) × IsServerFault schema bindings fault × (place ≡ place_of fault)
+RefusesOpening schema bindings NoMemory = Unit {0}

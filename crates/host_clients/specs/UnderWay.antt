@@ -1,0 +1,52 @@
+-- What a client was asked, how far that is, and what answers it.
+use Rattle.std.specs.Prelude.{ℕ, ◌≡◌, List, map}
+use Rattle.load_queue.specs.Orders.{OrderOf}
+use Rattle.load_rounds.specs.Histories.{any_tell}
+use Rattle.load_rounds.specs.Sessions.{SessionOf}
+use Rattle.load_rounds.specs.SharedRounds.{ReportOf}
+use Rattle.request_plans.specs.Servers.{ServerOf}
+use Rattle.rounds_by_hand.specs.Hands.{pending_in}
+use Rattle.rounds_by_hand.specs.Pending.{order_in}
+use Rattle.server.specs.Clients.{ClientOf}
+use Rattle.server.specs.Hands.{ByHandOf, IsUnderway}
+use Rattle.owned_hand.specs.declared.handed_in.HandedIn.{HandedIn}
+use Rattle.host_clients.specs.Asked.{HostAsked, PlansHost, AnswersHost}
+
+-- what a client was asked, and how far that is
+pub record UnderWayOf : Type 0 where
+  pub hand : ByHandOf HandedIn
+  pub asked : HostAsked
+
+-- It was begun on some client, as it was then, and planned for it. Since then nothing but its rounds was made in the client's session.
+pub record IsOf (hand : ByHandOf HandedIn) (asked : HostAsked) : Type 0 where
+  pub begun : ClientOf HandedIn
+  pub of_server : hand.client.server ≡ begun.server
+  pub underway : IsUnderway any_tell begun.session hand
+  pub planned : PlansHost begun asked hand.planned
+
+-- the orders of the round that is out
+abbrev pub orders_out : ByHandOf HandedIn → List OrderOf
+orders_out hand = map order_in (pending_in hand.far)
+
+-- what holds between calls
+pub record HoldsUnderWay (hand : ByHandOf HandedIn) (asked : HostAsked) (orders : List OrderOf) : Type 0 where
+  pub is_of : IsOf hand asked
+  pub orders_are : orders ≡ orders_out hand
+
+-- a client with the answer to what it was asked last
+pub record AnsweredOf : Type 0 where
+  pub client : ClientOf HandedIn
+  pub asked : HostAsked
+  pub text : List ℕ
+  pub rounds : ℕ
+
+abbrev pub report_in : AnsweredOf → ReportOf
+report_in a = record { text = a.text; rounds = a.rounds }
+
+-- The text answers what was asked, by the definitions of serving: in the session of some client of this server, from one state to a later one,
+-- in which the loaders were asked exactly the batches of a lawful log.
+pub record IsAnswerOf (server : ServerOf) (asked : HostAsked) (text : List ℕ) (rounds : ℕ) : Type 0 where
+  pub begun : ClientOf HandedIn
+  pub later : SessionOf HandedIn
+  pub of_server : begun.server ≡ server
+  pub answers : AnswersHost any_tell begun asked (record { text = text; rounds = rounds }) later

@@ -1,0 +1,68 @@
+//! A client that has answered what it was asked.
+ghost use Rattle.std.specs.Prelude.{◌≡◌, string_bytes};
+ghost use Rattle.host_clients.specs.UnderWay.{IsAnswerOf};
+
+use crate::asked::AskedTexts;
+use owned_hand::HandedIn;
+use server::ClientSession;
+use std::marker::Model;
+
+/// A client with the answer to what it was asked last.
+///
+/// A contract sees the client, what was asked, the text and how many rounds it took. The text is the answer of that (`IsAnswerOf`).
+#[derive(Drop)]
+pub struct AnsweredClient {
+    pub(crate) client: ClientSession<HandedIn>,
+    pub(crate) asked: AskedTexts,
+    pub(crate) text: String,
+    pub(crate) rounds: u32,
+}
+
+impl Model for AnsweredClient {
+    ghost use Rattle.std.specs.Coded.{codes};
+    ghost use Rattle.std.specs.Prelude.{string_bytes};
+    ghost use Rattle.gq_parser.specs.contracts.tree.TypeRef as type_ref;
+    ghost use Rattle.gq_parser.specs.contracts.tree.Literal as literal;
+    ghost use Rattle.owned_hand.specs.contracts.handed_in.HandedIn as handed;
+    ghost use Rattle.host_clients.specs.Texts.{asked_in};
+    ghost use Rattle.host_clients.specs.UnderWay.{AnsweredOf, IsAnswerOf};
+
+    ghost Value = { AnsweredOf };
+
+    ghost coded = { Prim.hlevel (codes, type_ref.the_row.coded, literal.the_row.coded, handed.the_row.coded) };
+
+    ghost view = { λ a. record { client = a.client; asked = asked_in a.asked; text = string_bytes a.text; rounds = a.rounds } };
+
+    ghost invariant = { λ a. IsAnswerOf a.client.server (asked_in a.asked) (string_bytes a.text) a.rounds };
+}
+
+impl AnsweredClient {
+    /// The text of the answer.
+    pub fn text(&self) -> &str
+        ensures text { result.now ≡ self.now.text }
+        ensures answer { IsAnswerOf self.now.client.server self.now.asked self.now.text self.now.rounds }
+    {
+        self.text.as_str()
+    }
+
+    /// How many rounds it took.
+    pub fn rounds(&self) -> u32
+        ensures { result ≡ self.now.rounds }
+    {
+        self.rounds
+    }
+
+    /// The client.
+    pub fn client(&self) -> &ClientSession<HandedIn>
+        ensures { result.now ≡ self.now.client }
+    {
+        &self.client
+    }
+
+    /// The client, without the answer.
+    pub fn into_client(self) -> ClientSession<HandedIn>
+        ensures { result ≡ self.client }
+    {
+        self.client
+    }
+}

@@ -1,0 +1,145 @@
+//! What a host asks, and its plan.
+ghost use Rattle.std.specs.Prelude.{◌≡◌, ◌≤◌, length, IfOk, IfSome, IfNone, MatchOption, option_map, Option, None, Some, IsUtf8};
+ghost use Rattle.serde_json.specs.Data.{Data};
+ghost use Rattle.serde_json.specs.Read.{read};
+ghost use Rattle.serde_json.specs.View.{view};
+ghost use Rattle.host_clients.specs.Asked.{AreVariables, IsOfNoRequest, PlansHost, line as line_asked, request as request_asked};
+ghost use Rattle.host_clients.specs.Texts.{IsRequestWith, asked_in, flat_parts, parts_in};
+
+use load_memory::NoMemory;
+use owned_hand::HandedIn;
+use serde_json::Value;
+use serde_json::error::Category;
+use server::{ClientSession, PlannedRequest, Request};
+use std::alloc::Global;
+use std::str;
+
+/// A request by its parts, as a host passes them. What isn't UTF-8, or no JSON, is no request.
+#[derive(Clone, Copy)]
+pub struct FlatRequest<'h> {
+    /// A GraphQL document.
+    pub query: &'h [u8],
+    /// The name of the operation to answer; empty for none.
+    pub operation_name: &'h [u8],
+    /// The variables, as the JSON text of an object; empty for none.
+    pub variables: &'h [u8],
+}
+
+/// The texts of a request.
+#[derive(Drop)]
+pub(crate) struct RequestTexts {
+    query: Vec<u8>,
+    operation_name: Vec<u8>,
+    variables: Vec<u8>,
+}
+
+/// The texts of what a host asked.
+#[derive(Drop)]
+pub(crate) enum AskedTexts {
+    /// JSON text: a request, or an array of 1 to 16 of these.
+    Line(Vec<u8>),
+    /// A request by its parts.
+    Request(RequestTexts),
+}
+
+// The value that a text is. `None` is no JSON text.
+fn read_value(alloc: Global, text: &[u8]) -> Result<Option<Value>, NoMemory>
+    ensures { IfOk result (λ r. MatchOption r (IsUtf8 text.now → read text.now ≡ None)
+        (λ value. IsUtf8 text.now × (read text.now ≡ Some (view value)))) }
+{
+    match Value::from_slice(alloc, text) {
+        Ok(value) => Ok(Some(value)),
+        Err(error) => {
+            if error.classify() == Category::Memory {
+                Err(NoMemory)
+            } else {
+                Ok(None)
+            }
+        }
+    }
+}
+
+// The variables that a text is, which are none where it is empty. `None` is no JSON text.
+fn read_variables(alloc: Global, text: &[u8]) -> Result<Option<Option<Value>>, NoMemory>
+    ensures { IfOk result (λ r. MatchOption r ((found : Option Data) → AreVariables text.now found → ⊥)
+        (λ found. AreVariables text.now (option_map view found))) }
+{
+    if text.is_empty() {
+        return Ok(Some(None));
+    }
+    match read_value(alloc, text)? {
+        Some(value) => Ok(Some(Some(value))),
+        None => Ok(None),
+    }
+}
+
+impl RequestTexts {
+    // The request of these texts, whose variables are read.
+    fn request<'t>(&'t self, variables: Option<&'t Value>) -> Option<Request<'t>>
+        ensures some { IfSome result (IsRequestWith self.now (option_map (λ v. view v.now) variables.entry)) }
+        ensures none { IfNone result (IsOfNoRequest (parts_in self.now)) }
+    {
+        let query = str::from_utf8(&self.query).ok()?;
+        let name = str::from_utf8(&self.operation_name).ok()?;
+        Some(Request {
+            query,
+            operation_name: if name.is_empty() { None } else { Some(name) },
+            variables,
+        })
+    }
+
+    // What these texts ask of a client. Texts of no request ask what the empty text asks, which is none.
+    fn plan(
+        &self,
+        alloc: Global,
+        client: &mut ClientSession<HandedIn>,
+    ) -> Result<PlannedRequest, NoMemory>
+        ensures planned { IfOk result (PlansHost client.old (request_asked (parts_in self.now))) }
+        ensures fits { IfOk result (λ planned. planned.loaders ≤ length client.new.session.loaders) }
+        ensures same { client.new ≡ client.old }
+    {
+        let Some(variables) = read_variables(alloc, &self.variables)? else {
+            return client.plan_text(&[]);
+        };
+        match self.request(variables.as_ref()) {
+            Some(request) => client.plan(&request),
+            None => client.plan_text(&[]),
+        }
+    }
+}
+
+impl AskedTexts {
+    /// This line.
+    pub fn of_line(alloc: Global, line: &[u8]) -> Result<AskedTexts, NoMemory>
+        ensures { IfOk result (λ own. asked_in own ≡ line_asked line.now) }
+    {
+        Ok(AskedTexts::Line(line.to_vec(alloc)?))
+    }
+
+    /// The request of these parts.
+    pub fn of_request(alloc: Global, parts: &FlatRequest<'_>) -> Result<AskedTexts, NoMemory>
+        ensures { IfOk result (λ own. asked_in own ≡ request_asked (flat_parts parts.now)) }
+    {
+        Ok(AskedTexts::Request(RequestTexts {
+            query: parts.query.to_vec(alloc)?,
+            operation_name: parts.operation_name.to_vec(alloc)?,
+            variables: parts.variables.to_vec(alloc)?,
+        }))
+    }
+
+    /// What it asks of a client.
+    pub fn plan(
+        &self,
+        alloc: Global,
+        client: &mut ClientSession<HandedIn>,
+    ) -> Result<PlannedRequest, NoMemory>
+        ensures planned { IfOk result (PlansHost client.old (asked_in self.now)) }
+        ensures fits { IfOk result (λ planned. planned.loaders ≤ length client.new.session.loaders) }
+        ensures same { client.new ≡ client.old }
+    {
+        match self {
+            AskedTexts::Line(line) => client.plan_text(line),
+            AskedTexts::Request(texts) => texts.plan(alloc, client),
+        }
+    }
+}

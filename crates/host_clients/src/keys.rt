@@ -1,0 +1,223 @@
+//! What a client knows of keys, primed and cleared.
+ghost use Rattle.std.specs.Prelude.{◌≡◌, ◌≢◌, ◌∷◌, [], IfOk, IfErr, IfSome, OnOk, OnErr};
+ghost use Rattle.load_memory.specs.Keys.{key_of};
+ghost use Rattle.load_memory.specs.Outcomes.{item_of};
+ghost use Rattle.load_rounds.specs.Histories.{ClearingAll};
+ghost use Rattle.server.specs.Clients.{begun};
+ghost use Rattle.host_clients.specs.Clients.{client_in};
+ghost use Rattle.host_clients.specs.Known.{Calls, Clears, LimitsAnswers, OnClient, Primes, PrimesSaid, items_in, key_in};
+ghost use Rattle.host_clients.specs.Logs.{AreBatches, LogHolds};
+
+use crate::client::HostClient;
+use crate::fault::Fault;
+use crate::log::BatchLog;
+use flat_rows::{FlatReply, FlatTexts};
+use load_memory::{Item, Key};
+use std::alloc::Global;
+use std::mem;
+
+/// The key of 0, 1 or 2 texts, each from where the one before it ends.
+///
+/// # Errors
+///
+/// [`NotUtf8`](Fault::NotUtf8), [`BadEnds`](Fault::BadEnds), [`BadKey`](Fault::BadKey), [`NoMemory`](Fault::NoMemory).
+pub fn read_key(alloc: Global, ends: &[u32], bytes: &[u8]) -> Result<Key, Fault>
+    ensures { IfOk result (λ key. key_of key ≡ key_in ends.now bytes.now) }
+{
+    let texts = FlatTexts::new(bytes, ends)?;
+    match texts.len() {
+        0 => Ok(Key::All),
+        1 => Ok(Key::of_text(alloc, texts.get(0))?),
+        2 => Ok(Key::of_pair(alloc, texts.get(0), texts.get(1))?),
+        _ => Err(Fault::BadKey),
+    }
+}
+
+// The item, where it is the only one.
+fn the_one(items: Vec<Item>) -> Option<Item>
+    ensures { IfSome result (λ item. items.items ≡ item ∷ []) }
+{
+    let mut items = items;
+    let item = items.pop()?;
+    if items.is_empty() { Some(item) } else { None }
+}
+
+impl HostClient {
+    /// Adds an item for a loader's key, unless the key is known; true if it was added. Like each of these calls it lets an answer go.
+    ///
+    /// # Errors
+    ///
+    /// [`Busy`](Fault::Busy) while a request is being answered, [`NoLoader`](Fault::NoLoader), [`NoMemory`](Fault::NoMemory).
+    pub fn prime(&mut self, loader: usize, key: &Key, item: Item) -> Result<bool, Fault>
+        ensures primed { IfOk result (λ added. OnClient (Primes loader (key_of key.now) (item_of item) added) self.old self.new) }
+        ensures kept { IfErr result (λ fault. fault ≢ Fault.NoMemory → client_in self.new ≡ client_in self.old) }
+    {
+        match mem::replace(self, HostClient::Moved).into_idle() {
+            Err(busy) => {
+                *self = busy;
+                Err(Fault::Busy)
+            }
+            Ok(client) => {
+                let mut client = client;
+                let added = client.prime(loader, key, item);
+                *self = HostClient::Idle(client);
+                Ok(added?)
+            }
+        }
+    }
+
+    /// Does what [`prime`](HostClient::prime) does with the key of these texts, and the one item of a reply.
+    ///
+    /// # Errors
+    ///
+    /// The first fault of the key or of the reply; [`BadCount`](Fault::BadCount) where the reply hasn't just one item; and those of
+    /// [`prime`](HostClient::prime).
+    pub fn prime_flat(
+        &mut self,
+        alloc: Global,
+        loader: usize,
+        key_ends: &[u32],
+        key_bytes: &[u8],
+        reply: &FlatReply<'_>,
+    ) -> Result<bool, Fault>
+        ensures primed { let key = key_in key_ends.now key_bytes.now in
+            IfOk result (λ b. OnClient (PrimesSaid loader key (items_in reply.now) b) self.old self.new) }
+        ensures kept { IfErr result (λ fault. fault ≢ Fault.NoMemory → client_in self.new ≡ client_in self.old) }
+    {
+        let key = read_key(alloc, key_ends, key_bytes)?;
+        match the_one(reply.items(alloc)?) {
+            Some(item) => self.prime(loader, &key, item),
+            None => Err(Fault::BadCount),
+        }
+    }
+
+    /// Does what [`clear`](HostClient::clear) does with the key of these texts.
+    ///
+    /// # Errors
+    ///
+    /// The first fault of the key, and those of [`clear`](HostClient::clear).
+    pub fn clear_flat(
+        &mut self,
+        alloc: Global,
+        loader: usize,
+        key_ends: &[u32],
+        key_bytes: &[u8],
+    ) -> Result<bool, Fault>
+        ensures cleared { IfOk result (λ there. OnClient (Clears loader (key_in key_ends.now key_bytes.now) there) self.old self.new) }
+        ensures kept { IfErr result (λ fault. fault ≢ Fault.NoMemory → client_in self.new ≡ client_in self.old) }
+    {
+        let key = read_key(alloc, key_ends, key_bytes)?;
+        self.clear(loader, &key)
+    }
+
+    /// Forgets a loader's key; true if it was known.
+    ///
+    /// # Errors
+    ///
+    /// Those of [`prime`](HostClient::prime).
+    pub fn clear(&mut self, loader: usize, key: &Key) -> Result<bool, Fault>
+        ensures cleared { IfOk result (λ there. OnClient (Clears loader (key_of key.now) there) self.old self.new) }
+        ensures kept { IfErr result (λ fault. fault ≢ Fault.NoMemory → client_in self.new ≡ client_in self.old) }
+    {
+        match mem::replace(self, HostClient::Moved).into_idle() {
+            Err(busy) => {
+                *self = busy;
+                Err(Fault::Busy)
+            }
+            Ok(client) => {
+                let mut client = client;
+                let there = client.clear(loader, key);
+                *self = HostClient::Idle(client);
+                Ok(there?)
+            }
+        }
+    }
+
+    /// Forgets all keys of a loader.
+    ///
+    /// # Errors
+    ///
+    /// [`Busy`](Fault::Busy), [`NoLoader`](Fault::NoLoader).
+    pub fn clear_all(&mut self, loader: usize) -> Result<(), Fault>
+        ensures cleared { OnOk result (OnClient (Calls (ClearingAll loader)) self.old self.new) }
+        ensures kept { OnErr result (client_in self.new ≡ client_in self.old) }
+    {
+        match mem::replace(self, HostClient::Moved).into_idle() {
+            Err(busy) => {
+                *self = busy;
+                Err(Fault::Busy)
+            }
+            Ok(client) => {
+                let mut client = client;
+                let cleared = client.clear_all(loader);
+                *self = HostClient::Idle(client);
+                Ok(cleared?)
+            }
+        }
+    }
+
+    /// Forgets all keys, logs and rounds. The documents of queries stay.
+    ///
+    /// # Errors
+    ///
+    /// [`Busy`](Fault::Busy), [`NoMemory`](Fault::NoMemory).
+    pub fn restart(&mut self) -> Result<(), Fault>
+        ensures begun { OnOk result (OnClient (λ c d. d ≡ begun c) self.old self.new) }
+        ensures kept { OnErr result (client_in self.new ≡ client_in self.old) }
+    {
+        match mem::replace(self, HostClient::Moved).into_idle() {
+            Err(busy) => {
+                *self = busy;
+                Err(Fault::Busy)
+            }
+            Ok(client) => {
+                let mut client = client;
+                let restarted = client.restart();
+                *self = HostClient::Idle(client);
+                Ok(restarted?)
+            }
+        }
+    }
+
+    /// From now on the text of an answer has at most so many bytes, that of each value of an array by itself; `None` is no limit.
+    ///
+    /// # Errors
+    ///
+    /// [`Busy`](Fault::Busy).
+    pub fn limit_answers(&mut self, most: Option<usize>) -> Result<(), Fault>
+        ensures limited { OnOk result (OnClient (LimitsAnswers most) self.old self.new) }
+        ensures kept { OnErr result (self.new ≡ self.old) }
+    {
+        match mem::replace(self, HostClient::Moved).into_idle() {
+            Err(busy) => {
+                *self = busy;
+                Err(Fault::Busy)
+            }
+            Ok(client) => {
+                let mut client = client;
+                client.limit_answers(most);
+                *self = HostClient::Idle(client);
+                Ok(())
+            }
+        }
+    }
+
+    /// What a loader was asked since the client was made or started again.
+    ///
+    /// # Errors
+    ///
+    /// [`Busy`](Fault::Busy) while a request is being answered, [`NoLoader`](Fault::NoLoader), [`NoMemory`](Fault::NoMemory).
+    pub fn log(&self, alloc: Global, loader: usize) -> Result<BatchLog, Fault>
+        ensures { IfOk result (λ l. LogHolds (λ log. AreBatches log l.rounds.items l.stored.items l.keys) self.now loader) }
+    {
+        let client = match self {
+            HostClient::Idle(client) => client,
+            HostClient::Answered(answered) => answered.client(),
+            _ => return Err(Fault::Busy),
+        };
+        match client.session().logs(loader) {
+            Some(entries) => Ok(BatchLog::of(alloc, entries)?),
+            None => Err(Fault::NoLoader),
+        }
+    }
+}

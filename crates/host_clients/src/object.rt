@@ -1,0 +1,62 @@
+//! What a handle holds.
+ghost use Rattle.std.specs.Prelude.{◌≡◌};
+ghost use Rattle.host_clients.specs.Objects.{MakesClient, Shares};
+
+use crate::client::HostClient;
+use crate::fault::Fault;
+use crate::opening::open_client;
+use server::Server;
+use std::alloc::Global;
+
+/// What a handle holds.
+#[derive(Drop)]
+pub enum Object {
+    /// A schema with its bindings.
+    Server(Server),
+    /// A client of a server.
+    Client(HostClient),
+}
+
+// The same server once more.
+fn shared(server: &Server) -> Result<Object, Fault>
+    ensures { Shares (Object.Server server.now) result }
+{
+    Ok(Object::Server(server.clone()?))
+}
+
+// A client of a server, which knows nothing.
+fn client_of(alloc: Global, server: &Server, limits: &[u32]) -> Result<Object, Fault>
+    ensures { MakesClient limits.now (Object.Server server.now) result }
+{
+    Ok(Object::Client(open_client(alloc, server, limits)?))
+}
+
+impl Object {
+    /// The same server once more, which shares its schema and its bindings.
+    ///
+    /// # Errors
+    ///
+    /// [`BadHandle`](Fault::BadHandle) where it is no server; [`NoMemory`](Fault::NoMemory).
+    pub fn share(&self) -> Result<Object, Fault>
+        ensures { Shares self.now result }
+    {
+        match self {
+            Object::Server(server) => shared(server),
+            Object::Client(_) => Err(Fault::BadHandle),
+        }
+    }
+
+    /// A client of the server, as [`open_client`] makes it.
+    ///
+    /// # Errors
+    ///
+    /// [`BadHandle`](Fault::BadHandle) where it is no server; those of [`open_client`].
+    pub fn client(&self, alloc: Global, limits: &[u32]) -> Result<Object, Fault>
+        ensures { MakesClient limits.now self.now result }
+    {
+        match self {
+            Object::Server(server) => client_of(alloc, server, limits),
+            Object::Client(_) => Err(Fault::BadHandle),
+        }
+    }
+}

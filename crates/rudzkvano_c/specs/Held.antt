@@ -1,0 +1,147 @@
+-- What handles hold, and what calls make of them.
+use Rattle.std.specs.Prelude.{◌≡◌, ◌≢◌, ℤ, ℕ, List, [], ◌∷◌, Bool, Option, Some, None, Result, Ok, Err, OnOk, IfOk, IfErr, length, if◌then◌else◌}
+use Rattle.load_memory.specs.Keys.{KeyOf}
+use Rattle.load_memory.specs.Outcomes.{ItemOf}
+use Rattle.load_queue.specs.Orders.{OrderOf}
+use Rattle.flat_rows.specs.Replies.{reply_items}
+use Rattle.request_plans.specs.Servers.{ServerOf, IsServer}
+use Rattle.server.specs.Clients.{ClientOf}
+use Rattle.owned_hand.specs.declared.handed_in.HandedIn.{HandedIn}
+use Rattle.host_clients.specs.Asked.{HostAsked}
+use Rattle.host_clients.specs.Clients.{Advances, HasCount, IsBegun, TakesFailure, TakesReply, client_in}
+use Rattle.host_clients.specs.Faults.{code_of}
+use Rattle.host_clients.specs.Known.{OnClient, PrimesSaid, Clears}
+use Rattle.host_clients.specs.UnderWay.{IsAnswerOf, orders_out}
+use Rattle.host_clients.specs.declared.client.HostClient.{HostClient}
+use Rattle.host_clients.specs.declared.client.HostClient.TheVariants.{Asked, Answered}
+use Rattle.host_clients.specs.declared.client.Progress.{Progress}
+use Rattle.host_clients.specs.declared.fault.Fault.{Fault}
+use Rattle.host_clients.specs.declared.fault.Fault.TheVariants as fault
+use Rattle.host_clients.specs.declared.object.Object.{Object}
+use Rattle.host_clients.specs.declared.object.Object.TheVariants as object
+use Rattle.rudzkvano_c.specs.Codes.{code_in, progress_in}
+use Rattle.rudzkvano_c.specs.Put.{Puts}
+use Rattle.rudzkvano_c.specs.Told.{number_of}
+
+-- a server is held, of which this holds
+abbrev pub HoldsServer : (ServerOf → Type 0) → Option Object → Type 0
+HoldsServer holds (Some (object.Server s)) = holds s
+HoldsServer holds (Some (object.Client c)) = ⊥
+HoldsServer holds None = ⊥
+
+-- how a call went, by its code
+abbrev pub WentAs : ℤ → (Result (Unit {0}) Fault → Type 0) → Type 0
+WentAs code went = (done : Result (Unit {0}) Fault) × (code ≡ code_in done) × went done
+
+-- the call is refused, since the handle holds another object or none
+abbrev pub IsBadHandle : ℤ → Type 0
+IsBadHandle code = code ≡ code_of fault.BadHandle
+
+-- what a call makes of an object that is a client; another stays as it is, and the call is refused
+abbrev pub MakesObject : (HostClient → HostClient → Result (Unit {0}) Fault → Type 0) → Object → Object → Result (Unit {0}) Fault → Type 0
+MakesObject makes (object.Client c) (object.Client d) done = makes c d done
+MakesObject makes (object.Client c) (object.Server s) done = ⊥
+MakesObject makes (object.Server s) new done = (new ≡ object.Server s) × (done ≡ Err fault.BadHandle)
+
+-- what a call makes of what a handle holds, and how it went; an empty handle stays empty
+abbrev pub Makes : (HostClient → HostClient → Result (Unit {0}) Fault → Type 0) → Option Object → Option Object → ℤ → Type 0
+Makes makes None new code = (new ≡ None) × IsBadHandle code
+Makes makes (Some old) None code = ⊥
+Makes makes (Some old) (Some new) code = WentAs code (MakesObject makes old new)
+
+-- what is made of the object that a handle holds; of none nothing is made
+abbrev pub IsMadeOf : (Object → Result Object Fault → Type 0) → Option Object → Result Object Fault → Type 0
+IsMadeOf makes (Some object) made = makes object made
+IsMadeOf makes None made = made ≡ Err fault.BadHandle
+
+-- what is made of what a handle holds is put into another, and how it went
+abbrev pub Gives : (Object → Result Object Fault → Type 0) → Option Object → Option Object → Option Object → ℤ → Type 0
+Gives makes held old new code = (made : Result Object Fault) × IsMadeOf makes held made × WentAs code (Puts made old new)
+
+-- a server of these texts is put into a handle, or it holds what it held
+abbrev pub Opens : List ℕ → List ℕ → Option Object → Option Object → ℤ → Type 0
+Opens schema bindings old new code = (made : Result Object Fault) × IfOk made (λ o. HoldsServer (IsServer schema bindings) (Some o)) × WentAs code (Puts made old new)
+
+-- ---- what is asked of a client
+
+-- it is begun, or the client is as it was
+abbrev pub BeginsWith : HostAsked → HostClient → HostClient → Result (Unit {0}) Fault → Type 0
+BeginsWith asked old new (Ok done) = IsBegun old asked new
+BeginsWith asked old new (Err e) = client_in new ≡ client_in old
+
+-- what a call to go on makes of an object
+abbrev pub AdvancesObject : Object → Object → Result Progress Fault → Type 0
+AdvancesObject (object.Client c) (object.Client d) progress = Advances c d progress
+AdvancesObject (object.Client c) (object.Server s) progress = ⊥
+AdvancesObject (object.Server s) new progress = (new ≡ object.Server s) × (progress ≡ Err fault.BadHandle)
+
+-- what `rz_next` makes of a handle: of what it holds what a call to go on makes of it, by the code
+abbrev pub AdvancesHeld : Option Object → Option Object → ℤ → Type 0
+AdvancesHeld None new code = (new ≡ None) × IsBadHandle code
+AdvancesHeld (Some old) None code = ⊥
+AdvancesHeld (Some old) (Some new) code = (progress : Result Progress Fault) × (code ≡ progress_in progress) × AdvancesObject old new progress
+
+-- unless memory ran out, a refused reply changes nothing
+abbrev pub KeepsIfRefused : HostClient → HostClient → Result (Unit {0}) Fault → Type 0
+KeepsIfRefused old new done = IfErr done (λ e. e ≢ fault.NoMemory → new ≡ old)
+
+-- the items of a reply are taken for an order, which has a key for each number of rows
+abbrev pub TakesRows : ℕ → List ℕ → List ItemOf → HostClient → HostClient → Result (Unit {0}) Fault → Type 0
+TakesRows order rows items old new done = OnOk done (HasCount order (length rows) old × TakesReply order items old new) × KeepsIfRefused old new done
+
+-- a batch is taken to have failed
+abbrev pub TakesFailed : ℕ → List ℕ → HostClient → HostClient → Result (Unit {0}) Fault → Type 0
+TakesFailed order text old new done = OnOk done (TakesFailure order text old new) × KeepsIfRefused old new done
+
+-- ---- what a client knows
+
+-- this is made of the client, or it is as it was unless memory ran out
+abbrev pub Becomes : (ClientOf HandedIn → ClientOf HandedIn → Type 0) → HostClient → HostClient → Result (Unit {0}) Fault → Type 0
+Becomes becomes old new done = OnOk done (OnClient becomes old new) × IfErr done (λ e. e ≢ fault.NoMemory → client_in new ≡ client_in old)
+
+-- the same, and what the call tells of it is written as a number
+abbrev pub Tells : (Bool → ClientOf HandedIn → ClientOf HandedIn → Type 0) → ℕ → HostClient → HostClient → Result (Unit {0}) Fault → Type 0
+Tells becomes told old new done = Becomes (λ c d. (b : Bool) × (told ≡ number_of b) × becomes b c d) old new done
+
+-- an item is added for a key, and whether it was added is told
+abbrev pub Primes : ℕ → KeyOf → List ItemOf → ℕ → HostClient → HostClient → Result (Unit {0}) Fault → Type 0
+Primes loader key items told = Tells (PrimesSaid loader key items) told
+
+-- the one item of a reply
+abbrev pub one_in : ℕ → ℕ → List ℕ → List ℕ → List ItemOf
+one_in columns rows ends bytes = reply_items columns (rows ∷ []) ends bytes
+
+-- a key is forgotten, and whether something was known of it is told
+abbrev pub TellsCleared : ℕ → KeyOf → ℕ → HostClient → HostClient → Result (Unit {0}) Fault → Type 0
+TellsCleared loader key told = Tells (Clears loader key) told
+
+-- ---- what is copied
+
+-- The text is that of the answer, which is the answer of what was asked: in a session of a client of its server, whose loaders were asked
+-- exactly the batches of a lawful log.
+abbrev pub CopiesAnswer : List ℕ → HostClient → Result (Unit {0}) Fault → Type 0
+CopiesAnswer text (Answered a) done = OnOk done ((text ≡ a.text) × IsAnswerOf a.client.server a.asked text a.rounds)
+CopiesAnswer text client done = done ≡ Err fault.Idle
+
+abbrev pub CopiesOrders : List OrderOf → HostClient → Result (Unit {0}) Fault → Type 0
+CopiesOrders orders (Asked u) done = OnOk done (orders ≡ orders_out u.hand)
+CopiesOrders orders client done = done ≡ Err fault.NoOrder
+
+-- what is copied of an object that is a client
+abbrev pub CopiesObject : (HostClient → Result (Unit {0}) Fault → Type 0) → Object → Result (Unit {0}) Fault → Type 0
+CopiesObject copies (object.Client c) done = copies c done
+CopiesObject copies (object.Server s) done = done ≡ Err fault.BadHandle
+
+-- what is copied of the client that a handle holds
+abbrev pub Copies : (HostClient → Result (Unit {0}) Fault → Type 0) → Option Object → ℤ → Type 0
+Copies copies None code = IsBadHandle code
+Copies copies (Some object) code = WentAs code (CopiesObject copies object)
+
+-- the same of a server
+abbrev pub CopiesServer : (ServerOf → Result (Unit {0}) Fault → Type 0) → Object → Result (Unit {0}) Fault → Type 0
+CopiesServer copies (object.Server s) done = copies s done
+CopiesServer copies (object.Client c) done = done ≡ Err fault.BadHandle
+
+abbrev pub CopiesOfServer : (ServerOf → Result (Unit {0}) Fault → Type 0) → Option Object → ℤ → Type 0
+CopiesOfServer copies None code = IsBadHandle code
+CopiesOfServer copies (Some object) code = WentAs code (CopiesServer copies object)

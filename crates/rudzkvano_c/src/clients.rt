@@ -1,0 +1,99 @@
+//! Clients.
+ghost use Rattle.std.specs.Prelude.{◌≡◌, None};
+ghost use Rattle.server.specs.Clients.{begun};
+ghost use Rattle.host_clients.specs.Known.{LimitsAnswers};
+ghost use Rattle.host_clients.specs.Objects.{MakesClient};
+ghost use Rattle.host_clients.specs.Opening.{limit_of};
+ghost use Rattle.rudzkvano_c.specs.Held.{Becomes, Gives, IsMadeOf, Makes, MakesObject};
+
+use crate::codes::code_of;
+use crate::handle::Handle;
+use host_clients::{Fault, Object};
+use std::alloc::Global;
+
+// A client of the server of a handle.
+fn opened(alloc: Global, server: &mut Handle, limits: &[u32]) -> Result<Object, Fault>
+    ensures made { IsMadeOf (MakesClient limits.now) server.old.held result }
+    ensures kept { server.new.held ≡ server.old.held }
+{
+    let Some(object) = server.take(alloc) else {
+        return Err(Fault::BadHandle);
+    };
+    let opened = object.client(alloc, limits);
+    server.put(alloc, object);
+    opened
+}
+
+/// Holds a client of a server in a handle of its own. It knows nothing.
+#[unsafe(no_mangle)]
+pub extern "C" fn rz_client(
+    alloc: Global,
+    server: &mut Handle,
+    client: &mut Handle,
+    limits: &[u32],
+) -> i32
+    ensures made { Gives (MakesClient limits.now) server.old.held client.old.held client.new.held result }
+    ensures kept { server.new.held ≡ server.old.held }
+{
+    let opened = opened(alloc, server, limits);
+    code_of(client.put_made(alloc, opened))
+}
+
+// 0 is no limit.
+fn limit_of(most: usize) -> Option<usize>
+    ensures { result ≡ limit_of most }
+{
+    if most == 0 { None } else { Some(most) }
+}
+
+fn limit_answers(object: &mut Object, most: usize) -> Result<(), Fault>
+    ensures { MakesObject (Becomes (LimitsAnswers (limit_of most))) object.old object.new result }
+{
+    match object {
+        Object::Client(client) => client.limit_answers(limit_of(most)),
+        Object::Server(_) => Err(Fault::BadHandle),
+    }
+}
+
+/// Limits the answers of a client to so many bytes; 0 is no limit.
+#[unsafe(no_mangle)]
+pub extern "C" fn rz_limit_answers(alloc: Global, client: &mut Handle, most: usize) -> i32
+    ensures { Makes (Becomes (LimitsAnswers (limit_of most))) client.old.held client.new.held result }
+{
+    let Some(mut object) = client.take(alloc) else {
+        return Fault::BadHandle.code();
+    };
+    let limited = limit_answers(&mut object, most);
+    client.put(alloc, object);
+    code_of(limited)
+}
+
+fn restart(object: &mut Object) -> Result<(), Fault>
+    ensures { MakesObject (Becomes (λ c d. d ≡ begun c)) object.old object.new result }
+{
+    match object {
+        Object::Client(client) => client.restart(),
+        Object::Server(_) => Err(Fault::BadHandle),
+    }
+}
+
+/// Forgets all keys, logs and rounds.
+#[unsafe(no_mangle)]
+pub extern "C" fn rz_restart(alloc: Global, client: &mut Handle) -> i32
+    ensures { Makes (Becomes (λ c d. d ≡ begun c)) client.old.held client.new.held result }
+{
+    let Some(mut object) = client.take(alloc) else {
+        return Fault::BadHandle.code();
+    };
+    let restarted = restart(&mut object);
+    client.put(alloc, object);
+    code_of(restarted)
+}
+
+/// Frees what a handle holds.
+#[unsafe(no_mangle)]
+pub extern "C" fn rz_close(alloc: Global, handle: &mut Handle)
+    ensures { handle.new.held ≡ None }
+{
+    let _ = handle.take(alloc);
+}

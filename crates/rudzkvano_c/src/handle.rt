@@ -1,0 +1,95 @@
+//! What C holds.
+ghost use Rattle.std.specs.Prelude.{◌≡◌, Option, None, Some, OnOk, IfErr, option_map};
+ghost use Rattle.std.specs.Coded.{coded_option};
+ghost use Rattle.host_clients.specs.declared.object.Object.{Object};
+ghost use Rattle.host_clients.specs.contracts.object.Object.{the_row};
+
+use foreign_handles::{Slot, sent};
+use host_clients::{Fault, Object};
+use std::alloc::Global;
+use std::marker::{Model, Send};
+use std::mem;
+
+/// C's `struct { void *at; }`, which holds an object or nothing. A handle of zeros holds nothing.
+///
+/// `held` is what it holds.
+#[repr(C)]
+pub struct Handle {
+    at: *mut u8,
+    pub ghost held: { Option Object } by { coded_option the_row.coded },
+}
+
+impl Model for Handle {
+    ghost use Rattle.foreign_handles.specs.Held.{owns_held};
+    ghost use Rattle.host_clients.specs.contracts.object.Object.{the_row};
+
+    ghost also_owns = { λ h. owns_held the_row h.at h.held };
+}
+
+// It owns the box of its object, of which nothing else has a part.
+unsafe impl Send for Handle {}
+
+impl Handle {
+    ghost use Rattle.rudzkvano_c.specs.Put.{Puts};
+
+    fn of(slot: Slot<Object>) -> Handle
+        ensures { result.held ≡ slot.held }
+    {
+        let Slot { at } = slot;
+        Handle { at: at.cast() }
+    }
+
+    fn into_slot(self) -> Slot<Object>
+        ensures { result.held ≡ self.held }
+    {
+        let Handle { at } = self;
+        Slot { at: at.cast() }
+    }
+
+    /// Takes out what it holds. Then it holds nothing. `alloc` takes no bytes: C passes nothing for it.
+    pub fn take(&mut self, alloc: Global) -> Option<Box<Object>>
+        ensures taken { option_map (λ b. b.value) result ≡ self.old.held }
+        ensures empty { self.new.held ≡ None }
+    {
+        mem::replace(self, Handle::of(Slot::vacant()))
+            .into_slot()
+            .into_box(alloc)
+    }
+
+    /// Holds this in a box of its own. What it held before is freed.
+    pub fn put_new(&mut self, alloc: Global, object: Object) -> Result<(), Fault>
+        ensures put { OnOk result (self.new.held ≡ Some object) }
+        ensures kept { IfErr result (λ fault. (fault ≡ Fault.NoMemory) × (self.new.held ≡ self.old.held)) }
+    {
+        let Ok(object) = Box::new(alloc, object) else {
+            return Err(Fault::NoMemory);
+        };
+        self.put(alloc, object);
+        Ok(())
+    }
+
+    /// Holds what was made, in a box of its own, unless nothing was.
+    pub fn put_made(&mut self, alloc: Global, made: Result<Object, Fault>) -> Result<(), Fault>
+        ensures { Puts made self.old.held self.new.held result }
+    {
+        match made {
+            Ok(object) => self.put_new(alloc, object),
+            Err(fault) => Err(fault),
+        }
+    }
+
+    /// Holds this. What it held before is freed.
+    pub fn put(&mut self, alloc: Global, object: Box<Object>)
+        ensures { self.new.held ≡ Some object.value }
+    {
+        let held = mem::replace(self, Handle::of(Slot::of(object)));
+        let _ = held.into_slot().into_box(alloc);
+    }
+}
+
+/// The handle as it is. That this is proved says that a handle may go to another thread.
+fn to_other_thread(handle: Handle) -> Handle
+    ensures { result ≡ handle }
+{
+    sent(handle)
+}

@@ -1,0 +1,329 @@
+//! Requests, and their rounds.
+ghost use Rattle.std.specs.Prelude.{◌≡◌};
+ghost use Rattle.load_memory.specs.Cells.{cut};
+ghost use Rattle.flat_orders.specs.Orders.{orders_said};
+ghost use Rattle.flat_rows.specs.Replies.{reply_items};
+ghost use Rattle.host_clients.specs.Asked.{line as line_asked, parts_asked, request as request_asked};
+ghost use Rattle.host_clients.specs.Clients.{Cancels};
+ghost use Rattle.host_clients.specs.Known.{items_in};
+ghost use Rattle.host_clients.specs.Texts.{flat_parts};
+ghost use Rattle.rudzkvano_c.specs.Held.{AdvancesHeld, AdvancesObject, BeginsWith, Copies, CopiesAnswer, CopiesObject, CopiesOrders, Makes, MakesObject};
+ghost use Rattle.rudzkvano_c.specs.Held.{TakesFailed, TakesRows};
+ghost use Rattle.rudzkvano_c.specs.Sizes.{TellsSizes, sizes_in};
+
+use crate::codes::{code_of, progress_code};
+use crate::handle::Handle;
+use host_clients::{Fault, FlatReply, FlatRequest, HostClient, Object, Progress};
+use std::alloc::Global;
+
+/// How many elements the buffers of `rz_orders` and `rz_answer` have to hold, and how many rounds the answer took.
+#[repr(C)]
+#[derive(Drop)]
+pub struct Sizes {
+    pub orders: usize,
+    pub keys: usize,
+    pub texts: usize,
+    pub bytes: usize,
+    pub answer: usize,
+    pub rounds: u64,
+}
+
+fn begin(alloc: Global, object: &mut Object, line: &[u8]) -> Result<(), Fault>
+    ensures { MakesObject (BeginsWith (line_asked line.now)) object.old object.new result }
+{
+    match object {
+        Object::Client(client) => client.begin_line(alloc, line),
+        Object::Server(_) => Err(Fault::BadHandle),
+    }
+}
+
+/// Begins the answer to a request line.
+#[unsafe(no_mangle)]
+pub extern "C" fn rz_begin(alloc: Global, client: &mut Handle, line: &[u8]) -> i32
+    ensures { Makes (BeginsWith (line_asked line.now)) client.old.held client.new.held result }
+{
+    let Some(mut object) = client.take(alloc) else {
+        return Fault::BadHandle.code();
+    };
+    let begun = begin(alloc, &mut object, line);
+    client.put(alloc, object);
+    code_of(begun)
+}
+
+fn begin_request(alloc: Global, object: &mut Object, request: &FlatRequest<'_>) -> Result<(), Fault>
+    ensures { MakesObject (BeginsWith (request_asked (flat_parts request.now))) object.old object.new result }
+{
+    match object {
+        Object::Client(client) => client.begin_request(alloc, request),
+        Object::Server(_) => Err(Fault::BadHandle),
+    }
+}
+
+/// Begins the answer to a request by its parts.
+#[unsafe(no_mangle)]
+pub extern "C" fn rz_begin_request(
+    alloc: Global,
+    client: &mut Handle,
+    query: &[u8],
+    operation_name: &[u8],
+    variables: &[u8],
+) -> i32
+    ensures { Makes (BeginsWith (parts_asked query.now operation_name.now variables.now)) client.old.held client.new.held result }
+{
+    let Some(mut object) = client.take(alloc) else {
+        return Fault::BadHandle.code();
+    };
+    let request = FlatRequest {
+        query,
+        operation_name,
+        variables,
+    };
+    let begun = begin_request(alloc, &mut object, &request);
+    client.put(alloc, object);
+    code_of(begun)
+}
+
+fn cancel(object: &mut Object) -> Result<(), Fault>
+    ensures { MakesObject Cancels object.old object.new result }
+{
+    match object {
+        Object::Client(client) => client.cancel(),
+        Object::Server(_) => Err(Fault::BadHandle),
+    }
+}
+
+/// Gives up the request that is being answered.
+#[unsafe(no_mangle)]
+pub extern "C" fn rz_cancel(alloc: Global, client: &mut Handle) -> i32
+    ensures { Makes Cancels client.old.held client.new.held result }
+{
+    let Some(mut object) = client.take(alloc) else {
+        return Fault::BadHandle.code();
+    };
+    let cancelled = cancel(&mut object);
+    client.put(alloc, object);
+    code_of(cancelled)
+}
+
+fn advance(alloc: Global, object: &mut Object) -> Result<Progress, Fault>
+    ensures { AdvancesObject object.old object.new result }
+{
+    match object {
+        Object::Client(client) => client.advance(alloc),
+        Object::Server(_) => Err(Fault::BadHandle),
+    }
+}
+
+/// Goes on with the request.
+#[unsafe(no_mangle)]
+pub extern "C" fn rz_next(alloc: Global, client: &mut Handle) -> i32
+    ensures { AdvancesHeld client.old.held client.new.held result }
+{
+    let Some(mut object) = client.take(alloc) else {
+        return Fault::BadHandle.code();
+    };
+    let progress = advance(alloc, &mut object);
+    client.put(alloc, object);
+    progress_code(progress)
+}
+
+fn sizes_of(client: &HostClient) -> Sizes
+    ensures { result ≡ sizes_in client.now }
+{
+    let mut sizes = Sizes {
+        orders: 0,
+        keys: 0,
+        texts: 0,
+        bytes: 0,
+        answer: 0,
+        rounds: 0,
+    };
+    match client {
+        HostClient::Asked(under_way) => {
+            let wanted = under_way.orders().sizes();
+            sizes.orders = wanted.lists;
+            sizes.keys = wanted.keys;
+            sizes.texts = wanted.texts;
+            sizes.bytes = wanted.bytes;
+        }
+        HostClient::Answered(answered) => {
+            sizes.answer = answered.text().len();
+            sizes.rounds = u64::from(answered.rounds());
+        }
+        _ => {}
+    }
+    sizes
+}
+
+fn tell_sizes(object: &Object, sizes: &mut Sizes) -> Result<(), Fault>
+    ensures { CopiesObject (TellsSizes sizes.new) object.now result }
+{
+    match object {
+        Object::Client(client) => {
+            *sizes = sizes_of(client);
+            Ok(())
+        }
+        Object::Server(_) => Err(Fault::BadHandle),
+    }
+}
+
+/// How many elements the buffers of `rz_orders` and `rz_answer` have to hold.
+#[unsafe(no_mangle)]
+pub extern "C" fn rz_sizes(alloc: Global, client: &mut Handle, sizes: &mut Sizes) -> i32
+    ensures sizes { Copies (TellsSizes sizes.new) client.old.held result }
+    ensures kept { client.new.held ≡ client.old.held }
+{
+    let Some(object) = client.take(alloc) else {
+        return Fault::BadHandle.code();
+    };
+    let told = tell_sizes(&object, sizes);
+    client.put(alloc, object);
+    code_of(told)
+}
+
+fn copy_orders(
+    object: &Object,
+    loaders: &mut [u32],
+    keys: &mut [u32],
+    texts: &mut [u32],
+    ends: &mut [u32],
+    bytes: &mut [u8],
+) -> Result<(), Fault>
+    ensures { let orders = orders_said loaders.new keys.new texts.new (cut bytes.new 0 ends.new) in
+        CopiesObject (CopiesOrders orders) object.now result }
+{
+    match object {
+        Object::Client(HostClient::Asked(under_way)) => {
+            Ok(
+                under_way
+                    .orders()
+                    .copy_to(loaders, keys, texts, ends, bytes)?,
+            )
+        }
+        Object::Client(_) => Err(Fault::NoOrder),
+        Object::Server(_) => Err(Fault::BadHandle),
+    }
+}
+
+/// Copies the orders of the round that is out.
+#[unsafe(no_mangle)]
+pub extern "C" fn rz_orders(
+    alloc: Global,
+    client: &mut Handle,
+    loaders: &mut [u32],
+    keys: &mut [u32],
+    texts: &mut [u32],
+    ends: &mut [u32],
+    bytes: &mut [u8],
+) -> i32
+    ensures copied { let orders = orders_said loaders.new keys.new texts.new (cut bytes.new 0 ends.new) in
+        Copies (CopiesOrders orders) client.old.held result }
+    ensures kept { client.new.held ≡ client.old.held }
+{
+    let Some(object) = client.take(alloc) else {
+        return Fault::BadHandle.code();
+    };
+    let copied = copy_orders(&object, loaders, keys, texts, ends, bytes);
+    client.put(alloc, object);
+    code_of(copied)
+}
+
+fn take_rows(
+    alloc: Global,
+    object: &mut Object,
+    order: usize,
+    reply: &FlatReply<'_>,
+) -> Result<(), Fault>
+    ensures { MakesObject (TakesRows order reply.now.rows.now (items_in reply.now)) object.old object.new result }
+{
+    match object {
+        Object::Client(client) => client.take_rows(alloc, order, reply),
+        Object::Server(_) => Err(Fault::BadHandle),
+    }
+}
+
+/// Takes the rows for the keys of an order.
+#[unsafe(no_mangle)]
+pub extern "C" fn rz_take_rows(
+    alloc: Global,
+    client: &mut Handle,
+    order: usize,
+    columns: usize,
+    rows: &[u32],
+    ends: &[u32],
+    bytes: &[u8],
+) -> i32
+    ensures { let items = reply_items columns rows.now ends.now bytes.now in
+        Makes (TakesRows order rows.now items) client.old.held client.new.held result }
+{
+    let Some(mut object) = client.take(alloc) else {
+        return Fault::BadHandle.code();
+    };
+    let reply = FlatReply {
+        columns,
+        rows,
+        ends,
+        bytes,
+    };
+    let taken = take_rows(alloc, &mut object, order, &reply);
+    client.put(alloc, object);
+    code_of(taken)
+}
+
+fn take_failed(alloc: Global, object: &mut Object, order: usize, text: &[u8]) -> Result<(), Fault>
+    ensures { MakesObject (TakesFailed order text.now) object.old object.new result }
+{
+    match object {
+        Object::Client(client) => client.take_failed(alloc, order, text),
+        Object::Server(_) => Err(Fault::BadHandle),
+    }
+}
+
+/// Takes it that the batch of an order failed as a whole.
+#[unsafe(no_mangle)]
+pub extern "C" fn rz_take_failed(
+    alloc: Global,
+    client: &mut Handle,
+    order: usize,
+    text: &[u8],
+) -> i32
+    ensures { Makes (TakesFailed order text.now) client.old.held client.new.held result }
+{
+    let Some(mut object) = client.take(alloc) else {
+        return Fault::BadHandle.code();
+    };
+    let taken = take_failed(alloc, &mut object, order, text);
+    client.put(alloc, object);
+    code_of(taken)
+}
+
+fn copy_answer(object: &Object, bytes: &mut [u8]) -> Result<(), Fault>
+    ensures { CopiesObject (CopiesAnswer bytes.new) object.now result }
+{
+    let answered = match object {
+        Object::Client(HostClient::Answered(answered)) => answered,
+        Object::Client(_) => return Err(Fault::Idle),
+        Object::Server(_) => return Err(Fault::BadHandle),
+    };
+    let text = answered.text().as_bytes();
+    if bytes.len() != text.len() {
+        return Err(Fault::BadSize);
+    }
+    bytes.copy_from_slice(text);
+    Ok(())
+}
+
+/// Copies the text of the answer.
+#[unsafe(no_mangle)]
+pub extern "C" fn rz_answer(alloc: Global, client: &mut Handle, bytes: &mut [u8]) -> i32
+    // Where it gives 0, the text is the answer of what was asked.
+    ensures text { Copies (CopiesAnswer bytes.new) client.old.held result }
+    ensures kept { client.new.held ≡ client.old.held }
+{
+    let Some(object) = client.take(alloc) else {
+        return Fault::BadHandle.code();
+    };
+    let copied = copy_answer(&object, bytes);
+    client.put(alloc, object);
+    code_of(copied)
+}

@@ -1,0 +1,172 @@
+//! Servers.
+ghost use Rattle.std.specs.Prelude.{◌≡◌, Some, IfOk};
+ghost use Rattle.load_memory.specs.Cells.{cut};
+ghost use Rattle.request_plans.specs.Servers.{IsServer};
+ghost use Rattle.host_clients.specs.Objects.{Shares};
+ghost use Rattle.rudzkvano_c.specs.Held.{CopiesOfServer, CopiesServer, Gives, HoldsServer, IsMadeOf, Opens};
+ghost use Rattle.rudzkvano_c.specs.Loaders.{CopiesLoaders, HasLoaderSizes, TellsLoaderSizes};
+
+use crate::codes::code_of;
+use crate::handle::Handle;
+use host_clients::{Fault, FaultPlace, LoaderTexts, Object, OpenFault, Server, open_server};
+use std::alloc::Global;
+
+/// Why a schema or its bindings are refused, and where.
+#[repr(C)]
+#[derive(Drop)]
+pub struct SchemaFault {
+    pub line: u64,
+    pub column: u64,
+    pub number: u32,
+    pub in_bindings: u32,
+}
+
+/// How many elements the buffers of `rz_loaders` have to hold.
+#[repr(C)]
+#[derive(Drop)]
+pub struct LoaderSizes {
+    pub loaders: usize,
+    pub bytes: usize,
+}
+
+fn fault_of(place: FaultPlace) -> SchemaFault {
+    SchemaFault {
+        line: place.line,
+        column: place.column,
+        number: place.number,
+        in_bindings: u32::from(place.in_bindings),
+    }
+}
+
+// The server of two texts. What is wrong with them goes to `fault`.
+fn opened(
+    alloc: Global,
+    schema: &[u8],
+    bindings: &[u8],
+    fault: &mut SchemaFault,
+) -> Result<Object, Fault>
+    ensures { IfOk result (λ o. HoldsServer (IsServer schema.now bindings.now) (Some o)) }
+{
+    match open_server(alloc, schema, bindings) {
+        Ok(opened) => Ok(Object::Server(opened)),
+        Err(OpenFault::NotUtf8) => Err(Fault::NotUtf8),
+        Err(OpenFault::NoMemory) => Err(Fault::NoMemory),
+        Err(OpenFault::Refused(place)) => {
+            *fault = fault_of(place);
+            Err(Fault::BadSchema)
+        }
+    }
+}
+
+/// Reads a schema and its bindings. The handle then holds their server.
+#[unsafe(no_mangle)]
+pub extern "C" fn rz_open(
+    alloc: Global,
+    server: &mut Handle,
+    schema: &[u8],
+    bindings: &[u8],
+    fault: &mut SchemaFault,
+) -> i32
+    ensures { Opens schema.now bindings.now server.old.held server.new.held result }
+{
+    let opened = opened(alloc, schema, bindings, fault);
+    code_of(server.put_made(alloc, opened))
+}
+
+// The server of a handle once more.
+fn shared(alloc: Global, server: &mut Handle) -> Result<Object, Fault>
+    ensures shared { IsMadeOf Shares server.old.held result }
+    ensures kept { server.new.held ≡ server.old.held }
+{
+    let Some(object) = server.take(alloc) else {
+        return Err(Fault::BadHandle);
+    };
+    let shared = object.share();
+    server.put(alloc, object);
+    shared
+}
+
+/// Holds the same server in another handle too.
+#[unsafe(no_mangle)]
+pub extern "C" fn rz_share(alloc: Global, server: &mut Handle, other: &mut Handle) -> i32
+    ensures shared { Gives Shares server.old.held other.old.held other.new.held result }
+    ensures kept { server.new.held ≡ server.old.held }
+{
+    let shared = shared(alloc, server);
+    code_of(other.put_made(alloc, shared))
+}
+
+fn sizes_of(alloc: Global, server: &Server) -> Result<LoaderSizes, Fault>
+    ensures { IfOk result (HasLoaderSizes server.now) }
+{
+    let texts = LoaderTexts::of(alloc, server)?;
+    Ok(LoaderSizes {
+        loaders: texts.len(),
+        bytes: texts.byte_len(),
+    })
+}
+
+fn tell_sizes(alloc: Global, object: &Object, sizes: &mut LoaderSizes) -> Result<(), Fault>
+    ensures { CopiesServer (TellsLoaderSizes sizes.new) object.now result }
+{
+    match object {
+        Object::Server(server) => {
+            *sizes = sizes_of(alloc, server)?;
+            Ok(())
+        }
+        Object::Client(_) => Err(Fault::BadHandle),
+    }
+}
+
+/// How many elements the buffers of `rz_loaders` have to hold.
+#[unsafe(no_mangle)]
+pub extern "C" fn rz_loaders_sizes(
+    alloc: Global,
+    server: &mut Handle,
+    sizes: &mut LoaderSizes,
+) -> i32
+    ensures sizes { CopiesOfServer (TellsLoaderSizes sizes.new) server.old.held result }
+    ensures kept { server.new.held ≡ server.old.held }
+{
+    let Some(object) = server.take(alloc) else {
+        return Fault::BadHandle.code();
+    };
+    let told = tell_sizes(alloc, &object, sizes);
+    server.put(alloc, object);
+    code_of(told)
+}
+
+fn copy_loaders(
+    alloc: Global,
+    object: &Object,
+    kinds: &mut [u32],
+    ends: &mut [u32],
+    bytes: &mut [u8],
+) -> Result<(), Fault>
+    ensures { CopiesServer (CopiesLoaders kinds.new (cut bytes.new 0 ends.new)) object.now result }
+{
+    match object {
+        Object::Server(server) => LoaderTexts::of(alloc, server)?.copy_to(kinds, ends, bytes),
+        Object::Client(_) => Err(Fault::BadHandle),
+    }
+}
+
+/// Copies the loaders of the bindings.
+#[unsafe(no_mangle)]
+pub extern "C" fn rz_loaders(
+    alloc: Global,
+    server: &mut Handle,
+    kinds: &mut [u32],
+    ends: &mut [u32],
+    bytes: &mut [u8],
+) -> i32
+    ensures copied { CopiesOfServer (CopiesLoaders kinds.new (cut bytes.new 0 ends.new)) server.old.held result }
+    ensures kept { server.new.held ≡ server.old.held }
+{
+    let Some(object) = server.take(alloc) else {
+        return Fault::BadHandle.code();
+    };
+    let copied = copy_loaders(alloc, &object, kinds, ends, bytes);
+    server.put(alloc, object);
+    code_of(copied)
+}
