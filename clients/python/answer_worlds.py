@@ -1,4 +1,5 @@
-"""Answers the lines of a world over its CSV tables, as `query_cli` does, and compares the answers with the stored ones, to the byte.
+"""Answers the lines of a world over its CSV tables, as `query_cli` does, by rounds that it runs itself, and compares the answers with the stored
+ones, to the byte.
 
     python3 answer_worlds.py LIBRARY EXAMPLES
 """
@@ -6,31 +7,37 @@
 import csv
 import json
 import sys
-from collections.abc import Mapping
-from rudzkvano import Asker, Client, Key, KeyFault, Library, Loader, Progress, Refused, SchemaRefused, Server
+from collections.abc import Callable, Mapping
+
+from rudzkvano import Client, Library, Order, Progress, Refused, SchemaFault, Server
 
 Table = tuple[list[str], list[list[str]]]
+Tables = Mapping[str, Table]
 
 
 def folded(text: str) -> str:
     return "".join(chr(ord(character) + 32) if "A" <= character <= "Z" else character for character in text)
 
 
-def asker(tables: Mapping[str, Table]) -> Asker:
-    """Asks these tables, each of which is its columns and its rows. An empty field is null, and equals no key."""
+def rows_of(tables: Tables, order: Order) -> Table:
+    """The rows that an order asks for, with the names of their columns. An empty field is null, and equals no key."""
+    loader = order.loader
+    columns, rows = tables[loader.table]
+    if not loader.columns:
+        return columns, rows
+    same: Callable[[str], str] = folded if loader.folds else lambda text: text
+    places = [columns.index(column) for column in loader.columns]
+    keys = {tuple(map(same, (key,) if isinstance(key, str) else key)) for key in order.keys}
+    found = [(tuple(same(row[place]) for place in places), row) for row in rows]
+    return columns, [row for key, row in found if all(key) and key in keys]
 
-    def ask(loader: Loader, keys: list[Key]) -> tuple[list[str], list[list[list[str]]]]:
-        columns, rows = tables[loader.table]
-        same = folded if loader.folds else str
-        places = [columns.index(column) for column in loader.columns]
-        found: dict[Key, list[list[str]]] = {}
-        for row in rows:
-            key = tuple(same(row[place]) for place in places)
-            if all(key):
-                found.setdefault(key, []).append(row)
-        return columns, [found.get(tuple(map(same, key)), []) for key in keys]
 
-    return ask
+def answer(client: Client, tables: Tables) -> str:
+    """The answer to what was begun."""
+    while client.next() == Progress.ROUND:
+        for order in client.orders():
+            client.reply(order, rows_of(tables, order))
+    return client.text()
 
 
 def read_text(path: str) -> str:
@@ -44,57 +51,64 @@ def read_table(path: str) -> Table:
         return columns, rows
 
 
-def answers_of(client: Client, line: str) -> set[str]:
+def answers_of(client: Client, line: str, tables: Tables) -> set[str]:
     """The answer to a line; and, where it is a request, the one from its parts."""
     client.restart()
-    answers = {client.answer(line)}
+    client.begin(line)
+    answers = {answer(client, tables)}
     try:
         request = json.loads(line)
     except ValueError:
         return answers
     if isinstance(request, dict) and isinstance(request.get("query"), str):
         client.restart()
-        answers.add(client.answer(query=request["query"], operation=request.get("operationName"), variables=request.get("variables")))
+        client.begin_request(request["query"], request.get("operationName"), request.get("variables"))
+        answers.add(answer(client, tables))
     return answers
 
 
-def answer_world(library: Library, folder: str, tables: Mapping[str, Table]) -> None:
+def answer_world(library: Library, folder: str, tables: Tables) -> None:
     schema, bindings = read_text(f"{folder}/schema.graphql"), read_text(f"{folder}/bindings.txt")
     lines, wanted = (read_text(f"{folder}/{name}.jsonl").removesuffix("\n").split("\n") for name in ("requests", "answers"))
-    with Server(library, schema, bindings) as server, server.client(asker(tables)) as client:
-        for number, (line, answer) in enumerate(zip(lines, wanted, strict=True), 1):
-            found = answers_of(client, line)
-            if found != {answer}:
-                sys.exit(f"{folder}: line {number} is answered {found}\n wanted: {answer}")
+    with Server(schema, bindings, library) as server, server.client({}) as client:
+        for number, (line, stored) in enumerate(zip(lines, wanted, strict=True), 1):
+            found = answers_of(client, line, tables)
+            if found != {stored}:
+                sys.exit(f"{folder}: line {number} is answered {found}\n wanted: {stored}")
     print(f"{len(lines)} lines of {folder.rsplit('/', 1)[-1]} answered as stored")
 
 
-def call_each(library: Library, folder: str, tables: Mapping[str, Table]) -> None:
+def call_each(library: Library, folder: str, tables: Tables) -> None:
     """The calls that no line makes."""
     schema, bindings = read_text(f"{folder}/schema.graphql"), read_text(f"{folder}/bindings.txt")
     query = "{user(id:1){name}}"
-    with Server(library, schema, bindings) as server, server.client(asker(tables), [1] * len(server.loaders)) as client:
-        assert client.prime(0, ("1",), ["id", "name"], [["1", "Eve"]])
-        assert not client.prime(0, ("1",), ["id", "name"], KeyFault("gone"))
-        assert client.answer(query=query) == '{"data":{"user":{"name":"Eve"}}}' and client.rounds() == 0
-        assert client.clear(0, ("1",)) and not client.clear(0, ("1",))
-        assert client.prime(0, ("1",), ["id"], KeyFault("gone")) and '"gone"' in client.answer(query=query)
-        client.clear_all(0)
+    with Server(schema, bindings, library) as server, server.client({}, max_batch=1) as client:
+        assert client.prime("userById", 1, {"id": 1, "name": "Eve"})
+        assert not client.prime("userById", "1", ValueError("gone"))
+        client.begin_request(query)
+        assert answer(client, tables) == '{"data":{"user":{"name":"Eve"}}}' and client.rounds() == 0
+        assert client.clear("userById", "1") and not client.clear("userById", "1")
         client.begin(json.dumps({"query": query}))
         assert client.next() == Progress.ROUND and client.next() == Progress.WAITING
-        assert [(order.loader.name, order.keys) for order in client.orders()] == [("userById", [("1",)])]
+        assert [(order.loader.name, order.keys) for order in client.orders()] == [("userById", ["1"])]
         client.cancel()
+        client.begin_request(query)
+        assert client.next() == Progress.ROUND
+        client.fail(client.orders()[0], "gone")
+        assert client.next() == Progress.DONE and '"gone"' in client.text()
+        client.clear_all("userById")
         client.limit_answers(5)
-        assert "answer too long" in client.answer(query=query)
-        assert [(batch.stored, batch.keys) for batch in client.log(0)] == [(False, [("1",)]), (True, [("1",)])]
+        client.begin_request(query)
+        assert "answer too long" in answer(client, tables)
+        assert [(batch.stored, batch.keys) for batch in client.log("userById")] == [(False, ["1"]), (True, ["1"]), (True, ["1"])]
         try:
-            client.clear_all(99)
+            client.next()
         except Refused as refused:
-            assert refused.name == "RZ_NO_LOADER"
+            assert refused.name == "RZ_IDLE"
     try:
-        Server(library, "type Query { a: Nope }", bindings)
-    except SchemaRefused as refused:
-        assert (refused.number, refused.line, refused.column) == (3, 1, 17)
+        Server("type Query { a: Nope }", bindings, library)
+    except SchemaFault as fault:
+        assert (fault.number, fault.line, fault.column) == (3, 1, 17)
     print("each call answered as wanted, by version", *library.version())
 
 

@@ -7,7 +7,7 @@ const ROUNDS = [
   [{ loader: 'customers', keys: [null], milliseconds: 0.5, statement: 'SELECT id, name FROM customer' }],
   [
     { loader: 'ordersByCustomer', keys: ['1', '2', '3'], milliseconds: 1.25, statement: 'SELECT id FROM "order" WHERE customer IN (?, ?, ?)' },
-    { loader: 'reviewsByPair', keys: [['1', 'a']], milliseconds: 2 },
+    { loader: 'reviewsByPair', keys: [['1', 'a']], milliseconds: 2, failed: 'no <b>table' },
   ],
 ];
 const DATA = '{"customers":[{"name":"Ada <b>","price":1.50,"orders":[]}]}';
@@ -20,7 +20,8 @@ export function liveTests(bench) {
   test('variables that aren’t an object are told, and nothing is asked', () => badVariables(bench));
   test('errors are marked at their places', () => errors(bench));
   test('places count characters, and may stand at the end', () => places(bench));
-  test('the server’s examples, or those that are built in', () => examples(bench));
+  test('the server’s examples, or the one that is built in', () => examples(bench));
+  test('the server’s schema', () => schema(bench));
   test('what was written by hand can be chosen again', () => ownText(bench));
   test('a server that fails is told', () => failures(bench));
   test('Escape stops a request, and a later one replaces it', () => stopped(bench));
@@ -60,20 +61,24 @@ async function answered(bench) {
     { round: 'Round 2', lane: 'ordersByCustomer', keys: '3 keys 1.25 ms' },
     { round: 'Round 2', lane: 'reviewsByPair', keys: '1 key 2.00 ms' },
   ]);
-  assert.deepEqual(await figures(page, '#live-rounds'), { Rounds: '2', 'Statements run': '3', 'Keys asked': '5', 'Time in statements': '3.75 ms' });
-  assert.deepEqual(await compared(page, '#live-rounds'), { 'Statements run': '3', 'One key at a time': '12' });
+  assert.deepEqual(await figures(page, '#live-rounds'), { Rounds: '2', 'Statements run': '3', 'Keys asked': '5', 'Time in batches': '3.75 ms' });
+  assert.deepEqual(await compared(page, '#live-rounds'), { 'Statements run': '3', 'One for each key': '5', 'One key at a time': '12' });
   await page.point('#live-rounds .batch', 1, true);
   assert.equal(await textOf(page, '#live-rounds .statement'), ROUNDS[1][0].statement);
+  assert.deepEqual(await compared(page, '#live-rounds .keys'), { 'This statement': '1', 'One for each key': '3' });
   assert.deepEqual(await keys(page), ['1', '2', '3']);
   await page.point('#live-rounds .batch', 2, true);
   assert.equal(await page.run(() => document.querySelector('#live-rounds .statement')), null, 'a batch without a statement');
+  assert.equal(await textOf(page, '#live-rounds .keys .fault'), 'It failed: no <b>table');
+  assert.deepEqual(await page.run(() => [...document.querySelectorAll('#live-rounds .failed')].map(box => box.textContent)), ['Round 2, reviewsByPair: failed, 1 key 2.00 ms (1, a)']);
+  assert.equal(await page.run(() => document.querySelector('#live-rounds .keys .compare')), null);
   assert.deepEqual(await keys(page), ['1|a']);
   const data = '{\n  "data": {\n    "customers": [\n      {\n        "name": "Ada <b>",\n        "price": 1.50,\n        "orders": []\n      }\n    ]\n  }\n}';
   assert.equal(await page.run(() => document.querySelector('#answer-text').textContent), data);
   await page.run(() => document.querySelector('#with-extensions').click());
   const whole = await page.run(() => document.querySelector('#answer-text').textContent);
   assert.deepEqual(JSON.parse(whole), JSON.parse(ANSWER));
-  assert.match(await textOf(page, '#live-status'), /2 rounds, 3 statements; one key at a time 12\./);
+  assert.match(await textOf(page, '#live-status'), /2 rounds, 3 statements for 5 keys; one key at a time 12\./);
   await page.run(() => document.querySelector('#live-rounds summary').click());
   await bench.settled(page);
   const table = await page.run(() => [...document.querySelectorAll('#live-rounds tbody tr')].map(row => [1, 3, 5].map(cell => row.cells[cell].textContent)));
@@ -99,6 +104,7 @@ async function asked(bench) {
   await page.run(() => document.querySelector('#run').click());
   while (server.asked.length < 2) await bench.settled(page);
   assert.deepEqual(server.asked.map(({ method, type }) => [method, type]), Array(2).fill(['POST', 'application/json']));
+  assert.match(server.asked[0].accept, /^application\/vnd\.rudzkvano\.rounds\+json,/, 'the rounds are asked for');
   assert.match(server.asked[0].body, /12345678901234567890/, 'a number keeps its digits');
   const [first, second] = server.asked.map(({ body }) => JSON.parse(body));
   assert.deepEqual([first.query, first.operationName, first.variables.f], [query, 'Q', 1]);
@@ -184,7 +190,7 @@ const exampleNames = page => page.run(() => [...document.querySelectorAll('#exam
 
 async function examples(bench) {
   const list = [{ name: 'One', query: '{one}' }, { name: 'Two', query: 'query Two($x: ID) {two(x: $x)}', variables: { x: '7' }, operationName: 'Two' }];
-  const served = await bench.openLive({ examples: JSON.stringify(list) });
+  const served = await bench.openLive({ examples: JSON.stringify(list), schema: 'type Query { one: Int }' });
   assert.deepEqual(await exampleNames(served.page), ['One', 'Two']);
   assert.equal(await served.page.run(() => document.querySelector('#query').value), '{one}');
   await served.page.run(() => document.querySelector('#examples').focus());
@@ -195,13 +201,23 @@ async function examples(bench) {
   assert.deepEqual(served.page.complaints, []);
   await served.page.close();
   const without = await bench.openLive();
-  assert.ok((await exampleNames(without.page)).length >= 4);
-  const text = await without.page.run(() => document.querySelector('#query').value);
-  assert.match(text, /customers/);
+  assert.equal((await exampleNames(without.page)).length, 1);
+  assert.match(await without.page.run(() => document.querySelector('#query').value), /__typename/);
   await without.page.close();
   const strange = await bench.openLive({ examples: '[{"name":1}]' });
-  assert.match(await textOf(strange.page, '#examples-note'), /These are built in/);
+  assert.match(await textOf(strange.page, '#examples-note'), /This one is built in/);
   await strange.page.close();
+}
+
+async function schema(bench) {
+  const text = 'type Query {\n  one: Int\n}\n';
+  const { page } = await bench.openLive({ schema: text });
+  await page.run(() => document.querySelector('#schema summary').click());
+  assert.equal(await textOf(page, '#schema-text'), text);
+  await page.close();
+  const without = await bench.openLive();
+  assert.equal(await without.page.run(() => document.querySelector('#schema').hidden), true);
+  await without.page.close();
 }
 
 async function ownText(bench) {
@@ -215,7 +231,7 @@ async function ownText(bench) {
     list.dispatchEvent(new Event('change'));
     return document.querySelector('#query').value;
   }, value);
-  assert.match(await pick('0'), /customers/);
+  assert.match(await pick('0'), /__typename/);
   assert.equal(await pick('own'), '{mine}');
   assert.deepEqual(await page.run(() => [...document.querySelectorAll('.line-numbers div')].map(line => line.textContent)), ['1']);
   await page.close();
@@ -272,6 +288,7 @@ async function strangeRounds(bench) {
     ['[[{"loader":"a","keys":[1]}]]', /round 1, batch 1, key 1/],
     ['[[{"loader":"a","keys":[],"milliseconds":"1"}]]', /“milliseconds”/],
     ['[[{"loader":"a","keys":[],"statement":1}]]', /“statement”/],
+    ['[[{"loader":"a","keys":[],"failed":true}]]', /“failed”/],
     ['{}', /“rounds” isn’t an array/],
   ]) {
     server.answer = { text: `{"data":{},"extensions":{"rounds":${rounds}}}` };

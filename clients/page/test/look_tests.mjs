@@ -15,7 +15,7 @@ const ANSWER = JSON.stringify({
     keyByKey: 40,
     rounds: [
       [{ loader: 'customers', keys: [null], milliseconds: 1234.5, statement: `SELECT ${'column_name, '.repeat(30)}` }],
-      [{ loader: 'orders', keys: ['1', '2'], milliseconds: 0.25 }],
+      [{ loader: 'orders', keys: Array.from({ length: 4686 }, (_, key) => `${key}`), milliseconds: 1234.5 }, { loader: 'lines', keys: ['1'], failed: 'f'.repeat(300) }],
     ],
   },
 });
@@ -67,6 +67,8 @@ async function fits(bench, width) {
     .filter(one => one.offsetParent !== null && (one.closest('label.check') ?? one).getBoundingClientRect().height < 22)
     .map(one => one.outerHTML));
   assert.deepEqual(small, [], 'what is clicked is large enough');
+  const clipped = await live.run(() => [...document.querySelectorAll('#live .numbers')].filter(one => one.scrollWidth > one.clientWidth).map(one => one.textContent));
+  assert.deepEqual(clipped, [], 'numbers stand inside their boxes');
   await bench.picture(live, `live-${width}`);
   await live.close();
 }

@@ -7,6 +7,7 @@ import { Bench } from './bench.mjs';
 import { fileTests } from './file_tests.mjs';
 import { liveTests } from './live_tests.mjs';
 import { lookTests } from './look_tests.mjs';
+import { shopTests } from './shop_tests.mjs';
 import { sourceTests } from './source_tests.mjs';
 
 const bench = new Bench();
@@ -16,4 +17,5 @@ describe('the page', { timeout: 600_000 }, () => {
   describe('trace files', () => fileTests(bench));
   describe('live', () => liveTests(bench));
   describe('looks', () => lookTests(bench));
+  describe('the shop', () => shopTests(bench));
 });

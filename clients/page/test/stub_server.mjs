@@ -8,7 +8,8 @@ const page = new URL('../index.html', import.meta.url);
 export class StubServer {
   /** @type {{status?: number, text: string, wait?: Promise<void>}} */ answer = { text: '{}' };
   /** @type {string | undefined} the text of `GET /examples`; without it there is none */ examples;
-  /** @type {{method: string, type: string, body: string}[]} */ asked = [];
+  /** @type {string | undefined} the text of `GET /schema.graphql`; without it there is none */ schema;
+  /** @type {{method: string, type: string, accept: string, body: string}[]} */ asked = [];
 
   constructor() {
     this.server = createServer((request, response) => this.#serve(request, response));
@@ -28,10 +29,12 @@ export class StubServer {
   async #serve(request, response) {
     if (request.url === '/') return this.#send(response, 200, 'text/html; charset=utf-8', readFileSync(page));
     if (request.url === '/examples' && this.examples !== undefined) return this.#send(response, 200, 'application/json', this.examples);
+    if (request.url === '/schema.graphql' && this.schema !== undefined) return this.#send(response, 200, 'text/plain; charset=utf-8', this.schema);
     if (request.url !== '/graphql') return this.#send(response, 404, 'text/plain', 'nothing here');
     let body = '';
     for await (const part of request.setEncoding('utf8')) body += part;
-    this.asked.push({ method: request.method, type: request.headers['content-type'], body });
+    const { 'content-type': type, accept } = request.headers;
+    this.asked.push({ method: request.method, type, accept, body });
     await this.answer.wait;
     this.#send(response, this.answer.status ?? 200, 'application/json', this.answer.text);
   }

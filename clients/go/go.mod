@@ -1,0 +1,3 @@
+module rudzkvano
+
+go 1.19

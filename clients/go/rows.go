@@ -1,0 +1,236 @@
+package rudzkvano
+
+import (
+	"database/sql/driver"
+	"errors"
+	"fmt"
+	"math"
+	"reflect"
+	"strconv"
+	"strings"
+	"time"
+	"unicode/utf8"
+)
+
+// Key has the text of a key, and a second one for a loader by two columns.
+type Key [2]string
+
+// Rows is what a batch function returns, with the names of the columns: either Rows or Items.
+type Rows struct {
+	Columns []string
+	// Rows has the rows of all keys in any order. A row belongs to the key that it has in the loader's columns, and the rows of a key keep
+	// their order. A row of a key that wasn't asked for fails the batch.
+	Rows [][]any
+	// Items has an item for each key, in the order of the keys, as a batch function of DataLoader returns them. All rows, for a loader by no
+	// column, are one item.
+	Items []Item
+}
+
+// Item is what a source has for one key: its rows, or why it has none.
+type Item struct {
+	Rows [][]any
+	Err  error
+}
+
+// keyFault is in the place of a number of rows: the key has a fault.
+const keyFault = math.MaxUint32
+
+// reply is what the library is given: for each key its number of rows or keyFault; and the names of the columns, the values of all rows and
+// the faults.
+type reply struct {
+	columns int
+	rows    []uint32
+	texts   texts
+}
+
+func flatten(loader *Loader, keys []Key, rows Rows) (reply, error) {
+	done, err := reply{columns: len(rows.Columns)}, error(nil)
+	items := rows.Items
+	if items == nil {
+		items, err = group(loader, keys, rows)
+	}
+	if err != nil {
+		return done, err
+	}
+	return done, done.add(loader, keys, rows.Columns, items)
+}
+
+// misfit says why rows don't fit the keys that they are for.
+func (l *Loader) misfit(format string, values ...any) error {
+	return fmt.Errorf("loader %s: %s", l.Name, fmt.Sprintf(format, values...))
+}
+
+// text has the text of a value in a column.
+func (l *Loader) text(column string, value any) (string, error) {
+	text, err := textOf(value)
+	if err != nil {
+		return "", fmt.Errorf("loader %s, column %s: %w", l.Name, column, err)
+	}
+	return text, nil
+}
+
+func (r *reply) add(loader *Loader, keys []Key, columns []string, items []Item) error {
+	wanted := len(keys)
+	if len(loader.Columns) == 0 {
+		wanted = 1
+	}
+	if len(items) != wanted {
+		return loader.misfit("%d items for %d keys", len(items), wanted)
+	}
+	for _, column := range columns {
+		r.texts.add(strings.ToValidUTF8(column, "\uFFFD"))
+	}
+	for _, item := range items {
+		if item.Err != nil {
+			r.rows = append(r.rows, keyFault)
+			continue
+		}
+		r.rows = append(r.rows, uint32(len(item.Rows)))
+		for _, row := range item.Rows {
+			if err := r.addRow(loader, columns, row); err != nil {
+				return err
+			}
+		}
+	}
+	for _, item := range items {
+		if item.Err != nil {
+			r.texts.add(strings.ToValidUTF8(item.Err.Error(), "\uFFFD"))
+		}
+	}
+	if !r.texts.fit() {
+		return loader.misfit("its rows have more than %d bytes", uint32(math.MaxUint32))
+	}
+	return nil
+}
+
+func (r *reply) addRow(loader *Loader, columns []string, row []any) error {
+	if err := loader.check(columns, row); err != nil {
+		return err
+	}
+	for place, value := range row {
+		text, err := loader.text(columns[place], value)
+		if err != nil {
+			return err
+		}
+		r.texts.add(text)
+	}
+	return nil
+}
+
+func (l *Loader) check(columns []string, row []any) error {
+	switch len(row) {
+	case 0:
+		return l.misfit("a row has no columns")
+	case len(columns):
+		return nil
+	default:
+		return l.misfit("a row of %d values for %d columns", len(row), len(columns))
+	}
+}
+
+// group puts rows in any order to the keys that they have in the loader's columns.
+func group(loader *Loader, keys []Key, rows Rows) ([]Item, error) {
+	if len(loader.Columns) == 0 {
+		return []Item{{Rows: rows.Rows}}, nil
+	}
+	items, numbers := make([]Item, len(keys)), make(map[Key]int, len(keys))
+	for number, key := range keys {
+		numbers[loader.compared(key)] = number
+	}
+	for _, row := range rows.Rows {
+		if err := loader.check(rows.Columns, row); err != nil {
+			return nil, err
+		}
+		key, err := loader.keyOf(rows.Columns, row)
+		if err != nil {
+			return nil, err
+		}
+		number, found := numbers[loader.compared(key)]
+		if !found {
+			return nil, loader.misfit("a row of the key '%s', which wasn't asked for", strings.Join(key[:len(loader.Columns)], "', '"))
+		}
+		items[number].Rows = append(items[number].Rows, row)
+	}
+	return items, nil
+}
+
+// keyOf has the key that a row belongs to.
+func (l *Loader) keyOf(columns []string, row []any) (key Key, err error) {
+	for part, wanted := range l.Columns {
+		place := 0
+		for place < len(columns) && columns[place] != wanted {
+			place++
+		}
+		if place == len(columns) {
+			return key, l.misfit("its rows have no column %s", wanted)
+		}
+		if key[part], err = l.text(wanted, row[place]); err != nil {
+			return key, err
+		}
+	}
+	return key, nil
+}
+
+// compared is a key as the loader compares it.
+func (l *Loader) compared(key Key) Key {
+	if l.Folds {
+		for part, text := range key {
+			key[part] = strings.Map(func(character rune) rune {
+				if 'A' <= character && character <= 'Z' {
+					return character + 'a' - 'A'
+				}
+				return character
+			}, text)
+		}
+	}
+	return key
+}
+
+// textOf has the text of a value: of strings, numbers, booleans, times (ISO 8601, UTC) and what a driver.Valuer gives of these, and behind
+// pointers. Nil is the empty text, and so null.
+func textOf(value any) (string, error) {
+	switch value := value.(type) {
+	case string:
+		if !utf8.ValidString(value) {
+			return "", errors.New("a text isn't UTF-8")
+		}
+		return value, nil
+	case time.Time:
+		return value.UTC().Format(time.RFC3339Nano), nil
+	}
+	of := reflect.ValueOf(value)
+	switch kind := of.Kind(); {
+	case kind == reflect.Invalid || kind == reflect.Pointer && of.IsNil():
+		return "", nil
+	case kind == reflect.String:
+		return textOf(of.String())
+	case kind == reflect.Bool:
+		return strconv.FormatBool(of.Bool()), nil
+	case of.CanInt():
+		return strconv.FormatInt(of.Int(), 10), nil
+	case of.CanUint():
+		return strconv.FormatUint(of.Uint(), 10), nil
+	case of.CanFloat():
+		return decimal(of.Float(), of.Type().Bits()), nil
+	}
+	if valuer, is := value.(driver.Valuer); is {
+		inner, err := valuer.Value()
+		if err != nil {
+			return "", err
+		}
+		return textOf(inner)
+	}
+	if of.Kind() == reflect.Pointer {
+		return textOf(of.Elem().Interface())
+	}
+	return "", fmt.Errorf("a value of type %T has no text", value)
+}
+
+// decimal has the shortest text of a number, with an exponent where it is very large or very small.
+func decimal(number float64, bits int) string {
+	format := byte('f')
+	if size := math.Abs(number); size >= 1e21 || size < 1e-6 && size != 0 {
+		format = 'e'
+	}
+	return strconv.FormatFloat(number, format, -1, bits)
+}

@@ -1,0 +1,734 @@
+// Package rudzkvano executes GraphQL queries with DataLoader batching, over Rudzkvano's C library. Functions of yours ask for the keys of
+// each batch.
+//
+//	server, err := rudzkvano.Open(schema, bindings)
+//	response, err := server.Answer(ctx, rudzkvano.Request{Query: "{user(id:1){name}}"}, rudzkvano.Loaders{"userById": usersByID}, nil)
+package rudzkvano
+
+/*
+#cgo CFLAGS: -I${SRCDIR}/../c
+#cgo LDFLAGS: -L${SRCDIR}/../../crates/rudzkvano_c/out -Wl,-rpath,${SRCDIR}/../../crates/rudzkvano_c/out -lrudzkvano_c
+#include "rudzkvano.h"
+*/
+import "C"
+
+import (
+	"context"
+	"encoding/json"
+	"fmt"
+	"math"
+	"reflect"
+	"runtime"
+	"strings"
+	"sync"
+	"time"
+	"unsafe"
+)
+
+// Loader is what can be asked for: the rows of a table, by none, one or two of its columns. One that folds compares keys without the case of
+// A to Z.
+type Loader struct {
+	Name, Table string
+	Columns     []string
+	Folds       bool
+}
+
+// BatchFunc asks for the keys of a batch, and for all rows where its loader is by no column: then there are no keys. An error is that of
+// each key.
+type BatchFunc func(ctx context.Context, keys []Key) (Rows, error)
+
+// Loaders has the batch functions by the names of their loaders.
+type Loaders map[string]BatchFunc
+
+// Request is a query with the name of the operation to run, if there are several, and the values of its variables.
+type Request struct {
+	Query, OperationName string
+	Variables            any
+	// JSON is the text of a request, or of an array of 1 to 16 requests, which share their rounds. It stands in place of the other fields.
+	JSON []byte
+}
+
+// Options limits batches and answers. Nil is no limit.
+type Options struct {
+	// MaxBatch is how many keys a batch may have, up to 65,535, and MaxBatchOf the same for loaders by name. 0 is no limit.
+	MaxBatch   int
+	MaxBatchOf map[string]int
+	// MaxAnswer is how many bytes an answer may have. A longer one is answered with "answer too long". 0 is no limit.
+	MaxAnswer int
+	// OnRound is called after each round.
+	OnRound func(Round)
+}
+
+// Round is a round that was run, with its number in its answer, from 1.
+type Round struct {
+	Round   int
+	Batches []Ran
+}
+
+// Ran is a batch that was run, how long its function ran, and why it failed as a whole, if it did.
+type Ran struct {
+	Loader string
+	Keys   []Key
+	Time   time.Duration
+	Err    error
+}
+
+// Batch is a batch that a client asked for: its round, counted from 1 since the client was made or started again, and whether its replies
+// were stored.
+type Batch struct {
+	Round  int
+	Stored bool
+	Keys   []Key
+}
+
+// Response is a response, of which the data may be decoded as wanted.
+type Response struct {
+	Data   json.RawMessage `json:"data"`
+	Errors []ResponseError `json:"errors"`
+}
+
+// ResponseError is an error in a response.
+type ResponseError struct {
+	Message   string     `json:"message"`
+	Locations []Location `json:"locations"`
+	Path      []any      `json:"path"`
+}
+
+// Location is a place in a query, from 1.
+type Location struct {
+	Line   int `json:"line"`
+	Column int `json:"column"`
+}
+
+// Error is the refusal of a call by the library, with its code in the header.
+type Error struct {
+	Code       int
+	Name, Text string
+}
+
+func (e *Error) Error() string { return e.Name + ": " + e.Text }
+
+// SchemaFault is the fault of a schema or its bindings by its number on the page on bindings. Line and Column are 0 where it has none.
+type SchemaFault struct {
+	Number, Line, Column int
+	InBindings           bool
+}
+
+func (f *SchemaFault) Error() string {
+	text := "schema"
+	if f.InBindings {
+		text = "bindings"
+	}
+	return fmt.Sprintf("S%d at %s:%d:%d", f.Number, text, f.Line, f.Column)
+}
+
+// ---- Calls.
+
+// handle holds a server or a client of the library. It is in one call at a time, whatever the goroutines are.
+type handle struct {
+	mutex sync.Mutex
+	at    C.rz_handle
+}
+
+func newHandle() *handle {
+	h := new(handle)
+	runtime.SetFinalizer(h, (*handle).close)
+	return h
+}
+
+func (h *handle) close() {
+	h.mutex.Lock()
+	defer h.mutex.Unlock()
+	C.rz_close(&h.at)
+}
+
+func (h *handle) call(do func(at *C.rz_handle) C.int32_t) (int, error) {
+	h.mutex.Lock()
+	defer h.mutex.Unlock()
+	code := do(&h.at)
+	if code < 0 {
+		return 0, refusal(code)
+	}
+	return int(code), nil
+}
+
+func refusal(code C.int32_t) *Error {
+	name := words(func(bytes *C.uint8_t, count C.size_t) C.size_t { return C.rz_code_name(code, bytes, count) })
+	text := words(func(bytes *C.uint8_t, count C.size_t) C.size_t { return C.rz_code_text(code, bytes, count) })
+	return &Error{int(code), name, text}
+}
+
+// words has a text of which a call tells the length, and copies as much as there is room for.
+func words(call func(bytes *C.uint8_t, count C.size_t) C.size_t) string {
+	text := make([]byte, call(bytesAt(nil), 0))
+	call(bytesAt(text), C.size_t(len(text)))
+	return string(text)
+}
+
+// nothing is where the buffers of no elements are: the library takes no null pointer.
+var nothing uint64
+
+func bytesAt(list []byte) *C.uint8_t {
+	if len(list) == 0 {
+		return (*C.uint8_t)(unsafe.Pointer(&nothing))
+	}
+	return (*C.uint8_t)(unsafe.Pointer(&list[0]))
+}
+
+func wordsAt(list []uint32) *C.uint32_t {
+	if len(list) == 0 {
+		return (*C.uint32_t)(unsafe.Pointer(&nothing))
+	}
+	return (*C.uint32_t)(unsafe.Pointer(&list[0]))
+}
+
+// texts are one after another, with the place where each ends.
+type texts struct {
+	ends  []uint32
+	bytes []byte
+}
+
+func newTexts(count, bytes C.size_t) texts { return texts{make([]uint32, count), make([]byte, bytes)} }
+
+func (t *texts) add(text string) {
+	t.bytes = append(t.bytes, text...)
+	t.ends = append(t.ends, uint32(len(t.bytes)))
+}
+
+// fit finds out whether all ends are numbers of 32 bits.
+func (t *texts) fit() bool { return len(t.bytes) <= math.MaxUint32 }
+
+func (t *texts) list() []string {
+	list, whole, start := make([]string, len(t.ends)), string(t.bytes), uint32(0)
+	for number, end := range t.ends {
+		list[number], start = whole[start:end], end
+	}
+	return list
+}
+
+// keyLists says how many keys each list has, and how many texts each key has.
+type keyLists struct {
+	keys, lengths []uint32
+	texts         texts
+}
+
+func newKeyLists(lists, keys, count, bytes C.size_t) keyLists {
+	return keyLists{make([]uint32, lists), make([]uint32, keys), newTexts(count, bytes)}
+}
+
+// lists has the keys of each list. The one key of a loader by no column is left out.
+func (k *keyLists) lists() [][]Key {
+	lists, lengths, texts := make([][]Key, len(k.keys)), k.lengths, k.texts.list()
+	for list, count := range k.keys {
+		for _, length := range lengths[:count] {
+			if length > 0 {
+				var key Key
+				texts = texts[copy(key[:length], texts):]
+				lists[list] = append(lists[list], key)
+			}
+		}
+		lengths = lengths[count:]
+	}
+	return lists
+}
+
+// ---- Servers.
+
+// maxIdle is how many clients a server keeps for the next requests.
+const maxIdle = 16
+
+// Server is a schema with its bindings. Goroutines may share it.
+type Server struct {
+	handle  *handle
+	loaders []Loader
+	mutex   sync.Mutex
+	// idle clients know no rows, but the documents of queries, which needn't be parsed again.
+	idle []*memory
+}
+
+// Open reads a schema and its bindings. The error is a *SchemaFault where they are refused.
+func Open(schema, bindings string) (*Server, error) {
+	server := &Server{handle: newHandle()}
+	var fault C.rz_fault
+	schemaBytes, bindingsBytes := []byte(schema), []byte(bindings)
+	_, err := server.handle.call(func(at *C.rz_handle) C.int32_t {
+		return C.rz_open(at, bytesAt(schemaBytes), C.size_t(len(schema)), bytesAt(bindingsBytes), C.size_t(len(bindings)), &fault)
+	})
+	if err != nil {
+		if err.(*Error).Code == C.RZ_BAD_SCHEMA {
+			return nil, &SchemaFault{int(fault.number), int(fault.line), int(fault.column), fault.in_bindings != 0}
+		}
+		return nil, err
+	}
+	if err := server.readLoaders(); err != nil {
+		return nil, err
+	}
+	return server, nil
+}
+
+func (s *Server) readLoaders() error {
+	var sizes C.rz_loader_sizes
+	if _, err := s.handle.call(func(at *C.rz_handle) C.int32_t { return C.rz_loaders_sizes(at, &sizes) }); err != nil {
+		return err
+	}
+	kinds, flat := make([]uint32, sizes.loaders), newTexts(4*sizes.loaders, sizes.bytes)
+	_, err := s.handle.call(func(at *C.rz_handle) C.int32_t {
+		return C.rz_loaders(at, wordsAt(kinds), sizes.loaders, wordsAt(flat.ends), 4*sizes.loaders, bytesAt(flat.bytes), sizes.bytes)
+	})
+	list := flat.list()
+	for number, kind := range kinds {
+		texts := list[4*number:]
+		s.loaders = append(s.loaders, Loader{texts[0], texts[1], texts[2 : 2+kind%4], kind >= 4})
+	}
+	return err
+}
+
+// Loaders has the loaders of the bindings.
+func (s *Server) Loaders() []Loader { return append([]Loader(nil), s.loaders...) }
+
+// Close frees the server. Clients that are open may be used further.
+func (s *Server) Close() {
+	s.handle.close()
+	s.mutex.Lock()
+	defer s.mutex.Unlock()
+	for _, memory := range s.idle {
+		memory.handle.close()
+	}
+	s.idle = nil
+}
+
+// Answer answers a request, and starts with a memory of nothing. The error is that of the context where it is done: then no further batch is
+// asked. What a request does wrong is no error, but stands in the response. The response to an array of requests is that of AnswerText.
+func (s *Server) Answer(ctx context.Context, request Request, loaders Loaders, options *Options) (*Response, error) {
+	return decoded(s.AnswerText(ctx, request, loaders, options))
+}
+
+// AnswerText is Answer, and returns the text of the response, which is JSON.
+func (s *Server) AnswerText(ctx context.Context, request Request, loaders Loaders, options *Options) ([]byte, error) {
+	if err := s.check(loaders); err != nil {
+		return nil, err
+	}
+	memory, err := s.memory(options)
+	if err != nil {
+		return nil, err
+	}
+	defer s.keep(memory)
+	return memory.answer(ctx, request, loaders, options)
+}
+
+// Client makes a client, which knows nothing.
+func (s *Server) Client(loaders Loaders, options *Options) (*Client, error) {
+	limits, err := s.limits(options)
+	if err != nil {
+		return nil, err
+	}
+	if err := s.check(loaders); err != nil {
+		return nil, err
+	}
+	memory, err := s.newMemory(limits, options)
+	if err != nil {
+		return nil, err
+	}
+	return &Client{memory: memory, functions: loaders, options: options}, nil
+}
+
+// check refuses the name of a loader that the bindings don't have.
+func (s *Server) check(functions Loaders) error {
+	for name := range functions {
+		if _, err := numberOf(s.loaders, name); err != nil {
+			return err
+		}
+	}
+	return nil
+}
+
+// memory returns an idle client with these options, or makes one.
+func (s *Server) memory(options *Options) (*memory, error) {
+	limits, err := s.limits(options)
+	if err != nil {
+		return nil, err
+	}
+	s.mutex.Lock()
+	for place := len(s.idle) - 1; place >= 0; place-- {
+		if memory := s.idle[place]; reflect.DeepEqual(memory.limits, limits) {
+			s.idle = append(s.idle[:place], s.idle[place+1:]...)
+			s.mutex.Unlock()
+			return memory, memory.limitAnswers(options)
+		}
+	}
+	s.mutex.Unlock()
+	return s.newMemory(limits, options)
+}
+
+// keep has a client stand by, in place of the one that has stood by longest where there are enough. One that a panic left busy isn't kept.
+func (s *Server) keep(memory *memory) {
+	if memory.restart() != nil {
+		memory.handle.close()
+		return
+	}
+	s.mutex.Lock()
+	defer s.mutex.Unlock()
+	if len(s.idle) == maxIdle {
+		s.idle[0].handle.close()
+		s.idle = s.idle[1:]
+	}
+	s.idle = append(s.idle, memory)
+}
+
+func (s *Server) limits(options *Options) ([]uint32, error) {
+	limits := make([]uint32, len(s.loaders))
+	if options == nil {
+		return limits, nil
+	}
+	for number := range limits {
+		limits[number] = limit(options.MaxBatch)
+	}
+	for name, most := range options.MaxBatchOf {
+		number, err := numberOf(s.loaders, name)
+		if err != nil {
+			return nil, err
+		}
+		limits[number] = limit(most)
+	}
+	return limits, nil
+}
+
+// limit is a number of keys. One that is out of range stays so.
+func limit(most int) uint32 {
+	if most < 0 || most > math.MaxUint32 {
+		return math.MaxUint32
+	}
+	return uint32(most)
+}
+
+func (s *Server) newMemory(limits []uint32, options *Options) (*memory, error) {
+	made := &memory{newHandle(), s.loaders, limits}
+	_, err := s.handle.call(func(at *C.rz_handle) C.int32_t {
+		return C.rz_client(at, &made.handle.at, wordsAt(limits), C.size_t(len(limits)))
+	})
+	if err != nil {
+		return nil, err
+	}
+	return made, made.limitAnswers(options)
+}
+
+func numberOf(loaders []Loader, name string) (int, error) {
+	for number := range loaders {
+		if loaders[number].Name == name {
+			return number, nil
+		}
+	}
+	return 0, fmt.Errorf("the bindings have no loader %s", name)
+}
+
+func decoded(text []byte, err error) (*Response, error) {
+	if err != nil {
+		return nil, err
+	}
+	response := new(Response)
+	return response, json.Unmarshal(text, response)
+}
+
+// ---- Answers.
+
+// memory is a client of the library: what it knows, and how many keys a batch of each loader may have.
+type memory struct {
+	handle  *handle
+	loaders []Loader
+	limits  []uint32
+}
+
+// order is a batch that is to be asked for.
+type order struct {
+	number int
+	loader *Loader
+	keys   []Key
+}
+
+// outcome is what a batch function returned, or the value of its panic.
+type outcome struct {
+	order    order
+	reply    reply
+	err      error
+	time     time.Duration
+	panicked any
+}
+
+func (m *memory) limitAnswers(options *Options) error {
+	most := 0
+	if options != nil {
+		most = options.MaxAnswer
+	}
+	_, err := m.handle.call(func(at *C.rz_handle) C.int32_t { return C.rz_limit_answers(at, C.size_t(most)) })
+	return err
+}
+
+func (m *memory) restart() error {
+	_, err := m.handle.call(func(at *C.rz_handle) C.int32_t { return C.rz_restart(at) })
+	return err
+}
+
+func (m *memory) answer(ctx context.Context, request Request, functions Loaders, options *Options) ([]byte, error) {
+	if err := m.begin(request); err != nil {
+		return nil, err
+	}
+	text, err := m.runRounds(ctx, functions, options)
+	if err != nil {
+		// refused where the library has given the request up by itself
+		_, _ = m.handle.call(func(at *C.rz_handle) C.int32_t { return C.rz_cancel(at) })
+	}
+	return text, err
+}
+
+func (m *memory) begin(request Request) error {
+	query, operation, variables := []byte(request.Query), []byte(request.OperationName), []byte(nil)
+	if request.Variables != nil {
+		var err error
+		if variables, err = json.Marshal(request.Variables); err != nil {
+			return err
+		}
+	}
+	_, err := m.handle.call(func(at *C.rz_handle) C.int32_t {
+		if request.JSON != nil {
+			return C.rz_begin(at, bytesAt(request.JSON), C.size_t(len(request.JSON)))
+		}
+		return C.rz_begin_request(at, bytesAt(query), C.size_t(len(query)), bytesAt(operation), C.size_t(len(operation)),
+			bytesAt(variables), C.size_t(len(variables)))
+	})
+	return err
+}
+
+func (m *memory) runRounds(ctx context.Context, functions Loaders, options *Options) ([]byte, error) {
+	for round := 1; ; round++ {
+		code, err := m.handle.call(func(at *C.rz_handle) C.int32_t { return C.rz_next(at) })
+		if err != nil {
+			return nil, err
+		}
+		if code == C.RZ_DONE {
+			return m.text()
+		}
+		batches, err := m.runRound(ctx, functions)
+		if err != nil {
+			return nil, err
+		}
+		if options != nil && options.OnRound != nil {
+			options.OnRound(Round{round, batches})
+		}
+	}
+}
+
+// runRound runs the batches of a round at the same time. It waits for none of them where the context is done, nor where one panics: then it
+// panics itself.
+func (m *memory) runRound(ctx context.Context, functions Loaders) ([]Ran, error) {
+	if err := ctx.Err(); err != nil {
+		return nil, err
+	}
+	orders, err := m.orders()
+	if err != nil {
+		return nil, err
+	}
+	outcomes := make(chan outcome, len(orders))
+	for _, order := range orders {
+		order := order
+		go func() { outcomes <- order.ask(ctx, functions[order.loader.Name]) }()
+	}
+	batches := make([]Ran, len(orders))
+	for range orders {
+		select {
+		case <-ctx.Done():
+			return nil, ctx.Err()
+		case done := <-outcomes:
+			if done.panicked != nil {
+				panic(done.panicked)
+			}
+			if err := m.take(done); err != nil {
+				return nil, err
+			}
+			batches[done.order.number] = Ran{done.order.loader.Name, done.order.keys, done.time, done.err}
+		}
+	}
+	return batches, nil
+}
+
+func (o order) ask(ctx context.Context, function BatchFunc) (done outcome) {
+	defer func() { done.panicked = recover() }()
+	done.order = o
+	if function == nil {
+		done.err = fmt.Errorf("no function for loader %s", o.loader.Name)
+		return done
+	}
+	start := time.Now()
+	rows, err := function(ctx, o.keys)
+	done.time, done.err = time.Since(start), err
+	if err == nil {
+		done.reply, done.err = flatten(o.loader, o.keys, rows)
+	}
+	return done
+}
+
+// take hands in what a batch function returned.
+func (m *memory) take(done outcome) error {
+	number := C.size_t(done.order.number)
+	_, err := m.handle.call(func(at *C.rz_handle) C.int32_t {
+		if done.err != nil {
+			why := []byte(strings.ToValidUTF8(done.err.Error(), "\uFFFD"))
+			return C.rz_take_failed(at, number, bytesAt(why), C.size_t(len(why)))
+		}
+		reply := &done.reply
+		return C.rz_take_rows(at, number, C.size_t(reply.columns), wordsAt(reply.rows), C.size_t(len(reply.rows)),
+			wordsAt(reply.texts.ends), C.size_t(len(reply.texts.ends)), bytesAt(reply.texts.bytes), C.size_t(len(reply.texts.bytes)))
+	})
+	return err
+}
+
+func (m *memory) sizes() (sizes C.rz_sizes_t, err error) {
+	_, err = m.handle.call(func(at *C.rz_handle) C.int32_t { return C.rz_sizes(at, &sizes) })
+	return sizes, err
+}
+
+func (m *memory) orders() ([]order, error) {
+	sizes, err := m.sizes()
+	if err != nil {
+		return nil, err
+	}
+	loaders, told := make([]uint32, sizes.orders), newKeyLists(sizes.orders, sizes.keys, sizes.texts, sizes.bytes)
+	_, err = m.handle.call(func(at *C.rz_handle) C.int32_t {
+		return C.rz_orders(at, wordsAt(loaders), sizes.orders, wordsAt(told.keys), sizes.orders, wordsAt(told.lengths), sizes.keys,
+			wordsAt(told.texts.ends), sizes.texts, bytesAt(told.texts.bytes), sizes.bytes)
+	})
+	if err != nil {
+		return nil, err
+	}
+	orders := make([]order, len(loaders))
+	for number, keys := range told.lists() {
+		orders[number] = order{number, &m.loaders[loaders[number]], keys}
+	}
+	return orders, nil
+}
+
+func (m *memory) text() ([]byte, error) {
+	sizes, err := m.sizes()
+	if err != nil {
+		return nil, err
+	}
+	text := make([]byte, sizes.answer)
+	_, err = m.handle.call(func(at *C.rz_handle) C.int32_t { return C.rz_answer(at, bytesAt(text), sizes.answer) })
+	return text, err
+}
+
+// ---- Clients.
+
+// Client is a memory of what the loaders returned, which goes on from request to request. It answers one request at a time.
+type Client struct {
+	memory    *memory
+	functions Loaders
+	options   *Options
+	answering sync.Mutex
+}
+
+// Answer answers a request as Server.Answer does. Keys that are known aren't asked for. The error has the code RZ_BUSY where the client is
+// answering another request.
+func (c *Client) Answer(ctx context.Context, request Request) (*Response, error) {
+	return decoded(c.AnswerText(ctx, request))
+}
+
+// AnswerText is Answer, and returns the text of the response, which is JSON.
+func (c *Client) AnswerText(ctx context.Context, request Request) ([]byte, error) {
+	if !c.answering.TryLock() {
+		return nil, refusal(C.RZ_BUSY)
+	}
+	defer c.answering.Unlock()
+	return c.memory.answer(ctx, request, c.functions, c.options)
+}
+
+// Prime knows these rows for a key, unless something is known of it. It returns whether they were added. A loader by no column has the key
+// Key{}.
+func (c *Client) Prime(loader string, key Key, rows Rows) (bool, error) {
+	number, flat, err := c.key(loader, key)
+	if err != nil {
+		return false, err
+	}
+	told, err := flatten(&c.memory.loaders[number], []Key{key}, rows)
+	if err != nil {
+		return false, err
+	}
+	var primed C.uint32_t
+	_, err = c.memory.handle.call(func(at *C.rz_handle) C.int32_t {
+		return C.rz_prime(at, C.size_t(number), wordsAt(flat.ends), C.size_t(len(flat.ends)), bytesAt(flat.bytes), C.size_t(len(flat.bytes)),
+			C.size_t(told.columns), C.uint32_t(told.rows[0]), wordsAt(told.texts.ends), C.size_t(len(told.texts.ends)),
+			bytesAt(told.texts.bytes), C.size_t(len(told.texts.bytes)), &primed)
+	})
+	return primed != 0, err
+}
+
+// Clear forgets a key. It returns whether something was known of it.
+func (c *Client) Clear(loader string, key Key) (bool, error) {
+	number, flat, err := c.key(loader, key)
+	if err != nil {
+		return false, err
+	}
+	var wasKnown C.uint32_t
+	_, err = c.memory.handle.call(func(at *C.rz_handle) C.int32_t {
+		return C.rz_clear(at, C.size_t(number), wordsAt(flat.ends), C.size_t(len(flat.ends)), bytesAt(flat.bytes), C.size_t(len(flat.bytes)),
+			&wasKnown)
+	})
+	return wasKnown != 0, err
+}
+
+// key has the number of a loader, and the texts of a key of it.
+func (c *Client) key(loader string, key Key) (number int, flat texts, err error) {
+	number, err = numberOf(c.memory.loaders, loader)
+	if err != nil {
+		return 0, flat, err
+	}
+	for part := range c.memory.loaders[number].Columns {
+		flat.add(key[part])
+	}
+	if !flat.fit() {
+		return 0, flat, c.memory.loaders[number].misfit("the key has more than %d bytes", uint32(math.MaxUint32))
+	}
+	return number, flat, nil
+}
+
+// ClearAll forgets all keys of a loader.
+func (c *Client) ClearAll(loader string) error {
+	number, err := numberOf(c.memory.loaders, loader)
+	if err != nil {
+		return err
+	}
+	_, err = c.memory.handle.call(func(at *C.rz_handle) C.int32_t { return C.rz_clear_all(at, C.size_t(number)) })
+	return err
+}
+
+// Restart forgets all keys, logs and rounds.
+func (c *Client) Restart() error { return c.memory.restart() }
+
+// Log has the batches that a loader was asked for since the client was made or started again.
+func (c *Client) Log(loader string) ([]Batch, error) {
+	number, err := numberOf(c.memory.loaders, loader)
+	if err != nil {
+		return nil, err
+	}
+	var sizes C.rz_log_sizes_t
+	handle := c.memory.handle
+	if _, err := handle.call(func(at *C.rz_handle) C.int32_t { return C.rz_log_sizes(at, C.size_t(number), &sizes) }); err != nil {
+		return nil, err
+	}
+	rounds, stored := make([]uint32, sizes.batches), make([]uint32, sizes.batches)
+	told := newKeyLists(sizes.batches, sizes.keys, sizes.texts, sizes.bytes)
+	_, err = handle.call(func(at *C.rz_handle) C.int32_t {
+		return C.rz_log(at, C.size_t(number), wordsAt(rounds), sizes.batches, wordsAt(stored), sizes.batches, wordsAt(told.keys), sizes.batches,
+			wordsAt(told.lengths), sizes.keys, wordsAt(told.texts.ends), sizes.texts, bytesAt(told.texts.bytes), sizes.bytes)
+	})
+	if err != nil {
+		return nil, err
+	}
+	batches := make([]Batch, len(rounds))
+	for number, keys := range told.lists() {
+		batches[number] = Batch{int(rounds[number]), stored[number] != 0, keys}
+	}
+	return batches, nil
+}
+
+// Close frees the client.
+func (c *Client) Close() { c.memory.handle.close() }

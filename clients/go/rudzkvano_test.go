@@ -1,0 +1,504 @@
+package rudzkvano
+
+import (
+	"bytes"
+	"context"
+	"database/sql"
+	"encoding/csv"
+	"errors"
+	"fmt"
+	"math/rand"
+	"os"
+	"os/exec"
+	"path/filepath"
+	"reflect"
+	"runtime"
+	"runtime/debug"
+	"strconv"
+	"strings"
+	"sync"
+	"testing"
+	"time"
+)
+
+const examples = "../../examples"
+
+type table struct {
+	columns []string
+	rows    [][]any
+}
+
+// world has the files of a folder of examples, whose tables are asked as query_cli asks them.
+type world struct {
+	server            *Server
+	tables            map[string]table
+	requests, answers [][]byte
+}
+
+func must[T any](value T, err error) T {
+	if err != nil {
+		panic(err)
+	}
+	return value
+}
+
+func read(path string) string { return string(must(os.ReadFile(filepath.Join(examples, path)))) }
+
+func lines(text string) [][]byte {
+	return bytes.Split([]byte(strings.TrimSuffix(text, "\n")), []byte("\n"))
+}
+
+// readTable reads a table. An empty field is null.
+func readTable(path string) table {
+	records := must(csv.NewReader(strings.NewReader(read(path))).ReadAll())
+	read := table{columns: records[0]}
+	for _, record := range records[1:] {
+		row := make([]any, len(record))
+		for place, field := range record {
+			if field != "" {
+				row[place] = field
+			}
+		}
+		read.rows = append(read.rows, row)
+	}
+	return read
+}
+
+func readWorld(folder string) *world {
+	read := &world{
+		server:   must(Open(read(folder+"schema.graphql"), read(folder+"bindings.txt"))),
+		tables:   map[string]table{},
+		requests: lines(read(folder + "requests.jsonl")),
+		answers:  lines(read(folder + "answers.jsonl")),
+	}
+	for _, path := range []string{"users", "posts", "named", "likes", "votes/votes"} {
+		read.tables[filepath.Base(path)] = readTable(path + ".csv")
+	}
+	return read
+}
+
+// ask returns the rows for some keys: aligned with them, or in the order of the table. A null column equals no key.
+func (t table) ask(loader Loader, keys []Key, aligned bool) Rows {
+	asked, items := map[Key]int{}, make([]Item, len(keys))
+	for number, key := range keys {
+		asked[loader.compared(key)] = number
+	}
+	found := Rows{Columns: t.columns}
+	for _, row := range t.rows {
+		key := must(loader.keyOf(t.columns, row))
+		number, isAsked := asked[loader.compared(key)]
+		if len(keys) == 0 || isAsked && key[0] != "" {
+			found.Rows = append(found.Rows, row)
+		}
+		if isAsked {
+			items[number].Rows = append(items[number].Rows, row)
+		}
+	}
+	if aligned && len(keys) > 0 {
+		return Rows{Columns: t.columns, Items: items}
+	}
+	return found
+}
+
+// loaders has a batch function for each loader, which first waits.
+func (w *world) loaders(aligned bool, wait func()) Loaders {
+	loaders := Loaders{}
+	for _, loader := range w.server.Loaders() {
+		loader := loader
+		loaders[loader.Name] = func(_ context.Context, keys []Key) (Rows, error) {
+			wait()
+			return w.tables[loader.Table].ask(loader, keys, aligned), nil
+		}
+	}
+	return loaders
+}
+
+func now() {}
+
+func late() { time.Sleep(time.Duration(rand.Intn(20)) * time.Millisecond) }
+
+func expect(t *testing.T, what any, got, wanted any) {
+	t.Helper()
+	if !reflect.DeepEqual(got, wanted) {
+		t.Errorf("%v:\n got:    %v\n wanted: %v", what, got, wanted)
+	}
+}
+
+// answer has the text of an answer, or of the error.
+func answer(text []byte, err error) string {
+	if err != nil {
+		return err.Error()
+	}
+	return string(text)
+}
+
+func ExampleServer_Answer() {
+	schema := "type Query { user(id: ID!): User } type User { id: ID! name: String! }"
+	bindings := "bindings 1\nloader userById users by id\nfield Query.user one userById arg id\n"
+	server := must(Open(schema, bindings))
+	defer server.Close()
+	names := map[string]string{"1": "Ada", "2": "Bob"}
+	users := func(ctx context.Context, keys []Key) (Rows, error) {
+		items := make([]Item, len(keys))
+		for place, key := range keys {
+			if name, found := names[key[0]]; found {
+				items[place].Rows = [][]any{{name}}
+			}
+		}
+		return Rows{Columns: []string{"name"}, Items: items}, nil
+	}
+	request := Request{Query: "query($id: ID!){user(id: $id){name}}", Variables: map[string]any{"id": 2}}
+	response := must(server.Answer(context.Background(), request, Loaders{"userById": users}, nil))
+	fmt.Println(string(response.Data), response.Errors)
+	// Output: {"user":{"name":"Bob"}} []
+}
+
+func TestExamplesAreAnsweredAsStored(t *testing.T) {
+	for _, folder := range []string{"", "votes/"} {
+		world := readWorld(folder)
+		defer world.server.Close()
+		for number, options := range []*Options{nil, {MaxBatch: 1}, {MaxBatch: 2}, {MaxBatchOf: map[string]int{"userById": 3}}} {
+			for place, request := range world.requests {
+				text, err := world.server.AnswerText(context.Background(), Request{JSON: request}, world.loaders(number%2 == 0, now), options)
+				expect(t, string(request), answer(text, err), string(world.answers[place]))
+			}
+		}
+	}
+}
+
+func TestTwoHundredRequestsAtTheSameTime(t *testing.T) {
+	world := readWorld("")
+	defer world.server.Close()
+	var group sync.WaitGroup
+	for number := 0; number < 200; number++ {
+		group.Add(1)
+		go func(number int) {
+			defer group.Done()
+			place, loaders := number%len(world.requests), world.loaders(number%3 == 0, late)
+			request := Request{JSON: world.requests[place]}
+			if number%2 == 0 {
+				expect(t, number, answer(world.server.AnswerText(context.Background(), request, loaders, nil)), string(world.answers[place]))
+				return
+			}
+			client := must(world.server.Client(loaders, nil))
+			defer client.Close()
+			expect(t, number, answer(client.AnswerText(context.Background(), request)), string(world.answers[place]))
+		}(number)
+	}
+	group.Wait()
+}
+
+// answersOfOthers has the answers of query_cli to a file of lines, or else of the host in C over tables in memory.
+func answersOfOthers(t *testing.T, path string) []byte {
+	program, options := os.Getenv("RUDZKVANO_QUERY_CLI"), []string{"--schema", "schema.graphql", "--bindings", "bindings.txt"}
+	if program == "" {
+		program = "../../crates/query_cli/out/query_cli"
+	}
+	if _, err := os.Stat(program); err != nil {
+		program, options = "../../crates/rudzkvano_c/out/hosts/tables_host", []string{"schema.graphql", "bindings.txt"}
+	}
+	if _, err := os.Stat(program); err != nil {
+		t.Skip("left out: neither query_cli nor tables_host is built, which answers random lines too")
+	}
+	command := exec.Command(must(filepath.Abs(program)), append(options, path)...)
+	for _, name := range []string{"users", "posts", "named", "likes"} {
+		command.Args = append(command.Args, name+"="+name+".csv")
+	}
+	command.Dir = examples
+	return must(command.Output())
+}
+
+func TestRandomLinesAreAnsweredAsByQueryCLI(t *testing.T) {
+	written, err := exec.Command("python3", "../python/random_lines.py", "2000", "42").Output()
+	if err != nil {
+		t.Skip("left out: random lines want python3")
+	}
+	path := filepath.Join(t.TempDir(), "random.jsonl")
+	if err := os.WriteFile(path, written, 0o600); err != nil {
+		t.Fatal(err)
+	}
+	requests, wanted := lines(string(written)), lines(string(answersOfOthers(t, path)))
+	expect(t, "lines", []int{len(requests), len(wanted)}, []int{2000, 2000})
+	world := readWorld("")
+	defer world.server.Close()
+	loaders := world.loaders(false, now)
+	for place, request := range requests {
+		expect(t, string(request), answer(world.server.AnswerText(context.Background(), Request{JSON: request}, loaders, nil)), string(wanted[place]))
+	}
+}
+
+// failed is the answer to `{user(id:1){name} users{id}}` where the user failed.
+func failed(message string) string {
+	return `{"errors":[{"message":"` + message + `","locations":[{"line":1,"column":2}],"path":["user"]}],` +
+		`"data":{"user":null,"users":[{"id":"1"},{"id":"2"},{"id":"3"},{"id":"4"}]}}`
+}
+
+func TestABatchThatFailsIsAFaultOfItsKeysAlone(t *testing.T) {
+	columns := []string{"id", "name"}
+	unlike := errors.New("down")
+	cases := []struct {
+		rows    Rows
+		err     error
+		message string
+	}{
+		{err: unlike, message: "down"},
+		{err: errors.New("no \xff"), message: "no \uFFFD"},
+		{rows: Rows{Columns: columns, Items: []Item{{Err: unlike}}}, message: "down"},
+		{rows: Rows{Columns: columns, Items: []Item{{}, {}}}, message: "loader userById: 2 items for 1 keys"},
+		{rows: Rows{Columns: columns, Items: []Item{{Rows: [][]any{{1}}}}}, message: "loader userById: a row of 1 values for 2 columns"},
+		{rows: Rows{Columns: columns, Rows: [][]any{{1}}}, message: "loader userById: a row of 1 values for 2 columns"},
+		{rows: Rows{Rows: [][]any{{}}}, message: "loader userById: a row has no columns"},
+		{rows: Rows{Columns: columns[1:], Rows: [][]any{{"Ada"}}}, message: "loader userById: its rows have no column id"},
+		{rows: Rows{Columns: columns, Rows: [][]any{{9, "Eve"}}}, message: "loader userById: a row of the key '9', which wasn't asked for"},
+		{rows: Rows{Columns: columns, Rows: [][]any{{nil, nil}}}, message: "loader userById: a row of the key '', which wasn't asked for"},
+		{
+			rows:    Rows{Columns: columns, Rows: [][]any{{1, []byte("Ada")}}},
+			message: "loader userById, column name: a value of type []uint8 has no text",
+		},
+		{rows: Rows{Columns: columns, Items: []Item{{Rows: [][]any{{1, "\xff"}}}}}, message: "loader userById, column name: a text isn't UTF-8"},
+	}
+	world := readWorld("")
+	defer world.server.Close()
+	request := Request{Query: "{user(id:1){name} users{id}}"}
+	loaders := world.loaders(true, now)
+	for _, each := range cases {
+		each := each
+		loaders["userById"] = func(context.Context, []Key) (Rows, error) { return each.rows, each.err }
+		expect(t, each.message, answer(world.server.AnswerText(context.Background(), request, loaders, nil)), failed(each.message))
+	}
+	delete(loaders, "userById")
+	text := answer(world.server.AnswerText(context.Background(), request, loaders, nil))
+	expect(t, "no function", text, failed("no function for loader userById"))
+	for _, options := range []*Options{nil, {MaxBatchOf: map[string]int{"userByID": 1}}} {
+		if options == nil {
+			loaders["userByID"] = loaders["allUsers"]
+		}
+		text := answer(world.server.AnswerText(context.Background(), request, loaders, options))
+		expect(t, options, text, "the bindings have no loader userByID")
+		delete(loaders, "userByID")
+	}
+}
+
+func TestALoaderThatFoldsComparesKeysWithoutTheirCase(t *testing.T) {
+	bindings := strings.Replace(read("bindings.txt"), "userById users by id", "userById users by name fold", 1)
+	server := must(Open(read("schema.graphql"), bindings))
+	defer server.Close()
+	users := func(context.Context, []Key) (Rows, error) {
+		return Rows{Columns: []string{"name"}, Rows: [][]any{{"Ada"}}}, nil
+	}
+	text := answer(server.AnswerText(context.Background(), Request{Query: `{user(id:"aDA"){name}}`}, Loaders{"userById": users}, nil))
+	expect(t, "folded", text, `{"data":{"user":{"name":"Ada"}}}`)
+}
+
+func TestValuesBecomeTexts(t *testing.T) {
+	type id int64
+	name, none := "Ada", (*string)(nil)
+	cases := []struct {
+		value any
+		text  string
+	}{
+		{nil, ""}, {none, ""}, {&name, "Ada"}, {"é", "é"}, {true, "true"}, {id(-7), "-7"}, {uint64(1<<64 - 1), "18446744073709551615"},
+		{1.5, "1.5"}, {1e6, "1000000"}, {float32(0.1), "0.1"}, {1e21, "1e+21"}, {sql.NullString{}, ""}, {sql.NullInt64{Int64: 3, Valid: true}, "3"},
+		{time.Date(2020, 1, 2, 3, 4, 5, 6e6, time.FixedZone("", 3600)), "2020-01-02T02:04:05.006Z"},
+	}
+	for _, each := range cases {
+		expect(t, each.value, must(textOf(each.value)), each.text)
+	}
+}
+
+func TestASchemaIsRefusedWithItsPlace(t *testing.T) {
+	schema, bindings := read("schema.graphql"), read("bindings.txt")
+	cases := []struct {
+		schema, bindings string
+		fault            SchemaFault
+		text             string
+	}{
+		{"type Query { a: Nope }", bindings, SchemaFault{3, 1, 17, false}, "S3 at schema:1:17"},
+		{"scalar Date", bindings, SchemaFault{7, 1, 1, false}, "S7 at schema:1:1"},
+		{schema, "bindings 1\nnothing\n", SchemaFault{8, 2, 0, true}, "S8 at bindings:2:0"},
+	}
+	for _, each := range cases {
+		_, err := Open(each.schema, each.bindings)
+		expect(t, each.text, err, &each.fault)
+		expect(t, each.text, err.Error(), each.text)
+	}
+	_, err := Open("\xff", bindings)
+	expect(t, "no UTF-8", err.(*Error).Name, "RZ_NOT_UTF8")
+}
+
+func TestLimitsAreKept(t *testing.T) {
+	world := readWorld("")
+	defer world.server.Close()
+	request := Request{Query: "query($ids: [ID!]!){usersByIds(ids:$ids){best{id}}}", Variables: map[string]any{"ids": []int{1, 2, 3}}}
+	whole := `{"data":{"usersByIds":[{"best":{"id":"2"}},{"best":{"id":"1"}},{"best":null}]}}`
+	cases := []struct {
+		options Options
+		batches []string
+		text    string
+	}{
+		{Options{MaxBatch: 2}, []string{"1 userById [[1 ] [2 ]] <nil>", "1 userById [[3 ]] <nil>"}, whole},
+		{Options{MaxBatch: 2, MaxBatchOf: map[string]int{"userById": 0}}, []string{"1 userById [[1 ] [2 ] [3 ]] <nil>"}, whole},
+		{Options{MaxAnswer: 30}, []string{"1 userById [[1 ] [2 ] [3 ]] <nil>"}, `{"errors":[{"message":"answer too long"}]}`},
+		{Options{MaxBatch: 65536}, nil, refusal(-6).Error()},
+		{Options{MaxBatch: -1}, nil, refusal(-6).Error()},
+	}
+	for _, each := range cases {
+		var batches []string
+		each.options.OnRound = func(round Round) {
+			for _, ran := range round.Batches {
+				batches = append(batches, fmt.Sprintln(round.Round, ran.Loader, ran.Keys, ran.Err))
+			}
+		}
+		text := answer(world.server.AnswerText(context.Background(), request, world.loaders(true, now), &each.options))
+		expect(t, each.options, text, each.text)
+		expect(t, each.options, strings.Join(batches, ""), strings.Join(append(each.batches, ""), "\n"))
+	}
+}
+
+func TestACancelledAnswerAsksNoFurtherBatch(t *testing.T) {
+	world := readWorld("")
+	defer world.server.Close()
+	ctx, cancel := context.WithCancel(context.Background())
+	loaders := world.loaders(true, now)
+	posts := loaders["postsByAuthor"]
+	loaders["postsByAuthor"] = func(ctx context.Context, keys []Key) (Rows, error) {
+		cancel()
+		return posts(ctx, keys)
+	}
+	client := must(world.server.Client(loaders, nil))
+	defer client.Close()
+	request := Request{Query: "{users{posts{author{name}}}}"}
+	_, err := client.AnswerText(ctx, request)
+	expect(t, "cancelled", err, context.Canceled)
+	expect(t, "asked after it", len(must(client.Log("userById"))), 0)
+	deadline, stop := context.WithTimeout(context.Background(), time.Millisecond)
+	defer stop()
+	loaders["allUsers"] = func(context.Context, []Key) (Rows, error) { time.Sleep(time.Second); return Rows{}, nil }
+	_, err = world.server.AnswerText(deadline, request, loaders, nil)
+	expect(t, "late", err, context.DeadlineExceeded)
+	// the client goes on
+	text := answer(client.AnswerText(context.Background(), Request{Query: "{users{id}}"}))
+	expect(t, "after it", text, `{"data":{"users":[{"id":"1"},{"id":"2"},{"id":"3"},{"id":"4"}]}}`)
+}
+
+func TestAClientKeepsWhatItKnows(t *testing.T) {
+	world := readWorld("")
+	client := must(world.server.Client(world.loaders(true, now), nil))
+	world.server.Close()
+	eve := Rows{Columns: []string{"id", "name"}, Rows: [][]any{{1, "Eve"}}}
+	user := Request{Query: "{user(id:1){name}}"}
+	ctx := context.Background()
+	expect(t, "primed", []bool{must(client.Prime("userById", Key{"1"}, eve)), must(client.Prime("userById", Key{"1"}, eve))}, []bool{true, false})
+	expect(t, "known", answer(client.AnswerText(ctx, user)), `{"data":{"user":{"name":"Eve"}}}`)
+	expect(t, "cleared", []bool{must(client.Clear("userById", Key{"1"})), must(client.Clear("userById", Key{"1"}))}, []bool{true, false})
+	response := must(client.Answer(ctx, user))
+	expect(t, "asked", string(response.Data), `{"user":{"name":"Ada"}}`)
+	expect(t, "log", must(client.Log("userById")), []Batch{{1, true, []Key{{"1"}}}})
+	expect(t, "cleared all", client.ClearAll("userById"), nil)
+	expect(t, "primed all", must(client.Prime("allUsers", Key{}, Rows{})), true)
+	expect(t, "no users", answer(client.AnswerText(ctx, Request{Query: "{users{id}}"})), `{"data":{"users":[]}}`)
+	expect(t, "restarted", client.Restart(), nil)
+	expect(t, "forgotten", len(must(client.Log("userById"))), 0)
+	_, err := client.Prime("userById", Key{"2"}, eve)
+	expect(t, "another key", err.Error(), "loader userById: a row of the key '1', which wasn't asked for")
+	_, err = client.Clear("nobody", Key{"1"})
+	expect(t, "unknown", err.Error(), "the bindings have no loader nobody")
+	_, err = world.server.Client(Loaders{"nobody": nil}, nil)
+	expect(t, "unknown", err.Error(), "the bindings have no loader nobody")
+	client.Close()
+	expect(t, "closed", client.Restart().(*Error).Name, "RZ_BAD_HANDLE")
+}
+
+func TestASecondRequestOfAClientIsRefused(t *testing.T) {
+	world := readWorld("")
+	defer world.server.Close()
+	loaders, asked, goOn := world.loaders(true, now), make(chan bool), make(chan bool)
+	users := loaders["allUsers"]
+	loaders["allUsers"] = func(ctx context.Context, keys []Key) (Rows, error) {
+		asked <- true
+		<-goOn
+		return users(ctx, keys)
+	}
+	client := must(world.server.Client(loaders, nil))
+	defer client.Close()
+	done := make(chan string)
+	request := Request{Query: "{users{id}}"}
+	go func() { done <- answer(client.AnswerText(context.Background(), request)) }()
+	<-asked
+	_, err := client.AnswerText(context.Background(), request)
+	expect(t, "second", err.(*Error).Name, "RZ_BUSY")
+	expect(t, "clear", client.ClearAll("allUsers").(*Error).Name, "RZ_BUSY")
+	close(goOn)
+	expect(t, "first", <-done, `{"data":{"users":[{"id":"1"},{"id":"2"},{"id":"3"},{"id":"4"}]}}`)
+}
+
+func TestAPanicGoesThrough(t *testing.T) {
+	world := readWorld("")
+	defer world.server.Close()
+	loaders := world.loaders(true, now)
+	loaders["allUsers"] = func(context.Context, []Key) (Rows, error) { panic("a batch function panics") }
+	func() {
+		defer func() { expect(t, "panic", recover(), "a batch function panics") }()
+		_, _ = world.server.Answer(context.Background(), Request{Query: "{users{id}}"}, loaders, nil)
+	}()
+	text := answer(world.server.AnswerText(context.Background(), Request{JSON: world.requests[0]}, world.loaders(true, now), nil))
+	expect(t, "after it", text, string(world.answers[0]))
+}
+
+func TestAResponseHasItsErrors(t *testing.T) {
+	world := readWorld("")
+	defer world.server.Close()
+	response := must(world.server.Answer(context.Background(), Request{Query: "{users{name}}"}, world.loaders(true, now), nil))
+	wanted := []ResponseError{{"null where the type is non-null", []Location{{1, 8}}, []any{"users", 3.0, "name"}}}
+	expect(t, "errors", response.Errors, wanted)
+	expect(t, "data", string(response.Data), "null")
+}
+
+// resident is the memory of this process, in KiB.
+func resident() int {
+	debug.FreeOSMemory()
+	pages := strings.Fields(string(must(os.ReadFile("/proc/self/statm"))))[1]
+	return 4 * must(strconv.Atoi(pages))
+}
+
+// TestMemoryStaysFlat answers RUDZKVANO_REQUESTS requests, 10,000 by default.
+func TestMemoryStaysFlat(t *testing.T) {
+	requests, err := strconv.Atoi(os.Getenv("RUDZKVANO_REQUESTS"))
+	if err != nil {
+		requests = 10000
+	}
+	// malloc has an arena for each thread, which grows by itself
+	runtime.LockOSThread()
+	defer runtime.UnlockOSThread()
+	cancelled, cancel := context.WithCancel(context.Background())
+	cancel()
+	answerAll := func(count int) {
+		world := readWorld("")
+		for number := 0; number < count; number++ {
+			if number%1000 == 999 {
+				world.server.Close()
+				world = readWorld("")
+			}
+			place, loaders, ctx := number%len(world.requests), world.loaders(number%3 == 0, now), context.Background()
+			request, wanted := Request{JSON: world.requests[place]}, string(world.answers[place])
+			switch number % 8 {
+			case 0: // left to the garbage collector
+				expect(t, number, answer(must(world.server.Client(loaders, nil)).AnswerText(ctx, request)), wanted)
+			case 1:
+				_, err := world.server.AnswerText(cancelled, Request{Query: "{users{id}}"}, loaders, nil)
+				expect(t, number, err, context.Canceled)
+			default:
+				expect(t, number, answer(world.server.AnswerText(ctx, request, loaders, nil)), wanted)
+			}
+		}
+		world.server.Close()
+	}
+	answerAll(5000)
+	before := resident()
+	answerAll(requests)
+	grown := resident() - before
+	t.Logf("%d requests: %d KiB, grown by %d KiB", requests, before, grown)
+	if grown > 4096 {
+		t.Errorf("grown by %d KiB", grown)
+	}
+}

@@ -1,0 +1,457 @@
+/* The border between Node and the C library (clients/c/rudzkvano.h), in N-API. index.js is its only caller.
+
+   Numbers cross the border in one Uint32Array that both sides hold, the words; texts as one string that has all texts of a call, with the
+   place where each ends among the words. JavaScript counts these places in UTF-16 units and the library in bytes: they are the same where all
+   texts are ASCII, and else they are converted here.
+
+   The first HEAD words are the head. A call leaves its code in word 0. One call does what one step needs: a reply is handed in and the next
+   round is read, or the answer. */
+#define NAPI_VERSION 8
+#include "../c/rudzkvano.h"
+#include <node_api.h>
+#include <stdbool.h>
+#include <stdlib.h>
+#include <string.h>
+
+/* NEED_ROOM is a code beside those of rz_next: a round is out that needs as many words as word 1 says; `look` reads it then. */
+enum { HEAD = 8, NEED_ROOM = 3, MOST_ARGUMENTS = 4 };
+
+/* What one environment (Node's main thread, or a worker) shares with its JavaScript. `bytes` is where texts are put together and taken apart. */
+typedef struct {
+    napi_ref array;
+    uint32_t *words;
+    size_t words_len;
+    uint8_t *bytes;
+    size_t room;
+} border;
+
+/* A server or a client. `once`: the client is made to forget all that it knows as soon as its answer is read. */
+typedef struct {
+    rz_handle handle;
+    bool once;
+} held;
+
+typedef struct {
+    border *border;
+    held *held;
+    napi_value values[MOST_ARGUMENTS];
+} call;
+
+static napi_value refused(napi_env env, const char *why) {
+    napi_throw_error(env, NULL, why);
+    return NULL;
+}
+
+/* Reads the arguments of a call, the first of which is a server or a client where `handle` says so. */
+static bool arguments(napi_env env, napi_callback_info info, call *call, bool handle) {
+    size_t count = MOST_ARGUMENTS;
+    void *data;
+    if (napi_get_cb_info(env, info, &count, call->values, NULL, &data) != napi_ok) return false;
+    call->border = data;
+    return !handle || napi_get_value_external(env, call->values[0], (void **)&call->held) == napi_ok;
+}
+
+static napi_value tell(border *border, int32_t code) {
+    border->words[0] = (uint32_t)code;
+    return NULL;
+}
+
+/* ---- Texts. */
+
+static bool make_room(border *border, size_t bytes) {
+    if (bytes <= border->room) return true;
+    void *at = realloc(border->bytes, bytes + bytes / 2);
+    if (!at) return false;
+    border->bytes = at;
+    border->room = bytes + bytes / 2;
+    return true;
+}
+
+/* Writes a string to the bytes from a place on, as UTF-8. */
+static bool put_text(napi_env env, border *border, napi_value value, size_t from, size_t *len) {
+    size_t units, room = border->room - from;
+    if (napi_get_value_string_utf8(env, value, (char *)border->bytes + from, room, len) != napi_ok) return false;
+    /* what didn't fit left less than a character and the 0 after it */
+    if (*len + 5 <= room) return true;
+    if (napi_get_value_string_utf16(env, value, NULL, 0, &units) != napi_ok || !make_room(border, from + 3 * units + 5)) return false;
+    return napi_get_value_string_utf8(env, value, (char *)border->bytes + from, border->room - from, len) == napi_ok;
+}
+
+/* Puts ends that count UTF-16 units as they count bytes. */
+static void to_bytes(const uint8_t *bytes, size_t len, uint32_t *ends, size_t count) {
+    size_t at = 0, units = 0;
+    for (size_t i = 0; i < count; i++) {
+        while (units < ends[i] && at < len) {
+            units += bytes[at] < 0xF0 ? 1 : 2;
+            at += bytes[at] < 0x80 ? 1 : bytes[at] < 0xE0 ? 2 : bytes[at] < 0xF0 ? 3 : 4;
+        }
+        ends[i] = (uint32_t)at;
+    }
+}
+
+/* Puts ends that count bytes as they count UTF-16 units. */
+static void to_units(const uint8_t *bytes, uint32_t *ends, size_t count) {
+    size_t at = 0, units = 0;
+    for (size_t i = 0; i < count; i++) {
+        for (; at < ends[i]; at++) units += (bytes[at] & 0xC0) == 0x80 ? 0 : bytes[at] < 0xF0 ? 1 : 2;
+        ends[i] = (uint32_t)units;
+    }
+}
+
+static bool is_ascii(const uint8_t *bytes, size_t len) {
+    uint8_t all = 0;
+    for (size_t i = 0; i < len; i++) all |= bytes[i];
+    return all < 0x80;
+}
+
+/* The first bytes as a string, and the ends of its texts in UTF-16 units. */
+static napi_value string_of(napi_env env, border *border, size_t len, uint32_t *ends, size_t count) {
+    napi_value string = NULL;
+    const char *bytes = (const char *)border->bytes;
+    if (is_ascii(border->bytes, len)) {
+        napi_create_string_latin1(env, bytes, len, &string);
+    } else {
+        to_units(border->bytes, ends, count);
+        napi_create_string_utf8(env, bytes, len, &string);
+    }
+    return string;
+}
+
+/* ---- The steps of a request. */
+
+/* The orders of the round that is out. The head has RZ_ROUND and the numbers of orders, keys and texts. After it come for each order its
+   loader, for each order how many keys it has, for each key how many texts it has, and the ends of the texts. */
+static napi_value read_round(napi_env env, border *border, rz_handle *client, const rz_sizes_t *sizes) {
+    size_t ends = HEAD + 2 * sizes->orders + sizes->keys;
+    uint32_t *words = border->words;
+    if (ends + sizes->texts > border->words_len) {
+        words[1] = (uint32_t)(ends + sizes->texts);
+        return tell(border, NEED_ROOM);
+    }
+    if (!make_room(border, sizes->bytes)) return tell(border, RZ_NO_MEMORY);
+    int32_t code = rz_orders(client, words + HEAD, sizes->orders, words + HEAD + sizes->orders, sizes->orders, words + HEAD + 2 * sizes->orders,
+                             sizes->keys, words + ends, sizes->texts, border->bytes, sizes->bytes);
+    if (code < 0) return tell(border, code);
+    words[1] = (uint32_t)sizes->orders;
+    words[2] = (uint32_t)sizes->keys;
+    words[3] = (uint32_t)sizes->texts;
+    tell(border, RZ_ROUND);
+    return string_of(env, border, sizes->bytes, words + ends, sizes->texts);
+}
+
+/* The answer. The head has RZ_DONE, and whether the client was made to forget, as the code of that. */
+static napi_value read_answer(napi_env env, border *border, held *client, const rz_sizes_t *sizes) {
+    if (!make_room(border, sizes->answer)) return tell(border, RZ_NO_MEMORY);
+    int32_t code = rz_answer(&client->handle, border->bytes, sizes->answer);
+    if (code < 0) return tell(border, code);
+    border->words[1] = client->once ? (uint32_t)rz_restart(&client->handle) : RZ_DONE;
+    tell(border, RZ_DONE);
+    return string_of(env, border, sizes->answer, NULL, 0);
+}
+
+static napi_value read_state(napi_env env, border *border, held *client, int32_t code) {
+    rz_sizes_t sizes;
+    if (code >= 0 && code != RZ_WAITING) code = rz_sizes(&client->handle, &sizes);
+    if (code != RZ_DONE) return tell(border, code);
+    if (sizes.orders) return read_round(env, border, &client->handle, &sizes);
+    return read_answer(env, border, client, &sizes);
+}
+
+static napi_value go_on(napi_env env, border *border, held *client, int32_t code) {
+    if (code < 0) return tell(border, code);
+    return read_state(env, border, client, rz_next(&client->handle));
+}
+
+/* look(client): a round that needed room. */
+static napi_value look(napi_env env, napi_callback_info info) {
+    call call;
+    if (!arguments(env, info, &call, true)) return refused(env, "look");
+    return read_state(env, call.border, call.held, RZ_ROUND);
+}
+
+/* begin(client, line): begins the answer to JSON text, and goes on. */
+static napi_value begin(napi_env env, napi_callback_info info) {
+    call call;
+    size_t len;
+    if (!arguments(env, info, &call, true) || !put_text(env, call.border, call.values[1], 0, &len)) return refused(env, "begin");
+    return go_on(env, call.border, call.held, rz_begin(&call.held->handle, call.border->bytes, len));
+}
+
+/* beginRequest(client, query, operation, variables): begins the answer to a query, and goes on. */
+static napi_value begin_request(napi_env env, napi_callback_info info) {
+    call call;
+    size_t lens[3], at = 0;
+    if (!arguments(env, info, &call, true)) return refused(env, "beginRequest");
+    for (int i = 0; i < 3; at += lens[i++])
+        if (!put_text(env, call.border, call.values[i + 1], at, &lens[i])) return refused(env, "beginRequest");
+    const uint8_t *query = call.border->bytes, *operation = query + lens[0], *variables = operation + lens[1];
+    int32_t code = rz_begin_request(&call.held->handle, query, lens[0], operation, lens[1], variables, lens[2]);
+    return go_on(env, call.border, call.held, code);
+}
+
+/* reply(client, text): takes the rows for an order, and goes on. The head has the order, how many columns, keys and texts there are, and the
+   text's length in UTF-16 units. After it come the numbers of rows and the ends. */
+static napi_value reply(napi_env env, napi_callback_info info) {
+    call call;
+    size_t len;
+    if (!arguments(env, info, &call, true) || !put_text(env, call.border, call.values[1], 0, &len)) return refused(env, "reply");
+    uint32_t *words = call.border->words;
+    size_t keys = words[2], texts = words[3];
+    if (HEAD + keys + texts > call.border->words_len) return tell(call.border, RZ_BAD_SIZE);
+    uint32_t *rows = words + HEAD, *ends = rows + keys;
+    if (len != words[4]) to_bytes(call.border->bytes, len, ends, texts);
+    int32_t code = rz_take_rows(&call.held->handle, words[0], words[1], rows, keys, ends, texts, call.border->bytes, len);
+    return go_on(env, call.border, call.held, code);
+}
+
+/* fail(client, text): takes it that the batch of an order failed, and goes on. The head has the order. */
+static napi_value fail(napi_env env, napi_callback_info info) {
+    call call;
+    size_t len;
+    if (!arguments(env, info, &call, true) || !put_text(env, call.border, call.values[1], 0, &len)) return refused(env, "fail");
+    return go_on(env, call.border, call.held, rz_take_failed(&call.held->handle, call.border->words[0], call.border->bytes, len));
+}
+
+static napi_value cancel(napi_env env, napi_callback_info info) {
+    call call;
+    if (!arguments(env, info, &call, true)) return refused(env, "cancel");
+    return tell(call.border, rz_cancel(&call.held->handle));
+}
+
+/* ---- What is known. */
+
+/* The head has the loader, how many texts the key has, how many columns, rows and texts there are, and the lengths of the key and of the texts
+   in UTF-16 units. After it come the ends of the key's texts, and of the others. */
+typedef struct {
+    call call;
+    const uint8_t *key, *bytes;
+    size_t key_len, len, key_texts, texts;
+    uint32_t *key_ends, *ends;
+} known;
+
+static bool read_known(napi_env env, napi_callback_info info, known *known) {
+    if (!arguments(env, info, &known->call, true)) return false;
+    border *border = known->call.border;
+    if (!put_text(env, border, known->call.values[1], 0, &known->key_len)) return false;
+    if (!put_text(env, border, known->call.values[2], known->key_len, &known->len)) return false;
+    known->key_texts = border->words[1];
+    known->texts = border->words[4];
+    if (HEAD + known->key_texts + known->texts > border->words_len) return false;
+    known->key = border->bytes;
+    known->bytes = border->bytes + known->key_len;
+    known->key_ends = border->words + HEAD;
+    known->ends = known->key_ends + known->key_texts;
+    if (border->words[5] != known->key_len) to_bytes(known->key, known->key_len, known->key_ends, known->key_texts);
+    if (border->words[6] != known->len) to_bytes(known->bytes, known->len, known->ends, known->texts);
+    return true;
+}
+
+/* prime(client, key, texts): leaves in word 1 whether the item was added. */
+static napi_value prime(napi_env env, napi_callback_info info) {
+    known it;
+    if (!read_known(env, info, &it)) return refused(env, "prime");
+    uint32_t *words = it.call.border->words;
+    return tell(it.call.border, rz_prime(&it.call.held->handle, words[0], it.key_ends, it.key_texts, it.key, it.key_len, words[2], words[3], it.ends,
+                                         it.texts, it.bytes, it.len, &words[1]));
+}
+
+/* clear(client, key, ""): leaves in word 1 whether something was known. */
+static napi_value clear(napi_env env, napi_callback_info info) {
+    known it;
+    if (!read_known(env, info, &it)) return refused(env, "clear");
+    uint32_t *words = it.call.border->words;
+    return tell(it.call.border, rz_clear(&it.call.held->handle, words[0], it.key_ends, it.key_texts, it.key, it.key_len, &words[1]));
+}
+
+/* clearAll(client): the head has the loader. */
+static napi_value clear_all(napi_env env, napi_callback_info info) {
+    call call;
+    if (!arguments(env, info, &call, true)) return refused(env, "clearAll");
+    return tell(call.border, rz_clear_all(&call.held->handle, call.border->words[0]));
+}
+
+/* restart(client) */
+static napi_value restart(napi_env env, napi_callback_info info) {
+    call call;
+    if (!arguments(env, info, &call, true)) return refused(env, "restart");
+    return tell(call.border, rz_restart(&call.held->handle));
+}
+
+/* limitAnswers(client, bytes) */
+static napi_value limit_answers(napi_env env, napi_callback_info info) {
+    call call;
+    int64_t most;
+    if (!arguments(env, info, &call, true) || napi_get_value_int64(env, call.values[1], &most) != napi_ok) return refused(env, "limitAnswers");
+    return tell(call.border, rz_limit_answers(&call.held->handle, (size_t)most));
+}
+
+/* log(client): the batches of the loader that the head has. The head gets the numbers of batches, keys and texts. After it come for each batch
+   its round, whether its replies were stored, and how many keys it has, for each key how many texts it has, and the ends. */
+static napi_value read_log(napi_env env, napi_callback_info info) {
+    call call;
+    if (!arguments(env, info, &call, true)) return refused(env, "log");
+    uint32_t *words = call.border->words, loader = words[0];
+    rz_log_sizes_t sizes;
+    int32_t code = rz_log_sizes(&call.held->handle, loader, &sizes);
+    if (code < 0) return tell(call.border, code);
+    size_t ends = HEAD + 3 * sizes.batches + sizes.keys;
+    if (ends + sizes.texts > call.border->words_len) {
+        words[1] = (uint32_t)(ends + sizes.texts);
+        return tell(call.border, NEED_ROOM);
+    }
+    if (!make_room(call.border, sizes.bytes)) return tell(call.border, RZ_NO_MEMORY);
+    uint32_t *rounds = words + HEAD, *stored = rounds + sizes.batches, *keys = stored + sizes.batches, *texts = keys + sizes.batches;
+    code = rz_log(&call.held->handle, loader, rounds, sizes.batches, stored, sizes.batches, keys, sizes.batches, texts, sizes.keys, words + ends,
+                  sizes.texts, call.border->bytes, sizes.bytes);
+    words[1] = (uint32_t)sizes.batches;
+    words[2] = (uint32_t)sizes.keys;
+    words[3] = (uint32_t)sizes.texts;
+    tell(call.border, code);
+    return string_of(env, call.border, sizes.bytes, words + ends, sizes.texts);
+}
+
+/* ---- Servers and clients. */
+
+static void let_go(napi_env env, void *data, void *hint) {
+    (void)env, (void)hint;
+    held *held = data;
+    rz_close(&held->handle);
+    free(held);
+}
+
+/* A value that holds this handle, or none where the code is a refusal. What it holds is freed with it, if it wasn't closed. */
+static napi_value value_of(napi_env env, border *border, int32_t code, rz_handle handle, bool once) {
+    napi_value value;
+    held *made = code < 0 ? NULL : malloc(sizeof *made);
+    if (!made) {
+        rz_close(&handle);
+        return tell(border, code < 0 ? code : RZ_NO_MEMORY);
+    }
+    *made = (held){handle, once};
+    if (napi_create_external(env, made, let_go, NULL, &value) != napi_ok) {
+        let_go(env, made, NULL);
+        return tell(border, RZ_NO_MEMORY);
+    }
+    tell(border, RZ_DONE);
+    return value;
+}
+
+/* open(schema, bindings): the fault's number, line, column and in_bindings are left in the words 1 to 4. */
+static napi_value open_server(napi_env env, napi_callback_info info) {
+    call call;
+    size_t schema, bindings;
+    if (!arguments(env, info, &call, false) || !put_text(env, call.border, call.values[0], 0, &schema)) return refused(env, "open");
+    if (!put_text(env, call.border, call.values[1], schema, &bindings)) return refused(env, "open");
+    rz_handle server = {0};
+    rz_fault fault = {0};
+    int32_t code = rz_open(&server, call.border->bytes, schema, call.border->bytes + schema, bindings, &fault);
+    uint32_t *words = call.border->words;
+    words[1] = fault.number;
+    words[2] = (uint32_t)fault.line;
+    words[3] = (uint32_t)fault.column;
+    words[4] = fault.in_bindings;
+    return value_of(env, call.border, code, server, false);
+}
+
+/* loaders(server): the head gets how many there are. After it come for each loader its kind, and the ends of the four texts of each. */
+static napi_value read_loaders(napi_env env, napi_callback_info info) {
+    call call;
+    if (!arguments(env, info, &call, true)) return refused(env, "loaders");
+    rz_loader_sizes sizes;
+    int32_t code = rz_loaders_sizes(&call.held->handle, &sizes);
+    if (code < 0) return tell(call.border, code);
+    uint32_t *words = call.border->words, *kinds = words + HEAD, *ends = kinds + sizes.loaders;
+    if (HEAD + 5 * sizes.loaders > call.border->words_len) {
+        words[1] = (uint32_t)(HEAD + 5 * sizes.loaders);
+        return tell(call.border, NEED_ROOM);
+    }
+    if (!make_room(call.border, sizes.bytes)) return tell(call.border, RZ_NO_MEMORY);
+    code = rz_loaders(&call.held->handle, kinds, sizes.loaders, ends, 4 * sizes.loaders, call.border->bytes, sizes.bytes);
+    words[1] = (uint32_t)sizes.loaders;
+    tell(call.border, code);
+    return string_of(env, call.border, sizes.bytes, ends, 4 * sizes.loaders);
+}
+
+/* client(server, once): the head has the number of limits, which come after it. */
+static napi_value make_client(napi_env env, napi_callback_info info) {
+    call call;
+    bool once;
+    if (!arguments(env, info, &call, true) || napi_get_value_bool(env, call.values[1], &once) != napi_ok) return refused(env, "client");
+    uint32_t *words = call.border->words;
+    if (HEAD + (size_t)words[0] > call.border->words_len) return tell(call.border, RZ_BAD_SIZE);
+    rz_handle client = {0};
+    int32_t code = rz_client(&call.held->handle, &client, words + HEAD, words[0]);
+    return value_of(env, call.border, code, client, once);
+}
+
+/* close(server or client) */
+static napi_value close_held(napi_env env, napi_callback_info info) {
+    call call;
+    if (!arguments(env, info, &call, true)) return refused(env, "close");
+    rz_close(&call.held->handle);
+    return NULL;
+}
+
+/* ---- The module. */
+
+/* codeName(code), codeText(code) */
+static napi_value words_on(napi_env env, napi_callback_info info, size_t (*on)(int32_t, uint8_t *, size_t)) {
+    call call;
+    int32_t code;
+    napi_value string = NULL;
+    if (!arguments(env, info, &call, false) || napi_get_value_int32(env, call.values[0], &code) != napi_ok) return refused(env, "code");
+    size_t len = on(code, call.border->bytes, call.border->room);
+    napi_create_string_utf8(env, (const char *)call.border->bytes, len, &string);
+    return string;
+}
+static napi_value code_name(napi_env env, napi_callback_info info) { return words_on(env, info, rz_code_name); }
+static napi_value code_text(napi_env env, napi_callback_info info) { return words_on(env, info, rz_code_text); }
+
+static napi_value version(napi_env env, napi_callback_info info) {
+    (void)info;
+    napi_value number = NULL;
+    napi_create_uint32(env, rz_version(), &number);
+    return number;
+}
+
+/* share(array): these are the words from now on. */
+static napi_value share(napi_env env, napi_callback_info info) {
+    call call;
+    napi_typedarray_type type;
+    size_t len;
+    void *words;
+    if (!arguments(env, info, &call, false)) return refused(env, "share");
+    if (napi_get_typedarray_info(env, call.values[0], &type, &len, &words, NULL, NULL) != napi_ok || type != napi_uint32_array || len < HEAD)
+        return refused(env, "share");
+    if (call.border->array) napi_delete_reference(env, call.border->array);
+    if (napi_create_reference(env, call.values[0], 1, &call.border->array) != napi_ok) return refused(env, "share");
+    call.border->words = words;
+    call.border->words_len = len;
+    return NULL;
+}
+
+static void free_border(napi_env env, void *data, void *hint) {
+    (void)env, (void)hint;
+    border *border = data;
+    free(border->bytes);
+    free(border);
+}
+
+NAPI_MODULE_INIT() {
+    static const struct {
+        const char *name;
+        napi_callback call;
+    } calls[] = {{"share", share}, {"version", version}, {"codeName", code_name}, {"codeText", code_text}, {"open", open_server},
+                 {"loaders", read_loaders}, {"client", make_client}, {"close", close_held}, {"begin", begin}, {"beginRequest", begin_request},
+                 {"look", look}, {"reply", reply}, {"fail", fail}, {"cancel", cancel}, {"prime", prime}, {"clear", clear},
+                 {"clearAll", clear_all}, {"restart", restart}, {"limitAnswers", limit_answers}, {"log", read_log}};
+    border *border = calloc(1, sizeof *border);
+    if (!border || !make_room(border, 4096)) return refused(env, "out of memory");
+    if (napi_set_instance_data(env, border, free_border, NULL) != napi_ok) return refused(env, "out of memory");
+    for (size_t i = 0; i < sizeof calls / sizeof *calls; i++) {
+        napi_value function;
+        if (napi_create_function(env, calls[i].name, NAPI_AUTO_LENGTH, calls[i].call, border, &function) != napi_ok) return NULL;
+        if (napi_set_named_property(env, exports, calls[i].name, function) != napi_ok) return NULL;
+    }
+    return exports;
+}

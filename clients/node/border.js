@@ -1,0 +1,110 @@
+// The JavaScript side of the border that addon.c describes: the words, which both sides hold.
+'use strict';
+
+const addon = require('./out/rudzkvano.node');
+
+/** How many words stand before the others. */
+const HEAD = 8;
+/** The codes of a step, where it isn't refused. */
+const [DONE, ROUND, WAITING, NEED_ROOM] = [0, 1, 2, 3];
+
+const border = { words: new Uint32Array(4096) };
+addon.share(border.words);
+
+/** A call of the library was refused. */
+class RudzkvanoError extends Error {
+  constructor(code) {
+    super(addon.codeText(code));
+    this.code = code;
+    this.name = addon.codeName(code);
+  }
+}
+
+/** Words for at least so many numbers. What was there may be lost. */
+function makeRoom(count) {
+  if (count > border.words.length) {
+    border.words = new Uint32Array(count + (count >> 1));
+    addon.share(border.words);
+  }
+  return border.words;
+}
+
+/** The code that the last call left. */
+function code() {
+  return border.words[0] | 0;
+}
+
+/** Makes a call of the addon, again where it needs more room, and returns what it returns. `head` is its first words. */
+function call(name, head, ...values) {
+  makeRoom(head.length).set(head);
+  const returned = addon[name](...values);
+  if (code() === NEED_ROOM) {
+    makeRoom(border.words[1]);
+    return call(name, head, ...values);
+  }
+  if (code() < 0) throw new RudzkvanoError(code());
+  return returned;
+}
+
+/** Cuts texts off the front of a string, one after another. */
+class Cutter {
+  constructor(text, place) {
+    this.text = text;
+    this.place = place;
+    this.at = 0;
+  }
+
+  next() {
+    const start = this.at;
+    this.at = border.words[this.place++];
+    return this.text.slice(start, this.at);
+  }
+
+  /** So many keys of a loader: texts, or pairs of them. A loader by no column has no keys. */
+  keys(loader, count) {
+    const keys = [];
+    if (loader.columns.length === 1) for (let i = 0; i < count; i++) keys.push(this.next());
+    if (loader.columns.length === 2) for (let i = 0; i < count; i++) keys.push([this.next(), this.next()]);
+    return keys;
+  }
+}
+
+/** The orders of the round that is out, of which `text` has the keys. */
+function readRound(loaders, text) {
+  const { words } = border;
+  const count = words[1];
+  const cutter = new Cutter(text, HEAD + 2 * count + words[2]);
+  const orders = [];
+  for (let number = 0; number < count; number++) {
+    const loader = loaders[words[HEAD + number]];
+    orders.push({ number, loader, keys: cutter.keys(loader, words[HEAD + count + number]) });
+  }
+  return orders;
+}
+
+/** The loaders of a server. */
+function readLoaders(server) {
+  const text = call('loaders', [], server);
+  const count = border.words[1];
+  const cutter = new Cutter(text, HEAD + count);
+  const kinds = border.words.slice(HEAD, HEAD + count);
+  return Array.from(kinds, (kind, number) => {
+    const [name, table, first, second] = [cutter.next(), cutter.next(), cutter.next(), cutter.next()];
+    return Object.freeze({ number, name, table, columns: Object.freeze([first, second].slice(0, kind % 4)), folds: kind >= 4 });
+  });
+}
+
+/** The batches that a loader was asked for. */
+function readLog(client, loader) {
+  const text = call('log', [loader.number], client);
+  const { words } = border;
+  const count = words[1];
+  const cutter = new Cutter(text, HEAD + 3 * count + words[2]);
+  return Array.from({ length: count }, (_, i) => ({
+    round: words[HEAD + i],
+    stored: words[HEAD + count + i] === 1,
+    keys: cutter.keys(loader, words[HEAD + 2 * count + i]),
+  }));
+}
+
+module.exports = { addon, border, call, code, makeRoom, readLoaders, readLog, readRound, RudzkvanoError, DONE, HEAD, NEED_ROOM, ROUND, WAITING };

@@ -1,0 +1,125 @@
+/// <reference lib="es2020" />
+
+/** A value in a row. An object that isn't a Date has to be made a string by the caller. */
+export type Value = string | number | boolean | bigint | Date | null | undefined;
+/** A row: a member for each column. */
+export type Row = object;
+/** Rows as a database driver gives them: arrays as long as `columns`. */
+export interface Arrays {
+  columns: readonly string[];
+  rows: readonly (readonly Value[])[];
+}
+/** What is known of one key: its rows, its one row, none, or why there are none. */
+export type Item = readonly Row[] | Row | null | undefined | Error;
+/** What a batch function returns: an item for each key, in order; or rows, which are sorted to the keys by the loader's columns. */
+export type Rows = readonly Item[] | Arrays;
+/** A key: a text, or a pair of texts of a loader by two columns. */
+export type Key = string | readonly [string, string];
+/**
+ * Asks for all these keys at once: `string[]`, or `[string, string][]` of a loader by two columns, or none of a loader by no column, which wants
+ * all rows. A thrown error, or a rejection, fails the batch.
+ */
+export type BatchFunction = (keys: any) => Rows | PromiseLike<Rows>;
+/** Batch functions by the names of their loaders. */
+export type Loaders = { readonly [loader: string]: BatchFunction };
+
+export interface Request {
+  query: string;
+  operationName?: string | null;
+  variables?: { readonly [name: string]: unknown } | null;
+}
+/** A request, its JSON text, or 1 to 16 requests that share their rounds. */
+export type Requests = Request | string | readonly Request[];
+
+export interface ResponseError {
+  message: string;
+  locations?: { line: number; column: number }[];
+  path?: (string | number)[];
+}
+export interface Response<Data = { [name: string]: any }> {
+  data?: Data | null;
+  errors?: ResponseError[];
+}
+
+/** A table that can be asked by none, one or two of its columns. `folds`: the case of A to Z makes no other key. */
+export interface Loader {
+  readonly number: number;
+  readonly name: string;
+  readonly table: string;
+  readonly columns: readonly string[];
+  readonly folds: boolean;
+}
+
+/** A batch of a round. `failed` is why it failed. */
+export interface Batch {
+  loader: string;
+  keys: readonly Key[];
+  milliseconds: number;
+  failed?: string;
+}
+export interface Round {
+  round: number;
+  batches: Batch[];
+}
+
+export interface AnswerOptions {
+  /** Gives the request up: no further batch is asked for, and the answer rejects with the signal's reason. */
+  signal?: AbortSignal;
+  /** Is called after each round. */
+  onRound?(round: Round): void;
+}
+export interface Options extends AnswerOptions {
+  /** How many keys one batch may have, at most 65,535: of all loaders, or by loader. 0 is no limit. */
+  maxBatch?: number | { readonly [loader: string]: number };
+  /** How many bytes the text of an answer may have. 0 is no limit. */
+  maxAnswer?: number;
+}
+
+/** A call of the library was refused. `name` is the name of the code, as RZ_BUSY. */
+export class RudzkvanoError extends Error {
+  readonly code: number;
+}
+/** A schema or its bindings are refused, by the fault S`number`. `line` and `column` are from 1, and 0 where it has none. */
+export class SchemaFault extends RudzkvanoError {
+  readonly number: number;
+  readonly line: number;
+  readonly column: number;
+  readonly inBindings: boolean;
+}
+
+/** A schema with its bindings. */
+export class Server {
+  constructor(texts: { schema: string; bindings: string });
+  readonly loaders: readonly Loader[];
+  /** Answers a request, and knows nothing of other requests. */
+  answer<Data = { [name: string]: any }>(request: Request, loaders: Loaders, options?: Options): Promise<Response<Data>>;
+  answer(requests: readonly Request[], loaders: Loaders, options?: Options): Promise<Response[]>;
+  answer(text: string, loaders: Loaders, options?: Options): Promise<Response | Response[]>;
+  /** The same, as the text of the response. */
+  answerText(request: Requests, loaders: Loaders, options?: Options): Promise<string>;
+  /** A client, which keeps what its requests load. */
+  client(loaders: Loaders, options?: Options): Client;
+  /** Frees what the server holds. Its clients, and the requests that are being answered, go on. */
+  close(): void;
+}
+
+/** A memory of what the batch functions returned. It answers one request at a time. */
+export class Client {
+  private constructor();
+  answer<Data = { [name: string]: any }>(request: Request, options?: AnswerOptions): Promise<Response<Data>>;
+  answer(requests: readonly Request[], options?: AnswerOptions): Promise<Response[]>;
+  answer(text: string, options?: AnswerOptions): Promise<Response | Response[]>;
+  answerText(request: Requests, options?: AnswerOptions): Promise<string>;
+  /** Knows this for a key, unless something is known of it. Returns whether it was added. `key` is undefined for a loader by no column. */
+  prime(loader: string, key: string | number | readonly (string | number)[] | undefined, item: Item | Arrays): boolean;
+  /** Forgets a key. Returns whether something was known of it. */
+  clear(loader: string, key: string | number | readonly (string | number)[] | undefined): boolean;
+  /** Forgets all keys of a loader. */
+  clearAll(loader: string): void;
+  /** Forgets all keys, and what was asked. */
+  restart(): void;
+  /** The batches that a loader was asked for since the client was made or restarted. `stored`: their replies are known. */
+  log(loader: string): { round: number; stored: boolean; keys: readonly Key[] }[];
+  /** Frees what the client holds. A request that is being answered is given up. */
+  close(): void;
+}

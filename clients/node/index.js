@@ -1,0 +1,214 @@
+// Rudzkvano for Node: a GraphQL query executor that asks your batch functions, over the C library.
+//
+//     const server = new Server({ schema, bindings });
+//     const { data, errors } = await server.answer({ query, variables }, { userById: (ids) => selectUsers(ids) });
+'use strict';
+
+const { addon, border, call, code, readLoaders, readLog, HEAD, RudzkvanoError } = require('./border.js');
+const { writeItem, writeTexts } = require('./rows.js');
+const { Run } = require('./run.js');
+
+const BAD_SCHEMA = -4;
+/** How many clients a server keeps between requests. Each has the documents of the queries that it has read. */
+const MOST_IDLE = 16;
+
+/** A schema or its bindings are refused: by the fault S`number`, at this line and column, which are 0 where it has none. */
+class SchemaFault extends RudzkvanoError {
+  constructor([number, line, column, inBindings]) {
+    super(BAD_SCHEMA);
+    this.message = `S${number} at ${inBindings ? 'bindings' : 'schema'}:${line}:${column}`;
+    Object.assign(this, { number, line, column, inBindings: inBindings === 1 });
+  }
+}
+
+function countOf(value, what) {
+  if (value === undefined) return 0;
+  if (!Number.isSafeInteger(value) || value < 0) throw new RangeError(`${what} is no whole number from 0: ${value}`);
+  return value;
+}
+
+/** A schema with its bindings. */
+class Server {
+  #handle;
+  #byName;
+  #idle = [];
+  #closed = false;
+  /** The batch functions that were checked last. */
+  #checked;
+
+  constructor({ schema, bindings }) {
+    this.#handle = addon.open(schema, bindings);
+    if (code() === BAD_SCHEMA) throw new SchemaFault(border.words.subarray(1, 5));
+    if (code() < 0) throw new RudzkvanoError(code());
+    this.loaders = Object.freeze(readLoaders(this.#handle));
+    this.#byName = new Map(this.loaders.map((loader) => [loader.name, loader]));
+  }
+
+  /** Answers a request, and knows nothing of other requests. */
+  answer(request, loaders, options) {
+    return this.#answer(request, loaders, options, JSON.parse);
+  }
+
+  /** The same, as the text of the response. */
+  answerText(request, loaders, options) {
+    return this.#answer(request, loaders, options, String);
+  }
+
+  /** A client, which knows nothing yet, and keeps what its requests load. */
+  client(loaders = {}, options = {}) {
+    this.#check(loaders);
+    const handle = this.#open(this.#limits(options.maxBatch), false);
+    return new Client(handle, this.loaders, loaders, options);
+  }
+
+  /** Frees what the server holds. Its clients, and the requests that are being answered, go on. */
+  close() {
+    this.#closed = true;
+    for (const { handle } of this.#idle.splice(0)) addon.close(handle);
+    addon.close(this.#handle);
+  }
+
+  #answer(request, functions = {}, options = {}, read) {
+    return new Promise((resolve, reject) => {
+      this.#check(functions);
+      const client = this.#take(this.#limits(options.maxBatch), countOf(options.maxAnswer, 'maxAnswer'));
+      const run = new Run(client.handle, this.loaders, functions, options, (error, text) => {
+        this.#giveBack(client, run.forgot);
+        if (text === undefined) reject(error);
+        else resolve(read(text));
+      });
+      run.start(request);
+    });
+  }
+
+  #check(functions) {
+    if (functions === this.#checked) return;
+    for (const name in functions) {
+      if (!this.#byName.has(name)) throw new TypeError(`the bindings have no loader ${name}`);
+      if (typeof functions[name] !== 'function') throw new TypeError(`the loader ${name} is no function`);
+    }
+    this.#checked = functions;
+  }
+
+  /** For each loader how many keys one batch may have; or no element. */
+  #limits(maxBatch) {
+    if (maxBatch === undefined) return [];
+    if (typeof maxBatch !== 'object') return this.loaders.map(() => countOf(maxBatch, 'maxBatch'));
+    for (const name in maxBatch) if (!this.#byName.has(name)) throw new TypeError(`the bindings have no loader ${name}`);
+    return this.loaders.map(({ name }) => countOf(maxBatch[name], 'maxBatch'));
+  }
+
+  #open(limits, once) {
+    if (this.#closed) throw new Error('the server is closed');
+    return call('client', [limits.length, 0, 0, 0, 0, 0, 0, 0, ...limits], this.#handle, once);
+  }
+
+  /** A client that knows nothing, with these limits: one that was given back, since it has read documents, or a new one. */
+  #take(limits, mostBytes) {
+    const key = limits.join();
+    let place = this.#idle.length - 1;
+    while (place >= 0 && this.#idle[place].key !== key) place--;
+    const client = place < 0 ? { handle: this.#open(limits, true), key, mostBytes: 0 } : this.#idle[place];
+    if (place >= 0) this.#idle.splice(place, 1);
+    if (client.mostBytes !== mostBytes) call('limitAnswers', [], client.handle, mostBytes);
+    client.mostBytes = mostBytes;
+    return client;
+  }
+
+  #giveBack(client, forgot) {
+    if (!forgot) addon.restart(client.handle);
+    const keep = (forgot || code() === 0) && !this.#closed && this.#idle.length < MOST_IDLE;
+    if (keep) this.#idle.push(client);
+    else addon.close(client.handle);
+  }
+}
+
+/** A memory of what the batch functions returned. It answers one request at a time. */
+class Client {
+  #handle;
+  #loaders;
+  #functions;
+  #options;
+  #run;
+
+  constructor(handle, loaders, functions, options) {
+    this.#handle = handle;
+    this.#loaders = loaders;
+    this.#functions = functions;
+    this.#options = options;
+    call('limitAnswers', [], handle, countOf(options.maxAnswer, 'maxAnswer'));
+  }
+
+  answer(request, options) {
+    return this.#answer(request, options, JSON.parse);
+  }
+
+  answerText(request, options) {
+    return this.#answer(request, options, String);
+  }
+
+  /** Knows this for a key, unless something is known of it. Returns whether it was added. */
+  prime(loader, key, item) {
+    const of = this.#loader(loader);
+    const texts = writeItem(of, this.#texts(of, key), item);
+    call('prime', [], this.#handle, ...texts);
+    return border.words[1] === 1;
+  }
+
+  /** Forgets a key. Returns whether something was known of it. */
+  clear(loader, key) {
+    const of = this.#loader(loader);
+    const texts = this.#texts(of, key);
+    const text = writeTexts(texts, '', HEAD);
+    call('clear', [of.number, texts.length, 0, 0, 0, text.length, 0], this.#handle, text, '');
+    return border.words[1] === 1;
+  }
+
+  /** Forgets all keys of a loader. */
+  clearAll(loader) {
+    call('clearAll', [this.#loader(loader).number], this.#handle);
+  }
+
+  /** Forgets all keys, and what was asked. */
+  restart() {
+    call('restart', [], this.#handle);
+  }
+
+  /** The batches that a loader was asked for since the client was made or restarted. */
+  log(loader) {
+    return readLog(this.#handle, this.#loader(loader));
+  }
+
+  /** Frees what the client holds. A request that is being answered is given up. */
+  close() {
+    this.#run?.stop(new Error('the client is closed'));
+    addon.close(this.#handle);
+  }
+
+  #answer(request, options, read) {
+    return new Promise((resolve, reject) => {
+      if (this.#run) throw new Error('the client is answering another request');
+      this.#run = new Run(this.#handle, this.#loaders, this.#functions, { ...this.#options, ...options }, (error, text) => {
+        this.#run = undefined;
+        if (text === undefined) reject(error);
+        else resolve(read(text));
+      });
+      this.#run.start(request);
+    });
+  }
+
+  #loader(name) {
+    const loader = this.#loaders.find((it) => it.name === name);
+    if (!loader) throw new TypeError(`the bindings have no loader ${name}`);
+    return loader;
+  }
+
+  /** The texts of a key: a text or number, a pair of them, or nothing for a loader by no column. */
+  #texts(loader, key) {
+    const parts = key === undefined || key === null ? [] : Array.isArray(key) ? key : [key];
+    if (parts.length !== loader.columns.length) throw new TypeError(`a key of ${loader.name} has ${loader.columns.length} parts`);
+    return parts.map(String);
+  }
+}
+
+module.exports = { Client, RudzkvanoError, SchemaFault, Server };

@@ -1,0 +1,159 @@
+// One request that is being answered: from each step of the library to the next, with the batches in between.
+'use strict';
+
+const { inspect } = require('node:util');
+const { addon, border, code, makeRoom, readRound, RudzkvanoError, DONE, NEED_ROOM, ROUND, WAITING } = require('./border.js');
+const { writeReply } = require('./rows.js');
+
+/** The text of why a batch failed. */
+function faultText(why) {
+  if (why instanceof Error) return String(why.message);
+  return typeof why === 'string' ? why : inspect(why);
+}
+
+/** Begins the answer to a request, and goes on. */
+function begin(handle, request) {
+  if (typeof request === 'string') return addon.begin(handle, request);
+  const { query, operationName, variables } = request;
+  const operation = operationName ?? '';
+  if (typeof query !== 'string' || typeof operation !== 'string' || operationName === '') return addon.begin(handle, JSON.stringify(request));
+  return addon.beginRequest(handle, query, operation, variables === undefined || variables === null ? '' : JSON.stringify(variables));
+}
+
+class Run {
+  /** `functions` are the batch functions by name. `ended` is called once: with an error, or with undefined and the answer's text. */
+  constructor(handle, loaders, functions, { signal, onRound }, ended) {
+    this.handle = handle;
+    this.loaders = loaders;
+    this.functions = functions;
+    this.onRound = onRound;
+    this.ended = ended;
+    this.signal = signal;
+    this.abort = signal && (() => this.stop(signal.reason));
+    this.over = false;
+    this.rounds = 0;
+    /** What `onRound` is to be told of the round that is out. */
+    this.batches = undefined;
+    /** Whether the client has forgotten all that it knew, after the answer was read. */
+    this.forgot = false;
+  }
+
+  start(request) {
+    try {
+      this.signal?.throwIfAborted();
+      this.signal?.addEventListener('abort', this.abort);
+      this.go(this.left(begin(this.handle, request)));
+    } catch (error) {
+      this.stop(error);
+    }
+  }
+
+  /** What a step of the library left: the orders of a round, the text of the answer, or undefined where it waits for replies. */
+  left(text) {
+    switch (code()) {
+      case DONE:
+        this.forgot = border.words[1] === DONE;
+        return text;
+      case ROUND:
+        return readRound(this.loaders, text);
+      case WAITING:
+        return undefined;
+      case NEED_ROOM:
+        makeRoom(border.words[1]);
+        return this.left(addon.look(this.handle));
+      default:
+        throw new RudzkvanoError(code());
+    }
+  }
+
+  /** Goes on from what a step left, as far as it goes without waiting. */
+  go(left) {
+    while (Array.isArray(left) && !this.over) left = this.ask(left);
+    if (typeof left === 'string' && !this.over) this.end(undefined, left);
+  }
+
+  /** Asks for all batches of a round. Returns what the last step left. */
+  ask(orders) {
+    let left;
+    this.rounds++;
+    if (this.onRound) this.batches = orders.map(({ loader, keys }) => ({ loader: loader.name, keys, milliseconds: performance.now() }));
+    for (const order of orders) left = this.run(order);
+    return left;
+  }
+
+  /** Calls a batch function. Returns what the step after it left, or undefined where the reply comes later. */
+  run(order) {
+    if (this.over) return undefined;
+    const { name } = order.loader;
+    let returned;
+    try {
+      if (!Object.hasOwn(this.functions, name)) throw new Error(`no function for loader ${name}`);
+      // a copy, which the function may sort
+      returned = this.functions[name](order.keys.slice());
+    } catch (why) {
+      return this.fail(order, why);
+    }
+    if (typeof returned?.then !== 'function') return this.reply(order, returned);
+    Promise.resolve(returned).then(
+      (rows) => this.resume(() => this.reply(order, rows)),
+      (why) => this.resume(() => this.fail(order, why)),
+    );
+    return undefined;
+  }
+
+  /** Goes on when a reply has come. */
+  resume(reply) {
+    try {
+      this.go(reply());
+    } catch (error) {
+      this.stop(error);
+    }
+  }
+
+  /** Hands what a batch function returned to the library. */
+  reply(order, returned) {
+    if (this.over) return undefined;
+    let text;
+    try {
+      text = writeReply(order.loader, order.keys, returned);
+    } catch (why) {
+      return this.fail(order, why);
+    }
+    border.words[0] = order.number;
+    return this.told(order, this.left(addon.reply(this.handle, text)));
+  }
+
+  /** Tells the library that a batch failed. */
+  fail(order, why) {
+    if (this.over) return undefined;
+    const text = faultText(why);
+    if (this.batches) this.batches[order.number].failed = text;
+    border.words[0] = order.number;
+    return this.told(order, this.left(addon.fail(this.handle, text)));
+  }
+
+  /** Tells `onRound` of the round, where this was its last order. Returns what was left. */
+  told(order, left) {
+    const { batches } = this;
+    if (batches) {
+      batches[order.number].milliseconds = performance.now() - batches[order.number].milliseconds;
+      if (left !== undefined) this.onRound({ round: this.rounds, batches });
+    }
+    return left;
+  }
+
+  /** Gives the request up. */
+  stop(error) {
+    if (this.over) return;
+    addon.cancel(this.handle);
+    this.end(error);
+  }
+
+  end(error, text) {
+    this.over = true;
+    this.signal?.removeEventListener('abort', this.abort);
+    this.ended(error, text);
+  }
+}
+
+module.exports = { Run };

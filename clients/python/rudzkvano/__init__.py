@@ -1,0 +1,33 @@
+"""Rudzkvano for Python, over its C library: a GraphQL query executor with DataLoader batching, whose batch functions are yours.
+
+    from rudzkvano import Server
+
+    server = Server(schema, bindings)
+    response = server.answer("{user(id:1){name}}", {"userById": lambda ids: [users.get(id) for id in ids]})
+"""
+
+from .client import Client, Progress, Query
+from .library import Library, Refused, RudzkvanoError, SchemaFault
+from .loaders import Batch, BatchFunction, Keys, Loader, Loaders, Order, Ran, Returned, Round
+from .server import Options, Server
+
+__all__ = [
+    "Batch",
+    "BatchFunction",
+    "Client",
+    "Keys",
+    "Library",
+    "Loader",
+    "Loaders",
+    "Options",
+    "Order",
+    "Progress",
+    "Query",
+    "Ran",
+    "Refused",
+    "Returned",
+    "Round",
+    "RudzkvanoError",
+    "SchemaFault",
+    "Server",
+]

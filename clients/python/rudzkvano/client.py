@@ -1,0 +1,376 @@
+"""A client: a memory of what the loaders returned. It answers one request at a time, in rounds of batches."""
+
+from __future__ import annotations
+
+import asyncio
+import json
+from array import array
+from collections.abc import Callable, Coroutine, Mapping, Sequence
+from ctypes import string_at
+from enum import IntEnum
+from functools import wraps
+from time import perf_counter
+from typing import Any, Concatenate, ParamSpec, TypeAlias, TypeVar, Union
+
+from .library import BUSY, Held, Library, buffer_of, cut, flat, words
+from .loaders import Batch, Keys, Loader, Loaders, OnRound, Order, Ran, Round
+from .rows import Reply, fault_text, item_of, reply_of, text_of
+
+# The text of a query; a request with `query`, `variables` and `operationName`; 1 to 16 of these, which share their rounds; or JSON text of those.
+Query: TypeAlias = Union[str, Mapping[str, Any], Sequence[Mapping[str, Any]], bytes]
+Variables: TypeAlias = Union[Mapping[str, Any], None]
+# what a batch function returned, or the text by which the batch failed; and after how many seconds
+_Outcome: TypeAlias = tuple[Union[Reply, str], float]
+
+
+class Progress(IntEnum):
+    """How far a request is."""
+
+    DONE = 0
+    ROUND = 1
+    WAITING = 2
+
+
+_P = ParamSpec("_P")
+_T = TypeVar("_T")
+
+
+def _alone(call: Callable[Concatenate[Client, _P], _T]) -> Callable[Concatenate[Client, _P], _T]:
+    """A call that is refused by RZ_BUSY while the client is in another one, as it is while it answers."""
+
+    @wraps(call)
+    def alone(self: Client, /, *arguments: _P.args, **named: _P.kwargs) -> _T:
+        self._take_alone()
+        try:
+            return call(self, *arguments, **named)
+        finally:
+            self._lock.release()
+
+    return alone
+
+
+class Client(Held):
+    """A memory of what the loaders returned; `Server.client` makes one. It does one thing at a time.
+
+    `answer` and `answer_async` run the rounds. A host that runs them itself calls `begin` or `begin_request`, and then `next` up to
+    Progress.DONE; where that returns Progress.ROUND, it calls `orders`, and `reply` or `fail` for each of these. `text` is the answer.
+    """
+
+    def __init__(self, library: Library, loaders: Sequence[Loader], limits: tuple[int, ...]) -> None:
+        super().__init__(library)
+        self._calls, self._loaders, self._limits = library.calls, loaders, limits
+        self._functions: Loaders = {}
+        self._on_round: OnRound | None = None
+        self._max_answer: int | None = None
+        self._sizes = array("Q", bytes(48))
+        self._sizes_at = self._sizes.buffer_info()[0]
+        self._words, self._bytes = words(0), array("B")
+        self._make_room(64, 512)
+
+    def _ask_by(self, functions: Loaders, max_answer: int | None, on_round: OnRound | None) -> None:
+        """Asks by these functions from now on."""
+        self._functions, self._on_round = functions, on_round
+        if max_answer != self._max_answer:
+            self.limit_answers(max_answer)
+
+    # ---- Answers.
+
+    def answer(self, query: Query, variables: Variables = None, operation_name: str | None = None) -> Any:
+        """The response: a dict with `data` and `errors`, or for a list of requests a list of these."""
+        return json.loads(self.answer_text(query, variables, operation_name))
+
+    async def answer_async(self, query: Query, variables: Variables = None, operation_name: str | None = None) -> Any:
+        """The response, with batch functions that may be coroutines. The batches of a round run at the same time."""
+        return json.loads(await self.answer_text_async(query, variables, operation_name))
+
+    def answer_text(self, query: Query, variables: Variables = None, operation_name: str | None = None) -> str:
+        """The text of the response."""
+        self._start(query, variables, operation_name)
+        try:
+            number = 0
+            while self._next():
+                orders = self._orders()
+                number += 1
+                self._end_round(number, orders, list(map(self._run, orders)))
+            return self._text()
+        except BaseException:
+            self._calls.rz_cancel(self._handle)
+            raise
+        finally:
+            self._lock.release()
+
+    async def answer_text_async(self, query: Query, variables: Variables = None, operation_name: str | None = None) -> str:
+        """The text of the response, with batch functions that may be coroutines."""
+        self._start(query, variables, operation_name)
+        try:
+            number = 0
+            while self._next():
+                orders = self._orders()
+                number += 1
+                outcomes = [await self._run_async(orders[0])] if len(orders) == 1 else await self._run_together(orders)
+                self._end_round(number, orders, outcomes)
+            return self._text()
+        except BaseException:
+            self._calls.rz_cancel(self._handle)
+            raise
+        finally:
+            self._lock.release()
+
+    def _start(self, query: Query, variables: Variables, operation_name: str | None) -> None:
+        """Takes the client, and begins a request."""
+        self._take_alone()
+        try:
+            if isinstance(query, str) and operation_name != "":
+                self._begin_request(query, operation_name, variables)
+            elif isinstance(query, str):
+                self._begin(_json({"query": query, "operationName": "", "variables": variables}))
+            elif variables is not None or operation_name is not None:
+                raise TypeError("a request has its variables and its operationName in itself")
+            else:
+                self._begin(query if isinstance(query, bytes) else _json(query))
+        except BaseException:
+            self._lock.release()
+            raise
+
+    def _take_alone(self) -> None:
+        if not self._lock.acquire(blocking=False):
+            raise self._library.refused(BUSY)
+
+    def _run(self, order: Order) -> _Outcome:
+        start = perf_counter()
+        try:
+            returned = self._asked(order)
+            reply = None if hasattr(returned, "__await__") else reply_of(order.loader, order.keys, returned)
+        except Exception as error:
+            return fault_text(error), perf_counter() - start
+        if reply is not None:
+            return reply, perf_counter() - start
+        if isinstance(returned, Coroutine):
+            returned.close()
+        raise TypeError(f"the function of loader {order.loader.name} returned an awaitable, which only answer_async awaits")
+
+    async def _run_async(self, order: Order) -> _Outcome:
+        """Leaves the client as it is: a batch function that goes on after it was cancelled does no harm."""
+        start = perf_counter()
+        try:
+            returned = self._asked(order)
+            if hasattr(returned, "__await__"):
+                returned = await returned
+            return reply_of(order.loader, order.keys, returned), perf_counter() - start
+        except Exception as error:
+            return fault_text(error), perf_counter() - start
+
+    async def _run_together(self, orders: list[Order]) -> list[_Outcome]:
+        tasks = [asyncio.ensure_future(self._run_async(order)) for order in orders]
+        try:
+            return await asyncio.gather(*tasks)
+        except BaseException:
+            for task in tasks:
+                task.cancel()
+            raise
+
+    def _asked(self, order: Order) -> Any:
+        function = self._functions.get(order.loader.name)
+        if function is None:
+            raise LookupError(f"no function for loader {order.loader.name}")
+        return function(order.keys)
+
+    def _end_round(self, number: int, orders: list[Order], outcomes: list[_Outcome]) -> None:
+        """Takes what the batches of a round returned, and tells of it."""
+        for order, (reply, _) in zip(orders, outcomes):
+            if isinstance(reply, str):
+                self._fail(order, reply)
+            else:
+                self._take(order.number, reply)
+        if self._on_round is not None:
+            told = zip(orders, outcomes)
+            batches = [Ran(it.loader.name, it.keys, seconds * 1000, reply if isinstance(reply, str) else None) for it, (reply, seconds) in told]
+            self._on_round(Round(number, batches))
+
+    # ---- Rounds by hand.
+
+    def _begin(self, line: str | bytes) -> None:
+        """Begins the answer to a request that is JSON text, or to an array of 1 to 16 of these."""
+        text = line.encode(errors="surrogatepass") if isinstance(line, str) else line
+        self._call(self._calls.rz_begin, text, len(text))
+
+    def _begin_request(self, query: str, operation_name: str | None = None, variables: Variables = None) -> None:
+        """Begins the answer to a query."""
+        text = query.encode(errors="surrogatepass")
+        name = operation_name.encode(errors="surrogatepass") if operation_name else b""
+        given = b"" if variables is None else _json(variables).encode()
+        self._call(self._calls.rz_begin_request, text, len(text), name, len(name), given, len(given))
+
+    def _call(self, call: Callable[..., int], *arguments: object) -> int:
+        """Makes a call. Whoever makes one has taken the client."""
+        code = call(self._handle, *arguments)
+        if code < 0:
+            raise self._library.refused(code)
+        return code
+
+    def _next(self) -> int:
+        code: int = self._calls.rz_next(self._handle)
+        if code < 0:
+            raise self._library.refused(code)
+        return code
+
+    def _read_sizes(self) -> list[int]:
+        """How many orders, keys, texts and bytes a round has, how many bytes the answer has, and how many rounds it took."""
+        self._call(self._calls.rz_sizes, self._sizes_at)
+        return self._sizes.tolist()
+
+    def _make_room(self, count_words: int, count_bytes: int) -> None:
+        if len(self._words) < count_words:
+            self._words = words(2 * count_words)
+            self._words_at = self._words.buffer_info()[0]
+        if len(self._bytes) < count_bytes:
+            self._bytes = array("B", bytes(2 * count_bytes))
+            self._bytes_at = self._bytes.buffer_info()[0]
+
+    def _orders(self) -> list[Order]:
+        """The orders of the round that is out."""
+        orders, keys, texts, size, _, _ = self._read_sizes()
+        heads = 2 * orders + keys
+        self._make_room(heads + texts, size)
+        at = self._words_at
+        counts_at, lengths_at, ends_at = at + 4 * orders, at + 8 * orders, at + 4 * heads
+        self._call(self._calls.rz_orders, at, orders, counts_at, orders, lengths_at, keys, ends_at, texts, self._bytes_at, size)
+        told = self._words[: heads + texts].tolist()
+        loaders = [self._loaders[number] for number in told[:orders]]
+        lists = _keys(loaders, told[orders : 2 * orders], cut(told[heads:], string_at(self._bytes_at, size)))
+        return list(map(Order, range(orders), loaders, lists))
+
+    def _reply(self, order: Order, returned: Any) -> None:
+        """Takes the reply to an order: what a batch function returns."""
+        self._take(order.number, reply_of(order.loader, order.keys, returned))
+
+    def _take(self, order: int, reply: Reply) -> None:
+        columns, rows, ends, data = reply
+        self._call(self._calls.rz_take_rows, order, columns, *buffer_of(rows), *buffer_of(ends), data, len(data))
+
+    def _fail(self, order: Order, text: str) -> None:
+        """Takes it that the batch of an order failed as a whole."""
+        data = text.encode()
+        self._call(self._calls.rz_take_failed, order.number, data, len(data))
+
+    def _text(self) -> str:
+        """The text of the answer."""
+        data = array("B", bytes(self._read_sizes()[4]))
+        self._call(self._calls.rz_answer, *buffer_of(data))
+        return str(data, "utf-8")
+
+    begin = _alone(_begin)
+    begin_request = _alone(_begin_request)
+    orders = _alone(_orders)
+    reply = _alone(_reply)
+    fail = _alone(_fail)
+    text = _alone(_text)
+
+    @_alone
+    def next(self) -> Progress:
+        """Goes on."""
+        return Progress(self._next())
+
+    @_alone
+    def cancel(self) -> None:
+        """Gives up the request that is being answered."""
+        self._call(self._calls.rz_cancel)
+
+    @_alone
+    def rounds(self) -> int:
+        """How many rounds the answer took."""
+        return self._read_sizes()[5]
+
+    # ---- What is known.
+
+    def _restart(self) -> None:
+        """Forgets all keys, logs and rounds. The documents of queries are kept."""
+        self._call(self._calls.rz_restart)
+
+    restart = _alone(_restart)
+
+    @_alone
+    def limit_answers(self, most: int | None) -> None:
+        """From now on an answer has at most so many bytes; None is no limit."""
+        if most is not None and most < 1:
+            raise ValueError(f"an answer of at most {most} bytes")
+        self._call(self._calls.rz_limit_answers, most or 0)
+        self._max_answer = most
+
+    @_alone
+    def prime(self, loader: str, key: Any, rows: Any) -> bool:
+        """Knows these rows of a key, unless something is known of it: rows, one row, None or an error. Returns whether they were added."""
+        asked, primed = self._loader(loader), words(1)
+        columns, counts, row_ends, data = item_of(asked, rows)
+        key_ends, key_data = flat(_key_texts(asked, key))
+        row_texts = *buffer_of(row_ends), data, len(data)
+        key_buffers = *buffer_of(key_ends), key_data, len(key_data)
+        self._call(self._calls.rz_prime, asked.number, *key_buffers, columns, counts[0], *row_texts, primed.buffer_info()[0])
+        return bool(primed[0])
+
+    @_alone
+    def clear(self, loader: str, key: Any) -> bool:
+        """Forgets a key. Returns whether something was known of it."""
+        asked, was_known = self._loader(loader), words(1)
+        ends, data = flat(_key_texts(asked, key))
+        self._call(self._calls.rz_clear, asked.number, *buffer_of(ends), data, len(data), was_known.buffer_info()[0])
+        return bool(was_known[0])
+
+    @_alone
+    def clear_all(self, loader: str) -> None:
+        """Forgets all keys of a loader."""
+        self._call(self._calls.rz_clear_all, self._loader(loader).number)
+
+    @_alone
+    def log(self, loader: str) -> list[Batch]:
+        """The batches that a loader was asked for since the client was made or restarted."""
+        asked, sizes = self._loader(loader), array("Q", bytes(32))
+        self._call(self._calls.rz_log_sizes, asked.number, sizes.buffer_info()[0])
+        batches, keys, texts, size = sizes
+        buffers = [*map(words, (batches, batches, batches, keys, texts)), array("B", bytes(size))]
+        self._call(self._calls.rz_log, asked.number, *(part for buffer in buffers for part in buffer_of(buffer)))
+        rounds, stored, counts, _, ends, data = buffers
+        lists = _keys([asked] * batches, counts.tolist(), cut(ends.tolist(), data.tobytes()))
+        return list(map(Batch, rounds, map(bool, stored), lists))
+
+    def close(self) -> None:
+        """Frees the client. It is refused by RZ_BUSY while the client answers; further calls are refused by RZ_BAD_HANDLE."""
+        if not self.closed:
+            self._take_alone()
+            self._lock.release()
+            super().close()
+
+    def _loader(self, name: str) -> Loader:
+        for loader in self._loaders:
+            if loader.name == name:
+                return loader
+        raise ValueError(f"the bindings have no loader {name}")
+
+
+def _json(value: object) -> str:
+    return json.dumps(value, allow_nan=False)
+
+
+def _keys(loaders: list[Loader], counts: list[int], texts: list[str]) -> list[Keys]:
+    """The keys of batches of these loaders, each of so many keys."""
+    if len(loaders) == 1 and len(loaders[0].columns) == 1:
+        return [texts]
+    found: list[Keys] = []
+    start = 0
+    for loader, count in zip(loaders, counts):
+        end = start + len(loader.columns) * count
+        part = texts[start:end]
+        if len(loader.columns) < 2:
+            found.append(part)
+        else:
+            found.append(list(zip(part[::2], part[1::2])))
+        start = end
+    return found
+
+
+def _key_texts(loader: Loader, key: Any) -> list[str]:
+    """The texts of a key: of a loader of all rows (None) none, of a pair two."""
+    parts = [] if key is None else key if isinstance(key, (list, tuple)) else [key]
+    if len(parts) != len(loader.columns):
+        raise ValueError(f"loader {loader.name}: a key of {len(parts)} values for {len(loader.columns)} columns")
+    return list(map(text_of, parts))

@@ -1,0 +1,82 @@
+"""Loaders, what is asked of them, and the types of what a batch function returns."""
+
+from __future__ import annotations
+
+from collections.abc import Awaitable, Callable, Iterable, Mapping, Sequence
+from datetime import date
+from decimal import Decimal
+from typing import Any, NamedTuple, Protocol, TypeAlias, Union
+from uuid import UUID
+
+# Keys of one batch: texts for a loader by one column, pairs of texts for one by two, and none for a loader of all rows.
+Keys: TypeAlias = Union[list[str], list[tuple[str, str]]]
+Value: TypeAlias = Union[str, int, float, bool, Decimal, date, UUID, None]
+
+
+class Row(Protocol):
+    """A row by name: a dict, a `sqlite3.Row`, or another object that has its columns as `keys()`."""
+
+    def keys(self) -> Iterable[str]: ...
+
+    def __getitem__(self, column: str, /) -> Any: ...
+
+
+class Cursor(Protocol):
+    """A cursor of the DB-API that has run a query."""
+
+    @property
+    def description(self) -> Any: ...
+
+    def fetchall(self) -> Any: ...
+
+
+Item: TypeAlias = Union[Row, Sequence[Row], Exception, None]
+Table: TypeAlias = tuple[Sequence[str], Iterable[Sequence[Any]]]
+Returned: TypeAlias = Union[Iterable[Item], Table, Cursor]
+BatchFunction: TypeAlias = Callable[[Any], Union[Returned, Awaitable[Returned]]]
+Loaders: TypeAlias = Mapping[str, BatchFunction]
+
+
+class Loader(NamedTuple):
+    """What can be asked for: a table by none, one or two of its columns. `folds`: the case of A to Z makes no other key."""
+
+    number: int
+    name: str
+    table: str
+    columns: tuple[str, ...]
+    folds: bool
+
+
+class Order(NamedTuple):
+    """A batch that is to be asked for, by its number in its round. A loader of all rows has no keys."""
+
+    number: int
+    loader: Loader
+    keys: Keys
+
+
+class Batch(NamedTuple):
+    """A batch that a client asked for: in which round, from 1, and whether its replies were stored."""
+
+    round: int
+    stored: bool
+    keys: Keys
+
+
+class Ran(NamedTuple):
+    """A batch that a round ran: the name of its loader, its keys, how long it took, and the text by which it failed as a whole, if it did."""
+
+    loader: str
+    keys: Keys
+    milliseconds: float
+    failed: str | None = None
+
+
+class Round(NamedTuple):
+    """A round of an answer, numbered from 1, with its batches."""
+
+    round: int
+    batches: list[Ran]
+
+
+OnRound: TypeAlias = Callable[[Round], object]

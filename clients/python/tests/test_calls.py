@@ -1,0 +1,351 @@
+"""The calls of servers and clients: options, what is known, what is refused, threads and tasks."""
+
+import asyncio
+import os
+import random
+import subprocess
+import sys
+import threading
+import unittest
+from concurrent.futures import ThreadPoolExecutor
+from pathlib import Path
+from typing import Any
+
+import worlds
+from rudzkvano import Library, Progress, Refused, SchemaFault, Server
+
+ADA = {"data": {"user": {"name": "Ada"}}}
+USER, BEST = "{user(id:1){name}}", "{users{best{name}} user(id:3){name}}"
+MISSING_NAME = "query($i:ID!){user(id:$i){name}}"
+
+
+def failed(message: str) -> dict[str, Any]:
+    return {"errors": [{"message": message, "locations": [{"line": 1, "column": 2}], "path": ["user"]}], "data": {"user": None}}
+
+
+class Calls(unittest.TestCase):
+    def setUp(self) -> None:
+        self.server = worlds.WORLDS["examples"].server()
+        self.addCleanup(self.server.close)
+        self.functions = worlds.functions(self.server)
+
+    def refused(self, name: str, call: Any, *arguments: Any) -> None:
+        with self.assertRaises(Refused) as raised:
+            call(*arguments)
+        self.assertEqual((raised.exception.name, raised.exception.code < 0), (name, True))
+        self.assertTrue(raised.exception.text)
+
+
+class Refusals(Calls):
+    def test_a_refused_schema(self) -> None:
+        world = worlds.WORLDS["examples"]
+        faults = [
+            ("type Query { a: Nope }", world.bindings, (3, 1, 17, False), "S3 at schema:1:17"),
+            ("type Query {\n  a: [[Int]]\n}", world.bindings, (7, 2, 7, False), "S7 at schema:2:7"),
+            (world.schema, "bindings 1\nloader", (8, 2, 0, True), "S8 at bindings:2:0"),
+        ]
+        for schema, bindings, wanted, text in faults:
+            with self.subTest(text), self.assertRaises(SchemaFault) as raised:
+                Server(schema, bindings)
+            fault = raised.exception
+            self.assertEqual((fault.number, fault.line, fault.column, fault.in_bindings), wanted)
+            self.assertEqual((str(fault), fault.name), (text, "RZ_BAD_SCHEMA"))
+
+    def test_names_of_loaders(self) -> None:
+        calls: list[Any] = [
+            lambda: self.server.answer(USER, {"userByID": list}),
+            lambda: self.server.client({"userByID": list}),
+            lambda: self.server.answer(USER, {}, max_batch={"userByID": 1}),
+            lambda: self.server.client({}).clear_all("userByID"),
+        ]
+        for call in calls:
+            with self.assertRaisesRegex(ValueError, "^the bindings have no loader userByID$"):
+                call()
+        self.assertEqual(self.server.answer(USER, {}), failed("no function for loader userById"))
+
+    def test_arguments(self) -> None:
+        for limit in (0, -1, 65536):
+            with self.assertRaises(ValueError):
+                self.server.answer(USER, self.functions, max_batch=limit)
+        with self.assertRaises(ValueError):
+            self.server.answer(USER, self.functions, max_answer=0)
+        with self.assertRaises(TypeError):
+            self.server.answer(USER, self.functions, max_batches=1)  # type: ignore[call-arg]
+        with self.assertRaises(TypeError):
+            self.server.answer({"query": USER}, self.functions, {"i": 1})
+        with self.assertRaises(ValueError):
+            self.server.answer(USER, self.functions, {"i": float("nan")})
+
+    def test_what_is_closed(self) -> None:
+        with self.server.client(self.functions) as client:
+            self.server.close()
+            self.server.close()
+            self.assertEqual(client.answer(USER), ADA)
+            self.refused("RZ_BAD_HANDLE", self.server.answer, USER, self.functions)
+        client.close()
+        self.refused("RZ_BAD_HANDLE", client.answer, USER)
+
+    def test_rounds_by_hand(self) -> None:
+        with self.server.client({}) as client:
+            self.refused("RZ_IDLE", client.next)
+            client.begin_request(USER)
+            self.refused("RZ_BUSY", client.answer, USER)
+            self.assertEqual(client.next(), Progress.ROUND)
+            (order,) = client.orders()
+            self.assertEqual((order.loader.name, order.keys), ("userById", ["1"]))
+            self.assertEqual(client.next(), Progress.WAITING)
+            client.reply(order, [{"id": 1, "name": "Ada"}])
+            self.refused("RZ_REPLIED", client.fail, order, "late")
+            self.assertEqual(client.next(), Progress.DONE)
+            self.assertEqual((client.text(), client.rounds()), ('{"data":{"user":{"name":"Ada"}}}', 1))
+            self.refused("RZ_NO_ORDER", client.reply, order, [])
+
+    def test_where_the_library_is(self) -> None:
+        self.assertEqual(Library().version()[0], 1)
+        program = "import rudzkvano; print(rudzkvano.Library().version()[0])"
+        path = str(worlds.REPOSITORY / "clients/python")
+        for variables in ({"RUDZKVANO_LIBRARY": "/nowhere/lib.so"}, {"RUDZKVANO_LIBRARY": str(Path(path) / "no.so")}):
+            run = subprocess.run([sys.executable, "-c", program], env={**os.environ, **variables, "PYTHONPATH": path}, capture_output=True, text=True)
+            self.assertIn(variables["RUDZKVANO_LIBRARY"], run.stderr)
+
+
+class Faults(Calls):
+    def test_a_batch_that_fails(self) -> None:
+        def fails(keys: Any) -> Any:
+            raise OSError("the database is gone")
+
+        self.assertEqual(self.server.answer(USER, {"userById": fails}), failed("the database is gone"))
+        found = self.server.answer("{user(id:1){name} users{id}}", {**self.functions, "userById": fails})
+        self.assertEqual(found["data"], {"user": None, "users": [{"id": str(id)} for id in (1, 2, 3, 4)]})
+        self.assertEqual([error["message"] for error in found["errors"]], ["the database is gone"])
+
+        def says_nothing(keys: Any) -> Any:
+            raise RuntimeError
+
+        self.assertEqual(self.server.answer(USER, {"userById": says_nothing}), failed("RuntimeError"))
+
+    def test_a_coroutine_that_nobody_awaits(self) -> None:
+        async def ask(keys: Any) -> Any:
+            return []
+
+        with self.assertRaisesRegex(TypeError, "^the function of loader userById returned an awaitable, which only answer_async awaits$"):
+            self.server.answer(USER, {"userById": ask})
+        self.assertEqual(self.server.answer(USER, self.functions), ADA)
+
+    def test_what_is_no_exception_ends_the_call(self) -> None:
+        def interrupted(keys: Any) -> Any:
+            raise KeyboardInterrupt
+
+        def wrong(round: Any) -> None:
+            raise ZeroDivisionError
+
+        with self.server.client({"userById": interrupted}) as client:
+            self.assertRaises(KeyboardInterrupt, client.answer, USER)
+            self.assertRaises(KeyboardInterrupt, client.answer, USER)
+        with self.assertRaises(ZeroDivisionError):
+            self.server.answer(USER, self.functions, on_round=wrong)
+        self.assertEqual(self.server.answer(USER, self.functions), ADA)
+
+    def test_texts_that_are_not_unicode_are_answered(self) -> None:
+        self.assertEqual(self.server.answer('{user(id:"\ud800"){name}}', {}), {"errors": [{"message": "not a request"}]})
+        self.assertEqual(self.server.answer(USER, {}, None, "\ud800"), {"errors": [{"message": "not a request"}]})
+        self.assertEqual(self.server.answer(USER, {}, None, ""), self.server.answer({"query": USER, "operationName": ""}, {}))
+
+
+class Options(Calls):
+    def test_limits(self) -> None:
+        asked: list[Any] = []
+        functions = {**self.functions, "userById": worlds.noted(asked, self.functions["userById"])}
+        query, wanted = "{usersByIds(ids:[1,2,3]){name}}", {"data": {"usersByIds": [{"name": "Ada"}, {"name": "Bob"}, {"name": "Cy"}]}}
+        all_at_once, one_by_one = [["1", "2", "3"]], [["1"], ["2"], ["3"]]
+        cases: list[tuple[Any, list[list[str]]]] = [(None, all_at_once), (2, [["1", "2"], ["3"]])]
+        cases += [({"userById": 1}, one_by_one), ({"allUsers": 1}, all_at_once)]
+        for limit, batches in cases:
+            asked.clear()
+            self.assertEqual(self.server.answer(query, functions, max_batch=limit), wanted)
+            self.assertEqual(sorted(asked), batches)
+        too_long = {"errors": [{"message": "answer too long"}]}
+        self.assertEqual(self.server.answer(USER, self.functions, max_answer=32), ADA)
+        self.assertEqual(self.server.answer(USER, self.functions, max_answer=31), too_long)
+        self.assertEqual(self.server.answer(USER, self.functions), ADA)
+
+    def test_rounds_are_told(self) -> None:
+        calls: list[Any] = [self.server.answer, lambda *given, **options: asyncio.run(self.server.answer_async(*given, **options))]
+        for call in calls:
+            rounds: list[Any] = []
+            call(BEST, {"allUsers": self.functions["allUsers"]}, on_round=rounds.append)
+            self.assertEqual([it.round for it in rounds], [1, 2])
+            told = [[(ran.loader, ran.keys, ran.failed) for ran in it.batches] for it in rounds]
+            none = "no function for loader userById"
+            self.assertEqual(told, [[("userById", ["3"], none), ("allUsers", [], None)], [("userById", ["2", "1"], none)]])
+            self.assertTrue(all(0 <= ran.milliseconds < 10_000 for it in rounds for ran in it.batches))
+
+
+class Known(Calls):
+    def test_a_client_remembers(self) -> None:
+        with self.server.client(self.functions) as client:
+            for _ in range(2):
+                self.assertEqual(client.answer(USER), ADA)
+            self.assertEqual([(it.round, it.stored, it.keys) for it in client.log("userById")], [(1, True, ["1"])])
+            self.assertEqual((client.clear("userById", 1), client.clear("userById", "1")), (True, False))
+            self.assertEqual(client.answer(USER), ADA)
+            self.assertEqual([it.round for it in client.log("userById")], [1, 2])
+            client.clear_all("userById")
+            client.restart()
+            self.assertEqual(client.log("userById"), [])
+
+    def test_items_are_primed(self) -> None:
+        row = {"id": 9, "name": "Eve"}
+        eve = {"data": {"user": {"name": "Eve"}}}
+        cases: list[tuple[Any, Any]] = [(row, eve), ([row], eve), ((row,), eve), (None, {"data": {"user": None}}), (OSError("gone"), failed("gone"))]
+        for item, wanted in cases:
+            with self.subTest(item), self.server.client({}) as client:
+                self.assertEqual((client.prime("userById", 9, item), client.prime("userById", "9", row)), (True, False))
+                self.assertEqual(client.answer("{user(id:9){name}}"), wanted)
+        with self.server.client({}) as client:
+            self.assertTrue(client.prime("allUsers", None, [row]))
+            self.assertEqual(client.answer("{users{name}}"), {"data": {"users": [{"name": "Eve"}]}})
+            self.assertTrue(client.clear("allUsers", None))
+            with self.assertRaisesRegex(TypeError, "^loader userById, column name: a value of type bytes has no text$"):
+                client.prime("userById", 1, {"name": b"x"})
+            for key in (None, (), ("1", "2")):
+                with self.assertRaisesRegex(ValueError, "^loader userById: a key of [02] values for 1 columns$"):
+                    client.prime("userById", key, row)
+
+    def test_keys_of_two_columns(self) -> None:
+        with worlds.WORLDS["votes"].server() as server, server.client({}) as client:
+            self.assertTrue(client.prime("voteByBoth", (2, 12), {"stars": 4}))
+            self.assertEqual(client.answer("{vote(user:2,post:12){stars}}"), {"data": {"vote": {"stars": 4}}})
+            client.answer("{vote(user:1,post:12){stars}}")
+            self.assertEqual([it.keys for it in client.log("voteByBoth")], [[("1", "12")]])
+            self.assertTrue(client.clear("voteByBoth", ["2", "12"]))
+
+    def test_one_request_at_a_time(self) -> None:
+        def asks_again(keys: Any) -> Any:
+            for call in (lambda: client.answer(USER), lambda: client.clear_all("userById"), client.close, client.restart):
+                self.refused("RZ_BUSY", call)
+            return [{"id": 1, "name": "Ada"}]
+
+        with self.server.client({"userById": asks_again}) as client:
+            self.assertEqual(client.answer(USER), ADA)
+
+
+class Threads(Calls):
+    def test_threads_share_a_server(self) -> None:
+        def answer(number: int) -> Any:
+            return self.server.answer(MISSING_NAME, self.functions, {"i": number % 3 + 1})["data"]["user"]["name"]
+
+        with ThreadPoolExecutor(16) as pool:
+            found = list(pool.map(answer, range(2000)))
+        self.assertEqual(found, [("Ada", "Bob", "Cy")[number % 3] for number in range(2000)])
+
+    def test_a_client_in_another_thread(self) -> None:
+        entered, leave = threading.Event(), threading.Event()
+
+        def waits(keys: Any) -> Any:
+            entered.set()
+            leave.wait(10)
+            return [{"id": 1, "name": "Ada"}]
+
+        with self.server.client({"userById": waits}) as client, ThreadPoolExecutor(1) as pool:
+            answer = pool.submit(client.answer, USER)
+            entered.wait(10)
+            self.refused("RZ_BUSY", client.answer, USER)
+            leave.set()
+            self.assertEqual(answer.result(10), ADA)
+
+
+class Tasks(Calls):
+    def late(self, seconds: float = 0.02) -> dict[str, Any]:
+        """The functions as coroutines that answer late, in any order."""
+        chance = random.Random(2)
+
+        def coroutine(function: Any) -> Any:
+            async def ask(keys: Any) -> Any:
+                await asyncio.sleep(chance.random() * seconds)
+                return function(keys)
+
+            return ask
+
+        return {name: coroutine(function) for name, function in self.functions.items()}
+
+    def test_200_requests_at_the_same_time(self) -> None:
+        world = worlds.WORLDS["examples"]
+        functions = self.late()
+
+        async def answers() -> list[str]:
+            return await asyncio.gather(*(self.server.answer_text_async(world.lines[at % 28].encode(), functions) for at in range(200)))
+
+        self.assertEqual(asyncio.run(answers()), [world.answers[at % 28] for at in range(200)])
+
+    def test_batches_of_a_round_run_at_the_same_time(self) -> None:
+        both = threading.Barrier(2)
+
+        async def meets(keys: Any) -> Any:
+            await asyncio.to_thread(both.wait, 10)
+            return [{"id": 1, "name": "Ada"}]
+
+        found = asyncio.run(self.server.answer_async("{user(id:1){name} users{name}}", {"userById": meets, "allUsers": meets}))
+        self.assertEqual(found, {"data": {"user": {"name": "Ada"}, "users": [{"name": "Ada"}]}})
+
+    def test_a_task_that_is_cancelled(self) -> None:
+        asked: list[Any] = []
+        cancelled: list[Any] = []
+
+        async def waits(keys: Any) -> Any:
+            asked.append(keys)
+            try:
+                await asyncio.sleep(60)
+            except asyncio.CancelledError:
+                cancelled.append(keys)
+                raise
+
+        for query in (USER, "{user(id:1){best{name}} users{name}}"):
+
+            async def run() -> None:
+                client = self.server.client({"userById": waits, "allUsers": waits})
+                task = asyncio.ensure_future(client.answer_async(query))
+                await asyncio.sleep(0.01)
+                task.cancel()
+                with self.assertRaises(asyncio.CancelledError):
+                    await task
+                await asyncio.sleep(0.01)
+                self.assertEqual(cancelled, asked)
+                client.prime("userById", 1, {"name": "Ada"})
+                self.assertEqual(await client.answer_async(USER), ADA)
+
+            asyncio.run(run())
+
+    def test_what_goes_on_after_it_was_cancelled(self) -> None:
+        """A batch that answers though it was cancelled, and one whose own work was cancelled, leave the next requests as they are."""
+
+        async def stays(keys: Any) -> Any:
+            try:
+                await asyncio.sleep(60)
+            except asyncio.CancelledError:
+                await asyncio.sleep(0.02)
+            return [{"id": 1, "name": "Eve"}]
+
+        async def is_cancelled(keys: Any) -> Any:
+            raise asyncio.CancelledError
+
+        async def run() -> None:
+            with self.assertRaises(asyncio.CancelledError):
+                await self.server.answer_async("{user(id:1){name} users{name}}", {"userById": stays, "allUsers": is_cancelled})
+            functions = self.late(0.05)
+            for _ in range(5):
+                self.assertEqual(await self.server.answer_async(USER, functions), ADA)
+
+        asyncio.run(run())
+
+    def test_coroutines_fail_and_answer(self) -> None:
+        async def fails(keys: Any) -> Any:
+            raise OSError("the database is gone")
+
+        found = asyncio.run(self.server.answer_async("{user(id:1){name} users{id}}", {**self.functions, "userById": fails}))
+        self.assertEqual([error["message"] for error in found["errors"]], ["the database is gone"])
+        self.assertEqual(asyncio.run(self.server.answer_async(USER, self.functions)), ADA)
+
+
+if __name__ == "__main__":
+    unittest.main()

@@ -1,0 +1,210 @@
+"""What batch functions return: the texts of values, the forms of rows, and what is a fault."""
+
+import sqlite3
+import unittest
+import uuid
+from datetime import date, datetime, timedelta, timezone
+from decimal import Decimal
+from enum import Enum, IntEnum
+from typing import Any
+
+import worlds
+from rudzkvano import Server
+
+SCHEMA = """type Query { item(id: ID!): Item  items(ids: [ID!]!): [Item]!  all: [Item!]!  of(name: String!): [Item!]!  pair(a: ID!, b: ID!): Item }
+type Item { id: ID  text: String  other: String  count: Int  yes: Boolean }"""
+BINDINGS = """bindings 2
+loader itemById items by id
+loader itemsByName items by name fold
+loader allItems items
+loader itemByBoth items by a b
+field Query.item one itemById arg id
+field Query.items each itemById arg ids
+field Query.all many allItems all
+field Query.of many itemsByName arg name
+field Query.pair one itemByBoth arg a and arg b
+"""
+
+
+class Colour(str, Enum):
+    RED = "red"
+
+
+class Size(IntEnum):
+    SMALL = 3
+
+
+class Cursor:
+    """A cursor of the DB-API."""
+
+    def __init__(self, columns: list[str] | None, rows: list[Any]) -> None:
+        self.description = None if columns is None else [(column, None, None, None, None, None, None) for column in columns]
+        self.fetchall = lambda: rows
+
+
+VALUES: list[tuple[Any, str | None]] = [
+    ("Ada", "Ada"),
+    ("é\U0001f600\n\"", "é\U0001f600\n\""),
+    ("", None),
+    (None, None),
+    (7, "7"),
+    (-(2**70), "-1180591620717411303424"),
+    (True, "true"),
+    (False, "false"),
+    (1.5, "1.5"),
+    (3.0, "3"),
+    (-0.1, "-0.1"),
+    (1e20, "100000000000000000000"),
+    (Decimal("1.50"), "1.50"),
+    (Decimal("1E+3"), "1000"),
+    (date(2024, 2, 29), "2024-02-29"),
+    (datetime(2024, 2, 29, 12, 30, 1), "2024-02-29T12:30:01"),
+    (datetime(2024, 2, 29, 12, 30, 1, tzinfo=timezone(timedelta(hours=2))), "2024-02-29T12:30:01+02:00"),
+    (uuid.UUID(int=5), "00000000-0000-0000-0000-000000000005"),
+    (Colour.RED, "red"),
+    (Size.SMALL, "3"),
+]
+NO_VALUES: list[tuple[Any, str]] = [
+    (b"x", "a value of type bytes has no text"),
+    ([1], "a value of type list has no text"),
+    ({"a": 1}, "a value of type dict has no text"),
+    (object(), "a value of type object has no text"),
+    (float("nan"), "nan has no text"),
+    (float("inf"), "inf has no text"),
+]
+ONE, TWO = {"id": 1, "text": "one"}, {"id": 2, "text": "two"}
+NOT_ASKED = "loader itemById: a row of the key '3', which wasn't asked for"
+# what itemById returns for the keys 1 and 2, and the texts of both, or the fault of the batch
+RETURNED: list[tuple[Any, list[str | None] | str]] = [
+    ([ONE, TWO], ["one", "two"]),
+    ([TWO, ONE], ["one", "two"]),
+    ((TWO, ONE), ["one", "two"]),
+    ({2: TWO, 1: ONE}.values(), ["one", "two"]),
+    (iter([TWO]), [None, "two"]),
+    ([], [None, None]),
+    ([None, None], [None, None]),
+    ([None, TWO], [None, "two"]),
+    ([[ONE], TWO], ["one", "two"]),
+    ([[], (TWO,)], [None, "two"]),
+    ([{"text": "one"}, {"text": "two"}], ["one", "two"]),
+    ([{"text": "one"}, None], ["one", None]),
+    ([{"text": "one"}, {"id": 2, "text": "two"}], ["one", "two"]),
+    ([{"text": "one"}, {"other": "two"}], ["one", None]),
+    ([{"id": 2, "text": "two"}, {"text": "one", "id": 1}], ["one", "two"]),
+    ([{"id": 2, "text": "two", "other": "x"}, ONE], ["one", "two"]),
+    ([TWO, {"id": "2", "text": "second"}], [None, "two"]),
+    ((["id", "text"], [[2, "two"], (1, "one")]), ["one", "two"]),
+    ((("text", "id"), iter([("two", 2)])), [None, "two"]),
+    ((["id", "text"], []), [None, None]),
+    (([ONE], [TWO]), ["one", "two"]),
+    (([], [TWO]), [None, "two"]),
+    (Cursor(["id", "text"], [(2, "two"), (1, "one")]), ["one", "two"]),
+    (Cursor(["id", "text"], [TWO, ONE]), ["one", "two"]),
+    (Cursor(["id", "text"], []), [None, None]),
+    ([{"id": 3, "text": "three"}], NOT_ASKED),
+    ([ONE, {"id": 3, "text": "three"}], NOT_ASKED),
+    ((["id", "text"], [(3, "three")]), NOT_ASKED),
+    ([{"id": None, "text": "none"}], "loader itemById: a row of the key '', which wasn't asked for"),
+    ([ONE, None, TWO], "loader itemById: 3 items for 2 keys, which aren't all rows with its columns"),
+    ([{"text": "one"}], "loader itemById: 1 items for 2 keys, which aren't all rows with its columns"),
+    ((["text"], [("one",)]), "loader itemById: its rows haven't all its columns"),
+    ((["id", "text"], [(1,)]), "loader itemById: a row of 1 values for 2 columns"),
+    ((["id", "text"], ["1x"]), "loader itemById: a row of type str"),
+    ([1, 2], "loader itemById: an item of type int"),
+    (["one", "two"], "loader itemById: an item of type str"),
+    ([[1], [2]], "loader itemById: a row of type int"),
+    ([{}, {}], "loader itemById: a row has no columns"),
+    ([{1: "one"}, {1: "two"}], "loader itemById: the name of a column is no text"),
+    (None, "loader itemById: its function returned NoneType, and no list"),
+    (ONE, "loader itemById: its function returned dict, and no list"),
+    ("12", "loader itemById: its function returned str, and no list"),
+    (Cursor(None, []), "loader itemById: the cursor has run no query"),
+    ([{"id": 1, "text": "\ud800"}], "'utf-8' codec can't encode character '\\ud800' in position 7: surrogates not allowed"),
+]
+
+
+class Returned(unittest.TestCase):
+    def setUp(self) -> None:
+        self.server = Server(SCHEMA, BINDINGS)
+        self.addCleanup(self.server.close)
+
+    def answer(self, query: str, **functions: Any) -> Any:
+        return self.server.answer(query, functions)
+
+    def test_loaders_are_told(self) -> None:
+        told = [(it.name, it.table, it.columns, it.folds) for it in self.server.loaders]
+        by_name, by_both = ("itemsByName", "items", ("name",), True), ("itemByBoth", "items", ("a", "b"), False)
+        self.assertEqual(told, [("itemById", "items", ("id",), False), by_name, ("allItems", "items", (), False), by_both])
+
+    def test_values(self) -> None:
+        for value, text in VALUES:
+            # an answer has the text beside a text, beside None, and beside its like
+            for beside in ("beside", None, value):
+                with self.subTest(value=value, beside=beside):
+                    row = {"id": "1", "text": value, "other": beside}
+                    found = self.answer("{item(id:1){text}}", itemById=lambda keys: [row])
+                    self.assertEqual(found, {"data": {"item": {"text": text}}})
+        for value, why in NO_VALUES:
+            with self.subTest(value=value):
+                found = self.answer("{item(id:1){text}}", itemById=lambda keys: [{"id": 1, "text": value}])
+                self.assertEqual(found["errors"][0]["message"], f"loader itemById, column text: {why}")
+
+    def test_numbers_and_booleans_are_values_of_their_types(self) -> None:
+        row = {"id": 1, "count": 3.0, "yes": True}
+        found = self.answer("{item(id:1){id count yes}}", itemById=lambda keys: [row])
+        self.assertEqual(found, {"data": {"item": {"id": "1", "count": 3, "yes": True}}})
+
+    def test_forms_of_rows(self) -> None:
+        for returned, wanted in RETURNED:
+            with self.subTest(returned=returned):
+                found = self.answer("{items(ids:[1,2]){text}}", itemById=lambda keys: returned)
+                if isinstance(wanted, str):
+                    self.assertEqual({error["message"] for error in found["errors"]}, {wanted})
+                else:
+                    self.assertNotIn("errors", found)
+                    self.assertEqual([item and item["text"] for item in found["data"]["items"]], wanted)
+
+    def test_the_fault_of_a_key(self) -> None:
+        for item in ([ONE], ONE):
+            found = self.answer("{items(ids:[1,2,3]){text}}", itemById=lambda keys: [item, ValueError("no such item"), KeyError()])
+            where = {"locations": [{"line": 1, "column": 2}]}
+            gone = {"message": "no such item", **where, "path": ["items", 1]}
+            unnamed = {"message": "KeyError", **where, "path": ["items", 2]}
+            self.assertEqual(found, {"errors": [gone, unnamed], "data": {"items": [{"text": "one"}, None, None]}})
+
+    def test_loaders_of_all_rows(self) -> None:
+        tables = ([ONE, TWO], iter([ONE, TWO]), (["id", "text"], [(1, "one"), (2, "two")]), Cursor(["text"], [("one",), ("two",)]))
+        for returned in tables:
+            asked: list[Any] = []
+            found = self.answer("{all{text}}", allItems=worlds.noted(asked, lambda keys: returned))
+            self.assertEqual((found, asked), ({"data": {"all": [{"text": "one"}, {"text": "two"}]}}, [[]]))
+        self.assertEqual(self.answer("{all{text}}", allItems=lambda keys: []), {"data": {"all": []}})
+        for wrong in ([None], [[ONE]], [ONE, ValueError("x")]):
+            message = self.answer("{all{text}}", allItems=lambda keys: wrong)["errors"][0]["message"]
+            self.assertEqual(message, "loader allItems: its function returned something else than rows")
+
+    def test_loaders_of_two_columns(self) -> None:
+        rows = [{"a": 2, "b": "y", "text": "two"}, {"a": 1, "b": "x", "text": "one"}]
+        asked: list[Any] = []
+        query = '{p:pair(a:1,b:"x"){text} q:pair(a:2,b:"y"){text} r:pair(a:2,b:"x"){text}}'
+        found = self.answer(query, itemByBoth=worlds.noted(asked, lambda keys: rows))
+        self.assertEqual(found, {"data": {"p": {"text": "one"}, "q": {"text": "two"}, "r": None}})
+        self.assertEqual(asked, [[("1", "x"), ("2", "y"), ("2", "x")]])
+
+    def test_folding_loaders_group_without_case(self) -> None:
+        rows = [{"name": "ADA", "text": "one"}, {"name": "bob", "text": "two"}, {"name": "Ada", "text": "three"}, {"name": "É", "text": "four"}]
+        found = self.answer('{a:of(name:"ada"){text} b:of(name:"BOB"){text} c:of(name:"É"){text}}', itemsByName=lambda keys: rows)
+        self.assertEqual(found, {"data": {"a": [{"text": "one"}, {"text": "three"}], "b": [{"text": "two"}], "c": [{"text": "four"}]}})
+
+    def test_rows_of_sqlite(self) -> None:
+        database = sqlite3.connect(":memory:")
+        self.addCleanup(database.close)
+        database.row_factory = sqlite3.Row
+        query = "select 2 as id, 'two' as text, 2.0 as count union all select 1, null, null"
+        for returned in (lambda keys: database.execute(query), lambda keys: database.execute(query).fetchall()):
+            found = self.answer("{items(ids:[1,2]){text count}}", itemById=returned)
+            self.assertEqual(found, {"data": {"items": [{"text": None, "count": None}, {"text": "two", "count": 2}]}})
+
+
+if __name__ == "__main__":
+    unittest.main()

@@ -1,0 +1,385 @@
+//! The calls of `clients/c/rudzkvano.h`, which says what each does. All unsafe code of the crate is here.
+//!
+//! A slice is never null, not even an empty one, and `&mut` has each handle and buffer for one call alone, as the header wants it.
+
+use std::ffi::c_void;
+use std::{iter, ptr, str};
+
+pub const ROUND: i32 = 1;
+pub const WAITING: i32 = 2;
+pub const BAD_SCHEMA: i32 = -4;
+/// In the place of a number of rows: the key has a fault.
+pub const KEY_FAULT: u32 = u32::MAX;
+
+#[derive(Default)]
+#[repr(C)]
+pub struct Fault {
+    pub line: u64,
+    pub column: u64,
+    pub number: u32,
+    pub in_bindings: u32,
+}
+
+#[derive(Default)]
+#[repr(C)]
+pub struct LoaderSizes {
+    pub loaders: usize,
+    pub bytes: usize,
+}
+
+#[derive(Default)]
+#[repr(C)]
+pub struct Sizes {
+    pub orders: usize,
+    pub keys: usize,
+    pub texts: usize,
+    pub bytes: usize,
+    pub answer: usize,
+    pub rounds: u64,
+}
+
+#[derive(Default)]
+#[repr(C)]
+pub struct LogSizes {
+    pub batches: usize,
+    pub keys: usize,
+    pub texts: usize,
+    pub bytes: usize,
+}
+
+/// Texts one after another, and where each ends.
+#[derive(Default)]
+pub struct Texts {
+    pub ends: Vec<u32>,
+    pub bytes: Vec<u8>,
+}
+
+/// Lists of keys: how many keys each list has, how many texts each key has, and the texts.
+pub struct KeyLists {
+    pub keys: Vec<u32>,
+    pub lengths: Vec<u32>,
+    pub texts: Texts,
+}
+
+/// The rows of some keys: the number of columns, for each key its number of rows or `KEY_FAULT`, and the texts.
+pub struct Reply {
+    pub columns: usize,
+    pub rows: Vec<u32>,
+    pub texts: Texts,
+}
+
+impl Texts {
+    pub fn of_sizes(texts: usize, bytes: usize) -> Self {
+        Self { ends: vec![0; texts], bytes: vec![0; bytes] }
+    }
+
+    pub fn extend<'a>(&mut self, texts: impl IntoIterator<Item = &'a str>) {
+        for text in texts {
+            self.bytes.extend_from_slice(text.as_bytes());
+            self.ends.push(self.bytes.len() as u32);
+        }
+    }
+
+    /// Whether all ends are numbers of 32 bits.
+    pub fn fits(&self) -> bool {
+        u32::try_from(self.bytes.len()).is_ok()
+    }
+
+    /// The texts, where the library wrote them.
+    pub fn iter(&self) -> impl Iterator<Item = &str> {
+        let whole = str::from_utf8(&self.bytes).expect("the library's texts are UTF-8");
+        let starts = iter::once(0).chain(self.ends.iter().copied());
+        starts.zip(&self.ends).map(move |(start, &end)| &whole[start as usize..end as usize])
+    }
+}
+
+impl KeyLists {
+    pub fn of_sizes(lists: usize, keys: usize, texts: usize, bytes: usize) -> Self {
+        Self { keys: vec![0; lists], lengths: vec![0; keys], texts: Texts::of_sizes(texts, bytes) }
+    }
+}
+
+/// What holds a server or a client, or nothing. It frees what it holds.
+#[repr(C)]
+pub struct Handle {
+    at: *mut c_void,
+}
+
+// SAFETY: a handle may go to another thread between two calls.
+unsafe impl Send for Handle {}
+
+impl Drop for Handle {
+    fn drop(&mut self) {
+        // SAFETY: a handle is empty or as the calls left it.
+        unsafe { rz_close(self) }
+    }
+}
+
+extern "C" {
+    fn rz_code_name(code: i32, bytes: *mut u8, bytes_len: usize) -> usize;
+    fn rz_code_text(code: i32, bytes: *mut u8, bytes_len: usize) -> usize;
+    fn rz_close(handle: &mut Handle);
+    fn rz_open(
+        server: &mut Handle,
+        schema: *const u8,
+        schema_len: usize,
+        bindings: *const u8,
+        bindings_len: usize,
+        fault: &mut Fault,
+    ) -> i32;
+    fn rz_loaders_sizes(server: &mut Handle, sizes: &mut LoaderSizes) -> i32;
+    fn rz_loaders(
+        server: &mut Handle,
+        kinds: *mut u32,
+        kinds_len: usize,
+        ends: *mut u32,
+        ends_len: usize,
+        bytes: *mut u8,
+        bytes_len: usize,
+    ) -> i32;
+    fn rz_client(server: &mut Handle, client: &mut Handle, limits: *const u32, limits_len: usize) -> i32;
+    fn rz_limit_answers(client: &mut Handle, bytes: usize) -> i32;
+    fn rz_restart(client: &mut Handle) -> i32;
+    fn rz_begin(client: &mut Handle, line: *const u8, line_len: usize) -> i32;
+    fn rz_begin_request(
+        client: &mut Handle,
+        query: *const u8,
+        query_len: usize,
+        operation: *const u8,
+        operation_len: usize,
+        variables: *const u8,
+        variables_len: usize,
+    ) -> i32;
+    fn rz_cancel(client: &mut Handle) -> i32;
+    fn rz_next(client: &mut Handle) -> i32;
+    fn rz_sizes(client: &mut Handle, sizes: &mut Sizes) -> i32;
+    fn rz_orders(
+        client: &mut Handle,
+        loaders: *mut u32,
+        loaders_len: usize,
+        keys: *mut u32,
+        keys_len: usize,
+        texts: *mut u32,
+        texts_len: usize,
+        ends: *mut u32,
+        ends_len: usize,
+        bytes: *mut u8,
+        bytes_len: usize,
+    ) -> i32;
+    fn rz_take_rows(
+        client: &mut Handle,
+        order: usize,
+        columns: usize,
+        rows: *const u32,
+        rows_len: usize,
+        ends: *const u32,
+        ends_len: usize,
+        bytes: *const u8,
+        bytes_len: usize,
+    ) -> i32;
+    fn rz_take_failed(client: &mut Handle, order: usize, text: *const u8, text_len: usize) -> i32;
+    fn rz_answer(client: &mut Handle, bytes: *mut u8, bytes_len: usize) -> i32;
+    fn rz_prime(
+        client: &mut Handle,
+        loader: usize,
+        key_ends: *const u32,
+        key_ends_len: usize,
+        key_bytes: *const u8,
+        key_bytes_len: usize,
+        columns: usize,
+        rows: u32,
+        ends: *const u32,
+        ends_len: usize,
+        bytes: *const u8,
+        bytes_len: usize,
+        primed: &mut u32,
+    ) -> i32;
+    fn rz_clear(
+        client: &mut Handle,
+        loader: usize,
+        key_ends: *const u32,
+        key_ends_len: usize,
+        key_bytes: *const u8,
+        key_bytes_len: usize,
+        was_known: &mut u32,
+    ) -> i32;
+    fn rz_clear_all(client: &mut Handle, loader: usize) -> i32;
+    fn rz_log_sizes(client: &mut Handle, loader: usize, sizes: &mut LogSizes) -> i32;
+    fn rz_log(
+        client: &mut Handle,
+        loader: usize,
+        rounds: *mut u32,
+        rounds_len: usize,
+        stored: *mut u32,
+        stored_len: usize,
+        keys: *mut u32,
+        keys_len: usize,
+        texts: *mut u32,
+        texts_len: usize,
+        ends: *mut u32,
+        ends_len: usize,
+        bytes: *mut u8,
+        bytes_len: usize,
+    ) -> i32;
+}
+
+/// The name of a code, and a few words on it.
+pub fn words_on(code: i32) -> (String, String) {
+    // SAFETY: the pointer and the length are those of one slice.
+    let name = words(|bytes| unsafe { rz_code_name(code, bytes.as_mut_ptr(), bytes.len()) });
+    let text = words(|bytes| unsafe { rz_code_text(code, bytes.as_mut_ptr(), bytes.len()) });
+    (name, text)
+}
+
+/// A text of which a call tells the length, and copies as much as there is room for.
+fn words(call: impl Fn(&mut [u8]) -> usize) -> String {
+    let mut bytes = vec![0; call(&mut [])];
+    call(&mut bytes);
+    String::from_utf8(bytes).expect("the library's texts are UTF-8")
+}
+
+/// Each call with slices for pointers and lengths. It returns the code.
+///
+/// SAFETY of all of them: each pointer and length is that of one slice, which lives as long as the call, and no slice that a call fills has
+/// anything in common with another.
+impl Handle {
+    pub fn empty() -> Self {
+        Self { at: ptr::null_mut() }
+    }
+
+    pub fn open(&mut self, schema: &[u8], bindings: &[u8], fault: &mut Fault) -> i32 {
+        unsafe { rz_open(self, schema.as_ptr(), schema.len(), bindings.as_ptr(), bindings.len(), fault) }
+    }
+
+    pub fn loaders_sizes(&mut self, sizes: &mut LoaderSizes) -> i32 {
+        unsafe { rz_loaders_sizes(self, sizes) }
+    }
+
+    pub fn loaders(&mut self, kinds: &mut [u32], texts: &mut Texts) -> i32 {
+        let Texts { ends, bytes } = texts;
+        unsafe { rz_loaders(self, kinds.as_mut_ptr(), kinds.len(), ends.as_mut_ptr(), ends.len(), bytes.as_mut_ptr(), bytes.len()) }
+    }
+
+    pub fn client(&mut self, client: &mut Self, limits: &[u32]) -> i32 {
+        unsafe { rz_client(self, client, limits.as_ptr(), limits.len()) }
+    }
+
+    pub fn limit_answers(&mut self, bytes: usize) -> i32 {
+        unsafe { rz_limit_answers(self, bytes) }
+    }
+
+    pub fn restart(&mut self) -> i32 {
+        unsafe { rz_restart(self) }
+    }
+
+    pub fn begin(&mut self, line: &[u8]) -> i32 {
+        unsafe { rz_begin(self, line.as_ptr(), line.len()) }
+    }
+
+    pub fn begin_request(&mut self, query: &str, operation: &str, variables: &str) -> i32 {
+        unsafe {
+            rz_begin_request(self, query.as_ptr(), query.len(), operation.as_ptr(), operation.len(), variables.as_ptr(), variables.len())
+        }
+    }
+
+    pub fn cancel(&mut self) -> i32 {
+        unsafe { rz_cancel(self) }
+    }
+
+    pub fn next(&mut self) -> i32 {
+        unsafe { rz_next(self) }
+    }
+
+    pub fn sizes(&mut self, sizes: &mut Sizes) -> i32 {
+        unsafe { rz_sizes(self, sizes) }
+    }
+
+    pub fn orders(&mut self, loaders: &mut [u32], lists: &mut KeyLists) -> i32 {
+        let KeyLists { keys, lengths, texts: Texts { ends, bytes } } = lists;
+        unsafe {
+            rz_orders(
+                self,
+                loaders.as_mut_ptr(),
+                loaders.len(),
+                keys.as_mut_ptr(),
+                keys.len(),
+                lengths.as_mut_ptr(),
+                lengths.len(),
+                ends.as_mut_ptr(),
+                ends.len(),
+                bytes.as_mut_ptr(),
+                bytes.len(),
+            )
+        }
+    }
+
+    pub fn take_rows(&mut self, order: usize, reply: &Reply) -> i32 {
+        let Reply { columns, rows, texts: Texts { ends, bytes } } = reply;
+        unsafe { rz_take_rows(self, order, *columns, rows.as_ptr(), rows.len(), ends.as_ptr(), ends.len(), bytes.as_ptr(), bytes.len()) }
+    }
+
+    pub fn take_failed(&mut self, order: usize, text: &str) -> i32 {
+        unsafe { rz_take_failed(self, order, text.as_ptr(), text.len()) }
+    }
+
+    pub fn answer(&mut self, bytes: &mut [u8]) -> i32 {
+        unsafe { rz_answer(self, bytes.as_mut_ptr(), bytes.len()) }
+    }
+
+    /// The reply has the item of one key.
+    pub fn prime(&mut self, loader: usize, key: &Texts, reply: &Reply, primed: &mut u32) -> i32 {
+        let Reply { columns, rows, texts: Texts { ends, bytes } } = reply;
+        unsafe {
+            rz_prime(
+                self,
+                loader,
+                key.ends.as_ptr(),
+                key.ends.len(),
+                key.bytes.as_ptr(),
+                key.bytes.len(),
+                *columns,
+                rows[0],
+                ends.as_ptr(),
+                ends.len(),
+                bytes.as_ptr(),
+                bytes.len(),
+                primed,
+            )
+        }
+    }
+
+    pub fn clear(&mut self, loader: usize, key: &Texts, was_known: &mut u32) -> i32 {
+        let Texts { ends, bytes } = key;
+        unsafe { rz_clear(self, loader, ends.as_ptr(), ends.len(), bytes.as_ptr(), bytes.len(), was_known) }
+    }
+
+    pub fn clear_all(&mut self, loader: usize) -> i32 {
+        unsafe { rz_clear_all(self, loader) }
+    }
+
+    pub fn log_sizes(&mut self, loader: usize, sizes: &mut LogSizes) -> i32 {
+        unsafe { rz_log_sizes(self, loader, sizes) }
+    }
+
+    pub fn log(&mut self, loader: usize, rounds: &mut [u32], stored: &mut [u32], lists: &mut KeyLists) -> i32 {
+        let KeyLists { keys, lengths, texts: Texts { ends, bytes } } = lists;
+        unsafe {
+            rz_log(
+                self,
+                loader,
+                rounds.as_mut_ptr(),
+                rounds.len(),
+                stored.as_mut_ptr(),
+                stored.len(),
+                keys.as_mut_ptr(),
+                keys.len(),
+                lengths.as_mut_ptr(),
+                lengths.len(),
+                ends.as_mut_ptr(),
+                ends.len(),
+                bytes.as_mut_ptr(),
+                bytes.len(),
+            )
+        }
+    }
+}

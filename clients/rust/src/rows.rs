@@ -1,0 +1,243 @@
+//! Keys, the rows that a batch function returns for them, and both as the library has them.
+
+use crate::calls::{KeyLists, Reply, Texts, KEY_FAULT};
+use crate::Loader;
+use std::collections::HashMap;
+use std::fmt;
+
+/// What a loader is asked for: as many texts as it has columns.
+#[derive(Clone, Debug, PartialEq, Eq, Hash, PartialOrd, Ord)]
+pub enum Key {
+    /// All rows, of a loader by no column. It stands only where a client is told a key: a batch of such a loader has no keys.
+    All,
+    /// Of a loader by one column.
+    One(String),
+    /// Of a loader by two columns.
+    Pair(String, String),
+}
+
+impl Key {
+    /// The first text, which is the only one of a loader by one column. It is empty for [`Key::All`].
+    pub fn first(&self) -> &str {
+        match self {
+            Self::All => "",
+            Self::One(first) | Self::Pair(first, _) => first,
+        }
+    }
+
+    fn texts(&self) -> Vec<&str> {
+        match self {
+            Self::All => vec![],
+            Self::One(text) => vec![text],
+            Self::Pair(first, second) => vec![first, second],
+        }
+    }
+
+    /// The texts of a key of this loader, or why it can't be one.
+    pub(crate) fn flat(&self, loader: &Loader) -> Result<Texts, String> {
+        let (texts, wanted) = (self.texts(), loader.columns.len());
+        if texts.len() != wanted {
+            return Err(format!("loader {}: a key of {} texts for {wanted} columns", loader.name, texts.len()));
+        }
+        let mut flat = Texts::default();
+        flat.extend(texts);
+        if flat.fits() {
+            Ok(flat)
+        } else {
+            Err(format!("loader {}: the key has more than 4,294,967,295 bytes", loader.name))
+        }
+    }
+}
+
+impl From<&str> for Key {
+    fn from(text: &str) -> Self {
+        Self::One(text.to_owned())
+    }
+}
+
+impl From<(&str, &str)> for Key {
+    fn from((first, second): (&str, &str)) -> Self {
+        Self::Pair(first.to_owned(), second.to_owned())
+    }
+}
+
+/// Why a batch failed as a whole. An error becomes one by `?`, with its text.
+#[derive(Clone, Debug, PartialEq, Eq)]
+pub struct BatchFault(String);
+
+impl BatchFault {
+    /// A fault with this text.
+    pub fn new(text: impl Into<String>) -> Self {
+        Self(text.into())
+    }
+}
+
+// it is no `std::error::Error` itself, since it would then become a fault in two ways
+impl<E: std::error::Error> From<E> for BatchFault {
+    fn from(error: E) -> Self {
+        Self(error.to_string())
+    }
+}
+
+impl fmt::Display for BatchFault {
+    fn fmt(&self, to: &mut fmt::Formatter<'_>) -> fmt::Result {
+        to.write_str(&self.0)
+    }
+}
+
+/// A value for each column. `None` is null, and so is the empty text.
+pub type Row = Vec<Option<String>>;
+
+/// What a source has for one key.
+#[derive(Clone, Debug, PartialEq, Eq)]
+pub enum Item {
+    /// Its rows.
+    Rows(Vec<Row>),
+    /// Why it has none.
+    Fault(String),
+}
+
+impl From<Vec<Row>> for Item {
+    fn from(rows: Vec<Row>) -> Self {
+        Self::Rows(rows)
+    }
+}
+
+impl From<Row> for Item {
+    fn from(row: Row) -> Self {
+        Self::Rows(vec![row])
+    }
+}
+
+impl From<Option<Row>> for Item {
+    fn from(row: Option<Row>) -> Self {
+        Self::Rows(row.into_iter().collect())
+    }
+}
+
+impl<T: Into<Item>, E: std::error::Error> From<Result<T, E>> for Item {
+    fn from(result: Result<T, E>) -> Self {
+        result.map_or_else(|error| Self::Fault(error.to_string()), Into::into)
+    }
+}
+
+/// What a batch function returns.
+#[derive(Clone, Debug, PartialEq, Eq)]
+pub enum Rows {
+    /// An item for each key, in the order of the keys, as a batch function of DataLoader returns them. All rows, for a loader by no column,
+    /// are one item.
+    Aligned {
+        /// The names of the columns.
+        columns: Vec<String>,
+        /// The items.
+        items: Vec<Item>,
+    },
+    /// The rows of all keys in any order. A row belongs to the key that it has in the loader's columns, and the rows of a key keep their
+    /// order. A row of a key that wasn't asked for fails the batch.
+    Grouped {
+        /// The names of the columns.
+        columns: Vec<String>,
+        /// The rows.
+        rows: Vec<Row>,
+    },
+}
+
+impl Rows {
+    /// An item for each key: a row, a list of rows, `None` for no row, or an error.
+    pub fn aligned<C: Into<String>, I: Into<Item>>(columns: impl IntoIterator<Item = C>, items: impl IntoIterator<Item = I>) -> Self {
+        Self::Aligned { columns: owned(columns), items: items.into_iter().map(Into::into).collect() }
+    }
+
+    /// The rows of all keys in any order.
+    pub fn grouped<C: Into<String>>(columns: impl IntoIterator<Item = C>, rows: impl IntoIterator<Item = Row>) -> Self {
+        Self::Grouped { columns: owned(columns), rows: rows.into_iter().collect() }
+    }
+
+    /// The reply to these keys, or why the rows don't fit them.
+    pub(crate) fn into_reply(self, loader: &Loader, keys: &[Key]) -> Result<Reply, String> {
+        let reply = match self {
+            Self::Aligned { columns, items } => reply(loader, keys, &columns, &items),
+            Self::Grouped { columns, rows } => group(loader, keys, &columns, rows).and_then(|items| reply(loader, keys, &columns, &items)),
+        };
+        reply.map_err(|text| format!("loader {}: {text}", loader.name))
+    }
+}
+
+fn owned<C: Into<String>>(texts: impl IntoIterator<Item = C>) -> Vec<String> {
+    texts.into_iter().map(Into::into).collect()
+}
+
+fn check(row: &Row, columns: &[String]) -> Result<(), String> {
+    match row.len() {
+        0 => Err("a row has no columns".to_owned()),
+        length if length == columns.len() => Ok(()),
+        length => Err(format!("a row of {length} values for {} columns", columns.len())),
+    }
+}
+
+/// The item of each key: the rows that have it in the loader's columns.
+fn group(loader: &Loader, keys: &[Key], columns: &[String], rows: Vec<Row>) -> Result<Vec<Item>, String> {
+    rows.iter().try_for_each(|row| check(row, columns))?;
+    if loader.columns.is_empty() {
+        return Ok(vec![Item::Rows(rows)]);
+    }
+    let mut groups = vec![vec![]; keys.len()];
+    if !rows.is_empty() {
+        let place = |column| columns.iter().position(|name| name == column).ok_or_else(|| format!("its rows have no column {column}"));
+        let places = loader.columns.iter().map(place).collect::<Result<Vec<_>, _>>()?;
+        // keys of a loader that folds are compared without the case of A to Z
+        let compared = |text: &str| if loader.folds { text.to_ascii_lowercase() } else { text.to_owned() };
+        let numbered = keys.iter().enumerate();
+        let numbers: HashMap<Vec<_>, _> = numbered.map(|(number, key)| (key.texts().into_iter().map(compared).collect(), number)).collect();
+        for row in rows {
+            let texts: Vec<_> = places.iter().map(|&place| row[place].as_deref().map_or_else(String::new, compared)).collect();
+            let number = numbers.get(&texts).ok_or_else(|| format!("a row of the key '{}', which wasn't asked for", texts.join("', '")))?;
+            groups[*number].push(row);
+        }
+    }
+    Ok(groups.into_iter().map(Item::Rows).collect())
+}
+
+/// What the library is given: the names of the columns, then the values of all rows, and then the faults.
+fn reply(loader: &Loader, keys: &[Key], columns: &[String], items: &[Item]) -> Result<Reply, String> {
+    let wanted = if loader.columns.is_empty() { 1 } else { keys.len() };
+    if items.len() != wanted {
+        return Err(format!("{} items for {wanted} keys", items.len()));
+    }
+    let mut reply = Reply { columns: columns.len(), rows: Vec::with_capacity(wanted), texts: Texts::default() };
+    reply.texts.extend(columns.iter().map(String::as_str));
+    let mut faults = vec![];
+    for item in items {
+        match item {
+            Item::Fault(text) => {
+                reply.rows.push(KEY_FAULT);
+                faults.push(text.as_str());
+            }
+            Item::Rows(rows) => {
+                reply.rows.push(u32::try_from(rows.len()).ok().filter(|&count| count < KEY_FAULT).ok_or("too many rows")?);
+                for row in rows {
+                    check(row, columns)?;
+                    reply.texts.extend(row.iter().map(|value| value.as_deref().unwrap_or_default()));
+                }
+            }
+        }
+    }
+    reply.texts.extend(faults);
+    if reply.texts.fits() {
+        Ok(reply)
+    } else {
+        Err("its rows have more than 4,294,967,295 bytes".to_owned())
+    }
+}
+
+/// The keys of each list. The one key of a loader by no column is left out.
+pub fn keys_of(lists: &KeyLists) -> Vec<Vec<Key>> {
+    let mut texts = lists.texts.iter().map(str::to_owned);
+    let mut text = || texts.next().expect("a text for each that is counted");
+    let mut keys = lists.lengths.iter().map(|length| match length {
+        0 => None,
+        1 => Some(Key::One(text())),
+        _ => Some(Key::Pair(text(), text())),
+    });
+    lists.keys.iter().map(|&count| keys.by_ref().take(count as usize).flatten().collect()).collect()
+}

@@ -1,0 +1,205 @@
+//! What goes wrong is told, and the rest goes on.
+
+mod common;
+
+use common::{read, World};
+use rudzkvano::{BatchFault, Client, Error, Item, Key, Loaders, Options, Progress, Request, Row, Rows, SchemaFault, Server};
+use std::io;
+use std::panic::{self, AssertUnwindSafe};
+
+const QUERY: &str = "{user(id:1){name} users{id}}";
+
+fn row(values: &[&str]) -> Row {
+    values.iter().map(|&value| Some(value.to_owned())).collect()
+}
+
+/// The answer to `QUERY` where the user failed.
+fn failed(message: &str) -> String {
+    let error = format!(r#"{{"message":"{message}","locations":[{{"line":1,"column":2}}],"path":["user"]}}"#);
+    format!(r#"{{"errors":[{error}],"data":{{"user":null,"users":[{{"id":"1"}},{{"id":"2"}},{{"id":"3"}},{{"id":"4"}}]}}}}"#)
+}
+
+fn client(world: &World) -> Client {
+    world.server.client(&Options::default()).expect("a client")
+}
+
+/// The name of the code of a refusal.
+fn refusal<T: std::fmt::Debug>(result: Result<T, Error>) -> String {
+    match result {
+        Err(Error::Refused { name, .. }) => name,
+        other => panic!("not refused: {other:?}"),
+    }
+}
+
+#[test]
+fn a_batch_that_fails_is_a_fault_of_its_keys_alone() {
+    let columns = ["id", "name"];
+    let cases: Vec<(Result<Rows, BatchFault>, &str)> = vec![
+        (Err(BatchFault::new("down")), "down"),
+        (Err(io::Error::other("no network").into()), "no network"),
+        (Ok(Rows::aligned(columns, [Item::Fault("gone".to_owned())])), "gone"),
+        (Ok(Rows::aligned(columns, [Err::<Row, _>(io::Error::other("locked"))])), "locked"),
+        (Ok(Rows::aligned(columns, [None, None::<Row>])), "loader userById: 2 items for 1 keys"),
+        (Ok(Rows::aligned(columns, [row(&["1"])])), "loader userById: a row of 1 values for 2 columns"),
+        (Ok(Rows::grouped(columns, [row(&["1"])])), "loader userById: a row of 1 values for 2 columns"),
+        (Ok(Rows::grouped([""; 0], [vec![]])), "loader userById: a row has no columns"),
+        (Ok(Rows::grouped(["name"], [row(&["Ada"])])), "loader userById: its rows have no column id"),
+        (Ok(Rows::grouped(columns, [row(&["9", "Eve"])])), "loader userById: a row of the key '9', which wasn't asked for"),
+        (Ok(Rows::grouped(columns, [vec![None, None]])), "loader userById: a row of the key '', which wasn't asked for"),
+    ];
+    let world = World::read("");
+    for (reply, message) in cases {
+        let mut loaders = world.loaders(true, || ());
+        loaders.insert("userById", move |_| reply.clone());
+        let answer = world.server.answer_text(&Request::query(QUERY), &mut loaders, &Options::default());
+        assert_eq!(answer, Ok(failed(message)));
+    }
+}
+
+#[test]
+fn a_loader_without_a_function_fails_and_an_unknown_one_is_refused() {
+    let world = World::read("");
+    let mut loaders = Loaders::new();
+    let users = &world.tables["users"];
+    loaders.insert("allUsers", |keys| {
+        assert!(keys.is_empty());
+        Ok(Rows::grouped(&users.columns, users.rows.clone()))
+    });
+    let answer = |options: &Options, loaders: &mut Loaders<'_>| world.server.answer_text(&Request::query(QUERY), loaders, options);
+    assert_eq!(answer(&Options::default(), &mut loaders), Ok(failed("no function for loader userById")));
+    let unknown = Options { max_batch_of: [("userByID".to_owned(), 5)].into(), ..Options::default() };
+    assert_eq!(answer(&unknown, &mut loaders), Err(Error::NoLoader("userByID".to_owned())));
+    loaders.insert("userByID", |_| Err(BatchFault::new("not asked")));
+    assert_eq!(answer(&Options::default(), &mut loaders), Err(Error::NoLoader("userByID".to_owned())));
+    assert_eq!(answer(&unknown, &mut loaders).unwrap_err().to_string(), "the bindings have no loader userByID");
+}
+
+#[test]
+fn no_rows_need_no_columns() {
+    let world = World::read("");
+    let mut loaders = Loaders::new();
+    loaders.insert("userById", |_| Ok(Rows::grouped([""; 0], [])));
+    let answer = world.server.answer_text(&Request::query("{user(id:1){name}}"), &mut loaders, &Options::default());
+    assert_eq!(answer.as_deref(), Ok(r#"{"data":{"user":null}}"#));
+}
+
+#[test]
+fn a_schema_is_refused_with_its_place() {
+    let (schema, bindings) = (read("schema.graphql"), read("bindings.txt"));
+    let cases = [
+        ("type Query { a: Nope }", &*bindings, (3, 1, 17, false), "S3 at schema:1:17"),
+        ("scalar Date", &*bindings, (7, 1, 1, false), "S7 at schema:1:1"),
+        (&*schema, "bindings 1\nnothing\n", (8, 2, 0, true), "S8 at bindings:2:0"),
+    ];
+    for (schema, bindings, (number, line, column, in_bindings), text) in cases {
+        let error = Server::new(schema, bindings).unwrap_err();
+        assert_eq!(error, Error::Schema(SchemaFault { number, line, column, in_bindings }));
+        assert_eq!(error.to_string(), text);
+    }
+}
+
+#[test]
+fn limits_are_kept() {
+    let world = World::read("");
+    let answer = |options: Options| {
+        let mut batches = vec![];
+        let mut loaders = world.loaders(true, || ());
+        loaders.on_round(|round| batches.extend(round.batches.iter().map(|ran| (round.round, ran.keys.len(), ran.failed.clone()))));
+        let answer = world.server.answer_text(&Request::query("{usersByIds(ids:[1,2,3]){best{id}}}"), &mut loaders, &options);
+        drop(loaders);
+        (answer, batches)
+    };
+    let (text, batches) = answer(Options { max_batch: 2, ..Options::default() });
+    assert_eq!(text.as_deref(), Ok(r#"{"data":{"usersByIds":[{"best":{"id":"2"}},{"best":{"id":"1"}},{"best":null}]}}"#));
+    assert_eq!(batches, [(1, 2, None), (1, 1, None)]);
+    let by_name = Options { max_batch: 2, max_batch_of: [("userById".to_owned(), 0)].into(), ..Options::default() };
+    assert_eq!(answer(by_name).1, [(1, 3, None)]);
+    let (text, _) = answer(Options { max_answer: 30, ..Options::default() });
+    assert_eq!(text.as_deref(), Ok(r#"{"errors":[{"message":"answer too long"}]}"#));
+    assert_eq!(refusal(answer(Options { max_batch: 65_536, ..Options::default() }).0), "RZ_BAD_LIMIT");
+}
+
+#[test]
+fn a_cancelled_answer_asks_no_further_batch() {
+    let world = World::read("");
+    let mut client = client(&world);
+    let mut loaders = world.loaders(true, || ());
+    let mut batches = 0;
+    loaders.cancel_when(move || {
+        batches += 1;
+        batches > 2
+    });
+    let request = Request::query("{users{posts{author{name}}}}");
+    assert_eq!(client.answer_text(&request, &mut loaders), Err(Error::Cancelled));
+    assert_eq!(client.log("allUsers").map(|batches| batches.len()), Ok(1));
+    assert_eq!(client.log("postsByAuthor").map(|batches| batches[0].stored), Ok(true));
+    assert_eq!(client.log("userById").map(|batches| batches[0].stored), Ok(false));
+    // what the finished rounds returned is known: one more batch is enough
+    let mut loaders = world.loaders(true, || ());
+    let number = world.requests.iter().position(|line| line == r#"{"query":"{users{posts{author{name}}}}"}"#).expect("the line");
+    assert_eq!(client.answer_text(&request, &mut loaders).as_ref(), Ok(&world.answers[number]));
+    assert_eq!(client.rounds(), Ok(1));
+}
+
+#[test]
+fn a_client_keeps_what_it_knows() {
+    let world = World::read("");
+    let mut client = client(&world);
+    let mut loaders = world.loaders(true, || ());
+    let eve = || Rows::grouped(["id", "name"], [row(&["1", "Eve"])]);
+    let request = Request::query("{user(id:1){name}}");
+    assert_eq!(client.prime("userById", "1", eve()), Ok(true));
+    assert_eq!(client.prime("userById", "1", eve()), Ok(false));
+    assert_eq!(client.answer_text(&request, &mut loaders).as_deref(), Ok(r#"{"data":{"user":{"name":"Eve"}}}"#));
+    assert_eq!((client.clear("userById", "1"), client.clear("userById", "1")), (Ok(true), Ok(false)));
+    assert_eq!(client.answer_text(&request, &mut loaders).as_deref(), Ok(r#"{"data":{"user":{"name":"Ada"}}}"#));
+    let keys: Vec<_> = client.log("userById").expect("a log").into_iter().map(|batch| (batch.round, batch.stored, batch.keys)).collect();
+    assert_eq!(keys, [(1, true, vec![Key::from("1")])]);
+    client.clear_all("userById").expect("cleared");
+    assert_eq!(client.prime("allUsers", Key::All, Rows::grouped(["id"], [])), Ok(true));
+    assert_eq!(client.answer_text(&Request::query("{users{id}}"), &mut loaders).as_deref(), Ok(r#"{"data":{"users":[]}}"#));
+    client.restart().expect("restarted");
+    assert_eq!(client.log("userById"), Ok(vec![]));
+    let misfit = Error::Misfit("loader userById: a row of the key '1', which wasn't asked for".to_owned());
+    assert_eq!(client.prime("userById", "2", eve()), Err(misfit));
+    assert_eq!(client.clear("nobody", "1"), Err(Error::NoLoader("nobody".to_owned())));
+    let misfit = Error::Misfit("loader userById: a key of 2 texts for 1 columns".to_owned());
+    assert_eq!(client.clear("userById", ("1", "2")), Err(misfit));
+}
+
+#[test]
+fn calls_out_of_turn_are_refused() {
+    let world = World::read("");
+    let mut client = client(&world);
+    let request = Request::query("{user(id:1){name}}");
+    assert_eq!(
+        (refusal(client.next()), refusal(client.text()), refusal(client.cancel())),
+        ("RZ_IDLE".into(), "RZ_IDLE".into(), "RZ_IDLE".into())
+    );
+    client.begin(&request).expect("begun");
+    assert_eq!(refusal(client.begin(&request)), "RZ_BUSY");
+    assert_eq!(client.next(), Ok(Progress::Round));
+    assert_eq!(client.next(), Ok(Progress::Waiting));
+    assert_eq!(refusal(client.clear_all("userById")), "RZ_BUSY");
+    let orders = client.orders().expect("orders");
+    client.fail(&orders[0], "down").expect("failed");
+    assert_eq!(refusal(client.fail(&orders[0], "down")), "RZ_REPLIED");
+    assert_eq!(client.next(), Ok(Progress::Done));
+    let wanted = r#"{"errors":[{"message":"down","locations":[{"line":1,"column":2}],"path":["user"]}],"data":{"user":null}}"#;
+    assert_eq!(client.text().as_deref(), Ok(wanted));
+    assert_eq!(refusal(client.fail(&orders[0], "down")), "RZ_NO_ORDER");
+}
+
+#[test]
+fn a_panic_of_a_batch_function_goes_through() {
+    let world = World::read("");
+    let answer = || {
+        let mut loaders = world.loaders(true, || ());
+        loaders.insert("userById", |_| panic::resume_unwind(Box::new("a panic")));
+        world.server.answer_text(&Request::query(QUERY), &mut loaders, &Options::default())
+    };
+    assert!(panic::catch_unwind(AssertUnwindSafe(answer)).is_err());
+    let answer =
+        world.server.answer_text(&Request::Json(world.requests[0].as_bytes()), &mut world.loaders(true, || ()), &Options::default());
+    assert_eq!(answer.as_ref(), Ok(&world.answers[0]));
+}
