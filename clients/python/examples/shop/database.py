@@ -6,6 +6,7 @@ import os
 import sqlite3
 from collections.abc import Callable, Sequence
 from pathlib import Path
+from threading import Semaphore
 from typing import Any
 
 import data
@@ -16,15 +17,20 @@ Rows = tuple[list[str], list[tuple[object, ...]]]
 class Database:
     """Connections, each of which runs one statement at a time. They are kept for the next statement, whichever thread runs it.
 
-    `placeholder` is what stands for a value in a statement.
+    `placeholder` is what stands for a value in a statement, and `at_once` how many statements run at a time.
     """
 
-    def __init__(self, connect: Callable[[], Any], placeholder: str) -> None:
+    def __init__(self, connect: Callable[[], Any], placeholder: str, at_once: int) -> None:
         self._connect, self.placeholder = connect, placeholder
         self._idle: list[Any] = []
+        self._turn = Semaphore(at_once)
 
     def ask(self, statement: str, values: Sequence[object]) -> Rows:
         """The names of the columns, and the rows."""
+        with self._turn:
+            return self._ask(statement, values)
+
+    def _ask(self, statement: str, values: Sequence[object]) -> Rows:
         try:
             connection = self._idle.pop()
         except IndexError:
@@ -71,11 +77,14 @@ def make_sqlite(path: Path) -> None:
 
 
 def sqlite(path: Path) -> Database:
-    """The database in a file, which is made if it isn't there."""
+    """The database in a file, which is made if it isn't there.
+
+    Its statements run one at a time: Python's SQLite lets another thread go on at each row, so that many of them at once crawl.
+    """
     if not path.exists():
         make_sqlite(path)
     address = f"{path.resolve().as_uri()}?mode=ro"
-    return Database(lambda: sqlite3.connect(address, uri=True, check_same_thread=False), "?")
+    return Database(lambda: sqlite3.connect(address, uri=True, check_same_thread=False), "?", 1)
 
 
 def make_postgres(cursor: Any) -> None:
@@ -104,4 +113,4 @@ def postgres(dsn: str) -> Database:
     with psycopg2.connect(dsn) as connection, connection.cursor() as cursor:
         make_postgres(cursor)
     connection.close()
-    return Database(connect, "%s")
+    return Database(connect, "%s", 32)
