@@ -8,35 +8,30 @@ const { readFileSync } = require('node:fs');
 const { createServer } = require('node:http');
 const { join } = require('node:path');
 const { buildSchema, execute, parse, validate } = require('graphql');
-const { Pool, types } = require('pg');
 const { DataLoader } = require('../node/dataloader.js');
+const { STATEMENTS, connect, rowsOf } = require('./statements.js');
 
 const SCHEMA = join(__dirname, '../../../clients/python/examples/shop/schema.graphql');
-const DATE = 1082;
+const pool = connect(process.argv[2]);
 
-const [host, user, database] = ['host', 'user', 'dbname'].map((name) => process.argv[2].match(new RegExp(`\\b${name}=(\\S+)`))?.[1]);
-const pool = new Pool({ host, user, database, max: 32 });
-types.setTypeParser(DATE, (text) => text);
-
-/** Runs a statement for these keys, and groups its rows by a column. */
-async function rowsByKey(head, column, tail, keys) {
-  const places = keys.map((_, place) => `$${place + 1}`).join(', ');
-  const { rows } = await pool.query(`${head} where ${column} in (${places}) ${tail}`, keys);
+/** The rows of a loader's batch, grouped by its column. */
+async function rowsByKey(name, keys) {
+  const [, column] = STATEMENTS[name];
   const groups = new Map(keys.map((key) => [String(key), []]));
-  for (const row of rows) groups.get(String(row[column])).push(row);
+  for (const row of await rowsOf(pool, STATEMENTS[name], keys)) groups.get(String(row[column])).push(row);
   return [...groups.values()];
 }
 
-const many = (head, column, tail) => () => new DataLoader((keys) => rowsByKey(head, column, tail, keys));
-const one = (head, column) => () => new DataLoader(async (keys) => (await rowsByKey(head, column, '', keys)).map(([row]) => row ?? null));
+const many = (name) => new DataLoader((keys) => rowsByKey(name, keys));
+const one = (name) => new DataLoader(async (keys) => (await rowsByKey(name, keys)).map(([row]) => row ?? null));
 
 const LOADERS = {
-  customerById: one('select id, name, email, city, joined from customers', 'id'),
-  customersByCity: many('select id, name, email, city, joined from customers', 'city', 'order by id'),
-  orderById: one('select id, customer_id, date, status from orders', 'id'),
-  ordersByCustomer: many('select id, customer_id, date, status from orders', 'customer_id', 'order by date, id'),
-  linesByOrder: many('select order_id, product_id, quantity, price from lines', 'order_id', 'order by product_id'),
-  productById: one('select id, name, category, price from products', 'id'),
+  customerById: one,
+  customersByCity: many,
+  orderById: one,
+  ordersByCustomer: many,
+  linesByOrder: many,
+  productById: one,
 };
 
 const RESOLVERS = {
@@ -75,7 +70,7 @@ async function answer(text) {
   const { query, variables } = JSON.parse(text);
   const { document, errors } = documentOf(query);
   if (errors.length > 0) return { errors };
-  const contextValue = Object.fromEntries(Object.entries(LOADERS).map(([name, make]) => [name, make()]));
+  const contextValue = Object.fromEntries(Object.entries(LOADERS).map(([name, make]) => [name, make(name)]));
   return execute({ schema, document, variableValues: variables, contextValue });
 }
 

@@ -4,7 +4,8 @@
     bench/clients/serving/with_postgres bench/clients/serving/measure.py [--seconds 20] [--connections 32] [--processes 1 2 4]
 
 Prints requests a second, and how many milliseconds at most half, 99 % and 99.9 % of the requests took, and the slowest one. At the end one of
-the processes behind nginx is killed in the middle of a run. The same is measured of graphql_js.js, if NODE_PATH has graphql and pg."""
+the processes behind nginx is killed in the middle of a run. The same is measured of node_client.js and
+graphql_js.js, if NODE_PATH has graphql and pg."""
 
 from __future__ import annotations
 
@@ -24,7 +25,7 @@ from urllib.request import Request, urlopen
 
 HERE = Path(__file__).resolve().parent
 SHOP = [sys.executable, "-B", str(HERE.parents[2] / "clients/python/examples/shop"), "--port", "0"]
-GRAPHQL_JS = ["node", str(HERE / "graphql_js.js")]
+IN_NODE = {"Node client": ["node", str(HERE / "node_client.js")], "graphql-js": ["node", str(HERE / "graphql_js.js")]}
 WORKLOADS = ["small", "large"]
 # a query of each workload, whose answers are compared
 COMPARED = [
@@ -128,9 +129,9 @@ def measure_all(words: Namespace) -> None:
         measure_alone("SQLite", [*SHOP, "--database", f"{folder}/shop.sqlite"], words)
     servers = {"PostgreSQL": [*SHOP, "--postgres", dsn]}
     if subprocess.run(["node", "-e", "require('graphql'); require('pg')"], stderr=subprocess.DEVNULL).returncode == 0:
-        servers["graphql-js, PostgreSQL"] = [*GRAPHQL_JS, dsn]
+        servers |= {f"{name}, PostgreSQL": [*words_of, dsn] for name, words_of in IN_NODE.items()}
     else:
-        print("left out: NODE_PATH has no graphql and pg, so graphql_js.js isn't measured beside it")
+        print("left out: NODE_PATH has no graphql and pg, so the servers in Node aren't measured beside it")
     answers = [measure_alone(name, server, words) for name, server in servers.items()]
     if any(other != answers[0] for other in answers):
         sys.exit("the servers answer differently")
