@@ -69,6 +69,7 @@ impl HostClient {
         ensures begun { OnOk result (IsBegun self.old (asked_in asked) self.new) }
         ensures kept { OnErr result (client_in self.new ≡ client_in self.old) }
         ensures busy { IsErrOf result Fault.Busy ↔ (is_busy self.old ≡ true) }
+        ensures unchanged { is_busy self.old ≡ true → self.new ≡ self.old }
     {
         match mem::replace(self, HostClient::Moved).into_idle() {
             Err(busy) => {
@@ -93,6 +94,7 @@ impl HostClient {
         ensures begun { OnOk result (IsBegun self.old (line_asked line.now) self.new) }
         ensures kept { OnErr result (client_in self.new ≡ client_in self.old) }
         ensures busy { IsErrOf result Fault.Busy ↔ (is_busy self.old ≡ true) }
+        ensures unchanged { is_busy self.old ≡ true → self.new ≡ self.old }
     {
         if self.is_busy() {
             return Err(Fault::Busy);
@@ -111,6 +113,7 @@ impl HostClient {
         ensures begun { OnOk result (IsBegun self.old (request_asked (flat_parts parts.now)) self.new) }
         ensures kept { OnErr result (client_in self.new ≡ client_in self.old) }
         ensures busy { IsErrOf result Fault.Busy ↔ (is_busy self.old ≡ true) }
+        ensures unchanged { is_busy self.old ≡ true → self.new ≡ self.old }
     {
         if self.is_busy() {
             return Err(Fault::Busy);

@@ -1,10 +1,10 @@
 //! What a client knows of keys, primed and cleared.
-ghost use Rattle.std.specs.Prelude.{◌≡◌, ◌≢◌, ◌∷◌, [], IfOk, IfErr, IfSome, OnOk, OnErr};
+ghost use Rattle.std.specs.Prelude.{true, ◌≡◌, ◌≢◌, ◌∷◌, [], IfOk, IfErr, IfSome, OnOk, OnErr};
 ghost use Rattle.load_memory.specs.Keys.{key_of};
 ghost use Rattle.load_memory.specs.Outcomes.{item_of};
 ghost use Rattle.load_rounds.specs.Histories.{ClearingAll};
 ghost use Rattle.server.specs.Clients.{begun};
-ghost use Rattle.host_clients.specs.Clients.{client_in};
+ghost use Rattle.host_clients.specs.Clients.{client_in, is_busy};
 ghost use Rattle.host_clients.specs.Known.{Calls, Clears, LimitsAnswers, OnClient, Primes, PrimesSaid, items_in, key_in};
 ghost use Rattle.host_clients.specs.Logs.{AreBatches, LogHolds};
 
@@ -51,6 +51,7 @@ impl HostClient {
     pub fn prime(&mut self, loader: usize, key: &Key, item: Item) -> Result<bool, Fault>
         ensures primed { IfOk result (λ added. OnClient (Primes loader (key_of key.now) (item_of item) added) self.old self.new) }
         ensures kept { IfErr result (λ fault. fault ≢ Fault.NoMemory → client_in self.new ≡ client_in self.old) }
+        ensures busy { is_busy self.old ≡ true → self.new ≡ self.old }
     {
         match mem::replace(self, HostClient::Moved).into_idle() {
             Err(busy) => {
@@ -83,6 +84,7 @@ impl HostClient {
         ensures primed { let key = key_in key_ends.now key_bytes.now in
             IfOk result (λ b. OnClient (PrimesSaid loader key (items_in reply.now) b) self.old self.new) }
         ensures kept { IfErr result (λ fault. fault ≢ Fault.NoMemory → client_in self.new ≡ client_in self.old) }
+        ensures busy { is_busy self.old ≡ true → self.new ≡ self.old }
     {
         let key = read_key(alloc, key_ends, key_bytes)?;
         match the_one(reply.items(alloc)?) {
@@ -105,6 +107,7 @@ impl HostClient {
     ) -> Result<bool, Fault>
         ensures cleared { IfOk result (λ there. OnClient (Clears loader (key_in key_ends.now key_bytes.now) there) self.old self.new) }
         ensures kept { IfErr result (λ fault. fault ≢ Fault.NoMemory → client_in self.new ≡ client_in self.old) }
+        ensures busy { is_busy self.old ≡ true → self.new ≡ self.old }
     {
         let key = read_key(alloc, key_ends, key_bytes)?;
         self.clear(loader, &key)
@@ -118,6 +121,7 @@ impl HostClient {
     pub fn clear(&mut self, loader: usize, key: &Key) -> Result<bool, Fault>
         ensures cleared { IfOk result (λ there. OnClient (Clears loader (key_of key.now) there) self.old self.new) }
         ensures kept { IfErr result (λ fault. fault ≢ Fault.NoMemory → client_in self.new ≡ client_in self.old) }
+        ensures busy { is_busy self.old ≡ true → self.new ≡ self.old }
     {
         match mem::replace(self, HostClient::Moved).into_idle() {
             Err(busy) => {
@@ -141,6 +145,7 @@ impl HostClient {
     pub fn clear_all(&mut self, loader: usize) -> Result<(), Fault>
         ensures cleared { OnOk result (OnClient (Calls (ClearingAll loader)) self.old self.new) }
         ensures kept { OnErr result (client_in self.new ≡ client_in self.old) }
+        ensures busy { is_busy self.old ≡ true → self.new ≡ self.old }
     {
         match mem::replace(self, HostClient::Moved).into_idle() {
             Err(busy) => {
@@ -164,6 +169,7 @@ impl HostClient {
     pub fn restart(&mut self) -> Result<(), Fault>
         ensures begun { OnOk result (OnClient (λ c d. d ≡ begun c) self.old self.new) }
         ensures kept { OnErr result (client_in self.new ≡ client_in self.old) }
+        ensures busy { is_busy self.old ≡ true → self.new ≡ self.old }
     {
         match mem::replace(self, HostClient::Moved).into_idle() {
             Err(busy) => {
@@ -187,6 +193,7 @@ impl HostClient {
     pub fn limit_answers(&mut self, most: Option<usize>) -> Result<(), Fault>
         ensures limited { OnOk result (OnClient (LimitsAnswers most) self.old self.new) }
         ensures kept { OnErr result (self.new ≡ self.old) }
+        ensures busy { is_busy self.old ≡ true → self.new ≡ self.old }
     {
         match mem::replace(self, HostClient::Moved).into_idle() {
             Err(busy) => {

@@ -1,5 +1,5 @@
 -- What handles hold, and what calls make of them.
-use Rattle.std.specs.Prelude.{◌≡◌, ◌≢◌, ℤ, ℕ, List, [], ◌∷◌, Bool, Option, Some, None, Result, Ok, Err, OnOk, IfOk, IfErr, length, if◌then◌else◌}
+use Rattle.std.specs.Prelude.{◌≡◌, ◌≢◌, ℤ, ℕ, List, [], ◌∷◌, Bool, true, Option, Some, None, Result, Ok, Err, OnOk, IfOk, IfErr, length, if◌then◌else◌}
 use Rattle.load_memory.specs.Keys.{KeyOf}
 use Rattle.load_memory.specs.Outcomes.{ItemOf}
 use Rattle.load_queue.specs.Orders.{OrderOf}
@@ -8,7 +8,7 @@ use Rattle.request_plans.specs.Servers.{ServerOf, IsServer}
 use Rattle.server.specs.Clients.{ClientOf}
 use Rattle.owned_hand.specs.declared.handed_in.HandedIn.{HandedIn}
 use Rattle.host_clients.specs.Asked.{HostAsked}
-use Rattle.host_clients.specs.Clients.{Advances, HasCount, IsBegun, TakesFailure, TakesReply, client_in}
+use Rattle.host_clients.specs.Clients.{Advances, HasCount, IsBegun, TakesFailure, TakesReply, client_in, is_busy}
 use Rattle.host_clients.specs.Faults.{code_of}
 use Rattle.host_clients.specs.Known.{OnClient, PrimesSaid, Clears}
 use Rattle.host_clients.specs.UnderWay.{IsAnswerOf, orders_out}
@@ -64,10 +64,10 @@ Opens schema bindings old new code = (made : Result Object Fault) × IfOk made (
 
 -- ---- what is asked of a client
 
--- it is begun, or the client is as it was
+-- it is begun, or the client is as it was, and what is under way too
 abbrev pub BeginsWith : HostAsked → HostClient → HostClient → Result (Unit {0}) Fault → Type 0
 BeginsWith asked old new (Ok done) = IsBegun old asked new
-BeginsWith asked old new (Err e) = client_in new ≡ client_in old
+BeginsWith asked old new (Err e) = (client_in new ≡ client_in old) × (is_busy old ≡ true → new ≡ old)
 
 -- what a call to go on makes of an object
 abbrev pub AdvancesObject : Object → Object → Result Progress Fault → Type 0
@@ -95,9 +95,9 @@ TakesFailed order text old new done = OnOk done (TakesFailure order text old new
 
 -- ---- what a client knows
 
--- this is made of the client, or it is as it was unless memory ran out
+-- this is made of the client, or it is as it was unless memory ran out; what is under way stays as it is
 abbrev pub Becomes : (ClientOf HandedIn → ClientOf HandedIn → Type 0) → HostClient → HostClient → Result (Unit {0}) Fault → Type 0
-Becomes becomes old new done = OnOk done (OnClient becomes old new) × IfErr done (λ e. e ≢ fault.NoMemory → client_in new ≡ client_in old)
+Becomes becomes old new done = OnOk done (OnClient becomes old new) × IfErr done (λ e. e ≢ fault.NoMemory → client_in new ≡ client_in old) × (is_busy old ≡ true → new ≡ old)
 
 -- the same, and what the call tells of it is written as a number
 abbrev pub Tells : (Bool → ClientOf HandedIn → ClientOf HandedIn → Type 0) → ℕ → HostClient → HostClient → Result (Unit {0}) Fault → Type 0
