@@ -64,10 +64,14 @@ Opens schema bindings old new code = (made : Result Object Fault) × IfOk made (
 
 -- ---- what is asked of a client
 
+-- a request that is being answered stays as it is
+abbrev pub StaysUnderWay : HostClient → HostClient → Type 0
+StaysUnderWay old new = is_busy old ≡ true → new ≡ old
+
 -- it is begun, or the client is as it was, and what is under way too
 abbrev pub BeginsWith : HostAsked → HostClient → HostClient → Result (Unit {0}) Fault → Type 0
 BeginsWith asked old new (Ok done) = IsBegun old asked new
-BeginsWith asked old new (Err e) = (client_in new ≡ client_in old) × (is_busy old ≡ true → new ≡ old)
+BeginsWith asked old new (Err e) = (client_in new ≡ client_in old) × StaysUnderWay old new
 
 -- what a call to go on makes of an object
 abbrev pub AdvancesObject : Object → Object → Result Progress Fault → Type 0
@@ -95,9 +99,13 @@ TakesFailed order text old new done = OnOk done (TakesFailure order text old new
 
 -- ---- what a client knows
 
+-- unless memory ran out, a refused call leaves the client as it was
+abbrev pub KeepsClient : HostClient → HostClient → Result (Unit {0}) Fault → Type 0
+KeepsClient old new done = IfErr done (λ e. e ≢ fault.NoMemory → client_in new ≡ client_in old)
+
 -- this is made of the client, or it is as it was unless memory ran out; what is under way stays as it is
 abbrev pub Becomes : (ClientOf HandedIn → ClientOf HandedIn → Type 0) → HostClient → HostClient → Result (Unit {0}) Fault → Type 0
-Becomes becomes old new done = OnOk done (OnClient becomes old new) × IfErr done (λ e. e ≢ fault.NoMemory → client_in new ≡ client_in old) × (is_busy old ≡ true → new ≡ old)
+Becomes becomes old new done = OnOk done (OnClient becomes old new) × KeepsClient old new done × StaysUnderWay old new
 
 -- the same, and what the call tells of it is written as a number
 abbrev pub Tells : (Bool → ClientOf HandedIn → ClientOf HandedIn → Type 0) → ℕ → HostClient → HostClient → Result (Unit {0}) Fault → Type 0
