@@ -25,7 +25,7 @@ pub fn push_keys(text: &mut String, keys: &[Key]) -> Result<(), AllocError> {
 fn push_batch(text: &mut String, batch: &Asked) -> Result<(), AllocError> {
     let round = batch.round;
     write!(text, "; round {round} ")?;
-    push_keys(text, &batch.keys)?;
+    push_keys(text, batch.keys.as_slice())?;
     text.push_str(if batch.stored {
         " stored"
     } else {

@@ -4,7 +4,9 @@ ghost use Rattle.std.specs.Prelude.{◌≡◌, ◌<◌, All, IsTrue, length};
 
 use crate::keys::{key_of, keys_of, mode_of};
 use anyhow::{Context, Result, bail};
-use load_memory::{CacheKey, Item, KeyMode, Memory, NoMemory, Outcome, Reply, Shelf, cache_key};
+use load_memory::{
+    CacheKey, Item, KeyMode, Keys, Memory, NoMemory, Outcome, Reply, Shelf, cache_key,
+};
 use std::alloc::{AllocGlobal, Global};
 use std::sync::Wait;
 
@@ -66,7 +68,7 @@ fn reply(alloc: Global, written: &str) -> Result<Reply> {
     }
     Ok(Reply {
         loader: loader.parse()?,
-        keys: keys_of(alloc, keys, ' ')?,
+        keys: Keys::from_vec(keys_of(alloc, keys, ' ')?)?,
         outcomes,
     })
 }

@@ -41,7 +41,7 @@ fn log(alloc: Global, session: &ClientSession<Directory>) -> anyhow::Result<Stri
     let mut text = String::from_str(alloc, "log:")?;
     for batch in session.session().logs(PERSON_BY_ID).unwrap_or(&[]) {
         text.push_str(format!(in alloc; " round {}", batch.round)?.as_str())?;
-        for key in &batch.keys {
+        for key in batch.keys.as_slice() {
             if let Key::Text(id) = key {
                 text.push(' ')?;
                 text.push_str(id.as_str())?;

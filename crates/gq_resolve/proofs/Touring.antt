@@ -6,7 +6,7 @@ use Rattle.schema_syntax.specs.Tree.{Definition}
 use Rattle.text_place.specs.declared.place.Place.{Place}
 use Rattle.gq_bindings.specs.Tree.{StepOf}
 use Rattle.load_memory.specs.Rows.{RowOf}
-use Rattle.load_memory.specs.declared.key.CacheKey.{CacheKey}
+use Rattle.load_memory.specs.declared.probe.Probe.{Probe}
 use Rattle.execution.specs.Loads.{Reader}
 use Rattle.execution.specs.Program.{Kind, ListOf, ObjectOf, Item, Null, Program, Is, Under, Programs, End, With}
 use Rattle.gq_check.specs.Plans.{PlanOf}
@@ -79,7 +79,7 @@ module _ {S : Type 0} {goes : Putting S} {below : Below S} {most : ℕ} {plan : 
   walks-as non_null R p q g same = goes-as g (λ k v cov. ap (λ x. puts non_null x R) (same k v cov))
 
   -- what a look-up changes is none of what is put
-  pub goes-probed : {known : Type 0} {ps : View → List Put} {a b : Progress S} (probe : CacheKey) → Goes goes below most plan known ps (record a { probe = probe }) b → Goes goes below most plan known ps a b
+  pub goes-probed : {known : Type 0} {ps : View → List Put} {a b : Progress S} (probe : Probe) → Goes goes below most plan known ps (record a { probe = probe }) b → Goes goes below most plan known ps a b
   goes-probed probe p = record { grows = p.grows; front = p.front; puts = p.puts }
 
   -- a position that follows those before it

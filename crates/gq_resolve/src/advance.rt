@@ -19,7 +19,7 @@ use crate::tour::{Loading, Progress, Tour};
 use crate::waiting::Waiting;
 use crate::wanting::wanted;
 use gq_lexer::Place;
-use load_memory::{CacheKey, NoMemory, Row};
+use load_memory::{NoMemory, Probe, Row};
 use load_queue::Wants;
 use plan_program::{collect, prepare_groups};
 
@@ -73,7 +73,7 @@ pub fn gone_over<'p, S: Sink + Drop>(
     let Rooted { members, groups } = rooted;
     let mut at = Progress {
         groups,
-        probe: CacheKey::new(),
+        probe: Probe::new(),
         out,
     };
     let row = Row::new(tour.alloc, &[])?;
@@ -137,7 +137,7 @@ fn searched<'p>(
     let Rooted { members, groups } = rooted;
     let mut at = Progress {
         groups,
-        probe: CacheKey::new(),
+        probe: Probe::new(),
         out: Output::unwritten(tour.alloc),
     };
     for position in waiting {

@@ -13,7 +13,7 @@ use crate::sink::Sink;
 use crate::tour::{Loading, Progress, Tour};
 use crate::waiting::Blocked;
 use gq_check::Plan;
-use load_memory::{CacheKey, KeyRef, Memory, NoMemory};
+use load_memory::{KeyRef, Memory, NoMemory, Probe};
 use plan_program::LeafValue;
 use std::alloc::Global;
 
@@ -152,7 +152,7 @@ pub fn loads_read(alloc: Global, plan: &Plan, memory: &Memory) -> Result<u64, No
     let Rooted { groups, .. } = rooted;
     let mut at = Progress {
         groups,
-        probe: CacheKey::new(),
+        probe: Probe::new(),
         out,
     };
     read_all(&tour, memory, &mut at)

@@ -10,7 +10,7 @@ ghost use Rattle.gq_resolve.specs.Following.{StepsTo, ComesTo, FollowsTo};
 use crate::keys::{KeyOver, column_over};
 use crate::reading::look_up;
 use gq_bindings::Step;
-use load_memory::{CacheKey, KeyRef, Memory, NoMemory, Outcome, Row};
+use load_memory::{KeyRef, Memory, NoMemory, Outcome, Probe, Row};
 use plan_program::{LeafValue, no_column_message};
 use std::alloc::Global;
 
@@ -42,7 +42,7 @@ pub enum Followed<'r> {
 fn step_from<'r>(
     alloc: Global,
     memory: &'r Memory,
-    probe: &mut CacheKey,
+    probe: &mut Probe,
     step: &'r Step,
     row: &'r Row,
 ) -> Result<Stepped<'r>, NoMemory>
@@ -81,7 +81,7 @@ fn first_row_of<'r>(outcome: &'r Outcome) -> Result<Stepped<'r>, NoMemory>
 pub fn follow_steps<'r>(
     alloc: Global,
     memory: &'r Memory,
-    probe: &mut CacheKey,
+    probe: &mut Probe,
     steps: &'r [Step],
     left: usize,
     from: &'r Row,

@@ -6,15 +6,14 @@ ghost use Rattle.load_memory.specs.Keys.{borrowed_of};
 ghost use Rattle.load_memory.specs.Outcomes.{outcome_of};
 ghost use Rattle.gq_resolve.specs.Evaluated.{lookup};
 
-use load_memory::{CacheKey, KeyRef, Memory, NoMemory, Outcome};
+use load_memory::{KeyRef, Memory, NoMemory, Outcome, Probe};
 use std::alloc::Global;
 
-/// What the memory says of a key of a loader; nothing where there is no such loader. It is looked up by a cache key that is
-/// set to that of this key.
+/// What the memory says of a key of a loader; nothing where there is no such loader.
 pub fn look_up<'m>(
     alloc: Global,
     memory: &'m Memory,
-    probe: &mut CacheKey,
+    probe: &mut Probe,
     loader: usize,
     key: KeyRef<'_>,
 ) -> Result<Option<&'m Outcome>, NoMemory>
@@ -27,6 +26,5 @@ pub fn look_up<'m>(
     if loader >= memory.modes().len() {
         return Ok(None);
     }
-    probe.set(alloc, key, memory.mode(loader))?;
-    Ok(memory.get(loader, probe))
+    memory.look_up(alloc, probe, loader, key)
 }

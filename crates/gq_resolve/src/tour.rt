@@ -19,7 +19,7 @@ use crate::positions::{Items, Kind, Leaf, Nullability, Onward};
 use crate::reading::look_up;
 use crate::sink::Sink;
 use gq_check::Plan;
-use load_memory::{CacheKey, Key, KeyRef, Memory, NoMemory, Outcome, Row};
+use load_memory::{Key, KeyRef, Memory, NoMemory, Outcome, Probe, Row};
 use plan_program::{KeyFrom, LeafValue, no_column_message};
 use std::alloc::Global;
 
@@ -39,7 +39,7 @@ pub struct Progress<'p, S> {
     /// The groups that were met.
     pub groups: Vec<Group<'p>>,
     /// What the memory is asked by, of one load after another.
-    pub probe: CacheKey,
+    pub probe: Probe,
     pub out: S,
 }
 

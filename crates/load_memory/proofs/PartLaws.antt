@@ -42,6 +42,10 @@ lookup-same test q is (e ∷ es) = rw (is e.0, lookup-same test q is es) refl
 pub lookup-cache : (k : CacheKey) (es : EntriesOf) → option_map outcome_of (lookup ((cache_eq.eq-value).it k) es) ≡ look_in es (cache_of k)
 lookup-cache k es = ap (option_map outcome_of) (lookup-same ((cache_eq.eq-value).it k) (cache_of k) (cache-eq k) es)
 
+-- the outcome of an entry is that of its key
+pub look_in-at : (known : CacheKey) (key : KeyOf) (es : EntriesOf) (o : Outcome) → lookup ((cache_eq.eq-value).it known) es ≡ Some o → cache_of known ≡ key → look_in es key ≡ Some (outcome_of o)
+look_in-at known key es o at same = ap (look_in es) (sym same) ∙ sym (lookup-cache known es) ∙ ap (option_map outcome_of) at
+
 mapped-none : (o : Option Outcome) → option_map outcome_of o ≡ None → o ≡ None
 mapped-none None e = refl
 mapped-none (Some x) e = absurd (cc e)

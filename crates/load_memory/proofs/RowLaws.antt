@@ -56,3 +56,16 @@ module _ (name : List ℕ) where
   -- a column that is found is one of the columns
   pub column-within : (names : List (List ℕ)) (i : ℕ) → Some i ≡ position (λ n. bytes_eq n name) names → i < length names
   column-within names i at = (position-Some (λ n. bytes_eq n name) names i [] (sym at)).0
+
+-- how wide a row is, and what it has in a column by its place
+pub paired-length : (names cells : List (List ℕ)) → length cells ≡ length names → length (paired names cells) ≡ length names
+paired-length [] cells same = refl
+paired-length (n ∷ ns) [] same = absurd (omega arith)
+paired-length (n ∷ ns) (c ∷ cs) same = ap suc (paired-length ns cs (omega arith))
+
+pub paired-at : (names cells : List (List ℕ)) (i : ℕ) → length cells ≡ length names → i < length names
+    → get_or (paired names cells) i ([], []) ≡ (get_or names i [], get_or cells i [])
+paired-at [] cells i same lt = absurd (omega arith)
+paired-at (n ∷ ns) [] i same lt = absurd (omega arith)
+paired-at (n ∷ ns) (c ∷ cs) zero same lt = refl
+paired-at (n ∷ ns) (c ∷ cs) (suc i) same lt = paired-at ns cs i (omega arith) (omega arith)

@@ -3,21 +3,16 @@ use Rattle.std.proofs.Common.{◌≡◌, ℕ, zero, suc, ◌<◌, ◌≤◌, ◌
 use Rattle.std.proofs.lemmas.Bool.{eqb-true, eqb-false, eq-eqb, ne_eqb}
 use Rattle.std.proofs.lemmas.List.{map-append}
 use Rattle.std.proofs.lemmas.List.Elements.{All-head, All-tail}
-use Rattle.std.proofs.lemmas.Map.Entries.{place_from_lookup}
-use Rattle.std.specs.Prelude.{◌==◌, ◌&&◌, option_map, if◌then◌else◌, slice_set, All}
+use Rattle.std.specs.Prelude.{◌==◌, ◌&&◌, if◌then◌else◌, slice_set, All}
 use Rattle.std.specs.Option.{option_or}
 use Rattle.std.specs.HashMap.{spare}
-use Rattle.std.specs.Map.{lookup}
 use Rattle.load_memory.specs.Keys.{KeyOf, cache_of, same_key}
 use Rattle.load_memory.specs.Outcomes.{OutcomeOf, outcome_of, is_failed}
 use Rattle.load_memory.specs.Pairs.{look, IsSameMap, unless_failed}
-use Rattle.load_memory.specs.Parts.{PartOf, EntriesOf, pairs_from, look_in, room_at, count_at, HaveRoom, staged_of, AreUnfailed}
-use Rattle.load_memory.specs.declared.key.CacheKey.{CacheKey}
-use Rattle.load_memory.specs.declared.outcome.Outcome.{Outcome}
+use Rattle.load_memory.specs.Parts.{PartOf, pairs_from, look_in, room_at, count_at, HaveRoom, staged_of, AreUnfailed}
 use Rattle.load_memory.specs.declared.part.Staged.{Staged}
-use Rattle.load_memory.specs.contracts.key.CacheKeyPartialEq.TheImpl as cache_eq
-use Rattle.load_memory.proofs.Looks.{same_key-is, first_of_two, look-append}
-use Rattle.load_memory.proofs.PartLaws.{lookup-cache, pairs-counted}
+use Rattle.load_memory.proofs.Looks.{first_of_two, look-append}
+use Rattle.load_memory.proofs.PartLaws.{pairs-counted}
 use Rattle.load_memory.proofs.ChangeLaws.{look-changed, item-known}
 
 -- the room of one part
@@ -105,21 +100,6 @@ module _ (ps : List PartOf) (s : Staged) (rest : List Staged) (x d : PartOf) (lt
 
   pub counted-step : (n : ℕ) → length x.entries ≡ length d.entries + n → length (pairs_from 0 (slice_set ps s.loader x)) ≡ length (pairs_from 0 ps) + n
   counted-step n e = let same : length d.entries ≡ length (get_or ps s.loader d).entries = ap (λ (p : PartOf). length p.entries) at in omega (arith, e, same, pairs-counted 0 ps s.loader x d lt)
-
--- entries in another order, of which each key finds what it found
-find-key : KeyOf → CacheKey → Bool
-find-key q x = same_key q (cache_of x)
-
-pub look_in-reordered : (old new : EntriesOf) → ((k : CacheKey) → lookup ((cache_eq.eq-value).it k) new ≡ lookup ((cache_eq.eq-value).it k) old) → (q : KeyOf) → look_in new q ≡ look_in old q
-unfolding find-key
-look_in-reordered old new same q = go (lookup (find-key q) old) refl (lookup (find-key q) new) refl where
-  at-key : (k : CacheKey) → find-key q k ≡ true → look_in new q ≡ look_in old q
-  at-key k e = rw (same_key-is q (cache_of k) e) (sym (lookup-cache k new) ∙ ap (option_map outcome_of) (same k) ∙ lookup-cache k old)
-
-  go : (a : Option Outcome) → lookup (find-key q) old ≡ a → (b : Option Outcome) → lookup (find-key q) new ≡ b → look_in new q ≡ look_in old q
-  go None e None h = ap (option_map outcome_of) (h ∙ sym e)
-  go (Some v) e b h = let p = place_from_lookup (find-key q) old v e in at-key p.1 p.3
-  go None e (Some v) h = let p = place_from_lookup (find-key q) new v h in at-key p.1 p.3
 
 -- one part holds what it held
 module _ (ps : List PartOf) (i : ℕ) (x d : PartOf) (lt : i < length ps) (at : d ≡ get_or ps i d) where

@@ -68,7 +68,7 @@ staged_of s = record { loader = s.loader; key = cache_of s.key; outcome = outcom
 
 -- the pairs of a reply were added to those that are to be stored
 abbrev pub AddsReply : KeyMode → Reply → List Staged → List Staged → Type 0
-AddsReply mode r old new = map staged_of new ≡ map staged_of old ++ reply_pairs mode r.loader (map key_of r.keys.items) (map outcome_of r.outcomes.items)
+AddsReply mode r old new = map staged_of new ≡ map staged_of old ++ reply_pairs mode r.loader (map key_of r.keys) (map outcome_of r.outcomes.items)
 
 -- how many of these are of the loader of a number
 abbrev pub count_at : ℕ → List Staged → ℕ

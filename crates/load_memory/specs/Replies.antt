@@ -12,7 +12,7 @@ pub record ReplyOf : Type 0 where
   pub outcomes : List OutcomeOf
 
 abbrev pub reply_of : Reply → ReplyOf
-reply_of r = record { loader = r.loader; keys = map key_of r.keys.items; outcomes = map outcome_of r.outcomes.items }
+reply_of r = record { loader = r.loader; keys = map key_of r.keys; outcomes = map outcome_of r.outcomes.items }
 
 -- the pairs of a reply, place by place
 abbrev pub reply_pairs : KeyMode → ℕ → List KeyOf → List OutcomeOf → List PairOf

@@ -1,21 +1,22 @@
 //! The memory: a finite map from a loader's number and a cache key to an outcome.
 ghost use Rattle.std.specs.Prelude.{IsTrue, ◌↔◌, ◌≡◌, ◌==◌, ◌<◌, [], All, map, length, Some, IfOk, OnOk, OnErr, is_some, is_none, option_map, option_copied, slice_get};
-ghost use Rattle.load_memory.specs.Keys.{cache_of};
+ghost use Rattle.load_memory.specs.Keys.{borrowed_of, cache_of, folded, mode_at};
 ghost use Rattle.load_memory.specs.Outcomes.{known, outcome_of, item_of};
 ghost use Rattle.load_memory.specs.Pairs.{pair_of, look, primed, IsSameMap, AreApart, IsWithout, is_key, IsUnfailed, IsUnfailedAt, IsWith};
 ghost use Rattle.load_memory.specs.Parts.{staged_of};
 ghost use Rattle.load_memory.specs.Replies.{reply_of, pairs_of};
 ghost use Rattle.load_memory.specs.Shelves.{IsOn, shown};
 
-use crate::key::{CacheKey, KeyMode};
+use crate::key::{CacheKey, KeyMode, KeyRef};
 use crate::no_memory::NoMemory;
 use crate::outcome::{Item, Outcome};
-use crate::part::{Part, Staged, drop_failed_of, put_absent, take_out};
+use crate::part::{Part, Staged, at_place, drop_failed_of, find, put_absent, take_out};
+use crate::probe::Probe;
 use crate::reply::Reply;
 use crate::shelf::{Receipt, Shelf};
 use crate::store::{clear_parts, counts_of, has_failed, make_room, put_all, stage, stage_owned};
+use indexmap::IndexMap;
 use std::alloc::Global;
-use std::collections::HashMap;
 use std::marker::Model;
 
 /// What is known of the keys of each loader. A contract sees the loaders' modes and the pairs.
@@ -48,7 +49,7 @@ impl Memory {
     {
         let mut parts = Vec::with_capacity(alloc, modes.len())?;
         for _ in 0..modes.len() {
-            parts.push(HashMap::new(alloc))?;
+            parts.push(IndexMap::new(alloc))?;
         }
         Ok(Memory {
             modes,
@@ -80,6 +81,36 @@ impl Memory {
             ≡ look self.now.pairs loader (cache_of key.now) }
     {
         self.parts[loader].get(key)
+    }
+
+    /// What is known of a loader's key, as [`get`](Memory::get) tells it of the key's cache key. A key that follows the one that
+    /// the probe found before, in the order in which they were stored, is found without its hash.
+    pub fn look_up(
+        &self,
+        alloc: Global,
+        probe: &mut Probe,
+        loader: usize,
+        key: KeyRef<'_>,
+    ) -> Result<Option<&Outcome>, NoMemory>
+        requires { loader < length self.now.modes }
+        ensures { IfOk result (λ outcome. option_map outcome_of (option_copied outcome)
+            ≡ look self.now.pairs loader (folded (mode_at self.now.modes loader) (borrowed_of key.entry))) }
+    {
+        let mode = self.mode(loader);
+        let part = &self.parts[loader];
+        let place = probe.place(loader);
+        if let Some(outcome) = at_place(part, place, mode, key) {
+            probe.found(loader, place);
+            return Ok(Some(outcome));
+        }
+        probe.key.set(alloc, key, mode)?;
+        match find(part, &probe.key) {
+            Some((place, outcome)) => {
+                probe.found(loader, place);
+                Ok(Some(outcome))
+            }
+            None => Ok(None),
+        }
     }
 
     /// The number of keys that are known, of all loaders together.
@@ -188,8 +219,7 @@ impl Memory {
         self.store(pairs)
     }
 
-    /// As [`keep`](Memory::keep), but takes the replies by value. It copies no key and no outcome. The replies
-    /// are gone even when out of memory.
+    /// As [`keep`](Memory::keep), but takes the replies by value. It copies no outcome. The replies are gone even when out of memory.
     pub fn keep_owned(&mut self, replies: Vec<Reply>) -> Result<(), NoMemory>
         requires { All (λ (r : Reply). r.loader < length self.old.modes) replies.items }
         ensures pairs { OnOk result (IsWith self.old.pairs

@@ -1,18 +1,18 @@
 //! One loader's part of the memory, and the pairs that are to be stored in it.
-ghost use Rattle.std.specs.Prelude.{◌≡◌, ◌<◌, ◌≤◌, ◌+◌, length, ℕ, None, IfOk, OnOk, OnErr, IsOk, is_some, is_none, if◌then◌else◌};
+ghost use Rattle.std.specs.Prelude.{◌≡◌, ◌<◌, ◌≤◌, ◌+◌, length, ℕ, None, IfOk, OnOk, OnErr, IsOk, IfSome, Some, is_some, is_none, option_map, if◌then◌else◌};
 ghost use Rattle.std.specs.HashMap.{IsUnchanged, spare};
-ghost use Rattle.load_memory.specs.Keys.{KeyOf, cache_of, same_key};
+ghost use Rattle.load_memory.specs.Keys.{KeyOf, borrowed_of, cache_of, folded, same_key};
 ghost use Rattle.load_memory.specs.Outcomes.{outcome_of};
 ghost use Rattle.load_memory.specs.Pairs.{unless_failed};
 ghost use Rattle.load_memory.specs.Parts.{look_in, HasOwnKeys, HasPut, HasPutIfAbsent};
 
-use crate::key::CacheKey;
+use crate::key::{CacheKey, KeyMode, KeyRef};
 use crate::no_memory::NoMemory;
 use crate::outcome::Outcome;
-use std::collections::HashMap;
+use indexmap::IndexMap;
 
-/// One loader's part of the memory.
-pub(crate) type Part = HashMap<CacheKey, Outcome>;
+/// One loader's part of the memory. Its keys have places, which stay until one is taken out.
+pub(crate) type Part = IndexMap<CacheKey, Outcome>;
 
 /// A pair that is to be stored.
 #[derive(Drop)]
@@ -55,6 +55,35 @@ pub(crate) fn put(part: &mut Part, key: CacheKey, outcome: Outcome) -> bool
     true
 }
 
+/// The outcome at a place, if the key there is seen to be this one. It takes no hash.
+pub(crate) fn at_place<'m>(
+    part: &'m Part,
+    place: usize,
+    mode: KeyMode,
+    key: KeyRef<'_>,
+) -> Option<&'m Outcome>
+    ensures { IfSome result (λ o. look_in part.now.entries (folded mode (borrowed_of key.entry)) ≡ Some (outcome_of o.now)) }
+{
+    let Some((known, outcome)) = part.get_index(place) else {
+        return None;
+    };
+    if known.is_of(key, mode) {
+        Some(outcome)
+    } else {
+        None
+    }
+}
+
+/// The outcome of a key, and the place of that key.
+pub(crate) fn find<'m>(part: &'m Part, key: &CacheKey) -> Option<(usize, &'m Outcome)>
+    ensures { option_map (λ f. outcome_of f.1.now) result ≡ look_in part.now.entries (cache_of key.now) }
+{
+    match part.get_full(key) {
+        Some((place, _, outcome)) => Some((place, outcome)),
+        None => None,
+    }
+}
+
 /// Takes a pair out, where its key is there.
 pub(crate) fn take_out(part: &mut Part, key: &CacheKey) -> bool
     ensures found { result ≡ is_some (look_in part.old.entries (cache_of key.now)) }
@@ -63,7 +92,7 @@ pub(crate) fn take_out(part: &mut Part, key: &CacheKey) -> bool
     ensures count { length part.new.entries + (if result then 1 else 0) ≡ length part.old.entries }
     ensures own_keys { HasOwnKeys part.new }
 {
-    part.remove(key).is_some()
+    part.swap_remove(key).is_some()
 }
 
 /// Takes out the pairs whose batch failed as a whole, and gives their number.

@@ -1,5 +1,5 @@
 //! What came of one order.
-use crate::key::Key;
+use crate::keys::Keys;
 use crate::outcome::Outcome;
 
 /// The outcomes of keys that were asked together of one loader.
@@ -8,7 +8,7 @@ pub struct Reply {
     /// The loader's number, from 0.
     pub loader: usize,
     /// The keys that were asked, in order.
-    pub keys: Vec<Key>,
+    pub keys: Keys,
     /// One outcome for each key, at the key's place.
     pub outcomes: Vec<Outcome>,
 }

@@ -3,7 +3,7 @@ ghost use Rattle.std.specs.Prelude.{◌≡◌, ◌<◌, ◌≤◌, ◌+◌, fals
 ghost use Rattle.load_memory.specs.Pairs.{IsSameMap, IsWith};
 ghost use Rattle.load_memory.specs.Parts.{HaveOwnKeys, HaveRoom, room_at, count_at, pairs_from, staged_of, AreUnfailed, AddsReply};
 
-use crate::key::{CacheKey, KeyMode, cache_key};
+use crate::key::{KeyMode, cache_key};
 use crate::no_memory::NoMemory;
 use crate::part::{Part, Staged, put};
 use crate::reply::Reply;
@@ -15,7 +15,8 @@ pub(crate) fn stage(pairs: &mut Vec<Staged>, mode: KeyMode, reply: &Reply) -> Re
 {
     let alloc = *pairs.allocator();
     let mut outcomes = reply.outcomes.iter();
-    for key in reply.keys.iter() {
+    let asked = reply.keys.as_slice();
+    for key in asked {
         let Some(outcome) = outcomes.next() else {
             return Ok(());
         };
@@ -28,7 +29,7 @@ pub(crate) fn stage(pairs: &mut Vec<Staged>, mode: KeyMode, reply: &Reply) -> Re
     Ok(())
 }
 
-/// Adds the pairs of a reply that is handed over, as [`stage`] does. It copies no key and no outcome.
+/// Adds the pairs of a reply that is handed over, as [`stage`] does. It copies no outcome.
 pub(crate) fn stage_owned(
     pairs: &mut Vec<Staged>,
     mode: KeyMode,
@@ -41,15 +42,17 @@ pub(crate) fn stage_owned(
         keys,
         outcomes,
     } = reply;
-    pairs.reserve(keys.len())?;
+    let alloc = *pairs.allocator();
     let mut outcomes = outcomes.into_iter();
-    for key in keys {
+    let asked = keys.as_slice();
+    pairs.reserve(asked.len())?;
+    for key in asked {
         let Some(outcome) = outcomes.next() else {
             return Ok(());
         };
         pairs.push(Staged {
             loader,
-            key: CacheKey::of(key, mode),
+            key: cache_key(alloc, key, mode)?,
             outcome,
         })?;
     }

@@ -1,8 +1,8 @@
 -- The pieces of keys that are cut off the front, one after another.
-use Rattle.std.proofs.Common.{◌≡◌, ℕ, zero, suc, ◌<◌, ◌≤◌, min, List, [], ◌∷◌, ◌++◌, map, length, take, drop, refl, ap, arith, length-drop, append_assoc, sym, None, ◌∙◌, Option, Some, inl, inr}
+use Rattle.std.proofs.Common.{◌≡◌, ℕ, zero, suc, ◌<◌, ◌≤◌, List, [], ◌∷◌, ◌++◌, map, length, take, drop, refl, ap, arith, length-drop, append_assoc, None, ◌∙◌, Option, Some, inl, inr}
 use Rattle.std.proofs.Math.ListN.{drop_of_length-le}
 use Rattle.std.proofs.Math.Nat.{le_refl}
-use Rattle.std.proofs.lemmas.List.{append-nil, take-append-drop, length-append, length-take, take-map, drop-map, length-map}
+use Rattle.std.proofs.lemmas.List.{append-nil, take-append-drop, length-take, take-map, drop-map, length-map}
 use Rattle.std.proofs.lemmas.Bool.{cases_lt}
 use Rattle.load_memory.specs.Keys.{KeyOf}
 use Rattle.load_queue.specs.Orders.{OrderOf, order_of}
@@ -19,35 +19,17 @@ pieces-enough n (suc f) (suc g) (k ∷ keys) a b p =
     let falls = length-drop n (k ∷ keys) in
     ap (λ ps. take n (k ∷ keys) ∷ ps) (pieces-enough n f g (drop n (k ∷ keys)) (omega (arith, falls, a, p)) (omega (arith, falls, b, p)) p)
 
--- the first n of a list, and the rest
-split-at : {X : Type 0} (n : ℕ) (xs ys : List X) → length xs ≡ min n (length (xs ++ ys)) → (take n (xs ++ ys) ≡ xs) × (drop n (xs ++ ys) ≡ ys)
-split-at zero [] ys e = (refl, refl)
-split-at zero (x ∷ xs) ys e = absurd (omega arith)
-split-at (suc n) [] [] e = (refl, refl)
-split-at (suc n) [] (y ∷ ys) e = absurd (omega arith)
-split-at (suc n) (x ∷ xs) ys e = let rest = split-at n xs ys (omega arith) in (ap (λ zs. x ∷ zs) rest.0, rest.1)
-
-cut-parts : {X : Type 0} (n : ℕ) (all xs ys : List X) → all ≡ xs ++ ys → length xs ≡ min n (length all) → (take n all ≡ xs) × (drop n all ≡ ys)
-cut-parts n all xs ys e many = rw e (split-at n xs ys (rw e at many))
-
 -- the pieces of what is left
 abbrev pub left : {X K : Type 0} → (X → K) → ℕ → List X → List (List K)
 left v n xs = pieces (length xs) n (map v xs)
 
 module _ {X K : Type 0} (v : X → K) (n : ℕ) (positive : 0 < n) where
-  pub left-none : (xs : List X) → length xs ≡ 0 → left v n xs ≡ []
-  left-none [] e = refl
-  left-none (x ∷ xs) e = absurd (omega arith)
-
-  pub left-step : (rest xs ys : List X) → rest ≡ xs ++ ys → length xs ≡ min n (length rest) → 0 < length rest → left v n rest ≡ map v xs ∷ left v n ys
-  left-step [] xs ys e many some = absurd (omega arith)
-  left-step (x ∷ rest) xs ys e many some =
-      let parts = cut-parts n (x ∷ rest) xs ys e many in
-      let first : take n (x ∷ rest) ≡ xs = parts.0 in
-      let last : drop n (x ∷ rest) ≡ ys = parts.1 in
-      let falls = length-drop n (x ∷ rest) in
-      let fits : length ys ≤ length rest = omega (arith, falls, ap length last, positive) in
-      rw (take-map v n (x ∷ rest), first, drop-map v n (x ∷ rest), last) (ap (λ ps. map v xs ∷ ps) (pieces-enough n (length rest) (length ys) (map v ys) (omega (arith, length-map ys v, fits)) (omega (arith, length-map ys v)) positive))
+  pub left-step : (rest : List X) → 0 < length rest → left v n rest ≡ map v (take n rest) ∷ left v n (drop n rest)
+  left-step [] some = absurd (omega arith)
+  left-step (x ∷ rest) some =
+      let more = drop n (x ∷ rest) in
+      let fits : length more ≤ length rest = omega (arith, length-drop n (x ∷ rest), positive) in
+      rw (take-map v n (x ∷ rest), drop-map v n (x ∷ rest)) (ap (λ ps. map v (take n (x ∷ rest)) ∷ ps) (pieces-enough n (length rest) (length more) (map v more) (omega (arith, length-map more v, fits)) (omega (arith, length-map more v)) positive))
 
 -- one more is done, and one fewer is left
 pub one-more : {A B : Type 0} (f : B → A) (done : List A) (a : A) (b : B) (rest all : List B) (whole : List A) → done ++ map f all ≡ whole → all ≡ b ∷ rest → a ≡ f b → (done ++ a ∷ []) ++ map f rest ≡ whole
@@ -57,13 +39,9 @@ pub none-left : {X : Type 0} (xs : List X) → length xs ≡ 0 → xs ≡ []
 none-left [] e = refl
 none-left (x ∷ xs) e = absurd (omega arith)
 
--- A key goes to the end of the piece in hand, of which then as much is left to be cut as before.
-pub piece-grows : {X : Type 0} (piece rest more grown : List X) (x : X) → rest ≡ x ∷ more → grown ≡ piece ++ x ∷ [] → grown ++ more ≡ piece ++ rest
-piece-grows piece rest more grown x e is = rw (is, e) (append_assoc piece (x ∷ []) more)
-
--- A piece that is full, or has all that is left, is cut off.
-pub piece-cut : {X K : Type 0} (v : X → K) (n : ℕ) → 0 < n → (piece rest : List X) → 0 < length piece → length piece ≡ min n (length (piece ++ rest)) → left v n (piece ++ rest) ≡ map v piece ∷ left v n rest
-piece-cut v n positive piece rest some many = left-step v n positive (piece ++ rest) piece rest refl many (omega (arith, length-append piece rest, some))
+-- the last is done, and none is left
+pub last-one : {A B : Type 0} (f : B → A) (done : List A) (a : A) (b : B) (all : List B) (whole : List A) → done ++ map f all ≡ whole → all ≡ b ∷ [] → a ≡ f b → done ++ a ∷ [] ≡ whole
+last-one f done a b all whole e same is = rw is (rw same at e)
 
 pieces-empty : {K : Type 0} (most n : ℕ) → pieces {K = K} most n [] ≡ []
 pieces-empty zero n = refl
@@ -125,4 +103,4 @@ keys-of-orders loader (p ∷ ps) = ap (λ qs. p ∷ qs) (keys-of-orders loader p
 
 -- Keys that fit into one piece are one.
 pub all-fit : {X K : Type 0} (v : X → K) (n : ℕ) → 0 < n → (keys : List X) → 0 < length keys → length keys ≤ n → left v n keys ≡ map v keys ∷ []
-all-fit v n positive keys some le = left-step v n positive keys keys [] (sym (append-nil keys)) (omega (arith, le)) some
+all-fit v n positive keys some le = left-step v n positive keys some ∙ rw (take-all n keys le, drop_of_length-le keys le) refl

@@ -5,7 +5,7 @@ use Rattle.load_queue.specs.Loaders.{AskedOf}
 use Rattle.load_queue.specs.declared.loader.Asked.{Asked}
 
 abbrev pub asked_of : Asked → AskedOf
-asked_of a = record { round = a.round; keys = map key_of a.keys.items; stored = a.stored }
+asked_of a = record { round = a.round; keys = map key_of a.keys; stored = a.stored }
 
 -- No public clause names it. No limit is 0, no entry is of a round after the latest, and so many entries are of rounds before it.
 pub record IsLoader (limit : Option ℕ) (latest earlier : ℕ) (log : List AskedOf) : Type 0 where

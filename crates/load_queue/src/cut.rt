@@ -1,5 +1,5 @@
 //! The pieces of a loader's keys, as orders and as entries of its log.
-ghost use Rattle.std.specs.Prelude.{◌≡◌, ◌<◌, ◌≤◌, ℕ, Some, IfOk, map, length};
+ghost use Rattle.std.specs.Prelude.{◌≡◌, ◌<◌, ℕ, Some, IfOk, map, length};
 ghost use Rattle.load_memory.specs.Keys.{key_of};
 ghost use Rattle.load_queue.specs.Batches.{pieces, batches};
 ghost use Rattle.load_queue.specs.Orders.{order_of};
@@ -8,7 +8,7 @@ ghost use Rattle.load_queue.specs.Logs.{asked_of};
 
 use crate::loader::Asked;
 use crate::order::Order;
-use load_memory::{Key, NoMemory};
+use load_memory::{Key, Keys, NoMemory};
 use std::alloc::Global;
 
 /// The most keys that one piece may have.
@@ -23,29 +23,7 @@ pub(crate) fn piece_length(limit: Option<u32>, keys: &[Key]) -> usize
     }
 }
 
-/// An entry of the log for each piece, which has the keys copied.
-pub(crate) fn log_entries(
-    alloc: Global,
-    round: u32,
-    keys: &[Key],
-    most: usize,
-) -> Result<Vec<Asked>, NoMemory>
-    requires { 0 < most }
-    ensures { IfOk result (λ entries. map asked_of entries.items
-        ≡ map (entered round) (pieces (length keys.now) most (map key_of keys.now))) }
-{
-    let mut entries = Vec::new(alloc);
-    for piece in keys.chunks(most) {
-        entries.push(Asked {
-            round,
-            keys: copy_of(alloc, piece)?,
-            stored: false,
-        })?;
-    }
-    Ok(entries)
-}
-
-/// An order of each piece, which has the keys themselves.
+/// An order of each piece. All of them share one list of keys, which is the one that was handed over.
 pub(crate) fn cut_orders(
     alloc: Global,
     loader: usize,
@@ -56,57 +34,36 @@ pub(crate) fn cut_orders(
     ensures { IfOk result (λ orders. orders.items
         ≡ map (order_of loader) (pieces (length keys.items) most (map key_of keys.items))) }
 {
-    if keys.len() <= most {
-        one_order(alloc, loader, keys, most)
-    } else {
-        cut_pieces(alloc, loader, keys, most)
-    }
-}
-
-// The order of all keys, whose list it takes over. No keys make no order.
-fn one_order(
-    alloc: Global,
-    loader: usize,
-    keys: Vec<Key>,
-    most: usize,
-) -> Result<Vec<Order>, NoMemory>
-    requires positive { 0 < most }
-    requires fits { length keys.items ≤ most }
-    ensures { IfOk result (λ orders. orders.items
-        ≡ map (order_of loader) (pieces (length keys.items) most (map key_of keys.items))) }
-{
-    if keys.is_empty() {
-        return Ok(Vec::new(alloc));
-    }
-    let mut orders = Vec::with_capacity(alloc, 1)?;
-    orders.push(Order::new(loader, keys))?;
-    Ok(orders)
-}
-
-// An order of each piece. The keys move into lists of their own.
-fn cut_pieces(
-    alloc: Global,
-    loader: usize,
-    keys: Vec<Key>,
-    most: usize,
-) -> Result<Vec<Order>, NoMemory>
-    requires { 0 < most }
-    ensures { IfOk result (λ orders. orders.items
-        ≡ map (order_of loader) (pieces (length keys.items) most (map key_of keys.items))) }
-{
+    let mut rest = Keys::from_vec(keys)?;
     let mut orders = Vec::new(alloc);
-    let mut piece = Vec::with_capacity(alloc, most.min(keys.len()))?;
-    for key in keys {
-        piece.push(key)?;
-        if piece.len() == most {
-            orders.push(Order::new(loader, piece))?;
-            piece = Vec::new(alloc);
-        }
-    }
-    if !piece.is_empty() {
+    while rest.len() > most {
+        let piece = rest.split_to(most)?;
         orders.push(Order::new(loader, piece))?;
     }
+    if !rest.is_empty() {
+        orders.push(Order::new(loader, rest))?;
+    }
     Ok(orders)
+}
+
+/// An entry of the log for each order, whose keys it shares.
+pub(crate) fn log_entries(
+    alloc: Global,
+    round: u32,
+    orders: &[Order],
+) -> Result<Vec<Asked>, NoMemory>
+    ensures { IfOk result (λ entries. map asked_of entries.items
+        ≡ map (entered round) (map (λ o. o.keys) orders.now)) }
+{
+    let mut entries = Vec::with_capacity(alloc, orders.len())?;
+    for order in orders {
+        entries.push(Asked {
+            round,
+            keys: order.shared_keys()?,
+            stored: false,
+        })?;
+    }
+    Ok(entries)
 }
 
 /// The same keys once more.

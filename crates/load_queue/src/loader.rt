@@ -8,7 +8,7 @@ ghost use Rattle.load_queue.specs.Orders.{orders_of};
 
 use crate::cut::{copy_of, cut_orders, log_entries, piece_length};
 use crate::order::Order;
-use load_memory::{Key, KeyMode, NoMemory};
+use load_memory::{Key, KeyMode, Keys, NoMemory};
 use std::alloc::{AllocError, Global};
 use std::marker::Model;
 use thiserror::Error;
@@ -47,7 +47,7 @@ pub struct Asked {
     /// The round, from 1.
     pub round: u32,
     /// The keys, in the order in which they were asked.
-    pub keys: Vec<Key>,
+    pub keys: Keys,
     /// Whether the outcomes were stored. It is false while the order is out, and stays so where its
     /// round was lost.
     pub stored: bool,
@@ -160,8 +160,8 @@ impl<S> Loader<S> {
         self.cut_owned(loader, round, own)
     }
 
-    /// As [`cut`](Loader::cut), but takes the keys by value: they move into the orders, and the log has copies. When
-    /// out of memory, or if the count of orders would overflow, the keys are gone, and the loader is as it was.
+    /// As [`cut`](Loader::cut), but takes the keys by value and copies none: the orders and the log share their list.
+    /// When out of memory, or if the count of orders would overflow, the keys are gone, and the loader is as it was.
     pub fn cut_owned(
         &mut self,
         loader: usize,
@@ -178,12 +178,12 @@ impl<S> Loader<S> {
     {
         let alloc = *self.log.allocator();
         let most = piece_length(self.limit, &keys);
-        let mut entries = log_entries(alloc, round, &keys, most)?;
+        let orders = cut_orders(alloc, loader, keys, most)?;
+        let mut entries = log_entries(alloc, round, &orders)?;
         let count = self
             .orders
             .checked_add(entries.len() as u64)
             .ok_or(NoMemory)?;
-        let orders = cut_orders(alloc, loader, keys, most)?;
         let earlier = self.log.len();
         self.log.append(&mut entries)?;
         self.orders = count;

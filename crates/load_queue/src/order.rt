@@ -6,7 +6,7 @@ ghost use Rattle.load_queue.specs.Fetched.{Follow};
 use crate::loader::Loader;
 use crate::outcomes::outcomes_of_answer;
 use crate::source::{Asks, FetchFault};
-use load_memory::{Item, Key, NoMemory, Reply};
+use load_memory::{Item, Key, Keys, NoMemory, Reply};
 use std::alloc::Global;
 use std::marker::Model;
 
@@ -18,7 +18,7 @@ use std::marker::Model;
 #[derive(Drop)]
 pub struct Order {
     loader: usize,
-    keys: Vec<Key>,
+    keys: Keys,
 }
 
 impl Model for Order {
@@ -28,7 +28,7 @@ impl Model for Order {
 
     ghost Value = { OrderOf };
 
-    ghost view = { λ o. order_of o.loader (map key_of o.keys.items) };
+    ghost view = { λ o. order_of o.loader (map key_of o.keys) };
 }
 
 impl Order {
@@ -36,10 +36,17 @@ impl Order {
     ghost use Rattle.load_queue.specs.Runs.{IsReplyTo};
     ghost use Rattle.load_memory.specs.Replies.{reply_of};
 
-    pub(crate) fn new(loader: usize, keys: Vec<Key>) -> Order
-        ensures { result ≡ order_of loader (map key_of keys.items) }
+    pub(crate) fn new(loader: usize, keys: Keys) -> Order
+        ensures { result ≡ order_of loader (map key_of keys) }
     {
         Order { loader, keys }
+    }
+
+    /// Its keys once more, in the list that it shares.
+    pub(crate) fn shared_keys(&self) -> Result<Keys, NoMemory>
+        ensures { IfOk result (λ keys. map key_of keys ≡ self.now.keys) }
+    {
+        Ok(self.keys.clone()?)
     }
 
     /// The number of its loader.

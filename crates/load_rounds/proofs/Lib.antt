@@ -8,6 +8,7 @@ pub mod Holding
 pub mod KeyByKey
 pub mod Keyed
 pub mod Lacking
+pub mod Loadings
 pub mod Numbering
 pub mod Onces
 pub mod PairSources

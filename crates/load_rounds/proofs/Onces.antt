@@ -29,7 +29,7 @@ pub wants-size : (own : List KeyMode) (loader : ℕ) (ks : List KeyOf) (M : Memo
 wants-size own loader ks M wants is = ap length is ∙ length-wanting (map nothing_wanted own) (missing (read own M) (map (load_of loader) ks)) ∙ length-map own nothing_wanted
 
 -- what is missing is of this loader
-head-own : (R : Reader) (loader : ℕ) (ks : List KeyOf) → (missing R (map (load_of loader) ks) ≡ []) ⊎ ((k : KeyOf) × (ls : List Load) × (missing R (map (load_of loader) ks) ≡ load_of loader k ∷ ls))
+pub head-own : (R : Reader) (loader : ℕ) (ks : List KeyOf) → (missing R (map (load_of loader) ks) ≡ []) ⊎ ((k : KeyOf) × (ls : List Load) × (missing R (map (load_of loader) ks) ≡ load_of loader k ∷ ls))
 head-own R loader [] = inl refl
 head-own R loader (k ∷ ks) = go (is_none (R (load_of loader k))) (head-own R loader ks) where
   go : (b : Bool) → (missing R (map (load_of loader) ks) ≡ []) ⊎ ((k : KeyOf) × (ls : List Load) × (missing R (map (load_of loader) ks) ≡ load_of loader k ∷ ls))

@@ -78,7 +78,7 @@ some-orders n limit [] ne = absurd (ne refl)
 some-orders n None (k ∷ ks) ne = λ e. absurd (cc e)
 some-orders n (Some m) (k ∷ ks) ne = λ e. absurd (cc e)
 
-orders-some : (n m : ℕ) (rules : List RuleOf) (loads : List Load) → n ≤ m → m < n + length rules → keys_for m loads ≢ [] → orders_from n rules loads ≢ []
+pub orders-some : (n m : ℕ) (rules : List RuleOf) (loads : List Load) → n ≤ m → m < n + length rules → keys_for m loads ≢ [] → orders_from n rules loads ≢ []
 orders-some n m [] loads le lt ne = absurd (omega (arith, le, lt))
 orders-some n m (r ∷ rs) loads le lt ne = go (n == m) refl (λ other. orders-some (suc n) m rs loads (omega (arith, le, other)) (omega (arith, lt)) ne) where
   go : (b : Bool) → (n == m) ≡ b → (n ≢ m → orders_from (suc n) rs loads ≢ []) → orders_from n (r ∷ rs) loads ≢ []
@@ -87,7 +87,7 @@ orders-some n m (r ∷ rs) loads le lt ne = go (n == m) refl (λ other. orders-s
       left-some (map (order_of n) (batches r.limit (keys_for n loads))) (orders_from (suc n) rs loads) (some-orders n r.limit (keys_for n loads) own)
   go false e rest = right-some (map (order_of n) (batches r.limit (keys_for n loads))) (orders_from (suc n) rs loads) (rest (eqb-false n m e))
 
-head-key : (l : Load) (ls : List Load) → keys_for l.loader (l ∷ ls) ≢ []
+pub head-key : (l : Load) (ls : List Load) → keys_for l.loader (l ∷ ls) ≢ []
 head-key l ls = λ h. let own = rw (eq-eqb l.loader l.loader refl) at h in absurd (cc own)
 
 module _ {S : Type 0} where

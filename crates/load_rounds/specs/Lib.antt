@@ -4,6 +4,7 @@ pub mod Executes
 pub mod Headline
 pub mod Histories
 pub mod KeyByKey
+pub mod Loadings
 pub mod Rounds
 pub mod Runs
 pub mod Sessions

@@ -11,6 +11,9 @@
 //! takes their replies in any order. Each call's contract says what has been done since the run was begun (`specs::Runs`,
 //! `IsRun`), and in the end that is the headline.
 //!
+//! Keys of one loader are loaded in turn ([`Session::load_many`]), or in a round that the caller runs ([`Session::begin_load`],
+//! [`Session::end_load`]): `specs::Loadings`.
+//!
 //! What is answered is whatever can be executed ([`Execute`]): it loads keys, and gives a text. A plan of a GraphQL document is
 //! that; nothing here knows of one.
 //!
@@ -24,6 +27,7 @@ mod executed;
 pub mod fault;
 mod keys;
 pub mod law;
+pub mod load;
 mod restart;
 mod round;
 pub mod run;
@@ -36,6 +40,7 @@ pub use answer::Answer;
 pub use answering::Answering;
 pub use execution::Execute;
 pub use fault::SessionFault;
+pub use load::NextLoad;
 pub use run::{Next, Run, Stage};
 pub use run_all::{NextAll, RunAll};
 pub use session::Session;

@@ -13,7 +13,7 @@ ghost use Rattle.execution.specs.Sessions.{Forgot, Lost, AskedLoads};
 ghost use Rattle.load_rounds.specs.Rounds.{AreWanted};
 
 use crate::fault::SessionFault;
-use crate::keys::{known_outcomes, missing_keys};
+use crate::load::NextLoad;
 use crate::restart::{forget_all, restart_all};
 use crate::round::{cut_all, mark_all, run_all};
 use load_memory::{Item, Key, Memory, NoMemory, Outcome, Receipt, Reply, Shelf, cache_key};
@@ -222,8 +222,8 @@ impl<S: Drop> Session<S> {
 }
 
 impl<S: Asks> Session<S> {
-    ghost use Rattle.load_rounds.specs.Sessions.{state_of, session_modes};
-    ghost use Rattle.load_rounds.specs.Calls.{front_at, AsksOnce, RoundRan, RoundLost};
+    ghost use Rattle.load_rounds.specs.Sessions.{state_of};
+    ghost use Rattle.load_rounds.specs.Calls.{RoundRan, RoundLost};
     ghost use Rattle.load_rounds.specs.Histories.{IsCallOf, Loading, StoppedLoading};
 
     /// Loads one key of a loader, after it forgets failed batches. Returns a copy of the key's outcome: the known one,
@@ -255,27 +255,13 @@ impl<S: Asks> Session<S> {
             (Loading loader (map key_of keys.now) (map outcome_of outcomes.items)) self.old self.new) }
         ensures recorded { AreOnRecord self.old.loaders self.new.loaders }
     {
-        if loader >= self.loaders.len() {
-            return Err(SessionFault::NoSuchLoader);
+        match self.begin_load(loader, keys)? {
+            NextLoad::Loaded(outcomes) => Ok(outcomes),
+            NextLoad::Round(orders) => {
+                let replies = run_all(self.alloc(), orders, self.loaders())?;
+                Ok(self.end_load(loader, keys, replies)?)
+            }
         }
-        self.memory.drop_failed();
-        self.ask_missing(loader, keys)?;
-        Ok(known_outcomes(*self.loaders.allocator(), &self.memory, loader, keys)?)
-    }
-
-    /// Asks for those of the keys that aren't known, if any, in one round.
-    fn ask_missing(&mut self, loader: usize, keys: &[Key]) -> Result<(), NoMemory>
-        requires { loader < length self.old.loaders }
-        ensures ran { OnOk result (AsksOnce S.may_tell (state_of self.old) (state_of self.new)
-            (front_at (state_of self.old) loader (map key_of keys.now))) }
-        ensures lost { OnErr result (RoundLost (state_of self.old) (state_of self.new)
-            (front_at (state_of self.old) loader (map key_of keys.now))) }
-    {
-        let wants = missing_keys(*self.loaders.allocator(), &self.memory, loader, keys)?;
-        if wants.keys(loader).is_empty() {
-            return Ok(());
-        }
-        self.ask(wants)
     }
 
     /// Asks for the wanted keys in one round, batch after batch, and stores the replies. The wants are dropped once

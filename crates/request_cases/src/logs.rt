@@ -46,7 +46,7 @@ fn push_round(
     let mut is_last = true;
     for batch in loader.log() {
         if batch.round == round {
-            push_batch(text, round, loader.name(), &batch.keys)?;
+            push_batch(text, round, loader.name(), batch.keys.as_slice())?;
             text.push_str(if batch.stored { "" } else { " lost" })?;
         }
         is_last = is_last && batch.round <= round;

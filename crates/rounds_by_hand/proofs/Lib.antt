@@ -1,3 +1,4 @@
 pub mod Far
 pub mod Orders
 pub mod Taking
+pub mod LoadFar

@@ -64,24 +64,31 @@ all-at P (y ∷ ys) (suc n) x at all = all-at P ys n x at (λ k d lt. all (suc k
 taken-order : (ps : List Pending) (n : ℕ) (answer : Result (Vec Item) FetchFault) (now : List Pending) (t : TakesAnswer ps n answer now) → order_in (In t.reply) ≡ t.order
 taken-order ps n answer now t = rw (t.loader, t.keys) refl
 
+-- the orders are those that they were, and each that is answered still has an answer
+pub taken-orders : (ps : List Pending) (n : ℕ) (answer : Result (Vec Item) FetchFault) (now : List Pending) → TakesAnswer ps n answer now → map order_in now ≡ map order_in ps
+taken-orders ps n answer now t = ap (map order_in) t.put ∙ set-order ps n (Out t.order) (In t.reply) t.was (taken-order ps n answer now t)
+
+pub taken-any : (ps : List Pending) (n : ℕ) (answer : Result (Vec Item) FetchFault) (now : List Pending) → TakesAnswer ps n answer now → All (IsAnswered any_answer) ps → All (IsAnswered any_answer) now
+taken-any ps n answer now t all = rw t.put (All-set (IsAnswered any_answer) ps n (In t.reply) (follow-any t.order t.reply answer t.loader t.keys t.outcomes) all)
+
+-- and it is one that the source may give, if the new one is
+pub taken-may : {S : Type 0} (may : S → List KeyOf → AnswerOf → Type 0) (loaders : List (LoaderOf S)) (ps : List Pending) (n : ℕ) (answer : Result (Vec Item) FetchFault) (now : List Pending) (t : TakesAnswer ps n answer now)
+    → All (λ one. (order_in one).loader < length loaders) ps → MayAnswer may loaders t.order answer → All (IsAnswered (may_at may loaders)) ps → All (IsAnswered (may_at may loaders)) now
+taken-may {S} may loaders ps n answer now t within can told =
+    let below = all-at (λ one. (order_in one).loader < length loaders) ps n (Out t.order) t.was within in
+    let asked = at-some loaders t.order.loader below in
+    let fetched : Fetched (may_at may loaders t.order.loader t.order.keys) answer = at-fetched answer asked.0 asked.1 (can asked.0 asked.1) in
+    rw t.put (All-set (IsAnswered (may_at may loaders)) ps n (In t.reply) (follow-has (may_at may loaders) t.order t.reply answer t.loader t.keys t.outcomes fetched) told)
+  where
+    at-fetched : (a : Result (Vec Item) FetchFault) (l : LoaderOf S) → slice_get loaders t.order.loader ≡ Some l → Fetched (may l.source t.order.keys) a → Fetched (may_at may loaders t.order.loader t.order.keys) a
+    at-fetched (Ok items) l at f = (l, at, f)
+    at-fetched (Err (Failed text)) l at f = (l, at, f)
+    at-fetched (Err NoMemory) l at f = tt
+
 module _ {S P E : Type 0} (program : P → Program) (text_of : P → AnsweredOf → List ℕ) where
   pub taken-with : (s : StateOf S) (run : RunAllOf P E) (ps : List Pending) (n : ℕ) (answer : Result (Vec Item) FetchFault) (now : List Pending) → TakesAnswer ps n answer now → IsOutWith program text_of s run ps → IsOutWith program text_of s run now
-  taken-with s run ps n answer now t h = record {
-    stage = h.stage;
-    latest = h.latest;
-    orders = ap (map order_in) t.put ∙ set-order ps n (Out t.order) (In t.reply) t.was (taken-order ps n answer now t) ∙ h.orders;
-    answers = rw t.put (All-set (IsAnswered any_answer) ps n (In t.reply) (follow-any t.order t.reply answer t.loader t.keys t.outcomes) h.answers);
-  }
+  taken-with s run ps n answer now t h = record { stage = h.stage; latest = h.latest; orders = taken-orders ps n answer now t ∙ h.orders; answers = taken-any ps n answer now t h.answers }
 
   pub taken-told : (may : S → List KeyOf → AnswerOf → Type 0) (s : StateOf S) (run : RunAllOf P E) (ps : List Pending) (n : ℕ) (answer : Result (Vec Item) FetchFault) (now : List Pending) (t : TakesAnswer ps n answer now) → IsOutWith program text_of s run ps
       → MayAnswer may s.loaders t.order answer → All (IsAnswered (may_at may s.loaders)) ps → All (IsAnswered (may_at may s.loaders)) now
-  taken-told may s run ps n answer now t h can told =
-      let below = all-at (λ one. (order_in one).loader < length s.loaders) ps n (Out t.order) t.was (orders-have s (joint program text_of run.plans) ps h.orders) in
-      let asked = at-some s.loaders t.order.loader below in
-      let fetched : Fetched (may_at may s.loaders t.order.loader t.order.keys) answer = at-fetched answer asked.0 asked.1 (can asked.0 asked.1) in
-      rw t.put (All-set (IsAnswered (may_at may s.loaders)) ps n (In t.reply) (follow-has (may_at may s.loaders) t.order t.reply answer t.loader t.keys t.outcomes fetched) told)
-    where
-      at-fetched : (a : Result (Vec Item) FetchFault) (l : LoaderOf S) → slice_get s.loaders t.order.loader ≡ Some l → Fetched (may l.source t.order.keys) a → Fetched (may_at may s.loaders t.order.loader t.order.keys) a
-      at-fetched (Ok items) l at f = (l, at, f)
-      at-fetched (Err (Failed text)) l at f = (l, at, f)
-      at-fetched (Err NoMemory) l at f = tt
+  taken-told may s run ps n answer now t h can told = taken-may may s.loaders ps n answer now t (orders-have s (joint program text_of run.plans) ps h.orders) can told

@@ -1,2 +1,3 @@
 pub mod Pending
 pub mod Hands
+pub mod LoadHands

@@ -6,13 +6,19 @@
 //! made and nothing else, each order was answered as its source may answer it, and in the end the answers have the headline of
 //! `load_rounds`. An answer that no source may give is taken too, and then nothing is promised of the answers' texts. The requests of
 //! these calls are what the hand was made with, the loaders that the plans need, and each call keeps that.
+//!
+//! A [`LoadHand`] does the same for keys of one loader, which take at most one round: `IsLoadUnderway` of `specs/LoadHands.antt`, and in the
+//! end what was done is a call of `load_many`.
 #![tactic(auto)]
 
 pub mod fault;
 pub mod hand;
+pub mod load_hand;
+mod load_steps;
 pub mod pending;
 mod steps;
 
 pub use fault::TakeFault;
 pub use hand::{Advance, Hand};
+pub use load_hand::{LoadAdvance, LoadHand};
 pub use pending::Pending;

@@ -7,7 +7,7 @@ ghost use Rattle.load_rounds.specs.Histories.{any_tell};
 ghost use Rattle.rounds_by_hand.specs.Pending.{order_in, is_in, is_in_at, IsAnswered, AreRepliesTo, AreRepliesIfAnswered, TakesAnswer};
 
 use crate::fault::TakeFault;
-use load_memory::{Item, NoMemory, Reply};
+use load_memory::{Item, Keys, NoMemory, Reply};
 use load_queue::{Asks, FetchFault, Loader, Order};
 use std::alloc::Global;
 use std::mem;
@@ -94,7 +94,7 @@ pub(crate) fn take_answer(
     let alloc = *pending.allocator();
     let blank = Pending::In(Reply {
         loader: 0,
-        keys: Vec::new(alloc),
+        keys: Keys::new(),
         outcomes: Vec::new(alloc),
     });
     match mem::replace(&mut pending[number], blank) {

@@ -1,20 +1,19 @@
 -- What is planned of what is asked, and what answers it or stops it.
-use Rattle.std.proofs.Common.{◌≡◌, ◌∙◌, ◌⊎◌, ◌++◌, ℕ, Bool, true, false, List, [], ◌∷◌, map, option_map, length, Option, Some, None, Result, Ok, Err, refl, sym, ap, subst, inl, inr, string_bytes}
+use Rattle.std.proofs.Common.{◌≡◌, ◌∙◌, ◌⊎◌, ◌++◌, ℕ, Bool, true, false, List, [], ◌∷◌, map, option_map, Option, Some, None, Result, Ok, Err, refl, sym, ap, subst, inl, inr, string_bytes}
 use Rattle.std.specs.Prelude.{String, IfOk, slice_get}
 use Rattle.std.specs.declared.alloc.Global.{Global}
 use Rattle.load_memory.specs.Keys.{KeyOf}
-use Rattle.load_memory.specs.Replies.{ReplyOf}
 use Rattle.load_queue.specs.Answers.{AnswerOf}
 use Rattle.gq_check.specs.Plans.{PlanOf}
 use Rattle.gq_resolve.specs.Within.{text_within}
 use Rattle.plan_program.specs.PlanPrograms.{plan_program}
 use Rattle.load_rounds.specs.Headline.{StopsAnswering}
-use Rattle.load_rounds.specs.Sessions.{SessionOf, StateOf, state_of}
-use Rattle.load_rounds.specs.SharedRounds.{ReportOf, RequestOf as AskedFor, request_of, requests, together, joint, AreShared, SharedHeadline, greatest, report_of}
+use Rattle.load_rounds.specs.Sessions.{SessionOf, state_of}
+use Rattle.load_rounds.specs.SharedRounds.{ReportOf, request_of, requests, together, joint, SharedHeadline, greatest, report_of}
 use Rattle.load_rounds.specs.declared.answer.Answer.{Answer}
 use Rattle.load_rounds.proofs.Requests.{headline-one, stops-one}
-use Rattle.request_line.specs.Requests.{RequestOf, IsRequest, AreRequests, IsNoRequest}
-use Rattle.request_plans.specs.Planning.{PlanValues, PlansValue, PlansRequest, refusals_of, plans_of, not_a_request}
+use Rattle.request_line.specs.Requests.{RequestOf}
+use Rattle.request_plans.specs.Planning.{PlanValues, PlansValue, PlansRequest, refusals_of, plans_of}
 use Rattle.request_plans.specs.declared.plans.ArrayPlan.{ArrayPlan}
 use Rattle.request_plans.specs.declared.plans.RequestPlan.{RequestPlan}
 use Rattle.request_plans.specs.declared.plans.RequestPlan.TheVariants as request_plan

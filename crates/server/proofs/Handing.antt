@@ -21,7 +21,7 @@ use Rattle.rounds_by_hand.specs.declared.pending.Pending.{Pending}
 use Rattle.request_plans.specs.Servers.{ServerOf}
 use Rattle.server.specs.Bounded.{bounded_program, bounded_text, bounded_loaders}
 use Rattle.server.specs.Clients.{ClientOf, HasLoaders, IsSameClient, client_of}
-use Rattle.server.specs.Hands.{ByHandOf, by_hand_of, IsFinished, IsStepOf, Ends, Steps, AsksAndSteps, GivesFrom, Responds, GivesUp, GoesOn, GoesOnIfMay, HoldsByHand}
+use Rattle.server.specs.Hands.{ByHandOf, answer_in, by_hand_of, IsFinished, IsStepOf, Ends, Steps, AsksAndSteps, GivesFrom, Responds, GivesUp, GoesOn, GoesOnIfMay, HoldsByHand}
 use Rattle.server.specs.Planned.{AskedOf, PlannedOf, PlansAsked, AnswersAsked, IsResponse, is_refused}
 use Rattle.server.specs.declared.bounded.BoundedPlan.{BoundedPlan}
 use Rattle.server.specs.declared.by_hand.Step.{Step}
@@ -162,3 +162,17 @@ module _ {S : Type 0} (may : S → List KeyOf → AnswerOf → Type 0) (b new : 
     stopped = λ c asked h p. up c asked (goes-on c.session h) (same-planned c asked p);
     same = subst (λ (later : ClientOf S). IsSameClient b.client later) (sym is) same;
   }
+
+  -- it answered
+  pub polled-answered : (client : ClientOf S) (s : Step) (answer : Answer) → client ≡ new.client → answer_in s ≡ Some answer → Responds may b new s → GivesFrom may b (client, Ok answer)
+  polled-answered client (step.Answered own) answer is at responds =
+      let own-is : own ≡ answer = cc at in
+      record {
+        answered = λ c asked h p. subst (λ (later : ClientOf S). AnswersAsked may c asked (report_of answer) later.session) (sym is)
+            (subst (λ (a : Answer). AnswersAsked may c asked (report_of a) new.client.session) own-is (responds c asked h p));
+        stopped = λ c asked h p. tt;
+        same = subst (λ (later : ClientOf S). IsSameClient b.client later) (sym is) same;
+      }
+  polled-answered client step.Round answer is at responds = absurd (cc at)
+  polled-answered client step.Waiting answer is at responds = absurd (cc at)
+  polled-answered client step.Over answer is at responds = absurd (cc at)

@@ -4,6 +4,7 @@ pub mod Handing
 pub mod Crossing
 pub mod Limits
 pub mod Loaders
+pub mod LoadsByHand
 pub mod Opened
 pub mod Outcomes
 pub mod Values

@@ -36,6 +36,13 @@ IsStepOf planned advance.Waiting Waiting = Unit {0}
 IsStepOf planned advance.Over Over = Unit {0}
 IsStepOf planned did step = ⊥
 
+-- the answer that a step gives
+abbrev pub answer_in : Step → Option Answer
+answer_in (Answered answer) = Some answer
+answer_in Round = None
+answer_in Waiting = None
+answer_in Over = None
+
 -- there are answers, of which a response is made
 abbrev pub IsFinished : Advance → Type 0
 IsFinished (advance.Finished answers) = Unit {0}

@@ -5,6 +5,7 @@ pub mod Runners
 pub mod Answers
 pub mod Arrays
 pub mod Lines
+pub mod LoadsByHand
 pub mod Asked
 pub mod Opening
 pub mod Counts

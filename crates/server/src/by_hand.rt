@@ -32,6 +32,20 @@ pub enum Step {
     Over,
 }
 
+impl Step {
+    ghost use Rattle.server.specs.Hands.{answer_in};
+
+    /// The answer, if the call gave one.
+    pub fn into_answer(self) -> Option<Answer>
+        ensures { result ≡ answer_in self }
+    {
+        match self {
+            Step::Answered(answer) => Some(answer),
+            Step::Round | Step::Waiting | Step::Over => None,
+        }
+    }
+}
+
 /// What was asked of a client, on its way to the answer, in rounds that the caller runs. It owns the client meanwhile, so no one else can
 /// change its session.
 ///

@@ -5,7 +5,7 @@ ghost use Rattle.futures.specs.Poll.{IfReady, OnPending};
 ghost use Rattle.futures.specs.Task.{Covers, Keeps};
 ghost use Rattle.rounds_by_hand.specs.Hands.{handed};
 
-use crate::by_hand::{ByHand, Step};
+use crate::by_hand::ByHand;
 use crate::client::ClientSession;
 use crate::planned::PlannedRequest;
 use futures::Future;
@@ -63,12 +63,14 @@ impl<'p, S: Asks + Drop> Future for ClientAnswering<'p, S> {
         };
         let mut by_hand = by_hand;
         match by_hand.ask_and_advance() {
-            Ok(Step::Answered(answer)) => Poll::Ready((by_hand.into_client(), Ok(answer))),
-            Ok(Step::Round) => {
-                self.by_hand = Some(by_hand);
-                cx.yield_now()
-            }
-            Ok(Step::Waiting) | Ok(Step::Over) => unreachable!(),
+            Ok(step) => match step.into_answer() {
+                Some(answer) => Poll::Ready((by_hand.into_client(), Ok(answer))),
+                // It never waits, and it isn't over before it has answered: its next round is out.
+                None => {
+                    self.by_hand = Some(by_hand);
+                    cx.yield_now()
+                }
+            },
             Err(fault) => Poll::Ready((by_hand.into_client(), Err(fault))),
         }
     }

@@ -147,7 +147,7 @@ fn report(
         for batch in loader.log() {
             let mark = if batch.stored { "" } else { " lost" };
             write!(text, " {number} in round {}{mark}:", batch.round)?;
-            for key in &batch.keys {
+            for key in batch.keys.as_slice() {
                 push_known(&mut text, session, number, key)?;
             }
         }

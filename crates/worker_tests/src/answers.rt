@@ -285,7 +285,7 @@ pub fn asked(
         orders = orders.saturating_add(loader.orders());
         for batch in loader.log() {
             write!(text, "{} {}:", loader.name(), batch.round)?;
-            for key in &batch.keys {
+            for key in batch.keys.as_slice() {
                 text.push(' ')?;
                 push_key(&mut text, key)?;
             }

@@ -28,7 +28,7 @@ fn cell_of<'r>(row: &'r Row, column: &str) -> &'r str {
 /// What a reply shows: its loader's number, and each key with the ids and names of its rows, or its fault.
 fn shown(alloc: Global, reply: &Reply) -> Result<String, AllocError> {
     let mut text = format!(in alloc; "{}:", reply.loader)?;
-    for (key, outcome) in reply.keys.iter().zip(&reply.outcomes) {
+    for (key, outcome) in reply.keys.as_slice().iter().zip(&reply.outcomes) {
         text.push(' ')?;
         push_key(&mut text, key)?;
         text.push('=')?;

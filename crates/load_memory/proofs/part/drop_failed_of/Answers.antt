@@ -9,4 +9,4 @@ pub returns-clause-pairs : goal.returns-clause-pairs
 returns-clause-pairs c = λ q.
     let kept : c.retain.new.self.entries ≡ filter (λ e. not (is_failed e.1)) c.args.part.now.entries =
     filter_same_pairs _ (λ e. not (is_failed e.1)) _ (λ k v b w f' t. search rules) c.args.part.now.entries c.retain.new.self.entries c.retain.ensures.filtered in
-    rw kept (look_in-items c.args.part.now.entries c.retain.ensures.was_unique q)
+    rw kept (look_in-items c.args.part.now.entries c.len-before.ensures.unique q)

@@ -1,11 +1,11 @@
-use Rattle.std.proofs.Common.{◌<◌, ◌+◌, ℕ, length, ◌∙◌, arith}
+use Rattle.std.proofs.Common.{◌<◌, ◌+◌, ℕ, length, ap, ◌∙◌, arith}
 use Rattle.std.proofs.lemmas.List.{length-set}
 use Rattle.std.proofs.lemmas.Bool.{cases_eq}
 use Rattle.std.specs.Prelude.{slice_set, slice_index, ◌≤◌}
 use Rattle.std.proofs.Common.{inl, inr}
-use Rattle.load_memory.specs.Parts.{PartOf, room_at}
+use Rattle.load_memory.specs.Parts.{PartOf, look_in, room_at}
 use Rattle.load_memory.proofs.PartLaws.{HaveOwnKeys-set}
-use Rattle.load_memory.proofs.StoreLaws.{look_in-reordered, look-held, counted-held, room-same, room-other}
+use Rattle.load_memory.proofs.StoreLaws.{look-held, counted-held, room-same, room-other}
 use Rattle.load_memory.proofs.store.make_room.Goals as goal
 
 pub returns-in_err-reserve-clause-own_keys : goal.returns-in_err-reserve-clause-own_keys
@@ -15,14 +15,13 @@ pub returns-in_err-reserve-clause-pairs : goal.returns-in_err-reserve-clause-pai
 returns-in_err-reserve-clause-pairs c = λ l q.
     let parts = c.loop-loader.parts.items in
     let lt : c.loop-loader.loader < length parts = omega (arith, c.loop-loader.invariant.lined_up, c.loop-loader-test.true, c.loop-loader.auto.loader-end, c.len-loader-end.ensures) in
-    let same = look_in-reordered c.index_mut.result.now.entries c.reserve.new.self.entries c.reserve.ensures.entries.2 in
-    look-held parts c.loop-loader.loader c.reserve.new.self c.index_mut.result.now lt c.index_mut.ensures.value same l q ∙ c.loop-loader.invariant.pairs l q
+    look-held parts c.loop-loader.loader c.reserve.new.self c.index_mut.result.now lt c.index_mut.ensures.value (λ q. ap (λ es. look_in es q) c.reserve.ensures.entries) l q ∙ c.loop-loader.invariant.pairs l q
 
 pub returns-in_err-reserve-clause-count : goal.returns-in_err-reserve-clause-count
 returns-in_err-reserve-clause-count c =
     let parts = c.loop-loader.parts.items in
     let lt : c.loop-loader.loader < length parts = omega (arith, c.loop-loader.invariant.lined_up, c.loop-loader-test.true, c.loop-loader.auto.loader-end, c.len-loader-end.ensures) in
-    counted-held parts c.loop-loader.loader c.reserve.new.self c.index_mut.result.now lt c.index_mut.ensures.value c.reserve.ensures.entries.1 ∙ c.loop-loader.invariant.count
+    counted-held parts c.loop-loader.loader c.reserve.new.self c.index_mut.result.now lt c.index_mut.ensures.value (ap length c.reserve.ensures.entries) ∙ c.loop-loader.invariant.count
 
 room-next : (ps : _) (counts : _) (i : ℕ) (x : PartOf) → i < length ps → ((k : ℕ) → k < i → slice_index counts k ≤ room_at ps k) → slice_index counts i ≤ room_at (slice_set ps i x) i → (k : ℕ) → k < i + 1 → slice_index counts k ≤ room_at (slice_set ps i x) k
 room-next ps counts i x lt below here k le = elim (cases_eq k i) [
@@ -38,12 +37,11 @@ loop-loader-preserved c =
     let x : PartOf = c.reserve.new.self in
     let d : PartOf = c.index_mut.result.now in
     let lt : i < length parts = omega (arith, was.lined_up, c.loop-loader-test.true, c.loop-loader.auto.loader-end, c.len-loader-end.ensures) in
-    let same = look_in-reordered d.entries x.entries c.reserve.ensures.entries.2 in
     let room : slice_index c.args.counts.now i ≤ room_at (slice_set parts i x) i = rw (room-same parts i x lt) c.in_ok-reserve.ensures.ok in
     record {
       lined_up = length-set parts i x ∙ was.lined_up;
       own_keys = HaveOwnKeys-set parts i x was.own_keys c.reserve.ensures.unique;
-      pairs = λ l q. look-held parts i x d lt c.index_mut.ensures.value same l q ∙ was.pairs l q;
-      count = counted-held parts i x d lt c.index_mut.ensures.value c.reserve.ensures.entries.1 ∙ was.count;
+      pairs = λ l q. look-held parts i x d lt c.index_mut.ensures.value (λ q. ap (λ es. look_in es q) c.reserve.ensures.entries) l q ∙ was.pairs l q;
+      count = counted-held parts i x d lt c.index_mut.ensures.value (ap length c.reserve.ensures.entries) ∙ was.count;
       room = room-next parts c.args.counts.now i x lt was.room room;
     }

@@ -14,9 +14,9 @@ use Rattle.load_memory.proofs.memory.Memory.keep_owned.Goals as goal
 
 -- one reply more
 staged-more : (modes : List KeyMode) (was now all : List PairOf) (r : Reply) (items rest : List Reply) (mode : KeyMode) → mode_at modes r.loader ≡ mode → items ≡ r ∷ rest
-    → now ≡ was ++ reply_pairs mode r.loader (map key_of r.keys.items) (map outcome_of r.outcomes.items) → was ++ pairs_of modes (map reply_of items) ≡ all → now ++ pairs_of modes (map reply_of rest) ≡ all
+    → now ≡ was ++ reply_pairs mode r.loader (map key_of r.keys) (map outcome_of r.outcomes.items) → was ++ pairs_of modes (map reply_of items) ≡ all → now ++ pairs_of modes (map reply_of rest) ≡ all
 staged-more modes was now all r items rest mode is split more e =
-    rw (more, ← is, append_assoc was (reply_pairs (mode_at modes r.loader) r.loader (map key_of r.keys.items) (map outcome_of r.outcomes.items)) (pairs_of modes (map reply_of rest))) (rw split at e)
+    rw (more, ← is, append_assoc was (reply_pairs (mode_at modes r.loader) r.loader (map key_of r.keys) (map outcome_of r.outcomes.items)) (pairs_of modes (map reply_of rest))) (rw split at e)
 
 others : (n : ℕ) (items rest : List Reply) (r : Reply) → items ≡ r ∷ rest → All (λ (r : Reply). r.loader < n) items → All (λ (r : Reply). r.loader < n) rest
 others n items rest r is below = All-tail (λ (r : Reply). r.loader < n) r rest (rw is at below)

@@ -1,9 +1,10 @@
-use Rattle.std.proofs.Common.{rules, ◌≡◌, ◌+◌, ◌++◌, map, ap, length, arith, ◌∙◌}
+use Rattle.std.proofs.Common.{rules, ◌≡◌, ◌+◌, ◌++◌, map, ap, length, arith, ◌∙◌, sym, refl}
 use Rattle.std.proofs.lemmas.List.{map-append, length-map, length-append}
 use Rattle.load_memory.specs.Keys.{key_of}
-use Rattle.load_queue.specs.Batches.{pieces}
+use Rattle.load_queue.specs.Batches.{batches}
+use Rattle.load_queue.specs.Loaders.{entered}
 use Rattle.load_queue.specs.Logs.{asked_of}
-use Rattle.load_queue.specs.Orders.{order_of}
+use Rattle.load_queue.specs.Orders.{OrderOf, order_of}
 use Rattle.load_queue.proofs.MarkLaws.{is-loader-later, is-loader-more}
 use Rattle.load_queue.proofs.PieceLaws.{are-batches, keys-of-orders}
 use Rattle.load_queue.proofs.loader.Loader.cut_owned.Goals as goal
@@ -14,17 +15,34 @@ returns-clause-pieces g c =
     let cut = c.in_ok-orders.ensures ∙ ap (map (order_of c.args.loader)) (rw c.deref.ensures.value at c.piece_length-most.ensures.pieces) in
     rw (← c.self.view_is, cut, keys-of-orders) (are-batches c.self.inside.limit (map key_of c.args.keys.items) c.self.invariant.limited)
 
+pub returns-clause-entered : goal.returns-clause-entered
+returns-clause-entered g c =
+    let log = c.self.inside.log.items in
+    let more = c.in_ok-entries.entries.items in
+    let cut = c.in_ok-orders.ensures ∙ ap (map (order_of c.args.loader)) (rw c.deref.ensures.value at c.piece_length-most.ensures.pieces) in
+    let ks = batches c.self.inside.limit (map key_of c.args.keys.items) in
+    let own : map (λ (o : OrderOf). o.keys) c.deref-2.result.now ≡ ks = rw (c.deref-2.ensures.value, cut) (keys-of-orders c.args.loader ks) in
+    let entries : map asked_of more ≡ map (entered c.args.round) ks = c.in_ok-entries.ensures ∙ ap (map (entered c.args.round)) own in
+    let all : map asked_of c.append.new.self.items ≡ map asked_of log ++ map (entered c.args.round) ks = rw (c.in_ok-append.ensures.items, map-append asked_of log more) (ap (λ es. map asked_of log ++ es) entries) in
+    let many : length more ≡ length ks = sym (length-map more asked_of) ∙ ap length entries ∙ length-map ks (entered c.args.round) in
+    let count : c.in_ok-count.count ≡ c.self.inside.orders + length more = search rules in
+    let counted : c.in_ok-count.count ≡ c.self.inside.orders + length ks = count ∙ ap (λ n. c.self.inside.orders + n) many in
+    elim c.if-self-round.branch [
+      | then-self-round w ↦ rw (w.self-is, ← c.self.view_is, all, counted) refl
+      | else-self-round w ↦ rw (w.self-is, ← c.self.view_is, all, counted) refl
+    ]
+
 pub invariant_of-self-then-self-round : goal.invariant_of-self-then-self-round
 invariant_of-self-then-self-round g c =
     let log = c.self.inside.log.items in
-    let ks = pieces (length c.deref-2.result.now) c.piece_length-most.result (map key_of c.deref-2.result.now) in
+    let ks = map (λ (o : OrderOf). o.keys) c.deref-2.result.now in
     rw (c.in_ok-append.ensures.items, map-append asked_of log c.in_ok-entries.entries.items, c.in_ok-entries.ensures)
     (is-loader-later c.self.inside.limit c.self.inside.latest c.self.inside.earlier c.args.round c.len-earlier.result (map asked_of log) ks c.if-self-round.true (omega (arith, c.len-earlier.ensures, length-map log asked_of)) c.self.invariant)
 
 pub invariant_of-self-else-self-round : goal.invariant_of-self-else-self-round
 invariant_of-self-else-self-round g c =
     let log = c.self.inside.log.items in
-    let ks = pieces (length c.deref-2.result.now) c.piece_length-most.result (map key_of c.deref-2.result.now) in
+    let ks = map (λ (o : OrderOf). o.keys) c.deref-2.result.now in
     rw (c.in_ok-append.ensures.items, map-append asked_of log c.in_ok-entries.entries.items, c.in_ok-entries.ensures)
     (is-loader-more c.self.inside.limit c.self.inside.latest c.self.inside.earlier c.args.round (map asked_of log) ks (omega (arith, c.if-self-round.false)) c.self.invariant)
 

@@ -5,6 +5,5 @@ use Rattle.load_queue.proofs.order.Order.answered.Goals as goal
 
 pub returns-clause-outcomes : goal.returns-clause-outcomes
 returns-clause-outcomes c =
-    let keys = c.self.inside.keys in
-    let many : c.len.result ≡ length (map key_of keys.items) = c.len.ensures ∙ keys.ok.0 ∙ sym (length-map keys.items key_of) in
+    let many : c.len.result ≡ length (map key_of c.self.inside.keys) = c.len.ensures ∙ sym (length-map c.self.inside.keys key_of) in
     rw (← c.self.view_is) (rw many at c.in_ok-outcomes.ensures)

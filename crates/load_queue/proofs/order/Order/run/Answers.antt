@@ -14,6 +14,6 @@ returns g c =
     let asked = c.index-loaders-loader.result in
     let lt : c.self.inside.loader < length loaders = rw (ap (λ (o : OrderOf). o.loader) c.self.view_is) c.requires in
     let at = slice_get_read loaders (length loaders) c.self.inside.loader asked refl lt c.index-loaders-loader.is in
-    let can = rw (c.source.ensures, c.as_slice.ensures.value) at c.ask-answer.ensures in
-    let many : c.len.result ≡ length (map key_of keys.items) = c.len.ensures ∙ keys.ok.0 ∙ sym (length-map keys.items key_of) in
-    rw (← c.self.view_is) (replies g.S.Asks.may_tell loaders c.self.inside.loader (map key_of keys.items) asked (map outcome_of c.in_ok-outcomes.outcomes.items) at c.ask-answer.result can (rw many at c.in_ok-outcomes.ensures))
+    let can = rw (c.source.ensures, c.as_slice.ensures) at c.ask-answer.ensures in
+    let many : c.len.result ≡ length (map key_of keys) = c.len.ensures ∙ sym (length-map keys key_of) in
+    rw (← c.self.view_is) (replies g.S.Asks.may_tell loaders c.self.inside.loader (map key_of keys) asked (map outcome_of c.in_ok-outcomes.outcomes.items) at c.ask-answer.result can (rw many at c.in_ok-outcomes.ensures))

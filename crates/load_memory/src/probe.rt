@@ -1,0 +1,34 @@
+//! Looking up one key after another.
+use crate::key::CacheKey;
+
+/// How many loaders have a place of their own.
+const PLACES: usize = 8;
+
+/// What a [`Memory`](crate::Memory) is asked by, for one key after another. It has the cache key that is set to that of each,
+/// and for a loader the place where its next key is looked for first: keys that are asked in the order in which they were
+/// stored are found without their hashes.
+#[derive(Drop)]
+pub struct Probe {
+    pub(crate) key: CacheKey,
+    places: [usize; PLACES],
+}
+
+impl Probe {
+    /// A probe that has asked for nothing yet. It takes no memory.
+    pub fn new() -> Probe {
+        Probe {
+            key: CacheKey::new(),
+            places: [0; PLACES],
+        }
+    }
+
+    // Where the next key of a loader may stand.
+    pub(crate) fn place(&self, loader: usize) -> usize {
+        self.places[loader % PLACES]
+    }
+
+    // A key of a loader was found at a place.
+    pub(crate) fn found(&mut self, loader: usize, place: usize) {
+        self.places[loader % PLACES] = place.saturating_add(1);
+    }
+}

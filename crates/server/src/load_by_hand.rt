@@ -1,0 +1,174 @@
+//! A client that loads keys by hand: the caller asks their source itself.
+
+ghost use Rattle.std.specs.Prelude.{◌≡◌, ◌≤◌, ◌<◌, ◌↔◌, length, map, true, slice_get, IfOk, IfSome, OnOk, OnErr, IsErrOf};
+ghost use Rattle.load_memory.specs.Keys.{key_of};
+ghost use Rattle.rounds_by_hand.specs.LoadHands.{handed, over, load_pending_in};
+ghost use Rattle.rounds_by_hand.specs.Pending.{TakesAnswer, is_in_at};
+ghost use Rattle.server.specs.Clients.{IsSameClient};
+
+use crate::client::ClientSession;
+use load_memory::{Item, Key, NoMemory};
+use load_queue::{Asks, FetchFault};
+use request_line::LineReader;
+use request_plans::KeptDocuments;
+use rounds_by_hand::{LoadAdvance, LoadHand, Pending, TakeFault};
+use std::alloc::Global;
+use std::marker::Model;
+
+/// Keys of a loader that a client loads as [`ClientSession::load_many`] loads them, but in a round that the caller runs. It owns the client
+/// meanwhile, so no one else can change its session.
+///
+/// It is used in turns. [`advance`](LoadByHand::advance) returns the outcomes, or the one round is out that the keys need: then the caller
+/// answers each of its orders ([`orders`](LoadByHand::orders)) by its number, in any order ([`answer`](LoadByHand::answer)), and advances
+/// again. At any time it gives the client back ([`into_client`](LoadByHand::into_client)).
+///
+/// A contract sees the client, the loader and its keys, and how far the load is. What was done since it was begun is `IsLoadUnderway` of
+/// `rounds_by_hand`: each call keeps it, and in the end it says of the outcomes what [`ClientSession::load_many`] says.
+#[derive(Drop)]
+pub struct LoadByHand<S> {
+    alloc: Global,
+    documents: KeptDocuments,
+    lines: LineReader,
+    max_answer: Option<usize>,
+    hand: LoadHand<S>,
+}
+
+impl<S> Model for LoadByHand<S> {
+    ghost use Rattle.std.specs.Coded.{codes};
+    ghost use Rattle.gq_parser.specs.contracts.tree.TypeRef as type_ref;
+    ghost use Rattle.gq_parser.specs.contracts.tree.Literal as literal;
+    ghost use Rattle.server.specs.Clients.{HasLoaders, client_of};
+    ghost use Rattle.server.specs.LoadsByHand.{LoadByHandOf, load_by_hand_of};
+
+    ghost Value = { LoadByHandOf S };
+
+    ghost coded = { Prim.hlevel (codes, type_ref.the_row.coded, literal.the_row.coded, S.code) };
+
+    ghost view = { λ b. load_by_hand_of (client_of b.documents.server b.max_answer b.hand.session) b.hand.loader b.hand.keys b.hand.far };
+
+    ghost invariant = { λ b. HasLoaders b.documents.server b.hand.session };
+}
+
+impl<S> ClientSession<S> {
+    ghost use Rattle.server.specs.LoadsByHand.{load_by_hand_of};
+
+    /// Keys of a loader, to be loaded in this client's session by hand. Nothing is done before the first call of
+    /// [`advance`](LoadByHand::advance), and it takes no memory. Loaders are numbered from 0, in the order of their lines; the
+    /// [session](ClientSession::session) tells how many there are.
+    pub fn load_by_hand(self, loader: usize, keys: Vec<Key>) -> LoadByHand<S>
+        requires { loader < length self.session.loaders }
+        ensures { result ≡ load_by_hand_of self loader (map key_of keys.items) handed }
+    {
+        let ClientSession {
+            alloc,
+            documents,
+            lines,
+            session,
+            max_answer,
+        } = self;
+        LoadByHand {
+            alloc,
+            documents,
+            lines,
+            max_answer,
+            hand: LoadHand::new(session, loader, keys),
+        }
+    }
+}
+
+impl<S> LoadByHand<S> {
+    /// The orders of the round that is out, each with its reply once it is answered. There are none where no round is out.
+    pub fn orders(&self) -> &[Pending]
+        ensures { result.now ≡ load_pending_in self.now.far }
+    {
+        self.hand.orders()
+    }
+}
+
+impl<S: Asks> LoadByHand<S> {
+    ghost use Rattle.rounds_by_hand.specs.LoadHands.{AdvancesLoad, AsksAndAdvancesLoad, IsSameLoad, LoadGoesOn, LoadGoesOnIfMay};
+    ghost use Rattle.server.specs.LoadsByHand.{ClientLoads, ClientStopsLoad, load_in};
+
+    /// Stores the round that is out, if each of its orders is answered, and returns the outcomes. The first call begins: it forgets failed
+    /// batches, and returns the outcomes if all keys are known; else the round that asks for the others is out.
+    ///
+    /// # Errors
+    ///
+    /// Only when out of memory: a round that was out is lost, or it is stored and its outcomes aren't copied. The load is over then.
+    pub fn advance(&mut self) -> Result<LoadAdvance, NoMemory>
+        ensures advanced { IfOk result (AdvancesLoad (load_in self.old) (load_in self.new)) }
+        ensures over { OnErr result (self.new.far ≡ over) }
+        ensures underway { LoadGoesOn S.may_tell (load_in self.old) (load_in self.new) }
+        ensures loaded { IfOk result (ClientLoads S.may_tell self.old self.new) }
+        ensures asked { IsSameLoad (load_in self.old) (load_in self.new) }
+        ensures same { IsSameClient self.old.client self.new.client }
+    {
+        self.hand.advance()
+    }
+
+    /// Does what [`advance`](LoadByHand::advance) does, but asks the source of the loader for the orders that nobody has answered. So it
+    /// never waits.
+    ///
+    /// # Errors
+    ///
+    /// Those of [`advance`](LoadByHand::advance).
+    pub fn ask_and_advance(&mut self) -> Result<LoadAdvance, NoMemory>
+        ensures advanced { IfOk result (AsksAndAdvancesLoad (load_in self.old) (load_in self.new)) }
+        ensures over { OnErr result (self.new.far ≡ over) }
+        ensures underway { LoadGoesOn S.may_tell (load_in self.old) (load_in self.new) }
+        ensures loaded { IfOk result (ClientLoads S.may_tell self.old self.new) }
+        ensures asked { IsSameLoad (load_in self.old) (load_in self.new) }
+        ensures same { IsSameClient self.old.client self.new.client }
+    {
+        self.hand.ask_and_advance()
+    }
+
+    /// Answers the order of this number in the round that is out, with items that came from elsewhere, or with a fault of the whole batch.
+    /// An answer that hasn't an item for each key fails the batch.
+    ///
+    /// # Errors
+    ///
+    /// [`NoSuchOrder`](TakeFault::NoSuchOrder) and [`Answered`](TakeFault::Answered): nothing has changed then.
+    /// [`NoMemory`](TakeFault::NoMemory) when out of memory, or where that is the answer: the round is lost, and the load is over.
+    pub fn answer(
+        &mut self,
+        number: usize,
+        answer: Result<Vec<Item>, FetchFault>,
+    ) -> Result<(), TakeFault>
+        ensures no_order { IsErrOf result TakeFault.NoSuchOrder ↔ (length (load_pending_in self.old.far) ≤ number) }
+        ensures answered { IsErrOf result TakeFault.Answered ↔ (is_in_at (slice_get (load_pending_in self.old.far) number) ≡ true) }
+        ensures none { IsErrOf result TakeFault.NoSuchOrder → self.new ≡ self.old }
+        ensures kept { IsErrOf result TakeFault.Answered → self.new ≡ self.old }
+        ensures over { IsErrOf result TakeFault.NoMemory → self.new.far ≡ over }
+        ensures taken { OnOk result (TakesAnswer (load_pending_in self.old.far) number answer (load_pending_in self.new.far)) }
+        // It is still as the sources may answer, if this answer is.
+        ensures underway { OnOk result (IfSome (slice_get (load_pending_in self.old.far) number)
+            (LoadGoesOnIfMay S.may_tell answer (load_in self.old) (load_in self.new))) }
+        ensures stopped { OnErr result (LoadGoesOn S.may_tell (load_in self.old) (load_in self.new)) }
+        ensures client { self.new.client ≡ self.old.client }
+        ensures asked { IsSameLoad (load_in self.old) (load_in self.new) }
+    {
+        self.hand.answer(number, answer)
+    }
+
+    /// Gives the client back, whatever is done. A round that is out is lost, and its batches stay in the log as not stored.
+    pub fn into_client(self) -> ClientSession<S>
+        ensures client { result ≡ self.client }
+        ensures stopped { ClientStopsLoad S.may_tell self result }
+    {
+        let LoadByHand {
+            alloc,
+            documents,
+            lines,
+            max_answer,
+            hand,
+        } = self;
+        ClientSession {
+            alloc,
+            documents,
+            lines,
+            session: hand.into_session(),
+            max_answer,
+        }
+    }
+}
