@@ -1,0 +1,6 @@
+use Rattle.std.proofs.Common.{◌≡◌, ◌++◌, take}
+use Rattle.flat_outcomes.specs.Written.{fields_of}
+use Rattle.flat_outcomes.proofs.rows.write_fields.Given as goal
+
+abbrev pub invariant-loop-column : goal.invariant-loop-column
+invariant-loop-column l = l.texts ≡ l.fn.texts ++ fields_of (take l.column l.row)
