@@ -1,109 +1,43 @@
--- Members that are read without a value, beside the members of the object that they are.
-use Rattle.std.proofs.Common.{◌≡◌, ℕ, ◌-◌, ◌<◌, List, [], ◌∷◌, length, Option, Some, None, refl, sym, ap, ◌∙◌, arith}
+-- Values that are read token by token, and the members of an object that they are.
+use Rattle.std.proofs.Common.{◌≡◌, ℕ, ◌<◌, ◌-◌, List, [], ◌∷◌, length, Option, Some, sym, ap, ◌∙◌, arith}
 use Rattle.std.specs.Option.{option_map, option_and_then}
 use Rattle.std.specs.Prelude.{codes}
 use Rattle.json.specs.Token.{Token}
 use Rattle.json.specs.Lex.{tokens}
 use Rattle.json.specs.Json as json
-use Rattle.json.proofs.Grammar.{value_is, value-begin_object, members_more}
-use Rattle.serde_json.specs.Data.{Data, object, Members, no_members, put}
+use Rattle.json.proofs.Grammar.{value-begin_array, value-begin_object}
+use Rattle.serde_json.specs.Data.{Data, array, object, Items, Members, put}
 use Rattle.serde_json.specs.Find.{as_str}
-use Rattle.serde_json.specs.Read.{converted, of_json, of_members, read}
+use Rattle.serde_json.specs.Read.{converted, of_json, read}
 use Rattle.serde_json.specs.View.{view}
 use Rattle.serde_json.proofs.Views.{get_member-put, get_member-put_other}
 use Rattle.request_line.specs.Requests.{name_of}
-use Rattle.request_line.specs.Plain.{token_seen, data_seen, object_members, ReadsValue, other_members, object_with, Says}
-use Rattle.request_line.specs.declared.plain.PlainValue.{PlainValue}
-use Rattle.request_line.specs.declared.plain.PlainValue.TheVariants as plain
+use Rattle.request_line.proofs.Loops.{converted_some, converted-array, converted-object}
+use Rattle.request_line.specs.Plain.{ReadsValue, array_items, object_members, Says}
 use Rattle.request_line.specs.declared.plain.Parts.{Parts}
 
 -- ---- values
 
-abbrev json_seen : PlainValue → json.Json
-json_seen plain.Null = json.null
-json_seen (plain.Bool b) = json.boolean b
-json_seen (plain.String s) = json.string s.now
+pub array_value : (depth : ℕ) (ts r : List Token) (ds : Items) → 0 < depth → array_items (depth - 1) ts ≡ Some (ds, r) → ReadsValue depth (Token.begin_array ∷ ts) r (array ds)
+array_value depth ts r ds some items =
+    ap (converted of_json) (value-begin_array depth ts some) ∙ converted-array (json.items (json.value (depth - 1)) (length ts) ts) ∙ ap (json.parse_map array) items
 
-value_seen : (d : ℕ) (v : PlainValue) (ts : List Token) → json.value d (token_seen v ∷ ts) ≡ Some (json_seen v, ts)
-value_seen d plain.Null ts = value_is d (Token.null ∷ ts)
-value_seen d (plain.Bool b) ts = value_is d (Token.boolean b ∷ ts)
-value_seen d (plain.String s) ts = value_is d (Token.string s.now ∷ ts)
-
-json-data_seen : (v : PlainValue) → of_json (json_seen v) ≡ Some (data_seen v)
-json-data_seen plain.Null = refl
-json-data_seen (plain.Bool b) = refl
-json-data_seen (plain.String s) = refl
-
-pub plain_read : (v : PlainValue) (ts : List Token) → ReadsValue (token_seen v ∷ ts) ts (data_seen v)
-plain_read v ts = record { value = json_seen v; read = value_seen 126 v ts; means = json-data_seen v }
-
--- ---- members of an object inside
-
-some_one : {X : Type 0} (x y : X) → Some x ≡ Some y → x ≡ y
-some_one x y e = cc e
-
-abbrev inside : Members → Option (json.Members × List Token) → Option (Members × List Token)
-inside found o = converted (λ ms. of_members ms found) o
-
-one_inside : (k : List ℕ) (v : PlainValue) (found : Members) (rest : Option (json.Members × List Token))
-    → inside found (json.parse_map (json.member k (json_seen v)) rest) ≡ inside (put k (data_seen v) found) rest
-one_inside k v found None = refl
-one_inside k v found (Some (ms, ts)) =
-    ap (λ o. option_map (λ b. (b, ts)) (option_and_then (λ d. of_members ms (put k d found)) o)) (json-data_seen v)
-
-pub member_inside : (n : ℕ) (k : List ℕ) (v : PlainValue) (found : Members) (ts r : List Token) → 0 < n → json.read_key ts ≡ Some (Some k, token_seen v ∷ r)
-    → inside found (json.members (json.value 125) n ts) ≡ inside (put k (data_seen v) found) (json.members (json.value 125) (n - 1) r)
-member_inside n k v found ts r some named =
-    ap (inside found) (members_more (json.value 125) n k ts (token_seen v ∷ r) r (json_seen v) some named (value_seen 125 v r)) ∙ one_inside k v found (json.members (json.value 125) (n - 1) r)
-
-module _ (found : Members) (r : List Token) where
-  abbrev IsObject : Option (json.Members × List Token) → Type 0
-  IsObject o = (j : json.Json) × (json.parse_map json.object o ≡ Some (j, r)) × (of_json j ≡ Some (object found))
-
-  members_found : (ms : json.Members) (ts : List Token) (read : Option Members) → of_members ms no_members ≡ read
-      → option_map {U = Members × List Token} (λ b. (b, ts)) read ≡ Some (found, r) → IsObject (Some (ms, ts))
-  members_found ms ts None is e = absurd (cc e)
-  members_found ms ts (Some ds) is e =
-      let same = some_one (ds, ts) (found, r) e in
-      (json.object ms, ap (λ p. Some (json.object ms, p.1)) same, ap (option_map object) (is ∙ ap (λ p. Some p.0) same))
-
-  -- the object that these members are
-  object_inside : (o : Option (json.Members × List Token)) → inside no_members o ≡ Some (found, r) → IsObject o
-  object_inside None e = absurd (cc e)
-  object_inside (Some (ms, ts)) e = members_found ms ts (of_members ms no_members) refl e
-
-pub object_value : (ts r : List Token) (found : Members) → object_members ts ≡ Some (found, r) → ReadsValue (Token.begin_object ∷ ts) r (object found)
-object_value ts r found members =
-    let o = object_inside found r (json.members (json.value 125) (length ts) ts) members in
-    record { value = o.0; read = value-begin_object 126 ts (omega arith) ∙ o.1; means = o.2 }
-
--- ---- one more member
-
-one_more : (k : List ℕ) (j : json.Json) (d : Data) (found : Members) (rest : Option (json.Members × List Token)) → of_json j ≡ Some d
-    → object_with found (json.parse_map (json.member k j) rest) ≡ object_with (put k d found) rest
-one_more k j d found None is = refl
-one_more k j d found (Some (ms, [])) is = ap (λ o. option_map object (option_and_then (λ d. of_members ms (put k d found)) o)) is
-one_more k j d found (Some (ms, t ∷ ts)) is = refl
-
-pub member_read : (n : ℕ) (k : List ℕ) (d : Data) (found : Members) (ts us r : List Token) → 0 < n → json.read_key ts ≡ Some (Some k, us) → ReadsValue us r d
-    → object_with found (json.members (json.value 126) n ts) ≡ object_with (put k d found) (json.members (json.value 126) (n - 1) r)
-member_read n k d found ts us r some named reads =
-    ap (object_with found) (members_more (json.value 126) n k ts us r reads.value some named reads.read) ∙ one_more k reads.value d found (json.members (json.value 126) (n - 1) r) reads.means
+pub object_value : (depth : ℕ) (ts r : List Token) (ms : Members) → 0 < depth → object_members (depth - 1) ts ≡ Some (ms, r) → ReadsValue depth (Token.begin_object ∷ ts) r (object ms)
+object_value depth ts r ms some members =
+    ap (converted of_json) (value-begin_object depth ts some) ∙ converted-object (json.members (json.value (depth - 1)) (length ts) ts) ∙ ap (json.parse_map object) members
 
 -- ---- the whole text
 
 abbrev whole : Option (json.Json × List Token) → Option Data
 whole o = option_and_then of_json (option_and_then (λ p. json.if_last p.0 p.1) o)
 
-whole_object : (o : Option (json.Members × List Token)) → whole (json.parse_map json.object o) ≡ object_with no_members o
-whole_object None = refl
-whole_object (Some (ms, [])) = refl
-whole_object (Some (ms, t ∷ ts)) = refl
+whole_read : (o : Option (json.Json × List Token)) (d : Data) → converted of_json o ≡ Some (d, []) → whole o ≡ Some d
+whole_read o d e = let j = converted_some of_json o d [] e in ap whole j.1 ∙ j.2
 
-pub object_read : (text : List ℕ) (ts rest : List Token) (found : Members) → tokens text ≡ Token.begin_object ∷ ts
-    → object_with no_members (other_members ts) ≡ object_with found (Some (json.no_members, rest)) → rest ≡ [] → read text ≡ Some (object found)
+pub object_read : (text : List ℕ) (ts rest : List Token) (found : Members) → tokens text ≡ Token.begin_object ∷ ts → object_members 126 ts ≡ Some (found, rest) → rest ≡ [] → read text ≡ Some (object found)
 object_read text ts rest found opened members over =
-    ap whole (ap (json.value 127) opened ∙ value-begin_object 127 ts (omega arith)) ∙ whole_object (other_members ts) ∙ members ∙ ap (λ r. object_with found (Some (json.no_members, r))) over
+    whole_read (json.value 127 (tokens text)) (object found)
+    (ap (λ us. converted of_json (json.value 127 us)) opened ∙ object_value 127 ts rest found (omega arith) members ∙ ap (λ r. Some (object found, r)) over)
 
 -- ---- what it says
 

@@ -2,12 +2,14 @@
 //!
 //! The layer above may rely on this: [`LineReader::read`] returns the one request that a line is, or those of an array of 1 to 16
 //! values, or that the line is neither (`IsRequest`, `AreRequests` and `IsNoRequest` in `specs/Requests.antt`). A line reads as
-//! `serde_json` reads it, whose limit of nesting is part of that. One reader is kept from line to line: where a line is one
-//! request whose variables are strings, booleans and nulls, its query and the name of its operation lie in the line and in the
-//! reader, and memory is taken for the variables alone.
+//! `serde_json` reads it, whose limit of nesting is part of that. One reader is kept from line to line: where a line is an
+//! object, its query and the name of its operation lie in the line and in the reader, and memory is taken for its variables, and
+//! for arrays and objects among its other members.
 #![tactic(auto)]
 
 mod line;
+mod member;
+mod number;
 mod plain;
 mod reader;
 mod request;
