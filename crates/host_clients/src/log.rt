@@ -31,7 +31,7 @@ impl BatchLog {
         for entry in entries {
             rounds.push(entry.round)?;
             stored.push(u32::from(entry.stored))?;
-            keys = keys.with(&entry.keys)?;
+            keys = keys.with(entry.keys.as_slice())?;
         }
         Ok(BatchLog {
             rounds,

@@ -57,7 +57,7 @@ fn with_one(orders: FlatOrders, one: &Pending) -> Result<FlatOrders, NoMemory>
 {
     match one {
         Pending::Out(order) => orders.with(order.loader(), order.keys()),
-        Pending::In(reply) => orders.with(reply.loader, &reply.keys),
+        Pending::In(reply) => orders.with(reply.loader, reply.keys.as_slice()),
     }
 }
 
