@@ -6,7 +6,7 @@ use Rattle.owned_hand.specs.declared.handed_in.HandedIn.{HandedIn}
 use Rattle.host_clients.specs.Asked.{HostAsked}
 use Rattle.host_clients.specs.Clients.{Begins, IsBegun, client_in}
 use Rattle.host_clients.specs.declared.client.HostClient.{HostClient}
-use Rattle.host_clients.specs.declared.client.HostClient.TheVariants.{Idle, Asked, Answered, Moved}
+use Rattle.host_clients.specs.declared.client.HostClient.TheVariants.{Idle, Asked, Answered, Loading, Loaded, Moved}
 use Rattle.host_clients.specs.declared.fault.Fault.{Fault}
 use Rattle.host_clients.specs.declared.fault.Fault.TheVariants as fault
 
@@ -17,6 +17,8 @@ module _ (old : HostClient) (c : ClientOf HandedIn) (asked : HostAsked) (was : c
   begun-of (Idle x) (Ok d) b = absurd b
   begun-of (Idle x) (Err e) b = tt
   begun-of (Answered a) r b = absurd b
+  begun-of (Loading m) r b = absurd b
+  begun-of (Loaded d) r b = absurd b
   begun-of Moved r b = absurd b
 
   pub kept-of : (new : HostClient) (r : Result (Unit {0}) Fault) → Begins c asked new r → OnErr r (client_in new ≡ client_in old)
@@ -25,6 +27,8 @@ module _ (old : HostClient) (c : ClientOf HandedIn) (asked : HostAsked) (was : c
   kept-of (Idle x) (Ok d) b = absurd b
   kept-of (Idle x) (Err e) b = ap Some b.0 ∙ sym was
   kept-of (Answered a) r b = absurd b
+  kept-of (Loading m) r b = absurd b
+  kept-of (Loaded d) r b = absurd b
   kept-of Moved r b = absurd b
 
 pub not-busy : (c : ClientOf HandedIn) (asked : HostAsked) (new : HostClient) (r : Result (Unit {0}) Fault) → Begins c asked new r → r ≡ Err fault.Busy → ⊥
@@ -33,4 +37,6 @@ not-busy c asked (Asked l) (Err e) b is = b
 not-busy c asked (Idle x) (Ok d) b is = b
 not-busy c asked (Idle x) (Err e) b is = let same = b.1 in cc
 not-busy c asked (Answered a) r b is = b
+not-busy c asked (Loading m) r b is = b
+not-busy c asked (Loaded d) r b is = b
 not-busy c asked Moved r b is = b

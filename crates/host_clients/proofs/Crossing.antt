@@ -3,16 +3,25 @@
 use denote.Param.Send.{IsSend, sendable}
 use denote.Param.SendFields.{declared_send, variants_send, VariantsHave}
 use Rattle.std.proofs.Crossing as over
-use Rattle.server.proofs.Crossing.{client_send, server_send}
+use Rattle.rounds_by_hand.proofs.load_hand.LoadHand.TheSendSync as load_hand_crosses
+use Rattle.server.proofs.Crossing.{client_send, documents_send, reader_send, server_send}
 use Rattle.server.specs.contracts.client.ClientSession as session
+use Rattle.server.specs.contracts.load_by_hand.LoadByHand as by_hand
+use Rattle.server.specs.contracts.load_by_hand.LoadByHand.TheInside as by_hand_inside
 use Rattle.owned_hand.proofs.handed_in.HandedIn.TheSendSync as handed_in_crosses
 use Rattle.owned_hand.specs.contracts.handed_in.HandedIn as handed_in
 use Rattle.owned_hand.proofs.owned.OwnedByHand.TheSendSync as owned_crosses
 use Rattle.flat_orders.proofs.orders.FlatOrders.TheSendSync as orders_cross
+use Rattle.flat_outcomes.proofs.outcomes.FlatOutcomes.TheSendSync as outcomes_cross
 use Rattle.host_clients.specs.contracts.answered.AnsweredClient as answered
 use Rattle.host_clients.specs.contracts.answered.AnsweredClient.TheInside as answered_inside
 use Rattle.host_clients.specs.contracts.asked.AskedTexts as asked
+use Rattle.host_clients.specs.contracts.asked_keys.AskedKeys as asked_keys
 use Rattle.host_clients.specs.contracts.client.HostClient as client
+use Rattle.host_clients.specs.contracts.loaded.LoadedClient as loaded
+use Rattle.host_clients.specs.contracts.loaded.LoadedClient.TheInside as loaded_inside
+use Rattle.host_clients.specs.contracts.loading.LoadUnderWay as loading
+use Rattle.host_clients.specs.contracts.loading.LoadUnderWay.TheInside as loading_inside
 use Rattle.host_clients.specs.contracts.object.Object as object
 use Rattle.host_clients.specs.contracts.under_way.UnderWay as under_way
 use Rattle.host_clients.specs.contracts.under_way.UnderWay.TheInside as under_way_inside
@@ -35,8 +44,31 @@ under_way_inside_send = declared_send under_way_inside.the_type (owned_crosses.t
 under_way_send : IsSend under_way.the_row
 under_way_send = let i = under_way_inside_send in record { owned = λ d vs x. (i.owned x.0 vs, tt); leaving = λ k d w. tt }
 
+keys_send : IsSend asked_keys.the_row
+keys_send = search (over.crosses, sendable) depth 20
+
+by_hand_inside_send : IsSend (by_hand_inside.the_row handed_in.the_row)
+by_hand_inside_send =
+    declared_send (by_hand_inside.the_type handed_in.the_row)
+    (search sendable depth 20, (search documents_send, (search reader_send, (search sendable depth 20, (search (load_hand_crosses.the_send, sendable, handed_in_crosses.the_send) depth 20, tt)))))
+
+by_hand_send : IsSend (by_hand.the_row handed_in.the_row)
+by_hand_send = let i = by_hand_inside_send in record { owned = λ d vs x. (i.owned x.0 vs, tt); leaving = λ k d w. tt }
+
+loading_inside_send : IsSend loading_inside.the_row
+loading_inside_send = declared_send loading_inside.the_type (by_hand_send, (keys_send, (orders_cross.the_send, tt)))
+
+loading_send : IsSend loading.the_row
+loading_send = let i = loading_inside_send in record { owned = λ d vs x. (i.owned x.0 vs, tt); leaving = λ k d w. tt }
+
+loaded_inside_send : IsSend loaded_inside.the_row
+loaded_inside_send = declared_send loaded_inside.the_type (session_send, (keys_send, (outcomes_cross.the_send, tt)))
+
+loaded_send : IsSend loaded.the_row
+loaded_send = let i = loaded_inside_send in record { owned = λ d vs x. (i.owned x.0 vs, tt); leaving = λ k d w. tt }
+
 held_client_send : IsSend client.the_row
-held_client_send = search (over.crosses, sendable, session_send, under_way_send, answered_send) depth 20
+held_client_send = search (over.crosses, sendable, session_send, under_way_send, answered_send, loading_send, loaded_send) depth 20
 
 variants : VariantsHave IsSend object.the_type.parts
 variants = ((server_send, tt), ((held_client_send, tt), tt))

@@ -3,4 +3,7 @@ pub mod NewLoaders
 pub mod Asking
 pub mod Beginning
 pub mod Underway
+pub mod Loadings
+pub mod ReadKeys
+pub mod Replies
 pub mod Crossing

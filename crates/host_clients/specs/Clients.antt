@@ -1,23 +1,27 @@
 -- What the calls of a client make of it.
-use Rattle.std.specs.Prelude.{ℕ, ◌≡◌, ◌⊎◌, List, Bool, true, false, Option, Some, None, Result, Ok, Err, map, length, slice_get, option_map, String, string_bytes}
+use Rattle.std.specs.Prelude.{ℕ, ◌≡◌, ◌≤◌, ◌⊎◌, List, [], Bool, true, false, Option, Some, None, Result, Ok, Err, map, length, slice_get, option_map, MatchOption, String, string_bytes}
 use Rattle.std.specs.Global.{Vec, Global}
 use Rattle.load_memory.specs.Outcomes.{ItemOf, item_of}
 use Rattle.load_memory.specs.declared.outcome.Item.{Item}
 use Rattle.load_queue.specs.declared.source.FetchFault.{FetchFault}
 use Rattle.load_queue.specs.declared.source.FetchFault.TheVariants.{Failed}
+use Rattle.load_queue.specs.Orders.{OrderOf}
 use Rattle.flat_orders.specs.Orders.{keys_of}
-use Rattle.load_rounds.specs.Histories.{any_tell}
+use Rattle.load_rounds.specs.Histories.{Loading as LoadingCall, any_tell}
 use Rattle.rounds_by_hand.specs.Hands.{handed, pending_in, IsNewRound, IsWaiting, IsOver}
+use Rattle.rounds_by_hand.specs.LoadHands.{handed as load_handed, over, can_advance_load, load_pending_in, IsLoadUnderway, IsLoadWaiting, IsNewLoadRound, IsSameLoad, LoadGoesOn}
 use Rattle.rounds_by_hand.specs.Pending.{TakesAnswer}
-use Rattle.server.specs.Clients.{ClientOf, IsSameClient}
+use Rattle.server.specs.Clients.{ClientOf, IsClientCall, IsSameClient}
 use Rattle.server.specs.Hands.{IsUnderway, GoesOn, GivesUp}
+use Rattle.server.specs.LoadsByHand.{LoadByHandOf, ClientStopsLoad, load_by_hand_of, load_in}
 use Rattle.owned_hand.specs.declared.handed_in.HandedIn.{HandedIn}
 use Rattle.host_clients.specs.Asked.{HostAsked, PlansHost, AnswersHost}
+use Rattle.host_clients.specs.Loads.{KeysOf, LoadedOf, asked_by, load_orders}
 use Rattle.host_clients.specs.UnderWay.{UnderWayOf, AnsweredOf, report_in, orders_out}
 use Rattle.host_clients.specs.declared.fault.Fault.{Fault}
 use Rattle.host_clients.specs.declared.fault.Fault.TheVariants as fault
 use Rattle.host_clients.specs.declared.client.HostClient.{HostClient}
-use Rattle.host_clients.specs.declared.client.HostClient.TheVariants.{Idle, Asked, Answered, Moved}
+use Rattle.host_clients.specs.declared.client.HostClient.TheVariants.{Idle, Asked, Answered, Loading, Loaded, Moved}
 use Rattle.host_clients.specs.declared.client.Progress.{Progress}
 use Rattle.host_clients.specs.declared.client.Progress.TheVariants.{Done, Round, Waiting}
 
@@ -26,14 +30,31 @@ abbrev pub client_in : HostClient → Option (ClientOf HandedIn)
 client_in (Idle c) = Some c
 client_in (Asked u) = Some u.hand.client
 client_in (Answered a) = Some a.client
+client_in (Loading l) = Some l.client
+client_in (Loaded d) = Some d.client
 client_in Moved = None
 
--- a request is being answered
+-- a request is being answered, or keys are loaded
 abbrev pub is_busy : HostClient → Bool
 is_busy (Idle c) = false
 is_busy (Asked u) = true
 is_busy (Answered a) = false
+is_busy (Loading l) = true
+is_busy (Loaded d) = false
 is_busy Moved = true
+
+-- the orders of the round that is out
+abbrev pub orders_in : HostClient → List OrderOf
+orders_in (Idle c) = []
+orders_in (Asked u) = orders_out u.hand
+orders_in (Answered a) = []
+orders_in (Loading l) = load_orders l
+orders_in (Loaded d) = []
+orders_in Moved = []
+
+-- a client that isn't busy has no loader of this number
+abbrev pub LacksLoader : HostClient → ℕ → Type 0
+LacksLoader client loader = (is_busy client ≡ false) × MatchOption (client_in client) ⊥ (λ (c : ClientOf HandedIn). length c.session.loaders ≤ loader)
 
 -- it is planned for the client, and nothing is asked yet
 pub record IsBegunWith (asked : HostAsked) (u : UnderWayOf) : Type 0 where
@@ -51,6 +72,11 @@ Begins c asked new result = ⊥
 abbrev pub IsBegun : HostClient → HostAsked → HostClient → Type 0
 IsBegun old asked (Asked u) = (client_in old ≡ Some u.hand.client) × IsBegunWith asked u
 IsBegun old asked new = ⊥
+
+-- a client that wasn't busy has begun to load keys; nothing is done of it yet
+abbrev pub IsBegunLoad : KeysOf → HostClient → HostClient → Type 0
+IsBegunLoad asked old (Loading l) = (client_in old ≡ Some l.client) × (l ≡ load_by_hand_of l.client asked.loader asked.keys load_handed)
+IsBegunLoad asked old new = ⊥
 
 -- from whichever client it was begun: this answers it in the client's session
 pub record AnswersIt (u : UnderWayOf) (a : AnsweredOf) : Type 0 where
@@ -84,6 +110,42 @@ GoesOnWith u (Asked v) (Ok Waiting) = IsWaiting u.hand.far × (v ≡ u)
 GoesOnWith u (Idle c) (Err e) = StopsIt u c × IsStopFault u e
 GoesOnWith u new result = ⊥
 
+-- ---- keys that are loaded
+
+-- Each order of its round had a reply, if it had a round. From whichever client it was begun: all that was done in its session is a call that
+-- loads these keys, and these are its outcomes.
+pub record LoadsIt (l : LoadByHandOf HandedIn) (d : LoadedOf) : Type 0 where
+  pub ready : can_advance_load l.far ≡ true
+  pub asked_is : d.asked ≡ asked_by l
+  pub same : IsSameClient l.client d.client
+  pub loads : (c : ClientOf HandedIn) → IsLoadUnderway any_tell c.session (load_in l) → IsClientCall any_tell (LoadingCall l.loader l.keys d.outcomes) c d.client
+
+-- nothing was done yet, and now the round of the keys that aren't known is out
+pub record MakesLoadRound (l m : LoadByHandOf HandedIn) : Type 0 where
+  pub first : l.far ≡ load_handed
+  pub same_keys : IsSameLoad (load_in l) (load_in m)
+  pub same : IsSameClient l.client m.client
+  pub goes_on : LoadGoesOn any_tell (load_in l) (load_in m)
+  pub round : IsNewLoadRound m.far
+
+-- it is given up: what was stored stays in the client's session, and perhaps the round was lost
+pub record StopsLoad (l : LoadByHandOf HandedIn) (c : ClientOf HandedIn) : Type 0 where
+  pub same : IsSameClient l.client c
+  pub stops : ClientStopsLoad any_tell l c
+
+abbrev pub IsLoadStopFault : LoadByHandOf HandedIn → Fault → Type 0
+IsLoadStopFault l e = (e ≡ fault.NoMemory) ⊎ ((e ≡ fault.Stopped) × (l.far ≡ over))
+
+-- what comes of going on
+abbrev pub LoadsOnWith : LoadByHandOf HandedIn → HostClient → Result Progress Fault → Type 0
+LoadsOnWith l (Loaded d) (Ok Done) = LoadsIt l d
+LoadsOnWith l (Loading m) (Ok Round) = MakesLoadRound l m
+LoadsOnWith l (Loading m) (Ok Waiting) = IsLoadWaiting l.far × (m ≡ l)
+LoadsOnWith l (Idle c) (Err e) = StopsLoad l c × IsLoadStopFault l e
+LoadsOnWith l new result = ⊥
+
+-- ---- replies
+
 -- an order of the round that is out takes an answer, and the others stay as they are
 pub record Takes (number : ℕ) (answer : Result (Vec Item) FetchFault) (u v : UnderWayOf) : Type 0 where
   pub asked_is : v.asked ≡ u.asked
@@ -92,40 +154,47 @@ pub record Takes (number : ℕ) (answer : Result (Vec Item) FetchFault) (u v : U
   pub goes_on : GoesOn any_tell u.hand v.hand
   pub takes : TakesAnswer (pending_in u.hand.far) number answer (pending_in v.hand.far)
 
+pub record TakesForLoad (number : ℕ) (answer : Result (Vec Item) FetchFault) (l m : LoadByHandOf HandedIn) : Type 0 where
+  pub same_keys : IsSameLoad (load_in l) (load_in m)
+  pub client_is : m.client ≡ l.client
+  pub goes_on : LoadGoesOn any_tell (load_in l) (load_in m)
+  pub takes : TakesAnswer (load_pending_in l.far) number answer (load_pending_in m.far)
+
+-- an order of a request or of a load takes an answer
+abbrev pub TakesAnswerTo : ℕ → Result (Vec Item) FetchFault → HostClient → HostClient → Type 0
+TakesAnswerTo number answer (Asked u) (Asked v) = Takes number answer u v
+TakesAnswerTo number answer (Loading l) (Loading m) = TakesForLoad number answer l m
+TakesAnswerTo number answer old new = ⊥
+
 -- what a call to go on makes of a client
 abbrev pub Advances : HostClient → HostClient → Result Progress Fault → Type 0
 Advances (Idle c) new result = (new ≡ Idle c) × (result ≡ Err fault.Idle)
 Advances (Asked u) new result = GoesOnWith u new result
 Advances (Answered a) new result = (new ≡ Answered a) × (result ≡ Ok Done)
+Advances (Loading l) new result = LoadsOnWith l new result
+Advances (Loaded d) new result = (new ≡ Loaded d) × (result ≡ Ok Done)
 Advances Moved new result = (new ≡ Moved) × (result ≡ Err fault.Idle)
 
 -- a reply is taken for an order: these items, as the host laid them out
-pub record TakesItems (number : ℕ) (said : List ItemOf) (u v : UnderWayOf) : Type 0 where
+pub record TakesReply (number : ℕ) (said : List ItemOf) (old new : HostClient) : Type 0 where
   pub items : Vec Item
   pub are_said : map item_of items.items ≡ said
-  pub takes : Takes number (Ok items) u v
-
-abbrev pub TakesReply : ℕ → List ItemOf → HostClient → HostClient → Type 0
-TakesReply number said (Asked u) (Asked v) = TakesItems number said u v
-TakesReply number said old new = ⊥
+  pub takes : TakesAnswerTo number (Ok items) old new
 
 -- it is taken that the batch of an order failed as a whole, with this text
-pub record FailsOrder (number : ℕ) (said : List ℕ) (u v : UnderWayOf) : Type 0 where
+pub record TakesFailure (number : ℕ) (said : List ℕ) (old new : HostClient) : Type 0 where
   pub text : String Global
   pub is_said : string_bytes text ≡ said
-  pub takes : Takes number (Err (Failed text)) u v
+  pub takes : TakesAnswerTo number (Err (Failed text)) old new
 
-abbrev pub TakesFailure : ℕ → List ℕ → HostClient → HostClient → Type 0
-TakesFailure number said (Asked u) (Asked v) = FailsOrder number said u v
-TakesFailure number said old new = ⊥
-
--- what is on its way to the answer is given up
+-- what is on its way is given up
 abbrev pub Cancels : HostClient → HostClient → Result (Unit {0}) Fault → Type 0
 Cancels (Asked u) (Idle c) (Ok done) = StopsIt u c
 Cancels (Asked u) new result = ⊥
+Cancels (Loading l) (Idle c) (Ok done) = StopsLoad l c
+Cancels (Loading l) new result = ⊥
 Cancels old new result = (new ≡ old) × (result ≡ Err fault.Idle)
 
 -- the order of this number in the round that is out has so many keys
 abbrev pub HasCount : ℕ → ℕ → HostClient → Type 0
-HasCount number count (Asked u) = option_map (λ o. length (keys_of o)) (slice_get (orders_out u.hand) number) ≡ Some count
-HasCount number count client = ⊥
+HasCount number count client = option_map (λ o. length (keys_of o)) (slice_get (orders_in client) number) ≡ Some count

@@ -3,6 +3,8 @@ pub mod Opening
 pub mod Asked
 pub mod Texts
 pub mod UnderWay
+pub mod Loads
+pub mod AskedKeys
 pub mod Clients
 pub mod LoaderTexts
 pub mod Logs

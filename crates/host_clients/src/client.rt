@@ -1,15 +1,23 @@
 //! Clients whose rounds another language runs.
-ghost use Rattle.std.specs.Prelude.{◌≡◌, ◌≢◌, ◌↔◌, true, false, length, Some, IfOk, IfErr, OnOk, OnErr, IsErrOf};
+ghost use Rattle.std.specs.Prelude.{◌≡◌, ◌≢◌, ◌↔◌, true, false, length, Some, IfOk, IfErr, IfSome, IfNone, OnOk, OnErr, IsErrOf};
+ghost use Rattle.std.specs.Prelude.{option_map, slice_get};
+ghost use Rattle.flat_orders.specs.Orders.{keys_of};
 ghost use Rattle.host_clients.specs.Asked.{line as line_asked, request as request_asked};
-ghost use Rattle.host_clients.specs.Clients.{Advances, Cancels, HasCount, IsBegun, TakesFailure, TakesReply, client_in, is_busy};
+ghost use Rattle.host_clients.specs.AskedKeys.{flat_keys};
+ghost use Rattle.host_clients.specs.Clients.{Advances, Cancels, HasCount, IsBegun, IsBegunLoad, LacksLoader, TakesAnswerTo, TakesFailure, TakesReply};
+ghost use Rattle.host_clients.specs.Clients.{client_in, is_busy, orders_in};
 ghost use Rattle.host_clients.specs.Known.{items_in};
 ghost use Rattle.host_clients.specs.Texts.{asked_in, flat_parts};
 
 use crate::answered::AnsweredClient;
 use crate::asked::{AskedTexts, FlatRequest};
+use crate::asked_keys::{AskedKeys, FlatKeys};
 use crate::fault::Fault;
+use crate::loaded::LoadedClient;
+use crate::loading::LoadUnderWay;
 use crate::under_way::UnderWay;
 use flat_rows::FlatReply;
+use load_memory::Item;
 use load_queue::FetchFault;
 use owned_hand::HandedIn;
 use server::ClientSession;
@@ -19,7 +27,7 @@ use std::{mem, str};
 /// How far a client is, after a call of [`HostClient::advance`].
 #[derive(Clone, Copy, Debug, PartialEq, Eq)]
 pub enum Progress {
-    /// There is an answer.
+    /// There is an answer, or there are the outcomes of what is loaded.
     Done,
     /// A new round is out.
     Round,
@@ -27,7 +35,7 @@ pub enum Progress {
     Waiting,
 }
 
-/// A client of a server, whose host runs its rounds: it has a memory of what was replied, and answers one request at a time.
+/// A client of a server, whose host runs its rounds: it has a memory of what was replied, and answers one request at a time, or loads keys.
 #[derive(Drop)]
 pub enum HostClient {
     /// Nothing is asked.
@@ -36,12 +44,16 @@ pub enum HostClient {
     Asked(UnderWay),
     /// What was asked last is answered.
     Answered(AnsweredClient),
+    /// The keys that it is to load are on their way to their outcomes.
+    Loading(LoadUnderWay),
+    /// The keys that it was to load last are loaded.
+    Loaded(LoadedClient),
     /// Only within a call.
     Moved,
 }
 
 impl HostClient {
-    /// The client, without its answer; or the same, where a request is being answered.
+    /// The client, without its answer or outcomes; or the same, where it is busy.
     pub(crate) fn into_idle(self) -> Result<ClientSession<HandedIn>, HostClient>
         ensures idle { IfOk result (λ c. (client_in self ≡ Some c) × (is_busy self ≡ false)) }
         ensures busy { IfErr result (λ same. (same ≡ self) × (is_busy self ≡ true)) }
@@ -49,19 +61,41 @@ impl HostClient {
         match self {
             HostClient::Idle(client) => Ok(client),
             HostClient::Answered(answered) => Ok(answered.into_client()),
+            HostClient::Loaded(loaded) => Ok(loaded.into_client()),
             HostClient::Asked(under_way) => Err(HostClient::Asked(under_way)),
+            HostClient::Loading(loading) => Err(HostClient::Loading(loading)),
             HostClient::Moved => Err(HostClient::Moved),
         }
     }
 
-    /// Whether it is being answered what it was asked last.
+    /// The client, unless it is busy.
+    pub(crate) fn idle(&self) -> Option<&ClientSession<HandedIn>>
+        ensures idle { IfSome result (λ client. (client_in self.now ≡ Some client.now) × (is_busy self.now ≡ false)) }
+        ensures busy { IfNone result (is_busy self.now ≡ true) }
+    {
+        match self {
+            HostClient::Idle(client) => Some(client),
+            HostClient::Answered(answered) => Some(answered.client()),
+            HostClient::Loaded(loaded) => Some(loaded.client()),
+            HostClient::Asked(_) | HostClient::Loading(_) | HostClient::Moved => None,
+        }
+    }
+
+    /// Whether what it was asked last is on its way.
     pub fn is_busy(&self) -> bool
         ensures { result ≡ is_busy self.now }
     {
         match self {
-            HostClient::Idle(_) | HostClient::Answered(_) => false,
-            HostClient::Asked(_) | HostClient::Moved => true,
+            HostClient::Idle(_) | HostClient::Answered(_) | HostClient::Loaded(_) => false,
+            HostClient::Asked(_) | HostClient::Loading(_) | HostClient::Moved => true,
         }
+    }
+
+    /// Becomes the next one, whatever it was.
+    pub(crate) fn put(&mut self, next: HostClient)
+        ensures { self.new ≡ next }
+    {
+        *self = next;
     }
 
     // Begins the answer to what was asked, as the calls below do it.
@@ -73,12 +107,12 @@ impl HostClient {
     {
         match mem::replace(self, HostClient::Moved).into_idle() {
             Err(busy) => {
-                *self = busy;
+                self.put(busy);
                 Err(Fault::Busy)
             }
             Ok(client) => {
                 let (begun, result) = UnderWay::begin(alloc, client, asked);
-                *self = begun;
+                self.put(begun);
                 result
             }
         }
@@ -89,7 +123,7 @@ impl HostClient {
     ///
     /// # Errors
     ///
-    /// [`Busy`](Fault::Busy) while a request is being answered; [`NoMemory`](Fault::NoMemory). The client is as it was.
+    /// [`Busy`](Fault::Busy) while a request is being answered or keys are loaded; [`NoMemory`](Fault::NoMemory). The client is as it was.
     pub fn begin_line(&mut self, alloc: Global, line: &[u8]) -> Result<(), Fault>
         ensures begun { OnOk result (IsBegun self.old (line_asked line.now) self.new) }
         ensures kept { OnErr result (client_in self.new ≡ client_in self.old) }
@@ -122,7 +156,41 @@ impl HostClient {
         self.begin(alloc, asked)
     }
 
-    /// Goes on: stores the round that is out, if each of its orders has a reply, and answers or makes the next round.
+    /// Begins to load keys of a loader: those that aren't known are asked for in one round, of equal keys only the first, and then there is
+    /// an outcome for each key, in order. Failed batches are forgotten before. It goes on as a request does. An answer to what was asked
+    /// before is let go.
+    ///
+    /// # Errors
+    ///
+    /// [`Busy`](Fault::Busy) while a request is being answered or keys are loaded; [`NoLoader`](Fault::NoLoader); the first fault of the
+    /// keys ([`FlatKeys::read`]); [`NoMemory`](Fault::NoMemory). Nothing has changed then.
+    pub fn begin_load(&mut self, alloc: Global, keys: &FlatKeys<'_>) -> Result<(), Fault>
+        ensures begun { OnOk result (IsBegunLoad (flat_keys keys.now) self.old self.new) }
+        ensures kept { OnErr result (self.new ≡ self.old) }
+        ensures busy { IsErrOf result Fault.Busy ↔ (is_busy self.old ≡ true) }
+        ensures no_loader { IsErrOf result Fault.NoLoader ↔ LacksLoader self.old keys.now.loader }
+    {
+        let Some(client) = self.idle() else {
+            return Err(Fault::Busy);
+        };
+        if keys.loader >= client.session().loaders().len() {
+            return Err(Fault::NoLoader);
+        }
+        let read = keys.read(alloc)?;
+        let asked = AskedKeys::of(alloc, keys)?;
+        match mem::replace(self, HostClient::Moved).into_idle() {
+            Err(busy) => {
+                self.put(busy);
+                Err(Fault::Busy)
+            }
+            Ok(client) => {
+                self.put(HostClient::Loading(LoadUnderWay::begin(alloc, client, asked, read)));
+                Ok(())
+            }
+        }
+    }
+
+    /// Goes on: stores the round that is out, if each of its orders has a reply, and answers, gives the outcomes or makes the next round.
     ///
     /// # Errors
     ///
@@ -133,19 +201,57 @@ impl HostClient {
     {
         match mem::replace(self, HostClient::Moved) {
             HostClient::Idle(client) => {
-                *self = HostClient::Idle(client);
+                self.put(HostClient::Idle(client));
                 Err(Fault::Idle)
             }
             HostClient::Asked(under_way) => {
                 let (gone, result) = under_way.advance(alloc);
-                *self = gone;
+                self.put(gone);
                 result
             }
             HostClient::Answered(answered) => {
-                *self = HostClient::Answered(answered);
+                self.put(HostClient::Answered(answered));
+                Ok(Progress::Done)
+            }
+            HostClient::Loading(loading) => {
+                let (gone, result) = loading.advance(alloc);
+                self.put(gone);
+                result
+            }
+            HostClient::Loaded(loaded) => {
+                self.put(HostClient::Loaded(loaded));
                 Ok(Progress::Done)
             }
             HostClient::Moved => Err(Fault::Idle),
+        }
+    }
+
+    // How many keys the order of this number in the round that is out has, if there is one.
+    fn count(&self, number: usize) -> Option<usize>
+        ensures { result ≡ option_map (λ o. length (keys_of o)) (slice_get (orders_in self.now) number) }
+    {
+        match self {
+            HostClient::Asked(under_way) => under_way.orders().count(number),
+            HostClient::Loading(loading) => loading.orders().count(number),
+            HostClient::Idle(_) | HostClient::Answered(_) | HostClient::Loaded(_) => None,
+            HostClient::Moved => None,
+        }
+    }
+
+    // Takes the answer to an order.
+    fn take(
+        &mut self,
+        alloc: Global,
+        number: usize,
+        answer: Result<Vec<Item>, FetchFault>,
+    ) -> Result<(), Fault>
+        ensures taken { OnOk result (TakesAnswerTo number answer self.old self.new) }
+        ensures kept { IfErr result (λ fault. fault ≢ Fault.NoMemory → self.new ≡ self.old) }
+    {
+        match self {
+            HostClient::Asked(under_way) => Ok(under_way.take(alloc, number, answer)?),
+            HostClient::Loading(loading) => Ok(loading.take(alloc, number, answer)?),
+            _ => Err(Fault::NoOrder),
         }
     }
 
@@ -166,16 +272,13 @@ impl HostClient {
         ensures counted { OnOk result (HasCount number (length reply.now.rows.now) self.old) }
         ensures kept { IfErr result (λ fault. fault ≢ Fault.NoMemory → self.new ≡ self.old) }
     {
-        let HostClient::Asked(under_way) = self else {
-            return Err(Fault::NoOrder);
-        };
-        match under_way.orders().count(number) {
+        match self.count(number) {
             None => return Err(Fault::NoOrder),
             Some(count) if count != reply.rows.len() => return Err(Fault::BadCount),
             Some(_) => {}
         }
         let items = reply.items(alloc)?;
-        Ok(under_way.take(alloc, number, Ok(items))?)
+        self.take(alloc, number, Ok(items))
     }
 
     /// Takes it that the batch of an order failed as a whole, with this text.
@@ -188,17 +291,17 @@ impl HostClient {
         ensures taken { OnOk result (TakesFailure number text.now self.old self.new) }
         ensures kept { IfErr result (λ fault. fault ≢ Fault.NoMemory → self.new ≡ self.old) }
     {
-        let HostClient::Asked(under_way) = self else {
+        if !self.is_busy() {
             return Err(Fault::NoOrder);
-        };
+        }
         let Ok(text) = str::from_utf8(text) else {
             return Err(Fault::NotUtf8);
         };
         let text = String::from_str(alloc, text)?;
-        Ok(under_way.take(alloc, number, Err(FetchFault::Failed(text)))?)
+        self.take(alloc, number, Err(FetchFault::Failed(text)))
     }
 
-    /// Gives up what is on its way to the answer. The finished rounds stay known.
+    /// Gives up what is on its way. The finished rounds stay known.
     ///
     /// # Errors
     ///
@@ -208,11 +311,15 @@ impl HostClient {
     {
         match mem::replace(self, HostClient::Moved) {
             HostClient::Asked(under_way) => {
-                *self = HostClient::Idle(under_way.into_client());
+                self.put(HostClient::Idle(under_way.into_client()));
+                Ok(())
+            }
+            HostClient::Loading(loading) => {
+                self.put(HostClient::Idle(loading.into_client()));
                 Ok(())
             }
             other => {
-                *self = other;
+                self.put(other);
                 Err(Fault::Idle)
             }
         }

@@ -26,11 +26,11 @@ pub enum Fault {
     BadSize,
     /// A limit of over 65,535 keys.
     BadLimit,
-    /// A request is being answered.
+    /// A request is being answered, or keys are loaded.
     Busy,
-    /// No request is being answered, or it has no answer yet.
+    /// Nothing is being answered or loaded, or it isn't done yet.
     Idle,
-    /// Memory ran out in this request.
+    /// Memory ran out in this request or load.
     Stopped,
     /// No round is out, or it has no order of this number.
     NoOrder,
@@ -44,9 +44,9 @@ pub enum Fault {
     BadEnds,
     /// Rows for another number of keys than the order has.
     BadCount,
-    /// Fewer texts than columns, rows and faults take.
+    /// Fewer texts than columns, rows and faults, or keys take.
     TooFewTexts,
-    /// More texts than columns, rows and faults take.
+    /// More texts than columns, rows and faults, or keys take.
     TextsLeft,
     /// Rows of no column.
     NoColumn,
@@ -145,9 +145,9 @@ impl Fault {
             Fault::BadSchema => "the schema or the bindings are refused",
             Fault::BadSize => "a buffer or a list hasn't the size that is wanted",
             Fault::BadLimit => "a limit of over 65,535 keys",
-            Fault::Busy => "a request is being answered",
-            Fault::Idle => "no request is being answered, or it has no answer yet",
-            Fault::Stopped => "memory ran out in this request",
+            Fault::Busy => "a request is being answered, or keys are loaded",
+            Fault::Idle => "nothing is being answered or loaded, or it isn't done yet",
+            Fault::Stopped => "memory ran out in this request or load",
             Fault::NoOrder => "no round is out, or it has no order of this number",
             Fault::Replied => "the order has a reply",
             Fault::NoLoader => "no loader of this number",
@@ -156,8 +156,8 @@ impl Fault {
                 "a text ends before it begins, past the bytes or inside a character, or the last one isn't the bytes' end"
             }
             Fault::BadCount => "rows for another number of keys than the order has",
-            Fault::TooFewTexts => "fewer texts than columns, rows and faults take",
-            Fault::TextsLeft => "more texts than columns, rows and faults take",
+            Fault::TooFewTexts => "fewer texts than columns, rows and faults, or keys take",
+            Fault::TextsLeft => "more texts than columns, rows and faults, or keys take",
             Fault::NoColumn => "rows of no column",
             Fault::TooManyRows => "more than 4,294,967,295 rows in one reply",
         }

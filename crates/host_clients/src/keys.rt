@@ -1,10 +1,10 @@
 //! What a client knows of keys, primed and cleared.
-ghost use Rattle.std.specs.Prelude.{true, ◌≡◌, ◌≢◌, ◌∷◌, [], IfOk, IfErr, IfSome, OnOk, OnErr};
+ghost use Rattle.std.specs.Prelude.{true, ◌≡◌, ◌≢◌, ◌∷◌, [], IfOk, IfErr, IfSome, OnOk, OnErr, IsErrOf};
 ghost use Rattle.load_memory.specs.Keys.{key_of};
 ghost use Rattle.load_memory.specs.Outcomes.{item_of};
 ghost use Rattle.load_rounds.specs.Histories.{ClearingAll};
 ghost use Rattle.server.specs.Clients.{begun};
-ghost use Rattle.host_clients.specs.Clients.{client_in, is_busy};
+ghost use Rattle.host_clients.specs.Clients.{LacksLoader, client_in, is_busy};
 ghost use Rattle.host_clients.specs.Known.{Calls, Clears, LimitsAnswers, OnClient, Primes, PrimesSaid, items_in, key_in};
 ghost use Rattle.host_clients.specs.Logs.{AreBatches, LogHolds};
 
@@ -43,25 +43,26 @@ fn the_one(items: Vec<Item>) -> Option<Item>
 }
 
 impl HostClient {
-    /// Adds an item for a loader's key, unless the key is known; true if it was added. Like each of these calls it lets an answer go.
+    /// Adds an item for a loader's key, unless the key is known; true if it was added. Like each of these calls it lets an answer or outcomes go.
     ///
     /// # Errors
     ///
-    /// [`Busy`](Fault::Busy) while a request is being answered, [`NoLoader`](Fault::NoLoader), [`NoMemory`](Fault::NoMemory).
+    /// [`Busy`](Fault::Busy) while a request is being answered or keys are loaded, [`NoLoader`](Fault::NoLoader), [`NoMemory`](Fault::NoMemory).
     pub fn prime(&mut self, loader: usize, key: &Key, item: Item) -> Result<bool, Fault>
         ensures primed { IfOk result (λ added. OnClient (Primes loader (key_of key.now) (item_of item) added) self.old self.new) }
         ensures kept { IfErr result (λ fault. fault ≢ Fault.NoMemory → client_in self.new ≡ client_in self.old) }
         ensures busy { is_busy self.old ≡ true → self.new ≡ self.old }
+        ensures no_loader { IsErrOf result Fault.NoLoader → LacksLoader self.old loader }
     {
         match mem::replace(self, HostClient::Moved).into_idle() {
             Err(busy) => {
-                *self = busy;
+                self.put(busy);
                 Err(Fault::Busy)
             }
             Ok(client) => {
                 let mut client = client;
                 let added = client.prime(loader, key, item);
-                *self = HostClient::Idle(client);
+                self.put(HostClient::Idle(client));
                 Ok(added?)
             }
         }
@@ -122,16 +123,17 @@ impl HostClient {
         ensures cleared { IfOk result (λ there. OnClient (Clears loader (key_of key.now) there) self.old self.new) }
         ensures kept { IfErr result (λ fault. fault ≢ Fault.NoMemory → client_in self.new ≡ client_in self.old) }
         ensures busy { is_busy self.old ≡ true → self.new ≡ self.old }
+        ensures no_loader { IsErrOf result Fault.NoLoader → LacksLoader self.old loader }
     {
         match mem::replace(self, HostClient::Moved).into_idle() {
             Err(busy) => {
-                *self = busy;
+                self.put(busy);
                 Err(Fault::Busy)
             }
             Ok(client) => {
                 let mut client = client;
                 let there = client.clear(loader, key);
-                *self = HostClient::Idle(client);
+                self.put(HostClient::Idle(client));
                 Ok(there?)
             }
         }
@@ -146,16 +148,17 @@ impl HostClient {
         ensures cleared { OnOk result (OnClient (Calls (ClearingAll loader)) self.old self.new) }
         ensures kept { OnErr result (client_in self.new ≡ client_in self.old) }
         ensures busy { is_busy self.old ≡ true → self.new ≡ self.old }
+        ensures no_loader { IsErrOf result Fault.NoLoader → LacksLoader self.old loader }
     {
         match mem::replace(self, HostClient::Moved).into_idle() {
             Err(busy) => {
-                *self = busy;
+                self.put(busy);
                 Err(Fault::Busy)
             }
             Ok(client) => {
                 let mut client = client;
                 let cleared = client.clear_all(loader);
-                *self = HostClient::Idle(client);
+                self.put(HostClient::Idle(client));
                 Ok(cleared?)
             }
         }
@@ -173,13 +176,13 @@ impl HostClient {
     {
         match mem::replace(self, HostClient::Moved).into_idle() {
             Err(busy) => {
-                *self = busy;
+                self.put(busy);
                 Err(Fault::Busy)
             }
             Ok(client) => {
                 let mut client = client;
                 let restarted = client.restart();
-                *self = HostClient::Idle(client);
+                self.put(HostClient::Idle(client));
                 Ok(restarted?)
             }
         }
@@ -197,13 +200,13 @@ impl HostClient {
     {
         match mem::replace(self, HostClient::Moved).into_idle() {
             Err(busy) => {
-                *self = busy;
+                self.put(busy);
                 Err(Fault::Busy)
             }
             Ok(client) => {
                 let mut client = client;
                 client.limit_answers(most);
-                *self = HostClient::Idle(client);
+                self.put(HostClient::Idle(client));
                 Ok(())
             }
         }
@@ -213,14 +216,13 @@ impl HostClient {
     ///
     /// # Errors
     ///
-    /// [`Busy`](Fault::Busy) while a request is being answered, [`NoLoader`](Fault::NoLoader), [`NoMemory`](Fault::NoMemory).
+    /// [`Busy`](Fault::Busy) while a request is being answered or keys are loaded, [`NoLoader`](Fault::NoLoader), [`NoMemory`](Fault::NoMemory).
     pub fn log(&self, alloc: Global, loader: usize) -> Result<BatchLog, Fault>
-        ensures { IfOk result (λ l. LogHolds (λ log. AreBatches log l.rounds.items l.stored.items l.keys) self.now loader) }
+        ensures log { IfOk result (λ l. LogHolds (λ log. AreBatches log l.rounds.items l.stored.items l.keys) self.now loader) }
+        ensures no_loader { IsErrOf result Fault.NoLoader → LacksLoader self.now loader }
     {
-        let client = match self {
-            HostClient::Idle(client) => client,
-            HostClient::Answered(answered) => answered.client(),
-            _ => return Err(Fault::Busy),
+        let Some(client) = self.idle() else {
+            return Err(Fault::Busy);
         };
         match client.session().logs(loader) {
             Some(entries) => Ok(BatchLog::of(alloc, entries)?),

@@ -61,8 +61,8 @@ fn with_one(orders: FlatOrders, one: &Pending) -> Result<FlatOrders, NoMemory>
     }
 }
 
-// The orders of a round, to be copied out.
-fn orders_of(alloc: Global, pending: &[Pending]) -> Result<FlatOrders, NoMemory>
+/// The orders of a round, to be copied out.
+pub(crate) fn orders_of(alloc: Global, pending: &[Pending]) -> Result<FlatOrders, NoMemory>
     ensures { IfOk result (λ orders. orders ≡ map order_in pending.now) }
 {
     let mut orders = FlatOrders::new(alloc);

@@ -1,6 +1,7 @@
 use Rattle.std.proofs.Common.{◌∙◌}
+use Rattle.host_clients.proofs.Replies.{failure-taken}
 use Rattle.host_clients.proofs.client.HostClient.take_failed.Goals as goal
 
 pub returns-clause-taken : goal.returns-clause-taken
 returns-clause-taken c =
-    rw c.in-Asked.is (record { text = c.in_ok-text.text; is_said = c.in_ok-text.ensures.ok ∙ c.in-Ok.ensures.cases.0; takes = c.in_ok-take.ensures.taken })
+    failure-taken c.args.number c.args.self.now c.take.new.self c.take.result c.args.text.now c.in_ok-text.text (c.in_ok-text.ensures.ok ∙ c.in-Ok.ensures.cases.0) c.take.ensures.taken

@@ -1,0 +1,108 @@
+-- What a client loads, after a call of what is done by hand.
+use Rattle.std.proofs.Common.{◌≡◌, ◌∙◌, ℕ, List, [], map, refl, sym, ap, subst}
+use Rattle.std.specs.Prelude.{◌⊎◌, Result, IfSome, slice_get}
+use Rattle.std.specs.Global.{Vec}
+use Rattle.load_memory.specs.Outcomes.{outcome_of}
+use Rattle.load_memory.specs.declared.outcome.Item.{Item}
+use Rattle.load_memory.specs.declared.outcome.Outcome.{Outcome}
+use Rattle.load_queue.specs.Orders.{OrderOf}
+use Rattle.load_queue.specs.declared.source.FetchFault.{FetchFault}
+use Rattle.load_rounds.specs.Histories.{Loading, StoppedLoading, any_tell}
+use Rattle.rounds_by_hand.specs.LoadHands.{AdvancesLoad, IsSameLoad, LoadGoesOn, LoadGoesOnIfMay, handed, over, load_pending_in}
+use Rattle.rounds_by_hand.specs.Pending.{TakesAnswer, order_in}
+use Rattle.rounds_by_hand.specs.declared.load_hand.LoadAdvance.TheVariants.{Loaded, Round}
+use Rattle.rounds_by_hand.specs.declared.pending.Pending.TheVariants.{Out}
+use Rattle.server.specs.Clients.{ClientOf, IsClientCall, IsSameClient}
+use Rattle.server.specs.LoadsByHand.{LoadByHandOf, ClientLoads, ClientStopsLoad, load_by_hand_of, load_in}
+use Rattle.owned_hand.specs.declared.handed_in.HandedIn.{HandedIn}
+use Rattle.host_clients.specs.Clients.{LoadsIt, MakesLoadRound, StopsLoad, TakesForLoad}
+use Rattle.host_clients.specs.Loads.{KeysOf, IsLoadOf, AreOutcomesOf, HoldsLoading, asked_by, load_orders}
+use Rattle.host_clients.proofs.Underway.{may-answer, orders-kept}
+
+-- what is begun
+pub holds-load-begun : (hand : LoadByHandOf HandedIn) (c : ClientOf HandedIn) (asked : KeysOf) (orders : List OrderOf) → hand ≡ load_by_hand_of c asked.loader asked.keys handed → orders ≡ []
+    → HoldsLoading hand asked orders
+holds-load-begun hand c asked orders is none = rw (is, none) (record {
+  is_of = record { begun = c; of_server = refl; underway = refl };
+  asked_is = refl;
+  orders_are = refl;
+})
+
+-- it is given up as it is
+pub stopped-load : (l : LoadByHandOf HandedIn) (c : ClientOf HandedIn) → c ≡ l.client → ClientStopsLoad any_tell l c → StopsLoad l c
+stopped-load l c is stops = record { same = rw is (record { server = refl; most = refl }); stops = stops }
+
+-- nothing has changed
+pub same-load : (old new : LoadByHandOf HandedIn) → load_in new ≡ load_in old → IsSameClient old.client new.client → new ≡ old
+same-load old new is client =
+    λ i. record { client = record { server = client.server i; most = client.most i; session = (is i).session }; loader = (is i).loader; keys = (is i).keys; far = (is i).far }
+
+module _ (old new : LoadByHandOf HandedIn) (keys : IsSameLoad (load_in old) (load_in new)) where
+  pub asked-same : asked_by new ≡ asked_by old
+  asked-same = rw (keys.loader, keys.keys) refl
+
+  module _ (goes : LoadGoesOn any_tell (load_in old) (load_in new)) (client : IsSameClient old.client new.client) where
+    is-load-of-after : IsLoadOf old → IsLoadOf new
+    is-load-of-after of = record { begun = of.begun; of_server = client.server ∙ of.of_server; underway = goes of.begun.session of.underway }
+
+    pub holds-load-after : (asked : KeysOf) (before orders : List OrderOf) → HoldsLoading old asked before → orders ≡ load_orders new → HoldsLoading new asked orders
+    holds-load-after asked before orders h are = record { is_of = is-load-of-after h.is_of; asked_is = h.asked_is ∙ sym asked-same; orders_are = are }
+
+    pub makes-load-round : AdvancesLoad (load_in old) (load_in new) Round → MakesLoadRound old new
+    makes-load-round round = record { first = round.0; same_keys = keys; same = client; goes_on = goes; round = round.1 }
+
+    -- it is given up
+    pub stops-load : (c : ClientOf HandedIn) → c ≡ new.client → ClientStopsLoad any_tell new c → StopsLoad old c
+    stops-load c is stops = record {
+      same = subst (IsSameClient old.client) (sym is) client;
+      stops = λ begun underway.
+          subst (λ (k : KeysOf). (c.session ≡ begun.session) ⊎ IsClientCall any_tell (StoppedLoading k.loader k.keys) begun c) asked-same (stops begun (goes begun.session underway));
+    }
+
+-- what comes of a call that gives the outcomes
+module _ (old new : LoadByHandOf HandedIn) (outcomes : Vec Outcome) (loads : ClientLoads any_tell old new (Loaded outcomes)) (client : IsSameClient old.client new.client) (c : ClientOf HandedIn)
+    (is : c ≡ new.client) (asked : KeysOf) (asks : asked ≡ asked_by old) where
+  loads-from : (begun : ClientOf HandedIn) → IsClientCall any_tell (Loading old.loader old.keys (map outcome_of outcomes.items)) begun new.client
+      → IsClientCall any_tell (Loading asked.loader asked.keys (map outcome_of outcomes.items)) begun c
+  loads-from begun call = rw (asks, is) call
+
+  pub outcomes-of : IsLoadOf old → AreOutcomesOf c.server asked (map outcome_of outcomes.items)
+  outcomes-of of = record {
+    begun = of.begun;
+    later = c;
+    of_server = sym (ap (λ (x : ClientOf HandedIn). x.server) is ∙ client.server ∙ of.of_server);
+    loads = loads-from of.begun (loads of.begun of.underway);
+  }
+
+  pub loads-it : AdvancesLoad (load_in old) (load_in new) (Loaded outcomes) → LoadsIt old (record { client = c; asked = asked; outcomes = map outcome_of outcomes.items })
+  loads-it advances = record {
+    ready = advances.0;
+    asked_is = asks;
+    same = subst (IsSameClient old.client) (sym is) client;
+    loads = λ begun underway. rw is (loads begun underway);
+  }
+
+-- ---- an order takes an answer
+
+module _ (old new : LoadByHandOf HandedIn) (number : ℕ) (answer : Result (Vec Item) FetchFault) (takes : TakesAnswer (load_pending_in old.far) number answer (load_pending_in new.far))
+    (goes : IfSome (slice_get (load_pending_in old.far) number) (LoadGoesOnIfMay any_tell answer (load_in old) (load_in new))) (client : new.client ≡ old.client)
+    (keys : IsSameLoad (load_in old) (load_in new)) where
+  goes-on-taken : LoadGoesOn any_tell (load_in old) (load_in new)
+  goes-on-taken = (rw takes.was at goes) (may-answer old.client.session.loaders (order_in (Out takes.order)) answer)
+
+  pub holds-load-taken : (asked : KeysOf) (orders : List OrderOf) → HoldsLoading old asked orders → HoldsLoading new asked orders
+  holds-load-taken asked orders h =
+      holds-load-after old new keys goes-on-taken
+      (record { server = ap (λ (x : ClientOf HandedIn). x.server) client; most = ap (λ (x : ClientOf HandedIn). x.most) client }) asked orders orders h
+      (h.orders_are ∙ sym (orders-kept _ _ number answer takes))
+
+  pub takes-for-load : TakesForLoad number answer old new
+  takes-for-load = record { same_keys = keys; client_is = client; goes_on = goes-on-taken; takes = takes }
+
+-- where memory ran out, there are no orders
+pub holds-load-over : (old new : LoadByHandOf HandedIn) (asked : KeysOf) (before orders : List OrderOf) → LoadGoesOn any_tell (load_in old) (load_in new) → new.client ≡ old.client
+    → IsSameLoad (load_in old) (load_in new) → new.far ≡ over → orders ≡ [] → HoldsLoading old asked before → HoldsLoading new asked orders
+holds-load-over old new asked before orders goes client keys is none h =
+    holds-load-after old new keys goes
+    (record { server = ap (λ (x : ClientOf HandedIn). x.server) client; most = ap (λ (x : ClientOf HandedIn). x.most) client }) asked before orders h
+    (none ∙ sym (ap (λ far. map order_in (load_pending_in far)) is))

@@ -1,0 +1,159 @@
+//! Keys that a client loads, on their way to the outcomes.
+ghost use Rattle.std.specs.Prelude.{◌≡◌, ◌<◌, OnOk, IsErrOf, length, map};
+ghost use Rattle.load_memory.specs.Keys.{key_of};
+ghost use Rattle.rounds_by_hand.specs.LoadHands.{handed, over};
+ghost use Rattle.server.specs.LoadsByHand.{load_by_hand_of};
+ghost use Rattle.host_clients.specs.AskedKeys.{keys_asked};
+ghost use Rattle.host_clients.specs.Clients.{LoadsOnWith, StopsLoad, TakesForLoad};
+ghost use Rattle.host_clients.specs.Loads.{load_orders};
+
+use crate::asked_keys::AskedKeys;
+use crate::client::{HostClient, Progress};
+use crate::fault::Fault;
+use crate::loaded::LoadedClient;
+use crate::under_way::orders_of;
+use flat_orders::FlatOrders;
+use flat_outcomes::FlatOutcomes;
+use load_memory::{Item, Key};
+use load_queue::FetchFault;
+use owned_hand::HandedIn;
+use rounds_by_hand::{LoadAdvance, TakeFault};
+use server::{ClientSession, LoadByHand};
+use std::alloc::Global;
+use std::marker::Model;
+
+/// Keys that a client loads, on their way to the outcomes, with the orders of the round that is out.
+///
+/// A contract sees what is loaded by hand. What holds between calls is `HoldsLoading`.
+#[derive(Drop)]
+pub struct LoadUnderWay {
+    hand: LoadByHand<HandedIn>,
+    asked: AskedKeys,
+    orders: FlatOrders,
+}
+
+impl Model for LoadUnderWay {
+    ghost use Rattle.std.specs.Coded.{codes};
+    ghost use Rattle.gq_parser.specs.contracts.tree.TypeRef as type_ref;
+    ghost use Rattle.gq_parser.specs.contracts.tree.Literal as literal;
+    ghost use Rattle.owned_hand.specs.contracts.handed_in.HandedIn as handed;
+    ghost use Rattle.owned_hand.specs.declared.handed_in.HandedIn.{HandedIn as Handed};
+    ghost use Rattle.server.specs.LoadsByHand.{LoadByHandOf};
+    ghost use Rattle.host_clients.specs.AskedKeys.{keys_asked};
+    ghost use Rattle.host_clients.specs.Loads.{HoldsLoading};
+
+    ghost Value = { LoadByHandOf Handed };
+
+    ghost coded = { Prim.hlevel (codes, type_ref.the_row.coded, literal.the_row.coded, handed.the_row.coded) };
+
+    ghost view = { λ l. l.hand };
+
+    ghost invariant = { λ l. HoldsLoading l.hand (keys_asked l.asked) l.orders };
+}
+
+impl LoadUnderWay {
+    /// A load of these keys in the client's session. Nothing is done of it yet.
+    pub(crate) fn begin(
+        alloc: Global,
+        client: ClientSession<HandedIn>,
+        asked: AskedKeys,
+        keys: Vec<Key>,
+    ) -> LoadUnderWay
+        requires loader { (keys_asked asked).loader < length client.session.loaders }
+        requires keys { map key_of keys.items ≡ (keys_asked asked).keys }
+        ensures { let k = keys_asked asked in result ≡ load_by_hand_of client k.loader k.keys handed }
+    {
+        let loader = asked.loader;
+        LoadUnderWay {
+            hand: client.load_by_hand(loader, keys),
+            asked,
+            orders: FlatOrders::new(alloc),
+        }
+    }
+
+    /// What comes of it: the outcomes, or the round of the keys that aren't known is out, or nothing while an order of it has no reply.
+    ///
+    /// # Errors
+    ///
+    /// [`NoMemory`](Fault::NoMemory), and [`Stopped`](Fault::Stopped) where memory ran out before: it is given up.
+    pub(crate) fn advance(self, alloc: Global) -> (HostClient, Result<Progress, Fault>)
+        ensures { LoadsOnWith self result.0 result.1 }
+    {
+        let LoadUnderWay {
+            hand,
+            asked,
+            orders,
+        } = self;
+        let mut hand = hand;
+        match hand.advance() {
+            Ok(LoadAdvance::Loaded(outcomes)) => match FlatOutcomes::of(alloc, &outcomes) {
+                Ok(outcomes) => {
+                    let loaded = LoadedClient {
+                        client: hand.into_client(),
+                        asked,
+                        outcomes,
+                    };
+                    (HostClient::Loaded(loaded), Ok(Progress::Done))
+                }
+                Err(_) => (HostClient::Idle(hand.into_client()), Err(Fault::NoMemory)),
+            },
+            Ok(LoadAdvance::Round) => match orders_of(alloc, hand.orders()) {
+                Ok(orders) => {
+                    let loading = LoadUnderWay {
+                        hand,
+                        asked,
+                        orders,
+                    };
+                    (HostClient::Loading(loading), Ok(Progress::Round))
+                }
+                Err(_) => (HostClient::Idle(hand.into_client()), Err(Fault::NoMemory)),
+            },
+            Ok(LoadAdvance::Waiting) => {
+                let loading = LoadUnderWay {
+                    hand,
+                    asked,
+                    orders,
+                };
+                (HostClient::Loading(loading), Ok(Progress::Waiting))
+            }
+            Ok(LoadAdvance::Over) => (HostClient::Idle(hand.into_client()), Err(Fault::Stopped)),
+            Err(_) => (HostClient::Idle(hand.into_client()), Err(Fault::NoMemory)),
+        }
+    }
+
+    /// The orders of the round that is out. There are none where no round is out.
+    pub fn orders(&self) -> &FlatOrders
+        ensures { result.now ≡ load_orders self.now }
+    {
+        &self.orders
+    }
+
+    /// Takes the answer to the order of this number.
+    pub(crate) fn take(
+        &mut self,
+        alloc: Global,
+        number: usize,
+        answer: Result<Vec<Item>, FetchFault>,
+    ) -> Result<(), TakeFault>
+        ensures taken { OnOk result (TakesForLoad number answer self.old self.new) }
+        ensures none { IsErrOf result TakeFault.NoSuchOrder → self.new ≡ self.old }
+        ensures kept { IsErrOf result TakeFault.Answered → self.new ≡ self.old }
+        ensures over { IsErrOf result TakeFault.NoMemory → self.new.far ≡ over }
+    {
+        match self.hand.answer(number, answer) {
+            Ok(()) => Ok(()),
+            Err(TakeFault::NoMemory) => {
+                self.orders = FlatOrders::new(alloc);
+                Err(TakeFault::NoMemory)
+            }
+            Err(fault) => Err(fault),
+        }
+    }
+
+    /// Gives it up.
+    pub(crate) fn into_client(self) -> ClientSession<HandedIn>
+        ensures { StopsLoad self result }
+    {
+        self.hand.into_client()
+    }
+}
