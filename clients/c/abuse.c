@@ -1,4 +1,4 @@
-/* Every call, right and wrong, after every other: each move below is made on each of three handles, from each of six states, after each other
+/* Every call, right and wrong, after every other: each move below is made on each of three handles, from each of nine states, after each other
    move; and then in long walks of moves drawn at random. A model of the handles tells which code is wanted. At the end of each sequence every
    client still answers a request as it should.
 
@@ -11,13 +11,15 @@
 #include <string.h>
 
 enum { HANDLES = 3, EMPTY = 0, SERVER = 1, CLIENT = 2 };
-enum { IDLE = 0, BEGUN = 1, OUT = 2, ANSWERED = 3 };
+enum { IDLE = 0, BEGUN = 1, OUT = 2, ANSWERED = 3, LOADED = 4 };
+/* What a client was asked: what is no request, a request, or keys to load. */
+enum { NO_REQUEST = 0, REQUEST = 1, LOAD = 2 };
 /* What a client may know: the user 1, the user 2, all users. */
 enum { USER_1 = 1, USER_2 = 2, ALL_USERS = 4 };
 
-/* What is known of a handle. A client has a phase, what it knows and what failed in this request, whether its request is one, and of the round
-   that is out what each order asks for and whether it has its reply. */
-typedef struct { int kind, phase, known, failed, is_request, orders, asks[2], replied[2], fails[2]; } handle_model;
+/* What is known of a handle. A client has a phase, what it knows and what failed since it was asked last, what that was, and of the round that is
+   out what each order asks for and whether it has its reply. */
+typedef struct { int kind, phase, known, failed, asked, orders, asks[2], replied[2], fails[2]; } handle_model;
 typedef struct { rz_handle at[HANDLES]; handle_model of[HANDLES]; } world;
 
 static byte_buffer schema, bindings;
@@ -70,6 +72,14 @@ static void make_round(handle_model *model) {
     model->phase = model->orders ? OUT : ANSWERED;
 }
 
+/* Makes the round of the keys that are loaded and aren't known: the users 1 and 2, an order for each. */
+static void make_load_round(handle_model *model) {
+    model->orders = 0;
+    if (!(model->known & USER_1)) ask_for(model, USER_1);
+    if (!(model->known & USER_2)) ask_for(model, USER_2);
+    model->phase = model->orders ? OUT : LOADED;
+}
+
 /* Stores the round that is out. */
 static void store_round(handle_model *model) {
     for (int order = 0; order < model->orders; order++)
@@ -87,18 +97,20 @@ static int lacks_reply(const handle_model *model) {
 static int32_t go_on(handle_model *model) {
     if (model->kind != CLIENT) return RZ_BAD_HANDLE;
     if (model->phase == IDLE) return RZ_IDLE;
-    if (model->phase == ANSWERED) return RZ_DONE;
+    if (model->phase == ANSWERED || model->phase == LOADED) return RZ_DONE;
     if (model->phase == OUT && lacks_reply(model)) return RZ_WAITING;
-    if (model->phase == OUT) store_round(model);
-    if (model->is_request) make_round(model);
-    else model->phase = ANSWERED;
-    return model->phase == ANSWERED ? RZ_DONE : RZ_ROUND;
+    int has_round = model->phase == OUT;
+    if (has_round) store_round(model);
+    if (model->asked == REQUEST) make_round(model);
+    else if (model->asked == LOAD && !has_round) make_load_round(model);
+    else model->phase = model->asked == LOAD ? LOADED : ANSWERED;
+    return model->phase == OUT ? RZ_ROUND : RZ_DONE;
 }
 
-static void begun(handle_model *model, int is_request) {
+static void begun(handle_model *model, int asked) {
     model->phase = BEGUN;
     model->failed = model->orders = 0;
-    model->is_request = is_request;
+    model->asked = asked;
 }
 
 /* ---- Moves on servers. */
@@ -163,21 +175,64 @@ static void closes(world *w, int h) {
 /* ---- Moves on requests. */
 
 static void begins(world *w, int h) {
-    if (CHECK(rz_begin(&w->at[h], TEXT(LINE)), unless_busy(&w->of[h], RZ_DONE))) begun(&w->of[h], 1);
+    if (CHECK(rz_begin(&w->at[h], TEXT(LINE)), unless_busy(&w->of[h], RZ_DONE))) begun(&w->of[h], REQUEST);
 }
 
 static void begins_no_request(world *w, int h) {
-    if (CHECK(rz_begin(&w->at[h], (const uint8_t *)"{\xff", 2), unless_busy(&w->of[h], RZ_DONE))) begun(&w->of[h], 0);
+    if (CHECK(rz_begin(&w->at[h], (const uint8_t *)"{\xff", 2), unless_busy(&w->of[h], RZ_DONE))) begun(&w->of[h], NO_REQUEST);
 }
 
 static void begins_parts(world *w, int h) {
     const char *query = "query A($i:ID!){user(id:$i){name best{name}} users{id}} query B{users{id}}";
-    if (CHECK(rz_begin_request(&w->at[h], TEXT(query), TEXT("A"), TEXT("{\"i\":1}")), unless_busy(&w->of[h], RZ_DONE))) begun(&w->of[h], 1);
+    if (CHECK(rz_begin_request(&w->at[h], TEXT(query), TEXT("A"), TEXT("{\"i\":1}")), unless_busy(&w->of[h], RZ_DONE)))
+        begun(&w->of[h], REQUEST);
 }
 
 static void begins_wrong_parts(world *w, int h) {
-    if (CHECK(rz_begin_request(&w->at[h], TEXT("{users{id}}"), TEXT(""), TEXT("[")), unless_busy(&w->of[h], RZ_DONE))) begun(&w->of[h], 0);
+    if (CHECK(rz_begin_request(&w->at[h], TEXT("{users{id}}"), TEXT(""), TEXT("[")), unless_busy(&w->of[h], RZ_DONE)))
+        begun(&w->of[h], NO_REQUEST);
 }
+
+/* ---- Moves on loads. */
+
+static const uint32_t LOAD_TEXTS[] = {1, 1, 1}, LOAD_ENDS[] = {1, 2, 3};
+
+static void loads(world *w, int h) {
+    if (CHECK(rz_begin_load(&w->at[h], 0, LOAD_TEXTS, 3, LOAD_ENDS, 3, TEXT("121")), unless_busy(&w->of[h], RZ_DONE))) begun(&w->of[h], LOAD);
+}
+
+/* What there is stays, an answer and outcomes too. */
+static void loads_wrongly(world *w, int h) {
+    const uint32_t three[] = {1, 3}, falls[] = {1, 3, 2};
+    const handle_model *model = &w->of[h];
+    CHECK(rz_begin_load(&w->at[h], 6, LOAD_TEXTS, 3, LOAD_ENDS, 3, TEXT("121")), unless_busy(model, RZ_NO_LOADER));
+    CHECK(rz_begin_load(&w->at[h], SIZE_MAX, three, 2, falls, 3, (const uint8_t *)"\xff", 1), unless_busy(model, RZ_NO_LOADER));
+    CHECK(rz_begin_load(&w->at[h], 0, LOAD_TEXTS, 3, LOAD_ENDS, 3, TEXT("12\xff")), unless_busy(model, RZ_NOT_UTF8));
+    CHECK(rz_begin_load(&w->at[h], 0, LOAD_TEXTS, 3, falls, 3, TEXT("12")), unless_busy(model, RZ_BAD_ENDS));
+    CHECK(rz_begin_load(&w->at[h], 0, LOAD_TEXTS, 3, LOAD_ENDS, 3, TEXT("1212")), unless_busy(model, RZ_BAD_ENDS));
+    CHECK(rz_begin_load(&w->at[h], 0, three, 2, LOAD_ENDS, 3, TEXT("121")), unless_busy(model, RZ_BAD_KEY));
+    CHECK(rz_begin_load(&w->at[h], 0, LOAD_TEXTS, 3, LOAD_ENDS, 2, TEXT("12")), unless_busy(model, RZ_TOO_FEW_TEXTS));
+    CHECK(rz_begin_load(&w->at[h], 0, LOAD_TEXTS, 2, LOAD_ENDS, 3, TEXT("121")), unless_busy(model, RZ_TEXTS_LEFT));
+}
+
+static void reads_outcomes(world *w, int h) {
+    const handle_model *model = &w->of[h];
+    int is_loaded = model->phase == LOADED;
+    rz_load_sizes_t sizes = {0};
+    uint32_t rows[3] = {9, 9, 9}, columns[8], ends[64], fault_ends[4];
+    uint8_t bytes[128], fault_bytes[16];
+    if (CHECK(rz_load_sizes(&w->at[h], &sizes), of_client(model, is_loaded ? RZ_DONE : RZ_IDLE))) is_same("the number of outcomes", sizes.keys, 3);
+    CHECK(rz_loaded(&w->at[h], rows, sizes.keys, columns, sizes.rows, ends, sizes.texts, bytes, sizes.bytes, fault_ends, sizes.faults + 1,
+                    fault_bytes, sizes.fault_bytes), of_client(model, is_loaded ? RZ_BAD_SIZE : RZ_IDLE));
+    CHECK(rz_loaded(&w->at[h], rows, sizes.keys, columns, sizes.rows, ends, sizes.texts, bytes, sizes.bytes + 1, fault_ends, sizes.faults,
+                    fault_bytes, sizes.fault_bytes), of_client(model, is_loaded ? RZ_BAD_SIZE : RZ_IDLE));
+    is_same("a number of rows that wasn't copied", rows[0], 9);
+    if (!CHECK(rz_loaded(&w->at[h], rows, sizes.keys, columns, sizes.rows, ends, sizes.texts, bytes, sizes.bytes, fault_ends, sizes.faults,
+                         fault_bytes, sizes.fault_bytes), of_client(model, is_loaded ? RZ_DONE : RZ_IDLE))) return;
+    for (int key = 0; key < 3; key++) is_same("the rows of a key", rows[key], model->failed & (key == 1 ? USER_2 : USER_1) ? RZ_BATCH_FAULT : 1);
+}
+
+/* ---- Moves on rounds and answers. */
 
 static void goes_on(world *w, int h) {
     int32_t wanted = go_on(&w->of[h]);
@@ -273,7 +328,7 @@ static void reads_answer(world *w, int h) {
 
 /* ---- Moves on what is known. */
 
-/* The answer is let go, where a client isn't busy. */
+/* The answer or the outcomes are let go, where a client isn't busy. */
 static void lets_go(handle_model *model) {
     if (model->kind == CLIENT && !is_busy(model)) model->phase = IDLE;
 }
@@ -364,9 +419,9 @@ static move *const MOVES[] = {
     opens, opens_wrongly, shares, reads_loaders, makes_client, makes_client_wrongly, closes, begins, begins_no_request, begins_parts,
     begins_wrong_parts, goes_on, cancels, reads_orders, takes_first, takes_second, takes_no_order, takes_failed_first, takes_failed_second,
     takes_wrong_counts, reads_answer, reads_orders_wrongly, takes_wrong_texts, limits, restarts, primes, clears, clears_all,
-    knows_wrong_texts, knows_no_loader, reads_log,
+    knows_wrong_texts, knows_no_loader, reads_log, loads, loads_wrongly, reads_outcomes,
 };
-enum { MOVE_COUNT = sizeof MOVES / sizeof *MOVES, STATES = 6, PLACES = MOVE_COUNT * HANDLES, WALKS = 1000, WALK = 300 };
+enum { MOVE_COUNT = sizeof MOVES / sizeof *MOVES, STATES = 9, PLACES = MOVE_COUNT * HANDLES, WALKS = 1000, WALK = 300 };
 
 static void go_until_done(world *w, int h) {
     for (int turn = 0; turn < 3; turn++) {
@@ -387,6 +442,10 @@ static void start(world *w, int state) {
     if (state >= 3) takes_second(w, 1);
     if (state >= 4) takes_first(w, 1);
     if (state >= 5) go_until_done(w, 1);
+    if (state >= 6) restarts(w, 1);
+    if (state >= 6) loads(w, 1);
+    if (state >= 7) goes_on(w, 1);
+    if (state >= 8) go_until_done(w, 1);
 }
 
 /* Whatever was done, a client answers as it should. */

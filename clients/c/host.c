@@ -376,16 +376,46 @@ static int32_t reply_to_round(host *host) {
     return code;
 }
 
-int32_t try_begun(host *host) {
-    rz_sizes_t sizes;
+/* Goes on until it is done. */
+static int32_t run_rounds(host *host) {
     int32_t code;
     while ((code = rz_next(&host->client)) == RZ_ROUND)
         if ((code = reply_to_round(host)) < 0) return code;
+    return code;
+}
+
+int32_t try_begun(host *host) {
+    rz_sizes_t sizes;
+    int32_t code = run_rounds(host);
     if (code < 0) return code;
     if ((code = rz_sizes(&host->client, &sizes)) < 0) return code;
     resize_bytes(&host->answer, sizes.answer);
     host->rounds = (size_t)sizes.rounds;
     return rz_answer(&host->client, host->answer.at, host->answer.len);
+}
+
+int32_t try_loaded(host *host, outcomes *to) {
+    rz_load_sizes_t sizes;
+    int32_t code = run_rounds(host);
+    if (code < 0) return code;
+    if ((code = rz_load_sizes(&host->client, &sizes)) < 0) return code;
+    resize_words(&to->rows, sizes.keys);
+    resize_words(&to->columns, sizes.rows);
+    resize_words(&to->ends, sizes.texts);
+    resize_bytes(&to->bytes, sizes.bytes);
+    resize_words(&to->fault_ends, sizes.faults);
+    resize_bytes(&to->fault_bytes, sizes.fault_bytes);
+    return rz_loaded(&host->client, to->rows.at, sizes.keys, to->columns.at, sizes.rows, to->ends.at, sizes.texts, to->bytes.at, sizes.bytes,
+                     to->fault_ends.at, sizes.faults, to->fault_bytes.at, sizes.fault_bytes);
+}
+
+void free_outcomes(outcomes *outcomes) {
+    free(outcomes->rows.at);
+    free(outcomes->columns.at);
+    free(outcomes->ends.at);
+    free(outcomes->fault_ends.at);
+    free(outcomes->bytes.at);
+    free(outcomes->fault_bytes.at);
 }
 
 void answer_begun(host *host) { must(try_begun(host), "the answer"); }

@@ -86,6 +86,12 @@ void answer_line(host *host, text line);
 void answer_begun(host *host);
 int32_t try_begun(host *host);
 int is_answer(const host *host, text wanted);
+
+/* The outcomes of keys that were loaded, as rz_loaded lays them out. */
+typedef struct { word_buffer rows, columns, ends, fault_ends; byte_buffer bytes, fault_bytes; } outcomes;
+/* Loads what was begun. Returns the code of the first call that is refused, and else RZ_DONE. */
+int32_t try_loaded(host *host, outcomes *to);
+void free_outcomes(outcomes *outcomes);
 /* Answers each line of a file in a session of its own, and writes the answers to standard output. */
 void answer_file(host *host, const char *path);
 

@@ -115,7 +115,23 @@ static void answer_again(host *host, const request *asked) {
     fault("no answer", 0);
 }
 
-/* Calls on what is known, and a request from its parts. */
+/* Loads keys of which two are equal, over what is known: each has one row. */
+static void load_again(host *host) {
+    const uint32_t texts[] = {1, 1, 1}, ends[] = {1, 2, 3};
+    for (int turn = 0; turn < 3; turn++) {
+        outcomes loaded = {0};
+        if (is_refused(rz_begin_load(&host->client, 0, texts, 3, ends, 3, (const uint8_t *)"121", 3))) continue;
+        int is_loaded = !is_refused(try_loaded(host, &loaded));
+        if (is_loaded && (loaded.rows.len != 3 || loaded.columns.len != 3 || loaded.fault_ends.len))
+            fault("outcomes of rows", (long)loaded.columns.len);
+        free_outcomes(&loaded);
+        if (is_loaded) return;
+        give_up(host);
+    }
+    fault("no outcomes", 0);
+}
+
+/* Calls on what is known, a load, and a request from its parts. */
 static void change_known(host *host) {
     const uint8_t *key = (const uint8_t *)"1", *fields = (const uint8_t *)"idname1Eve";
     const uint32_t key_end[] = {1}, ends[] = {2, 6, 7, 10};
@@ -127,6 +143,7 @@ static void change_known(host *host) {
     AGAIN(rz_clear(&host->client, 0, key_end, 1, key, 1, &told));
     AGAIN(rz_prime(&host->client, 0, key_end, 1, key, 1, 2, 1, ends, 4, fields, 10, &told));
     if (told != 1) fault("primed is", (long)told);
+    load_again(host);
     answer_again(host, &asked);
     AGAIN(rz_clear_all(&host->client, 0));
 }

@@ -39,6 +39,7 @@ static void handles(rz_handle *server, rz_handle *client) {
     rz_handle empty = {0}, other = {0};
     rz_sizes_t sizes;
     rz_log_sizes_t log;
+    rz_load_sizes_t load;
     rz_loader_sizes loaders;
     uint32_t word, none[1];
     uint8_t byte[1];
@@ -64,6 +65,11 @@ static void handles(rz_handle *server, rz_handle *client) {
     WANTS(rz_clear_all(server, 0), RZ_BAD_HANDLE);
     WANTS(rz_clear(server, 0, none, 0, byte, 0, &word), RZ_BAD_HANDLE);
     WANTS(rz_log_sizes(&empty, 0, &log), RZ_BAD_HANDLE);
+    WANTS(rz_begin_load(&empty, 0, none, 0, none, 0, byte, 0), RZ_BAD_HANDLE);
+    WANTS(rz_begin_load(server, 0, none, 0, none, 0, byte, 0), RZ_BAD_HANDLE);
+    WANTS(rz_load_sizes(server, &load), RZ_BAD_HANDLE);
+    WANTS(rz_loaded(&empty, none, 0, none, 0, none, 0, byte, 0, none, 0, byte, 0), RZ_BAD_HANDLE);
+    WANTS(rz_loaded(server, none, 0, none, 0, none, 0, byte, 0, none, 0, byte, 0), RZ_BAD_HANDLE);
     WANTS(rz_loaders_sizes(client, &loaders), RZ_BAD_HANDLE);
     WANTS(other.at != NULL, 0);
 }
@@ -275,6 +281,162 @@ static void many_rows(rz_handle *client) {
     WANTS(rz_cancel(client), RZ_DONE);
 }
 
+/* The outcomes of keys that were loaded, in buffers that are large enough. */
+typedef struct { rz_load_sizes_t sizes; uint32_t rows[8], columns[8], ends[32], fault_ends[8]; uint8_t bytes[128], fault_bytes[64]; } loaded;
+
+/* Copies the outcomes, where what is copied is so much less than the sizes that are told. */
+static int32_t copy_loaded(rz_handle *client, loaded *to, size_t less_rows, size_t less_bytes, size_t less_faults) {
+    const rz_load_sizes_t *sizes = &to->sizes;
+    return rz_loaded(client, to->rows, sizes->keys - less_rows, to->columns, sizes->rows, to->ends, sizes->texts, to->bytes,
+                     sizes->bytes - less_bytes, to->fault_ends, sizes->faults - less_faults, to->fault_bytes, sizes->fault_bytes);
+}
+
+/* Prints the outcomes that are there: of each key its rows, each with its columns, or its fault. */
+static void print_loaded(rz_handle *client) {
+    loaded of = {0};
+    size_t row = 0, text = 0, start = 0, fault = 0, fault_start = 0, names[8] = {0}, width = 0;
+    WANTS(rz_load_sizes(client, &of.sizes), RZ_DONE);
+    WANTS(copy_loaded(client, &of, 0, 0, 0), RZ_DONE);
+    for (size_t key = 0; key < of.sizes.keys; key++) {
+        if (of.rows[key] >= RZ_BATCH_FAULT) {
+            size_t end = of.fault_ends[fault++];
+            printf("%s ", of.rows[key] == RZ_KEY_FAULT ? "key fault" : "batch fault");
+            printf("%.*s;", (int)(end - fault_start), (char *)of.fault_bytes + fault_start);
+            fault_start = end;
+            continue;
+        }
+        for (size_t last = row + of.rows[key]; row < last; row++) {
+            if (of.columns[row] != RZ_SAME_COLUMNS) {
+                width = of.columns[row];
+                for (size_t column = 0; column < width; column++) names[column] = text++;
+                start = of.ends[text - 1];
+            }
+            for (size_t column = 0; column < width; column++, start = of.ends[text++]) {
+                size_t name = names[column] ? of.ends[names[column] - 1] : 0;
+                printf(" %.*s", (int)(of.ends[names[column]] - name), (char *)of.bytes + name);
+                printf("=%.*s", (int)(of.ends[text] - start), (char *)of.bytes + start);
+            }
+        }
+        printf(";");
+    }
+    WANTS(text, of.sizes.texts);
+    printf("\n");
+}
+
+/* Begins to load keys of one letter each, by the loader 0. */
+static int32_t begin_keys(rz_handle *client, const char *letters) {
+    uint32_t texts[8], ends[8];
+    size_t count = strlen(letters);
+    for (size_t key = 0; key < count; key++) {
+        texts[key] = 1;
+        ends[key] = (uint32_t)key + 1;
+    }
+    return rz_begin_load(client, 0, texts, count, ends, count, TEXT(letters));
+}
+
+/* Keys that are no keys of a loader: what was loaded before stays. */
+static void no_keys(rz_handle *client) {
+    const uint32_t texts[] = {1, 3, 1}, ends[] = {1, 2, 3}, falls[] = {2, 1, 3};
+    WANTS(rz_begin_load(client, 99, texts, 1, ends, 1, TEXT("1")), RZ_NO_LOADER);
+    WANTS(rz_begin_load(client, 0, texts, 1, ends, 1, (const uint8_t *)"\xff", 1), RZ_NOT_UTF8);
+    WANTS(rz_begin_load(client, 0, texts, 3, falls, 3, TEXT("123")), RZ_BAD_ENDS);
+    WANTS(rz_begin_load(client, 0, texts, 1, ends, 1, TEXT("12")), RZ_BAD_ENDS);
+    WANTS(rz_begin_load(client, 0, texts, 2, ends, 3, TEXT("123")), RZ_BAD_KEY);
+    WANTS(rz_begin_load(client, 0, texts, 1, ends, 0, TEXT("")), RZ_TOO_FEW_TEXTS);
+    WANTS(rz_begin_load(client, 0, texts, 1, ends, 2, TEXT("12")), RZ_TEXTS_LEFT);
+    WANTS(rz_next(client), RZ_DONE);
+}
+
+/* The round of a load: one of its three keys is known, and the other two are equal. */
+static void load_round(rz_handle *client) {
+    rz_sizes_t sizes;
+    rz_load_sizes_t load;
+    rz_log_sizes_t log;
+    uint32_t number[1], keys[1], texts[1], ends[1], none[1], rows[] = {2}, row_ends[] = {2, 6, 7, 10, 11, 14};
+    uint8_t byte[1];
+    WANTS(begin_keys(client, "122"), RZ_DONE);
+    WANTS(begin_keys(client, "3"), RZ_BUSY);
+    WANTS(rz_begin(client, TEXT(LINE)), RZ_BUSY);
+    WANTS(rz_take_failed(client, 0, TEXT("down")), RZ_NO_ORDER);
+    WANTS(rz_next(client), RZ_ROUND);
+    WANTS(rz_next(client), RZ_WAITING);
+    WANTS(rz_load_sizes(client, &load), RZ_IDLE);
+    WANTS(rz_loaded(client, none, 0, none, 0, none, 0, byte, 0, none, 0, byte, 0), RZ_IDLE);
+    WANTS(rz_answer(client, byte, 0), RZ_IDLE);
+    WANTS(rz_log_sizes(client, 0, &log), RZ_BUSY);
+    WANTS(rz_sizes(client, &sizes), RZ_DONE);
+    WANTS(sizes.orders, 1);
+    WANTS(sizes.keys, 1);
+    WANTS(rz_orders(client, number, 1, keys, 1, texts, 1, ends, 1, byte, 1), RZ_DONE);
+    WANTS(number[0], 0);
+    WANTS(byte[0], '2');
+    WANTS(rz_take_rows(client, 1, 2, rows, 1, row_ends, 6, TEXT("idname2Bob2Bea")), RZ_NO_ORDER);
+    WANTS(rz_take_rows(client, 0, 2, rows, 1, row_ends, 5, TEXT("idname2Bob2")), RZ_TOO_FEW_TEXTS);
+    WANTS(rz_take_rows(client, 0, 2, rows, 1, row_ends, 6, TEXT("idname2Bob2Bea")), RZ_DONE);
+    WANTS(rz_take_rows(client, 0, 2, rows, 1, row_ends, 6, TEXT("idname2Bob2Bea")), RZ_REPLIED);
+    WANTS(rz_next(client), RZ_DONE);
+    WANTS(rz_next(client), RZ_DONE);
+    WANTS(rz_cancel(client), RZ_IDLE);
+    WANTS(rz_answer(client, byte, 0), RZ_IDLE);
+}
+
+/* The outcomes of that round, as often as they are asked for, and the batch that was asked. */
+static void load_outcomes(rz_handle *client) {
+    loaded of = {0};
+    rz_log_sizes_t log;
+    WANTS(rz_load_sizes(client, &of.sizes), RZ_DONE);
+    WANTS(of.sizes.rows, 5);
+    WANTS(of.sizes.texts, 16);
+    WANTS(copy_loaded(client, &of, 1, 0, 0), RZ_BAD_SIZE);
+    WANTS(copy_loaded(client, &of, 0, 1, 0), RZ_BAD_SIZE);
+    WANTS(copy_loaded(client, &of, 0, 0, 1), RZ_BAD_SIZE);
+    WANTS(rz_log_sizes(client, 0, &log), RZ_DONE);
+    WANTS(log.batches, 1);
+    WANTS(log.keys, 1);
+    print_loaded(client);
+    no_keys(client);
+    print_loaded(client);
+}
+
+/* A load of one key, whose reply says that the key or the batch has a fault. */
+static void load_fault(rz_handle *client, const char *letters, int is_batch) {
+    const uint32_t rows[] = {RZ_KEY_FAULT}, ends[] = {4};
+    WANTS(begin_keys(client, letters), RZ_DONE);
+    WANTS(rz_next(client), RZ_ROUND);
+    if (is_batch) WANTS(rz_take_failed(client, 0, TEXT("down")), RZ_DONE);
+    else WANTS(rz_take_rows(client, 0, 0, rows, 1, ends, 1, TEXT("gone")), RZ_DONE);
+    WANTS(rz_next(client), RZ_DONE);
+    print_loaded(client);
+}
+
+/* Keys that are loaded, by their outcomes: of rows, of faults, of none; and what lets them go. */
+static void loads(rz_handle *client) {
+    uint32_t key_end[] = {1}, ends[] = {2, 4, 6, 7, 10, 11}, word = 9;
+    rz_load_sizes_t load;
+    WANTS(rz_restart(client), RZ_DONE);
+    WANTS(rz_load_sizes(client, &load), RZ_IDLE);
+    WANTS(rz_prime(client, 0, key_end, 1, TEXT("1"), 3, 1, ends, 6, TEXT("idnoxx1Evey"), &word), RZ_DONE);
+    load_round(client);
+    load_outcomes(client);
+    load_fault(client, "13", 0);
+    load_fault(client, "43", 1);
+    load_fault(client, "4", 1);
+    WANTS(begin_keys(client, "23"), RZ_DONE);
+    WANTS(rz_next(client), RZ_DONE);
+    print_loaded(client);
+    WANTS(begin_keys(client, ""), RZ_DONE);
+    WANTS(rz_next(client), RZ_DONE);
+    print_loaded(client);
+    WANTS(begin_keys(client, "5"), RZ_DONE);
+    WANTS(rz_next(client), RZ_ROUND);
+    WANTS(rz_cancel(client), RZ_DONE);
+    WANTS(rz_next(client), RZ_IDLE);
+    WANTS(begin_keys(client, "1"), RZ_DONE);
+    WANTS(rz_next(client), RZ_DONE);
+    WANTS(rz_clear(client, 0, key_end, 1, TEXT("1"), &word), RZ_DONE);
+    WANTS(rz_load_sizes(client, &load), RZ_IDLE);
+}
+
 /* The codes and their names. */
 static void codes(void) {
     uint8_t name[64];
@@ -312,6 +474,7 @@ int main(int argc, char **argv) {
     parts(&client);
     many_rows(&client);
     requests(&client);
+    loads(&client);
     WANTS(rz_client(&other, &client, none, 0), RZ_DONE);
     WANTS(rz_next(&client), RZ_IDLE);
     rz_close(&client);

@@ -5,6 +5,8 @@
    rz_orders say which loader is to be asked for which keys, and rz_take_rows or rz_take_failed takes the reply to each order, in any order.
    Then rz_next goes on. rz_answer copies the response, which is JSON text. A request that isn't valid is answered with its error.
 
+   A client also loads keys of one loader: rz_begin_load starts it, it goes on as a request does, and rz_loaded copies an outcome for each key.
+
    Handles. An rz_handle of zeros is empty. What it holds is freed by rz_close, or when another object is put into it; don't copy it while it
    holds something. A call gets each handle once: the handles of one call are different structs. A handle is passed to one call at a time, from
    any thread, and passing it on to another thread is ordered by a lock, a thread's start or its end. To answer on several threads, give each
@@ -39,17 +41,17 @@ enum {
     RZ_BAD_SCHEMA = -4,     /* the schema or the bindings are refused: the fault says why and where */
     RZ_BAD_SIZE = -5,       /* a buffer or a list hasn't the size that the call wants */
     RZ_BAD_LIMIT = -6,      /* a limit over 65,535 keys */
-    RZ_BUSY = -7,           /* a request is being answered */
-    RZ_IDLE = -8,           /* no request is being answered, or it has no answer yet */
-    RZ_STOPPED = -9,        /* memory ran out in this request: begin it again */
+    RZ_BUSY = -7,           /* a request is being answered, or keys are loaded */
+    RZ_IDLE = -8,           /* nothing is being answered or loaded, or it isn't done yet */
+    RZ_STOPPED = -9,        /* memory ran out in this request or load: begin it again */
     RZ_NO_ORDER = -10,      /* no round is out, or it has no order of this number */
     RZ_REPLIED = -11,       /* the order has a reply */
     RZ_NO_LOADER = -12,     /* no loader of this number */
     RZ_BAD_KEY = -13,       /* a key has another number of texts than 0, 1 or 2 */
     RZ_BAD_ENDS = -14,      /* a text ends before it begins, past the bytes or inside a character, or the last one isn't the bytes' end */
     RZ_BAD_COUNT = -15,     /* rows for another number of keys than the order has */
-    RZ_TOO_FEW_TEXTS = -16, /* fewer texts than columns, rows and faults take */
-    RZ_TEXTS_LEFT = -17,    /* more texts than columns, rows and faults take */
+    RZ_TOO_FEW_TEXTS = -16, /* fewer texts than columns, rows and faults, or keys take */
+    RZ_TEXTS_LEFT = -17,    /* more texts than columns, rows and faults, or keys take */
     RZ_NO_COLUMN = -18,     /* rows of no column */
     RZ_TOO_MANY_ROWS = -19  /* more than 4,294,967,295 rows in one reply */
 };
@@ -57,10 +59,16 @@ enum {
 /* In the place of a number of rows: the key has a fault, and one text says which. */
 #define RZ_KEY_FAULT UINT32_MAX
 
+/* The same in rz_loaded: the batch in which the key was asked failed as a whole. */
+#define RZ_BATCH_FAULT (UINT32_MAX - 1)
+
+/* In the place of a number of columns: they are those of the row before. */
+#define RZ_SAME_COLUMNS UINT32_MAX
+
 /* ---- The library. */
 
 /* The version of this header. It goes with a library whose rz_version is the same, or has the same major number and a larger rest. */
-#define RZ_VERSION 65536u
+#define RZ_VERSION 65792u
 
 /* The version of the library: 65536 * major + 256 * minor + patch. */
 uint32_t rz_version(void);
@@ -112,11 +120,13 @@ int32_t rz_begin(rz_handle *client, const uint8_t *line, size_t line_len);
 int32_t rz_begin_request(rz_handle *client, const uint8_t *query, size_t query_len, const uint8_t *operation, size_t operation_len,
                          const uint8_t *variables, size_t variables_len);
 
-/* Gives up the request that is being answered. The finished rounds stay known, and the round that is out is lost. RZ_IDLE. */
+/* Gives up the request that is being answered, or the keys that are loaded. The finished rounds stay known, and the round that is out is lost.
+   RZ_IDLE. */
 int32_t rz_cancel(rz_handle *client);
 
-/* Goes on. RZ_DONE: there is an answer. RZ_ROUND: a round is out. RZ_WAITING: an order of it has no reply yet, and nothing changes. RZ_IDLE.
-   RZ_NO_MEMORY, and RZ_STOPPED after a reply that memory ran out at: the request is given up. The finished rounds stay known. */
+/* Goes on. RZ_DONE: there is an answer, or what was to be loaded is. RZ_ROUND: a round is out. RZ_WAITING: an order of it has no reply yet, and
+   nothing changes. RZ_IDLE. RZ_NO_MEMORY, and RZ_STOPPED after a reply that memory ran out at: the request or the load is given up. The
+   finished rounds stay known. */
 int32_t rz_next(rz_handle *client);
 
 /* What the buffers of rz_orders and rz_answer have to hold; 0 of a round where none is out, and of an answer where there is none. rounds is how
@@ -143,7 +153,27 @@ int32_t rz_take_failed(rz_handle *client, size_t order, const uint8_t *text, siz
 /* The answer of the request that was answered last. It stays until the next is begun, or a call changes the client. RZ_IDLE. */
 int32_t rz_answer(rz_handle *client, uint8_t *bytes, size_t bytes_len);
 
-/* ---- What is known. Loaders are numbered from 0. A key is passed as its 0, 1 or 2 texts. Each of these lets an answer go. RZ_BUSY,
+/* ---- Keys that are loaded. rz_next, rz_sizes, rz_orders, rz_take_rows, rz_take_failed and rz_cancel are used as for a request. */
+
+/* Begins to load keys of a loader, numbered from 0. For each key how many texts it has (0 asks for all rows, 2 are a pair), and the texts: as
+   rz_orders has them. Failed batches are forgotten; then one round asks for the keys that aren't known, of equal keys only for the first, in
+   orders within the loader's limit. Where all keys are known, no round is made. Refused are, in this order, RZ_BUSY, RZ_NO_LOADER,
+   RZ_NOT_UTF8, RZ_BAD_ENDS; of the first key that has it RZ_BAD_KEY or RZ_TOO_FEW_TEXTS; RZ_TEXTS_LEFT, RZ_NO_MEMORY. */
+int32_t rz_begin_load(rz_handle *client, size_t loader, const uint32_t *texts, size_t texts_len, const uint32_t *ends, size_t ends_len,
+                      const uint8_t *bytes, size_t bytes_len);
+
+/* What the buffers of rz_loaded have to hold. RZ_IDLE where nothing is loaded. */
+typedef struct { size_t keys, rows, texts, bytes, faults, fault_bytes; } rz_load_sizes_t;
+int32_t rz_load_sizes(rz_handle *client, rz_load_sizes_t *sizes);
+
+/* The outcomes of the keys that were loaded last, in order. For each key how many rows it has, or RZ_KEY_FAULT or RZ_BATCH_FAULT. For each row
+   of all keys how many columns it has, or RZ_SAME_COLUMNS. The texts of the rows: of each the names of its columns, unless they are those of the
+   row before, and then its fields. The texts of the faults, in buffers of their own. They stay until the next request or load is begun, or a
+   call changes the client. RZ_IDLE. */
+int32_t rz_loaded(rz_handle *client, uint32_t *rows, size_t rows_len, uint32_t *columns, size_t columns_len, uint32_t *ends, size_t ends_len,
+                  uint8_t *bytes, size_t bytes_len, uint32_t *fault_ends, size_t fault_ends_len, uint8_t *fault_bytes, size_t fault_bytes_len);
+
+/* ---- What is known. Loaders are numbered from 0. A key is passed as its 0, 1 or 2 texts. Each of these lets an answer or outcomes go. RZ_BUSY,
    RZ_NO_LOADER, RZ_BAD_KEY, RZ_NOT_UTF8, RZ_BAD_ENDS, RZ_NO_MEMORY. */
 
 /* Knows this item for a key, unless something is known of it: *primed is 1 where it was added, and else 0. rows is a number of rows or

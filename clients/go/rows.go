@@ -32,8 +32,80 @@ type Item struct {
 	Err  error
 }
 
-// keyFault is in the place of a number of rows: the key has a fault.
-const keyFault = math.MaxUint32
+// keyFault is in the place of a number of rows: the key has a fault. batchFault: its whole batch failed.
+const (
+	keyFault   = math.MaxUint32
+	batchFault = math.MaxUint32 - 1
+)
+
+// sameColumns is in the place of a number of columns: they are those of the row before.
+const sameColumns = math.MaxUint32
+
+// Loaded is what was loaded for a key: its rows, or why it has none.
+type Loaded struct {
+	Rows []LoadedRow
+	Err  *LoadFault
+}
+
+// LoadedRow is a row of a key that was loaded. The empty text is null.
+type LoadedRow struct{ Columns, Values []string }
+
+// Get has the value in the column of this name, which is empty where there is no such column.
+func (r LoadedRow) Get(column string) string {
+	for place, name := range r.Columns {
+		if name == column {
+			return r.Values[place]
+		}
+	}
+	return ""
+}
+
+// LoadFault is the fault of a key that was loaded, or of its whole batch.
+type LoadFault struct {
+	Text    string
+	OfBatch bool
+}
+
+func (f *LoadFault) Error() string { return f.Text }
+
+// loadedOf has what the library copied of each key.
+func loadedOf(counts, widths []uint32, texts, faults []string) []Loaded {
+	loaded, rows := make([]Loaded, len(counts)), loadedRows(widths, texts)
+	for key, count := range counts {
+		if count >= batchFault {
+			loaded[key].Err, faults = &LoadFault{faults[0], count == batchFault}, faults[1:]
+			continue
+		}
+		loaded[key].Rows, rows = rows[:count:count], rows[count:]
+	}
+	return loaded
+}
+
+// loadedRows has the rows of all keys.
+func loadedRows(widths []uint32, texts []string) []LoadedRow {
+	rows, columns := make([]LoadedRow, len(widths)), []string(nil)
+	for number, width := range widths {
+		if width != sameColumns {
+			columns, texts = texts[:width:width], texts[width:]
+		}
+		count := len(columns)
+		rows[number], texts = LoadedRow{columns, texts[:count:count]}, texts[count:]
+	}
+	return rows
+}
+
+// flatKeys has the texts of keys of a loader.
+func flatKeys(loader *Loader, keys []Key) (flat texts, err error) {
+	for _, key := range keys {
+		for part := range loader.Columns {
+			flat.add(key[part])
+		}
+	}
+	if !flat.fit() {
+		err = loader.misfit("the keys have more than %d bytes", uint32(math.MaxUint32))
+	}
+	return flat, err
+}
 
 // reply is what the library is given: for each key its number of rows or keyFault; and the names of the columns, the values of all rows and
 // the faults.

@@ -472,12 +472,43 @@ func (m *memory) answer(ctx context.Context, request Request, functions Loaders,
 	if err := m.begin(request); err != nil {
 		return nil, err
 	}
-	text, err := m.runRounds(ctx, functions, options)
+	if err := m.finish(ctx, functions, options); err != nil {
+		return nil, err
+	}
+	return m.text()
+}
+
+// load loads keys of the loader of a number.
+func (m *memory) load(ctx context.Context, number int, keys []Key, functions Loaders, options *Options) ([]Loaded, error) {
+	lengths := make([]uint32, len(keys))
+	for place := range keys {
+		lengths[place] = uint32(len(m.loaders[number].Columns))
+	}
+	flat, err := flatKeys(&m.loaders[number], keys)
 	if err != nil {
-		// refused where the library has given the request up by itself
+		return nil, err
+	}
+	_, err = m.handle.call(func(at *C.rz_handle) C.int32_t {
+		return C.rz_begin_load(at, C.size_t(number), wordsAt(lengths), C.size_t(len(lengths)), wordsAt(flat.ends), C.size_t(len(flat.ends)),
+			bytesAt(flat.bytes), C.size_t(len(flat.bytes)))
+	})
+	if err != nil {
+		return nil, err
+	}
+	if err := m.finish(ctx, functions, options); err != nil {
+		return nil, err
+	}
+	return m.loaded()
+}
+
+// finish runs the rounds of what was begun, and gives it up where that fails.
+func (m *memory) finish(ctx context.Context, functions Loaders, options *Options) error {
+	err := m.runRounds(ctx, functions, options)
+	if err != nil {
+		// refused where the library has given it up by itself
 		_, _ = m.handle.call(func(at *C.rz_handle) C.int32_t { return C.rz_cancel(at) })
 	}
-	return text, err
+	return err
 }
 
 func (m *memory) begin(request Request) error {
@@ -498,18 +529,15 @@ func (m *memory) begin(request Request) error {
 	return err
 }
 
-func (m *memory) runRounds(ctx context.Context, functions Loaders, options *Options) ([]byte, error) {
+func (m *memory) runRounds(ctx context.Context, functions Loaders, options *Options) error {
 	for round := 1; ; round++ {
 		code, err := m.handle.call(func(at *C.rz_handle) C.int32_t { return C.rz_next(at) })
-		if err != nil {
-			return nil, err
-		}
-		if code == C.RZ_DONE {
-			return m.text()
+		if err != nil || code == C.RZ_DONE {
+			return err
 		}
 		batches, err := m.runRound(ctx, functions)
 		if err != nil {
-			return nil, err
+			return err
 		}
 		if options != nil && options.OnRound != nil {
 			options.OnRound(Round{round, batches})
@@ -616,9 +644,26 @@ func (m *memory) text() ([]byte, error) {
 	return text, err
 }
 
+func (m *memory) loaded() ([]Loaded, error) {
+	var sizes C.rz_load_sizes_t
+	if _, err := m.handle.call(func(at *C.rz_handle) C.int32_t { return C.rz_load_sizes(at, &sizes) }); err != nil {
+		return nil, err
+	}
+	rows, columns := make([]uint32, sizes.keys), make([]uint32, sizes.rows)
+	flat, faults := newTexts(sizes.texts, sizes.bytes), newTexts(sizes.faults, sizes.fault_bytes)
+	_, err := m.handle.call(func(at *C.rz_handle) C.int32_t {
+		return C.rz_loaded(at, wordsAt(rows), sizes.keys, wordsAt(columns), sizes.rows, wordsAt(flat.ends), sizes.texts, bytesAt(flat.bytes),
+			sizes.bytes, wordsAt(faults.ends), sizes.faults, bytesAt(faults.bytes), sizes.fault_bytes)
+	})
+	if err != nil {
+		return nil, err
+	}
+	return loadedOf(rows, columns, flat.list(), faults.list()), nil
+}
+
 // ---- Clients.
 
-// Client is a memory of what the loaders returned, which goes on from request to request. It answers one request at a time.
+// Client is a memory of what the loaders returned, which goes on from request to request. It answers one request at a time, or loads keys.
 type Client struct {
 	memory    *memory
 	functions Loaders
@@ -639,6 +684,20 @@ func (c *Client) AnswerText(ctx context.Context, request Request) ([]byte, error
 	}
 	defer c.answering.Unlock()
 	return c.memory.answer(ctx, request, c.functions, c.options)
+}
+
+// LoadMany has for each key of a loader what is known of it, in order. Keys that aren't known are asked for in one round, of equal keys only the
+// first. A loader by no column has the key Key{}. The error has the code RZ_BUSY where the client is answering a request.
+func (c *Client) LoadMany(ctx context.Context, loader string, keys ...Key) ([]Loaded, error) {
+	number, err := numberOf(c.memory.loaders, loader)
+	if err != nil {
+		return nil, err
+	}
+	if !c.answering.TryLock() {
+		return nil, refusal(C.RZ_BUSY)
+	}
+	defer c.answering.Unlock()
+	return c.memory.load(ctx, number, keys, c.functions, c.options)
 }
 
 // Prime knows these rows for a key, unless something is known of it. It returns whether they were added. A loader by no column has the key
@@ -681,13 +740,8 @@ func (c *Client) key(loader string, key Key) (number int, flat texts, err error)
 	if err != nil {
 		return 0, flat, err
 	}
-	for part := range c.memory.loaders[number].Columns {
-		flat.add(key[part])
-	}
-	if !flat.fit() {
-		return 0, flat, c.memory.loaders[number].misfit("the key has more than %d bytes", uint32(math.MaxUint32))
-	}
-	return number, flat, nil
+	flat, err = flatKeys(&c.memory.loaders[number], []Key{key})
+	return number, flat, err
 }
 
 // ClearAll forgets all keys of a loader.

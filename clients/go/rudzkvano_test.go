@@ -409,6 +409,68 @@ func TestAClientKeepsWhatItKnows(t *testing.T) {
 	expect(t, "closed", client.Restart().(*Error).Name, "RZ_BAD_HANDLE")
 }
 
+// names has the names of the rows of each key, or its fault.
+func names(loaded []Loaded) []string {
+	told := make([]string, len(loaded))
+	for key, of := range loaded {
+		for _, row := range of.Rows {
+			told[key] += row.Get("name")
+		}
+		if of.Err != nil {
+			told[key] = fmt.Sprintf("%v: %s", of.Err.OfBatch, of.Err)
+		}
+	}
+	return told
+}
+
+func TestKeysAreLoadedOverWhatAClientKnows(t *testing.T) {
+	world := readWorld("")
+	defer world.server.Close()
+	client := must(world.server.Client(world.loaders(true, now), nil))
+	defer client.Close()
+	ctx := context.Background()
+	eve := Rows{Columns: []string{"id", "name", "no"}, Rows: [][]any{{1, "Eve", nil}}}
+	expect(t, "primed", must(client.Prime("userById", Key{"1"}, eve)), true)
+	loaded := must(client.LoadMany(ctx, "userById", Key{"1"}, Key{"2"}, Key{"2"}))
+	expect(t, "names", names(loaded), []string{"Eve", "Bob", "Bob"})
+	expect(t, "row", loaded[0].Rows, []LoadedRow{{[]string{"id", "name", "no"}, []string{"1", "Eve", ""}}})
+	expect(t, "log", must(client.Log("userById")), []Batch{{1, true, []Key{{"2"}}}})
+	expect(t, "known", must(client.LoadMany(ctx, "userById", Key{"2"})), loaded[1:2])
+	expect(t, "no keys", len(must(client.LoadMany(ctx, "userById"))), 0)
+	expect(t, "no rows", names(must(client.LoadMany(ctx, "userById", Key{"99"}))), []string{""})
+	expect(t, "all", len(must(client.LoadMany(ctx, "allUsers", Key{}))[0].Rows), 4)
+	expect(t, "answer", answer(client.AnswerText(ctx, Request{Query: "{user(id:2){name}}"})), `{"data":{"user":{"name":"Bob"}}}`)
+	expect(t, "asked", len(must(client.Log("userById"))), 2)
+	_, err := client.LoadMany(ctx, "nobody", Key{"1"})
+	expect(t, "unknown", err.Error(), "the bindings have no loader nobody")
+}
+
+func TestLoadedKeysTellTheirFaults(t *testing.T) {
+	world := readWorld("")
+	defer world.server.Close()
+	asks := func(_ context.Context, keys []Key) (Rows, error) {
+		switch keys[0][0] {
+		case "3":
+			return Rows{Columns: []string{"name"}, Items: []Item{{Err: errors.New("gone")}}}, nil
+		case "4":
+			return Rows{}, errors.New("down")
+		}
+		return Rows{Columns: []string{"name"}, Items: []Item{{Rows: [][]any{{keys[0][0]}}}}}, nil
+	}
+	client := must(world.server.Client(Loaders{"userById": asks}, &Options{MaxBatch: 1}))
+	defer client.Close()
+	for turn := 0; turn < 2; turn++ {
+		loaded := must(client.LoadMany(context.Background(), "userById", Key{"1"}, Key{"3"}, Key{"4"}))
+		expect(t, "names", names(loaded), []string{"1", "false: gone", "true: down"})
+	}
+	expect(t, "asked", len(must(client.Log("userById"))), 4)
+	done, cancel := context.WithCancel(context.Background())
+	cancel()
+	_, err := client.LoadMany(done, "userById", Key{"5"})
+	expect(t, "cancelled", err, context.Canceled)
+	expect(t, "known", names(must(client.LoadMany(context.Background(), "userById", Key{"1"}))), []string{"1"})
+}
+
 func TestASecondRequestOfAClientIsRefused(t *testing.T) {
 	world := readWorld("")
 	defer world.server.Close()

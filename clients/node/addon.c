@@ -25,10 +25,11 @@ typedef struct {
     size_t room;
 } border;
 
-/* A server or a client. `once`: the client is made to forget all that it knows as soon as its answer is read. */
+/* A server or a client. `once`: the client is made to forget all that it knows as soon as its answer is read. `loads`: it was begun to load
+   keys last, and not to answer a request. */
 typedef struct {
     rz_handle handle;
-    bool once;
+    bool once, loads;
 } held;
 
 typedef struct {
@@ -117,7 +118,7 @@ static napi_value string_of(napi_env env, border *border, size_t len, uint32_t *
     return string;
 }
 
-/* ---- The steps of a request. */
+/* ---- The steps of a request, or of keys that are loaded. */
 
 /* The orders of the round that is out. The head has RZ_ROUND and the numbers of orders, keys and texts. After it come for each order its
    loader, for each order how many keys it has, for each key how many texts it has, and the ends of the texts. */
@@ -149,12 +150,37 @@ static napi_value read_answer(napi_env env, border *border, held *client, const 
     return string_of(env, border, sizes->answer, NULL, 0);
 }
 
+/* The outcomes of loaded keys. The head has RZ_DONE and the numbers of keys, rows, texts and faults. After it come for each key how many rows it
+   has, for each row how many columns it has, and the ends of the texts of the rows and of the faults, which come after them. */
+static napi_value read_outcomes(napi_env env, border *border, rz_handle *client) {
+    rz_load_sizes_t sizes;
+    int32_t code = rz_load_sizes(client, &sizes);
+    if (code < 0) return tell(border, code);
+    size_t ends = HEAD + sizes.keys + sizes.rows, texts = sizes.texts + sizes.faults, len = sizes.bytes + sizes.fault_bytes;
+    uint32_t *words = border->words, *fault_ends = words + ends + sizes.texts;
+    if (ends + texts > border->words_len) {
+        words[1] = (uint32_t)(ends + texts);
+        return tell(border, NEED_ROOM);
+    }
+    if (!make_room(border, len)) return tell(border, RZ_NO_MEMORY);
+    code = rz_loaded(client, words + HEAD, sizes.keys, words + HEAD + sizes.keys, sizes.rows, words + ends, sizes.texts, border->bytes, sizes.bytes,
+                     fault_ends, sizes.faults, border->bytes + sizes.bytes, sizes.fault_bytes);
+    if (code < 0) return tell(border, code);
+    for (size_t fault = 0; fault < sizes.faults; fault++) fault_ends[fault] += (uint32_t)sizes.bytes;
+    words[1] = (uint32_t)sizes.keys;
+    words[2] = (uint32_t)sizes.rows;
+    words[3] = (uint32_t)sizes.texts;
+    words[4] = (uint32_t)sizes.faults;
+    tell(border, RZ_DONE);
+    return string_of(env, border, len, words + ends, texts);
+}
+
 static napi_value read_state(napi_env env, border *border, held *client, int32_t code) {
     rz_sizes_t sizes;
     if (code >= 0 && code != RZ_WAITING) code = rz_sizes(&client->handle, &sizes);
     if (code != RZ_DONE) return tell(border, code);
     if (sizes.orders) return read_round(env, border, &client->handle, &sizes);
-    return read_answer(env, border, client, &sizes);
+    return client->loads ? read_outcomes(env, border, &client->handle) : read_answer(env, border, client, &sizes);
 }
 
 static napi_value go_on(napi_env env, border *border, held *client, int32_t code) {
@@ -162,7 +188,13 @@ static napi_value go_on(napi_env env, border *border, held *client, int32_t code
     return read_state(env, border, client, rz_next(&client->handle));
 }
 
-/* look(client): a round that needed room. */
+/* Goes on with what was begun, if it was. */
+static napi_value go_begun(napi_env env, border *border, held *client, int32_t code, bool loads) {
+    if (code >= 0) client->loads = loads;
+    return go_on(env, border, client, code);
+}
+
+/* look(client): a round, or outcomes, that needed room. */
 static napi_value look(napi_env env, napi_callback_info info) {
     call call;
     if (!arguments(env, info, &call, true)) return refused(env, "look");
@@ -174,7 +206,7 @@ static napi_value begin(napi_env env, napi_callback_info info) {
     call call;
     size_t len;
     if (!arguments(env, info, &call, true) || !put_text(env, call.border, call.values[1], 0, &len)) return refused(env, "begin");
-    return go_on(env, call.border, call.held, rz_begin(&call.held->handle, call.border->bytes, len));
+    return go_begun(env, call.border, call.held, rz_begin(&call.held->handle, call.border->bytes, len), false);
 }
 
 /* beginRequest(client, query, operation, variables): begins the answer to a query, and goes on. */
@@ -186,7 +218,22 @@ static napi_value begin_request(napi_env env, napi_callback_info info) {
         if (!put_text(env, call.border, call.values[i + 1], at, &lens[i])) return refused(env, "beginRequest");
     const uint8_t *query = call.border->bytes, *operation = query + lens[0], *variables = operation + lens[1];
     int32_t code = rz_begin_request(&call.held->handle, query, lens[0], operation, lens[1], variables, lens[2]);
-    return go_on(env, call.border, call.held, code);
+    return go_begun(env, call.border, call.held, code, false);
+}
+
+/* beginLoad(client, text): begins to load keys, and goes on. The head has the loader, how many keys and texts there are, and the text's length in
+   UTF-16 units. After it come for each key how many texts it has, and the ends. */
+static napi_value begin_load(napi_env env, napi_callback_info info) {
+    call call;
+    size_t len;
+    if (!arguments(env, info, &call, true) || !put_text(env, call.border, call.values[1], 0, &len)) return refused(env, "beginLoad");
+    uint32_t *words = call.border->words;
+    size_t keys = words[1], texts = words[2];
+    if (HEAD + keys + texts > call.border->words_len) return tell(call.border, RZ_BAD_SIZE);
+    uint32_t *shapes = words + HEAD, *ends = shapes + keys;
+    if (len != words[3]) to_bytes(call.border->bytes, len, ends, texts);
+    int32_t code = rz_begin_load(&call.held->handle, words[0], shapes, keys, ends, texts, call.border->bytes, len);
+    return go_begun(env, call.border, call.held, code, true);
 }
 
 /* reply(client, text): takes the rows for an order, and goes on. The head has the order, how many columns, keys and texts there are, and the
@@ -327,7 +374,7 @@ static napi_value value_of(napi_env env, border *border, int32_t code, rz_handle
         rz_close(&handle);
         return tell(border, code < 0 ? code : RZ_NO_MEMORY);
     }
-    *made = (held){handle, once};
+    *made = (held){handle, once, false};
     if (napi_create_external(env, made, let_go, NULL, &value) != napi_ok) {
         let_go(env, made, NULL);
         return tell(border, RZ_NO_MEMORY);
@@ -443,7 +490,7 @@ NAPI_MODULE_INIT() {
         napi_callback call;
     } calls[] = {{"share", share}, {"version", version}, {"codeName", code_name}, {"codeText", code_text}, {"open", open_server},
                  {"loaders", read_loaders}, {"client", make_client}, {"close", close_held}, {"begin", begin}, {"beginRequest", begin_request},
-                 {"look", look}, {"reply", reply}, {"fail", fail}, {"cancel", cancel}, {"prime", prime}, {"clear", clear},
+                 {"beginLoad", begin_load}, {"look", look}, {"reply", reply}, {"fail", fail}, {"cancel", cancel}, {"prime", prime}, {"clear", clear},
                  {"clearAll", clear_all}, {"restart", restart}, {"limitAnswers", limit_answers}, {"log", read_log}};
     border *border = calloc(1, sizeof *border);
     if (!border || !make_room(border, 4096)) return refused(env, "out of memory");

@@ -7,6 +7,8 @@ const addon = require('./out/rudzkvano.node');
 const HEAD = 8;
 /** The codes of a step, where it isn't refused. */
 const [DONE, ROUND, WAITING, NEED_ROOM] = [0, 1, 2, 3];
+/** In the place of a number of rows: the batch failed, and above it: the key has a fault. In the place of a number of columns: those of the row before. */
+const [BATCH_FAULT, SAME_COLUMNS] = [0xfffffffe, 0xffffffff];
 
 const border = { words: new Uint32Array(4096) };
 addon.share(border.words);
@@ -17,6 +19,15 @@ class RudzkvanoError extends Error {
     super(addon.codeText(code));
     this.code = code;
     this.name = addon.codeName(code);
+  }
+}
+
+/** A key that was loaded has no rows, for this reason. `ofBatch`: its whole batch failed. */
+class LoadFault extends Error {
+  constructor(message, ofBatch) {
+    super(message);
+    this.name = 'LoadFault';
+    this.ofBatch = ofBatch;
   }
 }
 
@@ -82,6 +93,31 @@ function readRound(loaders, text) {
   return orders;
 }
 
+/** So many rows, each with the names of its columns or those of the row before. An empty text is null. */
+function readRows(cutter, place, count) {
+  const rows = [];
+  let names = [];
+  for (let row = 0; row < count; row++) {
+    const width = border.words[place + row];
+    if (width !== SAME_COLUMNS) names = Array.from({ length: width }, () => cutter.next());
+    rows.push(Object.fromEntries(names.map((name) => [name, cutter.next() || null])));
+  }
+  return rows;
+}
+
+/** The outcomes of loaded keys, of which `text` has the rows and the faults: for each key its rows, or a fault. */
+function readOutcomes(text) {
+  const [, keys, count] = border.words;
+  const cutter = new Cutter(text, HEAD + keys + count);
+  const rows = readRows(cutter, HEAD + keys, count);
+  let next = 0;
+  return Array.from(border.words.slice(HEAD, HEAD + keys), (number) => {
+    if (number >= BATCH_FAULT) return new LoadFault(cutter.next(), number === BATCH_FAULT);
+    next += number;
+    return rows.slice(next - number, next);
+  });
+}
+
 /** The loaders of a server. */
 function readLoaders(server) {
   const text = call('loaders', [], server);
@@ -107,4 +143,6 @@ function readLog(client, loader) {
   }));
 }
 
-module.exports = { addon, border, call, code, makeRoom, readLoaders, readLog, readRound, RudzkvanoError, DONE, HEAD, NEED_ROOM, ROUND, WAITING };
+module.exports = {
+  addon, border, call, code, makeRoom, readLoaders, readLog, readOutcomes, readRound, LoadFault, RudzkvanoError, DONE, HEAD, NEED_ROOM, ROUND, WAITING,
+};

@@ -79,6 +79,10 @@ export interface Options extends AnswerOptions {
 export class RudzkvanoError extends Error {
   readonly code: number;
 }
+/** A key that was loaded has no rows; the message says why. `ofBatch`: its whole batch failed. */
+export class LoadFault extends Error {
+  readonly ofBatch: boolean;
+}
 /** A schema or its bindings are refused, by the fault S`number`. `line` and `column` are from 1, and 0 where it has none. */
 export class SchemaFault extends RudzkvanoError {
   readonly number: number;
@@ -103,13 +107,22 @@ export class Server {
   close(): void;
 }
 
-/** A memory of what the batch functions returned. It answers one request at a time. */
+/** A memory of what the batch functions returned. It answers one request at a time, or loads keys. */
 export class Client {
   private constructor();
   answer<Data = { [name: string]: any }>(request: Request, options?: AnswerOptions): Promise<Response<Data>>;
   answer(requests: readonly Request[], options?: AnswerOptions): Promise<Response[]>;
   answer(text: string, options?: AnswerOptions): Promise<Response | Response[]>;
   answerText(request: Requests, options?: AnswerOptions): Promise<string>;
+  /**
+   * For each key its rows, in order, or a LoadFault. Keys that aren't known are asked for in one round, of equal keys only the first. Values are
+   * texts, and null where they are empty.
+   */
+  loadMany(
+    loader: string,
+    keys: Iterable<string | number | readonly (string | number)[] | undefined>,
+    options?: AnswerOptions,
+  ): Promise<({ [column: string]: string | null }[] | LoadFault)[]>;
   /** Knows this for a key, unless something is known of it. Returns whether it was added. `key` is undefined for a loader by no column. */
   prime(loader: string, key: string | number | readonly (string | number)[] | undefined, item: Item | Arrays): boolean;
   /** Forgets a key. Returns whether something was known of it. */

@@ -4,7 +4,7 @@
 //     const { data, errors } = await server.answer({ query, variables }, { userById: (ids) => selectUsers(ids) });
 'use strict';
 
-const { addon, border, call, code, readLoaders, readLog, HEAD, RudzkvanoError } = require('./border.js');
+const { addon, border, call, code, readLoaders, readLog, HEAD, LoadFault, RudzkvanoError } = require('./border.js');
 const { writeItem, writeTexts } = require('./rows.js');
 const { Run } = require('./run.js');
 
@@ -123,7 +123,7 @@ class Server {
   }
 }
 
-/** A memory of what the batch functions returned. It answers one request at a time. */
+/** A memory of what the batch functions returned. It answers one request at a time, or loads keys. */
 class Client {
   #handle;
   #loaders;
@@ -145,6 +145,17 @@ class Client {
 
   answerText(request, options) {
     return this.#answer(request, options, String);
+  }
+
+  /**
+   * For each key its rows, in order, or a LoadFault. Keys that aren't known are asked for in one round, of equal keys only the first.
+   */
+  loadMany(loader, keys, options) {
+    return new Promise((resolve) => {
+      const of = this.#loader(loader);
+      const texts = Array.from(keys, (key) => this.#texts(of, key));
+      resolve(this.#do(options, ({ outcomes }) => outcomes, (run) => run.startLoad(of, texts)));
+    });
   }
 
   /** Knows this for a key, unless something is known of it. Returns whether it was added. */
@@ -186,14 +197,20 @@ class Client {
   }
 
   #answer(request, options, read) {
+    return this.#do(options, read, (run) => run.start(request));
+  }
+
+  /** Has a run begin something, and reads its result. */
+  #do(options, read, begin) {
     return new Promise((resolve, reject) => {
       if (this.#run) throw new Error('the client is answering another request');
-      this.#run = new Run(this.#handle, this.#loaders, this.#functions, { ...this.#options, ...options }, (error, text) => {
+      const run = new Run(this.#handle, this.#loaders, this.#functions, { ...this.#options, ...options }, (error, result) => {
         this.#run = undefined;
-        if (text === undefined) reject(error);
-        else resolve(read(text));
+        if (result === undefined) reject(error);
+        else resolve(read(result));
       });
-      this.#run.start(request);
+      this.#run = run;
+      begin(run);
     });
   }
 
@@ -211,4 +228,4 @@ class Client {
   }
 }
 
-module.exports = { Client, RudzkvanoError, SchemaFault, Server };
+module.exports = { Client, LoadFault, RudzkvanoError, SchemaFault, Server };

@@ -1,9 +1,9 @@
-// One request that is being answered: from each step of the library to the next, with the batches in between.
+// One request that is being answered, or keys that are loaded: from each step of the library to the next, with the batches in between.
 'use strict';
 
 const { inspect } = require('node:util');
-const { addon, border, code, makeRoom, readRound, RudzkvanoError, DONE, NEED_ROOM, ROUND, WAITING } = require('./border.js');
-const { writeReply } = require('./rows.js');
+const { addon, border, code, makeRoom, readOutcomes, readRound, RudzkvanoError, DONE, HEAD, NEED_ROOM, ROUND, WAITING } = require('./border.js');
+const { writeReply, writeTexts } = require('./rows.js');
 
 /** The text of why a batch failed. */
 function faultText(why) {
@@ -20,8 +20,20 @@ function begin(handle, request) {
   return addon.beginRequest(handle, query, operation, variables === undefined || variables === null ? '' : JSON.stringify(variables));
 }
 
+/** Begins to load keys, which are arrays of texts, and goes on. */
+function beginLoad(handle, loader, keys) {
+  const texts = keys.flat();
+  makeRoom(HEAD + keys.length + texts.length).fill(loader.columns.length, HEAD, HEAD + keys.length);
+  const text = writeTexts(texts, '', HEAD + keys.length);
+  border.words.set([loader.number, keys.length, texts.length, text.length]);
+  return addon.beginLoad(handle, text);
+}
+
 class Run {
-  /** `functions` are the batch functions by name. `ended` is called once: with an error, or with undefined and the answer's text. */
+  /**
+   * `functions` are the batch functions by name. `ended` is called once: with an error, or with undefined and the answer's text or the outcomes
+   * of what was loaded, as `{ outcomes }`.
+   */
   constructor(handle, loaders, functions, { signal, onRound }, ended) {
     this.handle = handle;
     this.loaders = loaders;
@@ -36,22 +48,37 @@ class Run {
     this.batches = undefined;
     /** Whether the client has forgotten all that it knew, after the answer was read. */
     this.forgot = false;
+    /** Whether keys are loaded. */
+    this.loads = false;
   }
 
+  /** Begins to answer a request. */
   start(request) {
+    this.begin(() => begin(this.handle, request));
+  }
+
+  /** Begins to load keys of a loader. */
+  startLoad(loader, keys) {
+    this.loads = true;
+    this.begin(() => beginLoad(this.handle, loader, keys));
+  }
+
+  /** Makes the first step, and goes on. */
+  begin(step) {
     try {
       this.signal?.throwIfAborted();
       this.signal?.addEventListener('abort', this.abort);
-      this.go(this.left(begin(this.handle, request)));
+      this.go(this.left(step()));
     } catch (error) {
       this.stop(error);
     }
   }
 
-  /** What a step of the library left: the orders of a round, the text of the answer, or undefined where it waits for replies. */
+  /** What a step of the library left: the orders of a round, the text of the answer or outcomes, or undefined where it waits for replies. */
   left(text) {
     switch (code()) {
       case DONE:
+        if (this.loads) return { outcomes: readOutcomes(text) };
         this.forgot = border.words[1] === DONE;
         return text;
       case ROUND:
@@ -69,7 +96,7 @@ class Run {
   /** Goes on from what a step left, as far as it goes without waiting. */
   go(left) {
     while (Array.isArray(left) && !this.over) left = this.ask(left);
-    if (typeof left === 'string' && !this.over) this.end(undefined, left);
+    if (left !== undefined && !this.over) this.end(undefined, left);
   }
 
   /** Asks for all batches of a round. Returns what the last step left. */
@@ -142,17 +169,17 @@ class Run {
     return left;
   }
 
-  /** Gives the request up. */
+  /** Gives up what was begun. */
   stop(error) {
     if (this.over) return;
     addon.cancel(this.handle);
     this.end(error);
   }
 
-  end(error, text) {
+  end(error, result) {
     this.over = true;
     this.signal?.removeEventListener('abort', this.abort);
-    this.ended(error, text);
+    this.ended(error, result);
   }
 }
 

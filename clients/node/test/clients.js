@@ -5,6 +5,7 @@ const assert = require('node:assert/strict');
 const { once } = require('node:events');
 const { describe, it } = require('node:test');
 const { Worker } = require('node:worker_threads');
+const { LoadFault } = require('..');
 const { loadersOver, openWorld, tables } = require('./tables.js');
 
 const { server } = openWorld();
@@ -160,6 +161,64 @@ describe('a client', () => {
     assert.equal(client.clear(all.name), true);
     client.close();
     votes.close();
+  });
+
+  it('loads keys, over what it knows', async () => {
+    const { calls, loaders } = counted();
+    const rounds = [];
+    const client = server.client(loaders, { onRound: ({ round, batches }) => rounds.push([round, batches.map(({ keys }) => keys)]) });
+    client.prime('userById', 1, { id: 1, name: 'É', no: null });
+    const [eve, bob, same] = await client.loadMany('userById', ['1', 2, '2']);
+    assert.deepEqual([eve, bob], [[{ id: '1', name: 'É', no: null }], same]);
+    assert.equal(bob[0].name, 'Bob');
+    assert.deepEqual([calls, rounds], [[['userById', ['2']]], [[1, [['2']]]]]);
+    assert.deepEqual(client.log('userById'), [{ round: 1, stored: true, keys: ['2'] }]);
+    assert.deepEqual(await client.loadMany('userById', []), []);
+    assert.deepEqual(await client.loadMany('userById', [2]), [bob]);
+    assert.equal(await client.answerText({ query: '{user(id:2){name}}' }), '{"data":{"user":{"name":"Bob"}}}');
+    assert.equal(calls.length, 1);
+    const [all] = await client.loadMany('allUsers', [undefined]);
+    assert.equal(all.length, tables.users.rows.length);
+    client.close();
+  });
+
+  it('tells why loaded keys have no rows', async () => {
+    const asks = async (keys) => {
+      if (keys.includes('5')) throw new Error('düwn');
+      return keys.map((id) => (id === '4' ? new Error('göne') : { id }));
+    };
+    const client = server.client({ userById: asks }, { maxBatch: 1 });
+    const [rows, gone, down] = await client.loadMany('userById', [3, 4, 5]);
+    assert.deepEqual(rows, [{ id: '3' }]);
+    assert.ok(gone instanceof LoadFault && down instanceof LoadFault);
+    assert.deepEqual([gone.message, gone.ofBatch, down.message, down.ofBatch], ['göne', false, 'düwn', true]);
+    await client.loadMany('userById', [4, 5]);
+    assert.deepEqual(client.log('userById').map(({ round, keys }) => [round, keys]), [[1, ['3']], [1, ['4']], [1, ['5']], [2, ['5']]]);
+    client.close();
+  });
+
+  it('loads many keys, with much room', async () => {
+    const ids = Array.from({ length: 20_000 }, (_, i) => `é😀${i}`);
+    const client = server.client({ userById: (keys) => keys.map((id) => ({ id, name: 'ü'.repeat(Number(id.slice(3)) % 50) })) });
+    const loaded = await client.loadMany('userById', ids);
+    assert.deepEqual(loaded.map(([{ id, name }]) => [id, name?.length ?? 0]), ids.map((id) => [id, Number(id.slice(3)) % 50]));
+    client.close();
+  });
+
+  it('refuses keys that are none, and loads while it is busy', async () => {
+    const client = server.client({ userById: () => wait(5).then(() => [{ id: 1, name: 'Ada' }]) });
+    await assert.rejects(client.loadMany('userByID', [1]), /the bindings have no loader userByID/);
+    await assert.rejects(client.loadMany('userById', [1, ['1', '2']]), /a key of userById has 1 parts/);
+    const first = client.loadMany('userById', [1]);
+    await assert.rejects(client.loadMany('userById', [1]), /the client is answering another request/);
+    await assert.rejects(client.answer({ query }), /the client is answering another request/);
+    assert.deepEqual(await first, [[{ id: '1', name: 'Ada' }]]);
+    const abort = new AbortController();
+    const stopped = client.loadMany('userById', [2], { signal: abort.signal });
+    abort.abort(new Error('enough'));
+    await assert.rejects(stopped, { message: 'enough' });
+    assert.equal(await client.answerText({ query }), ada);
+    client.close();
   });
 
   it('answers one request at a time', async () => {

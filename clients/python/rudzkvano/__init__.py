@@ -7,8 +7,8 @@
 """
 
 from .client import Client, Progress, Query
-from .library import Library, Refused, RudzkvanoError, SchemaFault
-from .loaders import Batch, BatchFunction, Keys, Loader, Loaders, Order, Ran, Returned, Round
+from .library import Library, LoadFault, Refused, RudzkvanoError, SchemaFault
+from .loaders import Batch, BatchFunction, Keys, Loaded, Loader, Loaders, Order, Ran, Returned, Round
 from .server import Options, Server
 
 __all__ = [
@@ -17,6 +17,8 @@ __all__ = [
     "Client",
     "Keys",
     "Library",
+    "LoadFault",
+    "Loaded",
     "Loader",
     "Loaders",
     "Options",

@@ -1,20 +1,21 @@
-"""A client: a memory of what the loaders returned. It answers one request at a time, in rounds of batches."""
+"""A client: a memory of what the loaders returned. It answers one request at a time, or loads keys, in rounds of batches."""
 
 from __future__ import annotations
 
 import asyncio
 import json
 from array import array
-from collections.abc import Callable, Coroutine, Mapping, Sequence
+from collections.abc import Callable, Coroutine, Iterable, Mapping, Sequence
 from ctypes import string_at
 from enum import IntEnum
 from functools import wraps
+from itertools import chain
 from time import perf_counter
 from typing import Any, Concatenate, ParamSpec, TypeAlias, TypeVar, Union
 
 from .library import BUSY, Held, Library, buffer_of, cut, flat, words
-from .loaders import Batch, Keys, Loader, Loaders, OnRound, Order, Ran, Round
-from .rows import Reply, fault_text, item_of, reply_of, text_of
+from .loaders import Batch, Keys, Loaded, Loader, Loaders, OnRound, Order, Ran, Round
+from .rows import Reply, fault_text, item_of, outcomes_of, reply_of, text_of
 
 # The text of a query; a request with `query`, `variables` and `operationName`; 1 to 16 of these, which share their rounds; or JSON text of those.
 Query: TypeAlias = Union[str, Mapping[str, Any], Sequence[Mapping[str, Any]], bytes]
@@ -24,7 +25,7 @@ _Outcome: TypeAlias = tuple[Union[Reply, str], float]
 
 
 class Progress(IntEnum):
-    """How far a request is."""
+    """How far a request or a load is."""
 
     DONE = 0
     ROUND = 1
@@ -52,8 +53,9 @@ def _alone(call: Callable[Concatenate[Client, _P], _T]) -> Callable[Concatenate[
 class Client(Held):
     """A memory of what the loaders returned; `Server.client` makes one. It does one thing at a time.
 
-    `answer` and `answer_async` run the rounds. A host that runs them itself calls `begin` or `begin_request`, and then `next` up to
-    Progress.DONE; where that returns Progress.ROUND, it calls `orders`, and `reply` or `fail` for each of these. `text` is the answer.
+    `answer`, `load_many` and their async siblings run the rounds. A host that runs them itself calls `begin`, `begin_request` or `begin_load`, and
+    then `next` up to Progress.DONE; where that returns Progress.ROUND, it calls `orders`, and `reply` or `fail` for each of these. `text` is
+    the answer, and `outcomes` what was loaded.
     """
 
     def __init__(self, library: Library, loaders: Sequence[Loader], limits: tuple[int, ...]) -> None:
@@ -86,22 +88,40 @@ class Client(Held):
     def answer_text(self, query: Query, variables: Variables = None, operation_name: str | None = None) -> str:
         """The text of the response."""
         self._start(query, variables, operation_name)
+        return self._finish(self._text)
+
+    async def answer_text_async(self, query: Query, variables: Variables = None, operation_name: str | None = None) -> str:
+        """The text of the response, with batch functions that may be coroutines."""
+        self._start(query, variables, operation_name)
+        return await self._finish_async(self._text)
+
+    def load_many(self, loader: str, keys: Iterable[Any]) -> list[Loaded]:
+        """For each key its rows, in order, or a `LoadFault`. Keys that aren't known are asked for in one round, of equal keys only the first."""
+        self._start_load(loader, keys)
+        return self._finish(self._outcomes)
+
+    async def load_many_async(self, loader: str, keys: Iterable[Any]) -> list[Loaded]:
+        """The same, with batch functions that may be coroutines."""
+        self._start_load(loader, keys)
+        return await self._finish_async(self._outcomes)
+
+    def _finish(self, result: Callable[[], _T]) -> _T:
+        """Runs the rounds of what was begun, and lets the client go."""
         try:
             number = 0
             while self._next():
                 orders = self._orders()
                 number += 1
                 self._end_round(number, orders, list(map(self._run, orders)))
-            return self._text()
+            return result()
         except BaseException:
             self._calls.rz_cancel(self._handle)
             raise
         finally:
             self._lock.release()
 
-    async def answer_text_async(self, query: Query, variables: Variables = None, operation_name: str | None = None) -> str:
-        """The text of the response, with batch functions that may be coroutines."""
-        self._start(query, variables, operation_name)
+    async def _finish_async(self, result: Callable[[], _T]) -> _T:
+        """Runs the rounds of what was begun, whose batch functions may be coroutines, and lets the client go."""
         try:
             number = 0
             while self._next():
@@ -109,12 +129,21 @@ class Client(Held):
                 number += 1
                 outcomes = [await self._run_async(orders[0])] if len(orders) == 1 else await self._run_together(orders)
                 self._end_round(number, orders, outcomes)
-            return self._text()
+            return result()
         except BaseException:
             self._calls.rz_cancel(self._handle)
             raise
         finally:
             self._lock.release()
+
+    def _start_load(self, loader: str, keys: Iterable[Any]) -> None:
+        """Takes the client, and begins a load."""
+        self._take_alone()
+        try:
+            self._begin_load(loader, keys)
+        except BaseException:
+            self._lock.release()
+            raise
 
     def _start(self, query: Query, variables: Variables, operation_name: str | None) -> None:
         """Takes the client, and begins a request."""
@@ -201,6 +230,14 @@ class Client(Held):
         given = b"" if variables is None else _json(variables).encode()
         self._call(self._calls.rz_begin_request, text, len(text), name, len(name), given, len(given))
 
+    def _begin_load(self, loader: str, keys: Iterable[Any]) -> None:
+        """Begins to load keys of a loader."""
+        asked = self._loader(loader)
+        texts = [_key_texts(asked, key) for key in keys]
+        shapes = array("I", [len(asked.columns)]) * len(texts)
+        ends, data = flat(list(chain.from_iterable(texts)))
+        self._call(self._calls.rz_begin_load, asked.number, *buffer_of(shapes), *buffer_of(ends), data, len(data))
+
     def _call(self, call: Callable[..., int], *arguments: object) -> int:
         """Makes a call. Whoever makes one has taken the client."""
         code = call(self._handle, *arguments)
@@ -259,12 +296,26 @@ class Client(Held):
         self._call(self._calls.rz_answer, *buffer_of(data))
         return str(data, "utf-8")
 
+    def _outcomes(self) -> list[Loaded]:
+        """For each key that was loaded its rows, or a `LoadFault`."""
+        sizes = array("Q", bytes(48))
+        self._call(self._calls.rz_load_sizes, sizes.buffer_info()[0])
+        keys, rows, texts, size, faults, fault_size = sizes
+        counts, widths, ends, fault_ends = map(words, (keys, rows, texts, faults))
+        data, fault_data = array("B", bytes(size)), array("B", bytes(fault_size))
+        buffers = (counts, widths, ends, data, fault_ends, fault_data)
+        self._call(self._calls.rz_loaded, *(part for buffer in buffers for part in buffer_of(buffer)))
+        reasons = cut(fault_ends.tolist(), fault_data.tobytes())
+        return outcomes_of(counts.tolist(), widths.tolist(), cut(ends.tolist(), data.tobytes()), reasons)
+
     begin = _alone(_begin)
     begin_request = _alone(_begin_request)
+    begin_load = _alone(_begin_load)
     orders = _alone(_orders)
     reply = _alone(_reply)
     fail = _alone(_fail)
     text = _alone(_text)
+    outcomes = _alone(_outcomes)
 
     @_alone
     def next(self) -> Progress:
@@ -273,7 +324,7 @@ class Client(Held):
 
     @_alone
     def cancel(self) -> None:
-        """Gives up the request that is being answered."""
+        """Gives up the request that is being answered, or the keys that are loaded."""
         self._call(self._calls.rz_cancel)
 
     @_alone

@@ -16,6 +16,8 @@ from typing import TypeVar
 BUSY = -7
 BAD_SCHEMA = -4
 KEY_FAULT = 0xFFFFFFFF
+BATCH_FAULT = 0xFFFFFFFE
+SAME_COLUMNS = 0xFFFFFFFF
 
 # h: a handle, t: a text that is read, b: a buffer (bytes or words), n: a size, u: a word, p: what a call fills with a value
 _ARGUMENTS = {
@@ -45,6 +47,9 @@ _CALLS = {
     "rz_prime": "hnbtnubtp",
     "rz_clear": "hnbtp",
     "rz_clear_all": "hn",
+    "rz_begin_load": "hnbbt",
+    "rz_load_sizes": "hp",
+    "rz_loaded": "hbbbbbb",
     "rz_log_sizes": "hnp",
     "rz_log": "hnbbbbbb",
 }
@@ -71,6 +76,14 @@ class SchemaFault(Refused):
         super().__init__(refused.code, refused.name, refused.text)
         self.args = (f"S{number} at {'bindings' if in_bindings else 'schema'}:{line}:{column}",)
         self.number, self.line, self.column, self.in_bindings = number, line, column, in_bindings
+
+
+class LoadFault(RudzkvanoError):
+    """A key that was loaded has no rows, for this reason; `of_batch` says that its whole batch failed."""
+
+    def __init__(self, text: str, of_batch: bool) -> None:
+        super().__init__(text)
+        self.text, self.of_batch = text, of_batch
 
 
 class Library:

@@ -35,6 +35,8 @@ Table: TypeAlias = tuple[Sequence[str], Iterable[Sequence[Any]]]
 Returned: TypeAlias = Union[Iterable[Item], Table, Cursor]
 BatchFunction: TypeAlias = Callable[[Any], Union[Returned, Awaitable[Returned]]]
 Loaders: TypeAlias = Mapping[str, BatchFunction]
+# the rows of a key that was loaded, by the names of their columns; or why it has none, as a `LoadFault`
+Loaded: TypeAlias = Union["list[dict[str, str | None]]", Exception]
 
 
 class Loader(NamedTuple):

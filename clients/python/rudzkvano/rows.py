@@ -1,21 +1,21 @@
-"""What a batch function returned, as the library takes it: for each key how many rows it has, and all texts."""
+"""What a batch function returned, as the library takes it: for each key how many rows it has, and all texts. And back: the rows of loaded keys."""
 
 from __future__ import annotations
 
 from array import array
-from collections.abc import Callable, Iterable, Mapping, Sequence
+from collections.abc import Callable, Iterable, Iterator, Mapping, Sequence
 from datetime import date, datetime
 from decimal import Decimal
 from functools import lru_cache
-from itertools import chain
+from itertools import chain, islice
 from operator import itemgetter
 from string import ascii_lowercase, ascii_uppercase
 from types import NoneType
 from typing import Any, NamedTuple, TypeAlias
 from uuid import UUID
 
-from .library import KEY_FAULT, flat
-from .loaders import Keys, Loader
+from .library import BATCH_FAULT, KEY_FAULT, SAME_COLUMNS, LoadFault, flat
+from .loaders import Keys, Loaded, Loader
 
 # the reply to a batch: how many columns, for each key the number of its rows, where each text ends, and their bytes
 Reply: TypeAlias = tuple[int, "array[int]", "array[int]", bytes]
@@ -279,3 +279,24 @@ def _flat_reply(loader: Loader, columns: Sequence[str], counts: list[int], texts
     except TypeError:
         raise TypeError(f"loader {loader.name}: the name of a column is no text") from None
     return len(columns), array("I", counts), ends, data
+
+
+# ---- The rows of loaded keys.
+
+
+def outcomes_of(counts: list[int], widths: list[int], texts: list[str], faults: list[str]) -> list[Loaded]:
+    """The rows of each key, or its fault, of what `rz_loaded` copies."""
+    rows, reasons = _rows_of(widths, texts), iter(faults)
+    return [list(islice(rows, count)) if count < BATCH_FAULT else LoadFault(next(reasons), count == BATCH_FAULT) for count in counts]
+
+
+def _rows_of(widths: list[int], texts: list[str]) -> Iterator[dict[str, str | None]]:
+    """The rows of all keys, each with the names of its columns or of those of the row before. An empty text is None."""
+    names: list[str] = []
+    start = 0
+    for width in widths:
+        if width != SAME_COLUMNS:
+            names, start = texts[start : start + width], start + width
+        end = start + len(names)
+        yield {name: text or None for name, text in zip(names, texts[start:end])}
+        start = end

@@ -12,7 +12,7 @@ from pathlib import Path
 from typing import Any
 
 import worlds
-from rudzkvano import Library, Progress, Refused, SchemaFault, Server
+from rudzkvano import Client, Library, LoadFault, Progress, Refused, SchemaFault, Server
 
 ADA = {"data": {"user": {"name": "Ada"}}}
 USER, BEST = "{user(id:1){name}}", "{users{best{name}} user(id:3){name}}"
@@ -228,6 +228,87 @@ class Known(Calls):
 
         with self.server.client({"userById": asks_again}) as client:
             self.assertEqual(client.answer(USER), ADA)
+
+
+class Loads(Calls):
+    """Keys that are loaded, over what is known."""
+
+    def asked(self, client: Client) -> list[tuple[int, Any]]:
+        return [(it.round, it.keys) for it in client.log("userById")]
+
+    def test_keys_are_loaded(self) -> None:
+        rounds: list[Any] = []
+        with self.server.client(self.functions, on_round=rounds.append) as client:
+            client.prime("userById", 1, {"id": 1, "name": "Eve", "best": None})
+            eve, bob, same = client.load_many("userById", ["1", 2, "2"])
+            self.assertEqual(eve, [{"id": "1", "name": "Eve", "best": None}])
+            self.assertEqual((bob, [row["name"] for row in same]), (same, ["Bob"]))
+            self.assertEqual((self.asked(client), len(rounds), client.rounds()), ([(1, ["2"])], 1, 0))
+            self.assertEqual(client.load_many("userById", [2]), [bob])
+            self.assertEqual((client.load_many("userById", []), client.load_many("userById", [99])), ([], [[]]))
+            self.assertEqual(self.asked(client), [(1, ["2"]), (2, ["99"])])
+            self.assertEqual(client.answer("{user(id:2){name}}"), {"data": {"user": {"name": "Bob"}}})
+            self.assertEqual([len(rows) for rows in client.load_many("allUsers", [None])], [len(client.answer("{users{id}}")["data"]["users"])])
+
+    def test_keys_of_two_columns(self) -> None:
+        with worlds.WORLDS["votes"].server() as server, server.client({}) as client:
+            client.prime("voteByBoth", (2, 12), {"stars": 4})
+            found, fault = client.load_many("voteByBoth", [(2, 12), (1, 12)])
+            self.assertEqual((found, str(fault)), ([{"stars": "4"}], "no function for loader voteByBoth"))
+
+    def test_faults(self) -> None:
+        def asks(keys: Any) -> Any:
+            if "4" in keys:
+                raise OSError("down")
+            return [ValueError("gone") if key == "3" else {"id": key} for key in keys]
+
+        with self.server.client({"userById": asks}, max_batch=1) as client:
+            rows, gone, down = client.load_many("userById", [1, 3, 4])
+            self.assertEqual((rows, [type(gone), type(down)]), ([{"id": "1"}], [LoadFault] * 2))
+            self.assertEqual([(it.text, it.of_batch) for it in (gone, down)], [("gone", False), ("down", True)])
+            client.load_many("userById", [3, 4])
+            self.assertEqual(self.asked(client), [(1, ["1"]), (1, ["3"]), (1, ["4"]), (2, ["4"])])
+
+    def test_coroutines(self) -> None:
+        async def asks(keys: Any) -> Any:
+            await asyncio.sleep(0)
+            return self.functions["userById"](keys)
+
+        async def run() -> Any:
+            with self.server.client({"userById": asks}) as client:
+                return await client.load_many_async("userById", [2, 1])
+
+        self.assertEqual([rows[0]["name"] for rows in asyncio.run(run())], ["Bob", "Ada"])
+
+    def test_what_is_refused(self) -> None:
+        def asks_again(keys: Any) -> Any:
+            self.refused("RZ_BUSY", client.load_many, "userById", [1])
+            return [{"id": key} for key in keys]
+
+        with self.server.client({"userById": asks_again}) as client:
+            self.refused("RZ_IDLE", client.outcomes)
+            for key in (None, (), ("1", "2")):
+                with self.assertRaisesRegex(ValueError, "^loader userById: a key of [02] values for 1 columns$"):
+                    client.load_many("userById", [1, key])
+            with self.assertRaisesRegex(ValueError, "^the bindings have no loader userByID$"):
+                client.load_many("userByID", [1])
+            self.assertEqual(client.load_many("userById", [1]), [[{"id": "1"}]])
+
+    def test_a_load_by_hand(self) -> None:
+        with self.server.client({}) as client:
+            client.begin_load("userById", [7, 8])
+            self.refused("RZ_BUSY", client.begin_load, "userById", [9])
+            self.assertEqual(client.next(), Progress.ROUND)
+            (order,) = client.orders()
+            self.assertEqual(order.keys, ["7", "8"])
+            self.refused("RZ_IDLE", client.outcomes)
+            client.reply(order, [{"id": 7}, None])
+            self.assertEqual(client.next(), Progress.DONE)
+            self.assertEqual(client.outcomes(), [[{"id": "7"}], []])
+            client.begin_load("userById", [9])
+            client.next()
+            client.cancel()
+            self.refused("RZ_IDLE", client.outcomes)
 
 
 class Threads(Calls):

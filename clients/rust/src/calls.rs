@@ -10,6 +10,10 @@ pub const WAITING: i32 = 2;
 pub const BAD_SCHEMA: i32 = -4;
 /// In the place of a number of rows: the key has a fault.
 pub const KEY_FAULT: u32 = u32::MAX;
+/// The same of an outcome: its batch failed as a whole.
+pub const BATCH_FAULT: u32 = u32::MAX - 1;
+/// In the place of a number of columns: they are those of the row before.
+pub const SAME_COLUMNS: u32 = u32::MAX;
 
 #[derive(Default)]
 #[repr(C)]
@@ -47,6 +51,17 @@ pub struct LogSizes {
     pub bytes: usize,
 }
 
+#[derive(Default)]
+#[repr(C)]
+pub struct LoadSizes {
+    pub keys: usize,
+    pub rows: usize,
+    pub texts: usize,
+    pub bytes: usize,
+    pub faults: usize,
+    pub fault_bytes: usize,
+}
+
 /// Texts one after another, and where each ends.
 #[derive(Default)]
 pub struct Texts {
@@ -66,6 +81,15 @@ pub struct Reply {
     pub columns: usize,
     pub rows: Vec<u32>,
     pub texts: Texts,
+}
+
+/// The outcomes of loaded keys: for each key its number of rows or a fault, for each row its number of columns or that they are those of the row
+/// before, the texts of the rows, and those of the faults.
+pub struct Outcomes {
+    pub rows: Vec<u32>,
+    pub columns: Vec<u32>,
+    pub texts: Texts,
+    pub faults: Texts,
 }
 
 impl Texts {
@@ -96,6 +120,18 @@ impl Texts {
 impl KeyLists {
     pub fn of_sizes(lists: usize, keys: usize, texts: usize, bytes: usize) -> Self {
         Self { keys: vec![0; lists], lengths: vec![0; keys], texts: Texts::of_sizes(texts, bytes) }
+    }
+}
+
+impl Outcomes {
+    pub fn of_sizes(sizes: &LoadSizes) -> Self {
+        let LoadSizes { keys, rows, texts, bytes, faults, fault_bytes } = *sizes;
+        Self {
+            rows: vec![0; keys],
+            columns: vec![0; rows],
+            texts: Texts::of_sizes(texts, bytes),
+            faults: Texts::of_sizes(faults, fault_bytes),
+        }
     }
 }
 
@@ -179,6 +215,32 @@ extern "C" {
     ) -> i32;
     fn rz_take_failed(client: &mut Handle, order: usize, text: *const u8, text_len: usize) -> i32;
     fn rz_answer(client: &mut Handle, bytes: *mut u8, bytes_len: usize) -> i32;
+    fn rz_begin_load(
+        client: &mut Handle,
+        loader: usize,
+        texts: *const u32,
+        texts_len: usize,
+        ends: *const u32,
+        ends_len: usize,
+        bytes: *const u8,
+        bytes_len: usize,
+    ) -> i32;
+    fn rz_load_sizes(client: &mut Handle, sizes: &mut LoadSizes) -> i32;
+    fn rz_loaded(
+        client: &mut Handle,
+        rows: *mut u32,
+        rows_len: usize,
+        columns: *mut u32,
+        columns_len: usize,
+        ends: *mut u32,
+        ends_len: usize,
+        bytes: *mut u8,
+        bytes_len: usize,
+        fault_ends: *mut u32,
+        fault_ends_len: usize,
+        fault_bytes: *mut u8,
+        fault_bytes_len: usize,
+    ) -> i32;
     fn rz_prime(
         client: &mut Handle,
         loader: usize,
@@ -324,6 +386,36 @@ impl Handle {
 
     pub fn answer(&mut self, bytes: &mut [u8]) -> i32 {
         unsafe { rz_answer(self, bytes.as_mut_ptr(), bytes.len()) }
+    }
+
+    pub fn begin_load(&mut self, loader: usize, lengths: &[u32], texts: &Texts) -> i32 {
+        let Texts { ends, bytes } = texts;
+        unsafe { rz_begin_load(self, loader, lengths.as_ptr(), lengths.len(), ends.as_ptr(), ends.len(), bytes.as_ptr(), bytes.len()) }
+    }
+
+    pub fn load_sizes(&mut self, sizes: &mut LoadSizes) -> i32 {
+        unsafe { rz_load_sizes(self, sizes) }
+    }
+
+    pub fn loaded(&mut self, outcomes: &mut Outcomes) -> i32 {
+        let Outcomes { rows, columns, texts: Texts { ends, bytes }, faults } = outcomes;
+        unsafe {
+            rz_loaded(
+                self,
+                rows.as_mut_ptr(),
+                rows.len(),
+                columns.as_mut_ptr(),
+                columns.len(),
+                ends.as_mut_ptr(),
+                ends.len(),
+                bytes.as_mut_ptr(),
+                bytes.len(),
+                faults.ends.as_mut_ptr(),
+                faults.ends.len(),
+                faults.bytes.as_mut_ptr(),
+                faults.bytes.len(),
+            )
+        }
     }
 
     /// The reply has the item of one key.

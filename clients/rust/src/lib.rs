@@ -23,8 +23,8 @@
 mod calls;
 mod rows;
 
-use calls::{Handle, KeyLists, LogSizes, Sizes, Texts};
-pub use rows::{BatchFault, Item, Key, Row, Rows};
+use calls::{Handle, KeyLists, LoadSizes, LogSizes, Outcomes, Sizes, Texts};
+pub use rows::{BatchFault, Item, Key, Loaded, LoadedRow, Row, Rows};
 use std::collections::HashMap;
 use std::fmt;
 use std::sync::{Arc, Mutex, MutexGuard, PoisonError};
@@ -234,10 +234,10 @@ pub struct Batch {
     pub keys: Vec<Key>,
 }
 
-/// How far a request is.
+/// How far a request or a load is.
 #[derive(Clone, Copy, Debug, PartialEq, Eq)]
 pub enum Progress {
-    /// There is an answer.
+    /// There is an answer, or what was to be loaded is.
     Done,
     /// A round of orders is out.
     Round,
@@ -374,10 +374,10 @@ fn number_of(loaders: &[Arc<Loader>], name: &str) -> Result<usize, Error> {
     loaders.iter().position(|loader| loader.name == name).ok_or_else(|| Error::NoLoader(name.to_owned()))
 }
 
-/// A memory of what the loaders returned. It answers one request at a time.
+/// A memory of what the loaders returned. It answers one request at a time, or loads keys.
 ///
-/// [`Client::answer_text`] runs the rounds. A host that runs them itself calls [`Client::begin`], and then [`Client::next`] up to
-/// [`Progress::Done`]; where that returns [`Progress::Round`], it takes the orders, and calls [`Client::reply`] or [`Client::fail`] for each
+/// [`Client::answer_text`] and [`Client::load_many`] run the rounds. A host that runs them itself calls [`Client::begin`] or
+/// [`Client::begin_load`], and then [`Client::next`] up to [`Progress::Done`]; where that returns [`Progress::Round`], it takes the orders, and calls [`Client::reply`] or [`Client::fail`] for each
 /// of these, in any order.
 pub struct Client {
     handle: Handle,
@@ -394,19 +394,44 @@ impl Client {
     ///
     /// As those of [`Server::answer_text`].
     pub fn answer_text(&mut self, request: &Request<'_>, loaders: &mut Loaders<'_>) -> Result<String, Error> {
-        for name in loaders.functions.keys() {
-            number_of(&self.loaders, name)?;
-        }
+        self.check(loaders)?;
         self.begin(request)?;
-        let answer = self.run_rounds(loaders);
-        if answer.is_err() {
+        self.run_rounds(loaders)?;
+        self.text()
+    }
+
+    /// What is known of each key of a loader, in order. Keys that aren't known are asked for in one round, of equal keys only the first.
+    ///
+    /// # Errors
+    ///
+    /// As those of [`Server::answer_text`], and [`Error::Misfit`] of a key.
+    pub fn load_many<K: Into<Key>>(
+        &mut self,
+        loader: &str,
+        keys: impl IntoIterator<Item = K>,
+        loaders: &mut Loaders<'_>,
+    ) -> Result<Vec<Loaded>, Error> {
+        self.check(loaders)?;
+        self.begin_load(loader, keys)?;
+        self.run_rounds(loaders)?;
+        self.loaded()
+    }
+
+    fn check(&self, loaders: &Loaders<'_>) -> Result<(), Error> {
+        loaders.functions.keys().try_for_each(|name| number_of(&self.loaders, name).map(drop))
+    }
+
+    /// Runs the rounds of what was begun, and gives it up where that fails.
+    fn run_rounds(&mut self, loaders: &mut Loaders<'_>) -> Result<(), Error> {
+        let done = self.try_rounds(loaders);
+        if done.is_err() {
             // it is refused where the library has given the request up by itself
             let _ = self.cancel();
         }
-        answer
+        done
     }
 
-    fn run_rounds(&mut self, loaders: &mut Loaders<'_>) -> Result<String, Error> {
+    fn try_rounds(&mut self, loaders: &mut Loaders<'_>) -> Result<(), Error> {
         let mut round = 0;
         while self.next()? == Progress::Round {
             round += 1;
@@ -416,7 +441,7 @@ impl Client {
                 on_round(&Round { round, batches });
             }
         }
-        self.text()
+        Ok(())
     }
 
     fn run(&mut self, order: Order, loaders: &mut Loaders<'_>) -> Result<Ran, Error> {
@@ -450,6 +475,32 @@ impl Client {
             }
         };
         went_well(code).map(drop)
+    }
+
+    /// Begins to load keys of a loader.
+    ///
+    /// # Errors
+    ///
+    /// [`Error::NoLoader`], [`Error::Misfit`] of a key, and [`Error::Refused`] where a request is being answered or keys are loaded.
+    pub fn begin_load<K: Into<Key>>(&mut self, loader: &str, keys: impl IntoIterator<Item = K>) -> Result<(), Error> {
+        let number = number_of(&self.loaders, loader)?;
+        let keys: Vec<_> = keys.into_iter().map(Into::into).collect();
+        let texts = rows::flat_keys(&self.loaders[number], &keys).map_err(Error::Misfit)?;
+        let lengths = vec![self.loaders[number].columns.len() as u32; keys.len()];
+        went_well(self.handle.begin_load(number, &lengths, &texts)).map(drop)
+    }
+
+    /// What was loaded last for each key, in order.
+    ///
+    /// # Errors
+    ///
+    /// [`Error::Refused`] where there is nothing, or a call has changed the client since.
+    pub fn loaded(&mut self) -> Result<Vec<Loaded>, Error> {
+        let mut sizes = LoadSizes::default();
+        went_well(self.handle.load_sizes(&mut sizes))?;
+        let mut outcomes = Outcomes::of_sizes(&sizes);
+        went_well(self.handle.loaded(&mut outcomes))?;
+        Ok(rows::loaded_of(&outcomes))
     }
 
     /// Goes on.
@@ -511,7 +562,7 @@ impl Client {
         Ok(String::from_utf8(bytes).expect("the library's texts are UTF-8"))
     }
 
-    /// Gives up the request that is being answered. The finished rounds stay known.
+    /// Gives up the request that is being answered, or the keys that are loaded. The finished rounds stay known.
     ///
     /// # Errors
     ///

@@ -1,9 +1,10 @@
-//! Keys, the rows that a batch function returns for them, and both as the library has them.
+//! Keys, the rows that a batch function returns for them, those of loaded keys, and all of these as the library has them.
 
-use crate::calls::{KeyLists, Reply, Texts, KEY_FAULT};
+use crate::calls::{KeyLists, Outcomes, Reply, Texts, BATCH_FAULT, KEY_FAULT, SAME_COLUMNS};
 use crate::Loader;
 use std::collections::HashMap;
 use std::fmt;
+use std::sync::Arc;
 
 /// What a loader is asked for: as many texts as it has columns.
 #[derive(Clone, Debug, PartialEq, Eq, Hash, PartialOrd, Ord)]
@@ -35,17 +36,24 @@ impl Key {
 
     /// The texts of a key of this loader, or why it can't be one.
     pub(crate) fn flat(&self, loader: &Loader) -> Result<Texts, String> {
-        let (texts, wanted) = (self.texts(), loader.columns.len());
+        flat_keys(loader, std::slice::from_ref(self))
+    }
+}
+
+/// The texts of keys of this loader, or why these can't be some.
+pub(crate) fn flat_keys(loader: &Loader, keys: &[Key]) -> Result<Texts, String> {
+    let (mut flat, wanted) = (Texts::default(), loader.columns.len());
+    for key in keys {
+        let texts = key.texts();
         if texts.len() != wanted {
             return Err(format!("loader {}: a key of {} texts for {wanted} columns", loader.name, texts.len()));
         }
-        let mut flat = Texts::default();
         flat.extend(texts);
-        if flat.fits() {
-            Ok(flat)
-        } else {
-            Err(format!("loader {}: the key has more than 4,294,967,295 bytes", loader.name))
-        }
+    }
+    if flat.fits() {
+        Ok(flat)
+    } else {
+        Err(format!("loader {}: the key has more than 4,294,967,295 bytes", loader.name))
     }
 }
 
@@ -119,6 +127,61 @@ impl<T: Into<Item>, E: std::error::Error> From<Result<T, E>> for Item {
     fn from(result: Result<T, E>) -> Self {
         result.map_or_else(|error| Self::Fault(error.to_string()), Into::into)
     }
+}
+
+/// A row of a key that was loaded.
+#[derive(Clone, Debug, PartialEq, Eq)]
+pub struct LoadedRow {
+    /// The names of its columns, which rows share.
+    pub columns: Arc<[String]>,
+    /// A value for each column.
+    pub values: Row,
+}
+
+impl LoadedRow {
+    /// The value in the column of this name. `None` is null, and no such column.
+    pub fn get(&self, column: &str) -> Option<&str> {
+        let place = self.columns.iter().position(|name| name == column)?;
+        self.values[place].as_deref()
+    }
+}
+
+/// What was loaded for one key.
+#[derive(Clone, Debug, PartialEq, Eq)]
+pub enum Loaded {
+    /// Its rows.
+    Rows(Vec<LoadedRow>),
+    /// Why it has none.
+    KeyFault(String),
+    /// Why its batch failed as a whole.
+    BatchFault(String),
+}
+
+/// The outcomes of loaded keys, as the library wrote them.
+pub(crate) fn loaded_of(outcomes: &Outcomes) -> Vec<Loaded> {
+    let mut rows = rows_of(outcomes).into_iter();
+    let mut faults = outcomes.faults.iter().map(str::to_owned);
+    let mut fault = || faults.next().expect("a text for each fault");
+    let loaded = outcomes.rows.iter().map(|&count| match count {
+        KEY_FAULT => Loaded::KeyFault(fault()),
+        BATCH_FAULT => Loaded::BatchFault(fault()),
+        count => Loaded::Rows(rows.by_ref().take(count as usize).collect()),
+    });
+    loaded.collect()
+}
+
+/// The rows of all keys.
+fn rows_of(outcomes: &Outcomes) -> Vec<LoadedRow> {
+    let mut texts = outcomes.texts.iter();
+    let mut names: Arc<[String]> = Arc::new([]);
+    let rows = outcomes.columns.iter().map(|&width| {
+        if width != SAME_COLUMNS {
+            names = texts.by_ref().take(width as usize).map(str::to_owned).collect();
+        }
+        let values = texts.by_ref().take(names.len()).map(|text| Some(text.to_owned()).filter(|text| !text.is_empty()));
+        LoadedRow { columns: Arc::clone(&names), values: values.collect() }
+    });
+    rows.collect()
 }
 
 /// What a batch function returns.

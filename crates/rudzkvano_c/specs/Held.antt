@@ -1,19 +1,20 @@
 -- What handles hold, and what calls make of them.
 use Rattle.std.specs.Prelude.{◌≡◌, ◌≢◌, ℤ, ℕ, List, [], ◌∷◌, Bool, true, Option, Some, None, Result, Ok, Err, OnOk, IfOk, IfErr, length, if◌then◌else◌}
 use Rattle.load_memory.specs.Keys.{KeyOf}
-use Rattle.load_memory.specs.Outcomes.{ItemOf}
+use Rattle.load_memory.specs.Outcomes.{ItemOf, OutcomeOf}
 use Rattle.load_queue.specs.Orders.{OrderOf}
 use Rattle.flat_rows.specs.Replies.{reply_items}
 use Rattle.request_plans.specs.Servers.{ServerOf, IsServer}
 use Rattle.server.specs.Clients.{ClientOf}
 use Rattle.owned_hand.specs.declared.handed_in.HandedIn.{HandedIn}
 use Rattle.host_clients.specs.Asked.{HostAsked}
-use Rattle.host_clients.specs.Clients.{Advances, HasCount, IsBegun, TakesFailure, TakesReply, client_in, is_busy}
+use Rattle.host_clients.specs.Clients.{Advances, HasCount, IsBegun, IsBegunLoad, LacksLoader, TakesFailure, TakesReply, client_in, is_busy}
 use Rattle.host_clients.specs.Faults.{code_of}
 use Rattle.host_clients.specs.Known.{OnClient, PrimesSaid, Clears}
+use Rattle.host_clients.specs.Loads.{KeysOf, AreOutcomesOf, load_orders}
 use Rattle.host_clients.specs.UnderWay.{IsAnswerOf, orders_out}
 use Rattle.host_clients.specs.declared.client.HostClient.{HostClient}
-use Rattle.host_clients.specs.declared.client.HostClient.TheVariants.{Asked, Answered}
+use Rattle.host_clients.specs.declared.client.HostClient.TheVariants.{Asked, Answered, Loading, Loaded}
 use Rattle.host_clients.specs.declared.client.Progress.{Progress}
 use Rattle.host_clients.specs.declared.fault.Fault.{Fault}
 use Rattle.host_clients.specs.declared.fault.Fault.TheVariants as fault
@@ -73,6 +74,11 @@ abbrev pub BeginsWith : HostAsked → HostClient → HostClient → Result (Unit
 BeginsWith asked old new (Ok done) = IsBegun old asked new
 BeginsWith asked old new (Err e) = (client_in new ≡ client_in old) × StaysUnderWay old new
 
+-- it is begun to load keys; or, refused, nothing has changed, and for want of a loader only where there is no such loader
+abbrev pub BeginsLoad : KeysOf → HostClient → HostClient → Result (Unit {0}) Fault → Type 0
+BeginsLoad asked old new (Ok done) = IsBegunLoad asked old new
+BeginsLoad asked old new (Err e) = (new ≡ old) × (e ≡ fault.NoLoader → LacksLoader old asked.loader)
+
 -- what a call to go on makes of an object
 abbrev pub AdvancesObject : Object → Object → Result Progress Fault → Type 0
 AdvancesObject (object.Client c) (object.Client d) progress = Advances c d progress
@@ -131,9 +137,36 @@ abbrev pub CopiesAnswer : List ℕ → HostClient → Result (Unit {0}) Fault �
 CopiesAnswer text (Answered a) done = OnOk done ((text ≡ a.text) × IsAnswerOf a.client.server a.asked text a.rounds)
 CopiesAnswer text client done = done ≡ Err fault.Idle
 
+-- The outcomes are those of the keys that were asked for, one for each, in order: as a call of `load_many` gives them in a session of a client
+-- of its server.
+abbrev pub CopiesOutcomes : List OutcomeOf → HostClient → Result (Unit {0}) Fault → Type 0
+CopiesOutcomes outcomes (Loaded d) done = OnOk done ((outcomes ≡ d.outcomes) × AreOutcomesOf d.client.server d.asked outcomes)
+CopiesOutcomes outcomes client done = done ≡ Err fault.Idle
+
 abbrev pub CopiesOrders : List OrderOf → HostClient → Result (Unit {0}) Fault → Type 0
 CopiesOrders orders (Asked u) done = OnOk done (orders ≡ orders_out u.hand)
+CopiesOrders orders (Loading l) done = OnOk done (orders ≡ load_orders l)
 CopiesOrders orders client done = done ≡ Err fault.NoOrder
+
+-- these are the orders of the round that is out
+abbrev pub AreOrdersOf : HostClient → List OrderOf → Type 0
+AreOrdersOf (Asked u) orders = orders ≡ orders_out u.hand
+AreOrdersOf (Loading l) orders = orders ≡ load_orders l
+AreOrdersOf client orders = ⊥
+
+abbrev pub AreOrdersIn : Object → List OrderOf → Type 0
+AreOrdersIn (object.Client c) orders = AreOrdersOf c orders
+AreOrdersIn (object.Server s) orders = ⊥
+
+-- why an object has none
+abbrev pub LacksOrders : HostClient → Fault → Type 0
+LacksOrders (Asked u) e = ⊥
+LacksOrders (Loading l) e = ⊥
+LacksOrders client e = e ≡ fault.NoOrder
+
+abbrev pub AreNoOrdersIn : Object → Fault → Type 0
+AreNoOrdersIn (object.Client c) e = LacksOrders c e
+AreNoOrdersIn (object.Server s) e = e ≡ fault.BadHandle
 
 -- what is copied of an object that is a client
 abbrev pub CopiesObject : (HostClient → Result (Unit {0}) Fault → Type 0) → Object → Result (Unit {0}) Fault → Type 0

@@ -4,5 +4,6 @@ pub mod Told
 pub mod Key
 pub mod Held
 pub mod Sizes
+pub mod Loads
 pub mod Logged
 pub mod Loaders

@@ -1,5 +1,5 @@
 //! Requests, and their rounds.
-ghost use Rattle.std.specs.Prelude.{◌≡◌};
+ghost use Rattle.std.specs.Prelude.{◌≡◌, IfOk, IfErr};
 ghost use Rattle.load_memory.specs.Cells.{cut};
 ghost use Rattle.flat_orders.specs.Orders.{orders_said};
 ghost use Rattle.flat_rows.specs.Replies.{reply_items};
@@ -7,13 +7,13 @@ ghost use Rattle.host_clients.specs.Asked.{line as line_asked, parts_asked, requ
 ghost use Rattle.host_clients.specs.Clients.{Cancels};
 ghost use Rattle.host_clients.specs.Known.{items_in};
 ghost use Rattle.host_clients.specs.Texts.{flat_parts};
-ghost use Rattle.rudzkvano_c.specs.Held.{AdvancesHeld, AdvancesObject, BeginsWith, Copies, CopiesAnswer, CopiesObject, CopiesOrders, Makes, MakesObject};
+ghost use Rattle.rudzkvano_c.specs.Held.{AdvancesHeld, AdvancesObject, AreNoOrdersIn, AreOrdersIn, BeginsWith, Copies, CopiesAnswer, CopiesObject, CopiesOrders, Makes, MakesObject};
 ghost use Rattle.rudzkvano_c.specs.Held.{TakesFailed, TakesRows};
-ghost use Rattle.rudzkvano_c.specs.Sizes.{TellsSizes, sizes_in};
+ghost use Rattle.rudzkvano_c.specs.Sizes.{TellsSizes, sizes_in, sizes_of};
 
 use crate::codes::{code_of, progress_code};
 use crate::handle::Handle;
-use host_clients::{Fault, FlatReply, FlatRequest, HostClient, Object, Progress};
+use host_clients::{Fault, FlatOrders, FlatReply, FlatRequest, HostClient, Object, Progress};
 use std::alloc::Global;
 
 /// How many elements the buffers of `rz_orders` and `rz_answer` have to hold, and how many rounds the answer took.
@@ -92,7 +92,7 @@ fn cancel(object: &mut Object) -> Result<(), Fault>
     }
 }
 
-/// Gives up the request that is being answered.
+/// Gives up the request that is being answered, or the keys that are loaded.
 #[unsafe(no_mangle)]
 pub extern "C" fn rz_cancel(alloc: Global, client: &mut Handle) -> i32
     ensures { Makes Cancels client.old.held client.new.held result }
@@ -114,7 +114,7 @@ fn advance(alloc: Global, object: &mut Object) -> Result<Progress, Fault>
     }
 }
 
-/// Goes on with the request.
+/// Goes on with the request, or with the keys that are loaded.
 #[unsafe(no_mangle)]
 pub extern "C" fn rz_next(alloc: Global, client: &mut Handle) -> i32
     ensures { AdvancesHeld client.old.held client.new.held result }
@@ -127,7 +127,22 @@ pub extern "C" fn rz_next(alloc: Global, client: &mut Handle) -> i32
     progress_code(progress)
 }
 
-fn sizes_of(client: &HostClient) -> Sizes
+// The sizes of the orders of a round.
+fn round_sizes(orders: &FlatOrders) -> Sizes
+    ensures { result ≡ sizes_of orders.now }
+{
+    let wanted = orders.sizes();
+    Sizes {
+        orders: wanted.lists,
+        keys: wanted.keys,
+        texts: wanted.texts,
+        bytes: wanted.bytes,
+        answer: 0,
+        rounds: 0,
+    }
+}
+
+fn sizes_in(client: &HostClient) -> Sizes
     ensures { result ≡ sizes_in client.now }
 {
     let mut sizes = Sizes {
@@ -139,13 +154,8 @@ fn sizes_of(client: &HostClient) -> Sizes
         rounds: 0,
     };
     match client {
-        HostClient::Asked(under_way) => {
-            let wanted = under_way.orders().sizes();
-            sizes.orders = wanted.lists;
-            sizes.keys = wanted.keys;
-            sizes.texts = wanted.texts;
-            sizes.bytes = wanted.bytes;
-        }
+        HostClient::Asked(under_way) => sizes = round_sizes(under_way.orders()),
+        HostClient::Loading(loading) => sizes = round_sizes(loading.orders()),
         HostClient::Answered(answered) => {
             sizes.answer = answered.text().len();
             sizes.rounds = u64::from(answered.rounds());
@@ -160,7 +170,7 @@ fn tell_sizes(object: &Object, sizes: &mut Sizes) -> Result<(), Fault>
 {
     match object {
         Object::Client(client) => {
-            *sizes = sizes_of(client);
+            *sizes = sizes_in(client);
             Ok(())
         }
         Object::Server(_) => Err(Fault::BadHandle),
@@ -181,6 +191,19 @@ pub extern "C" fn rz_sizes(alloc: Global, client: &mut Handle, sizes: &mut Sizes
     code_of(told)
 }
 
+// The orders of the round that is out.
+fn orders_of(object: &Object) -> Result<&FlatOrders, Fault>
+    ensures orders { IfOk result (λ orders. AreOrdersIn object.now orders.now) }
+    ensures none { IfErr result (AreNoOrdersIn object.now) }
+{
+    match object {
+        Object::Client(HostClient::Asked(under_way)) => Ok(under_way.orders()),
+        Object::Client(HostClient::Loading(loading)) => Ok(loading.orders()),
+        Object::Client(_) => Err(Fault::NoOrder),
+        Object::Server(_) => Err(Fault::BadHandle),
+    }
+}
+
 fn copy_orders(
     object: &Object,
     loaders: &mut [u32],
@@ -192,17 +215,7 @@ fn copy_orders(
     ensures { let orders = orders_said loaders.new keys.new texts.new (cut bytes.new 0 ends.new) in
         CopiesObject (CopiesOrders orders) object.now result }
 {
-    match object {
-        Object::Client(HostClient::Asked(under_way)) => {
-            Ok(
-                under_way
-                    .orders()
-                    .copy_to(loaders, keys, texts, ends, bytes)?,
-            )
-        }
-        Object::Client(_) => Err(Fault::NoOrder),
-        Object::Server(_) => Err(Fault::BadHandle),
-    }
+    Ok(orders_of(object)?.copy_to(loaders, keys, texts, ends, bytes)?)
 }
 
 /// Copies the orders of the round that is out.

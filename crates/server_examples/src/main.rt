@@ -8,8 +8,8 @@ use books::{Books, fetch_books};
 use futures::executor::block_on;
 use owned_hand::{HandedIn, OwnedByHand};
 use server::{
-    ByHand, ClientSession, Counted, FetchFault, Item, Key, NoMemory, Outcome, Pending, Request,
-    Row, Server, Sessions, Step, Workers, serve, serve_with, source_fn,
+    ByHand, ClientSession, Counted, FetchFault, Item, Key, LoadAdvance, LoadByHand, NoMemory,
+    Outcome, Pending, Request, Row, Server, Sessions, Step, Workers, serve, serve_with, source_fn,
 };
 use std::alloc::{AllocGlobal, Global};
 use std::random::RandomSource;
@@ -189,6 +189,38 @@ fn owned_by_hand<R: Threads + AllocGlobal>(rt: &R, server: &Server) -> anyhow::R
     answering.join(rt)
 }
 
+// The caller answers the orders of a load itself.
+fn answer_load(alloc: Global, load: &mut LoadByHand<Books>) -> anyhow::Result<()> {
+    for number in 0..load.orders().len() {
+        if let Some(Pending::Out(order)) = load.orders().get(number) {
+            let items = fetch_books(alloc, order.keys());
+            load.answer(number, items)?;
+        }
+    }
+    Ok(())
+}
+
+// Keys that are loaded by hand: of equal keys only the first is asked for, here in batches of one.
+fn load_by_hand(alloc: Global, server: &Server) -> anyhow::Result<String> {
+    let client = server.session(alloc, Some(1), |_line| Books)?;
+    if BOOK_BY_ID >= client.session().loaders().len() {
+        bail!("no loader")
+    }
+    let one = Key::of_text(alloc, "1")?;
+    let other = Key::of_text(alloc, "7")?;
+    let same = Key::of_text(alloc, "1")?;
+    let mut load = client.load_by_hand(BOOK_BY_ID, vec![in alloc; one, other, same]?);
+    for _round in 0..MOST_ROUNDS {
+        if let LoadAdvance::Loaded(outcomes) = load.advance()? {
+            let client = load.into_client();
+            let asked = client.session().logs(BOOK_BY_ID).unwrap_or(&[]).len();
+            return Ok(format!(in alloc; "{} outcomes of {asked} batches", outcomes.len())?);
+        }
+        answer_load(alloc, &mut load)?;
+    }
+    bail!("too many rounds")
+}
+
 // A request in a session of its own.
 fn answer_in_session(alloc: Global, server: &Server, query: &str) -> anyhow::Result<String> {
     let mut session = server.session(alloc, None, |_line| Books)?;
@@ -353,6 +385,7 @@ fn main(rt: HostRuntime) -> anyhow::Result<()> {
     println!(rt; "by_hand: {}", by_hand(alloc, &server)?)?;
     println!(rt; "refused by hand: {}", refused_by_hand(alloc, &server)?)?;
     println!(rt; "owned by hand: {}", owned_by_hand(&rt, &server)?)?;
+    println!(rt; "load by hand: {}", load_by_hand(alloc, &server)?)?;
     println!(rt; "a shared server: {}", share_a_server(&rt, &server)?)?;
     println!(rt; "into_answering: {}", as_a_future(&rt, &server)?)?;
     println!(rt; "loads_read: {}", loads_read(alloc, &server)?)?;
