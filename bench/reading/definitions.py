@@ -23,7 +23,8 @@ def blocks_of(lines):
         words = text.split()
         heads = {"abbrev", "unfoldable", "pub", "record", "data"}
         is_field = words[0] == "pub" and current is not None and current["kind"] == "record" and len(line) - len(line.lstrip()) > current["indent"]
-        if words[0] in heads and not is_field:
+        is_value = words[:2] == ["record", "{"]
+        if words[0] in heads and not is_field and not is_value:
             rest = [w for w in words if w not in heads]
             name = rest[0]
             current = {"name": name, "kind": "record" if "record" in words else "data" if "data" in words else "value", "indent": len(line) - len(line.lstrip()), "lines": []}
@@ -116,4 +117,5 @@ def main():
     print(f"{total:5} lines")
 
 
-main()
+if __name__ == "__main__":
+    main()

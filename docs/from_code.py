@@ -1,0 +1,405 @@
+#!/usr/bin/env python3
+"""Writes what the documents say by the code alone: docs/PROOFS.md, docs/FAULTS.md, docs/DEFINITIONS.md, and the tables of crates in
+docs/ARCHITECTURE.md.
+
+    docs/from_code.py write      writes them
+    docs/from_code.py compare    writes nothing; where one differs from what the code says, it prints how and exits with 1
+
+In each of these documents it writes what stands between the lines `<!-- from the code -->` and `<!-- by hand -->`, or up to the end where
+the second is missing. All else in them is written by hand, and stays.
+
+It reads `crates.txt` for the layers, and of each crate the first lines of `src/lib.rt` or `src/main.rt`, its public functions with their
+comments and the names of their clauses, its types of errors, and in `specs/` the public definitions with the comments above them."""
+import argparse
+import difflib
+import re
+import sys
+from collections.abc import Callable, Iterable, Iterator
+from functools import cache
+from pathlib import Path
+
+sys.path.insert(0, str(Path(__file__).resolve().parents[1] / "bench" / "reading"))
+
+from reach import reached_files  # noqa: E402
+from source import TOP, Crate, Function, SourceFile, SpecFile, Type, Variant, layers, parts_at_commas  # noqa: E402
+
+DOCS = TOP / "docs"
+BEGIN, END = "<!-- from the code -->", "<!-- by hand -->"
+SHOWN_LINES = 40
+OUT = "When out of memory"
+
+LAYERS = layers()
+CRATES = {crate.name: crate for _, crates in LAYERS.values() for crate in crates}
+ErrorKey = tuple[str, str]  # a crate and a type of errors in it
+ByText = dict[str, list[str]]  # functions by what is said of when they fail
+
+
+# ---- texts
+
+
+def paragraph(lines: Iterable[str]) -> str:
+    """The first paragraph of a comment, as one line."""
+    kept: list[str] = []
+    for line in lines:
+        if not line or line.startswith("#"):
+            break
+        kept.append(line)
+    return " ".join(kept)
+
+
+def first_sentence(lines: Iterable[str]) -> str:
+    text = unlinked(paragraph(lines))
+    found = re.match(r"(.+?[.!?])(?=\s+[A-Z`\[(*\"\d]|$)", text)
+    return found.group(1) if found else text
+
+
+def unlinked(text: str) -> str:
+    """The text without its links to names of the code, which no document has."""
+    named = re.sub(r"\[(`[^`]+`)\](?:\((?!http)[^)]*\))?", r"\1", text)
+    return re.sub(r"\[([^\]`]+)\]\((?!http)[^)]*\)", r"\1", named)
+
+
+def cell(text: str) -> str:
+    return text.replace("|", "\\|")
+
+
+def row(*cells: str) -> str:
+    return "| " + " | ".join(cell(text) for text in cells) + " |"
+
+
+def table(head: tuple[str, ...], rows: Iterable[tuple[str, ...]]) -> list[str]:
+    return [row(*head), "|" + "---|" * len(head), *(row(*cells) for cells in rows), ""]
+
+
+def coded(names: Iterable[str]) -> str:
+    return ", ".join(f"`{name}`" for name in names)
+
+
+def linked(crate: Crate) -> str:
+    return f"[`{crate.name}`](../{crate.root.path.relative_to(TOP).as_posix()})"
+
+
+# ---- what is public
+
+
+def is_program(crate: Crate) -> bool:
+    return crate.root.path.stem == "main"
+
+
+@cache
+def is_shown_module(crate: Crate, file: SourceFile) -> bool:
+    """Whether the file's module and those around it are public."""
+    parts = list(file.path.relative_to(crate.folder / "src").with_suffix("").parts)
+    around = crate.root
+    for part in parts if file is not crate.root else []:
+        if part not in around.shown_modules:
+            return False
+        around = next(it for it in crate.sources if it.path.stem == part)
+    return True
+
+
+@cache
+def shown_types(crate: Crate) -> dict[str, Type]:
+    """The public types of a crate, by their names."""
+    return {
+        kind.name: kind
+        for file in crate.sources
+        for kind in file.types
+        if kind.is_shown and (kind.name in crate.root.shown_names or is_shown_module(crate, file))
+    }
+
+
+@cache
+def shown_functions(crate: Crate) -> tuple[tuple[SourceFile, Function], ...]:
+    """The functions that other crates, or programs in C, may call."""
+    return () if is_program(crate) else tuple((file, it) for file in crate.sources for it in file.functions if is_public(crate, file, it))
+
+
+def is_public(crate: Crate, file: SourceFile, function: Function) -> bool:
+    if function.owner:
+        return function.is_shown and function.owner in shown_types(crate)
+    is_named = function.name in crate.root.shown_names or function.is_foreign
+    return function.is_shown and (is_named or is_shown_module(crate, file))
+
+
+# ---- PROOFS.md
+
+
+def named_clauses(function: Function, kind: str) -> str:
+    """The names of a function's clauses of a kind, and how many have none."""
+    clauses = [clause for clause in function.clauses if clause.kind == kind]
+    nameless = sum(not clause.name for clause in clauses)
+    words = [f"`{clause.name}`" for clause in clauses if clause.name]
+    return ", ".join(words + ([str(nameless)] if nameless else []))
+
+
+def kept_by_types(crate: Crate) -> Iterator[str]:
+    """What the crate's types keep, and what they promise of the traits that they have."""
+    types = shown_types(crate)
+    said: dict[str, set[str]] = {}
+    for own, names in (promise for file in crate.sources for promise in file.promises):
+        if own.type in types and own.of_trait == "Model" and "invariant" in names:
+            said.setdefault(own.type, set()).add("an invariant")
+        elif own.type in types and own.of_trait not in {"Model", "From", ""}:
+            said.setdefault(own.type, set()).add(f"`{own.of_trait}` ({coded(names)})")
+    for name, texts in sorted(said.items()):
+        yield f"- `{name}`: {', '.join(sorted(texts))}"
+
+
+def proofs_of(crate: Crate) -> list[str]:
+    rows = [
+        (f"`{it.path}`", first_sentence(it.documents), named_clauses(it, "requires"), named_clauses(it, "ensures"))
+        for _, it in shown_functions(crate)
+    ]
+    if not rows:
+        return []
+    types = list(kept_by_types(crate))
+    lines = table(("Call", "What it does", "Requires", "Ensures"), rows)
+    kept = ["What its types keep, and say of their traits:", "", *types, ""] if types else []
+    return [f"### {linked(crate)}", "", first_sentence(crate.root.heading), "", *lines, *kept]
+
+
+def by_layer(of_crate: Callable[[Crate], list[str]], before: str = "") -> list[str]:
+    """What is written of each crate, under the layers' titles."""
+    lines: list[str] = []
+    for title, (_, crates) in LAYERS.items():
+        of_layer = [line for crate in crates for line in of_crate(crate)]
+        lines += [f"## {before}{title}", "", *of_layer] if of_layer else []
+    return lines
+
+
+def write_proofs() -> list[str]:
+    return by_layer(proofs_of)
+
+
+# ---- FAULTS.md
+
+
+@cache
+def types_of(crate: Crate) -> dict[str, Type]:
+    return {kind.name: kind for file in crate.sources for kind in file.types}
+
+
+def home_of(crate: Crate, file: SourceFile, name: str) -> ErrorKey | None:
+    """The crate that a type is of, with its name there, as a file of this crate names the type."""
+    root = next((root for _, used, root in file.uses if used == name), "crate")
+    if root == "std":
+        return ("std", name) if name == "AllocError" else None
+    if root in CRATES:
+        return home_of(CRATES[root], CRATES[root].root, name)
+    return (crate.name, name) if name in types_of(crate) else None
+
+
+def errors_in(result: str) -> Iterator[str]:
+    """The names of the types of errors in the type of a function's result."""
+    for it in re.finditer(r"\bResult<", result):
+        end, depth = it.end(), 1
+        while depth:
+            depth += (result[end] == "<") - (result[end] == ">" and result[end - 1] not in "-=")
+            end += 1
+        parts = parts_at_commas(result[it.end() : end - 1])
+        if len(parts) == 2 and (found := re.match(r"(?:\w+::)*(\w+)", parts[1])):
+            yield found.group(1)
+
+
+def when_of(function: Function) -> str:
+    """What a function's comment says of its errors: below `# Errors`, or from `When out of memory` to the end of that paragraph."""
+    lines = list(function.documents)
+    if "# Errors" not in lines:
+        paragraphs = " ".join(line or "\n" for line in lines).split("\n")
+        found = next((text[text.index(OUT) :] for text in paragraphs if OUT in text), "")
+        return unlinked(found.strip())
+    below = lines[lines.index("# Errors") + 1 :]
+    kept = below[: next((at for at, line in enumerate(below) if line.startswith("# ")), len(below))]
+    return unlinked(" ".join(line for line in kept if line))
+
+
+def returned() -> dict[ErrorKey, dict[str, ByText]]:
+    """For each type of errors, by crate and by what is said of when they come, the functions that return it."""
+    found: dict[ErrorKey, dict[str, ByText]] = {}
+    for crate in CRATES.values():
+        for file, function in shown_functions(crate):
+            homes = {home_of(crate, file, name) for name in errors_in(function.result)}
+            for home in sorted(home for home in homes if home):
+                by_text = found.setdefault(home, {}).setdefault(crate.name, {})
+                by_text.setdefault(when_of(function), []).append(function.path)
+    return found
+
+
+def returned_lines(by_crate: dict[str, ByText]) -> list[str]:
+    lines = []
+    for crate, by_text in by_crate.items():
+        lines += [f"- `{crate}`: {coded(names)}" + (f": {text}" if text else "") for text, names in sorted(by_text.items())]
+    return ["Returned by:", "", *lines, ""] if lines else []
+
+
+def printed(kind: Type, variant: Variant) -> str:
+    """The texts of a variant: that of `#[error(..)]`, and those that the type's functions give for it."""
+    texts = [variant.message, *kind.file.said_of(kind.name).get(variant.name, ())]
+    return ", ".join(f"`{text}`" for text in dict.fromkeys(texts) if text)
+
+
+def fault_lines(key: ErrorKey, kind: Type, by_crate: dict[str, ByText]) -> list[str]:
+    head = [f"### `{key[0]}::{key[1]}`", "", unlinked(paragraph(kind.documents)), ""]
+    if kind.kind == "struct":
+        texts = [text for it in kind.variants if (text := printed(kind, it))]
+        return [*head, *(line for text in texts for line in (f"It is printed as {text}.", "")), *returned_lines(by_crate)]
+    rows = [(f"`{it.name}`", printed(kind, it), unlinked(" ".join(it.documents))) for it in kind.variants]
+    return [*head, *table(("Variant", "Printed as", "When"), rows), *returned_lines(by_crate)]
+
+
+def faults_of(crate: Crate, found: dict[ErrorKey, dict[str, ByText]]) -> list[str]:
+    lines: list[str] = []
+    for name, kind in shown_types(crate).items() if not is_program(crate) else ():
+        key = (crate.name, name)
+        if kind.is_error or key in found:
+            lines += fault_lines(key, kind, found.get(key, {}))
+    return lines
+
+
+def unfailing_of(crate: Crate) -> list[str]:
+    """The calls of a crate that return no `Result`. A law takes nothing and returns nothing, and C's functions return codes."""
+    calls = [it for _, it in shown_functions(crate) if (it.parameters or it.result) and not it.is_foreign]
+    names = [it.path for it in calls if "Result<" not in it.result]
+    return [f"- `{crate.name}`: {coded(names)}"] if names else []
+
+
+def write_faults() -> list[str]:
+    found = returned()
+    lines = by_layer(lambda crate: faults_of(crate, found))
+    lines += ["## `AllocError` of `std`", "", "Out of memory: an allocation was refused.", ""]
+    lines += returned_lines(found.get(("std", "AllocError"), {}))
+    lines += ["## Calls that return no `Result`", ""]
+    return lines + [line for crate in CRATES.values() for line in unfailing_of(crate)] + [""]
+
+
+# ---- DEFINITIONS.md
+
+
+def definition_lines(specs: SpecFile) -> list[str]:
+    said = [f"- `{it.name}`: {it.comment}" if it.name else f"- _{it.comment}_" for it in specs.definitions if it.comment]
+    others = [it.name for it in specs.definitions if not it.comment]
+    return [*said, *([f"- without a comment: {coded(others)}"] if others else []), ""]
+
+
+def spec_lines(crate: Crate, specs: SpecFile) -> list[str]:
+    name = specs.path.relative_to(crate.folder / "specs").with_suffix("").as_posix()
+    path = specs.path.relative_to(TOP).as_posix()
+    heading = f": {specs.heading}" if specs.heading else ""
+    return [f"**[`{name}`](../{path})**{heading}", "", *definition_lines(specs)]
+
+
+@cache
+def reached() -> set[tuple[str, str]]:
+    return reached_files(shown_functions, shown_types)
+
+
+def definitions_of(crate: Crate) -> list[str]:
+    if not crate.specs:
+        return []
+    lines = [f"### `{crate.name}`", "", *([crate.specs_heading, ""] if crate.specs_heading else [])]
+    far = [it for it in crate.specs if (crate.name, it.path.stem) not in reached()]
+    for specs in (it for it in crate.specs if it not in far):
+        lines += spec_lines(crate, specs)
+    lines += ["No contract of a public function reaches what follows.", ""] if far else []
+    return lines + [line for specs in far for line in spec_lines(crate, specs)]
+
+
+NUMBER = r"\d+(?:\.\d+)*"
+CITED = re.compile(rf"""\bsections? ({NUMBER}(?:(?:, "[^"]*")?(?:,| and| to|, and) {NUMBER})*)""")
+
+
+def sections_in(comment: str) -> Iterator[tuple[int, ...]]:
+    """The sections of the GraphQL specification that a comment names."""
+    for it in CITED.finditer(comment):
+        for number in re.findall(NUMBER, re.sub(r'"[^"]*"', "", it.group(1))):
+            yield tuple(int(part) for part in number.split("."))
+
+
+def section_rows() -> Iterator[tuple[str, str]]:
+    """For each section of the specification the files, and the definitions, whose comments name it."""
+    found: dict[tuple[int, ...], dict[str, list[str]]] = {}
+    for crate in CRATES.values():
+        for specs in crate.specs:
+            file = f"`{crate.name}`: `{specs.path.stem}`"
+            for section in sections_in(specs.heading):
+                found.setdefault(section, {}).setdefault(file, [])
+            for it in specs.definitions:
+                for section in sections_in(it.comment):
+                    found.setdefault(section, {}).setdefault(file, []).extend([it.name] if it.name else [])
+    for section, files in sorted(found.items()):
+        texts = [f"{file} ({coded(dict.fromkeys(names))})" if names else file for file, names in files.items()]
+        yield ".".join(map(str, section)), "; ".join(texts)
+
+
+def write_definitions() -> list[str]:
+    head = ["## By the sections of the GraphQL specification", "", "The files, and in them the definitions, whose comments name a section.", ""]
+    return [*head, *table(("Section", "Where"), section_rows()), *by_layer(definitions_of, "Definitions: ")]
+
+
+# ---- ARCHITECTURE.md
+
+
+def nearest(crate: Crate) -> list[str]:
+    """The crates that a crate uses and that no other crate which it uses uses too."""
+    further = {name for used in crate.uses for name in CRATES[used].uses}
+    return [name for name in crate.uses if name not in further]
+
+
+def write_crates() -> list[str]:
+    lines: list[str] = []
+    for title, (about, crates) in LAYERS.items():
+        rows = [(linked(it), coded(nearest(it)), first_sentence(it.root.heading)) for it in crates]
+        lines += [f"### {title}", "", *table(("Crate", "Uses", "What it is for"), rows)]
+    return lines
+
+
+# ---- writing and comparing
+
+WRITERS: dict[str, Callable[[], list[str]]] = {
+    "PROOFS.md": write_proofs,
+    "FAULTS.md": write_faults,
+    "DEFINITIONS.md": write_definitions,
+    "ARCHITECTURE.md": write_crates,
+}
+
+
+def written(name: str, old: str) -> str:
+    """The document with what the code says between its marker lines."""
+    before, marker, rest = old.partition(BEGIN + "\n")
+    if not marker:
+        sys.exit(f"docs/{name} has no line `{BEGIN}`")
+    _, end, after = rest.partition(END + "\n")
+    made = "\n".join(WRITERS[name]()).strip("\n")
+    return before + marker + "\n" + made + "\n" + (f"\n{END}\n{after}" if end else "")
+
+
+def compare(name: str, old: str, new: str) -> bool:
+    """Prints how a document differs from what the code says; says whether it is the same."""
+    differences = list(difflib.unified_diff(old.split("\n"), new.split("\n"), f"docs/{name}", f"docs/{name} by the code", lineterm=""))
+    for line in differences[:SHOWN_LINES]:
+        print(line)
+    if len(differences) > SHOWN_LINES:
+        print(f"... and {len(differences) - SHOWN_LINES} lines more")
+    return not differences
+
+
+def main() -> int:
+    parser = argparse.ArgumentParser(description=__doc__, formatter_class=argparse.RawDescriptionHelpFormatter)
+    parser.add_argument("what", choices=("write", "compare"))
+    is_written = parser.parse_args().what == "write"
+    are_same = True
+    for name in WRITERS:
+        old = (DOCS / name).read_text(encoding="utf-8")
+        new = written(name, old)
+        if is_written:
+            (DOCS / name).write_text(new, encoding="utf-8")
+        else:
+            are_same = compare(name, old, new) and are_same
+    if not are_same:
+        print("`docs/from_code.py write` writes the documents anew")
+    return 0 if are_same else 1
+
+
+if __name__ == "__main__":
+    sys.exit(main())
