@@ -200,6 +200,17 @@ fn answer_load(alloc: Global, load: &mut LoadByHand<Books>) -> anyhow::Result<()
     Ok(())
 }
 
+// Goes on with a load until its outcomes are there.
+fn finish_load(alloc: Global, load: &mut LoadByHand<Books>) -> anyhow::Result<Vec<Outcome>> {
+    for _round in 0..MOST_ROUNDS {
+        if let LoadAdvance::Loaded(outcomes) = load.advance()? {
+            return Ok(outcomes);
+        }
+        answer_load(alloc, load)?;
+    }
+    bail!("too many rounds")
+}
+
 // Keys that are loaded by hand: of equal keys only the first is asked for, here in batches of one.
 fn load_by_hand(alloc: Global, server: &Server) -> anyhow::Result<String> {
     let client = server.session(alloc, Some(1), |_line| Books)?;
@@ -210,15 +221,10 @@ fn load_by_hand(alloc: Global, server: &Server) -> anyhow::Result<String> {
     let other = Key::of_text(alloc, "7")?;
     let same = Key::of_text(alloc, "1")?;
     let mut load = client.load_by_hand(BOOK_BY_ID, vec![in alloc; one, other, same]?);
-    for _round in 0..MOST_ROUNDS {
-        if let LoadAdvance::Loaded(outcomes) = load.advance()? {
-            let client = load.into_client();
-            let asked = client.session().logs(BOOK_BY_ID).unwrap_or(&[]).len();
-            return Ok(format!(in alloc; "{} outcomes of {asked} batches", outcomes.len())?);
-        }
-        answer_load(alloc, &mut load)?;
-    }
-    bail!("too many rounds")
+    let outcomes = finish_load(alloc, &mut load)?;
+    let client = load.into_client();
+    let asked = client.session().logs(BOOK_BY_ID).unwrap_or(&[]).len();
+    Ok(format!(in alloc; "{} outcomes of {asked} batches", outcomes.len())?)
 }
 
 // A request in a session of its own.
