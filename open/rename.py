@@ -1167,7 +1167,7 @@ class Renaming:
         found = ["README.md", "CONTRIBUTING.md"]
         for folder in ("docs", "bench", "clients", "open"):
             found += [f"{folder}/{it}" for it in self.at._list(folder)]
-        ours = ("open/rename.py", "open/renames.txt", "open/renames.md", "open/comments.py", "open/comments.txt")
+        ours = ("open/rename.py", "open/renames.txt", "open/renaming.md", "open/comments.py", "open/comments.txt")
         ends = (".md", ".py", ".txt", ".sh", "build", "check")
         return sorted(it for it in found if it.endswith(ends) and it not in ours and os.path.isfile(f"{self.at.root}/{it}"))
 
