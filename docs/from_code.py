@@ -1,12 +1,19 @@
 #!/usr/bin/env python3
-"""Writes what the documents say by the code alone: docs/PROOFS.md, docs/FAULTS.md, docs/DEFINITIONS.md, and the tables of crates in
-docs/ARCHITECTURE.md.
+"""Writes what the documents say by the code alone: docs/PROOFS.md, docs/FAULTS.md, docs/DEFINITIONS.md, the tables of crates in
+docs/ARCHITECTURE.md, and what other documents quote.
 
     docs/from_code.py write      writes them
     docs/from_code.py compare    writes nothing; where one differs from what the code says, it prints how and exits with 1
 
 In each of these documents it writes what stands between the lines `<!-- from the code -->` and `<!-- by hand -->`, or up to the end where
 the second is missing. All else in them is written by hand, and stays.
+
+A line `<!-- quoted: WHAT: NAME; NAME -->` below the first of them says what a document quotes there. WHAT is one of these:
+
+- a file of `specs/`: definitions of it; or a file of `src/`: items of it
+- `calls`: the first sentences of the comments of calls, as `server::ClientSession::load`
+- `rules`: the queries that break the rules of a section of the GraphQL specification, from below `# Examples` in the rules' comments
+- `sections`: what the comments of functions say below a heading of theirs, as `# Headline`
 
 It reads `crates.txt` for the layers, and of each crate the first lines of `src/lib.rt` or `src/main.rt`, its public functions with their
 comments and the names of their clauses, its types of errors, and in `specs/` the public definitions with the comments above them."""
@@ -354,6 +361,96 @@ def write_crates() -> list[str]:
     return lines
 
 
+# ---- quotes
+
+QUOTED = re.compile(rf"^{BEGIN}\n<!-- quoted: (\S+): ([^\n]+) -->\n.*?^{END}\n", re.MULTILINE | re.DOTALL)
+
+
+def indent_of(line: str) -> int:
+    return len(line) - len(line.lstrip())
+
+
+def quoted_definition(lines: list[str], name: str) -> list[str]:
+    """A definition with its equations, or with all that it is defined with at the same time."""
+    named = re.compile(rf"(abbrev )?pub ((data|record) )?{re.escape(name)} ")
+    at = next(number for number, line in enumerate(lines) if named.match(line.lstrip()))
+    around = next(number for number in range(at, -1, -1) if lines[number] and indent_of(lines[number]) == 0)
+    if lines[around].endswith("mutual"):
+        ends = (number for number in range(around + 1, len(lines)) if lines[number] and indent_of(lines[number]) == 0)
+        return lines[around : next(ends, len(lines))]
+    ends = (number for number in range(at, len(lines)) if not lines[number] or indent_of(lines[number]) < indent_of(lines[at]))
+    return lines[at : next(ends, len(lines))]
+
+
+def quoted_item(lines: list[str], name: str) -> list[str]:
+    """A constant, or what ends with a brace: a function, a type or an `impl`."""
+    named = re.compile(rf"(pub )?((fn|const|struct|enum) {re.escape(name)}\b|{re.escape(name)} \{{)")
+    at = next(number for number, line in enumerate(lines) if named.match(line))
+    last = ";" if "const" in lines[at] else "}"
+    ends = (number for number in range(at, len(lines)) if lines[number] == last or (last == ";" and lines[number].endswith(last)))
+    return lines[at : next(ends) + 1]
+
+
+EXAMPLE = re.compile(r"\| `.+?` \| `(\d[\d.]*) .+ \|")
+
+
+def examples_of_rules(section: str) -> str:
+    """A table of the queries that break a rule of a section, from below `# Examples` in the comments of the rules' functions."""
+    rows: list[tuple[list[int], str]] = []
+    for crate in CRATES.values():
+        for function in (it for file in crate.sources for it in file.functions if "# Examples" in it.documents):
+            lines = list(function.documents)
+            text = " ".join(lines[lines.index("# Examples") + 1 :]).strip()
+            for example in re.sub(r" \| \| `", " |\n| `", text).split("\n"):
+                found = EXAMPLE.match(example)
+                if found and found.group(1).startswith(f"{section}."):
+                    rows.append(([int(part) for part in found.group(1).split(".")], example))
+    head = ["| Query | Message | Column | Instead |", "|---|---|---|---|"]
+    return "\n".join([*head, *(example for _, example in sorted(rows, key=lambda it: it[0]))])
+
+
+def section_table(name: str) -> str:
+    """A table of what the comments of functions say below a heading, the functions of a crate that say the same in one row."""
+    rows: list[tuple[str, str]] = []
+    for crate in CRATES.values():
+        by_text: ByText = {}
+        for function in (it for file in crate.sources for it in file.functions if f"# {name}" in it.documents):
+            lines = list(function.documents)
+            below = lines[lines.index(f"# {name}") + 1 :]
+            text = " ".join(line for line in below[: next((at for at, it in enumerate(below) if it.startswith("# ")), len(below))] if line)
+            by_text.setdefault(text, []).append(function.path)
+        rows += [(f"`{crate.name}`: {coded(paths)}", unlinked(text)) for text, paths in by_text.items()]
+    return "\n".join(table(("Call", name), rows)).rstrip("\n")
+
+
+def call_table(names: Iterable[str]) -> str:
+    """A table of calls, as `server::ClientSession::load`, with the first sentences of their comments."""
+    rows: list[tuple[str, str]] = []
+    for name in names:
+        crate, _, path = name.partition("::")
+        function = next(it for file in CRATES[crate].sources for it in file.functions if it.path == path and it.is_shown)
+        rows.append((f"`{path}`", first_sentence(function.documents)))
+    return "\n".join(table(("Call", "What it does"), rows)).rstrip("\n")
+
+
+def quote(found: re.Match[str]) -> str:
+    """The quoted code between its marker lines."""
+    path, names = found.group(1), found.group(2).split("; ")
+    marks = f"{BEGIN}\n<!-- quoted: {path}: {found.group(2)} -->\n"
+    if path == "rules":
+        return f"{marks}\n{examples_of_rules(names[0])}\n\n{END}\n"
+    if path == "calls":
+        return f"{marks}\n{call_table(names)}\n\n{END}\n"
+    if path == "sections":
+        return f"{marks}\n{section_table(names[0])}\n\n{END}\n"
+    lines = (TOP / path).read_text(encoding="utf-8").split("\n")
+    parts = []
+    for name in names:
+        part = quoted_item(lines, name) if path.endswith(".rt") else quoted_definition(lines, name)
+        parts.append("\n".join(f"    {line}" if line else "" for line in part).rstrip("\n"))
+    return marks + "\n" + "\n\n".join(parts) + f"\n\n{END}\n"
+
+
 # ---- writing and comparing
 
 WRITERS: dict[str, Callable[[], list[str]]] = {
@@ -362,10 +459,13 @@ WRITERS: dict[str, Callable[[], list[str]]] = {
     "DEFINITIONS.md": write_definitions,
     "ARCHITECTURE.md": write_crates,
 }
+QUOTING = ("C.md", "EMBEDDING.md", "HEADLINE.md", "LOADING.md", "VALIDATION.md")
 
 
 def written(name: str, old: str) -> str:
     """The document with what the code says between its marker lines."""
+    if name not in WRITERS:
+        return QUOTED.sub(quote, old)
     before, marker, rest = old.partition(BEGIN + "\n")
     if not marker:
         sys.exit(f"docs/{name} has no line `{BEGIN}`")
@@ -389,7 +489,7 @@ def main() -> int:
     parser.add_argument("what", choices=("write", "compare"))
     is_written = parser.parse_args().what == "write"
     are_same = True
-    for name in WRITERS:
+    for name in (*WRITERS, *QUOTING):
         old = (DOCS / name).read_text(encoding="utf-8")
         new = written(name, old)
         if is_written:

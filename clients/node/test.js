@@ -2,7 +2,7 @@
 //
 //     node --expose-gc test.js [--full]
 //
-// RUDZKVANO_QUERY_CLI is a query_cli to compare with, where that isn't crates/query_cli/out/query_cli. --full has the counts of docs/NODE.md.
+// RUDZKVANO_QUERY_CLI is a query_cli to compare with, where that isn't crates/query_cli/out/query_cli. --full has the counts of docs/TESTING.md.
 'use strict';
 
 require('./test/answers.js');

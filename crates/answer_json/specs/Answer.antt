@@ -6,8 +6,8 @@ use Rattle.json.specs.Print.{print}
 use Rattle.json.specs.Tree.{depth, json_tokens}
 use Rattle.text_place.specs.declared.place.Place.{Place}
 use Rattle.answer_json.specs.declared.response.FieldError.{FieldError}
-use Rattle.answer_json.specs.declared.response.PathPart.{PathPart}
-use Rattle.answer_json.specs.declared.response.PathPart.TheVariants.{Key, Item}
+use Rattle.answer_json.specs.declared.response.PathSegment.{PathSegment}
+use Rattle.answer_json.specs.declared.response.PathSegment.TheVariants.{Key, Item}
 use Rattle.answer_json.specs.declared.response.Response.{Response}
 use Rattle.answer_json.specs.Response.{response_json}
 
@@ -18,11 +18,11 @@ place_json p = object (member (codes "line") (number (decimal p.line)) (member (
 abbrev pub places_json : Place → Json
 places_json p = array (item (place_json p) no_items)
 
-abbrev pub part_json : PathPart → Json
+abbrev pub part_json : PathSegment → Json
 part_json (Key k) = string (string_bytes k)
 part_json (Item i) = number (decimal i)
 
-abbrev pub path_items : List PathPart → Items
+abbrev pub path_items : List PathSegment → Items
 path_items [] = no_items
 path_items (p ∷ ps) = item (part_json p) (path_items ps)
 

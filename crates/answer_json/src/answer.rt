@@ -6,7 +6,6 @@ ghost use Rattle.json.specs.Print.{print};
 ghost use Rattle.json.specs.Tree.{json_tokens};
 ghost use Rattle.answer_json.specs.Answer.{answer_json, request_error_json, refusal_json, json_text, ReadsBack};
 
-use crate::memory::NoMemory;
 use crate::put::{put_errors, put_places, put_response, put_text};
 use crate::response::{FieldError, Response};
 use gq_lexer::Place;
@@ -22,7 +21,8 @@ fn put_answer(
     response: &Response,
     errors: &[FieldError],
 ) -> Result<(), AllocError>
-    ensures ok { OnOk result (writer.new.tokens ≡ writer.old.tokens ++ json_tokens (answer_json response.now errors.now)) }
+    ensures ok { OnOk result (writer.new.tokens
+        ≡ writer.old.tokens ++ json_tokens (answer_json response.now errors.now)) }
     ensures before { writer.new.before ≡ writer.old.before }
 {
     writer.begin_object()?;
@@ -42,7 +42,8 @@ fn put_request_error(
     message: &str,
     place: Option<Place>,
 ) -> Result<(), AllocError>
-    ensures ok { OnOk result (writer.new.tokens ≡ writer.old.tokens ++ json_tokens (request_error_json message.now place)) }
+    ensures ok { OnOk result (writer.new.tokens
+        ≡ writer.old.tokens ++ json_tokens (request_error_json message.now place)) }
     ensures before { writer.new.before ≡ writer.old.before }
 {
     writer.begin_object()?;
@@ -55,7 +56,8 @@ fn put_request_error(
 
 /// Writes a refusal.
 fn put_refusal(writer: &mut Writer, message: &str, place: Option<Place>) -> Result<(), AllocError>
-    ensures ok { OnOk result (writer.new.tokens ≡ writer.old.tokens ++ json_tokens (refusal_json message.now place)) }
+    ensures ok { OnOk result
+        (writer.new.tokens ≡ writer.old.tokens ++ json_tokens (refusal_json message.now place)) }
     ensures before { writer.new.before ≡ writer.old.before }
 {
     writer.begin_object()?;
@@ -66,7 +68,7 @@ fn put_refusal(writer: &mut Writer, message: &str, place: Option<Place>) -> Resu
     writer.end_object()
 }
 
-/// What was written, as text.
+/// Returns what was written, as text.
 fn into_text(writer: Writer) -> String
     requires { writer.before ≡ [] }
     ensures text { string_bytes result ≡ print writer.tokens }
@@ -89,10 +91,12 @@ pub fn write_answer(
     alloc: Global,
     response: &Response,
     errors: &[FieldError],
-) -> Result<String, NoMemory>
-    ensures text { IfOk result (λ s. string_bytes s ≡ json_text (answer_json response.now errors.now)) }
+) -> Result<String, AllocError>
+    ensures text { IfOk result (λ s.
+        string_bytes s ≡ json_text (answer_json response.now errors.now)) }
     // A reader of JSON finds the same value, where its limit of nesting is not below the depth of the answer.
-    ensures reads_back { IfOk result (λ s. ReadsBack (answer_json response.now errors.now) (string_bytes s)) }
+    ensures reads_back { IfOk result (λ s.
+        ReadsBack (answer_json response.now errors.now) (string_bytes s)) }
 {
     let mut writer = Writer::new(Vec::with_capacity(alloc, FIRST_ROOM)?);
     put_answer(&mut writer, response, errors)?;
@@ -105,9 +109,14 @@ pub fn write_answer(
 /// # Errors
 ///
 /// Only when out of memory.
-pub fn write_refusal(alloc: Global, message: &str, place: Option<Place>) -> Result<String, NoMemory>
+pub fn write_refusal(
+    alloc: Global,
+    message: &str,
+    place: Option<Place>,
+) -> Result<String, AllocError>
     ensures text { IfOk result (λ s. string_bytes s ≡ json_text (refusal_json message.now place)) }
-    ensures reads_back { IfOk result (λ s. ReadsBack (refusal_json message.now place) (string_bytes s)) }
+    ensures reads_back { IfOk result (λ s.
+        ReadsBack (refusal_json message.now place) (string_bytes s)) }
 {
     let mut writer = Writer::new(Vec::with_capacity(alloc, FIRST_ROOM)?);
     put_refusal(&mut writer, message, place)?;

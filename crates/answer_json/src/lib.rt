@@ -6,10 +6,8 @@
 #![tactic(auto)]
 
 mod answer;
-mod memory;
 mod put;
 mod response;
 
 pub use answer::{write_answer, write_refusal};
-pub use memory::NoMemory;
-pub use response::{FieldError, PathPart, Response};
+pub use response::{FieldError, PathSegment, Response};

@@ -6,7 +6,7 @@ ghost use Rattle.json.specs.Tree.{json_tokens, items_tokens, members_tokens};
 ghost use Rattle.answer_json.specs.Response.{response_json, items_json, members_json};
 ghost use Rattle.answer_json.specs.Answer.{place_json, places_json, error_json, errors_items, path_items};
 
-use crate::response::{FieldError, PathPart, Response};
+use crate::response::{FieldError, PathSegment, Response};
 use gq_lexer::Place;
 use json::Writer;
 use std::alloc::AllocError;
@@ -14,7 +14,8 @@ use std::alloc::AllocError;
 /// Writes a response.
 #[cycle(response)]
 pub fn put_response(writer: &mut Writer, response: &Response) -> Result<(), AllocError>
-    ensures ok { OnOk result (writer.new.tokens ≡ writer.old.tokens ++ json_tokens (response_json response.now)) }
+    ensures ok { OnOk result
+        (writer.new.tokens ≡ writer.old.tokens ++ json_tokens (response_json response.now)) }
     ensures before { writer.new.before ≡ writer.old.before }
 {
     match response {
@@ -36,7 +37,8 @@ pub fn put_response(writer: &mut Writer, response: &Response) -> Result<(), Allo
 /// Writes the items of a list and its end.
 #[cycle(response)]
 fn put_items(writer: &mut Writer, items: &Vec<Response>) -> Result<(), AllocError>
-    ensures ok { OnOk result (writer.new.tokens ≡ writer.old.tokens ++ items_tokens (items_json items.now.items)) }
+    ensures ok { OnOk result
+        (writer.new.tokens ≡ writer.old.tokens ++ items_tokens (items_json items.now.items)) }
     ensures before { writer.new.before ≡ writer.old.before }
 {
     for item in items {
@@ -48,7 +50,8 @@ fn put_items(writer: &mut Writer, items: &Vec<Response>) -> Result<(), AllocErro
 /// Writes the members of an object and its end.
 #[cycle(response)]
 fn put_members(writer: &mut Writer, members: &Vec<(String, Response)>) -> Result<(), AllocError>
-    ensures ok { OnOk result (writer.new.tokens ≡ writer.old.tokens ++ members_tokens (members_json members.now.items)) }
+    ensures ok { OnOk result
+        (writer.new.tokens ≡ writer.old.tokens ++ members_tokens (members_json members.now.items)) }
     ensures before { writer.new.before ≡ writer.old.before }
 {
     for (name, member) in members {
@@ -60,7 +63,8 @@ fn put_members(writer: &mut Writer, members: &Vec<(String, Response)>) -> Result
 
 /// Writes a member that is a number.
 fn put_number(writer: &mut Writer, name: &str, value: u32) -> Result<(), AllocError>
-    ensures ok { OnOk result (writer.new.tokens ≡ writer.old.tokens ++ key name.now ∷ number (decimal value) ∷ []) }
+    ensures ok { OnOk result
+        (writer.new.tokens ≡ writer.old.tokens ++ key name.now ∷ number (decimal value) ∷ []) }
     ensures before { writer.new.before ≡ writer.old.before }
 {
     writer.key(name)?;
@@ -69,7 +73,8 @@ fn put_number(writer: &mut Writer, name: &str, value: u32) -> Result<(), AllocEr
 
 /// Writes a member that is a string.
 pub fn put_text(writer: &mut Writer, name: &str, text: &str) -> Result<(), AllocError>
-    ensures ok { OnOk result (writer.new.tokens ≡ writer.old.tokens ++ key name.now ∷ string text.now ∷ []) }
+    ensures ok { OnOk result
+        (writer.new.tokens ≡ writer.old.tokens ++ key name.now ∷ string text.now ∷ []) }
     ensures before { writer.new.before ≡ writer.old.before }
 {
     writer.key(name)?;
@@ -78,7 +83,8 @@ pub fn put_text(writer: &mut Writer, name: &str, text: &str) -> Result<(), Alloc
 
 /// Writes a place.
 fn put_place(writer: &mut Writer, place: Place) -> Result<(), AllocError>
-    ensures ok { OnOk result (writer.new.tokens ≡ writer.old.tokens ++ json_tokens (place_json place)) }
+    ensures ok { OnOk result
+        (writer.new.tokens ≡ writer.old.tokens ++ json_tokens (place_json place)) }
     ensures before { writer.new.before ≡ writer.old.before }
 {
     writer.begin_object()?;
@@ -89,7 +95,8 @@ fn put_place(writer: &mut Writer, place: Place) -> Result<(), AllocError>
 
 /// Writes the member of a place.
 pub fn put_places(writer: &mut Writer, place: Place) -> Result<(), AllocError>
-    ensures ok { OnOk result (writer.new.tokens ≡ writer.old.tokens ++ key (codes "locations") ∷ json_tokens (places_json place)) }
+    ensures ok { OnOk result (writer.new.tokens
+        ≡ writer.old.tokens ++ key (codes "locations") ∷ json_tokens (places_json place)) }
     ensures before { writer.new.before ≡ writer.old.before }
 {
     writer.key("locations")?;
@@ -99,14 +106,15 @@ pub fn put_places(writer: &mut Writer, place: Place) -> Result<(), AllocError>
 }
 
 /// Writes the parts of a path and its end.
-fn put_path(writer: &mut Writer, path: &Vec<PathPart>) -> Result<(), AllocError>
-    ensures ok { OnOk result (writer.new.tokens ≡ writer.old.tokens ++ items_tokens (path_items path.now.items)) }
+fn put_path(writer: &mut Writer, path: &Vec<PathSegment>) -> Result<(), AllocError>
+    ensures ok { OnOk result
+        (writer.new.tokens ≡ writer.old.tokens ++ items_tokens (path_items path.now.items)) }
     ensures before { writer.new.before ≡ writer.old.before }
 {
     for part in path {
         match part {
-            PathPart::Key(key) => writer.string(key.as_str())?,
-            PathPart::Item(index) => writer.u64(*index as u64)?,
+            PathSegment::Key(key) => writer.string(key.as_str())?,
+            PathSegment::Item(index) => writer.u64(*index as u64)?,
         }
     }
     writer.end_array()
@@ -114,7 +122,8 @@ fn put_path(writer: &mut Writer, path: &Vec<PathPart>) -> Result<(), AllocError>
 
 /// Writes a field error.
 fn put_error(writer: &mut Writer, error: &FieldError) -> Result<(), AllocError>
-    ensures ok { OnOk result (writer.new.tokens ≡ writer.old.tokens ++ json_tokens (error_json error.now)) }
+    ensures ok { OnOk result
+        (writer.new.tokens ≡ writer.old.tokens ++ json_tokens (error_json error.now)) }
     ensures before { writer.new.before ≡ writer.old.before }
 {
     writer.begin_object()?;
@@ -128,7 +137,8 @@ fn put_error(writer: &mut Writer, error: &FieldError) -> Result<(), AllocError>
 
 /// Writes field errors and the end of their list.
 pub fn put_errors(writer: &mut Writer, errors: &[FieldError]) -> Result<(), AllocError>
-    ensures ok { OnOk result (writer.new.tokens ≡ writer.old.tokens ++ items_tokens (errors_items errors.now)) }
+    ensures ok { OnOk result
+        (writer.new.tokens ≡ writer.old.tokens ++ items_tokens (errors_items errors.now)) }
     ensures before { writer.new.before ≡ writer.old.before }
 {
     for error in errors {

@@ -1,4 +1,4 @@
-//! What an answer is written from.
+//! Responses, from which answers are written.
 
 use gq_lexer::Place;
 
@@ -20,12 +20,12 @@ pub struct FieldError {
     /// The place of the first field of its group in the document.
     pub place: Place,
     /// The response keys and the places in lists from `data` down to the field.
-    pub path: Vec<PathPart>,
+    pub path: Vec<PathSegment>,
 }
 
 /// One step of a path.
 #[derive(Debug, Drop)]
-pub enum PathPart {
+pub enum PathSegment {
     /// A response key.
     Key(String),
     /// A place in a list, from 0.

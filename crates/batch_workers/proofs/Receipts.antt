@@ -1,4 +1,4 @@
--- What the receipts of workers are to the run whose round is out.
+-- Lemmas on what the receipts of workers are to the run whose round is out.
 use Rattle.std.proofs.Common.{◌≡◌, List, [], ◌∷◌, map, length, Result, Ok, Err, subst, arith}
 use Rattle.std.specs.Prelude.{OnOk, OnErr}
 use Rattle.std.proofs.lemmas.List.{length-map}
@@ -17,7 +17,7 @@ use Rattle.execution.proofs.StoreLaws.{reply-ran}
 use Rattle.round_workers.specs.Round.{EachShown, AllAnswered, HaveLoaders}
 use Rattle.round_workers.proofs.Orders.{in_order}
 use Rattle.load_rounds.specs.Sessions.{StateOf, rules_of}
-use Rattle.load_rounds.specs.Runs.{AreReceived, front_in, orders_in}
+use Rattle.load_rounds.specs.ByHand.{AreReceived, front_in, orders_in}
 use Rattle.load_rounds.proofs.Numbering.{orders-below, orders-loads}
 
 module _ {S : Type 0} (may : S → List KeyOf → AnswerOf → Type 0) (loaders : List (LoaderOf S)) (shelf : Shelf) where
@@ -44,7 +44,7 @@ have-loaders s p =
     let below = orders-below 0 (length s.loaders) rules (λ m. keys_for m (front_in s p)) (omega (arith, length-map s.loaders rule_of)) in
     rw (← orders-loads 0 rules (front_in s p)) below
 
--- what holds of the run that a call leaves
+-- a property of the run that a call leaves
 pub ok-run : {X T E : Type 0} (F : X → Type 0) (r : Result T E) (new run : X) → F new → OnOk r (new ≡ run) → OnOk r (F run)
 ok-run F (Ok x) new run h is = subst F is h
 ok-run F (Err e) new run h is = tt

@@ -1,4 +1,4 @@
--- How many workers there may be, and what they don't change.
+-- Definitions of how many workers there may be, and what they don't change.
 use Rattle.std.specs.Prelude.{◌≡◌, ◌<◌, ◌⊎◌, ℕ, List, string_bytes}
 use Rattle.load_memory.specs.Keys.{KeyOf}
 use Rattle.load_queue.specs.Answers.{AnswerOf}
@@ -6,11 +6,11 @@ use Rattle.execution.specs.Program.{Program}
 use Rattle.execution.specs.Completion.{AnsweredOf}
 use Rattle.load_rounds.specs.Sessions.{SessionOf, StateOf, state_of}
 use Rattle.load_rounds.specs.Headline.{Headline, StopsAnswering}
-use Rattle.load_rounds.specs.Runs.{IsRun}
+use Rattle.load_rounds.specs.ByHand.{IsRun}
 use Rattle.load_rounds.specs.SharedRounds.{joint}
 use Rattle.load_rounds.specs.SharedRuns.{RunAllOf, IsRunAll}
 use Rattle.load_rounds.specs.declared.answer.Answer.{Answer}
-use Rattle.load_rounds.specs.declared.run.Stage.TheVariants.{Ready, Out}
+use Rattle.load_rounds.specs.declared.by_hand.Stage.TheVariants.{Ready, Out}
 
 -- a number of workers that is refused
 abbrev pub IsBadCount : ℕ → Type 0
@@ -20,20 +20,30 @@ IsBadCount workers = (workers ≡ 0) ⊎ (16 < workers)
 -- memory and logs after them.
 abbrev pub ChangeNothing : {S : Type 0} → (S → List KeyOf → AnswerOf → Type 0) → Type 0
 ChangeNothing {S} may = (old turned worked : StateOf S) (p : Program) (text_of : AnsweredOf → List ℕ) (turn work : Answer)
-    → Headline may old turned p text_of (string_bytes turn.text) turn.rounds → Headline may old worked p text_of (string_bytes work.text) work.rounds
-    → (string_bytes work.text ≡ string_bytes turn.text) × (work.rounds ≡ turn.rounds) × (worked ≡ turned)
+    → Headline may old turned p text_of (string_bytes turn.text) turn.rounds
+    → Headline may old worked p text_of (string_bytes work.text) work.rounds
+    → (string_bytes work.text ≡ string_bytes turn.text)
+    × (work.rounds ≡ turn.rounds) × (worked ≡ turned)
 
 -- When memory ran out, the finished rounds of a session stay, and perhaps one more was lost.
-abbrev pub Stops : {S : Type 0} → (S → List KeyOf → AnswerOf → Type 0) → SessionOf S → SessionOf S → Program → Type 0
+abbrev pub Stops : {S : Type 0} → (S → List KeyOf → AnswerOf → Type 0)
+    → SessionOf S → SessionOf S → Program → Type 0
 Stops may old new p = StopsAnswering may (state_of old) (state_of new) p
 
 -- No public clause names them. From whichever state a run was begun: its round that was out is stored; or it is lost.
-abbrev pub StoresRound : {S : Type 0} → (S → List KeyOf → AnswerOf → Type 0) → Program → StateOf S → StateOf S → ℕ → Type 0
-StoresRound {S} may p old new rounds = (begun : StateOf S) → IsRun may p begun old rounds Out → IsRun may p begun new rounds Ready
+abbrev pub StoresRound : {S : Type 0} → (S → List KeyOf → AnswerOf → Type 0)
+    → Program → StateOf S → StateOf S → ℕ → Type 0
+StoresRound {S} may p old new rounds = (begun : StateOf S)
+    → IsRun may p begun old rounds Out → IsRun may p begun new rounds Ready
 
-abbrev pub LosesRound : {S : Type 0} → (S → List KeyOf → AnswerOf → Type 0) → Program → StateOf S → StateOf S → ℕ → Type 0
-LosesRound {S} may p old new rounds = (begun : StateOf S) → IsRun may p begun old rounds Out → StopsAnswering may begun new p
+abbrev pub LosesRound : {S : Type 0} → (S → List KeyOf → AnswerOf → Type 0)
+    → Program → StateOf S → StateOf S → ℕ → Type 0
+LosesRound {S} may p old new rounds = (begun : StateOf S)
+    → IsRun may p begun old rounds Out → StopsAnswering may begun new p
 
--- the same of a run of several plans, whose round is lost
-abbrev pub LosesShared : {S P E : Type 0} → (P → Program) → (P → AnsweredOf → List ℕ) → (S → List KeyOf → AnswerOf → Type 0) → StateOf S → StateOf S → RunAllOf P E → Type 0
-LosesShared {S} program text_of may old new run = (begun : StateOf S) → IsRunAll program text_of may begun old run → StopsAnswering may begun new (joint program text_of run.plans)
+-- says the same of a run of several plans, whose round is lost
+abbrev pub LosesShared : {S P E : Type 0} → (P → Program) → (P → AnsweredOf → List ℕ)
+    → (S → List KeyOf → AnswerOf → Type 0) → StateOf S → StateOf S → RunAllOf P E → Type 0
+LosesShared {S} program text_of may old new run = (begun : StateOf S)
+    → IsRunAll program text_of may begun old run
+    → StopsAnswering may begun new (joint program text_of run.plans)

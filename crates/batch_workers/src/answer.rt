@@ -1,17 +1,22 @@
 //! Answers with workers: round after round until nothing is missing, each by workers over a shelf of its own.
+//!
+//! An answer is a run by hand of `load_rounds`, which starts no threads, and takes the session's allocator. A
+//! shelf goes with its round, so that no receipt of an earlier round is on it; the memory copies outcomes from
+//! it.
 ghost use Rattle.std.specs.Prelude.{◌≡◌, ◌<◌, ◌≤◌, ◌↔◌, length, IfOk, OnOk, OnErr, IsErrOf};
 ghost use Rattle.execution.specs.Executes.{GrowsTo};
 ghost use Rattle.load_rounds.specs.Sessions.{state_of, memory_of};
 ghost use Rattle.load_rounds.specs.Headline.{HasHeadline};
-ghost use Rattle.load_rounds.specs.Runs.{run_of, orders_in, IsAsked};
+ghost use Rattle.load_rounds.specs.ByHand.{run_of, orders_in, IsAsked};
 ghost use Rattle.batch_workers.specs.Workers.{IsBadCount, Stops, StoresRound, LosesRound};
 
 use crate::fault::WorkFault;
-use load_memory::{NoMemory, Shelf};
+use load_memory::Shelf;
 use load_queue::{Order, Source};
-use load_rounds::{Answer, Execute, Next, Run, Session, Stage};
+use load_rounds::{Answer, Execute, Next, RoundsByHand, Session, Stage};
 use round_workers::round::MOST_WORKERS;
 use round_workers::run_round;
+use std::alloc::AllocError;
 use std::sync::Wait;
 use std::thread::Threads;
 
@@ -19,11 +24,19 @@ use std::thread::Threads;
 /// this many workers at the same time, 1 to 16. The calling thread is one of them, and a round of one batch starts no thread.
 /// All workers have ended when it returns.
 ///
+/// What a call requires has a lifetime in it, and the prover doesn't always find by itself that threads may
+/// share the sources. Such a call has a proof of one line (`answer_with-requires`).
+///
 /// # Errors
 ///
 /// [`BadCount`](WorkFault::BadCount) exactly if the number of workers isn't 1 to 16: nothing was asked then, and the session is
 /// as it was, failed batches too. [`NoMemory`](WorkFault::NoMemory) when out of memory: the finished rounds stay, and a round
 /// that was out is lost.
+///
+/// # Headline
+///
+/// `answer`; out of memory, `stopped`; any number of workers but 1 to 16 is refused, and nothing changes
+/// (`bad_count`, `refused`)
 pub fn answer_with<'p, S: Source, E: Drop, P: Execute<'p, E>, R: Threads + Wait + Sync>(
     rt: &R,
     session: &mut Session<S>,
@@ -41,19 +54,19 @@ pub fn answer_with<'p, S: Source, E: Drop, P: Execute<'p, E>, R: Threads + Wait 
     if workers == 0 || workers > MOST_WORKERS {
         return Err(WorkFault::BadCount);
     }
-    match answered(rt, session, plan, workers) {
+    match answer_in_rounds(rt, session, plan, workers) {
         Ok(answer) => Ok(answer),
         Err(_) => Err(WorkFault::NoMemory),
     }
 }
 
 // Makes round after round until nothing is missing, over one execution of the plan.
-fn answered<'p, S: Source, E: Drop, P: Execute<'p, E>, R: Threads + Wait + Sync>(
+fn answer_in_rounds<'p, S: Source, E: Drop, P: Execute<'p, E>, R: Threads + Wait + Sync>(
     rt: &R,
     session: &mut Session<S>,
     plan: &'p P,
     workers: usize,
-) -> Result<Answer, NoMemory>
+) -> Result<Answer, AllocError>
     requires count { (0 < workers) × (workers ≤ 16) }
     requires loaders { P.loaders plan.now ≤ length session.old.loaders }
     ensures answer { IfOk result (HasHeadline S.may_answer (state_of session.old) (state_of session.new)
@@ -75,10 +88,10 @@ fn answered<'p, S: Source, E: Drop, P: Execute<'p, E>, R: Threads + Wait + Sync>
 fn make_round<'p, S: Source, E, P: Execute<'p, E>, R: Threads + Wait + Sync>(
     rt: &R,
     session: &mut Session<S>,
-    run: &mut Run<'p, P>,
+    run: &mut RoundsByHand<'p, P>,
     orders: Vec<Order>,
     workers: usize,
-) -> Result<(), NoMemory>
+) -> Result<(), AllocError>
     requires count { (0 < workers) × (workers ≤ 16) }
     requires out { run.old.stage ≡ Stage.Out }
     requires latest { IsAsked (P.program run.old.plan) (state_of session.old) }

@@ -1,17 +1,18 @@
 //! Answers to several plans with workers: round after round that the plans share, each by workers over a shelf of its own.
 ghost use Rattle.std.specs.Prelude.{◌≡◌, ◌<◌, ◌≤◌, ◌↔◌, All, length, IfOk, OnOk, OnErr, IsErrOf};
 ghost use Rattle.load_rounds.specs.Sessions.{state_of, memory_of};
-ghost use Rattle.load_rounds.specs.Runs.{orders_in, IsAsked};
+ghost use Rattle.load_rounds.specs.ByHand.{orders_in, IsAsked};
 ghost use Rattle.load_rounds.specs.SharedRounds.{requests, joint, AreAnswers};
 ghost use Rattle.load_rounds.specs.SharedRuns.{FitsRun, FitsLater, GoesOnFrom};
 ghost use Rattle.batch_workers.specs.Workers.{IsBadCount, Stops, LosesShared};
 
 use crate::fault::WorkFault;
-use load_memory::{NoMemory, Shelf};
+use load_memory::Shelf;
 use load_queue::{Order, Source};
-use load_rounds::{Answer, Execute, NextAll, RunAll, Session, Stage};
+use load_rounds::{AllRoundsByHand, Answer, Execute, NextAll, Session, Stage};
 use round_workers::round::MOST_WORKERS;
 use round_workers::run_round;
+use std::alloc::AllocError;
 use std::sync::Wait;
 use std::thread::Threads;
 
@@ -24,6 +25,10 @@ use std::thread::Threads;
 /// [`BadCount`](WorkFault::BadCount) exactly if the number of workers isn't 1 to 16: nothing was asked then, and the session is
 /// as it was, failed batches too. [`NoMemory`](WorkFault::NoMemory) when out of memory: the finished rounds stay, and a round
 /// that was out is lost.
+///
+/// # Headline
+///
+/// `answers`, `stopped`, `bad_count` and `refused`, as `answer_with`
 pub fn answer_all_with<'p, S: Source, E: Drop, P: Execute<'p, E>, R: Threads + Wait + Sync>(
     rt: &R,
     session: &mut Session<S>,
@@ -33,30 +38,33 @@ pub fn answer_all_with<'p, S: Source, E: Drop, P: Execute<'p, E>, R: Threads + W
     requires loaders { All (λ plan. P.loaders plan ≤ length session.old.loaders) plans.now }
     ensures bad_count { IsErrOf result WorkFault.BadCount ↔ IsBadCount workers }
     ensures refused { IsErrOf result WorkFault.BadCount → session.new ≡ session.old }
-    ensures answers { IfOk result (AreAnswers S.may_answer (state_of session.old) (state_of session.new) (requests P.program P.text_of plans.now)) }
+    ensures answers { IfOk result (AreAnswers S.may_answer (state_of session.old)
+        (state_of session.new) (requests P.program P.text_of plans.now)) }
     ensures stopped { IsErrOf result WorkFault.NoMemory
         → Stops S.may_answer session.old session.new (joint P.program P.text_of plans.now) }
 {
     if workers == 0 || workers > MOST_WORKERS {
         return Err(WorkFault::BadCount);
     }
-    match answered(rt, session, plans, workers) {
+    match answer_all_in_rounds(rt, session, plans, workers) {
         Ok(answers) => Ok(answers),
         Err(_) => Err(WorkFault::NoMemory),
     }
 }
 
 // Makes round after round until nothing is missing for any plan.
-fn answered<'p, S: Source, E: Drop, P: Execute<'p, E>, R: Threads + Wait + Sync>(
+fn answer_all_in_rounds<'p, S: Source, E: Drop, P: Execute<'p, E>, R: Threads + Wait + Sync>(
     rt: &R,
     session: &mut Session<S>,
     plans: &'p [P],
     workers: usize,
-) -> Result<Vec<Answer>, NoMemory>
+) -> Result<Vec<Answer>, AllocError>
     requires count { (0 < workers) × (workers ≤ 16) }
     requires loaders { All (λ plan. P.loaders plan ≤ length session.old.loaders) plans.now }
-    ensures answers { IfOk result (AreAnswers S.may_answer (state_of session.old) (state_of session.new) (requests P.program P.text_of plans.now)) }
-    ensures stopped { OnErr result (Stops S.may_answer session.old session.new (joint P.program P.text_of plans.now)) }
+    ensures answers { IfOk result (AreAnswers S.may_answer (state_of session.old)
+        (state_of session.new) (requests P.program P.text_of plans.now)) }
+    ensures stopped { OnErr result
+        (Stops S.may_answer session.old session.new (joint P.program P.text_of plans.now)) }
 {
     let mut run = session.begin_all(plans)?;
     loop {
@@ -71,19 +79,23 @@ fn answered<'p, S: Source, E: Drop, P: Execute<'p, E>, R: Threads + Wait + Sync>
 fn make_round<'p, S: Source, E: Drop, P: Execute<'p, E>, R: Threads + Wait + Sync>(
     rt: &R,
     session: &mut Session<S>,
-    run: &mut RunAll<'p, P, E>,
+    run: &mut AllRoundsByHand<'p, P, E>,
     orders: Vec<Order>,
     workers: usize,
-) -> Result<(), NoMemory>
+) -> Result<(), AllocError>
     requires count { (0 < workers) × (workers ≤ 16) }
     requires out { run.old.stage ≡ Stage.Out }
     requires latest { IsAsked (joint P.program P.text_of run.old.plans) (state_of session.old) }
-    requires orders { orders.items ≡ orders_in (state_of session.old) (joint P.program P.text_of run.old.plans) }
+    requires orders { orders.items
+        ≡ orders_in (state_of session.old) (joint P.program P.text_of run.old.plans) }
     requires fits { FitsLater P.program P.text_of P.loaders P.fits run.old (memory_of session.old) }
     ensures ready { OnOk result (run.new ≡ record run.old { stage = Stage.Ready }) }
-    ensures made { OnOk result (GoesOnFrom P.program P.text_of S.may_answer (state_of session.old) (state_of session.new) run.old run.new) }
-    ensures fits { OnOk result (FitsRun P.program P.text_of P.loaders P.fits run.new (memory_of session.new)) }
-    ensures lost { OnErr result (LosesShared P.program P.text_of S.may_answer (state_of session.old) (state_of session.new) run.old) }
+    ensures made { OnOk result (GoesOnFrom P.program P.text_of S.may_answer
+        (state_of session.old) (state_of session.new) run.old run.new) }
+    ensures fits { OnOk result
+        (FitsRun P.program P.text_of P.loaders P.fits run.new (memory_of session.new)) }
+    ensures lost { OnErr result (LosesShared P.program P.text_of
+        S.may_answer (state_of session.old) (state_of session.new) run.old) }
 {
     let alloc = *orders.allocator();
     let shelf = Shelf::new(alloc)?;

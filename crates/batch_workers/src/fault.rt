@@ -1,7 +1,7 @@
-//! Why there is no answer with workers.
+//! Faults: why there is no answer with workers.
 use thiserror::Error;
 
-/// Why there is no answer with workers.
+/// Says why there is no answer with workers.
 #[derive(Clone, Copy, Debug, PartialEq, Eq, Error)]
 pub enum WorkFault {
     /// The number of workers is not 1 to 16.

@@ -1,4 +1,4 @@
-//! What holds of answers with workers. The function does nothing: its contract is the law.
+//! Laws of answers with workers. The function does nothing: its contract is the law.
 ghost use Rattle.load_rounds.specs.SharedKeyByKey.{AreAnsweredAlike};
 ghost use Rattle.batch_workers.specs.Workers.{ChangeNothing};
 

@@ -22,7 +22,7 @@ cut_some mark (x ∷ xs) ys h =
     let parts = has_none mark x xs h in
     rw (ne_eqb x mark parts.0, cut_some mark xs ys parts.1) refl
 
--- what `split_once` gives
+-- the result of `split_once` is the cut at the first such mark
 pub cut_from : (mark : ℕ) (bs : Text) (r : Option (Bor Text × Bor Text)) → IsSplitOnceResult mark bs r → mark < 128 → option_map (λ p. (p.0.now, p.1.now)) r ≡ cut_at mark bs
 cut_from mark bs None h ascii = sym (cut_none mark bs (split_parts mark bs None h ascii))
 cut_from mark bs (Some p) h ascii =
@@ -109,7 +109,7 @@ unreturned_same (b ∷ []) h =
     ]
 unreturned_same (b ∷ c ∷ bs) h = ap (λ l. b ∷ l) (unreturned_same (c ∷ bs) (λ front e. h (b ∷ front) (ap (λ l. b ∷ l) e)))
 
--- what `strip_suffix` gives
+-- the result of `strip_suffix`, or else the line, is the line without its return
 pub unreturned_from : (line : Bor Text) (r : Option (Bor Text)) → MatchOption r ((front : Text) → line.now ≢ front ++ 13 ∷ []) (λ x. line.now ≡ x.now ++ 13 ∷ []) → (unwrap_or r line).now ≡ unreturned line.now
 unreturned_from line None h = sym (unreturned_same line.now h)
 unreturned_from line (Some x) h = sym (ap unreturned h ∙ unreturned-push x.now)

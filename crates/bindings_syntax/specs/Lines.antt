@@ -20,7 +20,8 @@ abbrev pub begins_with_line_feed : Text → Bool
 begins_with_line_feed [] = false
 begins_with_line_feed (b ∷ bs) = b == line_feed
 
--- Each line ends at a line feed or at the end of the text, and a last line feed begins no further line. A carriage return right before a line feed belongs to the line's end.
+-- Each line ends at a line feed or at the end of the text, and a last line feed begins no further line. A carriage
+-- return right before a line feed belongs to the line's end.
 abbrev pub statement_lines : Text → List Text
 statement_lines [] = []
 statement_lines (b ∷ bs) =

@@ -1,13 +1,13 @@
--- What contracts see of the statements that were read.
+-- Definitions of what contracts see of the statements that were read.
 use Rattle.std.specs.Prelude.{List, [], ◌∷◌, map, option_map}
 use Rattle.bindings_syntax.specs.declared.statement.By.{By}
 use Rattle.bindings_syntax.specs.declared.statement.KeyPart.{KeyPart}
 use Rattle.bindings_syntax.specs.declared.statement.KeyPart.TheVariants as part
-use Rattle.bindings_syntax.specs.declared.statement.Step.{Step}
-use Rattle.bindings_syntax.specs.declared.statement.Steps.{Steps}
-use Rattle.bindings_syntax.specs.declared.statement.Steps.TheVariants as steps
-use Rattle.bindings_syntax.specs.declared.statement.KeySource.{KeySource}
-use Rattle.bindings_syntax.specs.declared.statement.KeySource.TheVariants as source
+use Rattle.bindings_syntax.specs.declared.statement.ViaWords.{ViaWords}
+use Rattle.bindings_syntax.specs.declared.statement.ViaLoaders.{ViaLoaders}
+use Rattle.bindings_syntax.specs.declared.statement.ViaLoaders.TheVariants as steps
+use Rattle.bindings_syntax.specs.declared.statement.KeyWords.{KeyWords}
+use Rattle.bindings_syntax.specs.declared.statement.KeyWords.TheVariants as source
 use Rattle.bindings_syntax.specs.declared.statement.Form.{Form}
 use Rattle.bindings_syntax.specs.declared.statement.Form.TheVariants as form
 use Rattle.bindings_syntax.specs.declared.statement.Statement.{Statement}
@@ -24,16 +24,16 @@ abbrev pub part_seen : KeyPart → PartOf
 part_seen (part.Argument name) = argument_part name.now
 part_seen (part.Column name) = column_part name.now
 
-abbrev pub key_seen : KeySource → KeyOf
+abbrev pub key_seen : KeyWords → KeyOf
 key_seen (source.Argument name) = from_argument name.now
 key_seen (source.Column name) = from_column name.now
 key_seen source.All = from_all
 key_seen (source.Pair one two) = from_pair (part_seen one) (part_seen two)
 
-abbrev pub step_seen : Step → StepOf
+abbrev pub step_seen : ViaWords → StepOf
 step_seen step = (step.loader.now, step.column.now)
 
-abbrev pub steps_seen : Steps → List StepOf
+abbrev pub steps_seen : ViaLoaders → List StepOf
 steps_seen (steps.One first) = step_seen first ∷ []
 steps_seen (steps.Two first second) = step_seen first ∷ step_seen second ∷ []
 steps_seen (steps.Three first second third) = step_seen first ∷ step_seen second ∷ step_seen third ∷ []

@@ -15,7 +15,7 @@ pub data PartOf : Type 0 where
   argument_part : Text → PartOf
   column_part : Text → PartOf
 
--- where a field takes its keys from
+-- says where a field takes its keys from
 pub data KeyOf : Type 0 where
   from_argument : Text → KeyOf
   from_column : Text → KeyOf
@@ -26,7 +26,7 @@ pub data KeyOf : Type 0 where
 abbrev pub StepOf : Type 0
 StepOf = Text × Text
 
--- how a field is answered
+-- says how a field is answered
 pub data FormOf : Type 0 where
   to_column : (column : Text) → FormOf
   to_one : (loader : Text) (key : KeyOf) → FormOf
@@ -48,7 +48,7 @@ abbrev pub version_of : List Text → Option Version
 version_of (word ∷ number ∷ []) = if bytes_eq word (codes "bindings") then version_number number else None
 version_of words = None
 
--- what only version 2 has
+-- gives what only version 2 has
 abbrev pub in_two : {X : Type 0} → Version → Option X → Option X
 in_two version.One x = None
 in_two version.Two x = x
@@ -129,7 +129,7 @@ more_steps (loader ∷ column ∷ []) = Some ((loader, column) ∷ [])
 more_steps (loader ∷ column ∷ last ∷ its_column ∷ []) = Some ((loader, column) ∷ (last, its_column) ∷ [])
 more_steps words = None
 
--- what may stand after the first LOADER COLUMN: in version 1 nothing
+-- gives what may stand after the first LOADER COLUMN: in version 1 nothing
 abbrev pub further_of : Version → List Text → Option (List StepOf)
 further_of version.One [] = Some []
 further_of version.One (word ∷ words) = None
@@ -152,7 +152,7 @@ abbrev pub each_of : Text → List Text → Option FormOf
 each_of loader (word ∷ name ∷ []) = if bytes_eq word (codes "arg") then Some (to_each loader name) else None
 each_of loader words = None
 
--- what stands behind `one`, `many`, `each` and `via`: LOADER first
+-- gives what stands behind `one`, `many`, `each` and `via`: LOADER first
 abbrev pub loaded_of : Version → Text → Text → List Text → Option FormOf
 loaded_of v kind loader words =
     if bytes_eq kind (codes "one") then option_map (λ key. to_one loader key) (lone_key v words)

@@ -7,26 +7,26 @@ ghost use Rattle.bindings_syntax.specs.declared.statement.Version.TheVariants.{T
 ghost use Rattle.bindings_syntax.specs.Seen.{by_seen, part_seen, key_seen, step_seen, steps_seen, form_seen, statement_seen};
 
 use crate::cut::cut;
-use crate::statement::{By, Form, KeyPart, KeySource, Statement, Step, Steps, Version};
-use crate::words::Words;
+use crate::line_words::LineWords;
+use crate::statement::{By, Form, KeyPart, KeyWords, Statement, Version, ViaLoaders, ViaWords};
 
 /// The version that a line is: `bindings 1` or `bindings 2`.
 pub(crate) fn version(line: &str) -> Option<Version>
     ensures { result ≡ version_of (words_of line.now) }
 {
-    let mut words = Words::of(line);
+    let mut words = LineWords::of(line);
     let word = words.next()?;
     let number = words.next()?;
     end(words)?;
     if word == "bindings" {
-        numbered(number)
+        version_from(number)
     } else {
         None
     }
 }
 
 /// The version of a number.
-fn numbered(number: &str) -> Option<Version>
+fn version_from(number: &str) -> Option<Version>
     ensures { result ≡ version_number number.now }
 {
     if number == "1" {
@@ -42,7 +42,7 @@ fn numbered(number: &str) -> Option<Version>
 pub(crate) fn statement(version: Version, line: &str) -> Option<Statement<'_>>
     ensures { option_map statement_seen result ≡ statement_of version (words_of line.now) }
 {
-    let mut words = Words::of(line);
+    let mut words = LineWords::of(line);
     let word = words.next()?;
     if word == "loader" {
         loader(version, words)
@@ -54,7 +54,7 @@ pub(crate) fn statement(version: Version, line: &str) -> Option<Statement<'_>>
 }
 
 /// `NAME TABLE`, and by which columns.
-fn loader<'text>(version: Version, mut words: Words<'text>) -> Option<Statement<'text>>
+fn loader<'text>(version: Version, mut words: LineWords<'text>) -> Option<Statement<'text>>
     ensures { option_map statement_seen result ≡ loader_of version words.entry }
 {
     let name = words.next()?;
@@ -64,7 +64,7 @@ fn loader<'text>(version: Version, mut words: Words<'text>) -> Option<Statement<
 }
 
 /// Nothing, or `by` and columns.
-fn by<'text>(version: Version, mut words: Words<'text>) -> Option<Option<By<'text>>>
+fn by<'text>(version: Version, mut words: LineWords<'text>) -> Option<Option<By<'text>>>
     ensures { option_map (option_map by_seen) result ≡ by_of version words.entry }
 {
     let Some(word) = words.next() else {
@@ -78,7 +78,7 @@ fn by<'text>(version: Version, mut words: Words<'text>) -> Option<Option<By<'tex
 }
 
 /// `COLUMN` or `COLUMN fold`; in version 2 also `COLUMN COLUMN2` or `COLUMN COLUMN2 fold`.
-fn columns<'text>(version: Version, mut words: Words<'text>) -> Option<By<'text>>
+fn columns<'text>(version: Version, mut words: LineWords<'text>) -> Option<By<'text>>
     ensures { option_map by_seen result ≡ columns_of version words.entry }
 {
     let column = words.next()?;
@@ -126,7 +126,8 @@ fn two_folded<'text>(
     second: &'text str,
     last: &str,
 ) -> Option<By<'text>>
-    ensures { option_map by_seen result ≡ columns_of version (column.now ∷ second.now ∷ last.now ∷ []) }
+    ensures { option_map by_seen result
+        ≡ columns_of version (column.now ∷ second.now ∷ last.now ∷ []) }
 {
     if last != "fold" {
         return None;
@@ -142,7 +143,7 @@ fn two_folded<'text>(
 }
 
 /// `T.F` and a form.
-fn field<'text>(version: Version, mut words: Words<'text>) -> Option<Statement<'text>>
+fn field<'text>(version: Version, mut words: LineWords<'text>) -> Option<Statement<'text>>
     ensures { option_map statement_seen result ≡ field_of version words.entry }
 {
     let (type_name, field_name) = cut(words.next()?, '.')?;
@@ -155,7 +156,7 @@ fn field<'text>(version: Version, mut words: Words<'text>) -> Option<Statement<'
 }
 
 /// `column COLUMN`, or a form with a loader.
-fn form<'text>(version: Version, mut words: Words<'text>) -> Option<Form<'text>>
+fn form<'text>(version: Version, mut words: LineWords<'text>) -> Option<Form<'text>>
     ensures { option_map form_seen result ≡ form_of version words.entry }
 {
     let kind = words.next()?;
@@ -164,16 +165,16 @@ fn form<'text>(version: Version, mut words: Words<'text>) -> Option<Form<'text>>
         end(words)?;
         Some(Form::Column(first))
     } else {
-        loaded(version, kind, first, words)
+        form_behind(version, kind, first, words)
     }
 }
 
-/// What stands behind a loader.
-fn loaded<'text>(
+/// Returns what stands behind a loader.
+fn form_behind<'text>(
     version: Version,
     kind: &str,
     loader: &'text str,
-    words: Words<'text>,
+    words: LineWords<'text>,
 ) -> Option<Form<'text>>
     ensures { option_map form_seen result ≡ loaded_of version kind.now loader.now words.entry }
 {
@@ -193,7 +194,7 @@ fn loaded<'text>(
 }
 
 /// No further word.
-fn end<'text>(mut words: Words<'text>) -> Option<()>
+fn end<'text>(mut words: LineWords<'text>) -> Option<()>
     ensures { MatchOption result (words.entry ≢ []) (λ _. words.entry ≡ []) }
 {
     match words.next() {
@@ -203,8 +204,9 @@ fn end<'text>(mut words: Words<'text>) -> Option<()>
 }
 
 /// `arg NAME` or `column NAME`.
-fn part<'text>(words: &mut Words<'text>) -> Option<KeyPart<'text>>
-    ensures { MatchOption result (part_of words.old ≡ None) (λ part. part_of words.old ≡ Some (part_seen part, words.new)) }
+fn part<'text>(words: &mut LineWords<'text>) -> Option<KeyPart<'text>>
+    ensures { MatchOption result (part_of words.old ≡ None) (λ part.
+        part_of words.old ≡ Some (part_seen part, words.new)) }
 {
     let word = words.next()?;
     let name = words.next()?;
@@ -218,44 +220,46 @@ fn part<'text>(words: &mut Words<'text>) -> Option<KeyPart<'text>>
 }
 
 /// A part as a key of its own.
-fn lone(part: KeyPart<'_>) -> KeySource<'_>
+fn single_key(part: KeyPart<'_>) -> KeyWords<'_>
     ensures { key_seen result ≡ lone_part (part_seen part.entry) }
 {
     match part {
-        KeyPart::Argument(name) => KeySource::Argument(name),
-        KeyPart::Column(name) => KeySource::Column(name),
+        KeyPart::Argument(name) => KeyWords::Argument(name),
+        KeyPart::Column(name) => KeyWords::Column(name),
     }
 }
 
 /// A part, or two where the word `and` stands behind it.
-fn joined<'text>(one: KeyPart<'text>, words: &mut Words<'text>) -> Option<KeySource<'text>>
+fn key_of_words<'text>(one: KeyPart<'text>, words: &mut LineWords<'text>) -> Option<KeyWords<'text>>
     ensures { let read = joined_of Two (part_seen one.entry) words.old in
         MatchOption result (read ≡ None) (λ key. read ≡ Some (key_seen key, words.new)) }
 {
     if !words.take("and") {
-        return Some(lone(one));
+        return Some(single_key(one));
     }
     let two = part(words)?;
-    Some(KeySource::Pair(one, two))
+    Some(KeyWords::Pair(one, two))
 }
 
 /// `all`, `arg NAME` or `column NAME`, and in version 2 two of the last joined by `and`.
-fn key_source<'text>(version: Version, words: &mut Words<'text>) -> Option<KeySource<'text>>
-    ensures { MatchOption result (key_of version words.old ≡ None) (λ key. key_of version words.old ≡ Some (key_seen key, words.new)) }
+fn key_source<'text>(version: Version, words: &mut LineWords<'text>) -> Option<KeyWords<'text>>
+    ensures { MatchOption result (key_of version words.old ≡ None) (λ key.
+        key_of version words.old ≡ Some (key_seen key, words.new)) }
 {
     if words.take("all") {
-        return Some(KeySource::All);
+        return Some(KeyWords::All);
     }
     let one = part(words)?;
     match version {
-        Version::One => Some(lone(one)),
-        Version::Two => joined(one, words),
+        Version::One => Some(single_key(one)),
+        Version::Two => key_of_words(one, words),
     }
 }
 
 /// A key and nothing behind it.
-fn only_key<'text>(version: Version, mut words: Words<'text>) -> Option<KeySource<'text>>
-    ensures { MatchOption result (lone_key version words.entry ≡ None) (λ key. lone_key version words.entry ≡ Some (key_seen key)) }
+fn only_key<'text>(version: Version, mut words: LineWords<'text>) -> Option<KeyWords<'text>>
+    ensures { MatchOption result (lone_key version words.entry ≡ None)
+        (λ key. lone_key version words.entry ≡ Some (key_seen key)) }
 {
     let key = key_source(version, &mut words)?;
     end(words)?;
@@ -263,7 +267,7 @@ fn only_key<'text>(version: Version, mut words: Words<'text>) -> Option<KeySourc
 }
 
 /// `arg NAME`.
-fn each<'text>(loader: &'text str, mut words: Words<'text>) -> Option<Form<'text>>
+fn each<'text>(loader: &'text str, mut words: LineWords<'text>) -> Option<Form<'text>>
     ensures { option_map form_seen result ≡ each_of loader.now words.entry }
 {
     let word = words.next()?;
@@ -277,40 +281,48 @@ fn each<'text>(loader: &'text str, mut words: Words<'text>) -> Option<Form<'text
 }
 
 /// Up to two loaders more with their columns.
-fn more_steps<'text>(first: Step<'text>, mut words: Words<'text>) -> Option<Steps<'text>>
-    ensures { option_map steps_seen result ≡ option_map (λ further. step_seen first.entry ∷ further) (more_steps words.entry) }
+fn more_steps<'text>(
+    first: ViaWords<'text>,
+    mut words: LineWords<'text>,
+) -> Option<ViaLoaders<'text>>
+    ensures { option_map steps_seen result
+        ≡ option_map (λ further. step_seen first.entry ∷ further) (more_steps words.entry) }
 {
     let Some(loader) = words.next() else {
-        return Some(Steps::One(first));
+        return Some(ViaLoaders::One(first));
     };
     let column = words.next()?;
-    let second = Step { loader, column };
+    let second = ViaWords { loader, column };
     let Some(loader) = words.next() else {
-        return Some(Steps::Two(first, second));
+        return Some(ViaLoaders::Two(first, second));
     };
     let column = words.next()?;
     end(words)?;
-    Some(Steps::Three(first, second, Step { loader, column }))
+    Some(ViaLoaders::Three(first, second, ViaWords { loader, column }))
 }
 
 /// A loader and its column, and in version 2 up to two more of these.
-fn steps<'text>(version: Version, mut words: Words<'text>) -> Option<Steps<'text>>
+fn steps<'text>(version: Version, mut words: LineWords<'text>) -> Option<ViaLoaders<'text>>
     ensures { option_map steps_seen result ≡ steps_of version words.entry }
 {
     let loader = words.next()?;
     let column = words.next()?;
-    let first = Step { loader, column };
+    let first = ViaWords { loader, column };
     match version {
         Version::One => {
             end(words)?;
-            Some(Steps::One(first))
+            Some(ViaLoaders::One(first))
         }
         Version::Two => more_steps(first, words),
     }
 }
 
 /// A key, and the loaders after the first with their columns.
-fn via<'text>(version: Version, loader: &'text str, mut words: Words<'text>) -> Option<Form<'text>>
+fn via<'text>(
+    version: Version,
+    loader: &'text str,
+    mut words: LineWords<'text>,
+) -> Option<Form<'text>>
     ensures { option_map form_seen result ≡ via_of version loader.now words.entry }
 {
     let key = key_source(version, &mut words)?;

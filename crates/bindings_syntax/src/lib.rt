@@ -10,12 +10,13 @@
 
 mod cut;
 mod form;
+mod line_words;
 mod lines;
 mod statement;
 mod text;
-mod words;
 
 pub use statement::{
-    BindingsText, By, Form, KeyPart, KeySource, NumberedStatement, Statement, Step, Steps, Version,
+    BindingsText, By, Form, KeyPart, KeyWords, NumberedStatement, Statement, Version, ViaLoaders,
+    ViaWords,
 };
 pub use text::read;

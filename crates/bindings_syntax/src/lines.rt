@@ -8,7 +8,8 @@ use std::marker::Model;
 
 /// The first line, without its end, and what stands behind it.
 fn first_line(text: &str) -> Option<(&str, &str)>
-    ensures line { MatchOption result (statement_lines text.now ≡ []) (λ p. statement_lines text.now ≡ p.0.now ∷ statement_lines p.1.now) }
+    ensures line { MatchOption result (statement_lines text.now ≡ []) (λ p.
+        statement_lines text.now ≡ p.0.now ∷ statement_lines p.1.now) }
     ensures shorter { IfSome result (λ p. length p.1.now < length text.now) }
 {
     match cut(text, '\n') {
@@ -46,7 +47,7 @@ impl<'text> Model for Lines<'text> {
     ghost invariant = { λ lines. lines.passed + length lines.rest.now < 2 ^ 64 };
 }
 
-/// Whether a line says nothing: an empty one, or a comment.
+/// Tells whether a line says nothing: an empty one, or a comment.
 fn says_nothing(line: &str) -> bool
     ensures { result ≡ is_skipped line.now }
 {
@@ -65,7 +66,8 @@ impl<'text> Lines<'text> {
 
     /// The next line that counts.
     pub(crate) fn next(&mut self) -> Option<NumberedLine<'text>>
-        ensures { MatchOption result (self.old ≡ []) (λ line. self.old ≡ record { number = line.number; text = line.text.now } ∷ self.new) }
+        ensures { MatchOption result (self.old ≡ []) (λ line.
+            self.old ≡ record { number = line.number; text = line.text.now } ∷ self.new) }
     {
         while let Some((text, rest)) = first_line(self.rest) {
             self.rest = rest;

@@ -28,9 +28,9 @@ pub enum KeyPart<'text> {
     Column(&'text str),
 }
 
-/// Where a field takes its keys from.
+/// Says where a field takes its keys from.
 #[derive(Clone, Copy, Debug, PartialEq, Eq)]
-pub enum KeySource<'text> {
+pub enum KeyWords<'text> {
     /// `arg NAME`: an argument of the field.
     Argument(&'text str),
     /// `column NAME`: a column of the row that the field belongs to.
@@ -43,20 +43,20 @@ pub enum KeySource<'text> {
 
 /// A loader of `via` after its first, with the column of the row before that has its key.
 #[derive(Clone, Copy, Debug, PartialEq, Eq)]
-pub struct Step<'text> {
+pub struct ViaWords<'text> {
     pub loader: &'text str,
     pub column: &'text str,
 }
 
 /// The loaders of `via` after its first, in order.
 #[derive(Clone, Copy, Debug, PartialEq, Eq)]
-pub enum Steps<'text> {
-    One(Step<'text>),
-    Two(Step<'text>, Step<'text>),
-    Three(Step<'text>, Step<'text>, Step<'text>),
+pub enum ViaLoaders<'text> {
+    One(ViaWords<'text>),
+    Two(ViaWords<'text>, ViaWords<'text>),
+    Three(ViaWords<'text>, ViaWords<'text>, ViaWords<'text>),
 }
 
-/// How a field is answered.
+/// Says how a field is answered.
 #[derive(Clone, Copy, Debug, PartialEq, Eq)]
 pub enum Form<'text> {
     /// `column COLUMN`: a column of the row that the field belongs to.
@@ -64,12 +64,12 @@ pub enum Form<'text> {
     /// `one LOADER KEY`: the first row of the key, or null.
     One {
         loader: &'text str,
-        key: KeySource<'text>,
+        key: KeyWords<'text>,
     },
     /// `many LOADER KEY`: all rows of the key.
     Many {
         loader: &'text str,
-        key: KeySource<'text>,
+        key: KeyWords<'text>,
     },
     /// `each LOADER arg NAME`: for each key in the argument's list, its first row or null.
     Each {
@@ -80,12 +80,12 @@ pub enum Form<'text> {
     /// key that stands in the column, or null; and so on with each further loader.
     Via {
         loader: &'text str,
-        key: KeySource<'text>,
-        steps: Steps<'text>,
+        key: KeyWords<'text>,
+        steps: ViaLoaders<'text>,
     },
 }
 
-/// What a line says.
+/// Says what a line says.
 #[derive(Clone, Copy, Debug, PartialEq, Eq)]
 pub enum Statement<'text> {
     /// `loader NAME TABLE`, `loader NAME TABLE by COLUMN` or `loader NAME TABLE by COLUMN COLUMN2`; after the last two
@@ -111,7 +111,7 @@ pub struct NumberedStatement<'text> {
     pub statement: Statement<'text>,
 }
 
-/// What a bindings text says.
+/// Holds what a bindings text says.
 #[derive(Debug, Drop)]
 pub struct BindingsText<'text> {
     /// The first line that counts is `bindings 1` or `bindings 2`.

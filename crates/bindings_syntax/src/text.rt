@@ -16,6 +16,9 @@ use std::alloc::{AllocError, Global};
 /// lines and lines whose first character is `#` say nothing, but are counted. The first line that
 /// counts has to be `bindings 1` or `bindings 2`; with `bindings 1` the forms of version 2 are none.
 ///
+/// A line of spaces alone, or with a space before its `#`, has no form, and a carriage return at the end of a
+/// text without a line feed is part of the last word. `T.F` is cut at its first dot.
+///
 /// # Errors
 ///
 /// Only when out of memory.

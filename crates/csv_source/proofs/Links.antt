@@ -97,7 +97,7 @@ module _ (s : SheetOf) (column row : ℕ) (mode : KeyMode) (buckets other : ℕ)
   pub in_bucket-null : (length (get_or (get_or s.rows row []) column []) == 0) ≡ true → in_bucket mode (get_or s.names column []) buckets other (get_or (rows_of s) row []) ≡ false
   in_bucket-null null = rw (cell_of-rows_of s column row rectangular named lt, null) refl
 
--- whether a row of a bucket has a text
+-- a row of a bucket has a text exactly if its cell, folded, is that text
 pub has_text-in_bucket : (s : SheetOf) (column row : ℕ) (mode : KeyMode) (buckets bucket : ℕ) (folded : List ℕ) → IsRectangular s → IsColumn s column → row < length s.rows
     → in_bucket mode (get_or s.names column []) buckets bucket (get_or (rows_of s) row []) ≡ true
     → has_text mode (get_or s.names column []) folded (get_or (rows_of s) row []) ≡ bytes_eq folded (fold_text mode (get_or (get_or s.rows row []) column []))
@@ -134,7 +134,7 @@ module _ (s : SheetOf) (column second row : ℕ) (mode : KeyMode) (buckets bucke
       none true = refl
       none false = refl
 
-  -- whether a row of a bucket has a pair
+  -- tells whether a row of a bucket has a pair
   pub has_pair-in_bucket : (s_text t_text : List ℕ) → is_here ≡ true
       → has_pair mode (get_or s.names column []) (get_or s.names second []) s_text t_text (get_or (rows_of s) row []) ≡ (bytes_eq s_text (fold_text mode one) && bytes_eq t_text (fold_text mode two))
   has_pair-in_bucket s_text t_text reached = go (length one == 0) refl (length two == 0) refl where

@@ -47,7 +47,7 @@ unfolding Fit
 fit-at head [] r rest f = (f.0, f.1)
 fit-at head (x ∷ rows) r rest f = fit-at head rows r rest f.2
 
--- which fault a record has
+-- says which fault a record has
 abbrev HeaderWhich : Record → TableFault → Type 0
 HeaderWhich head e = ((e ≡ fault.NotText) × ¬ (AllText head)) ⊎ ((e ≡ fault.DuplicateColumn) × AllText head × Repeats head)
 

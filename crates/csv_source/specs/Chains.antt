@@ -11,11 +11,13 @@ pub record IsNext (test : RowOf → Bool) (rows : List RowOf) (from to : ℕ) : 
   pub between : (k : ℕ) → from ≤ k → k < to → k < length rows → test (get_or rows k []) ≡ false
   pub passes : to < length rows → test (get_or rows to []) ≡ true
 
--- the links of the rows from a place on, by a test that tells of so many buckets whether a row is of one
+-- the links of the rows from a place on, by a test that tells, for a number of buckets, whether a row is of one of them
 pub record IsLinked (is_in : ℕ → ℕ → RowOf → Bool) (rows : List RowOf) (first next : List ℕ) (from : ℕ) : Type 0 where
   pub links : length next ≡ length rows
-  pub heads : (bucket : ℕ) → bucket < length first → IsNext (is_in (length first) bucket) rows from (get_or first bucket 0)
-  pub follows : (place bucket : ℕ) → from ≤ place → place < length rows → is_in (length first) bucket (get_or rows place []) ≡ true
+  pub heads : (bucket : ℕ) → bucket < length first
+      → IsNext (is_in (length first) bucket) rows from (get_or first bucket 0)
+  pub follows : (place bucket : ℕ) → from ≤ place → place < length rows
+      → is_in (length first) bucket (get_or rows place []) ≡ true
       → IsNext (is_in (length first) bucket) rows (place + 1) (get_or next place 0)
 
 -- a column of a sheet, by its place and its name, of equal names the first

@@ -1,4 +1,4 @@
--- Which faults a call may answer.
+-- Definitions of which faults a call may answer.
 use Rattle.std.specs.Prelude.{◌≡◌, ℕ, List, Contains}
 use Rattle.csv_source.specs.declared.fault.TableFault.{TableFault}
 use Rattle.csv_source.specs.declared.fault.TableFault.TheVariants as fault

@@ -15,7 +15,7 @@ unfoldable pub text_hash : KeyMode → List ℕ → ℕ
 text_hash Exact folded = folding.finish (folding.write folding.initial folded)
 text_hash FoldAscii folded = fold mix 0xcbf2_9ce4_8422_2325 folded
 
--- the bucket of a text, of so many
+-- the bucket of a text, one of `buckets`
 abbrev pub bucket_of : KeyMode → ℕ → List ℕ → ℕ
 bucket_of mode buckets folded = text_hash mode folded % buckets
 
@@ -27,7 +27,7 @@ cell_in mode buckets bucket (Some field) = not (length field == 0) && (bucket_of
 abbrev pub joined_hash : ℕ → ℕ → ℕ
 joined_hash one two = bit_xor ((one * 0x0000_0100_0000_01b3) % 2 ^ 64) two
 
--- the bucket of two texts, of so many
+-- the bucket of two texts, one of `buckets`
 abbrev pub pair_bucket_of : KeyMode → ℕ → List ℕ → List ℕ → ℕ
 pair_bucket_of mode buckets s t = joined_hash (text_hash mode s) (text_hash mode t) % buckets
 

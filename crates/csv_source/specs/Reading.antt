@@ -1,4 +1,4 @@
--- What `Table::read` reads: the records of the text, or the first of its faults.
+-- Definitions of what `Table::read` reads: the records of the text, or the first of its faults.
 use Rattle.std.specs.Prelude.{◌≡◌, ◌≤◌, ◌<◌, ℕ, true, List, [], ◌∷◌, ◌++◌, Option, Some, None, Result, Ok, Err, length, get_or, ⊤}
 use Rattle.csv.specs.Machine.{next_record}
 use Rattle.csv.specs.Reading.{AreRecords, Reached, Ready, default_config, source_of, reader_config, reader_trim, reader_state, is_flexible, has_failed, stops_reader}
@@ -23,20 +23,25 @@ pub record IsPlain {R : Type 0} (s : Reader R) : Type 0 where
   pub flexible : is_flexible s ≡ true
 
 -- these are the first records of the text, and the reader stands behind them
-abbrev pub StandsBehind : {R : Type 0} → (R → Option (List ℕ)) → Reader R → List ℕ → List Record → Type 0
-StandsBehind rem s text records = (y : List ℕ) × (source_of rem s ≡ Some y) × Reached default_config st.StartRecord text records (reader_state s) y
+abbrev pub StandsBehind : {R : Type 0} → (R → Option (List ℕ))
+    → Reader R → List ℕ → List Record → Type 0
+StandsBehind rem s text records = (y : List ℕ) × (source_of rem s ≡ Some y)
+    × Reached default_config st.StartRecord text records (reader_state s) y
 
 -- one record more was read
 abbrev pub ReadsMore : {R : Type 0} → (R → Option (List ℕ)) → Reader R → Reader R → Record → Type 0
-ReadsMore rem old new fields = (text : List ℕ) (seen : List Record) → StandsBehind rem old text seen → StandsBehind rem new text (seen ++ fields ∷ [])
+ReadsMore rem old new fields = (text : List ℕ) (seen : List Record)
+    → StandsBehind rem old text seen → StandsBehind rem new text (seen ++ fields ∷ [])
 
 -- there is no record more
 abbrev pub HasEnded : {R : Type 0} → (R → Option (List ℕ)) → Reader R → Type 0
-HasEnded rem s = (text : List ℕ) (seen : List Record) → StandsBehind rem s text seen → AreRecords default_config st.StartRecord text seen
+HasEnded rem s = (text : List ℕ) (seen : List Record) → StandsBehind rem s text seen
+    → AreRecords default_config st.StartRecord text seen
 
 -- a text begins with these records
 abbrev pub Begins : List ℕ → List Record → Type 0
-Begins text records = (s : _) × (y : List ℕ) × Reached default_config st.StartRecord text records s y
+Begins text records = (s : _) × (y : List ℕ)
+    × Reached default_config st.StartRecord text records s y
 
 -- a name stands twice
 pub record Repeats (names : Record) : Type 0 where
@@ -58,7 +63,7 @@ abbrev pub Lawful : List Record → Type 0
 Lawful [] = ⊤
 Lawful (head ∷ rows) = IsHeader head × Fit head rows × (length rows ≤ 1000000)
 
--- why a record is no header
+-- says why a record is no header
 abbrev pub HeaderFault : Record → TableFault → Type 0
 HeaderFault head fault.NotText = ¬ (AllText head)
 HeaderFault head fault.DuplicateColumn = AllText head × Repeats head
@@ -69,7 +74,7 @@ HeaderFault head fault.TooManyRows = ⊥
 HeaderFault head fault.NoSuchColumn = ⊥
 HeaderFault head fault.ReadFault = ⊥
 
--- why a record is no row under a header, however many come before it
+-- says why a record is no row under a header, however many come before it
 abbrev pub RowFault : Record → Record → TableFault → Type 0
 RowFault head r fault.BadRecord = ¬ (length r ≡ length head)
 RowFault head r fault.NotText = (length r ≡ length head) × ¬ (AllText r)
@@ -80,7 +85,7 @@ RowFault head r fault.TooManyRows = ⊥
 RowFault head r fault.NoSuchColumn = ⊥
 RowFault head r fault.ReadFault = ⊥
 
--- why the record that follows lawful ones may not follow them
+-- says why the record that follows lawful ones may not follow them
 abbrev pub Faulty : List Record → Record → TableFault → Type 0
 Faulty [] head fault.NotText = ¬ (AllText head)
 Faulty [] head fault.DuplicateColumn = AllText head × Repeats head
@@ -92,7 +97,8 @@ Faulty [] head fault.ReadFault = ⊥
 Faulty [] head fault.NoMemory = ⊥
 Faulty (head ∷ rows) r fault.BadRecord = ¬ (length r ≡ length head)
 Faulty (head ∷ rows) r fault.NotText = (length r ≡ length head) × ¬ (AllText r)
-Faulty (head ∷ rows) r fault.TooManyRows = (length r ≡ length head) × AllText r × (length rows ≡ 1000000)
+Faulty (head ∷ rows) r fault.TooManyRows = (length r ≡ length head)
+    × AllText r × (length rows ≡ 1000000)
 Faulty (head ∷ rows) r fault.NoHeader = ⊥
 Faulty (head ∷ rows) r fault.DuplicateColumn = ⊥
 Faulty (head ∷ rows) r fault.NoSuchColumn = ⊥
@@ -147,7 +153,7 @@ IsDevice fault.TooManyRows = ⊥
 IsDevice fault.DuplicateColumn = ⊥
 IsDevice fault.NoSuchColumn = ⊥
 
--- what is reported of a failed read of `csv`
+-- gives what is reported of a failed read of `csv`
 abbrev pub reported_fault : ErrorKind → TableFault
 reported_fault kind.OutOfMemory = fault.NoMemory
 reported_fault (kind.Io e) = fault.ReadFault

@@ -1,4 +1,4 @@
--- What a source answers from.
+-- Definitions of what a source answers from.
 use Rattle.csv_source.specs.Tables.{SourceOf, rows_of, source_of_all, source_by, source_by_two}
 use Rattle.csv_source.specs.declared.source.Finder.{Finder}
 use Rattle.csv_source.specs.declared.source.Finder.TheVariants.{All, Owned, Shared, OwnedPair, SharedPair}

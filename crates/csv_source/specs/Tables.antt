@@ -27,7 +27,7 @@ has_text mode column folded row = cell_is mode folded (cell_of row column)
 abbrev pub has_pair : KeyMode → List ℕ → List ℕ → List ℕ → List ℕ → RowOf → Bool
 has_pair mode column second s t row = has_text mode column s row && has_text mode second t row
 
--- what an index answers from: rows, and the column and the mode by which it finds them
+-- says what an index answers from: rows, and the column and the mode by which it finds them
 pub record IndexOf : Type 0 where
   pub rows : List RowOf
   pub column : List ℕ
@@ -36,7 +36,8 @@ pub record IndexOf : Type 0 where
 abbrev pub index_of : SheetOf → ℕ → KeyMode → IndexOf
 index_of s column mode = record { rows = rows_of s; column = get_or s.names column []; mode = mode }
 
--- what an index of pairs answers from: rows, and the two columns and the mode by which it finds them
+-- says what an index of pairs answers from: rows, and the two columns and the mode by which it finds
+-- them
 pub record PairIndexOf : Type 0 where
   pub rows : List RowOf
   pub column : List ℕ
@@ -52,7 +53,7 @@ pub data ColumnsOf : Type 0 where
   one_column : List ℕ → ColumnsOf
   two_columns : List ℕ → List ℕ → ColumnsOf
 
--- what a source answers from: its rows, and the columns and the mode by which it finds them
+-- says what a source answers from: its rows, and the columns and the mode by which it finds them
 pub record SourceOf : Type 0 where
   pub rows : List RowOf
   pub columns : ColumnsOf

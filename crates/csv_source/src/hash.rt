@@ -12,7 +12,7 @@ const FNV_OFFSET: u64 = 0xcbf2_9ce4_8422_2325;
 const FNV_PRIME: u64 = 0x0000_0100_0000_01b3;
 
 // The hash with one byte more.
-fn mixed(hash: u64, byte: u8) -> u64
+fn mix_byte(hash: u64, byte: u8) -> u64
     ensures { result ≡ mix hash byte }
 {
     (hash ^ u64::from(byte)).wrapping_mul(FNV_PRIME)
@@ -33,27 +33,28 @@ fn hash(mode: KeyMode, text: &str) -> u64
         KeyMode::FoldAscii => text
             .bytes()
             .map(|byte| byte.to_ascii_lowercase())
-            .fold(FNV_OFFSET, mixed),
+            .fold(FNV_OFFSET, mix_byte),
     }
 }
 
 // One number of two, in which their order counts.
-fn joined(one: u64, two: u64) -> u64
+fn join_hashes(one: u64, two: u64) -> u64
     ensures { result ≡ joined_hash one two }
 {
     one.wrapping_mul(FNV_PRIME) ^ two
 }
 
-/// The bucket of two texts, of so many.
+/// The bucket of two texts, of `buckets`.
 pub(crate) fn pair_bucket(mode: KeyMode, buckets: usize, one: &str, two: &str) -> usize
     requires { 0 < buckets }
-    ensures value { result ≡ pair_bucket_of mode buckets (fold_text mode one.now) (fold_text mode two.now) }
+    ensures value { result
+        ≡ pair_bucket_of mode buckets (fold_text mode one.now) (fold_text mode two.now) }
     ensures within { result < buckets }
 {
-    (joined(hash(mode, one), hash(mode, two)) % buckets as u64) as usize
+    (join_hashes(hash(mode, one), hash(mode, two)) % buckets as u64) as usize
 }
 
-/// The bucket of a text, of so many.
+/// The bucket of a text, of `buckets`.
 pub(crate) fn bucket(mode: KeyMode, buckets: usize, text: &str) -> usize
     requires { 0 < buckets }
     ensures value { result ≡ bucket_of mode buckets (fold_text mode text.now) }

@@ -10,7 +10,7 @@ ghost use Rattle.csv_source.specs.Tables.{rows_of, has_text};
 use crate::fault::TableFault;
 use crate::hash::bucket;
 use crate::table::Table;
-use load_memory::{KeyMode, NoMemory, Row, Sheet};
+use load_memory::{KeyMode, Row, Sheet};
 use std::alloc::{AllocError, Global};
 use std::marker::Model;
 use std::sync::Arc;
@@ -29,6 +29,9 @@ pub(crate) struct Links {
 /// that a text's rows are found in file order and the index takes eight bytes a row.
 ///
 /// A contract sees it as the rows, the column's name, and the mode by which texts are compared.
+///
+/// It is built from the last row up, in linear time whatever the texts are; texts that were made to collide
+/// slow look-ups alone.
 #[derive(Drop)]
 pub struct ColumnIndex {
     sheet: Arc<Sheet>,
@@ -55,8 +58,10 @@ fn link(sheet: &Sheet, column: usize, mode: KeyMode, row: u32, links: &mut Links
     requires rectangular { IsRectangular sheet.now }
     requires column { IsColumn sheet.now column }
     requires buckets { 0 < length links.old.first.items }
-    requires linked { IsLinkedIn sheet.now column mode links.old.first.items links.old.next.items (row + 1) }
-    ensures linked { IsLinkedIn sheet.now column mode links.new.first.items links.new.next.items row }
+    requires linked { IsLinkedIn sheet.now column mode
+        links.old.first.items links.old.next.items (row + 1) }
+    ensures linked { IsLinkedIn sheet.now column mode
+        links.new.first.items links.new.next.items row }
     ensures buckets { length links.new.first.items ≡ length links.old.first.items }
 {
     let text = sheet.field(row, column);
@@ -68,11 +73,17 @@ fn link(sheet: &Sheet, column: usize, mode: KeyMode, row: u32, links: &mut Links
 }
 
 // The links of all rows.
-fn link_rows(alloc: Global, sheet: &Sheet, column: usize, mode: KeyMode) -> Result<Links, NoMemory>
+fn link_rows(
+    alloc: Global,
+    sheet: &Sheet,
+    column: usize,
+    mode: KeyMode,
+) -> Result<Links, AllocError>
     requires { IsColumn sheet.now column }
     ensures rectangular { IsRectangular sheet.now }
     ensures buckets { IfOk result (λ l. 0 < length l.first.items) }
-    ensures linked { IfOk result (λ l. IsLinkedIn sheet.now column mode l.first.items l.next.items 0) }
+    ensures linked { IfOk result (λ l.
+        IsLinkedIn sheet.now column mode l.first.items l.next.items 0) }
 {
     let rows = sheet.len();
     let mut links = Links {
@@ -85,7 +96,7 @@ fn link_rows(alloc: Global, sheet: &Sheet, column: usize, mode: KeyMode) -> Resu
     Ok(links)
 }
 
-/// Whether a field equals a text under the mode.
+/// Tells whether a field equals a text under the mode.
 pub(crate) fn is_same(mode: KeyMode, field: &str, text: &str) -> bool
     ensures { result ≡ bytes_eq (fold_text mode text.now) (fold_text mode field.now) }
 {
@@ -98,7 +109,7 @@ pub(crate) fn is_same(mode: KeyMode, field: &str, text: &str) -> bool
 
 /// Adds a row to those that were found. Most keys have one row, so the first takes room for itself
 /// alone.
-pub(crate) fn add(found: &mut Vec<Row>, row: Row) -> Result<(), NoMemory>
+pub(crate) fn add(found: &mut Vec<Row>, row: Row) -> Result<(), AllocError>
     ensures { OnOk result (found.new.items ≡ found.old.items ++ row ∷ []) }
 {
     if found.is_empty() {
@@ -120,7 +131,8 @@ impl ColumnIndex {
         column: &str,
         mode: KeyMode,
     ) -> Result<ColumnIndex, TableFault>
-        ensures ok { IfOk result (λ x. x ≡ record { rows = rows_of table.now; column = column.now; mode = mode }) }
+        ensures ok { IfOk result (λ x.
+            x ≡ record { rows = rows_of table.now; column = column.now; mode = mode }) }
         ensures there { OnOk result (Contains table.now.names column.now) }
         ensures err { IfErr result (ColumnFault table.now.names column.now) }
     {
@@ -145,7 +157,7 @@ impl ColumnIndex {
     }
 
     /// The rows whose column equals the text, in file order. An empty field equals no text.
-    pub fn rows(&self, alloc: Global, text: &str) -> Result<Vec<Row>, NoMemory>
+    pub fn rows(&self, alloc: Global, text: &str) -> Result<Vec<Row>, AllocError>
         ensures { IfOk result (λ v. v.items
             ≡ filter (has_text self.now.mode self.now.column (fold_text self.now.mode text.now)) self.now.rows) }
     {

@@ -11,8 +11,8 @@ use crate::fault::TableFault;
 use crate::hash::pair_bucket;
 use crate::index::{Links, add, is_same};
 use crate::table::Table;
-use load_memory::{KeyMode, NoMemory, Row, Sheet};
-use std::alloc::Global;
+use load_memory::{KeyMode, Row, Sheet};
+use std::alloc::{AllocError, Global};
 use std::marker::Model;
 use std::sync::Arc;
 
@@ -54,8 +54,10 @@ fn link(sheet: &Sheet, by: Pairing, row: u32, links: &mut Links)
     requires rectangular { IsRectangular sheet.now }
     requires columns { AreColumns sheet.now by.column by.second }
     requires buckets { 0 < length links.old.first.items }
-    requires linked { IsPairLinkedIn sheet.now by.column by.second by.mode links.old.first.items links.old.next.items (row + 1) }
-    ensures linked { IsPairLinkedIn sheet.now by.column by.second by.mode links.new.first.items links.new.next.items row }
+    requires linked { IsPairLinkedIn sheet.now by.column by.second
+        by.mode links.old.first.items links.old.next.items (row + 1) }
+    ensures linked { IsPairLinkedIn sheet.now by.column by.second
+        by.mode links.new.first.items links.new.next.items row }
     ensures buckets { length links.new.first.items ≡ length links.old.first.items }
 {
     let one = sheet.field(row, by.column);
@@ -72,11 +74,12 @@ fn link(sheet: &Sheet, by: Pairing, row: u32, links: &mut Links)
 }
 
 // The links of all rows.
-fn link_rows(alloc: Global, sheet: &Sheet, by: Pairing) -> Result<Links, NoMemory>
+fn link_rows(alloc: Global, sheet: &Sheet, by: Pairing) -> Result<Links, AllocError>
     requires { AreColumns sheet.now by.column by.second }
     ensures rectangular { IsRectangular sheet.now }
     ensures buckets { IfOk result (λ l. 0 < length l.first.items) }
-    ensures linked { IfOk result (λ l. IsPairLinkedIn sheet.now by.column by.second by.mode l.first.items l.next.items 0) }
+    ensures linked { IfOk result (λ l.
+        IsPairLinkedIn sheet.now by.column by.second by.mode l.first.items l.next.items 0) }
 {
     let rows = sheet.len();
     let mut links = Links {
@@ -103,7 +106,8 @@ impl PairIndex {
         mode: KeyMode,
     ) -> Result<PairIndex, TableFault>
         ensures ok { IfOk result (λ x. x ≡ record { rows = rows_of table.now; column = column.now; second = second.now; mode = mode }) }
-        ensures there { OnOk result (Contains table.now.names column.now × Contains table.now.names second.now) }
+        ensures there { OnOk result
+            (Contains table.now.names column.now × Contains table.now.names second.now) }
         ensures err { IfErr result (PairFault table.now.names column.now second.now) }
     {
         let Some(column) = table.sheet.column(column) else {
@@ -131,7 +135,7 @@ impl PairIndex {
 
     /// The rows whose first column equals the first text and whose second column equals the second, in file order. An
     /// empty field equals no text.
-    pub fn rows(&self, alloc: Global, one: &str, two: &str) -> Result<Vec<Row>, NoMemory>
+    pub fn rows(&self, alloc: Global, one: &str, two: &str) -> Result<Vec<Row>, AllocError>
         ensures { IfOk result (λ v. v.items
             ≡ rows_by self.now.mode self.now.rows (two_columns self.now.column self.now.second) (pair one.now two.now)) }
     {
@@ -148,7 +152,7 @@ impl PairIndex {
     }
 }
 
-// Whether a row's two fields equal two texts.
+// Tells whether a row's two fields equal two texts.
 fn is_same_pair(sheet: &Sheet, by: Pairing, row: u32, one: &str, two: &str) -> bool
     requires row { row < length sheet.now.rows }
     requires column { by.column < length sheet.now.names }

@@ -10,7 +10,7 @@ ghost use Rattle.csv_source.specs.Reading.{IsHeader, HeaderFault, RowFault, Read
 use crate::fault::TableFault;
 use crate::table::Table;
 use csv::{ByteRecord, Error, ErrorKind, Reader, ReaderBuilder, StringRecord};
-use load_memory::{NoMemory, Sheet, SheetBuilder};
+use load_memory::{Sheet, SheetBuilder};
 use std::alloc::{AllocError, Global};
 use std::collections::HashSet;
 use std::io::Read;
@@ -19,7 +19,7 @@ use std::sync::Arc;
 /// The most rows that a table may have.
 const MAX_ROWS: u32 = 1_000_000;
 
-// What a failed read means.
+// Returns what a failed read means.
 fn device(error: Error) -> TableFault
     ensures device { IsDevice result }
     ensures reported { result ≡ reported_fault (error_kind error) }
@@ -57,8 +57,8 @@ fn text_of(raw: ByteRecord) -> Result<StringRecord, TableFault>
     }
 }
 
-// Whether a name stands twice.
-fn repeats(alloc: Global, names: &StringRecord) -> Result<bool, NoMemory>
+// Tells whether a name stands twice.
+fn repeats(alloc: Global, names: &StringRecord) -> Result<bool, AllocError>
     ensures { IfOk result (λ b. IsTrue b ↔ Repeats (fields_of names.now)) }
 {
     let mut seen = HashSet::new(alloc);
@@ -71,7 +71,7 @@ fn repeats(alloc: Global, names: &StringRecord) -> Result<bool, NoMemory>
 }
 
 // A sheet with these columns and no row.
-fn columns(alloc: Global, names: &StringRecord) -> Result<SheetBuilder, NoMemory>
+fn columns(alloc: Global, names: &StringRecord) -> Result<SheetBuilder, AllocError>
     ensures { IfOk result (λ b. b ≡ draft_with_names (fields_of names.now)) }
 {
     let mut sheet = SheetBuilder::new(alloc);
@@ -94,7 +94,7 @@ fn header(alloc: Global, names: &StringRecord) -> Result<SheetBuilder, TableFaul
 }
 
 // Adds a row of these fields.
-fn add_fields(sheet: &mut SheetBuilder, fields: &StringRecord) -> Result<(), NoMemory>
+fn add_fields(sheet: &mut SheetBuilder, fields: &StringRecord) -> Result<(), AllocError>
     requires none { sheet.old.begun ≡ [] }
     requires same { length (fields_of fields.now) ≡ length sheet.old.names }
     requires room { length sheet.old.rows + 1 < 2 ^ 32 }
@@ -124,7 +124,7 @@ fn add_row(sheet: &mut SheetBuilder, raw: ByteRecord) -> Result<ByteRecord, Tabl
 }
 
 // The sheet, shared.
-fn shared(alloc: Global, sheet: Sheet) -> Result<Arc<Sheet>, AllocError>
+fn share_sheet(alloc: Global, sheet: Sheet) -> Result<Arc<Sheet>, AllocError>
     ensures { IfOk result (λ a. arc_value a ≡ sheet) }
 {
     Ok(Arc::new(alloc, sheet)?)
@@ -133,7 +133,8 @@ fn shared(alloc: Global, sheet: Sheet) -> Result<Arc<Sheet>, AllocError>
 // The table of what is left for the reader.
 fn read_all<R: Read>(alloc: Global, reader: &mut Reader<R>) -> Result<Table, TableFault>
     requires { IsPlain reader.old }
-    ensures reads { (text : List ℕ) → StandsBehind R.remaining reader.old text [] → ReadIs text result }
+    ensures reads { (text : List ℕ)
+        → StandsBehind R.remaining reader.old text [] → ReadIs text result }
     ensures stopped { IfErr result (λ e. e ≡ TableFault.ReadFault → has_failed reader.new ≡ true) }
 {
     let mut record = ByteRecord::new(alloc);
@@ -145,7 +146,7 @@ fn read_all<R: Read>(alloc: Global, reader: &mut Reader<R>) -> Result<Table, Tab
     let mut record = names.into_byte_record();
     for rows in 0..MAX_ROWS + 1 {
         if !next(reader, &mut record)? {
-            let sheet = shared(alloc, builder.finish())?;
+            let sheet = share_sheet(alloc, builder.finish())?;
             return Ok(Table { sheet });
         }
         record = add_row(&mut builder, record)?;
@@ -160,13 +161,14 @@ impl Table {
     /// Reads a table to the reader's end, as the crate `csv` reads with its default settings: RFC
     /// 4180, nothing trimmed. The first record is the header.
     ///
+    /// The 1,000,001st record after the header is read before the table is refused as too long.
+    ///
     /// # Errors
     ///
-    /// The faults of the header come first, in the order `NoHeader`, `NotText`, `DuplicateColumn`,
-    /// then those of each record in turn, in the order `BadRecord`, `NotText`, `TooManyRows`. A
-    /// reader that fails is `ReadFault`, and being out of memory is `NoMemory`, each when it
-    /// comes.
-    ///
+    /// The faults of the header come first, in the order `NoHeader`, `NotText`, `DuplicateColumn`, then those
+    /// of each record in turn, in the order `BadRecord`, `NotText`, `TooManyRows`. A reader that fails is
+    /// `ReadFault`, and being out of memory is `NoMemory`, each when it comes. No clause says that `ReadFault`
+    /// comes only where the reader failed, nor how far the reader was read.
     /// If the reader's contract knows its bytes, the result is that of these bytes.
     pub fn read<R: Read + Drop>(alloc: Global, reader: R) -> Result<Table, TableFault>
         ensures { (bytes : List ℕ) → R.remaining reader ≡ Some bytes

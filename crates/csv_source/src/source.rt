@@ -11,12 +11,12 @@ use crate::fault::TableFault;
 use crate::index::ColumnIndex;
 use crate::pair_index::PairIndex;
 use crate::table::Table;
-use load_memory::{Item, Key, KeyMode, NoMemory, Row};
+use load_memory::{Item, Key, KeyMode, Row};
 use load_queue::{FetchFault, PerKey, Source};
-use std::alloc::Global;
+use std::alloc::{AllocError, Global};
 use std::marker::Model;
 
-// How a source finds its rows.
+// Says how a source finds its rows.
 #[derive(Drop)]
 enum Finder<'t> {
     All(&'t Table),
@@ -47,7 +47,7 @@ impl<'t> Model for CsvSource<'t> {
 }
 
 // All rows of a table, in file order.
-fn all_rows(alloc: Global, table: &Table) -> Result<Vec<Row>, NoMemory>
+fn all_rows(alloc: Global, table: &Table) -> Result<Vec<Row>, AllocError>
     ensures { IfOk result (λ v. v.items ≡ rows_of table.now) }
 {
     let sheet = table.sheet();
@@ -59,8 +59,9 @@ fn all_rows(alloc: Global, table: &Table) -> Result<Vec<Row>, NoMemory>
 }
 
 // The rows that a table has for a key without a column: none but for `All`.
-fn rows_without(alloc: Global, table: &Table, key: &Key) -> Result<Vec<Row>, NoMemory>
-    ensures { IfOk result (λ v. v.items ≡ rows_of_key (source_of_all (rows_of table.now)) (key_of key.now)) }
+fn rows_without(alloc: Global, table: &Table, key: &Key) -> Result<Vec<Row>, AllocError>
+    ensures { IfOk result (λ v.
+        v.items ≡ rows_of_key (source_of_all (rows_of table.now)) (key_of key.now)) }
 {
     match key {
         Key::All => all_rows(alloc, table),
@@ -70,7 +71,7 @@ fn rows_without(alloc: Global, table: &Table, key: &Key) -> Result<Vec<Row>, NoM
 }
 
 // The rows that an index has for a key: none but for a text.
-fn rows_by(alloc: Global, index: &ColumnIndex, key: &Key) -> Result<Vec<Row>, NoMemory>
+fn rows_by(alloc: Global, index: &ColumnIndex, key: &Key) -> Result<Vec<Row>, AllocError>
     ensures { let x = index.now in IfOk result (λ v. v.items
         ≡ rows_of_key (source_by x.rows x.column x.mode) (key_of key.now)) }
 {
@@ -82,7 +83,7 @@ fn rows_by(alloc: Global, index: &ColumnIndex, key: &Key) -> Result<Vec<Row>, No
 }
 
 // The rows that an index of two columns has for a key: none but for a pair.
-fn rows_by_two(alloc: Global, index: &PairIndex, key: &Key) -> Result<Vec<Row>, NoMemory>
+fn rows_by_two(alloc: Global, index: &PairIndex, key: &Key) -> Result<Vec<Row>, AllocError>
     ensures { let x = index.now in IfOk result (λ v. v.items
         ≡ rows_of_key (source_by_two x.rows x.column x.second x.mode) (key_of key.now)) }
 {
@@ -136,8 +137,10 @@ impl<'t> CsvSource<'t> {
         second: &str,
         mode: KeyMode,
     ) -> Result<CsvSource<'t>, TableFault>
-        ensures ok { IfOk result (λ s. s ≡ source_by_two (rows_of table.now) column.now second.now mode) }
-        ensures there { OnOk result (Contains table.now.names column.now × Contains table.now.names second.now) }
+        ensures ok { IfOk result (λ s.
+            s ≡ source_by_two (rows_of table.now) column.now second.now mode) }
+        ensures there { OnOk result
+            (Contains table.now.names column.now × Contains table.now.names second.now) }
         ensures err { IfErr result (PairFault table.now.names column.now second.now) }
     {
         let index = PairIndex::new(alloc, table, column, second, mode)?;
@@ -157,7 +160,8 @@ impl<'t> CsvSource<'t> {
 
     /// The source by an existing index of two columns.
     pub fn of_pair_index(index: &'t PairIndex) -> CsvSource<'t>
-        ensures { result ≡ source_by_two index.now.rows index.now.column index.now.second index.now.mode }
+        ensures { result
+            ≡ source_by_two index.now.rows index.now.column index.now.second index.now.mode }
     {
         CsvSource {
             finder: Finder::SharedPair(index),
@@ -165,7 +169,7 @@ impl<'t> CsvSource<'t> {
     }
 
     /// The rows of a key, in file order.
-    pub fn rows(&self, alloc: Global, key: &Key) -> Result<Vec<Row>, NoMemory>
+    pub fn rows(&self, alloc: Global, key: &Key) -> Result<Vec<Row>, AllocError>
         ensures { IfOk result (λ v. v.items ≡ rows_of_key self.now (key_of key.now)) }
     {
         match &self.finder {
@@ -178,8 +182,9 @@ impl<'t> CsvSource<'t> {
     }
 
     // An item for each key, in order: its rows.
-    fn items(&self, alloc: Global, keys: &[Key]) -> Result<Vec<Item>, NoMemory>
-        ensures { IfOk result (λ v. map item_of v.items ≡ map (item_of_key self.now) (map key_of keys.now)) }
+    fn items(&self, alloc: Global, keys: &[Key]) -> Result<Vec<Item>, AllocError>
+        ensures { IfOk result (λ v.
+            map item_of v.items ≡ map (item_of_key self.now) (map key_of keys.now)) }
     {
         let mut items = Vec::with_capacity(alloc, keys.len())?;
         for key in keys {
@@ -195,7 +200,7 @@ impl<'t> Source for CsvSource<'t> {
     fn fetch(&self, alloc: Global, keys: &[Key]) -> Result<Vec<Item>, FetchFault> {
         match self.items(alloc, keys) {
             Ok(items) => Ok(items),
-            Err(NoMemory) => Err(FetchFault::NoMemory),
+            Err(AllocError) => Err(FetchFault::NoMemory),
         }
     }
 }

@@ -35,7 +35,7 @@ filling-extends modes p M (N ∷ Ns) end log = extends-trans M N end log.1 (fill
 some-same : (r s : Option OutcomeOf) → r ≡ s → IsSome s → IsSome r
 some-same r s e h = rw e h
 
--- what was needed is answered after a round
+-- a load that was needed is answered after a round
 pub covered : (modes : List KeyMode) (p : Program) (M N : Memory) → Extends M N → Fills modes p M N → (l : Load) → IsOneOf l (needs p (read modes M)) → IsSome (read modes N l)
 covered modes p M N ext fills l h = go (read modes M l) refl
   where
@@ -167,7 +167,7 @@ filling-below modes p M Ns end log ne =
     let some : 1 ≤ left p (read modes end) (read modes end) = left-some p (read modes end) (read modes end) (front-opens modes p end ne) in
     omega (arith, filling-left modes p M Ns end end log (extends-self end), left-le p (read modes M) (read modes end) (reads-more modes M end (filling-extends modes p M Ns end log)))
 
--- what the sparing run has, the lawful one has after one round more
+-- the lawful run has after one round more whatever the sparing run has
 sparing-step : (modes : List KeyMode) (p : Program) (N N' M M' end : Memory) → Extends N M → Extends M M' → Fills modes p M M' → Extends M' end
     → ((loader : ℕ) (key : KeyOf) → (N' loader key ≡ N loader key) ⊎ IsSpared modes p end N N' loader key) → Extends N' M'
 sparing-step modes p N N' M M' end ext step fills after added = λ loader key o e. one loader key o e (added loader key)

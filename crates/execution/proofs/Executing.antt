@@ -1,4 +1,5 @@
--- What an execution answers that added to the wants exactly what it needs and the memory lacks.
+-- Lemmas on what an execution answers that added to the wants exactly what it needs and the memory
+-- lacks.
 use Rattle.std.proofs.Common.{◌≡◌, ℕ, true, false, List, [], ◌∷◌, String, string_bytes, refl, sym, ap, ◌∙◌}
 use Rattle.std.specs.declared.alloc.Global.{Global}
 use Rattle.load_memory.specs.Pairs.{MemoryOf, look}
@@ -18,7 +19,7 @@ none-first : (modes : List KeyMode) (ls : List Load) → firsts modes ls ≡ [] 
 none-first modes [] e = refl
 none-first modes (l ∷ ls) e = absurd (cc e)
 
--- what the memory says of loads
+-- gives what the memory says of loads
 abbrev pub reads : MemoryOf → Reader
 reads m = read m.modes (look m.pairs)
 

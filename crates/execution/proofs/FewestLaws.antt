@@ -21,7 +21,7 @@ use Rattle.execution.proofs.ReplyLaws.{make, pair_cell, one-map, map-one, look-m
 use Rattle.execution.proofs.OnceLaws.{rounds-extend}
 
 module _ (may : ℕ → List KeyOf → AnswerOf → Type 0) (rules : List RuleOf) (p : Program) (positive : AreLimited rules) where
-  -- what a round adds was missing in the front
+  -- says what a round adds was missing in the front
   added : (M : Memory) (r : List ReplyOf) (loader : ℕ) (key : KeyOf) (o : OutcomeOf) → AreReplies may (round_orders rules (front (modes_of rules) p M)) r → look (pairs_of (modes_of rules) r) loader key ≡ Some o
       → (load : Load) × IsOneOf load (front (modes_of rules) p M) × ((loader, key) ≡ cell_of (modes_of rules) load)
   added M r loader key o h f =
@@ -52,7 +52,7 @@ either : (a b : Bool) → (a || b) ≡ true → (a ≡ true) ⊎ (b ≡ true)
 either true b h = inl refl
 either false b h = inr h
 
--- where some position is open, one of the programs is
+-- one of the programs is open where some position is
 open-below : (ps : Programs) (R : Reader) → any_open (trees ps R) ≡ true → (p : Program) × IsBelow p ps × (is_open (tree p R) ≡ true)
 open-below End R h = absurd (cc h)
 open-below (With position q rest) R h = elim (either (is_open (tree q R)) (any_open (trees rest R)) h) [

@@ -13,7 +13,7 @@ rest-read load next R Q more None e ih = rw e refl
 rest-read load next R Q more (Some o) e ih = let f : Q load ≡ Some o = more load o e in rw (e, f) (ih o)
 
 mutual
-  -- what is left of what is left
+  -- the rest of a rest
   pub rest-rest : (p : Program) (R Q : Reader) → AnswersMore R Q → rest (rest p R) Q ≡ rest p Q
   rest-rest (Is own) R Q more = refl
   rest-rest (Read load next) R Q more = rest-read load next R Q more (R load) refl (λ o. rest-rest (next o) R Q more)
@@ -37,7 +37,7 @@ mutual
   trees-rest End R Q more = refl
   trees-rest (With position p ps) R Q more = rw (tree-rest p R Q more, trees-rest ps R Q more) refl
 
--- what is needed and isn't answered, depth first
+-- the loads that are needed and aren't answered, depth first
 abbrev pub asks : Program → Reader → List Load
 asks p R = missing R (needs p R)
 
@@ -94,7 +94,7 @@ held-read load next R None e ih = rw e refl
 held-read load next R (Some o) e ih = rw e (ih o)
 
 mutual
-  -- what it holds as done is the tree
+  -- says what it holds as done is the tree
   pub held-rest : (p : Program) (R : Reader) → tree (rest p R) unanswered ≡ tree p R
   held-rest (Is own) R = refl
   held-rest (Read load next) R = held-read load next R (R load) refl (λ o. held-rest (next o) R)

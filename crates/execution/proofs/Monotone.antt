@@ -87,7 +87,7 @@ stays-read load next R Q more None e h ih = let f : true ≡ false = rw e at h i
 stays-read load next R Q more (Some o) e h ih = let f : Q load ≡ Some o = more load o e in rw (e, f) (ih o (rw e at h))
 
 mutual
-  -- where nothing is open, the tree stays
+  -- the tree stays where nothing is open
   pub tree-stays : (p : Program) (R Q : Reader) → AnswersMore R Q → is_open (tree p R) ≡ false → tree p Q ≡ tree p R
   tree-stays (Is own) R Q more h = refl
   tree-stays (Read load next) R Q more h = stays-read load next R Q more (R load) refl h (λ o. tree-stays (next o) R Q more)
@@ -113,7 +113,7 @@ grow-read load next R Q more l None e (inr d) ih = let f : IsOneOf {X = Load} l 
 grow-read load next R Q more l (Some o) e (inr d) ih = let f : Q load ≡ Some o = more load o e in inr (rw f (ih o (rw e at d)))
 
 mutual
-  -- what is needed only grows
+  -- says what is needed only grows
   pub needs-grow : (p : Program) (R Q : Reader) → AnswersMore R Q → (l : Load) → IsOneOf l (needs p R) → IsOneOf l (needs p Q)
   needs-grow (Is own) R Q more l h = h
   needs-grow (Read load next) R Q more l h = grow-read load next R Q more l (R load) refl h (λ o. needs-grow (next o) R Q more l)

@@ -32,7 +32,7 @@ module _ (may : ℕ → List KeyOf → AnswerOf → Type 0) (rules : List RuleOf
   rounds-extend M [] end h = λ loader key o e. h loader key ∙ e
   rounds-extend M (r ∷ rs) end h = extends-trans M (after_round rules M r) end (stored-extends may M (pairs_of (modes_of rules) r)) (rounds-extend (after_round rules M r) rs end h.2)
 
-  -- what any of the rounds asks is absent at first
+  -- says what any of the rounds asks is absent at first
   asked-absent : AreLimited rules → (M : Memory) (rounds : List (List ReplyOf)) (end : Memory) (c : Cell) → AreRounds may rules p M rounds end → IsOneOf c (asked_cells rules p M rounds) → M c.0 c.1 ≡ None
   asked-absent positive M [] end c h i = absurd i
   asked-absent positive M (r ∷ rs) end c h i =

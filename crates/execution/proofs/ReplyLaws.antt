@@ -111,7 +111,7 @@ orders-above modes n (rule ∷ rules) ls c positive h =
       | inr b ↦ let more : suc n ≤ c.0 = orders-above modes (suc n) rules ls c positive.1 b in omega arith
     ]
 
--- what is asked is one of the loads
+-- each key of the orders is one of the loads
 pub orders-loads : (modes : List KeyMode) (n : ℕ) (rules : List RuleOf) (ls : List Load) (c : Cell) → AreLimited rules → IsOneOf c (order_cells modes (orders_from n rules ls)) → IsOneOf c (map (cell_of modes) ls)
 orders-loads modes n [] ls c positive h = absurd h
 orders-loads modes n (rule ∷ rules) ls c positive h =

@@ -112,7 +112,7 @@ module _ (may : ℕ → List KeyOf → AnswerOf → Type 0) where
   pub reply-length : (o : OrderOf) (r : ReplyOf) → IsReply may o r → length r.outcomes ≡ length r.keys
   reply-length o r h = ap length h.outcomes ∙ outcomes-length (length o.keys) h.answer ∙ sym (ap length h.keys)
 
-  -- what is ordered is in the replies
+  -- each key that is ordered is in the replies
   replies-some : (modes : List KeyMode) (os : List OrderOf) (rs : List ReplyOf) (loader : ℕ) (key : KeyOf) → AreReplies may os rs → IsOrdered loader key os → IsSome (look (pairs_of modes rs) loader (folded (mode_at modes loader) key))
   replies-some modes [] [] loader key h k = absurd k
   replies-some modes [] (r ∷ rs) loader key h k = absurd h

@@ -26,7 +26,7 @@ missing-none rules M loads needed l e h =
     let among : IsOneOf l (missing (read modes M) needed) = firsts-one modes l (missing (read modes M) needed) (rw e at h) in
     none-is (read modes M l) (filter-one (λ m. is_none (read modes M m)) l needed among).1
 
--- what is asked is absent
+-- each key that is asked is absent from the memory
 pub absent : (rules : List RuleOf) (M : Memory) (loads : List Load) (c : Cell) → AreLimited rules → AreMissing (modes_of rules) M loads → IsOneOf c (order_cells (modes_of rules) (round_orders rules loads)) → M c.0 c.1 ≡ None
 absent rules M loads c positive h one =
     let modes : List KeyMode = modes_of rules in
@@ -105,7 +105,7 @@ module _ (may : ℕ → List KeyOf → AnswerOf → Type 0) where
   some-value None h = absurd (cc h)
   some-value (Some o) h = (o, refl)
 
-  -- what a round asked has its outcome afterwards
+  -- says what a round asked has its outcome afterwards
   pub asked-outcome : (rules : List RuleOf) (M : Memory) (loads : List Load) (replies : List ReplyOf) (c : Cell) → AreLimited rules → IsStep may rules M (AskedLoads loads replies) → IsOneOf c (order_cells (modes_of rules) (round_orders rules loads))
       → (o : OutcomeOf) × (look (pairs_of (modes_of rules) replies) c.0 c.1 ≡ Some o) × (after rules M (AskedLoads loads replies) c.0 c.1 ≡ Some o)
   asked-outcome rules M loads replies c positive h one =

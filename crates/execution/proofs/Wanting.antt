@@ -83,7 +83,7 @@ with-modes (w ∷ ws) zero j = ap (λ m. m ∷ modes_wanted ws) (key-mode w j)
 with-modes (w ∷ ws) (suc loader) j = ap (λ ms. w.mode ∷ ms) (with-modes ws loader j)
 
 module _ (modes : List KeyMode) where
-  -- what is like a load that is wanted adds nothing
+  -- says what is like a load that is wanted adds nothing
   filter-wanting : (l : Load) (ws : List WantedOf) (ls : List Load) → ((m : Load) → same modes m l ≡ true → Holds ws m.loader m.key) → wanting ws (filter (λ m. not (same modes m l)) ls) ≡ wanting ws ls
   filter-wanting l ws [] h = refl
   filter-wanting l ws (m ∷ ls) h = go (same modes m l) refl (filter-wanting l ws ls h) (filter-wanting l (with_wanted ws m.loader m.key) ls (λ k e. with-stays ws m.loader k.loader m.key k.key (h k e)))

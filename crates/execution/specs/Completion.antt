@@ -22,14 +22,16 @@ IsChild (And first t0 rest) (suc n) position t = IsChild rest n position t
 -- the way leads from p down to q, and each position below p on it, q included, is of non-null type
 abbrev pub IsNonNullWay : Tree → List ℕ → Tree → Type 0
 IsNonNullWay p [] q = p ≡ q
-IsNonNullWay p (n ∷ way) q = (below : Trees) × (kind : Kind) × (position : FieldPosition) × (t : Tree) × (p ≡ Over kind below) × IsChild below n position t × (position.non_null ≡ true) × IsNonNullWay t way q
+IsNonNullWay p (n ∷ way) q = (below : Trees) × (kind : Kind) × (position : FieldPosition)
+    × (t : Tree) × (p ≡ Over kind below) × IsChild below n position t
+    × (position.non_null ≡ true) × IsNonNullWay t way q
 
 -- A position is null in the response exactly where some position at it or below it has an own null, and each position
 -- between the two, the lower one included, is of non-null type.
 abbrev pub IsNullAt : Tree → Type 0
 IsNullAt p = (way : List ℕ) × (q : Tree) × IsNonNullWay p way q × HasOwnNull q
 
--- what contracts see of a response
+-- gives what contracts see of a response
 mutual
   pub data ResponseOf : Type 0 where
     NullResponse : ResponseOf
@@ -49,13 +51,15 @@ abbrev mutual
   IsResponse (At own) (Holding kind rs) = ⊥
   IsResponse (Over kind below) NullResponse = IsNullAt (Over kind below)
   IsResponse (Over kind below) (LeafResponse leaf) = ⊥
-  IsResponse (Over kind below) (Holding k rs) = (IsNullAt (Over kind below) → ⊥) × (k ≡ kind) × AreResponses below rs
+  IsResponse (Over kind below) (Holding k rs) = (IsNullAt (Over kind below) → ⊥)
+      × (k ≡ kind) × AreResponses below rs
 
   pub AreResponses : Trees → ResponsesOf → Type 0
   AreResponses NoMore NoResponses = Unit {0}
   AreResponses NoMore (Responding part r rs) = ⊥
   AreResponses (And position t rest) NoResponses = ⊥
-  AreResponses (And position t rest) (Responding part r rs) = (part ≡ position.part) × IsResponse t r × AreResponses rest rs
+  AreResponses (And position t rest) (Responding part r rs) = (part ≡ position.part)
+      × IsResponse t r × AreResponses rest rs
 
 -- a position with its path, whether its type is non-null, where its errors are, and its tree
 pub record PositionOf : Type 0 where
@@ -80,7 +84,7 @@ abbrev mutual
 abbrev pub top_position : Tree → PositionOf
 top_position t = record { path = []; non_null = false; place = record { line = 1; column = 1 }; at = t }
 
--- what contracts see of a field error
+-- says what contracts see of a field error
 pub record ErrorOf : Type 0 where
   pub message : List ℕ
   pub place : Place

@@ -52,7 +52,7 @@ users_and_one_without_name =
 abbrev pub data_is_null : AnsweredOf
 data_is_null = answered NullResponse (error null_message 8 (key (codes "users") ∷ Item 1 ∷ key (codes "name") ∷ []) ∷ [])
 
--- the same with the type `[User]!`: the null stops at the item
+-- gives the same with the type `[User]!`: the null stops at the item
 abbrev pub nullable_users : Program
 nullable_users =
     object (With (required (key (codes "users")) 2) (Under ListOf (With (nullable (Item 0) 2) (user (Value (Text (codes "Ada")))) (With (nullable (Item 1) 2) (user Null) End))) End)

@@ -1,4 +1,4 @@
--- What an execution over a memory answers.
+-- Definitions of what an execution over a memory answers.
 use Rattle.std.specs.Prelude.{◌≡◌, ◌≢◌, ◌≤◌, ℕ, List, [], length, Some, String, string_bytes}
 use Rattle.load_memory.specs.Pairs.{MemoryOf, look}
 use Rattle.load_queue.specs.Wanted.{WantedOf}
@@ -23,9 +23,12 @@ pub record CanExecute (loaders : ℕ) (m : MemoryOf) (wants : List WantedOf) : T
   pub lined_up : modes_wanted wants ≡ m.modes
 
 -- Ready with the text of the execution exactly where the front is empty, and the wants are as they were. Else the front was added.
-abbrev pub IsExecuted : (AnsweredOf → List ℕ) → List WantedOf → List WantedOf → Program → MemoryOf → Poll (String Global) → Type 0
-IsExecuted text_of old new p m (Ready text) = (front m.modes p (look m.pairs) ≡ []) × IsTextOf text_of p (read m.modes (look m.pairs)) (string_bytes text) × (new ≡ old)
-IsExecuted text_of old new p m Pending = (front m.modes p (look m.pairs) ≢ []) × (new ≡ wanting old (front m.modes p (look m.pairs)))
+abbrev pub IsExecuted : (AnsweredOf → List ℕ) → List WantedOf
+    → List WantedOf → Program → MemoryOf → Poll (String Global) → Type 0
+IsExecuted text_of old new p m (Ready text) = (front m.modes p (look m.pairs) ≡ [])
+    × IsTextOf text_of p (read m.modes (look m.pairs)) (string_bytes text) × (new ≡ old)
+IsExecuted text_of old new p m Pending = (front m.modes p (look m.pairs) ≢ [])
+    × (new ≡ wanting old (front m.modes p (look m.pairs)))
 
 -- the second memory has each pair of the first, and the same loaders
 pub record GrowsTo (m n : MemoryOf) : Type 0 where

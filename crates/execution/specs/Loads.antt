@@ -11,7 +11,7 @@ pub record Load : Type 0 where
   pub loader : ℕ
   pub key : KeyOf
 
--- what each load is answered, or that it isn't
+-- says what each load is answered, or that it isn't
 abbrev pub Reader : Type 0
 Reader = Load → Option OutcomeOf
 
@@ -34,10 +34,12 @@ abbrev pub IsOneOf : {X : Type 0} → X → List X → Type 0
 IsOneOf x [] = ⊥
 IsOneOf x (y ∷ ys) = (x ≡ y) ⊎ IsOneOf x ys
 
--- what the first answers, the second answers so too
+-- says what the first answers, the second answers so too
 abbrev pub AnswersMore : Reader → Reader → Type 0
-AnswersMore R Q = (load : Load) (outcome : OutcomeOf) → R load ≡ Some outcome → Q load ≡ Some outcome
+AnswersMore R Q = (load : Load) (outcome : OutcomeOf)
+    → R load ≡ Some outcome → Q load ≡ Some outcome
 
 -- the second memory has each pair of the first
 abbrev pub Extends : Memory → Memory → Type 0
-Extends M N = (loader : ℕ) (key : KeyOf) (outcome : OutcomeOf) → M loader key ≡ Some outcome → N loader key ≡ Some outcome
+Extends M N = (loader : ℕ) (key : KeyOf) (outcome : OutcomeOf)
+    → M loader key ≡ Some outcome → N loader key ≡ Some outcome

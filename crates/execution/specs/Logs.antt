@@ -89,7 +89,7 @@ HasPair M pair = M pair.loader pair.key ≡ Some pair.outcome
 abbrev pub IsAnsweredBy : LogOf → PairOf → Type 0
 IsAnsweredBy log pair = IsAnsweredIn (modes_of log.rules) pair log.rounds
 
--- what the log's rounds ask, one after another
+-- gives what the log's rounds ask, one after another
 abbrev pub log_cells : LogOf → List Cell
 log_cells log = asked_cells log.rules log.program log.start log.rounds
 
@@ -102,7 +102,7 @@ pub record IsLimitedRound (rules : List RuleOf) (p : Program) (M : Memory) (roun
 abbrev pub AgreeAfter : List RuleOf → Memory → List ReplyOf → List ReplyOf → Type 0
 AgreeAfter rules M round other = IsSameMemory (after_round rules M round) (after_round rules M other)
 
--- what a round that asks for these loads asks
+-- gives what a round that asks for these loads asks
 abbrev pub round_cells : List RuleOf → List Load → List Cell
 round_cells rules loads = order_cells (modes_of rules) (round_orders rules loads)
 

@@ -1,6 +1,6 @@
--- What a plan asks, one load at a time, and what comes of it: *Execution tree* (sections 6.2, 6.3 and 6.4 of the GraphQL
--- specification of October 2021). A position is a response key of an object or a place of a list, with its type. No plan,
--- binding or fragment appears here: a program is what is left of them.
+-- Definitions of what a plan asks, one load at a time, and what comes of it: *Execution tree* (sections 6.2, 6.3 and 6.4
+-- of the GraphQL specification of October 2021). A position is a response key of an object or a place of a list, with its
+-- type. No plan, binding or fragment appears here: a program is what is left of them.
 use Rattle.std.specs.Prelude.{ℕ, suc, max, ℤ, Bool, List, [], ◌∷◌, ◌++◌, Option, Some, None}
 use Rattle.load_memory.specs.Outcomes.{OutcomeOf}
 use Rattle.text_place.specs.declared.place.Place.{Place}
@@ -18,7 +18,7 @@ pub data LeafValue : Type 0 where
   Null : LeafValue
   Fault : List ℕ → LeafValue
 
--- what a position with others below it is
+-- says what a position with others below it is
 pub data Kind : Type 0 where
   ListOf : Kind
   ObjectOf : Kind

@@ -3,7 +3,7 @@ use Rattle.std.specs.Prelude.{◌≡◌, None}
 use Rattle.execution.specs.Loads.{Reader}
 use Rattle.execution.specs.Program.{given, Program, Is, Read, Under, Programs, End, With}
 
--- what is left once each load that is answered is read
+-- gives what is left once each load that is answered is read
 abbrev mutual
   pub rest : Program → Reader → Program
   rest (Is own) R = Is own

@@ -16,7 +16,7 @@ use Rattle.execution.specs.Loads.{Load, Reader, Memory, mode_at, cache_key, IsOn
 use Rattle.execution.specs.Program.{Program, Programs, End, With, needs}
 use Rattle.execution.specs.Front.{front, keys_for}
 
--- how a loader compares its keys, and how many of them it asks at most at once
+-- says how a loader compares its keys, and how many of them it asks at most at once
 pub record RuleOf : Type 0 where
   pub mode : KeyMode
   pub limit : Option ℕ
@@ -27,12 +27,14 @@ rule_of loader = record { mode = loader.mode; limit = loader.limit }
 abbrev pub modes_of : List RuleOf → List KeyMode
 modes_of rules = map (λ rule. rule.mode) rules
 
--- which answers the source of a loader's number may give to a list of keys
+-- gives which answers the source of a loader's number may give to a list of keys
 abbrev pub MayAnswer : Type 1
 MayAnswer = ℕ → List KeyOf → AnswerOf → Type 0
 
-abbrev pub may_at : {S : Type 0} → (S → List KeyOf → AnswerOf → Type 0) → List (LoaderOf S) → MayAnswer
-may_at {S} may loaders loader keys answer = (asked : LoaderOf S) × (slice_get loaders loader ≡ Some asked) × may asked.source keys answer
+abbrev pub may_at : {S : Type 0} → (S → List KeyOf → AnswerOf → Type 0)
+    → List (LoaderOf S) → MayAnswer
+may_at {S} may loaders loader keys answer = (asked : LoaderOf S)
+    × (slice_get loaders loader ≡ Some asked) × may asked.source keys answer
 
 -- whatever it is
 abbrev pub any_answer : MayAnswer
@@ -65,7 +67,8 @@ abbrev pub AreReplies : (ℕ → List KeyOf → AnswerOf → Type 0) → List Or
 AreReplies may [] [] = Unit {0}
 AreReplies may [] (reply ∷ replies) = ⊥
 AreReplies may (order ∷ orders) [] = ⊥
-AreReplies may (order ∷ orders) (reply ∷ replies) = IsReply may order reply × AreReplies may orders replies
+AreReplies may (order ∷ orders) (reply ∷ replies) = IsReply may order reply
+    × AreReplies may orders replies
 
 -- the memory with those pairs that are absent, of equal keys the first
 abbrev pub stored : Memory → List PairOf → Memory
@@ -77,14 +80,19 @@ after_round rules M replies = stored M (pairs_of (modes_of rules) replies)
 
 -- Rounds from a memory to another: each asks exactly the batches of the front, which isn't empty, each batch has an answer
 -- that its source may give, and the next memory is the one before with the round's pairs.
-abbrev pub AreRounds : (ℕ → List KeyOf → AnswerOf → Type 0) → List RuleOf → Program → Memory → List (List ReplyOf) → Memory → Type 0
+abbrev pub AreRounds : (ℕ → List KeyOf → AnswerOf → Type 0) → List RuleOf
+    → Program → Memory → List (List ReplyOf) → Memory → Type 0
 AreRounds may rules p M [] end = (loader : ℕ) (key : KeyOf) → end loader key ≡ M loader key
 AreRounds may rules p M (round ∷ rounds) end =
-    (front (modes_of rules) p M ≢ []) × AreReplies may (round_orders rules (front (modes_of rules) p M)) round × AreRounds may rules p (after_round rules M round) rounds end
+    (front (modes_of rules) p M ≢ [])
+    × AreReplies may (round_orders rules (front (modes_of rules) p M)) round
+    × AreRounds may rules p (after_round rules M round) rounds end
 
 -- *Lawful log*: rounds, until the front is empty
-abbrev pub IsLawful : (ℕ → List KeyOf → AnswerOf → Type 0) → List RuleOf → Program → Memory → List (List ReplyOf) → Memory → Type 0
-IsLawful may rules p M rounds end = AreRounds may rules p M rounds end × (front (modes_of rules) p end ≡ [])
+abbrev pub IsLawful : (ℕ → List KeyOf → AnswerOf → Type 0) → List RuleOf
+    → Program → Memory → List (List ReplyOf) → Memory → Type 0
+IsLawful may rules p M rounds end = AreRounds may rules p M rounds end
+    × (front (modes_of rules) p end ≡ [])
 
 -- the memory without batch faults, at which a call's log begins
 abbrev pub without_failed : Memory → Memory
@@ -93,7 +101,8 @@ without_failed M loader key = unless_failed (M loader key)
 -- a pair that a step towards the end may have added: it was missing in the front, and has its outcome at the end
 abbrev pub IsSpared : List KeyMode → Program → Memory → Memory → Memory → ℕ → KeyOf → Type 0
 IsSpared modes p end N N' loader key =
-    (load : Load) × IsOneOf load (front modes p N) × (load.loader ≡ loader) × (cache_key modes load ≡ key) × (N' loader key ≡ end loader key)
+    (load : Load) × IsOneOf load (front modes p N) × (load.loader ≡ loader)
+    × (cache_key modes load ≡ key) × (N' loader key ≡ end loader key)
 
 -- a sparing run from a memory towards the end: each step adds any keys of the front, and the last front is empty
 abbrev pub IsSparing : List KeyMode → Program → Memory → Memory → List Memory → Type 0
@@ -106,7 +115,7 @@ abbrev pub AreLimited : List RuleOf → Type 0
 AreLimited [] = Unit {0}
 AreLimited (rule ∷ rules) = ((n : ℕ) → rule.limit ≡ Some n → 0 < n) × AreLimited rules
 
--- each load that the program may read has one of so many loaders
+-- each load that the program may read is of a loader whose number is below `count`
 abbrev pub HasLoaders : ℕ → Program → Type 0
 HasLoaders count p = (R : Reader) (load : Load) → IsOneOf load (needs p R) → load.loader < count
 
@@ -116,11 +125,14 @@ direct item load = Some (known (item load.loader load.key))
 
 -- keys that are one for their loader have one item
 abbrev pub RespectsCacheKeys : List KeyMode → (ℕ → KeyOf → ItemOf) → Type 0
-RespectsCacheKeys modes item = (loader : ℕ) (j k : KeyOf) → folded (mode_at modes loader) j ≡ folded (mode_at modes loader) k → item loader j ≡ item loader k
+RespectsCacheKeys modes item = (loader : ℕ) (j k : KeyOf) → folded (mode_at modes loader) j
+    ≡ folded (mode_at modes loader) k → item loader j ≡ item loader k
 
 -- the memory has no pair but those that asking key by key gives
 abbrev pub HoldsItems : List KeyMode → (ℕ → KeyOf → ItemOf) → Memory → Type 0
-HoldsItems modes item M = (loader : ℕ) (key : KeyOf) (outcome : OutcomeOf) → M loader (folded (mode_at modes loader) key) ≡ Some outcome → outcome ≡ known (item loader key)
+HoldsItems modes item M = (loader : ℕ) (key : KeyOf) (outcome : OutcomeOf)
+    → M loader (folded (mode_at modes loader) key) ≡ Some outcome
+    → outcome ≡ known (item loader key)
 
 -- a list of pairs with those of another whose keys are absent, one after another
 abbrev pub all_primed : List PairOf → List PairOf → List PairOf

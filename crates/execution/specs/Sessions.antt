@@ -28,7 +28,7 @@ abbrev pub AreApart : List Cell → Type 0
 AreApart [] = Unit {0}
 AreApart (c ∷ cs) = (IsOneOf c cs → ⊥) × AreApart cs
 
--- what orders ask
+-- gives what orders ask
 abbrev pub order_cells : List KeyMode → List OrderOf → List Cell
 order_cells modes [] = []
 order_cells modes (o ∷ os) = map (key_cell modes o.loader) o.keys ++ order_cells modes os
@@ -62,20 +62,24 @@ after rules M Restarted = without (λ c. true) M
 
 -- a round's loads are some that the memory lacks, of equal cache keys the first
 abbrev pub AreMissing : List KeyMode → Memory → List Load → Type 0
-AreMissing modes M loads = (needed : List Load) × (loads ≡ firsts modes (missing (read modes M) needed))
+AreMissing modes M loads = (needed : List Load)
+    × (loads ≡ firsts modes (missing (read modes M) needed))
 
 abbrev pub IsStep : (ℕ → List KeyOf → AnswerOf → Type 0) → List RuleOf → Memory → Step → Type 0
 IsStep may rules M Forgot = Unit {0}
-IsStep may rules M (AskedLoads loads replies) = AreMissing (modes_of rules) M loads × AreReplies may (round_orders rules loads) replies
+IsStep may rules M (AskedLoads loads replies) = AreMissing (modes_of rules) M loads
+    × AreReplies may (round_orders rules loads) replies
 IsStep may rules M (Lost loads) = AreMissing (modes_of rules) M loads
 IsStep may rules M (Primed pair) = Unit {0}
 IsStep may rules M (Cleared cell) = Unit {0}
 IsStep may rules M (ClearedAll loader) = Unit {0}
 IsStep may rules M Restarted = Unit {0}
 
-abbrev pub AreSteps : (ℕ → List KeyOf → AnswerOf → Type 0) → List RuleOf → Memory → List Step → Type 0
+abbrev pub AreSteps : (ℕ → List KeyOf → AnswerOf → Type 0)
+    → List RuleOf → Memory → List Step → Type 0
 AreSteps may rules M [] = Unit {0}
-AreSteps may rules M (step ∷ steps) = IsStep may rules M step × AreSteps may rules (after rules M step) steps
+AreSteps may rules M (step ∷ steps) = IsStep may rules M step
+    × AreSteps may rules (after rules M step) steps
 
 abbrev pub clears : Cell → Step → Bool
 clears cell Forgot = false
@@ -88,17 +92,20 @@ clears cell Restarted = true
 
 -- the batch failed as a whole
 abbrev pub HasFailed : ReplyOf → Type 0
-HasFailed reply = (text : List ℕ) × (reply.outcomes ≡ replicate (length reply.keys) (batch_fault text))
+HasFailed reply = (text : List ℕ)
+    × (reply.outcomes ≡ replicate (length reply.keys) (batch_fault text))
 
 -- the cell was asked in a batch that failed as a whole
 abbrev pub FailedAt : List KeyMode → Cell → List ReplyOf → Type 0
-FailedAt modes cell replies = (reply : ReplyOf) × IsOneOf reply replies × IsOneOf cell (map (key_cell modes reply.loader) reply.keys) × HasFailed reply
+FailedAt modes cell replies = (reply : ReplyOf) × IsOneOf reply replies
+    × IsOneOf cell (map (key_cell modes reply.loader) reply.keys) × HasFailed reply
 
 -- between two rounds that ask one cell it was cleared, or the earlier batch failed as a whole
 abbrev pub IsAskedAgainRightly : List KeyMode → Cell → List ReplyOf → List Step → Type 0
-IsAskedAgainRightly modes cell replies between = (list_any (clears cell) between ≡ true) ⊎ FailedAt modes cell replies
+IsAskedAgainRightly modes cell replies between = (list_any (clears cell) between ≡ true)
+    ⊎ FailedAt modes cell replies
 
--- what the rounds from a memory ask, one after another
+-- gives what the rounds from a memory ask, one after another
 abbrev pub asked_cells : List RuleOf → Program → Memory → List (List ReplyOf) → List Cell
 asked_cells rules p M [] = []
 asked_cells rules p M (round ∷ rounds) =

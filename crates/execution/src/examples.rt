@@ -1,4 +1,4 @@
-//! What the definitions give on small programs, whose answers were worked by hand from the rules.
+//! Examples of what the definitions give on small programs, whose answers were worked by hand from the rules.
 ghost use Rattle.std.specs.Prelude.{◌≡◌, List, [], ◌∷◌, Some, None, codes};
 ghost use Rattle.execution.specs.Loads.{Load};
 ghost use Rattle.execution.specs.Program.{Program, needs, chain};
@@ -21,8 +21,10 @@ pub fn completed_by_hand()
 /// Loads are read depth first, past a position that is open; a fault of a load is an error of its position.
 pub fn read_by_hand()
     ensures waits { exec three_loads first_answered ≡ None }
-    ensures first { needs three_loads unanswered ≡ load_of 0 (codes "1") ∷ load_of 0 (codes "2") ∷ load_of 0 (codes "1") ∷ [] }
-    ensures more { needs three_loads first_answered ≡ load_of 0 (codes "1") ∷ load_of 0 (codes "2") ∷ load_of 1 (codes "3") ∷ load_of 0 (codes "1") ∷ [] }
+    ensures first { needs three_loads unanswered
+        ≡ load_of 0 (codes "1") ∷ load_of 0 (codes "2") ∷ load_of 0 (codes "1") ∷ [] }
+    ensures more { needs three_loads first_answered ≡ load_of 0 (codes "1") ∷ load_of 0
+        (codes "2") ∷ load_of 1 (codes "3") ∷ load_of 0 (codes "1") ∷ [] }
     ensures chain { chain three_loads first_answered ≡ 2 }
     ensures longer { chain through_four_loaders fault_answered ≡ 4 }
     ensures faults { exec three_loads fault_answered ≡ Some three_faults }
@@ -32,8 +34,12 @@ pub fn read_by_hand()
 /// of another length than the keys gives each key the batch fault that says so.
 pub fn rounds_by_hand()
     ensures first { firsts (modes_of two_loaders) five_loads ≡ four_loads }
-    ensures orders { round_orders two_loaders (firsts (modes_of two_loaders) five_loads) ≡ three_orders }
-    ensures folded { after_round two_loaders nothing_known (one_item_too_few ∷ []) 0 (text (codes "abc")) ≡ Some one_of_two }
-    ensures other { after_round two_loaders nothing_known (one_item_too_few ∷ []) 0 (text (codes "ABC")) ≡ None }
-    ensures forgotten { without_failed (after_round two_loaders nothing_known (one_item_too_few ∷ [])) 0 (text (codes "b")) ≡ None }
+    ensures orders { round_orders two_loaders (firsts (modes_of two_loaders) five_loads)
+        ≡ three_orders }
+    ensures folded { after_round two_loaders nothing_known
+        (one_item_too_few ∷ []) 0 (text (codes "abc")) ≡ Some one_of_two }
+    ensures other { after_round two_loaders nothing_known
+        (one_item_too_few ∷ []) 0 (text (codes "ABC")) ≡ None }
+    ensures forgotten { without_failed (after_round two_loaders
+        nothing_known (one_item_too_few ∷ [])) 0 (text (codes "b")) ≡ None }
 {}

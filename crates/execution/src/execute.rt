@@ -1,4 +1,4 @@
-//! What can be executed over a memory.
+//! Executions over a memory.
 ghost use Rattle.std.specs.Prelude.{ℕ, List, IfOk, OnOk};
 ghost use Rattle.load_memory.specs.Pairs.{MemoryOf};
 ghost use Rattle.execution.specs.Program.{Program};
@@ -7,17 +7,22 @@ ghost use Rattle.execution.specs.Rounds.{HasLoaders};
 ghost use Rattle.execution.specs.Executes.{CanExecute, IsExecuted, FitsFrom};
 
 use futures::task::Poll;
-use load_memory::{Memory, NoMemory};
+use load_memory::Memory;
 use load_queue::Wants;
-use std::alloc::Global;
+use std::alloc::{AllocError, Global};
 
 /// Something that loads keys and returns a text, as a GraphQL plan does. It is ready over a memory that has everything
 /// it needs, and otherwise says exactly which loads are missing.
 ///
 /// `E` is how far an execution of it is. An execution is kept from one memory to the next, if that one has at least the
 /// same pairs.
+///
+/// `E` is a parameter and no associated type: an `impl` of another crate's trait has to name a type of its own
+/// crate, as that of `gq_resolve` for plans names its progress. The trait has a lifetime, since a progress
+/// borrows the plan, and laws of such a trait can't be used by a caller; so [`execute`](Execute::execute)
+/// itself says which loaders are asked (`within`).
 pub trait Execute<'p, E> {
-    // what it asks, one load at a time
+    // the program: the loads that it asks for, one at a time
     ghost program: { Self → Program };
 
     // the text of a response with its errors
@@ -34,16 +39,22 @@ pub trait Execute<'p, E> {
         ensures { (m : MemoryOf) → fits self.now result m };
 
     /// Goes on with an execution over the memory. If loads are missing, adds them to the wants.
+    ///
+    /// # Errors
+    ///
+    /// When out of memory. The trait says nothing then of the wants, which a session drops, nor of the
+    /// progress, which fails with its answer.
     fn execute(
         &'p self,
         progress: &mut E,
         alloc: Global,
         memory: &Memory,
         wants: &mut Wants,
-    ) -> Result<Poll<String>, NoMemory>
+    ) -> Result<Poll<String>, AllocError>
         requires can { CanExecute (loaders self.now) memory.now wants.old }
         requires fits { fits self.now progress.old memory.now }
-        ensures executed { IfOk result (IsExecuted (text_of self.now) wants.old wants.new (program self.now) memory.now) }
+        ensures executed { IfOk result
+            (IsExecuted (text_of self.now) wants.old wants.new (program self.now) memory.now) }
         ensures fits { OnOk result (FitsFrom (fits self.now progress.new) memory.now) }
         ensures within { HasLoaders (loaders self.now) (program self.now) };
 }

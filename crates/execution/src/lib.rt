@@ -1,4 +1,4 @@
-//! What a plan asks as a program, and all that follows from it: definitions and their laws, with no code that runs.
+//! Program of a plan, and all that follows from it: definitions and their laws, with no code that runs.
 //!
 //! A program is what is left of a plan once its operation, fragments and bindings are read: at each position it has an own
 //! value, or reads a load and goes on by its outcome, or has positions below it. The execution tree, the loads that are

@@ -29,7 +29,7 @@ both : (o : Option OrderOf) → option_map (λ keys. length keys) (option_map ke
 both None = refl
 both (Some o) = refl
 
--- how many keys the order of a number has
+-- the number of keys that the order of a number has
 pub count-of : (orders : List OrderOf) (lists : List (List KeyOf)) (i : ℕ) → map keys_of orders ≡ lists
     → option_map (λ keys. length keys) (slice_get lists i) ≡ option_map (λ o. length (keys_of o)) (slice_get orders i)
 count-of orders lists i e = rw (← e, slice_get-map keys_of orders i) (both (slice_get orders i))

@@ -1,4 +1,4 @@
--- What is written says what was given.
+-- Buffers that were written say the orders that were given.
 use Rattle.std.proofs.Common.{◌≡◌, ◌<◌, ◌≤◌, ◌+◌, ◌-◌, ℕ, zero, suc, List, [], ◌∷◌, ◌++◌, get_or, take, drop, map, length, refl, sym, ap, ◌∙◌, subst, arith, length-drop}
 use Rattle.std.proofs.lemmas.List.{length-take-le, take_more, map_push, map-append, append_assoc, flat_map_more}
 use Rattle.std.proofs.lemmas.List.Concat.{flat_map-append}
@@ -75,7 +75,7 @@ written-more lists counts shapes texts w keys =
       texts_are = rw (w.texts_are, ← all) (sym (flat_map-append texts_in (keys_in lists) keys));
     }
 
--- what is written is what the buffers say
+-- the orders that were written are those that the buffers say
 pub written-said : (lists : List (List KeyOf)) (counts shapes : List ℕ) (texts : List (List ℕ)) → AreWritten lists counts shapes texts
     → AreWritten (lists_said counts shapes texts) counts shapes texts
 written-said lists counts shapes texts w = subst (λ l. AreWritten l counts shapes texts) (sym (said-back lists counts shapes texts w)) w

@@ -10,7 +10,8 @@ paired_orders [] lists = []
 paired_orders (l ∷ ls) [] = []
 paired_orders (l ∷ ls) (keys ∷ lists) = order_of l keys ∷ paired_orders ls lists
 
--- the orders that these numbers and texts say: the loader of each order and how many keys it has, how many texts each key has, and the texts
+-- the orders that these numbers and texts say: the loader of each order and how many keys it has, how many texts each
+-- key has, and the texts
 abbrev pub orders_said : List ℕ → List ℕ → List ℕ → List (List ℕ) → List OrderOf
 orders_said loaders counts shapes texts = paired_orders loaders (lists_said counts shapes texts)
 

@@ -1,4 +1,4 @@
--- How lists of keys are written into flat buffers, and what such buffers say.
+-- Definitions of how lists of keys are written into flat buffers, and what such buffers say.
 use Rattle.std.specs.Prelude.{ℕ, ◌≡◌, List, [], ◌∷◌, map, take, drop, length}
 use Rattle.std.specs.List.{flat_map, sum_by}
 use Rattle.load_memory.specs.Keys.{KeyOf, all, text, pair}
@@ -48,7 +48,8 @@ size_of texts = sum_by length texts
 
 -- buffers are of just the size that the lists take: for the numbers of keys, the numbers of texts, the ends and the bytes
 abbrev pub AreOfSize : List (List KeyOf) → List ℕ → List ℕ → List ℕ → List ℕ → Type 0
-AreOfSize lists counts shapes ends bytes = (length counts ≡ length lists) × (length shapes ≡ length (keys_in lists))
+AreOfSize lists counts shapes ends bytes = (length counts ≡ length lists)
+    × (length shapes ≡ length (keys_in lists))
     × (length ends ≡ length (all_texts lists)) × (length bytes ≡ size_of (all_texts lists))
 
 -- these buffers are the lists, written

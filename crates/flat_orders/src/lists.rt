@@ -6,11 +6,11 @@ ghost use Rattle.std.specs.List.{flat_map};
 ghost use Rattle.flat_orders.specs.Written.{AreOfSize, all_texts, keys_in, lists_said, shape_of, size_of, texts_in};
 
 use crate::texts::{TextBuffer, WrongSize};
-use load_memory::{Key, NoMemory};
-use std::alloc::Global;
+use load_memory::Key;
+use std::alloc::{AllocError, Global};
 use std::marker::Model;
 
-/// How many elements the buffers have to hold that [`KeyLists::copy_to`] fills.
+/// Says how many elements the buffers have to hold that [`KeyLists::copy_to`] fills.
 #[derive(Clone, Copy, Debug, PartialEq, Eq)]
 pub struct KeySizes {
     pub lists: usize,
@@ -44,8 +44,9 @@ impl Model for KeyLists {
 }
 
 // Writes a key at the end. When out of memory, nothing is known of what was written.
-fn write_key(shapes: &mut Vec<u32>, texts: &mut TextBuffer, key: &Key) -> Result<(), NoMemory>
-    ensures shape { OnOk result (shapes.new.items ≡ shapes.old.items ++ shape_of (key_of key.now) ∷ []) }
+fn write_key(shapes: &mut Vec<u32>, texts: &mut TextBuffer, key: &Key) -> Result<(), AllocError>
+    ensures shape { OnOk result
+        (shapes.new.items ≡ shapes.old.items ++ shape_of (key_of key.now) ∷ []) }
     ensures texts { OnOk result (texts.new ≡ texts.old ++ texts_in (key_of key.now)) }
 {
     match key {
@@ -64,8 +65,9 @@ fn write_key(shapes: &mut Vec<u32>, texts: &mut TextBuffer, key: &Key) -> Result
 }
 
 // Writes keys at the end. When out of memory, nothing is known of what was written.
-fn write_keys(shapes: &mut Vec<u32>, texts: &mut TextBuffer, keys: &[Key]) -> Result<(), NoMemory>
-    ensures shapes { OnOk result (shapes.new.items ≡ shapes.old.items ++ map shape_of (map key_of keys.now)) }
+fn write_keys(shapes: &mut Vec<u32>, texts: &mut TextBuffer, keys: &[Key]) -> Result<(), AllocError>
+    ensures shapes { OnOk result
+        (shapes.new.items ≡ shapes.old.items ++ map shape_of (map key_of keys.now)) }
     ensures texts { OnOk result (texts.new ≡ texts.old ++ flat_map texts_in (map key_of keys.now)) }
 {
     for key in keys {
@@ -86,12 +88,14 @@ impl KeyLists {
         }
     }
 
-    /// The same with one list more at the end.
+    /// Does the same with one list more at the end.
+    ///
+    /// Lists are taken by value, so that what was half written goes with them when memory runs out.
     ///
     /// # Errors
     ///
     /// When out of memory, or where there would be more keys or bytes than 32 bits count.
-    pub fn with(self, keys: &[Key]) -> Result<KeyLists, NoMemory>
+    pub fn with(self, keys: &[Key]) -> Result<KeyLists, AllocError>
         ensures { IfOk result (λ lists. lists ≡ self ++ map key_of keys.now ∷ []) }
     {
         let KeyLists {
@@ -100,7 +104,7 @@ impl KeyLists {
             mut texts,
         } = self;
         let Ok(count) = u32::try_from(keys.len()) else {
-            return Err(NoMemory);
+            return Err(AllocError);
         };
         counts.push(count)?;
         write_keys(&mut shapes, &mut texts, keys)?;
@@ -111,7 +115,7 @@ impl KeyLists {
         })
     }
 
-    /// How many elements the buffers have to hold that [`copy_to`](KeyLists::copy_to) fills.
+    /// Returns how many elements the buffers have to hold that [`copy_to`](KeyLists::copy_to) fills.
     pub fn sizes(&self) -> KeySizes
         ensures lists { result.lists ≡ length self.now }
         ensures keys { result.keys ≡ length (keys_in self.now) }
@@ -126,7 +130,7 @@ impl KeyLists {
         }
     }
 
-    /// How many keys the list of this number has, if there is one.
+    /// Returns how many keys the list of this number has, if there is one.
     pub fn count(&self, number: usize) -> Option<usize>
         ensures { result ≡ option_map (λ keys. length keys) (slice_get self.now number) }
     {
@@ -149,9 +153,12 @@ impl KeyLists {
         ends: &mut [u32],
         bytes: &mut [u8],
     ) -> Result<(), WrongSize>
-        ensures copied { OnOk result (lists_said counts.new shapes.new (cut bytes.new 0 ends.new) ≡ self.now) }
-        ensures kept { OnErr result ((counts.new ≡ counts.old) × (shapes.new ≡ shapes.old) × (ends.new ≡ ends.old) × (bytes.new ≡ bytes.old)) }
-        ensures refused { OnErr result (¬ (AreOfSize self.now counts.old shapes.old ends.old bytes.old)) }
+        ensures copied { OnOk result
+            (lists_said counts.new shapes.new (cut bytes.new 0 ends.new) ≡ self.now) }
+        ensures kept { OnErr result ((counts.new ≡ counts.old) × (shapes.new ≡ shapes.old)
+            × (ends.new ≡ ends.old) × (bytes.new ≡ bytes.old)) }
+        ensures refused { OnErr result
+            (¬ (AreOfSize self.now counts.old shapes.old ends.old bytes.old)) }
     {
         if counts.len() != self.counts.len() || shapes.len() != self.shapes.len() {
             return Err(WrongSize);

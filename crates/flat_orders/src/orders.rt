@@ -8,13 +8,16 @@ ghost use Rattle.flat_orders.specs.Written.{all_texts, keys_in, size_of};
 
 use crate::lists::{KeyLists, KeySizes};
 use crate::texts::WrongSize;
-use load_memory::{Key, NoMemory};
-use std::alloc::Global;
+use load_memory::Key;
+use std::alloc::{AllocError, Global};
 use std::marker::Model;
 
 /// Orders in flat buffers: for each the number of its loader, and its keys.
 ///
 /// A contract sees them as orders.
+///
+/// Orders are written once, when their round is made, so the sizes that a host asks for are those of what it
+/// copies then, and a copy is a few moves of bytes.
 #[derive(Drop)]
 pub struct FlatOrders {
     loaders: Vec<u32>,
@@ -44,20 +47,21 @@ impl FlatOrders {
         }
     }
 
-    /// The same with one order more at the end.
+    /// Does the same with one order more at the end.
     ///
     /// # Errors
     ///
     /// When out of memory, or where there would be more keys or bytes than 32 bits count.
-    pub fn with(self, loader: usize, keys: &[Key]) -> Result<FlatOrders, NoMemory>
-        ensures { IfOk result (λ orders. orders ≡ self ++ order_of loader (map key_of keys.now) ∷ []) }
+    pub fn with(self, loader: usize, keys: &[Key]) -> Result<FlatOrders, AllocError>
+        ensures { IfOk result (λ orders.
+            orders ≡ self ++ order_of loader (map key_of keys.now) ∷ []) }
     {
         let FlatOrders {
             mut loaders,
             keys: lists,
         } = self;
         let Ok(loader) = u32::try_from(loader) else {
-            return Err(NoMemory);
+            return Err(AllocError);
         };
         loaders.push(loader)?;
         let lists = lists.with(keys)?;
@@ -67,7 +71,8 @@ impl FlatOrders {
         })
     }
 
-    /// How many elements the buffers have to hold that [`copy_to`](FlatOrders::copy_to) fills. There is a list of keys for each order.
+    /// Returns how many elements the buffers have to hold that [`copy_to`](FlatOrders::copy_to) fills. There is a list of keys for each
+    /// order.
     pub fn sizes(&self) -> KeySizes
         ensures orders { result.lists ≡ length self.now }
         ensures keys { result.keys ≡ length (keys_in (map keys_of self.now)) }
@@ -77,7 +82,7 @@ impl FlatOrders {
         self.keys.sizes()
     }
 
-    /// How many keys the order of this number has, if there is one.
+    /// Returns how many keys the order of this number has, if there is one.
     pub fn count(&self, number: usize) -> Option<usize>
         ensures { result ≡ option_map (λ o. length (keys_of o)) (slice_get self.now number) }
     {
@@ -98,8 +103,10 @@ impl FlatOrders {
         ends: &mut [u32],
         bytes: &mut [u8],
     ) -> Result<(), WrongSize>
-        ensures copied { OnOk result (orders_said loaders.new counts.new shapes.new (cut bytes.new 0 ends.new) ≡ self.now) }
-        ensures kept { OnErr result ((loaders.new ≡ loaders.old) × (counts.new ≡ counts.old) × (shapes.new ≡ shapes.old)) }
+        ensures copied { OnOk result
+            (orders_said loaders.new counts.new shapes.new (cut bytes.new 0 ends.new) ≡ self.now) }
+        ensures kept { OnErr result
+            ((loaders.new ≡ loaders.old) × (counts.new ≡ counts.old) × (shapes.new ≡ shapes.old)) }
         ensures kept_texts { OnErr result ((ends.new ≡ ends.old) × (bytes.new ≡ bytes.old)) }
     {
         if loaders.len() != self.loaders.len() {

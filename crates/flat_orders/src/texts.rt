@@ -3,8 +3,7 @@ ghost use Rattle.std.specs.Prelude.{◌≡◌, ◌++◌, ◌∷◌, [], ◌↔�
 ghost use Rattle.load_memory.specs.Cells.{cut};
 ghost use Rattle.flat_orders.specs.Written.{size_of};
 
-use load_memory::NoMemory;
-use std::alloc::Global;
+use std::alloc::{AllocError, Global};
 use std::marker::Model;
 use thiserror::Error;
 
@@ -44,14 +43,14 @@ impl TextBuffer {
         }
     }
 
-    /// How many texts there are.
+    /// Returns how many texts there are.
     pub fn len(&self) -> usize
         ensures { result ≡ length self.now }
     {
         self.ends.len()
     }
 
-    /// How many bytes they have together.
+    /// Returns how many bytes they have together.
     pub fn byte_len(&self) -> usize
         ensures { result ≡ size_of self.now }
     {
@@ -59,13 +58,13 @@ impl TextBuffer {
     }
 
     /// Adds a text at the end. When out of memory, or where the texts would have 4 GiB together, it is as it was.
-    pub fn push(&mut self, text: &str) -> Result<(), NoMemory>
+    pub fn push(&mut self, text: &str) -> Result<(), AllocError>
         ensures ok { OnOk result (self.new ≡ self.old ++ text.now ∷ []) }
         ensures err { OnErr result (self.new ≡ self.old) }
     {
         self.text.reserve(text.len())?;
         let Ok(end) = u32::try_from(self.text.len() + text.len()) else {
-            return Err(NoMemory);
+            return Err(AllocError);
         };
         self.ends.push(end)?;
         self.text.push_str(text)?;
@@ -78,7 +77,8 @@ impl TextBuffer {
     ///
     /// [`WrongSize`] where `ends` hasn't an element for each text, or `bytes` for each of their bytes.
     pub fn copy_to(&self, ends: &mut [u32], bytes: &mut [u8]) -> Result<(), WrongSize>
-        ensures sizes { IsOk result ↔ (length ends.old ≡ length self.now) × (length bytes.old ≡ size_of self.now) }
+        ensures sizes { IsOk result
+            ↔ (length ends.old ≡ length self.now) × (length bytes.old ≡ size_of self.now) }
         ensures copied { OnOk result (cut bytes.new 0 ends.new ≡ self.now) }
         ensures kept { OnErr result ((ends.new ≡ ends.old) × (bytes.new ≡ bytes.old)) }
     {

@@ -95,7 +95,7 @@ pub parts-next : (f : List ℕ × List ℕ → List ℕ) (row : RowOf) (i : ℕ)
     → (old done : List (List ℕ)) → done ≡ old ++ map f (take i row) → done ++ t ∷ [] ≡ old ++ map f (take (i + 1) row)
 parts-next f row i t lt is old done e = rw (map_more f row i ([], []) lt, is, e) (append_assoc old (map f (take i row)) (f (get_or row i ([], [])) ∷ []))
 
--- how long the buffers are that are outcomes, written, and how many bytes the texts have
+-- the lengths of the buffers into which outcomes are written, and the number of bytes of their texts
 pub sizes-of : (os : List OutcomeOf) (counts widths : List ℕ) (texts faults : List (List ℕ)) → AreWritten os counts widths texts faults
     → (length counts ≡ length os) × (length widths ≡ length (all_rows os)) × (length texts ≡ length (row_texts os)) × (size_of texts ≡ size_of (row_texts os))
 sizes-of os counts widths texts faults w =

@@ -1,4 +1,4 @@
--- What is written says what was given.
+-- Buffers that were written say the outcomes that were given.
 use Rattle.std.proofs.Common.{◌≡◌, ◌<◌, ℕ, Bool, true, false, List, [], ◌∷◌, ◌++◌, drop, map, length, refl, sym, ap, ◌∙◌, subst, arith}
 use Rattle.std.proofs.lemmas.Bool.{ne_eqb}
 use Rattle.std.proofs.lemmas.List.{take_at, drop_at, append_assoc, length-map}
@@ -18,7 +18,7 @@ row-back (p ∷ ps) = ap (λ l. p ∷ l) (row-back ps)
 same-names : (one other : RowOf) → have_same_names one other ≡ true → names_of one ≡ names_of other
 same-names one other e = (slice_eq-Decides bytes_eq-Decides (names_of one) (names_of other) (have_same_names one other) refl).0 e
 
--- what is read of a row that was written after another
+-- says what is read of a row that was written after another
 record IsBack (before row : RowOf) (more : List (List ℕ)) : Type 0 where
   names : names_said (names_of before) (width_after before row) (texts_after before row ++ more) ≡ names_of row
   fields : after_names (width_after before row) (texts_after before row ++ more) ≡ fields_of row ++ more
@@ -68,7 +68,7 @@ few-narrow : (os : List OutcomeOf) → All IsFewOf os → All IsNarrow (all_rows
 few-narrow [] few = All-nil IsNarrow
 few-narrow (o ∷ os) few = All-append IsNarrow (rows_in o) (all_rows os) (All-head IsFewOf o os few).1 (few-narrow os (All-tail IsFewOf o os few))
 
--- what is read of an outcome that was written before others
+-- says what is read of an outcome that was written before others
 record IsTold (o : OutcomeOf) (all : List RowOf) (faults : List (List ℕ)) : Type 0 where
   outcome : outcome_said (count_of o) (rows_in o ++ all) (faults_in o ++ faults) ≡ o
   rows_left : drop (rows_taken (count_of o)) (rows_in o ++ all) ≡ all
@@ -100,7 +100,7 @@ pub said-back : (os : List OutcomeOf) (counts widths : List ℕ) (texts faults :
 said-back os counts widths texts faults w =
     rw (w.counts_are, w.widths_are, w.texts_are, w.faults_are, rows-back [] (all_rows os) (few-narrow os w.few)) (outcomes-back os w.few)
 
--- what is written is what the buffers say
+-- the outcomes that were written are those that the buffers say
 pub written-said : (os : List OutcomeOf) (counts widths : List ℕ) (texts faults : List (List ℕ)) → AreWritten os counts widths texts faults
     → AreWritten (outcomes_said counts widths texts faults) counts widths texts faults
 written-said os counts widths texts faults w = subst (λ l. AreWritten l counts widths texts faults) (sym (said-back os counts widths texts faults w)) w

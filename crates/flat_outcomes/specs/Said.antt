@@ -1,17 +1,17 @@
--- What the flat buffers of outcomes say.
+-- Definitions of what the flat buffers of outcomes say.
 use Rattle.std.specs.Prelude.{ℕ, List, [], ◌∷◌, take, drop, length, get_or, if◌then◌else◌, ◌==◌}
 use Rattle.load_memory.specs.Outcomes.{OutcomeOf, known, batch_fault, rows, key_fault}
 use Rattle.load_memory.specs.Rows.{RowOf, paired}
 
--- what stands for a number of rows where a key has a fault
+-- gives what stands for a number of rows where a key has a fault
 abbrev pub key_mark : ℕ
 key_mark = 4294967295
 
--- what stands for a number of rows where the batch of a key failed
+-- gives what stands for a number of rows where the batch of a key failed
 abbrev pub batch_mark : ℕ
 batch_mark = 4294967294
 
--- what stands for a number of columns where they are those of the row before
+-- gives what stands for a number of columns where they are those of the row before
 abbrev pub same_mark : ℕ
 same_mark = 4294967295
 
@@ -39,15 +39,15 @@ rows_said before (width ∷ widths) texts =
 
 -- ---- the outcomes of the keys, in order
 
--- how many of the rows a key takes
+-- gives how many of the rows a key takes
 abbrev pub rows_taken : ℕ → ℕ
 rows_taken count = if count == key_mark then 0 else (if count == batch_mark then 0 else count)
 
--- how many of the faults a key takes
+-- gives how many of the faults a key takes
 abbrev pub faults_taken : ℕ → ℕ
 faults_taken count = if count == key_mark then 1 else (if count == batch_mark then 1 else 0)
 
--- a key takes the first fault, as its own or as that of its batch, or so many of the rows
+-- a key takes the first fault, as its own or as that of its batch, or the first `count` of the rows
 abbrev pub outcome_said : ℕ → List RowOf → List (List ℕ) → OutcomeOf
 outcome_said count all faults =
     if count == key_mark then known (key_fault (get_or faults 0 []))

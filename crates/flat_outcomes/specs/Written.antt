@@ -1,4 +1,4 @@
--- How outcomes are written into flat buffers.
+-- Definitions of how outcomes are written into flat buffers.
 use Rattle.std.specs.Prelude.{ℕ, ◌≡◌, ◌<◌, Bool, List, [], ◌∷◌, ◌++◌, Option, option_copied, map, length, unwrap_or, if◌then◌else◌, All, bytes_eq}
 use Rattle.std.specs.Borrow.{Bor}
 use Rattle.std.specs.Cmp.Lexicographic.{pointwise}
@@ -96,7 +96,8 @@ IsFew all = (length all < batch_mark) × All IsNarrow all
 -- buffers are of just the size that the outcomes take: for the numbers of rows, the numbers of columns, and the ends and the bytes of
 -- the texts of rows
 abbrev pub AreOfSize : List OutcomeOf → List ℕ → List ℕ → List ℕ → List ℕ → Type 0
-AreOfSize outcomes counts widths ends bytes = (length counts ≡ length outcomes) × (length widths ≡ length (all_rows outcomes))
+AreOfSize outcomes counts widths ends bytes = (length counts ≡ length outcomes)
+    × (length widths ≡ length (all_rows outcomes))
     × (length ends ≡ length (row_texts outcomes)) × (length bytes ≡ size_of (row_texts outcomes))
 
 -- these buffers are the outcomes, written

@@ -6,32 +6,32 @@ ghost use Rattle.flat_orders.specs.Written.{size_of};
 ghost use Rattle.flat_outcomes.specs.Said.{outcomes_said};
 ghost use Rattle.flat_outcomes.specs.Written.{AreOfSize, IsFew, all_faults, all_rows, count_of, faults_in, last_row, row_before, row_texts, rows_in, texts_of, widths_of};
 
-use crate::rows::{counted, write_rows};
+use crate::rows::{count_below, write_rows};
 use flat_orders::{TextBuffer, WrongSize};
-use load_memory::{NoMemory, Outcome, Row};
-use std::alloc::Global;
+use load_memory::{Outcome, Row};
+use std::alloc::{AllocError, Global};
 use std::marker::Model;
 
-/// What stands for a number of rows where a key has a fault.
+/// Says what stands for a number of rows where a key has a fault.
 pub const KEY_FAULT: u32 = u32::MAX;
 
-/// What stands for a number of rows where the batch in which the key was asked failed as a whole.
+/// Says what stands for a number of rows where the batch in which the key was asked failed as a whole.
 pub const BATCH_FAULT: u32 = u32::MAX - 1;
 
-/// How many elements the buffers have to hold that [`FlatOutcomes::copy_rows_to`] and [`FlatOutcomes::copy_faults_to`] fill.
+/// Says how many elements the buffers have to hold that [`FlatOutcomes::copy_rows_to`] and [`FlatOutcomes::copy_faults_to`] fill.
 #[derive(Clone, Copy, Debug, PartialEq, Eq)]
 pub struct OutcomeSizes {
-    /// How many keys there are: a number of rows for each.
+    /// Says how many keys there are: a number of rows for each.
     pub keys: usize,
-    /// How many rows all keys have: a number of columns for each.
+    /// Says how many rows all keys have: a number of columns for each.
     pub rows: usize,
-    /// How many texts the rows have, with the names of columns that are written: an end for each.
+    /// Says how many texts the rows have, with the names of columns that are written: an end for each.
     pub texts: usize,
-    /// How many bytes these texts have.
+    /// Says how many bytes these texts have.
     pub bytes: usize,
-    /// How many keys have a fault, of their own or of their batch: an end for each.
+    /// Says how many keys have a fault, of their own or of their batch: an end for each.
     pub faults: usize,
-    /// How many bytes the texts of the faults have.
+    /// Says how many bytes the texts of the faults have.
     pub fault_bytes: usize,
 }
 
@@ -51,7 +51,7 @@ fn write_outcome<'a>(
     buffers: &mut Buffers,
     before: Option<&'a Row>,
     outcome: &'a Outcome,
-) -> Result<Option<&'a Row>, NoMemory>
+) -> Result<Option<&'a Row>, AllocError>
     ensures few { OnOk result (IsFew (rows_in (outcome_of outcome.now))) }
     ensures count { let count = count_of (outcome_of outcome.now) in
         OnOk result (buffers.new.counts.items ≡ buffers.old.counts.items ++ count ∷ []) }
@@ -66,7 +66,7 @@ fn write_outcome<'a>(
 {
     match outcome {
         Outcome::Rows(rows) => {
-            buffers.counts.push(counted(rows.len(), BATCH_FAULT)?)?;
+            buffers.counts.push(count_below(rows.len(), BATCH_FAULT)?)?;
             write_rows(&mut buffers.widths, &mut buffers.texts, before, rows)
         }
         Outcome::KeyFault(fault) => {
@@ -109,7 +109,7 @@ impl FlatOutcomes {
     ///
     /// When out of memory, or where a key has 4,294,967,294 rows or more, a row 4,294,967,295 columns or more, or the texts of the rows or
     /// those of the faults 4 GiB together.
-    pub fn of(alloc: Global, outcomes: &[Outcome]) -> Result<FlatOutcomes, NoMemory>
+    pub fn of(alloc: Global, outcomes: &[Outcome]) -> Result<FlatOutcomes, AllocError>
         ensures { IfOk result (λ flat. flat ≡ map outcome_of outcomes.now) }
     {
         let mut buffers = Buffers {
@@ -125,7 +125,7 @@ impl FlatOutcomes {
         Ok(FlatOutcomes { buffers })
     }
 
-    /// How many elements the buffers have to hold that [`copy_rows_to`](FlatOutcomes::copy_rows_to) and
+    /// Returns how many elements the buffers have to hold that [`copy_rows_to`](FlatOutcomes::copy_rows_to) and
     /// [`copy_faults_to`](FlatOutcomes::copy_faults_to) fill.
     pub fn sizes(&self) -> OutcomeSizes
         ensures keys { result.keys ≡ length self.now }

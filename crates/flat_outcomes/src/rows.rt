@@ -4,13 +4,14 @@ ghost use Rattle.flat_outcomes.specs.Said.{same_mark};
 ghost use Rattle.flat_outcomes.specs.Written.{IsNarrow, fields_of, have_same_names, last_row, names_after, names_of, row_before, texts_after, texts_of, width_after, widths_of};
 
 use flat_orders::TextBuffer;
-use load_memory::{NoMemory, Row};
+use load_memory::Row;
+use std::alloc::AllocError;
 
-/// What stands for a number of columns where they are those of the row before.
+/// Says what stands for a number of columns where they are those of the row before.
 pub const SAME_COLUMNS: u32 = u32::MAX;
 
 // A number below a mark. `NoMemory` where it isn't.
-pub(crate) fn counted(count: usize, mark: u32) -> Result<u32, NoMemory>
+pub(crate) fn count_below(count: usize, mark: u32) -> Result<u32, AllocError>
     ensures ok { IfOk result (λ n. n ≡ count) }
     ensures below { IfOk result (λ n. n < mark) }
     ensures err { IfErr result (λ _. mark ≤ count) }
@@ -18,11 +19,11 @@ pub(crate) fn counted(count: usize, mark: u32) -> Result<u32, NoMemory>
     if count < mark as usize {
         Ok(count as u32)
     } else {
-        Err(NoMemory)
+        Err(AllocError)
     }
 }
 
-// Whether two rows have the same columns.
+// Tells whether two rows have the same columns.
 fn share_columns(one: &Row, other: &Row) -> bool
     ensures { result ≡ have_same_names one.now other.now }
 {
@@ -37,7 +38,7 @@ fn share_columns(one: &Row, other: &Row) -> bool
     true
 }
 
-// Whether a row has the columns of the one before, which has none where there is none.
+// Tells whether a row has the columns of the one before, which has none where there is none.
 fn follows(before: Option<&Row>, row: &Row) -> bool
     ensures { result ≡ have_same_names (row_before before.entry) row.now }
 {
@@ -48,7 +49,7 @@ fn follows(before: Option<&Row>, row: &Row) -> bool
 }
 
 // Writes the names of a row's columns at the end. When out of memory, nothing is known of what was written.
-fn write_names(texts: &mut TextBuffer, row: &Row) -> Result<(), NoMemory>
+fn write_names(texts: &mut TextBuffer, row: &Row) -> Result<(), AllocError>
     ensures { OnOk result (texts.new ≡ texts.old ++ names_of row.now) }
 {
     for column in 0..row.width() {
@@ -58,7 +59,7 @@ fn write_names(texts: &mut TextBuffer, row: &Row) -> Result<(), NoMemory>
 }
 
 // Writes a row's fields at the end. When out of memory, nothing is known of what was written.
-fn write_fields(texts: &mut TextBuffer, row: &Row) -> Result<(), NoMemory>
+fn write_fields(texts: &mut TextBuffer, row: &Row) -> Result<(), AllocError>
     ensures { OnOk result (texts.new ≡ texts.old ++ fields_of row.now) }
 {
     for column in 0..row.width() {
@@ -74,13 +75,14 @@ fn write_columns(
     texts: &mut TextBuffer,
     before: Option<&Row>,
     row: &Row,
-) -> Result<(), NoMemory>
+) -> Result<(), AllocError>
     ensures width { let width = width_after (row_before before.entry) row.now in
         OnOk result (widths.new.items ≡ widths.old.items ++ width ∷ []) }
-    ensures names { OnOk result (texts.new ≡ texts.old ++ names_after (row_before before.entry) row.now) }
+    ensures names { OnOk result
+        (texts.new ≡ texts.old ++ names_after (row_before before.entry) row.now) }
     ensures narrow { OnOk result (IsNarrow row.now) }
 {
-    let width = counted(row.width(), SAME_COLUMNS)?;
+    let width = count_below(row.width(), SAME_COLUMNS)?;
     if follows(before, row) {
         widths.push(SAME_COLUMNS)?;
         return Ok(());
@@ -95,10 +97,11 @@ fn write_row(
     texts: &mut TextBuffer,
     before: Option<&Row>,
     row: &Row,
-) -> Result<(), NoMemory>
+) -> Result<(), AllocError>
     ensures width { let width = width_after (row_before before.entry) row.now in
         OnOk result (widths.new.items ≡ widths.old.items ++ width ∷ []) }
-    ensures texts { OnOk result (texts.new ≡ texts.old ++ texts_after (row_before before.entry) row.now) }
+    ensures texts { OnOk result
+        (texts.new ≡ texts.old ++ texts_after (row_before before.entry) row.now) }
     ensures narrow { OnOk result (IsNarrow row.now) }
 {
     write_columns(widths, texts, before, row)?;
@@ -111,12 +114,14 @@ pub(crate) fn write_rows<'a>(
     texts: &mut TextBuffer,
     before: Option<&'a Row>,
     rows: &'a [Row],
-) -> Result<Option<&'a Row>, NoMemory>
+) -> Result<Option<&'a Row>, AllocError>
     ensures widths { let numbers = widths_of (row_before before.entry) rows.now in
         OnOk result (widths.new.items ≡ widths.old.items ++ numbers) }
-    ensures texts { OnOk result (texts.new ≡ texts.old ++ texts_of (row_before before.entry) rows.now) }
+    ensures texts { OnOk result
+        (texts.new ≡ texts.old ++ texts_of (row_before before.entry) rows.now) }
     ensures narrow { OnOk result (All IsNarrow rows.now) }
-    ensures last { IfOk result (λ last. row_before last ≡ last_row (row_before before.entry) rows.now) }
+    ensures last { IfOk result (λ last.
+        row_before last ≡ last_row (row_before before.entry) rows.now) }
 {
     let mut last = before;
     for row in rows {

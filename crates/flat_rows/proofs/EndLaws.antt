@@ -7,7 +7,7 @@ use Rattle.std.specs.Str.{IsCharBoundary}
 use Rattle.load_memory.specs.Cells.{IsCut}
 use Rattle.load_memory.proofs.CellLaws.{start-within}
 
--- what is asked of the ends from one on
+-- says what is asked of the ends from one on
 abbrev pub Rest : List ℕ → List ℕ → ℕ → ℕ → Type 0
 Rest text ends start i = IsCut text 0 ends ↔ IsCut text start (drop i ends)
 

@@ -52,7 +52,7 @@ module _ (width : ℕ) where
       let on : n + 1 ≡ suc n = omega arith in
       ap (λ k. k * width) on ∙ suc-mul n width
 
-  -- what n rows take, and what they leave for one more of m
+  -- says what n rows take, and what they leave for one more of m
   pub one-more : (n : ℕ) (m : ℕ) → n < m → n * width + width ≤ m * width
   one-more n m lt =
       let low : n + 1 ≤ m = omega (arith, lt) in let most = mul-le-mul_left width low in
@@ -73,7 +73,7 @@ module _ (width : ℕ) where
       let at : beyond width n (drop width texts) ≡ drop (width + n * width) texts = beyond-drop n (drop width texts) ∙ drop-drop (n * width) width texts in
       sym (ap (λ k. pieces width k (drop width texts)) on ∙ pieces-more width n (drop width texts) ∙ ap (λ rest. pieces width n (drop width texts) ++ take width rest ∷ []) at)
 
--- the next of so many rows from a place on
+-- the next of the rows from a place on
 pub map-next : {X Y : Type 0} (f : X → Y) (at i : ℕ) (xs : List X) (d : X) → at + i < length xs → map f (take i (drop at xs)) ++ f (get_or xs (at + i) d) ∷ [] ≡ map f (take (i + 1) (drop at xs))
 map-next f at i xs d lt =
     let size = length-drop at xs in

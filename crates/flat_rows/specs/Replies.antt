@@ -1,10 +1,10 @@
--- What a flat reply says.
+-- Definitions of what a flat reply says.
 use Rattle.std.specs.Prelude.{ℕ, ◌≡◌, ◌<◌, ◌+◌, ◌*◌, List, [], ◌∷◌, map, take, drop, get_or, if◌then◌else◌, ◌==◌}
 use Rattle.load_memory.specs.Cells.{cut, pieces}
 use Rattle.load_memory.specs.Outcomes.{ItemOf, rows, key_fault}
 use Rattle.load_memory.specs.Rows.{paired}
 
--- what stands for a number of rows where a key has a fault
+-- gives what stands for a number of rows where a key has a fault
 abbrev pub fault_mark : ℕ
 fault_mark = 4294967295
 
@@ -29,12 +29,13 @@ total_faults (n ∷ ns) = faults_in n + total_faults ns
 abbrev pub texts_wanted : ℕ → List ℕ → ℕ
 texts_wanted columns counts = columns + total_rows counts * columns + total_faults counts
 
--- a key takes the first fault, or so many of the rows
+-- a key takes the first fault, or the first `n` of the rows
 abbrev pub item_said : List (List ℕ) → List (List (List ℕ)) → List (List ℕ) → ℕ → ItemOf
 item_said names all faults n = if n == fault_mark then key_fault (get_or faults 0 []) else rows (map (paired names) (take n all))
 
 -- the items of the keys, each from what those before it left
-unfoldable pub items_of : List (List ℕ) → List (List (List ℕ)) → List (List ℕ) → List ℕ → List ItemOf
+unfoldable pub items_of : List (List ℕ) → List (List (List ℕ))
+    → List (List ℕ) → List ℕ → List ItemOf
 items_of names all faults [] = []
 items_of names all faults (n ∷ ns) = item_said names all faults n ∷ items_of names (drop (rows_in n) all) (drop (faults_in n) faults) ns
 

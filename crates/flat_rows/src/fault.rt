@@ -1,8 +1,8 @@
-//! Why a reply isn't taken.
-use load_memory::NoMemory;
+//! Faults: why a reply isn't taken.
+use std::alloc::AllocError;
 use thiserror::Error;
 
-/// Why a reply isn't taken.
+/// Says why a reply isn't taken.
 #[derive(Clone, Copy, Debug, PartialEq, Eq, Error)]
 pub enum FlatFault {
     /// The bytes aren't UTF-8.
@@ -27,13 +27,13 @@ pub enum FlatFault {
     NoMemory,
 }
 
-impl From<NoMemory> for FlatFault {
+impl From<AllocError> for FlatFault {
     ghost use Rattle.std.specs.Prelude.{◌≡◌};
     ghost use Rattle.flat_rows.specs.declared.fault.FlatFault.TheVariants.{NoMemory};
 
     ghost from_gives = { λ _ e. e ≡ NoMemory };
 
-    fn from(_e: NoMemory) -> FlatFault {
+    fn from(_e: AllocError) -> FlatFault {
         FlatFault::NoMemory
     }
 }

@@ -9,28 +9,28 @@ ghost use Rattle.flat_rows.specs.Replies.{LacksColumn, faults_in, item_said, ite
 
 use crate::fault::FlatFault;
 use crate::texts::FlatTexts;
-use load_memory::{Item, NoMemory, Row, Sheet, SheetBuilder};
-use std::alloc::Global;
+use load_memory::{Item, Row, Sheet, SheetBuilder};
+use std::alloc::{AllocError, Global};
 use std::sync::Arc;
 
-/// What stands for a number of rows where a key has a fault.
+/// Says what stands for a number of rows where a key has a fault.
 pub const KEY_FAULT: u32 = u32::MAX;
 
 /// The reply to one order, as a host lays it out.
 #[derive(Clone, Copy)]
 pub struct FlatReply<'h> {
-    /// How many columns there are.
+    /// Says how many columns there are.
     pub columns: usize,
     /// For each key, in order, how many rows it has, or [`KEY_FAULT`].
     pub rows: &'h [u32],
-    /// For each text where it ends in `bytes`: the names of the columns, the fields of all rows, key after key and row after row, and then of
-    /// each key with a fault why it has no rows.
+    /// For each text where it ends in `bytes`: the names of the columns, the fields of all rows, key after key and row after row, and then
+    /// of each key with a fault why it has no rows.
     pub ends: &'h [u32],
     /// The texts, in UTF-8, each from where the one before it ends.
     pub bytes: &'h [u8],
 }
 
-// How many rows all keys have, and how many keys a fault.
+// Says how many rows all keys have, and how many keys a fault.
 #[derive(Clone, Copy)]
 struct Totals {
     rows: u32,
@@ -39,7 +39,8 @@ struct Totals {
 
 // `None` where there are more rows than 32 bits count.
 fn totals_of(counts: &[u32]) -> Option<Totals>
-    ensures some { IfSome result (λ t. (t.rows ≡ total_rows counts.now) × (t.faults ≡ total_faults counts.now)) }
+    ensures some { IfSome result (λ t.
+        (t.rows ≡ total_rows counts.now) × (t.faults ≡ total_faults counts.now)) }
     ensures few { IfSome result (λ _. total_rows counts.now < 2 ^ 32) }
     ensures none { IfNone result (2 ^ 32 ≤ total_rows counts.now) }
 {
@@ -60,7 +61,7 @@ fn with_columns(
     alloc: Global,
     columns: usize,
     texts: &FlatTexts<'_>,
-) -> Result<SheetBuilder, NoMemory>
+) -> Result<SheetBuilder, AllocError>
     requires { columns ≤ length texts.now }
     ensures { IfOk result (λ b. b ≡ draft_with_names (take columns texts.now)) }
 {
@@ -72,11 +73,12 @@ fn with_columns(
 }
 
 // Adds a row of the texts from a place on.
-fn add_row(sheet: &mut SheetBuilder, texts: &FlatTexts<'_>, at: usize) -> Result<(), NoMemory>
+fn add_row(sheet: &mut SheetBuilder, texts: &FlatTexts<'_>, at: usize) -> Result<(), AllocError>
     requires none { sheet.old.begun ≡ [] }
     requires within { at + length sheet.old.names ≤ length texts.now }
     requires room { length sheet.old.rows + 1 < 2 ^ 32 }
-    ensures { OnOk result (sheet.new ≡ draft_with_row sheet.old (take (length sheet.old.names) (drop at texts.now))) }
+    ensures { OnOk result
+        (sheet.new ≡ draft_with_row sheet.old (take (length sheet.old.names) (drop at texts.now))) }
 {
     let (width, _texts) = (sheet.width(), texts.len());
     for i in 0..width {
@@ -86,13 +88,13 @@ fn add_row(sheet: &mut SheetBuilder, texts: &FlatTexts<'_>, at: usize) -> Result
     Ok(())
 }
 
-// The sheet of so many columns and rows.
+// The sheet of `columns` columns and `rows` rows.
 fn sheet_of(
     alloc: Global,
     columns: usize,
     rows: u32,
     texts: &FlatTexts<'_>,
-) -> Result<Sheet, NoMemory>
+) -> Result<Sheet, AllocError>
     requires { columns + rows * columns ≤ length texts.now }
     ensures { IfOk result (λ s. s ≡ record { names = take columns texts.now; rows = pieces columns rows (drop columns texts.now) }) }
 {
@@ -107,14 +109,14 @@ fn sheet_of(
 }
 
 // The sheet, to be shared by its rows.
-fn shared(alloc: Global, sheet: Sheet) -> Result<Arc<Sheet>, NoMemory>
+fn share_sheet(alloc: Global, sheet: Sheet) -> Result<Arc<Sheet>, AllocError>
     ensures { IfOk result (λ shared. arc_value shared ≡ sheet) }
 {
     Ok(Arc::new(alloc, sheet)?)
 }
 
-// So many rows of a sheet, from one on.
-fn rows_at(alloc: Global, sheet: &Arc<Sheet>, at: u32, count: u32) -> Result<Vec<Row>, NoMemory>
+// Returns `count` rows of a sheet, from the row `at` on.
+fn rows_at(alloc: Global, sheet: &Arc<Sheet>, at: u32, count: u32) -> Result<Vec<Row>, AllocError>
     requires { at + count ≤ length (arc_value sheet.now).rows }
     ensures { let s = arc_value sheet.now in IfOk result (λ r. r.items ≡ map (paired s.names) (take count (drop at s.rows))) }
 {
@@ -126,8 +128,8 @@ fn rows_at(alloc: Global, sheet: &Arc<Sheet>, at: u32, count: u32) -> Result<Vec
     Ok(rows)
 }
 
-// How many rows a key takes, and how many faults.
-fn taken(count: u32) -> (u32, usize)
+// Returns how many rows a key takes, and how many faults.
+fn rows_and_faults(count: u32) -> (u32, usize)
     ensures { (result.0 ≡ rows_in count) × (result.1 ≡ faults_in count) }
 {
     if count == KEY_FAULT {
@@ -145,7 +147,7 @@ fn item(
     at: u32,
     texts: &FlatTexts<'_>,
     fault: usize,
-) -> Result<Item, NoMemory>
+) -> Result<Item, AllocError>
     requires rows { at + rows_in count ≤ length (arc_value sheet.now).rows }
     requires faults { fault + faults_in count ≤ length texts.now }
     ensures { let s = arc_value sheet.now in IfOk result (λ i. item_of i ≡ item_said s.names (drop at s.rows) (drop fault texts.now) count) }
@@ -164,7 +166,7 @@ fn items(
     sheet: &Arc<Sheet>,
     texts: &FlatTexts<'_>,
     faults: usize,
-) -> Result<Vec<Item>, NoMemory>
+) -> Result<Vec<Item>, AllocError>
     requires rows { total_rows counts.now ≡ length (arc_value sheet.now).rows }
     requires faults { faults + total_faults counts.now ≤ length texts.now }
     ensures { let s = arc_value sheet.now in IfOk result (λ r. map item_of r.items ≡ items_of s.names s.rows (drop faults texts.now) counts.now) }
@@ -174,7 +176,7 @@ fn items(
     let mut at = 0u32;
     let mut fault = faults;
     for count in counts {
-        let (rows, faults) = taken(*count);
+        let (rows, faults) = rows_and_faults(*count);
         items.push(item(alloc, *count, sheet, at, texts, fault)?)?;
         at += rows;
         fault += faults;
@@ -182,25 +184,28 @@ fn items(
     Ok(items)
 }
 
-// Whether there are rows, and no column.
+// Tells whether there are rows, and no column.
 fn lacks_column(columns: usize, rows: u32) -> bool
     ensures { IsTrue result ↔ (columns ≡ 0) × (0 < rows) }
 {
     columns == 0 && rows > 0
 }
 
-// How many texts so many columns, rows and faults take. `None` where `usize` doesn't count them.
+// The number of texts that the columns, rows and faults take. `None` where `usize` doesn't count them.
 fn wanted(columns: usize, totals: &Totals) -> Option<usize>
-    ensures some { IfSome result (λ n. n ≡ columns + totals.now.rows * columns + totals.now.faults) }
-    ensures none { IfNone result (2 ^ 64 ≤ columns + totals.now.rows * columns + totals.now.faults) }
+    ensures some { IfSome result (λ n.
+        n ≡ columns + totals.now.rows * columns + totals.now.faults) }
+    ensures none { IfNone result
+        (2 ^ 64 ≤ columns + totals.now.rows * columns + totals.now.faults) }
 {
     let cells = (totals.rows as usize).checked_mul(columns)?;
     columns.checked_add(cells)?.checked_add(totals.faults)
 }
 
-// How many rows and faults there are, where that is what so many texts have.
-fn checked(columns: usize, counts: &[u32], texts: usize) -> Result<Totals, FlatFault>
-    ensures rows { IfOk result (λ t. (t.rows ≡ total_rows counts.now) × (t.faults ≡ total_faults counts.now)) }
+// Returns how many rows and faults there are, where `texts` texts have as many.
+fn check_counts(columns: usize, counts: &[u32], texts: usize) -> Result<Totals, FlatFault>
+    ensures rows { IfOk result (λ t.
+        (t.rows ≡ total_rows counts.now) × (t.faults ≡ total_faults counts.now)) }
     ensures texts { IfOk result (λ _. texts ≡ texts_wanted columns counts.now) }
     ensures fault { IfErr result (CountFault columns counts.now texts) }
 {
@@ -235,9 +240,9 @@ impl FlatReply<'_> {
         ensures fault { let r = self.now in IfErr result (ReplyFault r.columns r.rows.now r.ends.now r.bytes.now) }
     {
         let texts = FlatTexts::new(self.bytes, self.ends)?;
-        let totals = checked(self.columns, self.rows, texts.len())?;
+        let totals = check_counts(self.columns, self.rows, texts.len())?;
         let sheet = sheet_of(alloc, self.columns, totals.rows, &texts)?;
-        let sheet = shared(alloc, sheet)?;
+        let sheet = share_sheet(alloc, sheet)?;
         let faults = texts.len() - totals.faults;
         Ok(items(alloc, self.rows, &sheet, &texts, faults)?)
     }

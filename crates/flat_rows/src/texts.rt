@@ -7,7 +7,7 @@ use crate::fault::FlatFault;
 use std::marker::Model;
 use std::str;
 
-// Whether the ends rise to the end of the text, and each is one of a character.
+// Tells whether the ends rise to the end of the text, and each is one of a character.
 fn rises(text: &str, ends: &[u32]) -> bool
     ensures { IsTrue result ↔ IsCut text.now 0 ends.now }
 {
@@ -22,7 +22,7 @@ fn rises(text: &str, ends: &[u32]) -> bool
     start == text.len()
 }
 
-// Where the text with this index starts.
+// Returns where the text with this index starts.
 fn start_of(ends: &[u32], i: usize) -> usize
     requires { i < length ends.now }
     ensures { result ≡ start_at 0 ends.now i }
@@ -30,7 +30,7 @@ fn start_of(ends: &[u32], i: usize) -> usize
     if i == 0 { 0 } else { ends[i - 1] as usize }
 }
 
-// Where the text with this index ends.
+// Returns where the text with this index ends.
 fn end_of(ends: &[u32], i: usize) -> usize
     requires { i < length ends.now }
     ensures { result ≡ get_or ends.now i 0 }
@@ -81,7 +81,7 @@ impl<'h> FlatTexts<'h> {
         }
     }
 
-    /// How many texts there are.
+    /// Returns how many texts there are.
     pub fn len(&self) -> usize
         ensures { result ≡ length self.now }
     {

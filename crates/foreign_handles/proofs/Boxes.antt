@@ -1,4 +1,4 @@
--- What a slot owns, as the box that it was made of and is made into. Assumes `Logic`.
+-- Lemmas on what a slot owns, as the box that it was made of and is made into. Assumes `Logic`.
 use Rattle.std.proofs.Common.{ℕ, List, ◌∷◌}
 use seplogic.Ra.Ura.{Ura}
 use mir.Raw.{raw}
@@ -18,7 +18,7 @@ use Rattle.std.specs.Ptr.{points_to}
 use Rattle.std.specs.contracts.impls.GlobalAllocator.TheImpl.{ghosts}
 use Rattle.foreign_handles.specs.Held.{owns_held}
 
--- what a box of x owns, whose block this `Global` frees
+-- gives what a box of x owns, whose block this `Global` frees
 abbrev pub boxed : Global → (R : RattleType) → Ptr → R.Denot → Fml
 boxed a = box_owns (ghosts.dealloc_token a)
 
@@ -33,7 +33,7 @@ module _ {M : Type 1} {𝓤 : Ura M} (𝓛 : Logic 𝓤) (R : RattleType) where
       fact_use 𝓤 (Testable p) (via 𝓤 (sem 𝓛 Token) (snd∗ 𝓤 (sem 𝓛 (points_to R p x)) (sem 𝓛 Token)) (dealloc_token-Testable 𝓛 a (raw (lone R.mir)) p)) (guard_i 𝓤 (Testable p) (sem 𝓛 (boxed a R p x)))
 
 module _ (R : RattleType) {M : Type 1} {𝓤 : Ura M} {𝓛 : Logic 𝓤} {K : Type 0} {Γ : List (Item 𝓤)} where
-  -- what a slot owns says whether it is empty
+  -- cases of what a slot owns: nothing, or a box
   pub by_held : K → (C : Ptr → Option R.Denot → Goal 𝓤 𝓛.H) → Seq K 𝓛 Γ (C null_ptr None)
       → ((b o : ℕ) (x : R.Denot) (a : Global) → Testable (block_ptr b o) → Seq K 𝓛 (‵ (boxed a R (block_ptr b o) x) ∷ Γ) (C (block_ptr b o) (Some x)))
       → (p : Ptr) (h : Option R.Denot) → Seq K 𝓛 (‵ (owns_held R p h) ∷ Γ) (C p h)

@@ -1,4 +1,5 @@
--- What a slot or a handle owns is the same for every thread, where its object is. Assumes nothing.
+-- Lemmas on what a slot or a handle owns is the same for every thread, where its object is. Assumes
+-- nothing.
 use Rattle.std.proofs.Common.{List}
 use mir.Raw.{raw}
 use mir.Val.{Val}

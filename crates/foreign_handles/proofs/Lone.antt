@@ -1,4 +1,5 @@
--- A struct whose one field of data is a raw pointer, as a slot and a handle are: its machine value, and what the field owns. Assumes `Logic`.
+-- A struct whose one field of data is a raw pointer, as a slot and a handle are: its machine value, and what the field owns. Assumes
+-- `Logic`.
 use Rattle.std.proofs.Common.{List, [], ◌∷◌, refl, lit<}
 use seplogic.Ra.Ura.{Ura}
 use lib.Dec.{T}
@@ -20,7 +21,7 @@ single v = vstruct (vcons v vnil)
 abbrev shape : Shape
 shape = record { name = []; args = []; types = []; fields = RawPtr ∷ [] }
 
--- what such a struct's field owns, which is nothing: it says the machine value
+-- gives what such a struct's field owns, which is nothing: it says the machine value
 abbrev pub pointer : Ptr → List Val → Fml
 pointer p = (Struct shape).own_val (p, tt)
 

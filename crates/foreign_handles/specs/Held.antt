@@ -1,4 +1,4 @@
--- What a slot owns: nothing at null, and else the box of its object.
+-- Definitions of what a slot owns: nothing at null, and else the box of its object.
 use base.Fml.{Fml, ftrue, ffalse, fex}
 use denote.RattleType.{RattleType}
 use denote.RawPtr.{Ptr, block_ptr, null_ptr}

@@ -1,4 +1,4 @@
-//! What the handles of a C library stand on: a box, or nothing, as the one pointer that C keeps of it.
+//! Slots, on which the handles of a C library stand: a box, or nothing, as the one pointer that C keeps of it.
 //!
 //! The crate of exports has one `#[repr(C)]` struct of a raw pointer, whose `also_owns` is `owns_held`
 //! at the row of its object, and turns it into a [`Slot`] and back. It may rely on this: a slot says in

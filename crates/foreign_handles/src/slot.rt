@@ -21,7 +21,7 @@ impl<T> Model for Slot<T> {
     ghost also_owns = { λ s. owns_held T.row s.at s.held };
 }
 
-// What it owns is one box, of which nothing else has a part.
+// Safety: it owns one box, of which nothing else has a part.
 unsafe impl<T: Send> Send for Slot<T> {}
 
 impl<T: Drop> Slot<T> {

@@ -1,4 +1,4 @@
-//! What goes to other threads.
+//! Types that go to other threads.
 ghost use Rattle.std.specs.Prelude.{◌≡◌};
 
 use std::marker::Send;

@@ -1,4 +1,4 @@
--- Which fault a bindings text gives.
+-- Definitions of which fault a bindings text gives.
 use Rattle.std.specs.Prelude.{◌≡◌, ⊤}
 use Rattle.gq_schema.specs.declared.fault.SchemaFault.{SchemaFault}
 use Rattle.gq_schema.specs.declared.fault.SchemaFault.TheVariants as fault

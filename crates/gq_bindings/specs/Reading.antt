@@ -1,4 +1,4 @@
--- What a bindings text says over a schema, or which line is the first bad one.
+-- Definitions of what a bindings text says over a schema, or which line is the first bad one.
 use Rattle.std.specs.Prelude.{◌≡◌, ℕ, Bool, not, is_some, ◌||◌, List, [], ◌∷◌, ◌++◌, Option, Some, None, option_map, option_and_then, if◌then◌else◌}
 use Rattle.bindings_syntax.specs.Statements.{StatementOf, loader_line, field_line}
 use Rattle.bindings_syntax.specs.Reading.{NumberedOf, BindingsTextOf, bindings_text}
@@ -22,8 +22,8 @@ with_field b ty name binding = record { loaders = b.loaders; fields = b.fields +
 abbrev pub after_loader : BindingsOf → LoaderOf → Option BindingsOf
 after_loader b l = if is_some (loader_in b.loaders l.name) then None else Some (with_loader b l)
 
--- What is defined and bound after a line, where this is before it. There is none after a line that defines a loader's name or binds a field a
--- second time, or gives a binding that does not fit.
+-- Gives what is defined and bound after a line, where this is before it. There is none after a line that defines a loader's name or binds a
+-- field a second time, or gives a binding that does not fit.
 abbrev pub after_statement : List Definition → BindingsOf → StatementOf → Option BindingsOf
 after_statement defs b (loader_line name table by) = after_loader b (record { name = name; table = table; by = by })
 after_statement defs b (field_line ty name form) =
@@ -42,7 +42,7 @@ abbrev pub and_then : Reading → (BindingsOf → Reading) → Reading
 and_then (accepted b) next = next b
 and_then (refused line) next = refused line
 
--- what is defined and bound after these lines
+-- gives what is defined and bound after these lines
 abbrev pub after_statements : List Definition → BindingsOf → List NumberedOf → Reading
 after_statements defs b [] = accepted b
 after_statements defs b (s ∷ ss) = and_then (or_refused s.line (after_statement defs b s.statement)) (λ c. after_statements defs c ss)
@@ -74,6 +74,6 @@ nothing = record { loaders = []; fields = [] }
 abbrev pub reading_of : List Definition → BindingsTextOf → Reading
 reading_of defs text = and_then (after_statements defs nothing text.statements) (at_end defs text.is_headed text.bad_line)
 
--- what the bindings text says over the schema
+-- gives what the bindings text says over the schema
 abbrev pub bindings_of : List Definition → List ℕ → Reading
 bindings_of defs text = reading_of defs (bindings_text text)

@@ -1,12 +1,12 @@
--- What contracts see of loaders and bindings.
+-- Definitions of what contracts see of loaders and bindings.
 use Rattle.std.specs.Prelude.{map, option_map, string_bytes}
 use Rattle.bindings_syntax.specs.Statements.{ByOf, PartOf, argument_part, column_part, KeyOf, from_argument, from_column, from_all, from_pair}
 use Rattle.gq_bindings.specs.declared.binding.By.{By}
 use Rattle.gq_bindings.specs.declared.binding.KeyPart.{KeyPart}
 use Rattle.gq_bindings.specs.declared.binding.KeyPart.TheVariants as part
-use Rattle.gq_bindings.specs.declared.binding.Step.{Step}
-use Rattle.gq_bindings.specs.declared.binding.KeySource.{KeySource}
-use Rattle.gq_bindings.specs.declared.binding.KeySource.TheVariants as source
+use Rattle.gq_bindings.specs.declared.binding.ViaLoader.{ViaLoader}
+use Rattle.gq_bindings.specs.declared.binding.KeyOrigin.{KeyOrigin}
+use Rattle.gq_bindings.specs.declared.binding.KeyOrigin.TheVariants as source
 use Rattle.gq_bindings.specs.declared.binding.Binding.{Binding}
 use Rattle.gq_bindings.specs.declared.binding.Binding.TheVariants as binding
 use Rattle.gq_bindings.specs.declared.binding.LoaderLine.{LoaderLine}
@@ -20,7 +20,7 @@ abbrev pub part_of : KeyPart → PartOf
 part_of (part.Argument name) = argument_part (string_bytes name)
 part_of (part.Column name) = column_part (string_bytes name)
 
-abbrev pub key_of : KeySource → KeyOf
+abbrev pub key_of : KeyOrigin → KeyOf
 key_of (source.Argument name) = from_argument (string_bytes name)
 key_of (source.Column name) = from_column (string_bytes name)
 key_of source.All = from_all
@@ -29,7 +29,7 @@ key_of (source.Pair one two) = from_pair (part_of one) (part_of two)
 abbrev pub loader_of : LoaderLine → LoaderOf
 loader_of l = record { name = string_bytes l.name; table = string_bytes l.table; by = option_map by_of l.by }
 
-abbrev pub step_of : Step → StepOf
+abbrev pub step_of : ViaLoader → StepOf
 step_of s = record { loader = s.loader; column = string_bytes s.column }
 
 abbrev pub binding_of : Binding → BindingOf

@@ -1,4 +1,4 @@
--- What a bindings text means: its loaders in order, and how each field is answered.
+-- Definitions of what a bindings text means: its loaders in order, and how each field is answered.
 use Rattle.std.specs.Prelude.{ℕ, ◌+◌, Bool, ◌&&◌, List, [], ◌∷◌, Option, Some, None, option_map, find, bytes_eq, if◌then◌else◌}
 use Rattle.bindings_syntax.specs.Statements.{ByOf, KeyOf}
 
@@ -13,7 +13,7 @@ pub record StepOf : Type 0 where
   pub loader : ℕ
   pub column : List ℕ
 
--- how a field is answered; loaders by their numbers, from 0
+-- says how a field is answered; loaders by their numbers, from 0
 pub data BindingOf : Type 0 where
   by_column : (column : List ℕ) → BindingOf
   by_one : (loader : ℕ) (key : KeyOf) → BindingOf

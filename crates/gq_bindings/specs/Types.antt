@@ -1,4 +1,4 @@
--- Which types of fields and arguments a binding fits.
+-- Definitions of which types of fields and arguments a binding fits.
 use Rattle.std.specs.Prelude.{ℕ, Bool, false, not, ◌||◌, List, codes, bytes_eq}
 use Rattle.std.specs.Option.{option_map_or}
 use Rattle.gq_parser.specs.Tree.{TypeTree, Named, ListOf}

@@ -28,9 +28,9 @@ pub enum KeyPart {
     Column(String),
 }
 
-/// Where a field takes its keys from.
+/// Says where a field takes its keys from.
 #[derive(Debug, Drop)]
-pub enum KeySource {
+pub enum KeyOrigin {
     /// `arg NAME`: an argument of the field, which is an `Int`, an `ID` or a `String`.
     Argument(String),
     /// `column NAME`: a column of the row that the field belongs to.
@@ -43,12 +43,12 @@ pub enum KeySource {
 
 /// A loader of `via` after its first, by its number, with the column of the row before that has its key.
 #[derive(Debug, Drop)]
-pub struct Step {
+pub struct ViaLoader {
     pub loader: usize,
     pub column: String,
 }
 
-/// How a field is answered. Loaders are named by their numbers, from 0 in the order of their lines.
+/// Says how a field is answered. Loaders are named by their numbers, from 0 in the order of their lines.
 #[derive(Debug, Drop)]
 pub enum Binding {
     /// `column COLUMN`: a column of the row that the field belongs to.
@@ -56,12 +56,12 @@ pub enum Binding {
     /// `one LOADER KEY`: the first row of the key, or null.
     One {
         loader: usize,
-        key: KeySource,
+        key: KeyOrigin,
     },
     /// `many LOADER KEY`: all rows of the key.
     Many {
         loader: usize,
-        key: KeySource,
+        key: KeyOrigin,
     },
     /// `each LOADER arg NAME`: for each key in the argument's list its first row, or null.
     Each {
@@ -72,9 +72,9 @@ pub enum Binding {
     /// key that stands in the column, or null; and so on with each further loader.
     Via {
         loader: usize,
-        key: KeySource,
+        key: KeyOrigin,
         /// One to three loaders after the first.
-        steps: Vec<Step>,
+        steps: Vec<ViaLoader>,
     },
 }
 

@@ -11,17 +11,19 @@ use std::collections::HashMap;
 use std::marker::Model;
 
 /// The place of each field's binding, by its type and its name.
-type Places = HashMap<String, HashMap<String, usize>>;
+type FieldIndices = HashMap<String, HashMap<String, usize>>;
 
 /// Notes the place of a field's binding.
 fn note(
-    places: &mut Places,
+    places: &mut FieldIndices,
     type_name: &String,
     field_name: &String,
     place: usize,
 ) -> Result<(), AllocError>
-    ensures ok { (q r : List ℕ) → OnOk result (IsPlaced type_name.now field_name.now place places.old places.new q r) }
-    ensures err { (q r : List ℕ) → OnErr result (place_in places.new q r ≡ place_in places.old q r) }
+    ensures ok { (q r : List ℕ)
+        → OnOk result (IsPlaced type_name.now field_name.now place places.old places.new q r) }
+    ensures err { (q r : List ℕ)
+        → OnErr result (place_in places.new q r ≡ place_in places.old q r) }
 {
     let key = type_name.clone()?;
     let name = field_name.clone()?;
@@ -31,7 +33,7 @@ fn note(
 }
 
 /// The place of a field's binding.
-fn place_of(places: &Places, type_name: &str, field_name: &str) -> Option<usize>
+fn place_of(places: &FieldIndices, type_name: &str, field_name: &str) -> Option<usize>
     ensures { result ≡ place_in places.now type_name.now field_name.now }
 {
     places.get(type_name)?.get(field_name).copied()
@@ -41,7 +43,7 @@ fn place_of(places: &Places, type_name: &str, field_name: &str) -> Option<usize>
 #[derive(Drop)]
 pub struct BoundFields {
     entries: Vec<BoundField>,
-    places: Places,
+    places: FieldIndices,
 }
 
 impl Model for BoundFields {
@@ -72,7 +74,8 @@ impl BoundFields {
 
     /// The binding of a field of a type.
     pub fn get(&self, type_name: &str, field_name: &str) -> Option<&Binding>
-        ensures { option_map binding_of (option_copied result) ≡ binding_in self.now type_name.now field_name.now }
+        ensures { option_map binding_of (option_copied result)
+            ≡ binding_in self.now type_name.now field_name.now }
     {
         let place = place_of(&self.places, type_name, field_name)?;
         Some(&self.entries[place].binding)
@@ -80,7 +83,8 @@ impl BoundFields {
 
     /// Adds a field's binding after the others. None of them is the field's.
     pub fn push(&mut self, field: BoundField) -> Result<(), AllocError>
-        requires { binding_in self.old (bound_of field).type_name (bound_of field).field_name ≡ None }
+        requires { binding_in self.old (bound_of field).type_name (bound_of field).field_name
+            ≡ None }
         ensures ok { OnOk result (self.new ≡ self.old ++ bound_of field ∷ []) }
     {
         let place = self.entries.len();

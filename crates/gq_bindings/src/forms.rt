@@ -1,4 +1,4 @@
-//! Which binding the line of a field gives.
+//! Bindings that the lines of fields give.
 
 ghost use Rattle.std.specs.Prelude.{◌≡◌, [], ◌∷◌, IfOk, map};
 ghost use Rattle.std.specs.Option.{option_map};
@@ -10,14 +10,14 @@ ghost use Rattle.gq_bindings.specs.Seen.{part_of, key_of, step_of, binding_of};
 ghost use Rattle.gq_bindings.specs.Forms.{keyed_loader, paired_loader, whole_loader, part_fits, asked_loader, later_step, later_steps, field_binding};
 ghost use Rattle.gq_bindings.specs.Targets.{Gives};
 
-use crate::binding::{Binding, KeyPart, KeySource, Step};
+use crate::binding::{Binding, KeyOrigin, KeyPart, ViaLoader};
 use crate::loaders::{Loaders, NumberedLoader};
 use crate::types::{
     is_composite_list, is_composite_type, is_leaf_type, is_object_type, is_root_type, takes_key,
     takes_keys,
 };
 use bindings_syntax::{
-    Form, KeyPart as PartWords, KeySource as KeyWords, Step as StepWords, Steps as StepsWords,
+    Form, KeyPart as PartWords, KeyWords, ViaLoaders as StepsWords, ViaWords as StepWords,
 };
 use gq_schema::Schema;
 use schema_syntax::FieldDefinition;
@@ -66,17 +66,17 @@ fn owned_part(alloc: Global, part: PartWords<'_>) -> Result<KeyPart, AllocError>
     }
 }
 
-fn owned_key(alloc: Global, key: KeyWords<'_>) -> Result<KeySource, AllocError>
+fn owned_key(alloc: Global, key: KeyWords<'_>) -> Result<KeyOrigin, AllocError>
     ensures { IfOk result (λ owned. key_of owned ≡ key_seen key.entry) }
 {
     match key {
-        KeyWords::Argument(name) => Ok(KeySource::Argument(String::from_str(alloc, name)?)),
-        KeyWords::Column(name) => Ok(KeySource::Column(String::from_str(alloc, name)?)),
-        KeyWords::All => Ok(KeySource::All),
+        KeyWords::Argument(name) => Ok(KeyOrigin::Argument(String::from_str(alloc, name)?)),
+        KeyWords::Column(name) => Ok(KeyOrigin::Column(String::from_str(alloc, name)?)),
+        KeyWords::All => Ok(KeyOrigin::All),
         KeyWords::Pair(one, two) => {
             let one = owned_part(alloc, one)?;
             let two = owned_part(alloc, two)?;
-            Ok(KeySource::Pair(one, two))
+            Ok(KeyOrigin::Pair(one, two))
         }
     }
 }
@@ -86,14 +86,15 @@ fn later_step(
     alloc: Global,
     loaders: &Loaders,
     step: StepWords<'_>,
-) -> Result<Option<Step>, AllocError>
-    ensures { IfOk result (λ found. option_map step_of found ≡ later_step loaders.now (step_seen step.entry)) }
+) -> Result<Option<ViaLoader>, AllocError>
+    ensures { IfOk result (λ found.
+        option_map step_of found ≡ later_step loaders.now (step_seen step.entry)) }
 {
     let Some(loader) = keyed_loader(loaders, step.loader) else {
         return Ok(None);
     };
     let column = String::from_str(alloc, step.column)?;
-    Ok(Some(Step { loader, column }))
+    Ok(Some(ViaLoader { loader, column }))
 }
 
 /// The loaders of `via` after its first.
@@ -101,8 +102,9 @@ fn later_steps(
     alloc: Global,
     loaders: &Loaders,
     steps: &[StepWords<'_>],
-) -> Result<Option<Vec<Step>>, AllocError>
-    ensures { IfOk result (λ found. option_map (λ v. map step_of v.items) found ≡ later_steps loaders.now (map step_seen steps.now)) }
+) -> Result<Option<Vec<ViaLoader>>, AllocError>
+    ensures { IfOk result (λ found. option_map (λ v. map step_of v.items) found
+        ≡ later_steps loaders.now (map step_seen steps.now)) }
 {
     let mut found = Vec::with_capacity(alloc, steps.len())?;
     for words in steps {
@@ -114,13 +116,14 @@ fn later_steps(
     Ok(Some(found))
 }
 
-/// The same of one to three.
+/// Does the same of one to three.
 fn owned_steps(
     alloc: Global,
     loaders: &Loaders,
     steps: StepsWords<'_>,
-) -> Result<Option<Vec<Step>>, AllocError>
-    ensures { IfOk result (λ found. option_map (λ v. map step_of v.items) found ≡ later_steps loaders.now (steps_seen steps.entry)) }
+) -> Result<Option<Vec<ViaLoader>>, AllocError>
+    ensures { IfOk result (λ found. option_map (λ v. map step_of v.items) found
+        ≡ later_steps loaders.now (steps_seen steps.entry)) }
 {
     match steps {
         StepsWords::One(first) => later_steps(alloc, loaders, &[first]),
@@ -137,14 +140,15 @@ struct Target<'a> {
     schema: &'a Schema,
     loaders: &'a Loaders,
     field: &'a FieldDefinition,
-    /// Whether the field is one of a root type, whose objects have no row.
+    /// Tells whether the field is one of a root type, whose objects have no row.
     of_root: bool,
 }
 
 impl Target<'_> {
-    /// Whether the field can take this part of a key.
+    /// Tells whether the field can take this part of a key.
     fn takes_part(&self, part: PartWords<'_>) -> bool
-        ensures { result ≡ part_fits self.now.of_root (field_of self.now.field.now) (part_seen part.entry) }
+        ensures { result
+            ≡ part_fits self.now.of_root (field_of self.now.field.now) (part_seen part.entry) }
     {
         match part {
             PartWords::Argument(argument) => takes_key(self.field, argument),
@@ -154,7 +158,8 @@ impl Target<'_> {
 
     /// The number of a loader that the field can ask with this key.
     fn asked_loader(&self, name: &str, key: KeyWords<'_>) -> Option<usize>
-        ensures { result ≡ asked_loader self.now.loaders.now self.now.of_root (field_of self.now.field.now) name.now (key_seen key.entry) }
+        ensures { result ≡ asked_loader self.now.loaders.now self.now.of_root
+            (field_of self.now.field.now) name.now (key_seen key.entry) }
     {
         match key {
             KeyWords::Argument(argument) => {
@@ -260,7 +265,8 @@ impl Target<'_> {
         key: KeyWords<'_>,
         steps: StepsWords<'_>,
     ) -> Result<Option<Binding>, AllocError>
-        ensures { IfOk result (Gives self.now (to_via loader.now (key_seen key.entry) (steps_seen steps.entry))) }
+        ensures { IfOk result
+            (Gives self.now (to_via loader.now (key_seen key.entry) (steps_seen steps.entry))) }
     {
         if !is_composite_list(self.schema, &self.field.of_type) {
             return Ok(None);
@@ -275,7 +281,7 @@ impl Target<'_> {
         Ok(Some(Binding::Via { loader, key, steps }))
     }
 
-    /// What a form gives for the field; nothing where it does not fit.
+    /// Returns what a form gives for the field; nothing where it does not fit.
     fn binding(&self, alloc: Global, form: Form<'_>) -> Result<Option<Binding>, AllocError>
         ensures { IfOk result (Gives self.now (form_seen form.entry)) }
     {
@@ -289,7 +295,8 @@ impl Target<'_> {
     }
 }
 
-/// What a form gives for the field of this name of this type; nothing where it does not fit.
+/// Returns what a form gives for the field of this name of this type; nothing where it does not
+/// fit.
 pub fn field_binding(
     alloc: Global,
     schema: &Schema,

@@ -18,7 +18,8 @@ fn note(
 ) -> Result<(), AllocError>
     ensures ok { (q : List ℕ) → OnOk result (get_by_text numbers.new q
         ≡ (if bytes_eq q (string_bytes name.now) then Some number else get_by_text numbers.old q)) }
-    ensures err { (q : List ℕ) → OnErr result (get_by_text numbers.new q ≡ get_by_text numbers.old q) }
+    ensures err { (q : List ℕ)
+        → OnErr result (get_by_text numbers.new q ≡ get_by_text numbers.old q) }
 {
     numbers.insert(name.clone()?, number)?;
     Ok(())
@@ -66,7 +67,8 @@ impl Loaders {
 
     /// The loader of this name, with its number.
     pub fn find(&self, name: &str) -> Option<NumberedLoader<'_>>
-        ensures { option_map (λ found. (found.number, loader_of found.line.now)) result ≡ loader_in self.now name.now }
+        ensures { option_map (λ found. (found.number, loader_of found.line.now)) result
+            ≡ loader_in self.now name.now }
     {
         let number = *self.numbers.get(name)?;
         let line = &self.lines[number];

@@ -20,7 +20,7 @@ use schema_syntax::{Definition, FieldDefinition};
 use std::alloc::{AllocError, Global};
 use std::marker::Model;
 
-/// How the fields of a schema are answered: its loaders, and the binding of each field of an object
+/// Says how the fields of a schema are answered: its loaders, and the binding of each field of an object
 /// type.
 #[derive(Drop)]
 pub struct Bindings {
@@ -37,7 +37,8 @@ impl Model for Bindings {
 }
 
 fn owned_text(alloc: Global, text: Option<&str>) -> Result<Option<String>, AllocError>
-    ensures { IfOk result (λ owned. option_map (λ t. string_bytes t) owned ≡ option_map (λ t. t.now) text.entry) }
+    ensures { IfOk result (λ owned.
+        option_map (λ t. string_bytes t) owned ≡ option_map (λ t. t.now) text.entry) }
 {
     match text {
         Some(text) => Ok(Some(String::from_str(alloc, text)?)),
@@ -64,7 +65,8 @@ fn owned_loader(
     table: &str,
     by: Option<ByWords<'_>>,
 ) -> Result<LoaderLine, AllocError>
-    ensures { IfOk result (λ line. loader_of line ≡ record { name = name.now; table = table.now; by = option_map by_seen by.entry }) }
+    ensures { IfOk result (λ line. loader_of line
+        ≡ record { name = name.now; table = table.now; by = option_map by_seen by.entry }) }
 {
     let by = owned_by(alloc, by)?;
     let name = String::from_str(alloc, name)?;
@@ -107,13 +109,15 @@ impl Bindings {
     ///
     /// # Errors
     ///
-    /// `BadBinding` with the number of the first line that has no form or breaks one of these rules; and
-    /// then with 0 where the text has no line `bindings 1` or `bindings 2`, or a field of an object type needs a line and
-    /// has none: a field of the root, or one whose type is composite or a list. `NoMemory` for want of
-    /// memory.
+    /// `BadBinding` with the number of the first line that has no form or breaks one of these rules; and then
+    /// with 0 where the text has no line `bindings 1` or `bindings 2`, or a field of an object type needs a
+    /// line and has none: a field of the root, or one whose type is composite or a list. `NoMemory` for want of
+    /// memory. It returns no other of these faults.
     pub fn read(alloc: Global, schema: &Schema, text: &str) -> Result<Bindings, SchemaFault>
-        ensures ok { IfOk result (λ bindings. bindings_of (tree_of schema.now) text.now ≡ accepted bindings) }
-        ensures fault { IfErr result (λ fault. Refuses fault (bindings_of (tree_of schema.now) text.now)) }
+        ensures ok { IfOk result (λ bindings.
+            bindings_of (tree_of schema.now) text.now ≡ accepted bindings) }
+        ensures fault { IfErr result (λ fault.
+            Refuses fault (bindings_of (tree_of schema.now) text.now)) }
     {
         let text = bindings_syntax::read(alloc, text)?;
         let mut bindings = Bindings::new(alloc);
@@ -131,7 +135,8 @@ impl Bindings {
     /// The binding of a field of an object type; `None` if there is no such field, or the type isn't an
     /// object type. A field of leaf type without a line is bound to the column of its own name.
     pub fn binding_of(&self, ty: &str, field: &str) -> Option<&Binding>
-        ensures { option_map binding_of (option_copied result) ≡ binding_in self.now.fields ty.now field.now }
+        ensures { option_map binding_of (option_copied result)
+            ≡ binding_in self.now.fields ty.now field.now }
     {
         self.fields.get(ty, field)
     }
@@ -159,8 +164,10 @@ impl Bindings {
         schema: &Schema,
         statements: &[NumberedStatement<'_>],
     ) -> Result<(), SchemaFault>
-        ensures ok { OnOk result (after_statements (tree_of schema.now) self.old (map numbered_seen statements.now) ≡ accepted self.new) }
-        ensures fault { IfErr result (λ fault. Refuses fault (after_statements (tree_of schema.now) self.old (map numbered_seen statements.now))) }
+        ensures ok { OnOk result (after_statements (tree_of schema.now)
+            self.old (map numbered_seen statements.now) ≡ accepted self.new) }
+        ensures fault { IfErr result (λ fault. Refuses fault
+            (after_statements (tree_of schema.now) self.old (map numbered_seen statements.now))) }
     {
         for numbered in statements {
             if !self.add_statement(alloc, schema, numbered.statement)? {
@@ -177,7 +184,8 @@ impl Bindings {
         schema: &Schema,
         statement: Statement<'_>,
     ) -> Result<bool, AllocError>
-        ensures { IfOk result (AreNewIf (after_statement (tree_of schema.now) self.old (statement_seen statement.entry)) self.new) }
+        ensures { IfOk result (AreNewIf (after_statement (tree_of schema.now)
+            self.old (statement_seen statement.entry)) self.new) }
     {
         match statement {
             Statement::Loader { name, table, by } => self.add_loader(alloc, name, table, by),
@@ -234,7 +242,8 @@ impl Bindings {
 
     /// Binds each field of an object type that has no line; false where one needs a line.
     fn settle(&mut self, alloc: Global, schema: &Schema) -> Result<bool, AllocError>
-        ensures { IfOk result (AreNewIf (settled (tree_of schema.now) self.old (tree_of schema.now)) self.new) }
+        ensures { IfOk result
+            (AreNewIf (settled (tree_of schema.now) self.old (tree_of schema.now)) self.new) }
     {
         for indexed in schema.definitions() {
             if let Definition::Object(object) = &indexed.definition {
@@ -254,7 +263,8 @@ impl Bindings {
         type_name: &str,
         fields: &[FieldDefinition],
     ) -> Result<bool, AllocError>
-        ensures { IfOk result (AreNewIf (settled_fields (tree_of schema.now) type_name.now self.old (fields_of fields.now)) self.new) }
+        ensures { IfOk result (AreNewIf (settled_fields (tree_of schema.now)
+            type_name.now self.old (fields_of fields.now)) self.new) }
     {
         for field in fields {
             if !self.settle_field(alloc, schema, type_name, field)? {
@@ -272,7 +282,8 @@ impl Bindings {
         type_name: &str,
         field: &FieldDefinition,
     ) -> Result<bool, AllocError>
-        ensures { IfOk result (AreNewIf (settled_field (tree_of schema.now) type_name.now self.old (field_of field.now)) self.new) }
+        ensures { IfOk result (AreNewIf (settled_field (tree_of schema.now)
+            type_name.now self.old (field_of field.now)) self.new) }
     {
         if self.fields.get(type_name, &field.name.text).is_some() {
             return Ok(true);

@@ -1,4 +1,4 @@
-//! Which types of fields and arguments a binding fits.
+//! Types of fields and arguments that a binding fits.
 
 ghost use Rattle.std.specs.Prelude.{◌≡◌};
 ghost use Rattle.std.specs.Option.{option_map, option_copied};
@@ -12,21 +12,21 @@ use gq_parser::TypeRef;
 use gq_schema::{Schema, TypeKind};
 use schema_syntax::{ArgumentDefinition, FieldDefinition};
 
-/// Whether it is an object type.
+/// Tells whether it is an object type.
 pub fn is_object_type(schema: &Schema, name: &str) -> bool
     ensures { result ≡ is_object_type (tree_of schema.now) name.now }
 {
     matches!(schema.kind_of(name), Some(TypeKind::Object))
 }
 
-/// Whether queries begin at the type.
+/// Tells whether queries begin at the type.
 pub fn is_root_type(schema: &Schema, name: &str) -> bool
     ensures { result ≡ is_root_type (tree_of schema.now) name.now }
 {
     name == schema.root()
 }
 
-/// Whether the type is a scalar or an enum, and no list.
+/// Tells whether the type is a scalar or an enum, and no list.
 pub fn is_leaf_type(schema: &Schema, of_type: &TypeRef) -> bool
     ensures { result ≡ is_leaf_type (tree_of schema.now) (type_of of_type.now) }
 {
@@ -39,7 +39,7 @@ pub fn is_leaf_type(schema: &Schema, of_type: &TypeRef) -> bool
     }
 }
 
-/// Whether the type is an object type, an interface or a union, and no list.
+/// Tells whether the type is an object type, an interface or a union, and no list.
 pub fn is_composite_type(schema: &Schema, of_type: &TypeRef) -> bool
     ensures { result ≡ is_composite_type (tree_of schema.now) (type_of of_type.now) }
 {
@@ -52,7 +52,7 @@ pub fn is_composite_type(schema: &Schema, of_type: &TypeRef) -> bool
     }
 }
 
-/// Whether the type is a list of composites.
+/// Tells whether the type is a list of composites.
 pub fn is_composite_list(schema: &Schema, of_type: &TypeRef) -> bool
     ensures { result ≡ is_composite_list (tree_of schema.now) (type_of of_type.now) }
 {
@@ -62,7 +62,7 @@ pub fn is_composite_list(schema: &Schema, of_type: &TypeRef) -> bool
     }
 }
 
-/// Whether the type is Int, ID or String.
+/// Tells whether the type is Int, ID or String.
 fn is_key_type(of_type: &TypeRef) -> bool
     ensures { result ≡ is_key_type (type_of of_type.now) }
 {
@@ -72,7 +72,7 @@ fn is_key_type(of_type: &TypeRef) -> bool
     }
 }
 
-/// Whether the type is a list of Int, ID or String.
+/// Tells whether the type is a list of Int, ID or String.
 fn is_key_list(of_type: &TypeRef) -> bool
     ensures { result ≡ is_key_list (type_of of_type.now) }
 {
@@ -84,7 +84,8 @@ fn is_key_list(of_type: &TypeRef) -> bool
 
 /// The argument of a field of this name.
 fn argument<'a>(field: &'a FieldDefinition, name: &str) -> Option<&'a ArgumentDefinition>
-    ensures { option_map argument_of (option_copied result) ≡ argument_in (field_of field.now).arguments name.now }
+    ensures { option_map argument_of (option_copied result)
+        ≡ argument_in (field_of field.now).arguments name.now }
 {
     for argument in &field.arguments {
         if argument.name.text.as_str() == name {
@@ -94,7 +95,7 @@ fn argument<'a>(field: &'a FieldDefinition, name: &str) -> Option<&'a ArgumentDe
     None
 }
 
-/// Whether the field has an argument of this name that is an Int, an ID or a String.
+/// Tells whether the field has an argument of this name that is an Int, an ID or a String.
 pub fn takes_key(field: &FieldDefinition, name: &str) -> bool
     ensures { result ≡ takes is_key_type (field_of field.now) name.now }
 {
@@ -104,7 +105,7 @@ pub fn takes_key(field: &FieldDefinition, name: &str) -> bool
     }
 }
 
-/// Whether the field has an argument of this name that is a list of these.
+/// Tells whether the field has an argument of this name that is a list of these.
 pub fn takes_keys(field: &FieldDefinition, name: &str) -> bool
     ensures { result ≡ takes is_key_list (field_of field.now) name.now }
 {

@@ -5,7 +5,7 @@ use Rattle.gq_check.specs.declared.fault.CheckFault.{CheckFault}
 use Rattle.gq_check.specs.declared.fault.CheckFault.TheVariants as check
 use Rattle.gq_check.specs.Verdict.{FaultOf, fault_of, IsCheckFault}
 
--- where neither of two answers is there, the first isn't
+-- the first of two answers isn't there where neither is
 pub first-none : {A : Type 0} (a b : Option A) → or_else a b ≡ None → a ≡ None
 first-none (Some x) b h = h
 first-none None b h = λ i. None

@@ -1,10 +1,10 @@
--- How plans are prepared.
+-- Lemmas on how plans are prepared.
 use Rattle.std.proofs.Common.{◌≡◌, ◌∙◌, ap, ℕ, List, Option, Result, Ok}
 use Rattle.serde_json.specs.Data.{Data}
 use Rattle.gq_parser.specs.Tree.{Operation}
 use Rattle.schema_syntax.specs.Tree.{Definition}
-use Rattle.variable_values.specs.Variables.{VariableOf}
-use Rattle.variable_values.specs.Values as values
+use Rattle.gq_variables.specs.Variables.{VariableOf}
+use Rattle.gq_variables.specs.Values as values
 use Rattle.gq_check.specs.Prepared.{FaultOf, chosen_operation, with_variables, prepared_operation, prepared}
 
 -- an operation was chosen, and its variables have values

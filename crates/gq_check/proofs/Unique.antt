@@ -3,10 +3,10 @@ use Rattle.std.proofs.Common.{◌≡◌, ◌∙◌, sym, ap, List, Option, Some,
 use Rattle.std.specs.Prelude.{option_map}
 use Rattle.gq_parser.specs.Tree.{Document}
 use Rattle.schema_syntax.specs.Tree.{Definition}
-use Rattle.document_parts.specs.Broken.{BrokenOf}
-use Rattle.document_parts.specs.Listing.{parts_of}
-use Rattle.document_parts.specs.Parts.{PartsOf}
-use Rattle.field_merging.specs.Rule.{IsMerging}
+use Rattle.rules_parts.specs.Broken.{BrokenOf}
+use Rattle.rules_parts.specs.Listing.{parts_of}
+use Rattle.rules_parts.specs.Parts.{PartsOf}
+use Rattle.merging_fields.specs.FieldSelectionMerging.{IsMerging}
 use Rattle.gq_check.specs.declared.fault.Rule.TheVariants as rule
 use Rattle.gq_check.specs.Verdict.{FaultOf, breaks, first_fault, IsVerdictAfter, IsVerdict}
 

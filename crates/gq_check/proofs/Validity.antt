@@ -1,44 +1,44 @@
--- What a valid document keeps.
+-- Lemmas on what a valid document keeps.
 use Rattle.std.proofs.Common.{◌≡◌, ◌∙◌, sym, ap, subst, refl, ℕ, Bool, true, false, List, [], ◌∷◌, ◌≤◌, length, Option, Some, None, if◌then◌else◌, arith}
 use Rattle.std.specs.Prelude.{option_map, fold, nat_lt, All}
 use Rattle.std.proofs.lemmas.Bool.{ltb-false}
 use Rattle.std.proofs.lemmas.List.Elements.{All-nil, All-cons, All-head, All-tail}
 use Rattle.gq_schema.specs.Scan.{or_else}
-use Rattle.document_parts.specs.Broken.{BrokenOf, earlier, with_broken, earliest}
+use Rattle.rules_parts.specs.Broken.{BrokenOf, earlier, with_broken, earliest}
 use Rattle.gq_parser.specs.Tree.{Document}
 use Rattle.schema_syntax.specs.Tree.{Definition}
-use Rattle.document_parts.specs.Listing.{parts_of}
-use Rattle.document_parts.specs.Parts.{PartsOf}
-use Rattle.document_rules.specs.OperationNameUniqueness.{operation_name_uniqueness}
-use Rattle.document_rules.specs.LoneAnonymousOperation.{lone_anonymous_operation}
-use Rattle.document_rules.specs.ArgumentUniqueness.{argument_uniqueness}
-use Rattle.document_rules.specs.FragmentNameUniqueness.{fragment_name_uniqueness}
-use Rattle.document_rules.specs.FragmentsMustBeUsed.{fragments_must_be_used}
-use Rattle.document_rules.specs.FragmentSpreadTargetDefined.{fragment_spread_target_defined}
-use Rattle.document_rules.specs.DirectivesAreDefined.{directives_are_defined}
-use Rattle.document_rules.specs.DirectivesAreInValidLocations.{directives_are_in_valid_locations}
-use Rattle.document_rules.specs.DirectivesAreUniquePerLocation.{directives_are_unique_per_location}
-use Rattle.document_rules.specs.VariableUniqueness.{variable_uniqueness}
-use Rattle.document_rules.specs.AllVariableUsesDefined.{all_variable_uses_defined}
-use Rattle.document_rules.specs.AllVariablesUsed.{all_variables_used}
-use Rattle.document_rules.specs.NotServed.{not_served}
-use Rattle.document_rules.specs.TooComplex.{is_too_complex}
-use Rattle.typed_rules.specs.FieldSelections.{unknown_fields}
-use Rattle.typed_rules.specs.LeafFieldSelections.{misfit_fields}
-use Rattle.typed_rules.specs.ArgumentNames.{unknown_arguments}
-use Rattle.typed_rules.specs.RequiredArguments.{missing_arguments}
-use Rattle.typed_rules.specs.FragmentSpreadTypeExistence.{unknown_types}
-use Rattle.typed_rules.specs.FragmentsOnCompositeTypes.{leaf_types}
-use Rattle.typed_rules.specs.FragmentSpreadIsPossible.{impossible_spreads}
-use Rattle.typed_rules.specs.ValuesOfCorrectType.{wrong_values}
-use Rattle.typed_rules.specs.VariablesAreInputTypes.{non_input_variables}
-use Rattle.typed_rules.specs.AllVariableUsagesAreAllowed.{forbidden_usages}
-use Rattle.spread_graph.specs.Rules.{fragment_cycles, too_deep}
-use Rattle.merge_table.specs.Merging.{Fields, CanMerge}
-use Rattle.merge_table.specs.Numbered.{is_in}
-use Rattle.selection_members.specs.Members.{SetOf, sets_of}
-use Rattle.field_merging.specs.Members.{fields_of}
-use Rattle.field_merging.specs.Rule.{AreBroken, none, merges, fails, key_of}
+use Rattle.rules_parts.specs.Listing.{parts_of}
+use Rattle.rules_parts.specs.Parts.{PartsOf}
+use Rattle.rules_untyped.specs.OperationNameUniqueness.{operation_name_uniqueness}
+use Rattle.rules_untyped.specs.LoneAnonymousOperation.{lone_anonymous_operation}
+use Rattle.rules_untyped.specs.ArgumentUniqueness.{argument_uniqueness}
+use Rattle.rules_untyped.specs.FragmentNameUniqueness.{fragment_name_uniqueness}
+use Rattle.rules_untyped.specs.FragmentsMustBeUsed.{fragments_must_be_used}
+use Rattle.rules_untyped.specs.FragmentSpreadTargetDefined.{fragment_spread_target_defined}
+use Rattle.rules_untyped.specs.DirectivesAreDefined.{directives_are_defined}
+use Rattle.rules_untyped.specs.DirectivesAreInValidLocations.{directives_are_in_valid_locations}
+use Rattle.rules_untyped.specs.DirectivesAreUniquePerLocation.{directives_are_unique_per_location}
+use Rattle.rules_untyped.specs.VariableUniqueness.{variable_uniqueness}
+use Rattle.rules_untyped.specs.AllVariableUsesDefined.{all_variable_uses_defined}
+use Rattle.rules_untyped.specs.AllVariablesUsed.{all_variables_used}
+use Rattle.rules_untyped.specs.NotServed.{not_served}
+use Rattle.rules_untyped.specs.TooComplex.{is_too_complex}
+use Rattle.rules_typed.specs.FieldSelections.{field_selections}
+use Rattle.rules_typed.specs.LeafFieldSelections.{leaf_field_selections}
+use Rattle.rules_typed.specs.ArgumentNames.{argument_names}
+use Rattle.rules_typed.specs.RequiredArguments.{required_arguments}
+use Rattle.rules_typed.specs.FragmentSpreadTypeExistence.{fragment_spread_type_existence}
+use Rattle.rules_typed.specs.FragmentsOnCompositeTypes.{fragments_on_composite_types}
+use Rattle.rules_typed.specs.FragmentSpreadIsPossible.{fragment_spread_is_possible}
+use Rattle.rules_typed.specs.ValuesOfCorrectType.{values_of_correct_type}
+use Rattle.rules_typed.specs.VariablesAreInputTypes.{variables_are_input_types}
+use Rattle.rules_typed.specs.AllVariableUsagesAreAllowed.{all_variable_usages_are_allowed}
+use Rattle.rules_spreads.specs.Rules.{fragment_spreads_must_not_form_cycles, too_deep}
+use Rattle.merging_pairs.specs.Merging.{Fields, CanMerge}
+use Rattle.merging_pairs.specs.Numbered.{is_in}
+use Rattle.merging_members.specs.Members.{SetOf, sets_of}
+use Rattle.merging_fields.specs.Members.{fields_of}
+use Rattle.merging_fields.specs.FieldSelectionMerging.{AreBroken, none, merges, fails, key_of}
 use Rattle.gq_check.specs.declared.fault.Rule.TheVariants as rule
 use Rattle.gq_check.proofs.Faults.{first-none, second-none}
 use Rattle.gq_check.specs.Valid.{CanBeMerged, KeepsRules}
@@ -125,8 +125,8 @@ listed-own p defs d e =
     let two : p.document ≡ d = ap (λ (q : PartsOf). q.document) e in
     e ∙ (ap (λ (x : List Definition). parts_of x d) (sym one) ∙ ap (λ (x : Document). parts_of p.definitions x) (sym two))
 
--- what is known of a document where its fields are asked to merge
-pub before-merging : (p : PartsOf) → first_fault p ≡ None → (fragment_cycles p ≡ []) × (length p.fields ≤ 1024)
+-- facts of a document whose fields are asked to merge: it has no cycles of spreads, and few fields
+pub before-merging : (p : PartsOf) → first_fault p ≡ None → (fragment_spreads_must_not_form_cycles p ≡ []) × (length p.fields ≤ 1024)
 before-merging p e =
     let whole = parted (rules_fault p) (limits_fault p) e in
     let served = parted (served_fault p) _ whole.0 in
@@ -136,9 +136,9 @@ before-merging p e =
     let fragments = parted (fragments_fault p) _ arguments.1 in
     let spreads = parted (spreads_fault p) _ fragments.1 in
     let at_spread_targets = parted (report rule.FragmentSpreadTargetDefined (fragment_spread_target_defined p)) _ spreads.0 in
-    let at_cycles = parted (report rule.FragmentSpreadsMustNotFormCycles (fragment_cycles p)) _ at_spread_targets.1 in
+    let at_cycles = parted (report rule.FragmentSpreadsMustNotFormCycles (fragment_spreads_must_not_form_cycles p)) _ at_spread_targets.1 in
     let limits = parted (option_map too_deep_fault (earliest (too_deep p))) _ whole.1 in
-    (kept (breaks rule.FragmentSpreadsMustNotFormCycles) (fragment_cycles p) at_cycles.0, at-most (length p.fields) (few (is_too_complex p) limits.1))
+    (kept (breaks rule.FragmentSpreadsMustNotFormCycles) (fragment_spreads_must_not_form_cycles p) at_cycles.0, at-most (length p.fields) (few (is_too_complex p) limits.1))
   where
     at-most : (n : ℕ) → nat_lt 1000 n ≡ false → n ≤ 1024
     at-most n h = let le = ltb-false 1000 n h in omega (arith, le)
@@ -156,18 +156,18 @@ valid-keeps p h =
     let values = parted (values_fault p) _ spreads.1 in
     let directives = parted (directives_fault p) _ values.1 in
     let at_operation_names = parted (report rule.OperationNameUniqueness (operation_name_uniqueness p)) _ operations.0 in
-    let at_selected_fields = parted (report rule.FieldSelections (unknown_fields p)) _ fields.0 in
-    let at_argument_names = parted (report rule.ArgumentNames (unknown_arguments p)) _ arguments.0 in
+    let at_selected_fields = parted (report rule.FieldSelections (field_selections p)) _ fields.0 in
+    let at_argument_names = parted (report rule.ArgumentNames (argument_names p)) _ arguments.0 in
     let at_arguments_once = parted (report rule.ArgumentUniqueness (argument_uniqueness p)) _ at_argument_names.1 in
     let at_fragment_names = parted (report rule.FragmentNameUniqueness (fragment_name_uniqueness p)) _ fragments.0 in
-    let at_fragment_types = parted (report rule.FragmentSpreadTypeExistence (unknown_types p)) _ at_fragment_names.1 in
-    let at_composite_types = parted (report rule.FragmentsOnCompositeTypes (leaf_types p)) _ at_fragment_types.1 in
+    let at_fragment_types = parted (report rule.FragmentSpreadTypeExistence (fragment_spread_type_existence p)) _ at_fragment_names.1 in
+    let at_composite_types = parted (report rule.FragmentsOnCompositeTypes (fragments_on_composite_types p)) _ at_fragment_types.1 in
     let at_spread_targets = parted (report rule.FragmentSpreadTargetDefined (fragment_spread_target_defined p)) _ spreads.0 in
-    let at_cycles = parted (report rule.FragmentSpreadsMustNotFormCycles (fragment_cycles p)) _ at_spread_targets.1 in
+    let at_cycles = parted (report rule.FragmentSpreadsMustNotFormCycles (fragment_spreads_must_not_form_cycles p)) _ at_spread_targets.1 in
     let at_known_directives = parted (report rule.DirectivesAreDefined (directives_are_defined p)) _ directives.0 in
     let at_directive_locations = parted (report rule.DirectivesAreInValidLocations (directives_are_in_valid_locations p)) _ at_known_directives.1 in
     let at_variables_once = parted (report rule.VariableUniqueness (variable_uniqueness p)) _ directives.1 in
-    let at_input_types = parted (report rule.VariablesAreInputTypes (non_input_variables p)) _ at_variables_once.1 in
+    let at_input_types = parted (report rule.VariablesAreInputTypes (variables_are_input_types p)) _ at_variables_once.1 in
     let at_uses_defined = parted (report rule.AllVariableUsesDefined (all_variable_uses_defined p)) _ at_input_types.1 in
     let at_variables_used = parted (report rule.AllVariablesUsed (all_variables_used p)) _ at_uses_defined.1 in
     let limits = parted (option_map too_deep_fault (earliest (too_deep p))) _ whole.1 in
@@ -175,27 +175,27 @@ valid-keeps p h =
       served = kept not_served_fault (not_served p) served.0;
       operation_names = kept (breaks rule.OperationNameUniqueness) (operation_name_uniqueness p) at_operation_names.0;
       lone_operation = kept (breaks rule.LoneAnonymousOperation) (lone_anonymous_operation p) at_operation_names.1;
-      selected_fields = kept (breaks rule.FieldSelections) (unknown_fields p) at_selected_fields.0;
-      leaves = kept (breaks rule.LeafFieldSelections) (misfit_fields p) at_selected_fields.1;
-      argument_names = kept (breaks rule.ArgumentNames) (unknown_arguments p) at_argument_names.0;
+      selected_fields = kept (breaks rule.FieldSelections) (field_selections p) at_selected_fields.0;
+      leaves = kept (breaks rule.LeafFieldSelections) (leaf_field_selections p) at_selected_fields.1;
+      argument_names = kept (breaks rule.ArgumentNames) (argument_names p) at_argument_names.0;
       arguments_once = kept (breaks rule.ArgumentUniqueness) (argument_uniqueness p) at_arguments_once.0;
-      required_arguments = kept (breaks rule.RequiredArguments) (missing_arguments p) at_arguments_once.1;
+      required_arguments = kept (breaks rule.RequiredArguments) (required_arguments p) at_arguments_once.1;
       fragment_names = kept (breaks rule.FragmentNameUniqueness) (fragment_name_uniqueness p) at_fragment_names.0;
-      fragment_types = kept (breaks rule.FragmentSpreadTypeExistence) (unknown_types p) at_fragment_types.0;
-      composite_types = kept (breaks rule.FragmentsOnCompositeTypes) (leaf_types p) at_composite_types.0;
+      fragment_types = kept (breaks rule.FragmentSpreadTypeExistence) (fragment_spread_type_existence p) at_fragment_types.0;
+      composite_types = kept (breaks rule.FragmentsOnCompositeTypes) (fragments_on_composite_types p) at_composite_types.0;
       fragments_used = kept (breaks rule.FragmentsMustBeUsed) (fragments_must_be_used p) at_composite_types.1;
       spread_targets = kept (breaks rule.FragmentSpreadTargetDefined) (fragment_spread_target_defined p) at_spread_targets.0;
-      cycles = kept (breaks rule.FragmentSpreadsMustNotFormCycles) (fragment_cycles p) at_cycles.0;
-      possible_spreads = kept (breaks rule.FragmentSpreadIsPossible) (impossible_spreads p) at_cycles.1;
-      values = kept (breaks rule.ValuesOfCorrectType) (wrong_values p) values.0;
+      cycles = kept (breaks rule.FragmentSpreadsMustNotFormCycles) (fragment_spreads_must_not_form_cycles p) at_cycles.0;
+      possible_spreads = kept (breaks rule.FragmentSpreadIsPossible) (fragment_spread_is_possible p) at_cycles.1;
+      values = kept (breaks rule.ValuesOfCorrectType) (values_of_correct_type p) values.0;
       known_directives = kept (breaks rule.DirectivesAreDefined) (directives_are_defined p) at_known_directives.0;
       directive_locations = kept (breaks rule.DirectivesAreInValidLocations) (directives_are_in_valid_locations p) at_directive_locations.0;
       directives_once = kept (breaks rule.DirectivesAreUniquePerLocation) (directives_are_unique_per_location p) at_directive_locations.1;
       variables_once = kept (breaks rule.VariableUniqueness) (variable_uniqueness p) at_variables_once.0;
-      input_types = kept (breaks rule.VariablesAreInputTypes) (non_input_variables p) at_input_types.0;
+      input_types = kept (breaks rule.VariablesAreInputTypes) (variables_are_input_types p) at_input_types.0;
       uses_defined = kept (breaks rule.AllVariableUsesDefined) (all_variable_uses_defined p) at_uses_defined.0;
       variables_used = kept (breaks rule.AllVariablesUsed) (all_variables_used p) at_variables_used.0;
-      allowed_usages = kept (breaks rule.AllVariableUsagesAreAllowed) (forbidden_usages p) at_variables_used.1;
+      allowed_usages = kept (breaks rule.AllVariableUsagesAreAllowed) (all_variable_usages_are_allowed p) at_variables_used.1;
       levels = kept too_deep_fault (too_deep p) limits.0;
       few_fields = few (is_too_complex p) limits.1;
       merging = merging-kept p only.1;
@@ -208,31 +208,31 @@ no-operations p k =
 
 no-fields : (p : PartsOf) → KeepsRules p → fields_fault p ≡ None
 no-fields p k =
-    together _ _ (unreported (breaks rule.FieldSelections) (unknown_fields p) k.selected_fields)
-    (unreported (breaks rule.LeafFieldSelections) (misfit_fields p) k.leaves)
+    together _ _ (unreported (breaks rule.FieldSelections) (field_selections p) k.selected_fields)
+    (unreported (breaks rule.LeafFieldSelections) (leaf_field_selections p) k.leaves)
 
 no-arguments : (p : PartsOf) → KeepsRules p → arguments_fault p ≡ None
 no-arguments p k =
-    together _ _ (unreported (breaks rule.ArgumentNames) (unknown_arguments p) k.argument_names)
+    together _ _ (unreported (breaks rule.ArgumentNames) (argument_names p) k.argument_names)
     (together _ _ (unreported (breaks rule.ArgumentUniqueness) (argument_uniqueness p) k.arguments_once)
-    (unreported (breaks rule.RequiredArguments) (missing_arguments p) k.required_arguments))
+    (unreported (breaks rule.RequiredArguments) (required_arguments p) k.required_arguments))
 
 no-fragments : (p : PartsOf) → KeepsRules p → fragments_fault p ≡ None
 no-fragments p k =
     together _ _ (unreported (breaks rule.FragmentNameUniqueness) (fragment_name_uniqueness p) k.fragment_names)
-    (together _ _ (unreported (breaks rule.FragmentSpreadTypeExistence) (unknown_types p) k.fragment_types)
-    (together _ _ (unreported (breaks rule.FragmentsOnCompositeTypes) (leaf_types p) k.composite_types)
+    (together _ _ (unreported (breaks rule.FragmentSpreadTypeExistence) (fragment_spread_type_existence p) k.fragment_types)
+    (together _ _ (unreported (breaks rule.FragmentsOnCompositeTypes) (fragments_on_composite_types p) k.composite_types)
     (unreported (breaks rule.FragmentsMustBeUsed) (fragments_must_be_used p) k.fragments_used)))
 
 no-spreads : (p : PartsOf) → KeepsRules p → spreads_fault p ≡ None
 no-spreads p k =
     together _ _ (unreported (breaks rule.FragmentSpreadTargetDefined) (fragment_spread_target_defined p) k.spread_targets)
-    (together _ _ (unreported (breaks rule.FragmentSpreadsMustNotFormCycles) (fragment_cycles p) k.cycles)
-    (unreported (breaks rule.FragmentSpreadIsPossible) (impossible_spreads p) k.possible_spreads))
+    (together _ _ (unreported (breaks rule.FragmentSpreadsMustNotFormCycles) (fragment_spreads_must_not_form_cycles p) k.cycles)
+    (unreported (breaks rule.FragmentSpreadIsPossible) (fragment_spread_is_possible p) k.possible_spreads))
 
 no-values : (p : PartsOf) → KeepsRules p → values_fault p ≡ None
 no-values p k =
-    unreported (breaks rule.ValuesOfCorrectType) (wrong_values p) k.values
+    unreported (breaks rule.ValuesOfCorrectType) (values_of_correct_type p) k.values
 
 no-directives : (p : PartsOf) → KeepsRules p → directives_fault p ≡ None
 no-directives p k =
@@ -243,10 +243,10 @@ no-directives p k =
 no-variables : (p : PartsOf) → KeepsRules p → variables_fault p ≡ None
 no-variables p k =
     together _ _ (unreported (breaks rule.VariableUniqueness) (variable_uniqueness p) k.variables_once)
-    (together _ _ (unreported (breaks rule.VariablesAreInputTypes) (non_input_variables p) k.input_types)
+    (together _ _ (unreported (breaks rule.VariablesAreInputTypes) (variables_are_input_types p) k.input_types)
     (together _ _ (unreported (breaks rule.AllVariableUsesDefined) (all_variable_uses_defined p) k.uses_defined)
     (together _ _ (unreported (breaks rule.AllVariablesUsed) (all_variables_used p) k.variables_used)
-    (unreported (breaks rule.AllVariableUsagesAreAllowed) (forbidden_usages p) k.allowed_usages))))
+    (unreported (breaks rule.AllVariableUsagesAreAllowed) (all_variable_usages_are_allowed p) k.allowed_usages))))
 
 no-rules : (p : PartsOf) → KeepsRules p → rules_fault p ≡ None
 no-rules p k =

@@ -1,4 +1,4 @@
--- How plans are prepared, and what holds of every plan: it is prepared from a valid document.
+-- Definitions of how plans are prepared, and what holds of every plan: it is prepared from a valid document.
 use Rattle.std.specs.Prelude.{◌≡◌, ℕ, List, Option, Result, Ok, get_or}
 use Rattle.std.specs.Arc.{arc_value}
 use Rattle.std.specs.Borrow.{Bor}
@@ -36,18 +36,22 @@ pub record IsChosen (defs : List Definition) (o : Operation) (fragments : List F
 
 -- At this place of the operations stands the one that is asked for by this name, or the only one.
 abbrev pub IsChosenAt : List (Arc rust-operation.Operation Global) → Option (List ℕ) → ℕ → Type 0
-IsChosenAt os name place = (d : Arc rust-operation.Operation Global) → chosen_operation (operations_in os) name ≡ Ok (operation_of (arc_value (get_or os place d)))
+IsChosenAt os name place = (d : Arc rust-operation.Operation Global)
+    → chosen_operation (operations_in os) name ≡ Ok (operation_of (arc_value (get_or os place d)))
 
--- what preparing gives over these definitions, of an operation among these that may be asked for by its name, with these values
-abbrev pub preparation : List rust-definition.Definition → List rust-operation.Operation → Option (Bor (List ℕ)) → Value → Result PreparedOf FaultOf
+-- gives what preparing gives over these definitions, of an operation among these that may be asked for by its name, with these
+-- values
+abbrev pub preparation : List rust-definition.Definition → List rust-operation.Operation
+    → Option (Bor (List ℕ)) → Value → Result PreparedOf FaultOf
 preparation defs os name given = prepared (tree_of defs) (operations_of os) (asked_name name) (view given)
 
--- the same of a document that was found valid
+-- gives the same of a document that was found valid
 abbrev pub preparation_in : CheckedParts → Option (Bor (List ℕ)) → Value → Result PreparedOf FaultOf
 preparation_in checked = preparation checked.definitions checked.document.operations.items
 
--- the same of an operation that was chosen
-abbrev pub preparation_of : List rust-definition.Definition → rust-operation.Operation → Value → Result PreparedOf FaultOf
+-- gives the same of an operation that was chosen
+abbrev pub preparation_of : List rust-definition.Definition
+    → rust-operation.Operation → Value → Result PreparedOf FaultOf
 preparation_of defs operation given = prepared_operation (tree_of defs) (view given) (Ok (operation_of operation))
 
 -- the operation of a plan, and its variables that have a value

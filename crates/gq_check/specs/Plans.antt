@@ -11,8 +11,8 @@ use Rattle.schema_syntax.specs.declared.tree.Definition as rust-definition
 use Rattle.schema_syntax.specs.Tree.{Definition}
 use Rattle.gq_schema.specs.Types.{tree_of}
 use Rattle.gq_bindings.specs.Tree.{BindingsOf}
-use Rattle.variable_values.specs.declared.variable.Variable as rust-variable
-use Rattle.variable_values.specs.Variables.{VariableOf, variables_of}
+use Rattle.gq_variables.specs.declared.variable.Variable as rust-variable
+use Rattle.gq_variables.specs.Variables.{VariableOf, variables_of}
 
 -- the parts of a plan as the program holds them
 pub record PlanParts : Type 0 where
@@ -43,7 +43,8 @@ pub record PlanOf : Type 0 where
   pub variables : List VariableOf
 
 -- the parts of a plan that shares these
-abbrev pub plan_parts : Arc (List rust-definition.Definition) Global → Arc BindingsOf Global → Arc rust-operation.Operation Global
+abbrev pub plan_parts : Arc (List rust-definition.Definition) Global
+    → Arc BindingsOf Global → Arc rust-operation.Operation Global
     → Arc (List rust-fragment.Fragment) Global → List rust-variable.Variable → PlanParts
 plan_parts schema bindings operation fragments variables = record {
   definitions = arc_value schema;

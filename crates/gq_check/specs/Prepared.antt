@@ -7,17 +7,17 @@ use Rattle.gq_parser.specs.Tree.{Operation}
 use Rattle.schema_syntax.specs.Tree.{Definition}
 use Rattle.gq_check.specs.declared.fault.PrepareFault.{PrepareFault}
 use Rattle.gq_check.specs.declared.fault.PrepareFault.TheVariants as fault
-use Rattle.variable_values.specs.declared.fault.VariableFault.{VariableFault}
-use Rattle.variable_values.specs.declared.fault.VariableFault.TheVariants as variables
-use Rattle.variable_values.specs.Variables.{VariableOf}
-use Rattle.variable_values.specs.Values as values
+use Rattle.gq_variables.specs.declared.fault.VariableFault.{VariableFault}
+use Rattle.gq_variables.specs.declared.fault.VariableFault.TheVariants as variables
+use Rattle.gq_variables.specs.Variables.{VariableOf}
+use Rattle.gq_variables.specs.Values as values
 
 -- the chosen operation, and its variables that have a value
 pub record PreparedOf : Type 0 where
   pub operation : Operation
   pub variables : List VariableOf
 
--- why there is no plan
+-- says why there is no plan
 pub data FaultOf : Type 0 where
   no_such_operation : List ℕ → FaultOf
   operation_needed : FaultOf
@@ -47,17 +47,20 @@ abbrev pub chosen_operation : List Operation → Option (List ℕ) → Result Op
 chosen_operation os (Some name) = found_operation name (find (is_operation name) os)
 chosen_operation os None = only_operation os
 
-abbrev pub with_variables : Operation → Result (List VariableOf) values.FaultOf → Result PreparedOf FaultOf
+abbrev pub with_variables : Operation
+    → Result (List VariableOf) values.FaultOf → Result PreparedOf FaultOf
 with_variables o (Ok vs) = Ok (record { operation = o; variables = vs })
 with_variables o (Err values.not_object) = Err variables_not_object
 with_variables o (Err (values.bad_variable name)) = Err (bad_variable name)
 
-abbrev pub prepared_operation : List Definition → Data → Result Operation FaultOf → Result PreparedOf FaultOf
+abbrev pub prepared_operation : List Definition → Data
+    → Result Operation FaultOf → Result PreparedOf FaultOf
 prepared_operation defs given (Err e) = Err e
 prepared_operation defs given (Ok o) = with_variables o (values.coerced_variables defs o.variables given)
 
 -- the operation that is asked for, with the values that this gives for its variables, or the first fault
-abbrev pub prepared : List Definition → List Operation → Option (List ℕ) → Data → Result PreparedOf FaultOf
+abbrev pub prepared : List Definition → List Operation
+    → Option (List ℕ) → Data → Result PreparedOf FaultOf
 prepared defs os name given = prepared_operation defs given (chosen_operation os name)
 
 -- a fault of variables, as one of a plan
@@ -68,7 +71,8 @@ prepare_fault variables.NoMemory = fault.NoMemory
 
 -- the fault that is reported where a plan is wanted; of memory this says nothing
 abbrev pub IsPrepareFault : {A : Type 0} → Result A FaultOf → PrepareFault → Type 0
-IsPrepareFault want (fault.NoSuchOperation name) = want ≡ Err (no_such_operation (string_bytes name))
+IsPrepareFault want (fault.NoSuchOperation name) = want
+    ≡ Err (no_such_operation (string_bytes name))
 IsPrepareFault want fault.OperationNeeded = want ≡ Err operation_needed
 IsPrepareFault want fault.VariablesNotObject = want ≡ Err variables_not_object
 IsPrepareFault want (fault.BadVariable name) = want ≡ Err (bad_variable (string_bytes name))

@@ -1,5 +1,5 @@
--- What contracts see of a fault that borrows its document.
-use Rattle.document_parts.specs.Broken.{BrokenOf, broken_of}
+-- Definitions of what contracts see of a fault that borrows its document.
+use Rattle.rules_parts.specs.Broken.{BrokenOf, broken_of}
 use Rattle.gq_check.specs.declared.report.Report as rust
 use Rattle.gq_check.specs.declared.report.Report.TheVariants as report
 use Rattle.gq_check.specs.Verdict.{FaultOf, breaks, TooComplex, TooDeep, NotServed}

@@ -6,43 +6,43 @@ use Rattle.text_place.specs.declared.place.Place.{Place}
 use Rattle.gq_parser.specs.Tree.{Document}
 use Rattle.schema_syntax.specs.Tree.{Definition}
 use Rattle.gq_schema.specs.Scan.{or_else}
-use Rattle.document_parts.specs.Broken.{BrokenOf, earliest}
-use Rattle.document_parts.specs.Parts.{PartsOf}
-use Rattle.document_parts.specs.Listing.{parts_of}
-use Rattle.document_rules.specs.OperationNameUniqueness.{operation_name_uniqueness}
-use Rattle.document_rules.specs.LoneAnonymousOperation.{lone_anonymous_operation}
-use Rattle.document_rules.specs.ArgumentUniqueness.{argument_uniqueness}
-use Rattle.document_rules.specs.FragmentNameUniqueness.{fragment_name_uniqueness}
-use Rattle.document_rules.specs.FragmentsMustBeUsed.{fragments_must_be_used}
-use Rattle.document_rules.specs.FragmentSpreadTargetDefined.{fragment_spread_target_defined}
-use Rattle.document_rules.specs.DirectivesAreDefined.{directives_are_defined}
-use Rattle.document_rules.specs.DirectivesAreInValidLocations.{directives_are_in_valid_locations}
-use Rattle.document_rules.specs.DirectivesAreUniquePerLocation.{directives_are_unique_per_location}
-use Rattle.document_rules.specs.VariableUniqueness.{variable_uniqueness}
-use Rattle.document_rules.specs.AllVariableUsesDefined.{all_variable_uses_defined}
-use Rattle.document_rules.specs.AllVariablesUsed.{all_variables_used}
-use Rattle.document_rules.specs.NotServed.{not_served}
-use Rattle.document_rules.specs.TooComplex.{is_too_complex}
-use Rattle.typed_rules.specs.FieldSelections.{unknown_fields}
-use Rattle.typed_rules.specs.LeafFieldSelections.{misfit_fields}
-use Rattle.typed_rules.specs.ArgumentNames.{unknown_arguments}
-use Rattle.typed_rules.specs.RequiredArguments.{missing_arguments}
-use Rattle.typed_rules.specs.FragmentSpreadTypeExistence.{unknown_types}
-use Rattle.typed_rules.specs.FragmentsOnCompositeTypes.{leaf_types}
-use Rattle.typed_rules.specs.FragmentSpreadIsPossible.{impossible_spreads}
-use Rattle.typed_rules.specs.ValuesOfCorrectType.{wrong_values}
-use Rattle.typed_rules.specs.VariablesAreInputTypes.{non_input_variables}
-use Rattle.typed_rules.specs.AllVariableUsagesAreAllowed.{forbidden_usages}
-use Rattle.spread_graph.specs.Rules.{fragment_cycles, too_deep}
-use Rattle.field_merging.specs.Rule.{IsMerging}
+use Rattle.rules_parts.specs.Broken.{BrokenOf, earliest}
+use Rattle.rules_parts.specs.Parts.{PartsOf}
+use Rattle.rules_parts.specs.Listing.{parts_of}
+use Rattle.rules_untyped.specs.OperationNameUniqueness.{operation_name_uniqueness}
+use Rattle.rules_untyped.specs.LoneAnonymousOperation.{lone_anonymous_operation}
+use Rattle.rules_untyped.specs.ArgumentUniqueness.{argument_uniqueness}
+use Rattle.rules_untyped.specs.FragmentNameUniqueness.{fragment_name_uniqueness}
+use Rattle.rules_untyped.specs.FragmentsMustBeUsed.{fragments_must_be_used}
+use Rattle.rules_untyped.specs.FragmentSpreadTargetDefined.{fragment_spread_target_defined}
+use Rattle.rules_untyped.specs.DirectivesAreDefined.{directives_are_defined}
+use Rattle.rules_untyped.specs.DirectivesAreInValidLocations.{directives_are_in_valid_locations}
+use Rattle.rules_untyped.specs.DirectivesAreUniquePerLocation.{directives_are_unique_per_location}
+use Rattle.rules_untyped.specs.VariableUniqueness.{variable_uniqueness}
+use Rattle.rules_untyped.specs.AllVariableUsesDefined.{all_variable_uses_defined}
+use Rattle.rules_untyped.specs.AllVariablesUsed.{all_variables_used}
+use Rattle.rules_untyped.specs.NotServed.{not_served}
+use Rattle.rules_untyped.specs.TooComplex.{is_too_complex}
+use Rattle.rules_typed.specs.FieldSelections.{field_selections}
+use Rattle.rules_typed.specs.LeafFieldSelections.{leaf_field_selections}
+use Rattle.rules_typed.specs.ArgumentNames.{argument_names}
+use Rattle.rules_typed.specs.RequiredArguments.{required_arguments}
+use Rattle.rules_typed.specs.FragmentSpreadTypeExistence.{fragment_spread_type_existence}
+use Rattle.rules_typed.specs.FragmentsOnCompositeTypes.{fragments_on_composite_types}
+use Rattle.rules_typed.specs.FragmentSpreadIsPossible.{fragment_spread_is_possible}
+use Rattle.rules_typed.specs.ValuesOfCorrectType.{values_of_correct_type}
+use Rattle.rules_typed.specs.VariablesAreInputTypes.{variables_are_input_types}
+use Rattle.rules_typed.specs.AllVariableUsagesAreAllowed.{all_variable_usages_are_allowed}
+use Rattle.rules_spreads.specs.Rules.{fragment_spreads_must_not_form_cycles, too_deep}
+use Rattle.merging_fields.specs.FieldSelectionMerging.{IsMerging}
 use Rattle.gq_check.specs.declared.fault.Rule.{Rule}
 use Rattle.gq_check.specs.declared.fault.Rule.TheVariants as rule
 use Rattle.gq_check.specs.declared.fault.CheckFault.{CheckFault}
 use Rattle.gq_check.specs.declared.fault.CheckFault.TheVariants as check
 
--- why a document is not valid
+-- says why a document is not valid
 pub data FaultOf : Type 0 where
-  -- what breaks a rule: its name and its place
+  -- says what breaks a rule: its name and its place
   Breaks : Rule → List ℕ → Place → FaultOf
   TooComplex : FaultOf
   TooDeep : Place → FaultOf
@@ -51,7 +51,7 @@ pub data FaultOf : Type 0 where
 abbrev pub breaks : Rule → BrokenOf → FaultOf
 breaks r b = Breaks r b.name b.place
 
--- what is reported of a rule, of all that breaks it
+-- gives what is reported of a rule, of all that breaks it
 abbrev pub report : Rule → List BrokenOf → Option FaultOf
 report r broken = option_map (breaks r) (earliest broken)
 
@@ -69,34 +69,34 @@ operations_fault p =
 -- section 5.3, but Field Selection Merging (section 5.3.2), which comes last
 abbrev pub fields_fault : PartsOf → Option FaultOf
 fields_fault p =
-    or_else (report rule.FieldSelections (unknown_fields p))
-    (report rule.LeafFieldSelections (misfit_fields p))
+    or_else (report rule.FieldSelections (field_selections p))
+    (report rule.LeafFieldSelections (leaf_field_selections p))
 
 -- section 5.4
 abbrev pub arguments_fault : PartsOf → Option FaultOf
 arguments_fault p =
-    or_else (report rule.ArgumentNames (unknown_arguments p))
+    or_else (report rule.ArgumentNames (argument_names p))
     (or_else (report rule.ArgumentUniqueness (argument_uniqueness p))
-    (report rule.RequiredArguments (missing_arguments p)))
+    (report rule.RequiredArguments (required_arguments p)))
 
 -- section 5.5.1
 abbrev pub fragments_fault : PartsOf → Option FaultOf
 fragments_fault p =
     or_else (report rule.FragmentNameUniqueness (fragment_name_uniqueness p))
-    (or_else (report rule.FragmentSpreadTypeExistence (unknown_types p))
-    (or_else (report rule.FragmentsOnCompositeTypes (leaf_types p))
+    (or_else (report rule.FragmentSpreadTypeExistence (fragment_spread_type_existence p))
+    (or_else (report rule.FragmentsOnCompositeTypes (fragments_on_composite_types p))
     (report rule.FragmentsMustBeUsed (fragments_must_be_used p))))
 
 -- section 5.5.2
 abbrev pub spreads_fault : PartsOf → Option FaultOf
 spreads_fault p =
     or_else (report rule.FragmentSpreadTargetDefined (fragment_spread_target_defined p))
-    (or_else (report rule.FragmentSpreadsMustNotFormCycles (fragment_cycles p))
-    (report rule.FragmentSpreadIsPossible (impossible_spreads p)))
+    (or_else (report rule.FragmentSpreadsMustNotFormCycles (fragment_spreads_must_not_form_cycles p))
+    (report rule.FragmentSpreadIsPossible (fragment_spread_is_possible p)))
 
 -- section 5.6
 abbrev pub values_fault : PartsOf → Option FaultOf
-values_fault p = report rule.ValuesOfCorrectType (wrong_values p)
+values_fault p = report rule.ValuesOfCorrectType (values_of_correct_type p)
 
 -- section 5.7
 abbrev pub directives_fault : PartsOf → Option FaultOf
@@ -109,14 +109,14 @@ directives_fault p =
 abbrev pub variables_fault : PartsOf → Option FaultOf
 variables_fault p =
     or_else (report rule.VariableUniqueness (variable_uniqueness p))
-    (or_else (report rule.VariablesAreInputTypes (non_input_variables p))
+    (or_else (report rule.VariablesAreInputTypes (variables_are_input_types p))
     (or_else (report rule.AllVariableUsesDefined (all_variable_uses_defined p))
     (or_else (report rule.AllVariablesUsed (all_variables_used p))
-    (report rule.AllVariableUsagesAreAllowed (forbidden_usages p)))))
+    (report rule.AllVariableUsagesAreAllowed (all_variable_usages_are_allowed p)))))
 
 -- ---- all of them but Field Selection Merging
 
--- what isn't served, and the rules
+-- gives what isn't served, and the rules
 abbrev pub rules_fault : PartsOf → Option FaultOf
 rules_fault p =
     or_else (served_fault p)
@@ -139,9 +139,10 @@ first_fault p = or_else (rules_fault p) (limits_fault p)
 
 -- ---- all of them
 
--- what is reported of Field Selection Merging
+-- says what is reported of Field Selection Merging
 abbrev pub IsMergingFault : PartsOf → Option FaultOf → Type 0
-IsMergingFault p v = (broken : Option BrokenOf) × IsMerging p broken × (v ≡ option_map (breaks rule.FieldSelectionMerging) broken)
+IsMergingFault p v = (broken : Option BrokenOf) × IsMerging p broken
+    × (v ≡ option_map (breaks rule.FieldSelectionMerging) broken)
 
 -- the verdict, where this is the first of all other faults
 abbrev pub IsVerdictAfter : PartsOf → Option FaultOf → Option FaultOf → Type 0
@@ -162,7 +163,7 @@ IsValid defs d = IsVerdict defs d None
 
 -- ---- what the program tells
 
--- what a fault says; want of memory says nothing
+-- gives what a fault says; want of memory says nothing
 abbrev pub fault_of : CheckFault → Option FaultOf
 fault_of (check.Rule r name p) = Some (Breaks r (string_bytes name) p)
 fault_of check.TooComplex = Some TooComplex

@@ -15,12 +15,12 @@ use std::sync::Arc;
 ///
 /// A contract sees it as the document and the definitions of the schema.
 #[derive(Drop)]
-pub struct Checked {
+pub struct CheckedDocument {
     schema: Arc<Schema>,
     document: Document,
 }
 
-impl Model for Checked {
+impl Model for CheckedDocument {
     ghost use Rattle.std.specs.Coded.{codes};
     ghost use Rattle.gq_parser.specs.contracts.tree.TypeRef as type_ref;
     ghost use Rattle.gq_parser.specs.contracts.tree.Literal as literal;
@@ -42,13 +42,13 @@ impl Model for Checked {
     ghost invariant = { λ c. IsValid (tree_of (arc_value c.schema)) (document_of c.document) };
 }
 
-impl Checked {
+impl CheckedDocument {
     /// A document that keeps every rule.
-    pub(crate) fn of(schema: Arc<Schema>, document: Document) -> Checked
+    pub(crate) fn of(schema: Arc<Schema>, document: Document) -> CheckedDocument
         requires { IsValid (tree_of (arc_value schema)) (document_of document) }
         ensures { result ≡ record { definitions = arc_value schema; document = document } }
     {
-        Checked { schema, document }
+        CheckedDocument { schema, document }
     }
 
     /// The schema.

@@ -1,4 +1,4 @@
-//! Why a document is not valid, and why there is no plan.
+//! Faults: why a document is not valid, and why there is no plan.
 
 ghost use Rattle.std.specs.Prelude.{◌≡◌};
 ghost use Rattle.gq_check.specs.declared.fault.PrepareFault.TheVariants as prepare;
@@ -106,10 +106,10 @@ impl Rule {
     }
 }
 
-/// Why a document is not valid. It is displayed as the message that a client reads, without the place.
+/// Says why a document is not valid. It is displayed as the message that a client reads, without the place.
 #[derive(Debug, Drop)]
 pub enum CheckFault {
-    /// What has this name and place breaks a rule of validation.
+    /// Says what has this name and place breaks a rule of validation.
     Rule {
         rule: Rule,
         name: String,
@@ -169,7 +169,7 @@ impl fmt::Display for CheckFault {
 
 impl Error for CheckFault {}
 
-/// Why a checked document gives no plan. It is displayed as the message that a client reads; none has a place.
+/// Says why a checked document gives no plan. It is displayed as the message that a client reads; none has a place.
 #[derive(Debug, Drop)]
 pub enum PrepareFault {
     /// No operation of the document has this name.

@@ -1,4 +1,7 @@
 //! Fragments by their names.
+//!
+//! While a document is checked, one map of names serves all rules. A kept document has a map of its own, since
+//! that one borrows the document.
 
 ghost use Rattle.std.specs.Prelude.{◌≡◌, IfOk, map};
 ghost use Rattle.std.specs.Option.{option_map, option_copied};
@@ -6,7 +9,7 @@ ghost use Rattle.gq_parser.specs.Tree.{fragment_of};
 ghost use Rattle.gq_schema.specs.Places.{ArePlaces};
 ghost use Rattle.gq_check.specs.Plans.{fragments_of, is_fragment, fragment_in};
 
-use crate::places::{Places, note};
+use crate::places::{NameIndices, note};
 use gq_parser::Fragment;
 use std::alloc::{AllocError, Global};
 use std::collections::HashMap;
@@ -16,7 +19,7 @@ use std::marker::Model;
 #[derive(Drop)]
 pub struct Fragments {
     items: Vec<Fragment>,
-    places: Places,
+    places: NameIndices,
 }
 
 impl Model for Fragments {
@@ -40,10 +43,10 @@ impl Model for Fragments {
 }
 
 // The place of the first fragment of each name.
-fn fragment_places(alloc: Global, fragments: &[Fragment]) -> Result<Places, AllocError>
+fn fragment_places(alloc: Global, fragments: &[Fragment]) -> Result<NameIndices, AllocError>
     ensures { IfOk result (ArePlaces is_fragment (fragments_of fragments.now)) }
 {
-    let mut places: Places = HashMap::new(alloc);
+    let mut places: NameIndices = HashMap::new(alloc);
     for (i, fragment) in fragments.iter().enumerate() {
         note(&mut places, &fragment.name, i)?;
     }
@@ -68,7 +71,8 @@ impl Fragments {
 
     /// The first fragment of this name.
     pub fn get(&self, name: &str) -> Option<&Fragment>
-        ensures { option_map fragment_of (option_copied result) ≡ fragment_in (fragments_of self.now) name.now }
+        ensures { option_map fragment_of (option_copied result)
+            ≡ fragment_in (fragments_of self.now) name.now }
     {
         let place = *self.places.get(name)?;
         Some(&self.items[place])

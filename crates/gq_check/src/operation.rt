@@ -11,7 +11,7 @@ use gq_parser::Operation;
 use std::alloc::Global;
 use std::sync::Arc;
 
-// Whether an operation has this name.
+// Tells whether an operation has this name.
 fn is_operation(name: &str, operation: &Operation) -> bool
     ensures { result ≡ is_operation name.now (operation_of operation.now) }
 {
@@ -29,7 +29,8 @@ fn operation_named(
 ) -> Result<usize, PrepareFault>
     ensures inside { IfOk result (λ place. place < length operations.now) }
     ensures ok { IfOk result (IsChosenAt operations.now (Some name.now)) }
-    ensures err { IfErr result (IsPrepareFault (chosen_operation (operations_in operations.now) (Some name.now))) }
+    ensures err { IfErr result
+        (IsPrepareFault (chosen_operation (operations_in operations.now) (Some name.now))) }
 {
     for (place, operation) in operations.iter().enumerate() {
         if is_operation(name, operation) {
@@ -43,7 +44,8 @@ fn operation_named(
 fn only_operation(operations: &[Arc<Operation>]) -> Result<usize, PrepareFault>
     ensures inside { IfOk result (λ place. place < length operations.now) }
     ensures ok { IfOk result (IsChosenAt operations.now None) }
-    ensures err { IfErr result (IsPrepareFault (chosen_operation (operations_in operations.now) None)) }
+    ensures err { IfErr result
+        (IsPrepareFault (chosen_operation (operations_in operations.now) None)) }
 {
     if operations.len() != 1 {
         return Err(PrepareFault::OperationNeeded);
@@ -59,7 +61,8 @@ pub fn chosen_operation(
 ) -> Result<usize, PrepareFault>
     ensures inside { IfOk result (λ place. place < length operations.now) }
     ensures ok { IfOk result (IsChosenAt operations.now (asked_name name.entry)) }
-    ensures err { IfErr result (IsPrepareFault (chosen_operation (operations_in operations.now) (asked_name name.entry))) }
+    ensures err { IfErr result
+        (IsPrepareFault (chosen_operation (operations_in operations.now) (asked_name name.entry))) }
 {
     match name {
         Some(name) => operation_named(alloc, operations, name),

@@ -1,4 +1,4 @@
-//! Where each name stands in a list.
+//! Places of names in a list.
 
 ghost use Rattle.std.specs.Prelude.{◌≡◌, ℕ, List, OnOk, string_bytes};
 ghost use Rattle.std.specs.HashMap.{get_by_text};
@@ -9,11 +9,12 @@ use std::alloc::AllocError;
 use std::collections::HashMap;
 
 /// The place of the first of each name in a list.
-pub type Places = HashMap<String, usize>;
+pub type NameIndices = HashMap<String, usize>;
 
 /// Notes the place of a name, unless one of the name stands earlier.
-pub fn note(places: &mut Places, name: &String, place: usize) -> Result<(), AllocError>
-    ensures { (q : List ℕ) → OnOk result (get_by_text places.new q ≡ or_else (get_by_text places.old q) (place_of (string_bytes name.now) place q)) }
+pub fn note(places: &mut NameIndices, name: &String, place: usize) -> Result<(), AllocError>
+    ensures { (q : List ℕ) → OnOk result (get_by_text places.new q
+        ≡ or_else (get_by_text places.old q) (place_of (string_bytes name.now) place q)) }
 {
     places.entry(name.clone()?)?.or_insert(place);
     Ok(())

@@ -4,7 +4,7 @@ ghost use Rattle.std.specs.Prelude.{◌≡◌, length};
 ghost use Rattle.std.specs.Option.{option_map, option_copied};
 ghost use Rattle.gq_parser.specs.Tree.{fragment_of};
 ghost use Rattle.gq_schema.specs.Inputs.{input_of};
-ghost use Rattle.variable_values.specs.Variables.{value_in};
+ghost use Rattle.gq_variables.specs.Variables.{value_in};
 ghost use Rattle.gq_check.specs.Plans.{plan_of, plan_parts, fragment_in};
 ghost use Rattle.gq_check.specs.Planned.{IsPlan};
 
@@ -78,7 +78,7 @@ impl Plan {
         &self.schema
     }
 
-    /// How the fields of the schema are answered.
+    /// Returns how the fields of the schema are answered.
     pub fn bindings(&self) -> &Bindings
         ensures { result.now ≡ self.now.bindings }
     {
@@ -103,19 +103,21 @@ impl Plan {
 
     /// The fragment of this name. It takes constant time.
     pub fn fragment(&self, name: &str) -> Option<&Fragment>
-        ensures { option_map fragment_of (option_copied result) ≡ fragment_in (plan_of self.now).fragments name.now }
+        ensures { option_map fragment_of (option_copied result)
+            ≡ fragment_in (plan_of self.now).fragments name.now }
     {
         self.fragments.get(name)
     }
 
     /// The value of the variable of this name, without the `$`. `None` if it has no value. It takes constant time.
     pub fn variable(&self, name: &str) -> Option<&Input>
-        ensures { option_map input_of (option_copied result) ≡ value_in (plan_of self.now).variables name.now }
+        ensures { option_map input_of (option_copied result)
+            ≡ value_in (plan_of self.now).variables name.now }
     {
         self.variables.get(name)
     }
 
-    /// How many loaders a session of this plan needs: those of the bindings.
+    /// Returns how many loaders a session of this plan needs: those of the bindings.
     pub fn loaders(&self) -> usize
         ensures { result ≡ length self.now.bindings.loaders }
     {

@@ -8,20 +8,20 @@ ghost use Rattle.gq_check.specs.Plans.{fragments_of};
 ghost use Rattle.gq_check.specs.Planned.{IsChosen, preparation, preparation_in, preparation_of, prepared_in};
 ghost use Rattle.gq_check.specs.Prepared.{prepare_fault, IsPrepareFault};
 
-use crate::checked::Checked;
+use crate::checked::CheckedDocument;
 use crate::fault::PrepareFault;
 use crate::fragments::Fragments;
-use crate::kept::KeptDocument;
 use crate::operation::chosen_operation;
 use crate::plan::Plan;
+use crate::prepared_document::PreparedDocument;
 use crate::variables::Variables;
 use gq_bindings::Bindings;
 use gq_parser::Operation;
 use gq_schema::Schema;
+use gq_variables::{VariableFault, coerce_variables};
 use serde_json::Value;
 use std::alloc::Global;
 use std::sync::Arc;
-use variable_values::{VariableFault, coerce_variables};
 
 impl From<VariableFault> for PrepareFault {
     ghost from_gives = { λ f e. e ≡ prepare_fault f };
@@ -44,12 +44,15 @@ fn with_values(
     fragments: Arc<Fragments>,
     variables: &Value,
 ) -> Result<Plan, PrepareFault>
-    requires { IsChosen (tree_of (arc_value schema)) (operation_of (arc_value operation)) (fragments_of (arc_value fragments)) }
+    requires { IsChosen (tree_of (arc_value schema))
+        (operation_of (arc_value operation)) (fragments_of (arc_value fragments)) }
     ensures schema { IfOk result (λ plan. plan.definitions ≡ arc_value schema) }
     ensures bindings { IfOk result (λ plan. plan.bindings ≡ arc_value bindings) }
     ensures fragments { IfOk result (λ plan. plan.fragments ≡ arc_value fragments) }
-    ensures ok { IfOk result (λ plan. preparation_of (arc_value schema) (arc_value operation) variables.now ≡ Ok (prepared_in plan)) }
-    ensures err { IfErr result (IsPrepareFault (preparation_of (arc_value schema) (arc_value operation) variables.now)) }
+    ensures ok { IfOk result (λ plan. preparation_of (arc_value schema)
+        (arc_value operation) variables.now ≡ Ok (prepared_in plan)) }
+    ensures err { IfErr result
+        (IsPrepareFault (preparation_of (arc_value schema) (arc_value operation) variables.now)) }
 {
     let variables = coerce_variables(alloc, &schema, &operation.variables, variables)?;
     let variables = Variables::of(alloc, variables)?;
@@ -58,6 +61,10 @@ fn with_values(
 
 /// Prepares an operation of a checked document: the one named `operation_name`, or the only one. `variables` holds the
 /// values of its variables; null means none. The empty string is a name. The plan shares the document's schema and these bindings.
+///
+/// That the bindings are of this schema is no condition: a plan's program is defined for any bindings, and laws
+/// of `plan_laws` say what holds where they are. It keeps the document and then prepares as [`prepare_again`]
+/// does.
 ///
 /// # Errors
 ///
@@ -69,18 +76,20 @@ fn with_values(
 pub fn prepare(
     alloc: Global,
     bindings: &Arc<Bindings>,
-    checked: Checked,
+    checked: CheckedDocument,
     operation_name: Option<&str>,
     variables: &Value,
 ) -> Result<Plan, PrepareFault>
     ensures schema { IfOk result (λ plan. plan.definitions ≡ checked.definitions) }
     ensures bindings { IfOk result (λ plan. plan.bindings ≡ arc_value bindings.now) }
     ensures fragments { IfOk result (λ plan. plan.fragments ≡ checked.document.fragments.items) }
-    ensures ok { IfOk result (λ plan. preparation_in checked operation_name.entry variables.now ≡ Ok (prepared_in plan)) }
-    ensures err { IfErr result (IsPrepareFault (preparation_in checked operation_name.entry variables.now)) }
+    ensures ok { IfOk result (λ plan.
+        preparation_in checked operation_name.entry variables.now ≡ Ok (prepared_in plan)) }
+    ensures err { IfErr result
+        (IsPrepareFault (preparation_in checked operation_name.entry variables.now)) }
 {
-    let kept = KeptDocument::of(alloc, checked)?;
-    prepare_kept(alloc, bindings, &kept, operation_name, variables)
+    let kept = PreparedDocument::of(alloc, checked)?;
+    prepare_again(alloc, bindings, &kept, operation_name, variables)
 }
 
 /// The plan of an operation of a kept document, as [`prepare`] gives it. It shares the document, and nothing of it is copied.
@@ -88,18 +97,20 @@ pub fn prepare(
 /// # Errors
 ///
 /// Those of [`prepare`].
-pub fn prepare_kept(
+pub fn prepare_again(
     alloc: Global,
     bindings: &Arc<Bindings>,
-    kept: &KeptDocument,
+    kept: &PreparedDocument,
     operation_name: Option<&str>,
     variables: &Value,
 ) -> Result<Plan, PrepareFault>
     ensures schema { IfOk result (λ plan. plan.definitions ≡ kept.now.definitions) }
     ensures bindings { IfOk result (λ plan. plan.bindings ≡ arc_value bindings.now) }
     ensures fragments { IfOk result (λ plan. plan.fragments ≡ kept.now.fragments) }
-    ensures ok { IfOk result (λ plan. preparation kept.now.definitions kept.now.operations operation_name.entry variables.now ≡ Ok (prepared_in plan)) }
-    ensures err { IfErr result (IsPrepareFault (preparation kept.now.definitions kept.now.operations operation_name.entry variables.now)) }
+    ensures ok { IfOk result (λ plan. preparation kept.now.definitions
+        kept.now.operations operation_name.entry variables.now ≡ Ok (prepared_in plan)) }
+    ensures err { IfErr result (IsPrepareFault
+        (preparation kept.now.definitions kept.now.operations operation_name.entry variables.now)) }
 {
     let operations = kept.operations();
     let place = chosen_operation(alloc, operations, operation_name)?;

@@ -1,25 +1,25 @@
 //! The fault of a document, before its names are copied.
 
 ghost use Rattle.std.specs.Prelude.{◌≡◌, Some, IfOk, string_bytes};
-ghost use Rattle.document_parts.specs.Broken.{name_of};
+ghost use Rattle.rules_parts.specs.Broken.{name_of};
 ghost use Rattle.gq_check.specs.Verdict.{fault_of};
 
 use crate::fault::{CheckFault, Rule};
-use document_parts::{Broken, BrokenName};
 use gq_lexer::Place;
+use rules_parts::{BrokenName, Violation};
 use std::alloc::{AllocError, Global};
 
 /// A fault that borrows its document.
 #[derive(Clone, Copy, Debug)]
 pub enum Report<'d> {
-    Breaks(Rule, Broken<'d>),
+    Breaks(Rule, Violation<'d>),
     TooComplex,
     TooDeep(Place),
-    NotServed(Broken<'d>),
+    NotServed(Violation<'d>),
 }
 
 // The name as it is printed.
-fn printed(alloc: Global, name: BrokenName<'_>) -> Result<String, AllocError>
+fn broken_name_text(alloc: Global, name: BrokenName<'_>) -> Result<String, AllocError>
     ensures { IfOk result (λ text. string_bytes text ≡ name_of name.entry) }
 {
     match name {
@@ -37,7 +37,7 @@ impl Report<'_> {
     {
         match self {
             Report::Breaks(rule, broken) => {
-                let name = printed(alloc, broken.name)?;
+                let name = broken_name_text(alloc, broken.name)?;
                 Ok(CheckFault::Rule {
                     rule,
                     name,
@@ -47,7 +47,7 @@ impl Report<'_> {
             Report::TooComplex => Ok(CheckFault::TooComplex),
             Report::TooDeep(place) => Ok(CheckFault::TooDeep(place)),
             Report::NotServed(broken) => {
-                let name = printed(alloc, broken.name)?;
+                let name = broken_name_text(alloc, broken.name)?;
                 Ok(CheckFault::NotServed {
                     name,
                     place: broken.place,

@@ -1,35 +1,37 @@
 //! The rules in the order of their sections (section 5).
 
 ghost use Rattle.std.specs.Prelude.{◌≡◌, ◌≤◌, None, IfOk, length, option_map};
-ghost use Rattle.document_parts.specs.Broken.{broken_of, earliest};
-ghost use Rattle.document_parts.specs.Listing.{parts_of};
-ghost use Rattle.document_parts.specs.Parts.{parts_in};
-ghost use Rattle.spread_graph.specs.Graphs.{graph_of};
-ghost use Rattle.spread_graph.specs.Rules.{fragment_cycles};
+ghost use Rattle.rules_parts.specs.Broken.{broken_of, earliest};
+ghost use Rattle.rules_parts.specs.Listing.{parts_of};
+ghost use Rattle.rules_parts.specs.Parts.{parts_in};
+ghost use Rattle.rules_spreads.specs.Graphs.{graph_of};
+ghost use Rattle.rules_spreads.specs.Rules.{fragment_spreads_must_not_form_cycles};
 ghost use Rattle.gq_check.specs.Report.{report_of};
 ghost use Rattle.gq_check.specs.Verdict.{served_fault, operations_fault, fields_fault, arguments_fault, fragments_fault, spreads_fault, values_fault, directives_fault, variables_fault, rules_fault, limits_fault, first_fault, breaks, IsMergingFault, IsVerdictOf};
 
 use crate::fault::Rule;
 use crate::report::Report;
-use document_parts::{Broken, Parts};
-use document_rules::{
+use merging_fields::field_selection_merging;
+use rules_parts::{Parts, Violation};
+use rules_spreads::{Graph, fragment_spreads_must_not_form_cycles, too_deep};
+use rules_typed::{
+    all_variable_usages_are_allowed, argument_names, field_selections, fragment_spread_is_possible,
+    fragment_spread_type_existence, fragments_on_composite_types, leaf_field_selections,
+    required_arguments, values_of_correct_type, variables_are_input_types,
+};
+use rules_untyped::{
     VariableUses, all_variable_uses_defined, all_variables_used, argument_uniqueness,
     directives_are_defined, directives_are_in_valid_locations, directives_are_unique_per_location,
     fragment_name_uniqueness, fragment_spread_target_defined, fragments_must_be_used,
     is_too_complex, lone_anonymous_operation, not_served, operation_name_uniqueness,
     variable_uniqueness,
 };
-use field_merging::field_merging;
-use spread_graph::{Graph, fragment_cycles, too_deep};
 use std::alloc::{AllocError, Global};
-use typed_rules::{
-    argument_names, composite_types, correct_values, field_selections, input_variables,
-    leaf_selections, possible_spreads, required_arguments, type_existence, variable_usages,
-};
 
-// What is reported of a rule.
-fn report<'d>(rule: Rule, broken: Option<Broken<'d>>) -> Option<Report<'d>>
-    ensures { option_map report_of result ≡ option_map (breaks rule) (option_map broken_of broken.entry) }
+// Returns what is reported of a rule.
+fn report<'d>(rule: Rule, broken: Option<Violation<'d>>) -> Option<Report<'d>>
+    ensures { option_map report_of result
+        ≡ option_map (breaks rule) (option_map broken_of broken.entry) }
 {
     match broken {
         Some(broken) => Some(Report::Breaks(rule, broken)),
@@ -47,7 +49,8 @@ fn served_fault<'d>(parts: &Parts<'d>) -> Option<Report<'d>>
 }
 
 fn operations_fault<'d>(alloc: Global, parts: &Parts<'d>) -> Result<Option<Report<'d>>, AllocError>
-    ensures { IfOk result (λ fault. option_map report_of fault ≡ operations_fault (parts_in parts.now)) }
+    ensures { IfOk result (λ fault.
+        option_map report_of fault ≡ operations_fault (parts_in parts.now)) }
 {
     if let Some(broken) = operation_name_uniqueness(alloc, parts)? {
         return Ok(Some(Report::Breaks(Rule::OperationNameUniqueness, broken)));
@@ -64,11 +67,12 @@ fn fields_fault<'d>(parts: &Parts<'d>) -> Option<Report<'d>>
     if let Some(broken) = field_selections(parts) {
         return Some(Report::Breaks(Rule::FieldSelections, broken));
     }
-    report(Rule::LeafFieldSelections, leaf_selections(parts))
+    report(Rule::LeafFieldSelections, leaf_field_selections(parts))
 }
 
 fn arguments_fault<'d>(alloc: Global, parts: &Parts<'d>) -> Result<Option<Report<'d>>, AllocError>
-    ensures { IfOk result (λ fault. option_map report_of fault ≡ arguments_fault (parts_in parts.now)) }
+    ensures { IfOk result (λ fault.
+        option_map report_of fault ≡ arguments_fault (parts_in parts.now)) }
 {
     if let Some(broken) = argument_names(parts) {
         return Ok(Some(Report::Breaks(Rule::ArgumentNames, broken)));
@@ -80,15 +84,16 @@ fn arguments_fault<'d>(alloc: Global, parts: &Parts<'d>) -> Result<Option<Report
 }
 
 fn fragments_fault<'d>(alloc: Global, parts: &Parts<'d>) -> Result<Option<Report<'d>>, AllocError>
-    ensures { IfOk result (λ fault. option_map report_of fault ≡ fragments_fault (parts_in parts.now)) }
+    ensures { IfOk result (λ fault.
+        option_map report_of fault ≡ fragments_fault (parts_in parts.now)) }
 {
     if let Some(broken) = fragment_name_uniqueness(alloc, parts)? {
         return Ok(Some(Report::Breaks(Rule::FragmentNameUniqueness, broken)));
     }
-    if let Some(broken) = type_existence(parts) {
+    if let Some(broken) = fragment_spread_type_existence(parts) {
         return Ok(Some(Report::Breaks(Rule::FragmentSpreadTypeExistence, broken)));
     }
-    if let Some(broken) = composite_types(parts) {
+    if let Some(broken) = fragments_on_composite_types(parts) {
         return Ok(Some(Report::Breaks(Rule::FragmentsOnCompositeTypes, broken)));
     }
     let broken = fragments_must_be_used(alloc, parts)?;
@@ -101,19 +106,24 @@ fn spreads_fault<'d>(
     graph: &Graph,
 ) -> Result<Option<Report<'d>>, AllocError>
     requires { graph.now ≡ graph_of (parts_in parts.now) }
-    ensures { IfOk result (λ fault. option_map report_of fault ≡ spreads_fault (parts_in parts.now)) }
+    ensures { IfOk result (λ fault.
+        option_map report_of fault ≡ spreads_fault (parts_in parts.now)) }
 {
     if let Some(broken) = fragment_spread_target_defined(parts) {
         return Ok(Some(Report::Breaks(Rule::FragmentSpreadTargetDefined, broken)));
     }
-    if let Some(broken) = fragment_cycles(alloc, parts, graph)? {
+    if let Some(broken) = fragment_spreads_must_not_form_cycles(alloc, parts, graph)? {
         return Ok(Some(Report::Breaks(Rule::FragmentSpreadsMustNotFormCycles, broken)));
     }
-    Ok(report(Rule::FragmentSpreadIsPossible, possible_spreads(parts)))
+    Ok(report(
+        Rule::FragmentSpreadIsPossible,
+        fragment_spread_is_possible(parts),
+    ))
 }
 
 fn directives_fault<'d>(alloc: Global, parts: &Parts<'d>) -> Result<Option<Report<'d>>, AllocError>
-    ensures { IfOk result (λ fault. option_map report_of fault ≡ directives_fault (parts_in parts.now)) }
+    ensures { IfOk result (λ fault.
+        option_map report_of fault ≡ directives_fault (parts_in parts.now)) }
 {
     if let Some(broken) = directives_are_defined(parts) {
         return Ok(Some(Report::Breaks(Rule::DirectivesAreDefined, broken)));
@@ -131,12 +141,13 @@ fn variables_fault<'d>(
     graph: &Graph,
 ) -> Result<Option<Report<'d>>, AllocError>
     requires { graph.now ≡ graph_of (parts_in parts.now) }
-    ensures { IfOk result (λ fault. option_map report_of fault ≡ variables_fault (parts_in parts.now)) }
+    ensures { IfOk result (λ fault.
+        option_map report_of fault ≡ variables_fault (parts_in parts.now)) }
 {
     if let Some(broken) = variable_uniqueness(alloc, parts)? {
         return Ok(Some(Report::Breaks(Rule::VariableUniqueness, broken)));
     }
-    if let Some(broken) = input_variables(parts) {
+    if let Some(broken) = variables_are_input_types(parts) {
         return Ok(Some(Report::Breaks(Rule::VariablesAreInputTypes, broken)));
     }
     let uses = VariableUses::new(alloc, parts)?;
@@ -146,11 +157,11 @@ fn variables_fault<'d>(
     if let Some(broken) = all_variables_used(alloc, &uses, graph)? {
         return Ok(Some(Report::Breaks(Rule::AllVariablesUsed, broken)));
     }
-    let broken = variable_usages(alloc, parts, graph)?;
+    let broken = all_variable_usages_are_allowed(alloc, parts, graph)?;
     Ok(report(Rule::AllVariableUsagesAreAllowed, broken))
 }
 
-// What isn't served, and the rules.
+// Returns what isn't served, and the rules.
 fn rules_fault<'d>(
     alloc: Global,
     parts: &Parts<'d>,
@@ -177,7 +188,7 @@ fn rules_fault<'d>(
     if let Some(fault) = spreads_fault(alloc, parts, graph)? {
         return Ok(Some(fault));
     }
-    if let Some(fault) = report(Rule::ValuesOfCorrectType, correct_values(parts)) {
+    if let Some(fault) = report(Rule::ValuesOfCorrectType, values_of_correct_type(parts)) {
         return Ok(Some(fault));
     }
     if let Some(fault) = directives_fault(alloc, parts)? {
@@ -193,7 +204,8 @@ fn limits_fault<'d>(
     graph: &Graph,
 ) -> Result<Option<Report<'d>>, AllocError>
     requires { graph.now ≡ graph_of (parts_in parts.now) }
-    ensures { IfOk result (λ fault. option_map report_of fault ≡ limits_fault (parts_in parts.now)) }
+    ensures { IfOk result (λ fault.
+        option_map report_of fault ≡ limits_fault (parts_in parts.now)) }
 {
     if let Some(broken) = too_deep(alloc, parts, graph)? {
         return Ok(Some(Report::TooDeep(broken.place)));
@@ -225,12 +237,14 @@ fn merging_fault<'d>(
     parts: &Parts<'d>,
     graph: &Graph,
 ) -> Result<Option<Report<'d>>, AllocError>
-    requires listed { parts_in parts.now ≡ parts_of (parts_in parts.now).definitions (parts_in parts.now).document }
+    requires listed { parts_in parts.now
+        ≡ parts_of (parts_in parts.now).definitions (parts_in parts.now).document }
     requires graph { graph.now ≡ graph_of (parts_in parts.now) }
     requires unreported { first_fault (parts_in parts.now) ≡ None }
-    ensures { IfOk result (λ fault. IsMergingFault (parts_in parts.now) (option_map report_of fault)) }
+    ensures { IfOk result (λ fault.
+        IsMergingFault (parts_in parts.now) (option_map report_of fault)) }
 {
-    let broken = field_merging(alloc, parts, graph)?;
+    let broken = field_selection_merging(alloc, parts, graph)?;
     Ok(report(Rule::FieldSelectionMerging, broken))
 }
 
@@ -240,7 +254,8 @@ pub fn verdict<'d>(
     parts: &Parts<'d>,
     graph: &Graph,
 ) -> Result<Option<Report<'d>>, AllocError>
-    requires listed { parts_in parts.now ≡ parts_of (parts_in parts.now).definitions (parts_in parts.now).document }
+    requires listed { parts_in parts.now
+        ≡ parts_of (parts_in parts.now).definitions (parts_in parts.now).document }
     requires graph { graph.now ≡ graph_of (parts_in parts.now) }
     ensures { IfOk result (λ fault. IsVerdictOf (parts_in parts.now) (option_map report_of fault)) }
 {

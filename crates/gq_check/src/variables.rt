@@ -4,26 +4,26 @@ ghost use Rattle.std.specs.Prelude.{◌≡◌, IfOk, map};
 ghost use Rattle.std.specs.Option.{option_map, option_copied};
 ghost use Rattle.gq_schema.specs.Inputs.{input_of};
 ghost use Rattle.gq_schema.specs.Places.{ArePlaces};
-ghost use Rattle.variable_values.specs.Variables.{variables_of, is_variable, value_in};
+ghost use Rattle.gq_variables.specs.Variables.{variables_of, is_variable, value_in};
 
-use crate::places::{Places, note};
+use crate::places::{NameIndices, note};
 use gq_schema::Input;
+use gq_variables::Variable;
 use std::alloc::{AllocError, Global};
 use std::collections::HashMap;
 use std::marker::Model;
-use variable_values::Variable;
 
 /// Variables in their order, each found by its name. A contract sees the list.
 #[derive(Drop)]
 pub struct Variables {
     items: Vec<Variable>,
-    places: Places,
+    places: NameIndices,
 }
 
 impl Model for Variables {
     ghost use Rattle.std.specs.Prelude.{List};
     ghost use Rattle.std.specs.Coded.{codes};
-    ghost use Rattle.variable_values.specs.declared.variable.Variable.{Variable};
+    ghost use Rattle.gq_variables.specs.declared.variable.Variable.{Variable};
     ghost use Rattle.gq_schema.specs.contracts.input.Input as input;
 
     ghost Value = { List Variable };
@@ -31,7 +31,7 @@ impl Model for Variables {
     ghost coded = { Prim.hlevel (codes, input.the_row.coded) };
 
     ghost use Rattle.gq_schema.specs.Places.{ArePlaces};
-    ghost use Rattle.variable_values.specs.Variables.{variables_of, is_variable};
+    ghost use Rattle.gq_variables.specs.Variables.{variables_of, is_variable};
 
     ghost view = { λ v. v.items.items };
 
@@ -39,10 +39,10 @@ impl Model for Variables {
 }
 
 // The place of the first variable of each name.
-fn variable_places(alloc: Global, variables: &[Variable]) -> Result<Places, AllocError>
+fn variable_places(alloc: Global, variables: &[Variable]) -> Result<NameIndices, AllocError>
     ensures { IfOk result (ArePlaces is_variable (variables_of variables.now)) }
 {
-    let mut places: Places = HashMap::new(alloc);
+    let mut places: NameIndices = HashMap::new(alloc);
     for (i, variable) in variables.iter().enumerate() {
         note(&mut places, &variable.name, i)?;
     }
@@ -60,7 +60,8 @@ impl Variables {
 
     /// The value of the first variable of this name.
     pub fn get(&self, name: &str) -> Option<&Input>
-        ensures { option_map input_of (option_copied result) ≡ value_in (variables_of self.now) name.now }
+        ensures { option_map input_of (option_copied result)
+            ≡ value_in (variables_of self.now) name.now }
     {
         let place = *self.places.get(name)?;
         Some(&self.items[place].value)

@@ -18,7 +18,7 @@ use Rattle.gq_lexer.specs.Grammar.{NoneNext}
 use Rattle.gq_lexer.proofs.Runs.{one_more, run_passes, begins_with}
 use Rattle.gq_lexer.proofs.Values.{run_boundary}
 
--- what the code takes away from the front of a line
+-- gives what the code takes away from the front of a line
 abbrev pub strip : ℕ → List ℕ → List ℕ
 strip n line = drop (min n (prefix_len is_blank line)) line
 
@@ -48,7 +48,7 @@ no_elements (x ∷ xs) h = absurd (omega arith)
 
 -- ---- the common indent
 
--- a line has at least so many tabs and spaces at its front, or nothing else
+-- a line has at least `n` tabs and spaces at its front, or nothing else
 abbrev IsIndented : ℕ → List ℕ → Type 0
 IsIndented n line = is_blank_line line ≡ false → n ≤ prefix_len is_blank line
 
@@ -71,7 +71,7 @@ raw_run (b ∷ bs) =
       | inr backslash ↦ rw backslash refl
     ]
 
--- what a backslash gives, and what follows it
+-- gives what a backslash gives, and what follows it
 abbrev pub kept : List ℕ → List ℕ
 kept behind = cond (starts_with nat_eq behind (34 ∷ 34 ∷ 34 ∷ [])) [] (92 ∷ [])
 

@@ -8,13 +8,13 @@ use Rattle.std.proofs.lemmas.Bool.Decides.{nat_tests}
 use Rattle.std.proofs.lemmas.List.{take_at, drop_at, drop-drop, get_or-drop, get_or_append_left, length-append, length-drop}
 use Rattle.std.proofs.lemmas.List.Elements.{All-nil, All-cons, All-append}
 use Rattle.std.proofs.Math.Seq.{get_or-append_seam}
-use Rattle.gq_lexer.specs.declared.token.Kind.{Kind}
-use Rattle.gq_lexer.specs.declared.token.Kind.TheVariants as kind
+use Rattle.gq_lexer.specs.declared.token.TokenKind.{TokenKind}
+use Rattle.gq_lexer.specs.declared.token.TokenKind.TheVariants as kind
 use Rattle.gq_lexer.specs.declared.token.Punct.{Punct}
 use Rattle.gq_lexer.specs.declared.token.Punct.TheVariants as punct
 use Rattle.gq_lexer.specs.declared.token.Token.{Token}
-use Rattle.gq_lexer.specs.declared.scan.Shape.{Shape}
-use Rattle.gq_lexer.specs.declared.scan.Shape.TheVariants as shape
+use Rattle.gq_lexer.specs.declared.scan.ScannedKind.{ScannedKind}
+use Rattle.gq_lexer.specs.declared.scan.ScannedKind.TheVariants as shape
 use Rattle.gq_lexer.specs.declared.quoted.Quotes.{Quotes}
 use Rattle.gq_lexer.specs.declared.quoted.Quotes.TheVariants as quotes
 use Rattle.gq_lexer.specs.Characters.{is_digit, is_name_start, is_name_continue}
@@ -28,7 +28,7 @@ use Rattle.gq_lexer.proofs.Numbers.{OrNone}
 abbrev Ascii : List ℕ → Type 0
 Ascii bs = All (λ b. b < 128) bs
 
--- what begins and ends with a byte of ASCII
+-- says what begins and ends with a byte of ASCII
 pub record Edges (bs : List ℕ) : Type 0 where
   pub some : 0 < length bs
   pub first : get_or bs 0 0 < 128
@@ -149,7 +149,7 @@ quoted_edges q bs rest h = go q (quoted_between q bs rest h)
         let first : get_or bs 0 0 ≡ 34 = rw b.whole refl in
         record { some = omega (arith, b.len); first = omega (arith, first); last = omega (arith, last) }
 
-token_edges : (k : Kind) (bs rest : List ℕ) → IsPart (shape.Token k) bs rest → Edges bs
+token_edges : (k : TokenKind) (bs rest : List ℕ) → IsPart (shape.Token k) bs rest → Edges bs
 token_edges (kind.Punct p) bs rest h = subst Edges (sym h) (punct_edges p)
 token_edges kind.Name bs rest h = name_edges bs h.0
 token_edges kind.Int bs rest h = edges_ascii bs (int_some bs h.0) (int_ascii bs h.0)
@@ -161,7 +161,7 @@ token_edges kind.BlockStr bs rest h = quoted_edges quotes.Triple bs rest h
 byte_at : (text bs after : List ℕ) (start i : ℕ) → drop start text ≡ bs ++ after → i < length bs → get_or text (start + i) 0 ≡ get_or bs i 0
 byte_at text bs after start i e within = sym (get_or-drop start text i 0) ∙ ap (λ (x : List ℕ). get_or x i 0) e ∙ get_or_append_left bs after 0 i within
 
-one_token : (text bs after : List ℕ) (start line column : ℕ) (k : Kind) → IsUtf8 text → start ≤ length text → drop start text ≡ bs ++ after → IsPart (shape.Token k) bs after
+one_token : (text bs after : List ℕ) (start line column : ℕ) (k : TokenKind) → IsUtf8 text → start ≤ length text → drop start text ≡ bs ++ after → IsPart (shape.Token k) bs after
     → IsToken text (record { kind = k; start = start; end = start + length bs; line = line; column = column })
 one_token text bs after start line column k utf8 begins e part =
     let n = length bs in
@@ -191,7 +191,7 @@ inside_from text end utf8 (p ∷ ps) start begins h =
     All-append (IsToken text) (token_of p.shape text start (start + n)) (tokens_from text (start + n) ps) (one p.shape h.2)
     (inside_from text end utf8 ps (start + n) within (subst (λ (t : List ℕ). Reads ps t end) rest h.3))
   where
-    one : (s : Shape) → IsPart s p.bytes h.0 → All (IsToken text) (token_of s text start (start + length p.bytes))
+    one : (s : ScannedKind) → IsPart s p.bytes h.0 → All (IsToken text) (token_of s text start (start + length p.bytes))
     one (shape.Token k) part = All-cons (IsToken text) _ [] (one_token text p.bytes h.0 start _ _ k utf8 begins h.1 part) (All-nil (IsToken text))
     one shape.Space part = All-nil (IsToken text)
     one shape.LineEnd part = All-nil (IsToken text)

@@ -4,9 +4,9 @@ use Rattle.std.specs.Prelude.{Bool, nat_eq}
 use Rattle.std.specs.List.{concat, starts_with}
 use Rattle.std.proofs.lemmas.Bool.{cases_Bool, true≢false}
 use Rattle.std.proofs.lemmas.List.{append-nil, take_at, drop_at, take-append-le, drop-append-le, take-append-drop}
-use Rattle.gq_lexer.specs.declared.token.Kind.TheVariants as kind
-use Rattle.gq_lexer.specs.declared.scan.Shape.{Shape}
-use Rattle.gq_lexer.specs.declared.scan.Shape.TheVariants as shape
+use Rattle.gq_lexer.specs.declared.token.TokenKind.TheVariants as kind
+use Rattle.gq_lexer.specs.declared.scan.ScannedKind.{ScannedKind}
+use Rattle.gq_lexer.specs.declared.scan.ScannedKind.TheVariants as shape
 use Rattle.gq_lexer.specs.declared.quoted.Quotes.{Quotes}
 use Rattle.gq_lexer.specs.declared.quoted.Quotes.TheVariants as quotes
 use Rattle.gq_lexer.specs.Grammar.{IsPart, IsPiece, ReadsPieces, IsQuoted, IsLineEnd, NoneNext, NotFirst, quotes_of}
@@ -14,7 +14,7 @@ use Rattle.gq_lexer.proofs.StringLaws.{reads_concat}
 use Rattle.gq_lexer.proofs.Runs.{starts_more}
 use Rattle.gq_lexer.proofs.Unique.{same_part}
 
--- what may not come next doesn't come next in a part of the rest
+-- a byte that may not come next doesn't come next in a part of the rest either
 none_shorter : (p : ℕ → Bool) (mid after : List ℕ) → NoneNext p (mid ++ after) → NoneNext p mid
 none_shorter p [] after h = refl
 none_shorter p (b ∷ mid) after h = h
@@ -52,7 +52,7 @@ line_end_shorter bs mid after (inr (inl h)) = inr (inl h)
 line_end_shorter bs mid after (inr (inr h)) = inr (inr (h.0, none_shorter _ mid after h.1))
 
 -- a part is one too where less follows
-part_shorter : (s : Shape) (bs mid after : List ℕ) → IsPart s bs (mid ++ after) → IsPart s bs mid
+part_shorter : (s : ScannedKind) (bs mid after : List ℕ) → IsPart s bs (mid ++ after) → IsPart s bs mid
 part_shorter shape.Space bs mid after h = h
 part_shorter shape.LineEnd bs mid after h = line_end_shorter bs mid after h
 part_shorter shape.ByteOrderMark bs mid after h = h
@@ -66,7 +66,7 @@ part_shorter (shape.Token kind.Str) bs mid after h =
 part_shorter (shape.Token kind.BlockStr) bs mid after h = quoted_shorter quotes.Triple bs mid after h
 
 -- no longer front of the text is a part on its own
-pub longest : (s t : Shape) (bs rest cs after : List ℕ) → IsPart s bs rest → bs ++ rest ≡ cs ++ after → length bs < length cs → IsPart t cs [] → ⊥
+pub longest : (s t : ScannedKind) (bs rest cs after : List ℕ) → IsPart s bs rest → bs ++ rest ≡ cs ++ after → length bs < length cs → IsPart t cs [] → ⊥
 longest s t bs rest cs after part e more other =
     let n = length bs in
     let mid = drop n cs in

@@ -8,9 +8,9 @@ use Rattle.std.proofs.iter.FirstChar.{beside_ascii}
 use Rattle.std.proofs.lemmas.Bool.Decides.{nat_tests}
 use Rattle.std.proofs.lemmas.List.{take_at}
 use Rattle.std.proofs.Math.Seq.{get_or-append_seam}
-use Rattle.gq_lexer.specs.declared.token.Kind.{Kind}
-use Rattle.gq_lexer.specs.declared.token.Kind.TheVariants as kind
-use Rattle.gq_lexer.specs.declared.scan.Shape.TheVariants as shape
+use Rattle.gq_lexer.specs.declared.token.TokenKind.{TokenKind}
+use Rattle.gq_lexer.specs.declared.token.TokenKind.TheVariants as kind
+use Rattle.gq_lexer.specs.declared.scan.ScannedKind.TheVariants as shape
 use Rattle.gq_lexer.specs.declared.quoted.Quotes.TheVariants as quotes
 use Rattle.gq_lexer.specs.Element.{Element, plain, escape, unit, pair, spelled, unicode, IsElement}
 use Rattle.gq_lexer.specs.Grammar.{IsPart, ReadsPieces, IsQuoted, IsBlockPiece, quotes_of}
@@ -69,7 +69,7 @@ triple_cut bs utf8 b =
 
 -- ---- the kinds of a string token
 
-str_kind : (k : Kind) → IsString k → (k ≡ kind.BlockStr → ⊥) → k ≡ kind.Str
+str_kind : (k : TokenKind) → IsString k → (k ≡ kind.BlockStr → ⊥) → k ≡ kind.Str
 str_kind kind.Str string other = refl
 str_kind kind.BlockStr string other = absurd (other refl)
 str_kind kind.Name string other = absurd string
@@ -77,11 +77,11 @@ str_kind kind.Int string other = absurd string
 str_kind kind.Float string other = absurd string
 str_kind (kind.Punct p) string other = absurd string
 
-pub str_part : (k : Kind) (bs rest : List ℕ) → IsString k → (k ≡ kind.BlockStr → ⊥) → IsPart (shape.Token k) bs rest → IsQuoted quotes.Single bs rest
-str_part k bs rest string other part = (subst (λ (j : Kind). IsPart (shape.Token j) bs rest) (str_kind k string other) part).0
+pub str_part : (k : TokenKind) (bs rest : List ℕ) → IsString k → (k ≡ kind.BlockStr → ⊥) → IsPart (shape.Token k) bs rest → IsQuoted quotes.Single bs rest
+str_part k bs rest string other part = (subst (λ (j : TokenKind). IsPart (shape.Token j) bs rest) (str_kind k string other) part).0
 
-pub block_part : (k : Kind) (bs rest : List ℕ) → k ≡ kind.BlockStr → IsPart (shape.Token k) bs rest → IsQuoted quotes.Triple bs rest
-block_part k bs rest e part = subst (λ (j : Kind). IsPart (shape.Token j) bs rest) e part
+pub block_part : (k : TokenKind) (bs rest : List ℕ) → k ≡ kind.BlockStr → IsPart (shape.Token k) bs rest → IsQuoted quotes.Triple bs rest
+block_part k bs rest e part = subst (λ (j : TokenKind). IsPart (shape.Token j) bs rest) e part
 
 -- ---- what stands between the quotes of a string
 
@@ -113,11 +113,11 @@ value_found bytes value h = h.value_is ∙ sym (all_values h.elements h.are) ∙
 
 -- ---- `string_of` of each kind
 
-pub string_of_str : (k : Kind) (bs value body : List ℕ) → IsString k → (k ≡ kind.BlockStr → ⊥) → body ≡ between 1 bs → HasValue body value → value ≡ string_of k bs
+pub string_of_str : (k : TokenKind) (bs value body : List ℕ) → IsString k → (k ≡ kind.BlockStr → ⊥) → body ≡ between 1 bs → HasValue body value → value ≡ string_of k bs
 unfolding string_of
 string_of_str k bs value body string other e h = rw (str_kind k string other) (value_found body value h ∙ ap (unescaped 0) e)
 
-pub string_of_block : (k : Kind) (bs value body : List ℕ) → k ≡ kind.BlockStr → body ≡ between 3 bs → value ≡ block_value (raw_of body) → value ≡ string_of k bs
+pub string_of_block : (k : TokenKind) (bs value body : List ℕ) → k ≡ kind.BlockStr → body ≡ between 3 bs → value ≡ block_value (raw_of body) → value ≡ string_of k bs
 unfolding string_of
 string_of_block k bs value body is e h = rw is (h ∙ ap (λ (x : List ℕ). block_value (raw_of x)) e)
 

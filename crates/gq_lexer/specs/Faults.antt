@@ -2,14 +2,14 @@
 use Rattle.std.specs.Prelude.{◌≡◌, ◌⊎◌, ℕ, List, Option, Some, None, Result, MatchResult}
 use Rattle.text_place.specs.declared.place.Place.{Place}
 use Rattle.gq_lexer.specs.declared.token.Token.{Token}
-use Rattle.gq_lexer.specs.declared.scan.Stop.{Stop}
-use Rattle.gq_lexer.specs.declared.scan.Stop.TheVariants as stop
+use Rattle.gq_lexer.specs.declared.scan.ScanFault.{ScanFault}
+use Rattle.gq_lexer.specs.declared.scan.ScanFault.TheVariants as stop
 use Rattle.gq_lexer.specs.declared.fault.LexFault.{LexFault}
 use Rattle.gq_lexer.specs.declared.fault.LexFault.TheVariants as fault
 use Rattle.gq_lexer.specs.Tokens.{AreTokens, StopsAt, tokens_from}
 
 -- a fault of this kind, at this place
-abbrev pub fault_of : Stop → Place → LexFault
+abbrev pub fault_of : ScanFault → Place → LexFault
 fault_of stop.BadCharacter place = fault.BadCharacter place
 fault_of stop.UnterminatedString place = fault.UnterminatedString place
 fault_of stop.BadEscape place = fault.BadEscape place
@@ -43,7 +43,7 @@ IsRefusedWith f result = MatchResult result (λ _. ⊥) (λ g. (g ≡ f) ⊎ (g 
 
 -- These are the tokens of the text up to its first fault, which is this one.
 pub record AreTokensBefore (text : List ℕ) (tokens : List Token) (f : LexFault) : Type 0 where
-  pub stop : Stop
+  pub stop : ScanFault
   pub place : Place
   pub fault_is : f ≡ fault_of stop place
   pub stops : StopsAt text stop place

@@ -1,4 +1,4 @@
--- How the value of a string is found from left to right. What it is says Value, which doesn't name this.
+-- Definitions of how the value of a string is found from left to right. What it is says Value, which doesn't name this.
 use Rattle.std.specs.Prelude.{ℕ, zero, suc, Bool, ◌==◌, not, List, [], ◌∷◌, ◌++◌, drop, Option, Some, None, if◌then◌else◌}
 use Rattle.std.specs.Char.{encode_utf8}
 use Rattle.gq_lexer.specs.Characters.{is_escaped, is_high_surrogate, is_low_surrogate}
@@ -11,7 +11,7 @@ use Rattle.gq_lexer.specs.Value.{escaped_char, pair_char}
 abbrev pub is_plain : ℕ → Bool
 is_plain b = not (b == 92)
 
--- how the character of an escape is found, and the escape's length without its backslash
+-- gives how the character of an escape is found, and the escape's length without its backslash
 abbrev pub low_value : ℕ → Option ℕ → Option EscapeValue
 low_value high None = None
 low_value high (Some low) = if is_low_surrogate low then Some (record { code = pair_char high low; len = 11 }) else None
@@ -31,7 +31,7 @@ char_of (escape c) = escaped_char c
 char_of (unit h) = unit_of h
 char_of (pair high low) = pair_char (unit_of high) (unit_of low)
 
--- what an escape leads to, where `go` goes on behind its backslash and skips some bytes
+-- gives what an escape leads to, where `go` goes on behind its backslash and skips some bytes
 abbrev pub on_escape : Option EscapeValue → (ℕ → List ℕ) → List ℕ
 on_escape None go = []
 on_escape (Some e) go = encode_utf8 e.code ++ go e.len

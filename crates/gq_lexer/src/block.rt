@@ -18,10 +18,10 @@ pub fn block_value(alloc: Global, body: &str) -> Result<String, AllocError>
     let mut kept = lines_of(alloc, raw.as_str())?;
     let lines = kept.as_mut_slice();
     unindent(lines);
-    joined(alloc, trimmed(lines))
+    join_lines(alloc, trim_blank_lines(lines))
 }
 
-/// What stands between the quotes, where a backslash before three quotes is left out.
+/// Returns what stands between the quotes, where a backslash before three quotes is left out.
 fn raw_of(alloc: Global, body: &str) -> Result<String, AllocError>
     ensures { IfOk result (λ raw. string_bytes raw ≡ raw_of body.now) }
 {
@@ -40,7 +40,7 @@ fn raw_of(alloc: Global, body: &str) -> Result<String, AllocError>
     }
 }
 
-/// How many bytes the first line has, without what ends it.
+/// Returns how many bytes the first line has, without what ends it.
 fn line_len(bytes: &[u8]) -> usize
     ensures value { result ≡ prefix_len ends_no_line bytes.now }
     ensures within { result ≤ length bytes.now }
@@ -51,7 +51,7 @@ fn line_len(bytes: &[u8]) -> usize
         .count()
 }
 
-/// How many bytes end a line here: none at the end of the text.
+/// Returns how many bytes end a line here: none at the end of the text.
 fn line_end_len(bytes: &[u8]) -> usize
     ensures value { result ≡ line_end_len bytes.now }
     ensures within { result ≤ length bytes.now }
@@ -86,14 +86,14 @@ fn is_blank(byte: u8) -> bool
     byte == b'\t' || byte == b' '
 }
 
-/// Whether a line has only tabs and spaces.
+/// Tells whether a line has only tabs and spaces.
 fn is_blank_line(line: &str) -> bool
     ensures { result ≡ is_blank_line line.now }
 {
     line.as_bytes().iter().all(|byte| is_blank(*byte))
 }
 
-/// How many tabs and spaces a line begins with.
+/// Returns how many tabs and spaces a line begins with.
 fn blank_len(line: &str) -> usize
     ensures value { result ≡ prefix_len is_blank line.now }
     ensures within { result ≤ length line.now }
@@ -104,7 +104,7 @@ fn blank_len(line: &str) -> usize
         .count()
 }
 
-/// How many tabs and spaces a line begins with that has anything else.
+/// Returns how many tabs and spaces a line begins with that has anything else.
 fn indent_of(line: &str) -> Option<usize>
     ensures { result ≡ indent_of line.now }
 {
@@ -123,7 +123,7 @@ fn common_indent(lines: &[&str]) -> Option<usize>
 }
 
 /// A line without this many of its tabs and spaces at the front, or without all of them.
-fn unindented<'a>(line: &'a str, indent: usize) -> &'a str
+fn strip_indent<'a>(line: &'a str, indent: usize) -> &'a str
     ensures { result.now ≡ drop (min indent (prefix_len is_blank line.now)) line.now }
 {
     line.split_at(indent.min(blank_len(line))).1
@@ -138,12 +138,12 @@ fn unindent(lines: &mut [&str])
     };
     if let Some(indent) = common_indent(others) {
         for line in others.iter_mut() {
-            *line = unindented(line, indent);
+            *line = strip_indent(line, indent);
         }
     }
 }
 
-/// How many lines at the front have only tabs and spaces.
+/// Returns how many lines at the front have only tabs and spaces.
 fn blank_front(lines: &[&str]) -> usize
     ensures value { result ≡ prefix_len (λ line. is_blank_line line.now) lines.now }
     ensures within { result ≤ length lines.now }
@@ -154,7 +154,7 @@ fn blank_front(lines: &[&str]) -> usize
         .count()
 }
 
-/// How many lines at the end have only tabs and spaces.
+/// Returns how many lines at the end have only tabs and spaces.
 fn blank_back(lines: &[&str]) -> usize
     ensures value { result ≡ prefix_len (λ line. is_blank_line line.now) (reverse lines.now) }
     ensures within { result ≤ length lines.now }
@@ -167,7 +167,7 @@ fn blank_back(lines: &[&str]) -> usize
 }
 
 /// The lines but those at the front and at the end that have only tabs and spaces.
-fn trimmed<'a, 'b>(lines: &'b [&'a str]) -> &'b [&'a str]
+fn trim_blank_lines<'a, 'b>(lines: &'b [&'a str]) -> &'b [&'a str]
     ensures { map (λ line. line.now) result.now ≡ trimmed (map (λ line. line.now) lines.now) }
 {
     let rest = &lines[blank_front(lines)..];
@@ -175,8 +175,9 @@ fn trimmed<'a, 'b>(lines: &'b [&'a str]) -> &'b [&'a str]
 }
 
 /// The lines with a line feed between each two.
-fn joined(alloc: Global, lines: &[&str]) -> Result<String, AllocError>
-    ensures { IfOk result (λ text. string_bytes text ≡ join_with_byte 10 (map (λ line. line.now) lines.now)) }
+fn join_lines(alloc: Global, lines: &[&str]) -> Result<String, AllocError>
+    ensures { IfOk result (λ text.
+        string_bytes text ≡ join_with_byte 10 (map (λ line. line.now) lines.now)) }
 {
     let [first, others @ ..] = lines else {
         return Ok(String::new(alloc));

@@ -11,7 +11,7 @@ ghost use Rattle.gq_lexer.specs.Unescape.{is_plain, unit_value, escape_value};
 use crate::quoted::{code_unit, is_high_surrogate, is_low_surrogate};
 use std::alloc::{AllocError, Global};
 
-/// How many bytes come before the next backslash.
+/// Returns how many bytes come before the next backslash.
 pub fn plain_len(bytes: &[u8]) -> usize
     ensures value { result ≡ prefix_len is_plain bytes.now }
     ensures within { result ≤ length bytes.now }
@@ -41,16 +41,16 @@ fn is_escaped(letter: u8) -> bool
     )
 }
 
-/// What an escape says.
+/// Holds what an escape says.
 #[derive(Clone, Copy, Debug, PartialEq, Eq)]
 struct EscapeValue {
     /// The character that it stands for.
     code: u32,
-    /// How many bytes it has behind its backslash.
+    /// Says how many bytes it has behind its backslash.
     len: usize,
 }
 
-/// What the escape says whose `u` these digits follow.
+/// Returns what the escape says whose `u` these digits follow.
 fn unit_value(digits: &[u8]) -> Option<EscapeValue>
     ensures { result ≡ unit_value (code_unit digits.now) digits.now }
 {
@@ -69,7 +69,7 @@ fn unit_value(digits: &[u8]) -> Option<EscapeValue>
     Some(EscapeValue { code, len: 11 })
 }
 
-/// What the escape says whose backslash these bytes follow.
+/// Returns what the escape says whose backslash these bytes follow.
 fn escape_value(bytes: &[u8]) -> Option<EscapeValue>
     ensures { result ≡ escape_value bytes.now }
 {
@@ -83,8 +83,8 @@ fn escape_value(bytes: &[u8]) -> Option<EscapeValue>
     unit_value(digits)
 }
 
-/// What stands between the quotes of a string, with each escape replaced by its character.
-pub fn unescaped(alloc: Global, body: &str) -> Result<String, AllocError>
+/// Returns what stands between the quotes of a string, with each escape replaced by its character.
+pub fn replace_escapes(alloc: Global, body: &str) -> Result<String, AllocError>
     requires { IsSpelled body.now }
     ensures { IfOk result (λ s. HasValue body.now (string_bytes s)) }
 {

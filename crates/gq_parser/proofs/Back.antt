@@ -1,4 +1,4 @@
--- What the machine lets come, comes in the grammar too.
+-- Lemmas on what the machine lets come, comes in the grammar too.
 use Rattle.std.specs.Prelude.{codes}
 use Rattle.std.proofs.Common.{◌≡◌, ℕ, Bool, true, false, List, [], ◌∷◌, ◌++◌, Option, Some, None, refl}
 use Rattle.text_place.specs.declared.place.Place.{Place}
@@ -334,7 +334,7 @@ a_spread = spread tt no_directives
 a_spread_set : {after : List Token} → IsSelectionSet (tree.set_at here (tree.and_selection (tree.Spread here a []) tree.no_selection)) (sign (Punct BraceLeft) ∷ spread_then after) after
 a_spread_set = selection_set a_spread no_more_selections
 
--- what meets them, and that it begins with no `@`
+-- says what meets them, and that it begins with no `@`
 pub record Meeting (stack : List Symbol) : Type 0 where
   pub tokens : List Token
   pub means : Means stack tokens

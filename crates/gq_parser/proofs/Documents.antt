@@ -16,7 +16,7 @@ use Rattle.gq_parser.specs.Parsing.{IsDefinition, Adds, IsDocumentFront}
 use Rattle.gq_parser.proofs.Views.{map_push}
 use Rattle.gq_parser.proofs.Whole.{shallow_from}
 
--- where a document was read so far, this was read
+-- the definitions of a document so far were read from the tokens between these two points
 abbrev pub IsRead : rust.Document → List Token → List Token → Type 0
 IsRead d before now = IsDocumentFront most_brackets (map operation_of d.operations.items) (map fragment_of d.fragments.items) before now
 

@@ -35,7 +35,7 @@ module _ {T W : Type 0} (AreRest : T → List Token → List Token → Type 0) (
   front_fails mid closer e front eaten fails stack =
       fails_earlier e _ _ (front.reads stack ∙ ap (read room_now (more ++ stack)) (sym eaten.0)) (fails (subst (IsNotNext closer) (sym eaten.0) eaten.1) stack)
 
--- what a call read is read from before it, too
+-- a tree that a call read is read from before the call, too
 pub earlier : {T : Type 0} (IsTree IsTree' : T → List Token → List Token → Type 0) (room room' after_room after_room' : ℕ) (symbols symbols' after_symbols after_symbols' : List Symbol) (before mid after : List Token) (r : Result T rust.Fault)
     → ((t : T) → IsTree' t mid after → IsTree t before after)
     → ((stack : List Symbol) → read room (symbols ++ stack) before ≡ read room' (symbols' ++ stack) mid)

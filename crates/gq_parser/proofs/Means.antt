@@ -1,4 +1,5 @@
--- What may come where a list of symbols is expected, and that a word changes it as the machine says.
+-- Lemmas on what may come where a list of symbols is expected, and that a word changes it as the machine
+-- says.
 use Rattle.std.proofs.Common.{ℕ, Bool, List, [], ◌∷◌, ◌++◌, Option, Some, None, refl}
 use Rattle.text_place.specs.declared.place.Place.{Place}
 use Rattle.gq_lexer.specs.declared.token.Punct.TheVariants.{Bang, ParenLeft, Colon, Equals, At, BracketLeft, BracketRight, BraceLeft}
@@ -68,7 +69,7 @@ Shifted (Some stack) tokens = Means stack tokens
 
 -- ---- what comes after
 
--- what comes after a field or a spread
+-- says what comes after a field or a spread
 pub record IsAfterField (tokens : List Token) : Type 0 where
   pub no_brace : IsNotNext (Punct BraceLeft) tokens
   pub no_parenthesis : IsNotNext (Punct ParenLeft) tokens
@@ -82,7 +83,7 @@ after_field (next_selection (field aliased as' ds b) others) = record { no_brace
 after_field (next_selection (spread h ds) others) = record { no_brace = λ e. cc; no_parenthesis = λ e. cc; no_colon = λ e. cc; no_at = λ e. cc }
 after_field (next_selection (inline c ds s) others) = record { no_brace = λ e. cc; no_parenthesis = λ e. cc; no_colon = λ e. cc; no_at = λ e. cc }
 
--- what comes after directives
+-- says what comes after directives
 pub record IsAfterDirectives (tokens : List Token) : Type 0 where
   pub no_parenthesis : IsNotNext (Punct ParenLeft) tokens
   pub no_colon : IsNotNext (Punct Colon) tokens
@@ -98,7 +99,7 @@ pub after_directives : {b : tree.Below} {before mid : List Token} → IsOptional
 after_directives no_set h = field_ends h
 after_directives (a_set s) h = set_follows s
 
--- what comes after arguments
+-- says what comes after arguments
 pub record IsAfterArguments (tokens : List Token) : Type 0 where
   pub no_parenthesis : IsNotNext (Punct ParenLeft) tokens
   pub no_colon : IsNotNext (Punct Colon) tokens
@@ -111,7 +112,7 @@ pub after_name : {c : Constness} {as' : List tree.Argument} {before mid : List T
 after_name no_arguments h = h.no_colon
 after_name (arguments a others) h = λ e. cc
 
--- what comes after a variable's definition
+-- says what comes after a variable's definition
 pub record IsAfterVariable (tokens : List Token) : Type 0 where
   pub directives : IsAfterDirectives tokens
   pub no_equals : IsNotNext (Punct Equals) tokens
@@ -121,7 +122,7 @@ pub after_variable : {vs : List tree.VariableDefinition} {before after : List To
 after_variable no_more_variables = record { directives = record { no_parenthesis = λ e. cc; no_colon = λ e. cc; no_at = λ e. cc }; no_equals = λ e. cc; no_bang = λ e. cc }
 after_variable (next_variable (variable_definition t d ds) others) = record { directives = record { no_parenthesis = λ e. cc; no_colon = λ e. cc; no_at = λ e. cc }; no_equals = λ e. cc; no_bang = λ e. cc }
 
--- what comes after a default, and after a type
+-- tokens after a default, and after a type
 pub after_default : {ds : List tree.Directive} {before mid : List Token} → AreDirectives Const ds before mid → IsAfterVariable mid → IsNotNext (Punct Equals) before × IsNotNext (Punct Bang) before
 after_default no_directives h = (h.no_equals, h.no_bang)
 after_default (next_directive (directive as') others) h = (λ e. cc, λ e. cc)
@@ -130,7 +131,7 @@ pub after_type : {d : Option tree.Value} {before mid : List Token} → IsDefault
 after_type no_default h = h
 after_type (default v) h = λ e. cc
 
--- what comes after an operation's name, and after its variables
+-- tokens after an operation's name, and after its variables
 pub directives_first : {c : Constness} {ds : List tree.Directive} {s : tree.SelectionSet} {before mid after : List Token} → AreDirectives c ds before mid → IsSelectionSet s mid after → IsNotNext (Punct ParenLeft) before
 directives_first no_directives s = (set_follows s).no_parenthesis
 directives_first (next_directive (directive as') others) s = λ e. cc

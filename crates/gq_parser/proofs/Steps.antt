@@ -1,4 +1,4 @@
--- What a step of a method gives.
+-- Lemmas on what a step of a method gives.
 use Rattle.std.proofs.Common.{◌≡◌, ℕ, zero, suc, List, [], ◌∷◌, ◌++◌, Bool, true, false, Some, None, refl, sym, ap, ◌∙◌}
 use Rattle.text_place.specs.declared.place.Place.{Place}
 use Rattle.gq_lexer.specs.declared.token.Punct.TheVariants.{Bang, Dollar, ParenLeft, ParenRight, Colon, Equals, At, BracketLeft, BracketRight, BraceLeft, BraceRight}
@@ -16,7 +16,7 @@ use Rattle.gq_parser.specs.declared.tree.OperationKind.{OperationKind}
 use Rattle.gq_parser.specs.Machine.{Symbol, AName, AValue, MoreValues, MoreMembers, AType, ABracket, MaybeBang, MaybeArguments, MoreArguments, MaybeDirectives, AfterName, AfterDots, MaybeSet, ASet, FirstSelection, MoreSelections, MaybeDefault, FirstVariable, MoreVariables, MaybeVariables, MaybeName, ADefinition, an_argument, an_operation_then, Stopped, read}
 use Rattle.gq_parser.specs.Parsing.{Eats, IsNotNext, IsNoName, IsNoKind}
 
--- what was taken says this
+-- a token that was taken says this
 pub taken : {old new : List Token} {p : Place} {v w : Word} → old ≡ at p v ∷ new → v ≡ w → old ≡ at p w ∷ new
 taken {new = new} {p = p} e h = e ∙ ap (λ x. at p x ∷ new) h
 

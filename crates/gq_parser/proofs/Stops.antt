@@ -1,4 +1,4 @@
--- Where the machine stops there is the first fault.
+-- Lemmas on where the machine stops there is the first fault.
 use Rattle.std.proofs.Common.{◌≡◌, ℕ, zero, suc, List, [], ◌∷◌, ◌++◌, Option, Some, None, refl, sym, ap, subst, ◌∙◌, ◌⊎◌, inl, inr}
 use Rattle.text_place.specs.declared.place.Place.{Place}
 use Rattle.gq_parser.specs.Word.{Word, Token, at, AreSpelled, place_of_next}
@@ -164,7 +164,7 @@ pub read_ends : (room : ℕ) (stack : List Symbol) (tokens : List Token) → End
 read_ends room stack [] = at_end_ends room stack
 read_ends room stack (at p w ∷ tokens) = ends_step (step room stack w) room stack p w tokens (comes room stack p w) (λ r next. read_ends r next tokens)
 
--- what comes whole is read to its end, where it is shallow
+-- tokens that come whole are read to their end, where they are shallow
 pub read_done : (room : ℕ) (stack : List Symbol) (tokens : List Token) → Means stack tokens → IsShallow room tokens → read room stack tokens ≡ Done
 read_done room stack [] h shallow = at_end_done h
 read_done room stack (at p w ∷ tokens) h shallow = done_step (step room stack w) room stack p w tokens (comes room stack p w) h shallow (λ r next. read_done r next tokens)

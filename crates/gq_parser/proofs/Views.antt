@@ -41,7 +41,7 @@ value_of = fold-Value (Place → Value) Argument Value value_step argument_step 
 of_literal : (p : Place) (v : rust-value.Value) → literal_of (the_literal p v) ≡ value_of v p
 of_literal p v = fold-roll-Literal (Place → Value) Argument Value value_step argument_step literal_step (record { place = p; value = v })
 
--- what a literal says, from what its value says
+-- a literal says what its value says, at its place
 said : (p : Place) (v : rust-value.Value) (rolled : rust-value.Value) (w : Place → Value) → rolled ≡ v → value_of rolled ≡ w → literal_of (the_literal p v) ≡ w p
 said p v rolled w e h = of_literal p v ∙ ap (λ x. value_of x p) (sym e) ∙ ap (λ f. f p) h
 

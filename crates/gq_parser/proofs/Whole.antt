@@ -58,7 +58,7 @@ sunk tokens place s = record {
   deep = s.deep;
 }
 
--- what a fault says of the tokens
+-- says what a fault says of the tokens
 abbrev pub IsTokenFault : List Token → Fault → Type 0
 IsTokenFault tokens (Unexpected place) = IsUnexpectedAt tokens place
 IsTokenFault tokens (TooDeep place) = IsTooDeepAt tokens place
@@ -69,7 +69,7 @@ is_fault tokens (Unexpected place) e = stopped tokens place (subst (Ends most_br
 is_fault tokens (TooDeep place) e = sunk tokens place (subst (Ends most_brackets (one ADefinition) tokens) e (read_ends most_brackets (one ADefinition) tokens))
 is_fault tokens NoMemory e = tt
 
--- what comes whole does not fail
+-- tokens that come whole do not fail
 pub finds_err : (tokens : List Token) (e : Fault) (d : Document) → Fails e (read most_brackets (one ADefinition) tokens) → IsDocument d tokens → IsShallow most_brackets tokens → e ≡ NoMemory
 finds_err tokens (Unexpected place) d e h shallow = let done = read_done most_brackets (one ADefinition) tokens (document_means d tokens h) shallow in absurd (cc (e, done))
 finds_err tokens (TooDeep place) d e h shallow = let done = read_done most_brackets (one ADefinition) tokens (document_means d tokens h) shallow in absurd (cc (e, done))

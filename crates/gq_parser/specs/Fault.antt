@@ -1,4 +1,4 @@
--- Where there is no document, and the place of the fault.
+-- Definitions of where there is no document, and the place of the fault.
 use Rattle.std.specs.Prelude.{◌≡◌, ◌<◌, ◌≤◌, ℕ, zero, suc, List, [], ◌∷◌, ◌++◌, length, Option, Some, None, Result, Ok, Err}
 use Rattle.text_place.specs.declared.place.Place.{Place}
 use Rattle.gq_lexer.specs.declared.token.Token as lexer
@@ -19,7 +19,7 @@ use Rattle.gq_parser.specs.Grammar.{IsDocument}
 abbrev pub most_bytes : ℕ
 most_bytes = 1048576
 
--- how many brackets may be open
+-- gives how many brackets may be open
 abbrev pub most_brackets : ℕ
 most_brackets = 128
 
@@ -37,7 +37,7 @@ bracket (Punct ParenRight) = Closing
 bracket (Punct BracketRight) = Closing
 bracket _ = Neither
 
--- what holds of the room after a bracket
+-- says what holds of the room after a bracket
 abbrev pub RoomAfter : Bracket → ℕ → (ℕ → Type 0) → Type 0
 RoomAfter Opening zero P = ⊥
 RoomAfter Opening (suc room) P = P room
@@ -56,7 +56,7 @@ pub record IsViable (tokens : List Token) : Type 0 where
   pub spelled : AreSpelled more
   pub is : IsDocument document (tokens ++ more)
 
--- what comes after the good tokens is no part of a document that begins with them
+-- says what comes after the good tokens is no part of a document that begins with them
 abbrev pub IsUnexpected : List Token → List Token → Type 0
 IsUnexpected good [] = (d : Document) → IsDocument d good → ⊥
 IsUnexpected good (t ∷ bad) = IsViable (good ++ t ∷ []) → ⊥
@@ -106,7 +106,8 @@ pub record OfTokens (text : List ℕ) (P : List Token → Type 0) : Type 0 where
 abbrev pub IsParseFault : List ℕ → ParseFault → Type 0
 IsParseFault text (fault.Lex f) = IsLexFault f text
 IsParseFault text (fault.Unexpected p) = OfTokens text (λ tokens. IsUnexpectedAt tokens (Some p))
-IsParseFault text (fault.UnexpectedEnd p) = OfTokens text (λ tokens. IsUnexpectedAt tokens None) × (p ≡ place_of text (length text))
+IsParseFault text (fault.UnexpectedEnd p) = OfTokens text (λ tokens. IsUnexpectedAt tokens None)
+    × (p ≡ place_of text (length text))
 IsParseFault text (fault.TooDeep p) = OfTokens text (λ tokens. IsTooDeepAt tokens p)
 IsParseFault text fault.NoMemory = Unit {0}
 

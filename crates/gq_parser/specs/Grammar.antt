@@ -18,7 +18,8 @@ use Rattle.gq_parser.specs.Tree as tree
 -- ---- values and types
 
 mutual
-  -- Value: `$` Name unless it is constant, Int, Float, string, `true`, `false`, `null`, another Name, `[` Value* `]`, `{` (Name `:` Value)* `}`
+  -- Value: `$` Name unless it is constant, Int, Float, string, `true`, `false`, `null`, another Name, `[` Value* `]`,
+  -- `{` (Name `:` Value)* `}`
   pub data IsValue : Constness → tree.Value → List Token → List Token → Type 0 where
     variable : {p q : Place} {k : Keyword} {n : List ℕ} {after : List Token} → IsValue NotConst (tree.Variable p n) (at p (Punct Dollar) ∷ at q (Name k n) ∷ after) after
     int : {constness : Constness} {p : Place} {n : List ℕ} {after : List Token} → IsValue constness (tree.Int p n) (at p (Int n) ∷ after) after
@@ -64,11 +65,13 @@ pub data IsArgument : Constness → tree.Argument → List Token → List Token 
 pub data AreArguments : Constness → List tree.Argument → List Token → List Token → Type 0 where
   no_more_arguments : {constness : Constness} {p : Place} {after : List Token} → AreArguments constness [] (at p (Punct ParenRight) ∷ after) after
   next_argument : {constness : Constness} {a : tree.Argument} {others : List tree.Argument} {before mid after : List Token}
-      → IsArgument constness a before mid → AreArguments constness others mid after → AreArguments constness (a ∷ others) before after
+      → IsArgument constness a before mid → AreArguments constness others mid after
+      → AreArguments constness (a ∷ others) before after
 
 -- Arguments?: `(` (Name `:` Value)+ `)`
 pub data AreOptionalArguments : Constness → List tree.Argument → List Token → List Token → Type 0 where
-  no_arguments : {constness : Constness} {after : List Token} → AreOptionalArguments constness [] after after
+  no_arguments : {constness : Constness} {after : List Token}
+      → AreOptionalArguments constness [] after after
   arguments : {constness : Constness} {p : Place} {a : tree.Argument} {others : List tree.Argument} {mid mid' after : List Token}
       → IsArgument constness a mid mid' → AreArguments constness others mid' after → AreOptionalArguments constness (a ∷ others) (at p (Punct ParenLeft) ∷ mid) after
 
@@ -79,9 +82,11 @@ pub data IsDirective : Constness → tree.Directive → List Token → List Toke
 
 -- Directives: (`@` Name Arguments?)*
 pub data AreDirectives : Constness → List tree.Directive → List Token → List Token → Type 0 where
-  no_directives : {constness : Constness} {after : List Token} → AreDirectives constness [] after after
+  no_directives : {constness : Constness} {after : List Token}
+      → AreDirectives constness [] after after
   next_directive : {constness : Constness} {d : tree.Directive} {others : List tree.Directive} {before mid after : List Token}
-      → IsDirective constness d before mid → AreDirectives constness others mid after → AreDirectives constness (d ∷ others) before after
+      → IsDirective constness d before mid → AreDirectives constness others mid after
+      → AreDirectives constness (d ∷ others) before after
 
 -- ---- selections
 
@@ -99,7 +104,9 @@ mutual
   -- Selection: Field, Spread or Inline
   pub data IsSelection : tree.Selection → List Token → List Token → Type 0 where
     field : {p : Place} {alias : Option (List ℕ)} {n : List ℕ} {as' : List tree.Argument} {ds : List tree.Directive} {b : tree.Below} {before mid mid' mid'' after : List Token}
-        → IsFieldName p alias n before mid → AreOptionalArguments NotConst as' mid mid' → AreDirectives NotConst ds mid' mid'' → IsOptionalSet b mid'' after → IsSelection (tree.Field p alias n as' ds b) before after
+        → IsFieldName p alias n before mid → AreOptionalArguments NotConst as' mid mid'
+        → AreDirectives NotConst ds mid' mid'' → IsOptionalSet b mid'' after
+        → IsSelection (tree.Field p alias n as' ds b) before after
     spread : {p q : Place} {k : Keyword} {n : List ℕ} {ds : List tree.Directive} {mid after : List Token}
         → IsFragmentName k → AreDirectives NotConst ds mid after → IsSelection (tree.Spread p n ds) (at p (Punct Spread) ∷ at q (Name k n) ∷ mid) after
     inline : {p : Place} {c : Option tree.Condition} {ds : List tree.Directive} {s : tree.SelectionSet} {mid mid' mid'' after : List Token}
@@ -108,7 +115,8 @@ mutual
   -- SelectionSet?
   pub data IsOptionalSet : tree.Below → List Token → List Token → Type 0 where
     no_set : {after : List Token} → IsOptionalSet tree.nothing_below after after
-    a_set : {s : tree.SelectionSet} {before after : List Token} → IsSelectionSet s before after → IsOptionalSet (tree.below s) before after
+    a_set : {s : tree.SelectionSet} {before after : List Token}
+        → IsSelectionSet s before after → IsOptionalSet (tree.below s) before after
 
   -- SelectionSet: `{` Selection+ `}`
   pub data IsSelectionSet : tree.SelectionSet → List Token → List Token → Type 0 where
@@ -119,7 +127,8 @@ mutual
   pub data AreSelections : tree.Selections → List Token → List Token → Type 0 where
     no_more_selections : {p : Place} {after : List Token} → AreSelections tree.no_selection (at p (Punct BraceRight) ∷ after) after
     next_selection : {s : tree.Selection} {others : tree.Selections} {before mid after : List Token}
-        → IsSelection s before mid → AreSelections others mid after → AreSelections (tree.and_selection s others) before after
+        → IsSelection s before mid → AreSelections others mid after
+        → AreSelections (tree.and_selection s others) before after
 
 -- ---- definitions
 
@@ -138,7 +147,8 @@ pub data IsVariable : tree.VariableDefinition → List Token → List Token → 
 pub data AreVariables : List tree.VariableDefinition → List Token → List Token → Type 0 where
   no_more_variables : {p : Place} {after : List Token} → AreVariables [] (at p (Punct ParenRight) ∷ after) after
   next_variable : {v : tree.VariableDefinition} {others : List tree.VariableDefinition} {before mid after : List Token}
-      → IsVariable v before mid → AreVariables others mid after → AreVariables (v ∷ others) before after
+      → IsVariable v before mid → AreVariables others mid after
+      → AreVariables (v ∷ others) before after
 
 -- VarDefs?: `(` VarDef+ `)`
 pub data AreOptionalVariables : List tree.VariableDefinition → List Token → List Token → Type 0 where
@@ -164,7 +174,8 @@ pub data IsOperation : tree.Operation → List Token → List Token → Type 0 w
       → IsOperation (record { place = p; kind = kind.Query; name = None; variables = []; directives = []; selection_set = tree.set_at p ss }) before after
   operation : {p : Place} {o : OperationKind} {k : Keyword} {w : List ℕ} {n : Option (List ℕ)} {vs : List tree.VariableDefinition} {ds : List tree.Directive} {s : tree.SelectionSet}
       {mid mid' mid'' mid''' after : List Token}
-      → IsKind o k → IsOptionalName n mid mid' → AreOptionalVariables vs mid' mid'' → AreDirectives NotConst ds mid'' mid''' → IsSelectionSet s mid''' after
+      → IsKind o k → IsOptionalName n mid mid' → AreOptionalVariables vs mid' mid''
+      → AreDirectives NotConst ds mid'' mid''' → IsSelectionSet s mid''' after
       → IsOperation (record { place = p; kind = o; name = n; variables = vs; directives = ds; selection_set = s }) (at p (Name k w) ∷ mid) after
 
 -- Fragment: `fragment` Name (not `on`) `on` Name Directives SelectionSet

@@ -4,7 +4,7 @@ use Rattle.std.specs.Str.{bytes_eq}
 use Rattle.gq_parser.specs.declared.keyword.Keyword.{Keyword}
 use Rattle.gq_parser.specs.declared.keyword.Keyword.TheVariants.{Query, Mutation, Subscription, Fragment, On, True, False, Null, Other}
 
--- what a name is where a word is wanted
+-- gives what a name is where a word is wanted
 unfoldable pub keyword_of : List ℕ → Keyword
 keyword_of name =
     if bytes_eq name (codes "query") then Query

@@ -1,4 +1,5 @@
--- Reading by what is still expected, a token at a time. No promise to a caller speaks of it: the parser's own methods are proved against it.
+-- Reading by what is still expected, a token at a time. No promise to a caller speaks of it: the parser's own methods are proved against
+-- it.
 use Rattle.std.specs.Prelude.{ℕ, zero, suc, List, [], ◌∷◌, ◌++◌, Option, Some, None}
 use Rattle.text_place.specs.declared.place.Place.{Place}
 use Rattle.gq_lexer.specs.declared.token.Punct.TheVariants.{Bang, Dollar, ParenLeft, ParenRight, Spread, Colon, Equals, At, BracketLeft, BracketRight, BraceLeft, BraceRight}
@@ -8,7 +9,7 @@ use Rattle.gq_parser.specs.declared.keyword.Keyword.TheVariants.{Query, Mutation
 use Rattle.gq_parser.specs.Word.{Word, Punct, Name, Int, Float, Text, Token, at}
 use Rattle.gq_parser.specs.Fault.{Bracket, Opening, Closing, Neither, bracket}
 
--- what is expected; a value that is `Const` has no variables
+-- says what is expected; a value that is `Const` has no variables
 pub data Symbol : Type 0 where
   AName : Symbol
   AFragmentName : Symbol
@@ -36,8 +37,8 @@ pub data Symbol : Type 0 where
   MaybeName : Symbol
   ADefinition : Symbol
 
--- what a token does to what is expected: it is taken and these are expected then, or nothing was there and it comes
--- after that, or it can't come
+-- a token's move: it is taken and these symbols are expected then, or nothing was there and it
+-- comes after that, or it can't come
 pub data Move : Type 0 where
   Takes : List Symbol → Move
   Skips : Move
@@ -160,7 +161,7 @@ moved (Takes symbols) stack skipped = Some (symbols ++ stack)
 moved Skips stack skipped = skipped
 moved Refuses stack skipped = None
 
--- what is expected after a word that may come; with nothing expected another definition may come
+-- gives what is expected after a word that may come; with nothing expected another definition may come
 abbrev pub shift : List Symbol → Word → Option (List Symbol)
 shift [] w = moved (move ADefinition w) [] None
 shift (s ∷ stack) w = moved (move s w) stack (shift stack w)
@@ -180,7 +181,7 @@ entered Neither room next = Goes room next
 abbrev pub step : ℕ → List Symbol → Word → Step
 step room stack w = elim (shift stack w) [ None ↦ Stops | Some next ↦ entered (bracket w) room next ]
 
--- how a reading ends: where something is unexpected, or nowhere at the end, or where a bracket is too deep
+-- says how a reading ends: where something is unexpected, or nowhere at the end, or where a bracket is too deep
 pub data Outcome : Type 0 where
   Done : Outcome
   Stopped : Option Place → Outcome

@@ -202,18 +202,22 @@ abbrev pub below_if : Option SelectionSet → Below
 below_if None = nothing_below
 below_if (Some s) = below s
 
-abbrev pub set_step : open-selection.SelectionSet-F Selection Selection Selection SelectionSet → SelectionSet
+abbrev pub set_step : open-selection.SelectionSet-F Selection Selection Selection SelectionSet
+    → SelectionSet
 set_step s = set_at s.place (selections_of s.selections.items)
 
-abbrev pub selection_step : open-selection.Selection-F Selection Selection Selection SelectionSet → Selection
+abbrev pub selection_step : open-selection.Selection-F Selection Selection Selection SelectionSet
+    → Selection
 selection_step (open-selection.Field f) = f
 selection_step (open-selection.Spread s) = Spread s.place (string_bytes s.name) (directives_of s.directives.items)
 selection_step (open-selection.Inline i) = i
 
-abbrev pub field_step : open-selection.Field-F Selection Selection Selection SelectionSet → Selection
+abbrev pub field_step : open-selection.Field-F Selection Selection Selection SelectionSet
+    → Selection
 field_step f = Field f.place (text_if f.alias) (string_bytes f.name) (arguments_of f.arguments.items) (directives_of f.directives.items) (below_if f.selection_set)
 
-abbrev pub inline_step : open-selection.Inline-F Selection Selection Selection SelectionSet → Selection
+abbrev pub inline_step : open-selection.Inline-F Selection Selection Selection SelectionSet
+    → Selection
 inline_step i = Inline i.place (condition_if i.condition) (directives_of i.directives.items) i.selection_set
 
 abbrev pub set_of : rust-set.SelectionSet → SelectionSet

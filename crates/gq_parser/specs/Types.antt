@@ -1,4 +1,4 @@
--- What a reference to a type says (section 3.4.1).
+-- Definitions of what a reference to a type says (section 3.4.1).
 use Rattle.std.specs.Prelude.{ℕ, Bool, true, false, List}
 use Rattle.text_place.specs.declared.place.Place.{Place}
 use Rattle.gq_parser.specs.Tree.{TypeTree, Named, ListOf}

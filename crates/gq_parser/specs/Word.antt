@@ -1,9 +1,9 @@
--- What the grammar speaks of: words, and tokens, which are words with their places.
+-- Definitions of what the grammar speaks of: words, and tokens, which are words with their places.
 use Rattle.std.specs.Prelude.{◌≡◌, ℕ, List, [], ◌∷◌, map, Option, Some, None}
 use Rattle.text_place.specs.declared.place.Place.{Place}
 use Rattle.gq_lexer.specs.declared.token.Punct as lexer
-use Rattle.gq_lexer.specs.declared.token.Kind as lexer-kind
-use Rattle.gq_lexer.specs.declared.token.Kind.TheVariants as kind
+use Rattle.gq_lexer.specs.declared.token.TokenKind as lexer-kind
+use Rattle.gq_lexer.specs.declared.token.TokenKind.TheVariants as kind
 use Rattle.gq_lexer.specs.declared.token.Token as lexer-token
 use Rattle.gq_lexer.specs.Tokens.{bytes_of}
 use Rattle.gq_lexer.specs.StringOf.{string_of}
@@ -23,8 +23,8 @@ pub data Token : Type 0 where
 
 -- ---- the tokens of a text
 
--- what a token of this kind and with these bytes says
-abbrev pub word : lexer-kind.Kind → List ℕ → Word
+-- gives what a token of this kind and with these bytes says
+abbrev pub word : lexer-kind.TokenKind → List ℕ → Word
 word (kind.Punct p) bytes = Punct p
 word kind.Name bytes = Name (keyword_of bytes) bytes
 word kind.Int bytes = Int bytes

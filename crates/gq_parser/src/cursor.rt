@@ -12,7 +12,7 @@ ghost use Rattle.gq_parser.specs.Parsing.{Reads, ReadsOne, Takes, TakesName, Eat
 use crate::fault::Fault;
 use crate::keyword::{Keyword, keyword_of};
 use crate::lexeme::Lexeme;
-use gq_lexer::{Kind, LexFault, Located, Place, Punct, Token, string_value};
+use gq_lexer::{LexFault, LocatedText, Place, Punct, Token, TokenKind, string_value};
 use std::alloc::Global;
 use std::marker::Model;
 
@@ -58,15 +58,16 @@ impl<'a> Parser<'a> {
     }
 
     /// The fault of a token that may not be next.
-    pub(crate) fn unexpected(&self) -> Fault
+    pub(crate) fn fault_here(&self) -> Fault
         ensures { result ≡ Fault.Unexpected (place_of_next self.now) }
     {
         Fault::Unexpected(self.rest.first().map(|token| token.place()))
     }
 
     /// Takes the next token; a fault if there is none.
-    pub(crate) fn next(&mut self) -> Result<Located<Lexeme<'a>>, Fault>
-        ensures { MatchResult result (λ t. self.old ≡ at t.place (says t.value) ∷ self.new) (λ f. IsMissing f self.old) }
+    pub(crate) fn next(&mut self) -> Result<LocatedText<Lexeme<'a>>, Fault>
+        ensures { MatchResult result (λ t.
+            self.old ≡ at t.place (says t.value) ∷ self.new) (λ f. IsMissing f self.old) }
     {
         let Some((token, rest)) = self.rest.split_first() else {
             return Err(Fault::Unexpected(None));
@@ -74,7 +75,7 @@ impl<'a> Parser<'a> {
         let value = lexeme_of(self.alloc, self.text, token)?;
         let place = token.place();
         self.rest = rest;
-        Ok(Located { place, value })
+        Ok(LocatedText { place, value })
     }
 
     /// The place of the next token, which is taken if it is this one.
@@ -82,7 +83,7 @@ impl<'a> Parser<'a> {
         ensures { Takes (words.Punct punct) self.old self.new result }
     {
         match self.rest.split_first() {
-            Some((token, rest)) if token.kind == Kind::Punct(punct) => {
+            Some((token, rest)) if token.kind == TokenKind::Punct(punct) => {
                 self.rest = rest;
                 Some(token.place())
             }
@@ -90,7 +91,7 @@ impl<'a> Parser<'a> {
         }
     }
 
-    /// Whether the next token is this one, which is then taken.
+    /// Tells whether the next token is this one, which is then taken.
     pub(crate) fn eat(&mut self, punct: Punct) -> bool
         ensures { Eats (words.Punct punct) self.old self.new result }
     {
@@ -98,32 +99,33 @@ impl<'a> Parser<'a> {
     }
 
     /// The name that is next, if one is.
-    pub(crate) fn take_name(&mut self) -> Option<Located<&'a str>>
+    pub(crate) fn take_name(&mut self) -> Option<LocatedText<&'a str>>
         ensures { TakesName self.old self.new result }
     {
         match self.rest.split_first() {
-            Some((token, rest)) if token.kind == Kind::Name => {
+            Some((token, rest)) if token.kind == TokenKind::Name => {
                 let place = token.place();
                 let value = token.text(self.text);
                 self.rest = rest;
-                Some(Located { place, value })
+                Some(LocatedText { place, value })
             }
             _ => None,
         }
     }
 }
 
-/// What a token of this text says.
+/// Returns what a token of this text says.
 fn lexeme_of<'a>(alloc: Global, text: &'a str, token: &Token) -> Result<Lexeme<'a>, Fault>
     requires { IsToken text.now token.now }
-    ensures { MatchResult result (λ l. words.word token.now.kind (bytes_of text.now token.now) ≡ says l) (λ f. f ≡ Fault.NoMemory) }
+    ensures { MatchResult result (λ l. words.word token.now.kind (bytes_of text.now token.now)
+        ≡ says l) (λ f. f ≡ Fault.NoMemory) }
 {
     match token.kind {
-        Kind::Punct(punct) => Ok(Lexeme::Punct(punct)),
-        Kind::Name => Ok(Lexeme::Name(token.text(text))),
-        Kind::Int => Ok(Lexeme::Int(token.text(text))),
-        Kind::Float => Ok(Lexeme::Float(token.text(text))),
-        Kind::Str | Kind::BlockStr => match string_value(alloc, text, token) {
+        TokenKind::Punct(punct) => Ok(Lexeme::Punct(punct)),
+        TokenKind::Name => Ok(Lexeme::Name(token.text(text))),
+        TokenKind::Int => Ok(Lexeme::Int(token.text(text))),
+        TokenKind::Float => Ok(Lexeme::Float(token.text(text))),
+        TokenKind::Str | TokenKind::BlockStr => match string_value(alloc, text, token) {
             Ok(value) => Ok(Lexeme::Text(value)),
             Err(_) => Err(Fault::NoMemory),
         },
@@ -131,24 +133,26 @@ fn lexeme_of<'a>(alloc: Global, text: &'a str, token: &Token) -> Result<Lexeme<'
 }
 
 impl<'a> Parser<'a> {
-    pub(crate) fn name(&mut self) -> Result<Located<String>, Fault>
-        ensures reads { (room : _) → ReadsOne (λ n. IsName n.place (string_bytes n.value)) AName room self.old self.new result }
+    pub(crate) fn name(&mut self) -> Result<LocatedText<String>, Fault>
+        ensures reads { (room : _) → ReadsOne (λ n.
+            IsName n.place (string_bytes n.value)) AName room self.old self.new result }
         ensures shrinks { OnOk result (length self.new < length self.old) }
     {
-        let Located { place, value } = self.next()?;
+        let LocatedText { place, value } = self.next()?;
         let Lexeme::Name(name) = value else {
             return Err(Fault::Unexpected(Some(place)));
         };
         let value = String::from_str(self.alloc, name)?;
-        Ok(Located { place, value })
+        Ok(LocatedText { place, value })
     }
 
     /// A name that is not `on`.
     pub(crate) fn fragment_name(&mut self) -> Result<String, Fault>
-        ensures reads { (room : _) → ReadsOne (λ n. IsFragmentNameTaken (string_bytes n)) AFragmentName room self.old self.new result }
+        ensures reads { (room : _) → ReadsOne (λ n. IsFragmentNameTaken (string_bytes n))
+            AFragmentName room self.old self.new result }
         ensures shrinks { OnOk result (length self.new < length self.old) }
     {
-        let Located { place, value } = self.next()?;
+        let LocatedText { place, value } = self.next()?;
         match value {
             Lexeme::Name(name) if keyword_of(name) != Keyword::On => {
                 Ok(String::from_str(self.alloc, name)?)
@@ -162,7 +166,7 @@ impl<'a> Parser<'a> {
         ensures reads { (room : _) → ReadsOne (λ _. IsOnTaken) AnOn room self.old self.new result }
         ensures shrinks { OnOk result (length self.new < length self.old) }
     {
-        let Located { place, value } = self.next()?;
+        let LocatedText { place, value } = self.next()?;
         match value {
             Lexeme::Name(name) if keyword_of(name) == Keyword::On => Ok(()),
             _ => Err(Fault::Unexpected(Some(place))),
@@ -170,10 +174,11 @@ impl<'a> Parser<'a> {
     }
 
     pub(crate) fn colon(&mut self) -> Result<(), Fault>
-        ensures reads { (room : _) → ReadsOne (λ _. IsPunct (words.Punct Punct.Colon)) AColon room self.old self.new result }
+        ensures reads { (room : _) → ReadsOne (λ _.
+            IsPunct (words.Punct Punct.Colon)) AColon room self.old self.new result }
         ensures shrinks { OnOk result (length self.new < length self.old) }
     {
-        let Located { place, value } = self.next()?;
+        let LocatedText { place, value } = self.next()?;
         match value {
             Lexeme::Punct(Punct::Colon) => Ok(()),
             _ => Err(Fault::Unexpected(Some(place))),
@@ -182,10 +187,11 @@ impl<'a> Parser<'a> {
 
     /// The dollar sign of a variable's definition, and its place.
     pub(crate) fn dollar(&mut self) -> Result<Place, Fault>
-        ensures reads { (room : _) → Reads IsDollarTaken room (one FirstVariable) room (a_variable_then ++ one MoreVariables) self.old self.new result }
+        ensures reads { (room : _) → Reads IsDollarTaken room (one FirstVariable)
+            room (a_variable_then ++ one MoreVariables) self.old self.new result }
         ensures shrinks { OnOk result (length self.new < length self.old) }
     {
-        let Located { place, value } = self.next()?;
+        let LocatedText { place, value } = self.next()?;
         match value {
             Lexeme::Punct(Punct::Dollar) => Ok(place),
             _ => Err(Fault::Unexpected(Some(place))),
@@ -194,10 +200,11 @@ impl<'a> Parser<'a> {
 
     /// The bracket that closes a list's type.
     pub(crate) fn bracket(&mut self) -> Result<(), Fault>
-        ensures reads { (room : _) → Reads (λ _. IsPunct (words.Punct Punct.BracketRight)) room (one ABracket) (suc room) [] self.old self.new result }
+        ensures reads { (room : _) → Reads (λ _. IsPunct (words.Punct Punct.BracketRight))
+            room (one ABracket) (suc room) [] self.old self.new result }
         ensures shrinks { OnOk result (length self.new < length self.old) }
     {
-        let Located { place, value } = self.next()?;
+        let LocatedText { place, value } = self.next()?;
         match value {
             Lexeme::Punct(Punct::BracketRight) => Ok(()),
             _ => Err(Fault::Unexpected(Some(place))),
@@ -206,7 +213,8 @@ impl<'a> Parser<'a> {
 
     /// The name that is next, if one is.
     pub(crate) fn name_if(&mut self) -> Result<Option<String>, Fault>
-        ensures reads { (room : _) → ReadsOne (λ n. IsOptionalName (text_if n)) MaybeName room self.old self.new result }
+        ensures reads { (room : _)
+            → ReadsOne (λ n. IsOptionalName (text_if n)) MaybeName room self.old self.new result }
         ensures shrinks { OnOk result (length self.new ≤ length self.old) }
     {
         let Some(name) = self.take_name() else {

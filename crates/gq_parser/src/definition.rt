@@ -11,7 +11,7 @@ use crate::fault::Fault;
 use crate::keyword::{Keyword, keyword_of};
 use crate::tree::{Fragment, Literal, Operation, OperationKind, VariableDefinition};
 use crate::value::Constness;
-use gq_lexer::{Located, Place, Punct};
+use gq_lexer::{LocatedText, Place, Punct};
 
 /// An operation or a fragment.
 #[derive(Drop)]
@@ -35,7 +35,8 @@ fn kind_of(keyword: Keyword) -> Option<OperationKind>
 impl Parser<'_> {
     /// The default of a variable, where an equals sign begins it.
     fn default_value(&mut self, room: u32) -> Result<Option<Literal>, Fault>
-        ensures reads { ReadsOne (λ d. IsDefault (default_of d)) MaybeDefault room self.old self.new result }
+        ensures reads { ReadsOne (λ d. IsDefault (default_of d))
+            MaybeDefault room self.old self.new result }
         ensures shrinks { OnOk result (length self.new ≤ length self.old) }
     {
         if !self.eat(Punct::Equals) {
@@ -45,7 +46,8 @@ impl Parser<'_> {
     }
 
     fn variable(&mut self, room: u32) -> Result<VariableDefinition, Fault>
-        ensures reads { Reads (λ v. IsVariable (variable_of v)) room (one FirstVariable) room (one MoreVariables) self.old self.new result }
+        ensures reads { Reads (λ v. IsVariable (variable_of v)) room
+            (one FirstVariable) room (one MoreVariables) self.old self.new result }
         ensures shrinks { OnOk result (length self.new < length self.old) }
     {
         let place = self.dollar()?;
@@ -65,7 +67,8 @@ impl Parser<'_> {
 
     /// The variables of an operation, where a parenthesis opens them.
     fn variables(&mut self, room: u32) -> Result<Vec<VariableDefinition>, Fault>
-        ensures reads { ReadsOne (λ vs. AreOptionalVariables (variables_of vs.items)) MaybeVariables room self.old self.new result }
+        ensures reads { ReadsOne (λ vs. AreOptionalVariables (variables_of vs.items))
+            MaybeVariables room self.old self.new result }
         ensures shrinks { OnOk result (length self.new ≤ length self.old) }
     {
         let mut variables = Vec::new(self.alloc);
@@ -89,7 +92,8 @@ impl Parser<'_> {
         kind: OperationKind,
         room: u32,
     ) -> Result<Operation, Fault>
-        ensures reads { Reads (IsOperationAfterKind place kind) room an_operation_then room [] self.old self.new result }
+        ensures reads { Reads (IsOperationAfterKind place kind) room
+            an_operation_then room [] self.old self.new result }
         ensures shrinks { OnOk result (length self.new ≤ length self.old) }
     {
         let name = self.name_if()?;
@@ -108,7 +112,8 @@ impl Parser<'_> {
 
     /// A fragment, whose first word was read.
     fn fragment(&mut self, place: Place, room: u32) -> Result<Fragment, Fault>
-        ensures reads { Reads (IsFragmentAfterWord place) room a_fragment_then room [] self.old self.new result }
+        ensures reads { Reads (IsFragmentAfterWord place) room
+            a_fragment_then room [] self.old self.new result }
         ensures shrinks { OnOk result (length self.new ≤ length self.old) }
     {
         let name = self.fragment_name()?;
@@ -127,7 +132,8 @@ impl Parser<'_> {
 
     /// An operation without a kind, whose brace was read.
     fn shorthand(&mut self, place: Place, room: u32) -> Result<Operation, Fault>
-        ensures reads { Reads (IsOperationAfterBrace place) room (one FirstSelection) (suc room) [] self.old self.new result }
+        ensures reads { Reads (IsOperationAfterBrace place) room
+            (one FirstSelection) (suc room) [] self.old self.new result }
         ensures shrinks { OnOk result (length self.new ≤ length self.old) }
     {
         let selection_set = self.selections(place, room)?;
@@ -145,7 +151,7 @@ impl Parser<'_> {
         ensures reads { ReadsOne IsDefinition ADefinition room self.old self.new result }
         ensures shrinks { OnOk result (length self.new < length self.old) }
     {
-        if let Some(Located { place, value: word }) = self.take_name() {
+        if let Some(LocatedText { place, value: word }) = self.take_name() {
             let keyword = keyword_of(word);
             if keyword == Keyword::Fragment {
                 return Ok(Definition::Fragment(self.fragment(place, room)?));
@@ -156,7 +162,7 @@ impl Parser<'_> {
             return Ok(Definition::Operation(self.operation(place, kind, room)?));
         }
         let Some(place) = self.take(Punct::BraceLeft) else {
-            return Err(self.unexpected());
+            return Err(self.fault_here());
         };
         if room == 0 {
             return Err(Fault::TooDeep(place));

@@ -1,4 +1,4 @@
-//! Why a text is no document.
+//! Faults: why a text is no document.
 
 ghost use Rattle.std.specs.Prelude.{◌≡◌};
 ghost use Rattle.gq_parser.specs.Fault.{place_of_parse_fault, lexed};
@@ -8,7 +8,7 @@ use gq_lexer::{LexFault, Place};
 use std::alloc::{AllocError, AllocFailed};
 use thiserror::Error;
 
-/// Why a text has no tree. It is displayed as the message that a client reads, without the place.
+/// Says why a text has no tree. It is displayed as the message that a client reads, without the place.
 ///
 /// A lexical fault comes first, wherever it is. Of the others the leftmost is returned; a token that is both
 /// unexpected and too deep is unexpected.
@@ -57,7 +57,7 @@ impl From<LexFault> for ParseFault {
     }
 }
 
-/// Why the tokens are no document. Where they end too early there is no place.
+/// Says why the tokens are no document. Where they end too early there is no place.
 #[derive(Clone, Copy, Debug, PartialEq, Eq)]
 pub(crate) enum Fault {
     Unexpected(Option<Place>),

@@ -1,4 +1,4 @@
-//! What holds of the grammar.
+//! Laws of the grammar.
 
 ghost use Rattle.std.specs.Prelude.{◌≡◌, List};
 ghost use Rattle.gq_parser.specs.Word.{Token};
@@ -7,5 +7,6 @@ ghost use Rattle.gq_parser.specs.Grammar.{IsDocument};
 
 /// A list of tokens has at most one tree.
 pub fn one_tree()
-    ensures { (tokens : List Token) (d e : trees.Document) → IsDocument d tokens → IsDocument e tokens → d ≡ e }
+    ensures { (tokens : List Token) (d e : trees.Document)
+        → IsDocument d tokens → IsDocument e tokens → d ≡ e }
 {}

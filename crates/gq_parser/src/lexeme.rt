@@ -1,4 +1,4 @@
-//! What a token says.
+//! Lexemes: what a token says.
 
 use gq_lexer::Punct;
 

@@ -20,7 +20,8 @@ const MAX_BRACKETS: u32 = 128;
 
 impl Document {
     fn add(&mut self, definition: Definition) -> Result<(), Fault>
-        ensures { MatchResult result (λ _. Adds definition self.old self.new) (λ f. f ≡ Fault.NoMemory) }
+        ensures { MatchResult result (λ _.
+            Adds definition self.old self.new) (λ f. f ≡ Fault.NoMemory) }
     {
         match definition {
             Definition::Operation(operation) => Ok(self.operations.push(operation)?),
@@ -31,8 +32,10 @@ impl Document {
 
 /// The document that the tokens are.
 fn document(mut parser: Parser) -> Result<Document, Fault>
-    ensures found { IfOk result (λ d. IsDocument (document_of d) parser.entry × IsShallow most_brackets parser.entry) }
-    ensures fails { IfErr result (λ f. Fails f (read most_brackets (one ADefinition) parser.entry)) }
+    ensures found { IfOk result (λ d.
+        IsDocument (document_of d) parser.entry × IsShallow most_brackets parser.entry) }
+    ensures fails { IfErr result (λ f.
+        Fails f (read most_brackets (one ADefinition) parser.entry)) }
 {
     let mut document = Document {
         operations: Vec::new(parser.alloc),
@@ -69,7 +72,7 @@ fn parse_fault_of(fault: Fault, text: &str) -> ParseFault
 /// of these is returned: a token that can't come next; the end of the text within a document; a bracket that is opened
 /// while 128 are open. [`ParseFault::NoMemory`] comes as soon as memory runs out, before any fault further on.
 pub fn parse(alloc: Global, text: &str) -> Result<Document, ParseFault>
-    // What is found is what the grammar says, and no bracket in it is opened while 128 are open.
+    // The document is what the grammar says, and no bracket in it is opened while 128 are open.
     ensures found { IfOk result (λ d. IsDocumentOf text.now (document_of d)) }
 
     // Such a document is found, and there is no other.

@@ -12,9 +12,9 @@ use crate::fault::Fault;
 use crate::keyword::{Keyword, keyword_of};
 use crate::tree::{Field, Inline, Selection, SelectionSet, Spread, TypeCondition};
 use crate::value::Constness;
-use gq_lexer::{Located, Place, Punct};
+use gq_lexer::{LocatedText, Place, Punct};
 
-/// What a field is called.
+/// Holds what a field is called.
 #[derive(Drop)]
 struct FieldName {
     alias: Option<String>,
@@ -22,9 +22,10 @@ struct FieldName {
 }
 
 impl Parser<'_> {
-    /// What a field is called, whose first name was read.
+    /// Returns what a field is called, whose first name was read.
     fn field_name(&mut self, first: String) -> Result<FieldName, Fault>
-        ensures reads { (room : _) (place : _) (k : keywords.Keyword) → ReadsOne (AreNamesAfterFirst place k first) AfterName room self.old self.new result }
+        ensures reads { (room : _) (place : _) (k : keywords.Keyword)
+            → ReadsOne (AreNamesAfterFirst place k first) AfterName room self.old self.new result }
         ensures shrinks { OnOk result (length self.new ≤ length self.old) }
     {
         if !self.eat(Punct::Colon) {
@@ -42,15 +43,16 @@ impl Parser<'_> {
 
     #[cycle(selection)]
     fn selection(&mut self, room: u32) -> Result<Selection, Fault>
-        ensures reads { Reads (λ s. IsSelection (selection_of s)) room (one FirstSelection) room (one MoreSelections) self.old self.new result }
+        ensures reads { Reads (λ s. IsSelection (selection_of s)) room
+            (one FirstSelection) room (one MoreSelections) self.old self.new result }
         ensures shrinks { OnOk result (length self.new < length self.old) }
     {
-        if let Some(Located { place, value }) = self.take_name() {
+        if let Some(LocatedText { place, value }) = self.take_name() {
             let first = String::from_str(self.alloc, value)?;
             return Ok(Selection::Field(self.field(place, first, room)?));
         }
         let Some(place) = self.take(Punct::Spread) else {
-            return Err(self.unexpected());
+            return Err(self.fault_here());
         };
         self.dots(place, room)
     }
@@ -58,7 +60,8 @@ impl Parser<'_> {
     /// A field, whose first name was read.
     #[cycle(selection)]
     fn field(&mut self, place: Place, first: String, room: u32) -> Result<Field, Fault>
-        ensures reads { (k : keywords.Keyword) → Reads (IsFieldAfterName place k first) room a_field_then room [] self.old self.new result }
+        ensures reads { (k : keywords.Keyword) → Reads (IsFieldAfterName place k first)
+            room a_field_then room [] self.old self.new result }
         ensures shrinks { OnOk result (length self.new ≤ length self.old) }
     {
         let FieldName { alias, name } = self.field_name(first)?;
@@ -78,7 +81,8 @@ impl Parser<'_> {
     /// A spread or an inline fragment, whose dots were read.
     #[cycle(selection)]
     fn dots(&mut self, place: Place, room: u32) -> Result<Selection, Fault>
-        ensures reads { ReadsOne (IsSelectionAfterDots place) AfterDots room self.old self.new result }
+        ensures reads { ReadsOne (IsSelectionAfterDots place)
+            AfterDots room self.old self.new result }
         ensures shrinks { OnOk result (length self.new ≤ length self.old) }
     {
         let Some(name) = self.take_name() else {
@@ -99,10 +103,11 @@ impl Parser<'_> {
 
     /// The type that a fragment is for.
     pub(crate) fn condition(&mut self) -> Result<TypeCondition, Fault>
-        ensures reads { (room : _) → ReadsOne (λ c. IsName c.place (string_bytes c.name)) AName room self.old self.new result }
+        ensures reads { (room : _) → ReadsOne (λ c.
+            IsName c.place (string_bytes c.name)) AName room self.old self.new result }
         ensures shrinks { OnOk result (length self.new < length self.old) }
     {
-        let Located { place, value: name } = self.name()?;
+        let LocatedText { place, value: name } = self.name()?;
         Ok(TypeCondition { place, name })
     }
 
@@ -114,7 +119,8 @@ impl Parser<'_> {
         condition: Option<TypeCondition>,
         room: u32,
     ) -> Result<Inline, Fault>
-        ensures reads { Reads (IsInlineAfterCondition place condition) room an_inline_then room [] self.old self.new result }
+        ensures reads { Reads (IsInlineAfterCondition place condition)
+            room an_inline_then room [] self.old self.new result }
         ensures shrinks { OnOk result (length self.new ≤ length self.old) }
     {
         let directives = self.directives(Constness::NotConst, room)?;
@@ -130,7 +136,8 @@ impl Parser<'_> {
     /// A selection set, where a brace opens it.
     #[cycle(selection)]
     fn maybe_set(&mut self, room: u32) -> Result<Option<SelectionSet>, Fault>
-        ensures reads { ReadsOne (λ s. IsOptionalSet (below_of s)) MaybeSet room self.old self.new result }
+        ensures reads { ReadsOne (λ s. IsOptionalSet (below_of s))
+            MaybeSet room self.old self.new result }
         ensures shrinks { OnOk result (length self.new ≤ length self.old) }
     {
         let Some(place) = self.take(Punct::BraceLeft) else {
@@ -145,11 +152,12 @@ impl Parser<'_> {
     /// A selection set.
     #[cycle(selection)]
     pub(crate) fn set(&mut self, room: u32) -> Result<SelectionSet, Fault>
-        ensures reads { ReadsOne (λ s. IsSelectionSet (set_of s)) ASet room self.old self.new result }
+        ensures reads { ReadsOne (λ s. IsSelectionSet (set_of s))
+            ASet room self.old self.new result }
         ensures shrinks { OnOk result (length self.new < length self.old) }
     {
         let Some(place) = self.take(Punct::BraceLeft) else {
-            return Err(self.unexpected());
+            return Err(self.fault_here());
         };
         if room == 0 {
             return Err(Fault::TooDeep(place));
@@ -160,7 +168,8 @@ impl Parser<'_> {
     /// A selection set whose brace was read.
     #[cycle(selection)]
     pub(crate) fn selections(&mut self, place: Place, room: u32) -> Result<SelectionSet, Fault>
-        ensures reads { Reads (IsSetAfterBrace place) room (one FirstSelection) (suc room) [] self.old self.new result }
+        ensures reads { Reads (IsSetAfterBrace place) room
+            (one FirstSelection) (suc room) [] self.old self.new result }
         ensures shrinks { OnOk result (length self.new < length self.old) }
     {
         let mut selections = Vec::with_capacity(self.alloc, 1)?;

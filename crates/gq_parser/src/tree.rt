@@ -9,13 +9,15 @@ ghost use Rattle.gq_parser.specs.Types.{named_of, named_place, is_non_null, is_l
 use gq_lexer::Place;
 
 /// A document: its operations and its fragments, each in the order of the text (section 2.2).
+///
+/// The places of the two lists give the order between them.
 #[derive(Debug, Drop)]
 pub struct Document {
     pub operations: Vec<Operation>,
     pub fragments: Vec<Fragment>,
 }
 
-/// What an operation does (section 2.3).
+/// Says what an operation does (section 2.3).
 #[derive(Clone, Copy, Debug, PartialEq, Eq)]
 pub enum OperationKind {
     Query,
@@ -66,7 +68,7 @@ pub struct VariableDefinition {
     pub directives: Vec<Directive>,
 }
 
-/// What is selected of an object, at least one selection (section 2.4).
+/// Holds what is selected of an object, at least one selection (section 2.4).
 #[derive(Debug, Drop)]
 #[cycle(selection)]
 pub struct SelectionSet {
@@ -146,7 +148,9 @@ pub struct Literal {
     pub value: Value,
 }
 
-/// What a literal says (section 2.9).
+/// Says what a literal says (section 2.9).
+///
+/// A string is held by its value and not by its spelling, and a number as it is written.
 #[derive(Debug, Drop)]
 #[cycle(literal)]
 pub enum Value {
@@ -173,26 +177,26 @@ pub enum TypeRef {
         /// The place of the name.
         place: Place,
         name: String,
-        /// Whether a `!` follows.
+        /// Tells whether a `!` follows.
         non_null: bool,
     },
     List {
         /// The place of the `[`.
         place: Place,
         item: Box<TypeRef>,
-        /// Whether a `!` follows the `]`.
+        /// Tells whether a `!` follows the `]`.
         non_null: bool,
     },
 }
 
 impl TypeRef {
     /// The name that its lists and `!`s are around.
-    pub fn named(&self) -> &str
+    pub fn innermost_name(&self) -> &str
         ensures { result.now ≡ named_of (type_of self.now) }
     {
         match self {
             TypeRef::Named { name, .. } => name.as_str(),
-            TypeRef::List { item, .. } => item.named(),
+            TypeRef::List { item, .. } => item.innermost_name(),
         }
     }
 
@@ -206,7 +210,7 @@ impl TypeRef {
         }
     }
 
-    /// Whether a `!` ends it.
+    /// Tells whether a `!` ends it.
     pub fn is_non_null(&self) -> bool
         ensures { result ≡ is_non_null (type_of self.now) }
     {

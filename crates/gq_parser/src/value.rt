@@ -13,17 +13,18 @@ use crate::fault::Fault;
 use crate::keyword::{Keyword, keyword_of};
 use crate::lexeme::Lexeme;
 use crate::tree::{Argument, Directive, Literal, TypeRef, Value};
-use gq_lexer::{Located, Place, Punct};
+use gq_lexer::{LocatedText, Place, Punct};
 use std::alloc::Global;
 
-/// Whether a value may have variables in it: where the grammar says `[Const]`, it has none (section 2.9).
+/// Tells whether a value may have variables in it: where the grammar says `[Const]`, it has none (section
+/// 2.9).
 #[derive(Clone, Copy, Debug, PartialEq, Eq)]
 pub enum Constness {
     Const,
     NotConst,
 }
 
-/// What a name says where a value is wanted.
+/// Returns what a name says where a value is wanted.
 fn named_value(alloc: Global, place: Place, name: &str) -> Result<Literal, Fault>
     ensures value { IfOk result (IsNamedValue place name.now) }
     ensures fault { IfErr result (λ f. f ≡ Fault.NoMemory) }
@@ -51,10 +52,11 @@ fn named_value(alloc: Global, place: Place, name: &str) -> Result<Literal, Fault
 impl Parser<'_> {
     #[cycle(value)]
     pub(crate) fn value(&mut self, constness: Constness, room: u32) -> Result<Literal, Fault>
-        ensures reads { ReadsOne (λ v. IsValue constness (literal_of v)) (AValue constness) room self.old self.new result }
+        ensures reads { ReadsOne (λ v. IsValue constness (literal_of v))
+            (AValue constness) room self.old self.new result }
         ensures shrinks { OnOk result (length self.new < length self.old) }
     {
-        let Located { place, value } = self.next()?;
+        let LocatedText { place, value } = self.next()?;
         match value {
             Lexeme::Int(number) => {
                 let text = String::from_str(self.alloc, number)?;
@@ -112,7 +114,8 @@ impl Parser<'_> {
     /// The values up to the bracket that closes them.
     #[cycle(value)]
     fn values(&mut self, constness: Constness, room: u32) -> Result<Vec<Literal>, Fault>
-        ensures reads { Reads (λ vs. AreValues constness (map_literals vs.items)) room (one (MoreValues constness)) (suc room) [] self.old self.new result }
+        ensures reads { Reads (λ vs. AreValues constness (map_literals vs.items))
+            room (one (MoreValues constness)) (suc room) [] self.old self.new result }
         ensures shrinks { OnOk result (length self.new < length self.old) }
     {
         let mut values = Vec::new(self.alloc);
@@ -125,7 +128,8 @@ impl Parser<'_> {
     /// The fields of an object up to the brace that closes them.
     #[cycle(value)]
     fn members(&mut self, constness: Constness, room: u32) -> Result<Vec<Argument>, Fault>
-        ensures reads { Reads (λ ms. AreMembers constness (map_members ms.items)) room (one (MoreMembers constness)) (suc room) [] self.old self.new result }
+        ensures reads { Reads (λ ms. AreMembers constness (map_members ms.items)) room
+            (one (MoreMembers constness)) (suc room) [] self.old self.new result }
         ensures shrinks { OnOk result (length self.new < length self.old) }
     {
         let mut members = Vec::new(self.alloc);
@@ -138,10 +142,11 @@ impl Parser<'_> {
     /// A name and its value.
     #[cycle(value)]
     fn argument(&mut self, constness: Constness, room: u32) -> Result<Argument, Fault>
-        ensures reads { Reads (λ a. IsArgument constness (argument_of a)) room (an_argument constness) room [] self.old self.new result }
+        ensures reads { Reads (λ a. IsArgument constness (argument_of a))
+            room (an_argument constness) room [] self.old self.new result }
         ensures shrinks { OnOk result (length self.new < length self.old) }
     {
-        let Located { place, value: name } = self.name()?;
+        let LocatedText { place, value: name } = self.name()?;
         self.colon()?;
         let value = self.value(constness, room)?;
         Ok(Argument { place, name, value })
@@ -153,7 +158,8 @@ impl Parser<'_> {
         constness: Constness,
         room: u32,
     ) -> Result<Vec<Argument>, Fault>
-        ensures reads { ReadsOne (λ args. AreOptionalArguments constness (arguments_of args.items)) (MaybeArguments constness) room self.old self.new result }
+        ensures reads { ReadsOne (λ args. AreOptionalArguments constness (arguments_of args.items))
+            (MaybeArguments constness) room self.old self.new result }
         ensures shrinks { OnOk result (length self.new ≤ length self.old) }
     {
         let mut arguments = Vec::new(self.alloc);
@@ -176,7 +182,8 @@ impl Parser<'_> {
         constness: Constness,
         room: u32,
     ) -> Result<Vec<Directive>, Fault>
-        ensures reads { ReadsOne (λ ds. AreDirectives constness (directives_of ds.items)) (MaybeDirectives constness) room self.old self.new result }
+        ensures reads { ReadsOne (λ ds. AreDirectives constness (directives_of ds.items))
+            (MaybeDirectives constness) room self.old self.new result }
         ensures shrinks { OnOk result (length self.new ≤ length self.old) }
     {
         let mut directives = Vec::new(self.alloc);
@@ -198,11 +205,11 @@ impl Parser<'_> {
         ensures reads { ReadsOne (λ t. IsType (type_of t)) AType room self.old self.new result }
         ensures shrinks { OnOk result (length self.new < length self.old) }
     {
-        if let Some(Located { place, value: name }) = self.take_name() {
+        if let Some(LocatedText { place, value: name }) = self.take_name() {
             return self.named_type(place, name);
         }
         let Some(place) = self.take(Punct::BracketLeft) else {
-            return Err(self.unexpected());
+            return Err(self.fault_here());
         };
         if room == 0 {
             return Err(Fault::TooDeep(place));
@@ -212,7 +219,8 @@ impl Parser<'_> {
 
     /// A type whose name was read.
     fn named_type(&mut self, place: Place, name: &str) -> Result<TypeRef, Fault>
-        ensures reads { (room : _) (k : keywords.Keyword) → ReadsOne (IsTypeAfterName place k name.now) MaybeBang room self.old self.new result }
+        ensures reads { (room : _) (k : keywords.Keyword)
+            → ReadsOne (IsTypeAfterName place k name.now) MaybeBang room self.old self.new result }
         ensures shrinks { OnOk result (length self.new ≤ length self.old) }
     {
         let name = String::from_str(self.alloc, name)?;
@@ -227,7 +235,8 @@ impl Parser<'_> {
     /// A list's type, whose bracket was read.
     #[cycle(type_ref)]
     fn list_type(&mut self, place: Place, room: u32) -> Result<TypeRef, Fault>
-        ensures reads { Reads (IsTypeAfterBracket place) room (AType ∷ ABracket ∷ one MaybeBang) (suc room) [] self.old self.new result }
+        ensures reads { Reads (IsTypeAfterBracket place) room
+            (AType ∷ ABracket ∷ one MaybeBang) (suc room) [] self.old self.new result }
         ensures shrinks { OnOk result (length self.new ≤ length self.old) }
     {
         let item = self.type_ref(room)?;

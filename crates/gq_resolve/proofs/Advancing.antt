@@ -1,4 +1,4 @@
--- How far an execution comes: what waits is what the plan still asks.
+-- Lemmas on how far an execution comes: what waits is what the plan still asks.
 use Rattle.std.proofs.Common.{◌≡◌, ℕ, ◌<◌, true, false, List, [], ◌∷◌, ◌++◌, Vec, Global, length, refl, sym, ap, subst, ◌∙◌, arith, append_assoc, append-nil, length-append, codes}
 use Rattle.std.specs.List.{flat_map}
 use Rattle.std.proofs.lemmas.Bool.{and_parts}
@@ -29,13 +29,13 @@ use Rattle.gq_resolve.specs.Suspended.{view_of, IsRooted, MayGoOn, load_of, load
 use Rattle.gq_resolve.specs.Walks.{Goes}
 use Rattle.gq_resolve.specs.Composing.{puts-more, within-rises, asks-narrow}
 use Rattle.gq_resolve.specs.Written.{is_plain, put_tokens, asks, put_asks, thinned, left_of, all_asks, AreWithin, IsWithin, IsWriting, Puts}
-use Rattle.gq_resolve.specs.declared.groups.Group.{Group}
-use Rattle.gq_resolve.specs.declared.groups.Member.{Member}
-use Rattle.gq_resolve.specs.declared.waiting.Blocked.{Blocked}
+use Rattle.gq_resolve.specs.declared.loading_fields.LoadingField.{LoadingField}
+use Rattle.gq_resolve.specs.declared.loading_fields.Member.{Member}
+use Rattle.gq_resolve.specs.declared.waiting.BlockedPosition.{BlockedPosition}
 use Rattle.gq_resolve.specs.declared.output.Output.{Output}
-use Rattle.gq_resolve.specs.declared.advance.Rooted.{Rooted}
-use Rattle.gq_resolve.specs.declared.advance.Walked.{Walked}
-use Rattle.gq_resolve.specs.declared.tour.Progress.{Progress}
+use Rattle.gq_resolve.specs.declared.advance.RootObject.{RootObject}
+use Rattle.gq_resolve.specs.declared.advance.FinishedWalk.{FinishedWalk}
+use Rattle.gq_resolve.specs.declared.walk.Progress.{Progress}
 use Rattle.gq_resolve.proofs.Grouping.{covers-view, makes-more}
 use Rattle.gq_resolve.proofs.Touring.{Putting, Below, Laws, goes-then, goes-as}
 use Rattle.gq_resolve.proofs.Putting.{puts_ask, puts_tokens, asks-puts, waits-puts, IsPlain, plain-puts}
@@ -43,15 +43,15 @@ use Rattle.gq_resolve.proofs.Putting.{puts_ask, puts_tokens, asks-puts, waits-pu
 -- ---- roots
 
 -- a root whose members were made of no groups
-pub begun-rooted : (plan : PlanOf) (r : Rooted) (old : List Group) → old ≡ [] → AreMade old r.groups.items (root_prepared plan) r.members.items → IsRooted plan r
+pub begun-rooted : (plan : PlanOf) (r : RootObject) (old : List LoadingField) → old ≡ [] → AreMade old r.groups.items (root_prepared plan) r.members.items → IsRooted plan r
 begun-rooted plan r old none made = record { root = made.makes plan; right = (made.grows plan).right (subst (AreRight plan) (sym none) (λ k g lt. absurd (omega (arith, lt)))) }
 
 -- a root whose groups have grown
-pub rooted-more : (plan : PlanOf) (r : Rooted) (gs : Vec Group Global) → Grows plan r.groups.items gs.items → IsRooted plan r → IsRooted plan (record { members = r.members; groups = gs })
+pub rooted-more : (plan : PlanOf) (r : RootObject) (gs : Vec LoadingField Global) → Grows plan r.groups.items gs.items → IsRooted plan r → IsRooted plan (record { members = r.members; groups = gs })
 rooted-more plan r gs grows is = record { root = makes-more plan r.groups.items gs.items r.members.items (root_prepared plan) grows is.root; right = grows.right is.right }
 
 -- the walk over the root object, which has no row
-pub over-root : {S : Type 0} {goes : Putting S} {below : Below S} {most : ℕ} (plan : PlanOf) (m : MemoryOf) (r : Rooted) (row : RowOf) (ms : List Member) (a b : Progress S) → a.groups ≡ r.groups → row ≡ [] → ms ≡ r.members.items → IsRooted plan r
+pub over-root : {S : Type 0} {goes : Putting S} {below : Below S} {most : ℕ} (plan : PlanOf) (m : MemoryOf) (r : RootObject) (row : RowOf) (ms : List Member) (a b : Progress S) → a.groups ≡ r.groups → row ≡ [] → ms ≡ r.members.items → IsRooted plan r
     → below (length r.groups.items) a.out → Goes goes below most plan (AreKnown (length a.groups.items) ms) (λ v. puts false (Under ObjectOf (members_seen plan.definitions v most_levels row ms)) (lookup m)) a b
     → GoesOver goes plan m a.out (record { rooted = record { members = r.members; groups = b.groups }; out = b.out })
 over-root {goes = goes} {below = below} plan m r row ms a b start none same rooted wait p =
@@ -69,12 +69,12 @@ over-root {goes = goes} {below = below} plan m r row ms a b start none same root
 -- ---- what is left
 
 -- the loads of positions are what they ask where nothing is answered
-loads-asked : (v : View) (bs : List Blocked) → all_asks v bs unanswered ≡ loads_of bs
+loads-asked : (v : View) (bs : List BlockedPosition) → all_asks v bs unanswered ≡ loads_of bs
 loads-asked v [] = refl
 loads-asked v (b ∷ bs) = ap (λ ls. load_of b ∷ ls) (loads-asked v bs)
 
 -- nothing waited, and what is put asks what the plan asks, over a larger memory too
-left-over : (plan : PlanOf) (m : MemoryOf) (r : Rooted) (ps : List Put) (a b : Output) → IsRooted plan r → a.blocked ≡ [] → Puts (view_of plan r.groups.items) ps a b
+left-over : (plan : PlanOf) (m : MemoryOf) (r : RootObject) (ps : List Put) (a b : Output) → IsRooted plan r → a.blocked ≡ [] → Puts (view_of plan r.groups.items) ps a b
     → ((Q : Reader) → AnswersMore (lookup m) Q → thinned [] (puts_ask Q ps) ≡ thinned [] (asks (plan_program plan) Q)) → thinned [] (puts_ask unanswered ps) ≡ thinned [] (asks (plan_program plan) (lookup m))
     → (IsWriting b → b.writer.tokens ≡ json_tokens (answered_json (completed (tree (plan_program plan) (lookup m))))) → Advanced plan m (record { rooted = r; out = b })
 left-over plan m r ps a b rooted none put later now written =
@@ -96,7 +96,7 @@ left-over plan m r ps a b rooted none put later now written =
 abbrev pub data_position : FieldPosition
 data_position = record { part = Key (codes "data"); non_null = false; place = record { line = 1; column = 1 } }
 
--- what is put of the whole answer
+-- gives what is put of the whole answer
 abbrev answer_puts : PlanOf → MemoryOf → List Put
 answer_puts plan m = Begins ObjectOf ∷ Enters ObjectOf data_position ∷ (puts false (plan_program plan) (lookup m) ++ Ends ObjectOf ∷ [])
 
@@ -117,7 +117,7 @@ answer-tokens plan m v a b none put writing =
     ∙ ap (λ ts. begin_object ∷ key (codes "data") ∷ (ts ++ end_object ∷ [])) here.tokens)
 
 -- the whole answer was put, one thing after another
-pub answer-written : (plan : PlanOf) (m : MemoryOf) (old : Rooted) (w : Walked Output) (a b c d : Output) → a.blocked ≡ [] → a.writer.tokens ≡ [] → ((v : View) → Puts v (Begins ObjectOf ∷ []) a b) → ((v : View) → Puts v (Enters ObjectOf data_position ∷ []) b c)
+pub answer-written : (plan : PlanOf) (m : MemoryOf) (old : RootObject) (w : FinishedWalk Output) (a b c d : Output) → a.blocked ≡ [] → a.writer.tokens ≡ [] → ((v : View) → Puts v (Begins ObjectOf ∷ []) a b) → ((v : View) → Puts v (Enters ObjectOf data_position ∷ []) b c)
     → (IsWithin (length old.groups.items) c → GoesOver Puts plan m c w) → ((v : View) → Puts v (Ends ObjectOf ∷ []) w.out d) → Advanced plan m (record { rooted = w.rooted; out = d })
 answer-written plan m old w a b c d none empty begun entered over ended =
     let v : View = view_of plan w.rooted.groups.items in
@@ -132,12 +132,12 @@ answer-written plan m old w a b c d none empty begun entered over ended =
 
 -- ---- positions that go on
 
--- what is put where positions go on
-abbrev pub resumed : View → Reader → List Blocked → List Put
-resumed v R bs = flat_map (λ (b : Blocked). puts false (left_of v b) R) bs
+-- gives what is put where positions go on
+abbrev pub resumed : View → Reader → List BlockedPosition → List Put
+resumed v R bs = flat_map (λ (b : BlockedPosition). puts false (left_of v b) R) bs
 
--- what all of it asks, by what each asks
-resumed-asked : (F : Program → List Load) (v : View) (R Q : Reader) (bs : List Blocked) → ((p : Program) → puts_ask Q (puts false p R) ≡ F p) → puts_ask Q (resumed v R bs) ≡ flat_map (λ (b : Blocked). F (left_of v b)) bs
+-- the loads that all positions ask for are those that each asks for
+resumed-asked : (F : Program → List Load) (v : View) (R Q : Reader) (bs : List BlockedPosition) → ((p : Program) → puts_ask Q (puts false p R) ≡ F p) → puts_ask Q (resumed v R bs) ≡ flat_map (λ (b : BlockedPosition). F (left_of v b)) bs
 resumed-asked F v R Q [] each = refl
 resumed-asked F v R Q (b ∷ bs) each =
     flat_map-append (put_asks Q) (puts false (left_of v b) R) (resumed v R bs)
@@ -148,13 +148,13 @@ output_laws : Laws Puts IsWithin
 output_laws = record { more = puts-more; rises = within-rises; stays = λ v ps a b p. p.within }
 
 -- the positions before the last of these went on
-pub record AreResumed (most : ℕ) (plan : PlanOf) (m : MemoryOf) (all left : List Blocked) (start now : Progress Output) : Type 0 where
-  pub before : List Blocked
+pub record AreResumed (most : ℕ) (plan : PlanOf) (m : MemoryOf) (all left : List BlockedPosition) (start now : Progress Output) : Type 0 where
+  pub before : List BlockedPosition
   pub split : all ≡ before ++ left
   pub goes : Goes Puts IsWithin most plan (AreWithin (length start.groups.items) all) (λ v. resumed v (lookup m) before) start now
 
 -- one more
-pub resumed-one : {most : ℕ} {plan : PlanOf} {m : MemoryOf} {all left after : List Blocked} {start now new : Progress Output} (b : Blocked) (key : KeyOf) → left ≡ b ∷ after → key ≡ key_of b.key
+pub resumed-one : {most : ℕ} {plan : PlanOf} {m : MemoryOf} {all left after : List BlockedPosition} {start now new : Progress Output} (b : BlockedPosition) (key : KeyOf) → left ≡ b ∷ after → key ≡ key_of b.key
     → Goes Puts IsWithin most plan (b.onward.group < length now.groups.items) (λ v. puts false (read_key b.loader key (v.after (onward_of b.onward))) (lookup m)) now new
     → AreResumed most plan m all left start now → AreResumed most plan m all after start new
 resumed-one {m = m} {all = all} {after = after} {start = start} {now = now} b asked next is here h =
@@ -162,7 +162,7 @@ resumed-one {m = m} {all = all} {after = after} {start = start} {now = now} b as
     let among : AreWithin (length start.groups.items) all → b.onward.group < length now.groups.items =
     λ within.
     let lt : b.onward.group < length start.groups.items =
-    subst (λ (x : Blocked). x.onward.group < length start.groups.items) (get_or-append_seam h.before b after b)
+    subst (λ (x : BlockedPosition). x.onward.group < length start.groups.items) (get_or-append_seam h.before b after b)
     (subst (AreWithin (length start.groups.items)) split within (length h.before) b (omega (arith, length-append h.before (b ∷ after)))) in
     omega (arith, lt, h.goes.grows.longer) in
     record {
@@ -170,11 +170,11 @@ resumed-one {m = m} {all = all} {after = after} {start = start} {now = now} b as
       split = split ∙ sym (append_assoc h.before (b ∷ []) after);
       goes = goes-as (goes-then output_laws among h.goes here)
           (λ k v cov. ap (λ (x : KeyOf). resumed v (lookup m) h.before ++ puts false (read_key b.loader x (v.after (onward_of b.onward))) (lookup m)) is
-          ∙ flat_map_more (λ (x : Blocked). puts false (left_of v x) (lookup m)) [] h.before b);
+          ∙ flat_map_more (λ (x : BlockedPosition). puts false (left_of v x) (lookup m)) [] h.before b);
     }
 
 -- all of them went on, and nothing was written
-pub all-resumed : {most : ℕ} {plan : PlanOf} {m : MemoryOf} {all left : List Blocked} {start now : Progress Output} (r : Rooted) → r.groups ≡ start.groups → start.out.blocked ≡ [] → start.out.is_plain ≡ false → left ≡ []
+pub all-resumed : {most : ℕ} {plan : PlanOf} {m : MemoryOf} {all left : List BlockedPosition} {start now : Progress Output} (r : RootObject) → r.groups ≡ start.groups → start.out.blocked ≡ [] → start.out.is_plain ≡ false → left ≡ []
     → AreResumed most plan m all left start now → MayGoOn plan m r all → Advanced plan m (record { rooted = record { members = r.members; groups = now.groups }; out = now.out })
 all-resumed {plan = plan} {m = m} {all = all} {start = start} {now = now} r same none blind ended h may =
     let v : View = view_of plan now.groups.items in

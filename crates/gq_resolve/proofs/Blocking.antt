@@ -10,10 +10,11 @@ use Rattle.load_memory.proofs.Looks.{same_key-is}
 use Rattle.execution.specs.Loads.{Load, Reader}
 use Rattle.gq_resolve.specs.Puts.{Waits, View, waiting}
 use Rattle.gq_resolve.specs.Positions.{onward_of}
-use Rattle.gq_resolve.specs.Noted.{is_onward, is_position, with_position}
+use Rattle.gq_resolve.specs.Noted.{is_onward, is_position, with_position, IsNoted}
 use Rattle.gq_resolve.specs.Written.{asks, thinned, left_of, all_asks, AreWithin, Puts}
 use Rattle.gq_resolve.specs.Composing.{thinned-append}
-use Rattle.gq_resolve.specs.declared.waiting.Blocked.{Blocked}
+use Rattle.gq_resolve.specs.declared.positions.Onward.{Onward}
+use Rattle.gq_resolve.specs.declared.waiting.BlockedPosition.{BlockedPosition}
 use Rattle.gq_resolve.specs.declared.output.Output.{Output}
 use Rattle.gq_resolve.proofs.Thinning.{noted-again}
 
@@ -24,7 +25,7 @@ later-same (Some n) None h = absurd (cc h)
 later-same None (Some m) h = absurd (cc h)
 
 -- positions that are the same go on alike
-alike : (v : View) (b x : Blocked) → is_position b x ≡ true → left_of v b ≡ left_of v x
+alike : (v : View) (b x : BlockedPosition) → is_position b x ≡ true → left_of v b ≡ left_of v x
 alike v b x h =
     let outer = and_parts (is_onward b.onward x.onward) _ h in
     let load = and_parts (b.loader == x.loader) _ outer.1 in
@@ -38,7 +39,7 @@ alike v b x h =
     rw (group, later, levels, loader, key) refl
 
 -- one that is there asks nothing more
-again : (v : View) (R : Reader) (b : Blocked) (bs : List Blocked) (noted : List Load) → list_any (is_position b) bs ≡ true → thinned (thinned noted (all_asks v bs R)) (asks (left_of v b) R) ≡ thinned noted (all_asks v bs R)
+again : (v : View) (R : Reader) (b : BlockedPosition) (bs : List BlockedPosition) (noted : List Load) → list_any (is_position b) bs ≡ true → thinned (thinned noted (all_asks v bs R)) (asks (left_of v b) R) ≡ thinned noted (all_asks v bs R)
 again v R b [] noted h = absurd (cc h)
 again v R b (x ∷ xs) noted h =
     let first : List Load = asks (left_of v x) R in
@@ -49,24 +50,32 @@ again v R b (x ∷ xs) noted h =
     ] in
     ap (λ ls. thinned ls (asks (left_of v b) R)) (thinned-append noted first others) ∙ step ∙ sym (thinned-append noted first others)
 
--- what is noted, and nothing else
-waits-noted : (v : View) (b : Blocked) (old new : Output) → b.onward.group < v.count → new.blocked ≡ with_position old.blocked b → Puts v (Waits (left_of v b) ∷ []) old new
+-- a position that is noted waits, and nothing else is put
+waits-noted : (v : View) (b : BlockedPosition) (old new : Output) → b.onward.group < v.count → new.blocked ≡ with_position old.blocked b → Puts v (Waits (left_of v b) ∷ []) old new
 waits-noted v b old new lt is = record {
-  first = noted (λ bs. (rest : List Blocked) × (bs ≡ ks ++ rest)) (λ e. ([], sym (append-nil ks))) (b ∷ [], refl);
-  within = λ h. noted (AreWithin v.count) (λ e. h) (All-push (λ (x : Blocked). x.onward.group < v.count) ks b h lt);
+  first = noted (λ bs. (rest : List BlockedPosition) × (bs ≡ ks ++ rest)) (λ e. ([], sym (append-nil ks))) (b ∷ [], refl);
+  within = λ h. noted (AreWithin v.count) (λ e. h) (All-push (λ (x : BlockedPosition). x.onward.group < v.count) ks b h lt);
   asked = λ R. noted (λ bs. thinned [] (all_asks v bs R) ≡ thinned (thinned [] (all_asks v ks R)) (asks (left_of v b) R ++ []))
       (λ e. sym (again v R b ks [] e) ∙ ap (thinned (thinned [] (all_asks v ks R))) (sym (append-nil (asks (left_of v b) R))))
-      (ap (thinned []) (sym (flat_map_more (λ (x : Blocked). asks (left_of v x) R) [] ks b)) ∙ thinned-append [] (all_asks v ks R) (asks (left_of v b) R)
+      (ap (thinned []) (sym (flat_map_more (λ (x : BlockedPosition). asks (left_of v x) R) [] ks b)) ∙ thinned-append [] (all_asks v ks R) (asks (left_of v b) R)
       ∙ ap (thinned (thinned [] (all_asks v ks R))) (sym (append-nil (asks (left_of v b) R))));
   written = λ w. absurd (noted (λ bs. bs ≡ [] → ⊥) (λ e none. let f : false ≡ true = sym (ap (list_any (is_position b)) none) ∙ e in cc f) (λ none. omega (arith, length-append ks (b ∷ []), ap length none)) w.whole);
 }
   where
-    ks : List Blocked
+    ks : List BlockedPosition
     ks = old.blocked
 
-    noted : (P : List Blocked → Type 0) → (list_any (is_position b) ks ≡ true → P ks) → P (ks ++ b ∷ []) → P new.blocked
+    noted : (P : List BlockedPosition → Type 0) → (list_any (is_position b) ks ≡ true → P ks) → P (ks ++ b ∷ []) → P new.blocked
     noted P here more = subst P (sym is) (cond_both (list_any (is_position b) ks) ks (ks ++ b ∷ []) P here (λ e. more))
 
--- a position that waits
-pub waits-put : (v : View) (b : Blocked) (key : KeyOf) (old new : Output) → b.onward.group < v.count → key_of b.key ≡ key → new.blocked ≡ with_position old.blocked b → Puts v (Waits (waiting v (onward_of b.onward) b.loader key) ∷ []) old new
+-- by its load
+waits-put : (v : View) (b : BlockedPosition) (key : KeyOf) (old new : Output) → b.onward.group < v.count → key_of b.key ≡ key → new.blocked ≡ with_position old.blocked b → Puts v (Waits (waiting v (onward_of b.onward) b.loader key) ∷ []) old new
 waits-put v b key old new lt same is = subst (λ (k : KeyOf). Puts v (Waits (waiting v (onward_of b.onward) b.loader k) ∷ []) old new) same (waits-noted v b old new lt is)
+
+-- a position that waits and was noted
+pub noted-put : (v : View) (onward : Onward) (loader : ℕ) (key : KeyOf) (old new : Output) → onward.group < v.count → IsNoted onward loader key old.blocked new.blocked
+    → Puts v (Waits (waiting v (onward_of onward) loader key) ∷ []) old new
+noted-put v onward loader key old new lt n =
+    subst (λ (o : Onward). Puts v (Waits (waiting v (onward_of o) loader key) ∷ []) old new) n.goes_on
+    (subst (λ (l : ℕ). Puts v (Waits (waiting v (onward_of n.position.onward) l key) ∷ []) old new) n.loads.0
+    (waits-put v n.position key old new (subst (λ (o : Onward). o.group < v.count) (sym n.goes_on) lt) n.loads.1 n.noted))

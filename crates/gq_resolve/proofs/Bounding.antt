@@ -1,4 +1,4 @@
--- What a bounded builder keeps, as things are put and counted.
+-- Lemmas on what a bounded builder keeps, as things are put and counted.
 use Rattle.std.proofs.Common.{◌≡◌, ◌≤◌, ◌<◌, ◌+◌, ◌-◌, ◌^◌, min, ℕ, suc, Bool, true, false, if◌then◌else◌, List, [], ◌∷◌, ◌++◌, length, get_or, set, take, refl, sym, ap, subst, ◌∙◌, arith, length-append}
 use Rattle.std.specs.Prelude.{reverse}
 use Rattle.std.proofs.lemmas.List.{reverse-append, set_split, drop_all, take_more, take_all}
@@ -9,7 +9,7 @@ use Rattle.execution.specs.Executed.{completed}
 use Rattle.gq_resolve.specs.Answered.{is_null_response, answer_text}
 use Rattle.gq_resolve.specs.Built.{LevelOf, BuiltOf, path_in, count_of, step_in, put_part, level_with, placed_in, placed, with_errors, level_response, begun, ended_in, nothing_built, IsWhole}
 use Rattle.gq_resolve.specs.Bounded.{bytes_in, AreFew, part_size, size_of, sizes_of, errors_size, key_size, levels_without, without_last_parts, without_errors, is_pulled, KeepsLevel, KeepLevels, KeepsRest, Keeps, IsSure}
-use Rattle.gq_resolve.specs.declared.bounded.Least.{Least}
+use Rattle.gq_resolve.specs.declared.bounded.LeastBytes.{LeastBytes}
 use Rattle.gq_resolve.proofs.BuildingTrees.{no-levels, answer-parts}
 use Rattle.gq_resolve.proofs.Sizes.{answer-sure}
 
@@ -28,15 +28,15 @@ errors-append : (es fs : List ErrorOf) → errors_size (es ++ fs) ≡ errors_siz
 errors-append [] fs = omega arith
 errors-append (e ∷ es) fs = omega (arith, errors-append es fs)
 
--- so many are sure now, with what was put
-pub record AreCounted (key size : ℕ) (old new : Least) : Type 0 where
+-- the bytes of what was put are sure now: `size`, and `key` of its key
+pub record AreCounted (key size : ℕ) (old new : LeastBytes) : Type 0 where
   pub same_key : new.key ≡ old.key
   pub same_around : new.around ≡ old.around
   pub covers : (most : ℕ) → AreFew most (new.around + new.parts) → AreFew most (old.around + old.parts + size)
   pub least : new.parts ≤ old.parts + (key + size)
   pub fits : new.parts < 2 ^ 64
 
-pub counted-sum : (key size : ℕ) (old new : Least) → new.key ≡ old.key → new.around ≡ old.around → new.parts ≡ min (old.parts + min (key + size) (2 ^ 64 - 1)) (2 ^ 64 - 1) → AreCounted key size old new
+pub counted-sum : (key size : ℕ) (old new : LeastBytes) → new.key ≡ old.key → new.around ≡ old.around → new.parts ≡ min (old.parts + min (key + size) (2 ^ 64 - 1)) (2 ^ 64 - 1) → AreCounted key size old new
 counted-sum key size old new same around e = record { same_key = same; same_around = around; covers = λ most le. omega (arith, e, around, le); least = omega (arith, e); fits = omega (arith, e) }
 
 -- ---- one put
@@ -44,7 +44,7 @@ counted-sum key size old new same around e = record { same_key = same; same_arou
 rest-placed : (most : ℕ) (all kept : BuiltOf) (l k : LevelOf) (ls ks : List LevelOf) (r got : ResponseOf) (top errors : ℕ) → KeepsRest most all kept top errors → KeepsRest most (placed_in (l ∷ ls) r all) (placed_in (k ∷ ks) got kept) top errors
 rest-placed most all kept l k ls ks r got top errors h = record { position = refl; top_least = h.top_least; top_whole = h.top_whole; errors_least = h.errors_least; errors_fit = h.errors_fit; errors_whole = h.errors_whole }
 
-level-counted : (most : ℕ) (ls : List LevelOf) (all kept : BuiltOf) (l k : LevelOf) (r got : ResponseOf) (key size : ℕ) (n m : Least) (ns : List Least) → kept.position ≡ all.position → KeepsLevel most ls l k n ns → IsSure most (n.around + n.parts) (l ∷ ls) all.position.part r got key size → AreCounted key size n m
+level-counted : (most : ℕ) (ls : List LevelOf) (all kept : BuiltOf) (l k : LevelOf) (r got : ResponseOf) (key size : ℕ) (n m : LeastBytes) (ns : List LeastBytes) → kept.position ≡ all.position → KeepsLevel most ls l k n ns → IsSure most (n.around + n.parts) (l ∷ ls) all.position.part r got key size → AreCounted key size n m
     → KeepsLevel most ls (level_with all.position r l) (level_with kept.position got k) m ns
 level-counted most ls all kept l k r got key size n m ns position h sure c =
     let part : Part = step_in l.kind (count_of l.parts) all.position.part in
@@ -63,7 +63,7 @@ level-counted most ls all kept l k r got key size n m ns position h sure c =
           rw (parts, h.kind, position, same) refl;
     }
 
-pub placed-inside : (most : ℕ) (all kept : BuiltOf) (als kls : List LevelOf) (r got : ResponseOf) (key size : ℕ) (n m : Least) (ns : List Least) (top errors : ℕ) → KeepLevels most als kls (n ∷ ns) → KeepsRest most all kept top errors → IsSure most (bytes_in (n ∷ ns)) als all.position.part r got key size → AreCounted key size n m
+pub placed-inside : (most : ℕ) (all kept : BuiltOf) (als kls : List LevelOf) (r got : ResponseOf) (key size : ℕ) (n m : LeastBytes) (ns : List LeastBytes) (top errors : ℕ) → KeepLevels most als kls (n ∷ ns) → KeepsRest most all kept top errors → IsSure most (bytes_in (n ∷ ns)) als all.position.part r got key size → AreCounted key size n m
     → Keeps most (placed_in als r all) (placed_in kls got kept) (m ∷ ns) top errors
 placed-inside most all kept [] [] r got key size n m ns top errors h rest sure c = absurd h
 placed-inside most all kept [] (k ∷ ks) r got key size n m ns top errors h rest sure c = absurd h
@@ -85,7 +85,7 @@ placed-root most all kept (l ∷ ls) (k ∷ ks) r got key size top errors h rest
 
 -- ---- what is dropped
 
-dropped-levels : (most : ℕ) (als kls : List LevelOf) (m : Least) (ns : List Least) → most < min (m.around + m.parts) (2 ^ 64 - 1) → KeepLevels most als kls (m ∷ ns) → KeepLevels most als (levels_without kls) (m ∷ ns)
+dropped-levels : (most : ℕ) (als kls : List LevelOf) (m : LeastBytes) (ns : List LeastBytes) → most < min (m.around + m.parts) (2 ^ 64 - 1) → KeepLevels most als kls (m ∷ ns) → KeepLevels most als (levels_without kls) (m ∷ ns)
 dropped-levels most [] [] m ns over h = absurd h
 dropped-levels most [] (k ∷ ks) m ns over h = absurd h
 dropped-levels most (l ∷ ls) [] m ns over h = absurd h
@@ -103,7 +103,7 @@ dropped-levels most (l ∷ ls) (k ∷ ks) m ns over h = (
   h.1,
 )
 
-pub parts-dropped : (most : ℕ) (all kept : BuiltOf) (m : Least) (ns : List Least) (top errors : ℕ) → most < min (m.around + m.parts) (2 ^ 64 - 1) → Keeps most all kept (m ∷ ns) top errors → Keeps most all (without_last_parts kept) (m ∷ ns) top errors
+pub parts-dropped : (most : ℕ) (all kept : BuiltOf) (m : LeastBytes) (ns : List LeastBytes) (top errors : ℕ) → most < min (m.around + m.parts) (2 ^ 64 - 1) → Keeps most all kept (m ∷ ns) top errors → Keeps most all (without_last_parts kept) (m ∷ ns) top errors
 parts-dropped most all kept m ns top errors over h = record {
   levels = dropped-levels most all.levels kept.levels m ns over h.levels;
   rest = record { position = h.rest.position; top_least = h.rest.top_least; top_whole = h.rest.top_whole; errors_least = h.rest.errors_least; errors_fit = h.rest.errors_fit; errors_whole = h.rest.errors_whole };
@@ -116,7 +116,7 @@ pub placed-with : (ls : List LevelOf) (r : ResponseOf) (b : BuiltOf) (es : List 
 placed-with [] r b es = refl
 placed-with (l ∷ ls) r b es = refl
 
-pub errors-counted : (most : ℕ) (all kept : BuiltOf) (es : List ErrorOf) (ns : List Least) (top old new added : ℕ) → added ≤ errors_size es → new ≡ min (old + added) (2 ^ 64 - 1) → Keeps most all kept ns top old → Keeps most (with_errors es all) (with_errors es kept) ns top new
+pub errors-counted : (most : ℕ) (all kept : BuiltOf) (es : List ErrorOf) (ns : List LeastBytes) (top old new added : ℕ) → added ≤ errors_size es → new ≡ min (old + added) (2 ^ 64 - 1) → Keeps most all kept ns top old → Keeps most (with_errors es all) (with_errors es kept) ns top new
 errors-counted most all kept es ns top old new added sure sum h = record {
   levels = h.levels;
   rest = record {
@@ -129,7 +129,7 @@ errors-counted most all kept es ns top old new added sure sum h = record {
   };
 }
 
-pub errors-dropped : (most : ℕ) (all kept : BuiltOf) (ns : List Least) (top errors : ℕ) → most < errors → Keeps most all kept ns top errors → Keeps most all (without_errors kept) ns top errors
+pub errors-dropped : (most : ℕ) (all kept : BuiltOf) (ns : List LeastBytes) (top errors : ℕ) → most < errors → Keeps most all kept ns top errors → Keeps most all (without_errors kept) ns top errors
 errors-dropped most all kept ns top errors over h = record {
   levels = h.levels;
   rest = record {
@@ -144,7 +144,7 @@ errors-dropped most all kept ns top errors over h = record {
 
 -- ---- own values
 
-kept-path : (most : ℕ) (als kls : List LevelOf) (ns : List Least) (part : Part) → KeepLevels most als kls ns → path_in kls part ≡ path_in als part
+kept-path : (most : ℕ) (als kls : List LevelOf) (ns : List LeastBytes) (part : Part) → KeepLevels most als kls ns → path_in kls part ≡ path_in als part
 kept-path most [] [] [] part h = refl
 kept-path most [] [] (n ∷ ns) part h = absurd h
 kept-path most [] (k ∷ ks) ns part h = absurd h
@@ -152,7 +152,7 @@ kept-path most (l ∷ ls) [] ns part h = absurd h
 kept-path most (l ∷ ls) (k ∷ ks) [] part h = absurd h
 kept-path most (l ∷ ls) (k ∷ ks) (n ∷ ns) part h = ap (λ (path : List Part). path ++ part ∷ []) (ap (λ (s : FieldPosition). path_in ks s.part) h.0.position ∙ kept-path most ls ks ns l.position.part h.1)
 
-path-depth : (most : ℕ) (als kls : List LevelOf) (ns : List Least) (part : Part) → KeepLevels most als kls ns → length ns ≡ length (path_in als part)
+path-depth : (most : ℕ) (als kls : List LevelOf) (ns : List LeastBytes) (part : Part) → KeepLevels most als kls ns → length ns ≡ length (path_in als part)
 path-depth most [] [] [] part h = refl
 path-depth most [] [] (n ∷ ns) part h = absurd h
 path-depth most [] (k ∷ ks) ns part h = absurd h
@@ -160,7 +160,7 @@ path-depth most (l ∷ ls) [] ns part h = absurd h
 path-depth most (l ∷ ls) (k ∷ ks) [] part h = absurd h
 path-depth most (l ∷ ls) (k ∷ ks) (n ∷ ns) part h = omega (arith, length-append (path_in ls l.position.part) (part ∷ []), path-depth most ls ks ns l.position.part h.1)
 
-kept-key : (most : ℕ) (als kls : List LevelOf) (ns : List Least) (part : Part) → KeepLevels most als kls ns → key_size kls part ≡ key_size als part
+kept-key : (most : ℕ) (als kls : List LevelOf) (ns : List LeastBytes) (part : Part) → KeepLevels most als kls ns → key_size kls part ≡ key_size als part
 kept-key most [] [] ns part h = refl
 kept-key most [] (k ∷ ks) ns part h = absurd h
 kept-key most (l ∷ ls) [] ns part h = absurd h
@@ -168,16 +168,16 @@ kept-key most (l ∷ ls) (k ∷ ks) [] part h = absurd h
 kept-key most (l ∷ ls) (k ∷ ks) (n ∷ ns) part h = ap (λ (kind : Kind). part_size kind part) h.0.kind
 
 -- the errors of an own value are those at its position
-pub errors-same : (non_null : Bool) (leaf_value : LeafValue) (most : ℕ) (all kept : BuiltOf) (ns : List Least) (top errors : ℕ) → Keeps most all kept ns top errors
+pub errors-same : (non_null : Bool) (leaf_value : LeafValue) (most : ℕ) (all kept : BuiltOf) (ns : List LeastBytes) (top errors : ℕ) → Keeps most all kept ns top errors
     → own_errors non_null kept.position.place (path_in kept.levels kept.position.part) (At leaf_value) ≡ own_errors non_null all.position.place (path_in all.levels all.position.part) (At leaf_value)
 errors-same non_null leaf_value most all kept ns top errors h =
     ap (λ (s : FieldPosition). own_errors non_null s.place (path_in kept.levels s.part) (At leaf_value)) h.rest.position
     ∙ ap (λ (path : List Part). own_errors non_null all.position.place path (At leaf_value)) (kept-path most all.levels kept.levels ns all.position.part h.levels)
 
-pub depth-below : (most : ℕ) (all kept : BuiltOf) (ns : List Least) (top errors depth : ℕ) → Keeps most all kept ns top errors → depth ≡ length ns → depth ≤ length (path_in all.levels all.position.part)
+pub depth-below : (most : ℕ) (all kept : BuiltOf) (ns : List LeastBytes) (top errors depth : ℕ) → Keeps most all kept ns top errors → depth ≡ length ns → depth ≤ length (path_in all.levels all.position.part)
 depth-below most all kept ns top errors depth h e = omega (arith, e, path-depth most all.levels kept.levels ns all.position.part h.levels)
 
-pub key-sure : (most : ℕ) (all kept : BuiltOf) (ns : List Least) (top errors : ℕ) → Keeps most all kept ns top errors → key_size kept.levels kept.position.part ≡ key_size all.levels all.position.part
+pub key-sure : (most : ℕ) (all kept : BuiltOf) (ns : List LeastBytes) (top errors : ℕ) → Keeps most all kept ns top errors → key_size kept.levels kept.position.part ≡ key_size all.levels all.position.part
 key-sure most all kept ns top errors h = ap (λ (s : FieldPosition). key_size kept.levels s.part) h.rest.position ∙ kept-key most all.levels kept.levels ns all.position.part h.levels
 
 pub leaf_value-sure : (most before : ℕ) (around : List LevelOf) (part : Part) (r : ResponseOf) (key size : ℕ) → key ≤ key_size around part → size ≤ size_of r → IsSure most before around part r r key size
@@ -185,14 +185,14 @@ leaf_value-sure most before around part r key size k s = record { null = refl; k
 
 -- ---- objects and lists
 
-pub begun-kept : (most : ℕ) (all kept : BuiltOf) (kind : Kind) (n : Least) (ns : List Least) (top errors : ℕ) → Keeps most all kept ns top errors → n.key ≤ key_size all.levels all.position.part → n.around ≤ bytes_in ns → n.parts ≡ 0 → Keeps most (begun kind all) (begun kind kept) (n ∷ ns) top errors
+pub begun-kept : (most : ℕ) (all kept : BuiltOf) (kind : Kind) (n : LeastBytes) (ns : List LeastBytes) (top errors : ℕ) → Keeps most all kept ns top errors → n.key ≤ key_size all.levels all.position.part → n.around ≤ bytes_in ns → n.parts ≡ 0 → Keeps most (begun kind all) (begun kind kept) (n ∷ ns) top errors
 begun-kept most all kept kind n ns top errors h key inside none = record {
   levels = (record { position = h.rest.position; kind = refl; pulled = refl; key = key; parts = omega (arith, none); fits = omega (arith, none); inside = inside; whole = λ le. refl }, h.levels);
   rest = record { position = refl; top_least = h.rest.top_least; top_whole = h.rest.top_whole; errors_least = h.rest.errors_least; errors_fit = h.rest.errors_fit; errors_whole = h.rest.errors_whole };
 }
 
--- what was begun last has ended, and is put at its position
-pub record HasEnded (most : ℕ) (all kept : BuiltOf) (ns : List Least) (top errors key size : ℕ) : Type 0 where
+-- the value that was begun last has ended, and is put at its position
+pub record HasEnded (most : ℕ) (all kept : BuiltOf) (ns : List LeastBytes) (top errors key size : ℕ) : Type 0 where
   pub outer : BuiltOf
   pub inner : BuiltOf
   pub r : ResponseOf
@@ -215,7 +215,7 @@ ended-whole : (b : Bool) (kind : Kind) (rs gs : ResponsesOf) (most before around
 ended-whole true kind rs gs most before around parts size in_it lt e h le = refl
 ended-whole false kind rs gs most before around parts size in_it lt e h le = ap (Holding kind) (h (omega (arith, in_it, lt, e, le)))
 
-ended-inside : (most : ℕ) (all kept : BuiltOf) (als kls : List LevelOf) (n : Least) (ns : List Least) (top errors key size : ℕ) → KeepLevels most als kls (n ∷ ns) → KeepsRest most all kept top errors → key ≡ n.key → size ≡ (if is_pulled kls then 1 else min (n.parts + 1) (2 ^ 64 - 1))
+ended-inside : (most : ℕ) (all kept : BuiltOf) (als kls : List LevelOf) (n : LeastBytes) (ns : List LeastBytes) (top errors key size : ℕ) → KeepLevels most als kls (n ∷ ns) → KeepsRest most all kept top errors → key ≡ n.key → size ≡ (if is_pulled kls then 1 else min (n.parts + 1) (2 ^ 64 - 1))
     → (outer : BuiltOf) × (inner : BuiltOf) × (r : ResponseOf) × (got : ResponseOf) × (ended_in als all ≡ placed r outer) × (ended_in kls kept ≡ placed got inner) × Keeps most outer inner ns top errors × IsSure most (bytes_in ns) outer.levels outer.position.part r got key size
 ended-inside most all kept [] [] n ns top errors key size h rest k s = absurd h
 ended-inside most all kept [] (y ∷ ys) n ns top errors key size h rest k s = absurd h
@@ -242,7 +242,7 @@ ended-inside most all kept (l ∷ ls) (y ∷ ys) n ns top errors key size h rest
       },
     )
 
-pub ended-kept : (most : ℕ) (all kept : BuiltOf) (n : Least) (ns : List Least) (top errors key size : ℕ) → Keeps most all kept (n ∷ ns) top errors → key ≡ n.key → size ≡ (if is_pulled kept.levels then 1 else min (n.parts + 1) (2 ^ 64 - 1))
+pub ended-kept : (most : ℕ) (all kept : BuiltOf) (n : LeastBytes) (ns : List LeastBytes) (top errors key size : ℕ) → Keeps most all kept (n ∷ ns) top errors → key ≡ n.key → size ≡ (if is_pulled kept.levels then 1 else min (n.parts + 1) (2 ^ 64 - 1))
     → HasEnded most all kept ns top errors key size
 ended-kept most all kept n ns top errors key size h k s =
     let x = ended-inside most all kept all.levels kept.levels n ns top errors key size h.levels h.rest k s in
@@ -268,12 +268,12 @@ nothing-ended most all kept top errors h =
 
 -- ---- the end
 
-none-kept : (most : ℕ) (kls : List LevelOf) (ns : List Least) → KeepLevels most [] kls ns → kls ≡ []
+none-kept : (most : ℕ) (kls : List LevelOf) (ns : List LeastBytes) → KeepLevels most [] kls ns → kls ≡ []
 none-kept most [] ns h = refl
 none-kept most (k ∷ ks) ns h = absurd h
 
 -- within the limit all is kept
-pub whole-kept : (most : ℕ) (all kept : BuiltOf) (ns : List Least) (top errors : ℕ) (p : Program) (R : Reader) → Keeps most all kept ns top errors → IsWhole all p R → top ≤ most → errors ≤ most → IsWhole kept p R
+pub whole-kept : (most : ℕ) (all kept : BuiltOf) (ns : List LeastBytes) (top errors : ℕ) (p : Program) (R : Reader) → Keeps most all kept ns top errors → IsWhole all p R → top ≤ most → errors ≤ most → IsWhole kept p R
 whole-kept most all kept ns top errors p R h w t e =
     let none : all.levels ≡ [] = no-levels all p R w in
     let none' : kept.levels ≡ [] = none-kept most kept.levels ns (subst (λ (ls : List LevelOf). KeepLevels most ls kept.levels ns) none h.levels) in
@@ -283,13 +283,13 @@ whole-kept most all kept ns top errors p R h w t e =
     subst (λ (b : BuiltOf). IsWhole b p R) (sym same) w
 
 -- past it the text is too long
-pub top-over : (most : ℕ) (all kept : BuiltOf) (ns : List Least) (top errors : ℕ) (p : Program) (R : Reader) → Keeps most all kept ns top errors → IsWhole all p R → most < top → most < length (answer_text (completed (tree p R)))
+pub top-over : (most : ℕ) (all kept : BuiltOf) (ns : List LeastBytes) (top errors : ℕ) (p : Program) (R : Reader) → Keeps most all kept ns top errors → IsWhole all p R → most < top → most < length (answer_text (completed (tree p R)))
 top-over most all kept ns top errors p R h w over =
     let parts = answer-parts all p R w in
     let le : top ≤ size_of (completed (tree p R)).response = subst (λ (r : ResponseOf). top ≤ size_of r) parts.0 h.rest.top_least in
     omega (arith, over, le, answer-sure (completed (tree p R)))
 
-pub errors-over : (most : ℕ) (all kept : BuiltOf) (ns : List Least) (top errors : ℕ) (p : Program) (R : Reader) → Keeps most all kept ns top errors → IsWhole all p R → most < errors → most < length (answer_text (completed (tree p R)))
+pub errors-over : (most : ℕ) (all kept : BuiltOf) (ns : List LeastBytes) (top errors : ℕ) (p : Program) (R : Reader) → Keeps most all kept ns top errors → IsWhole all p R → most < errors → most < length (answer_text (completed (tree p R)))
 errors-over most all kept ns top errors p R h w over =
     let parts = answer-parts all p R w in
     let le : errors ≤ errors_size (completed (tree p R)).errors = subst (λ (es : List ErrorOf). errors ≤ errors_size es) parts.1 h.rest.errors_least in
@@ -297,40 +297,40 @@ errors-over most all kept ns top errors p R h w over =
 
 -- ---- counters in a list
 
-pub pushed : (ns : List Least) (n : Least) → reverse (ns ++ n ∷ []) ≡ n ∷ reverse ns
+pub pushed : (ns : List LeastBytes) (n : LeastBytes) → reverse (ns ++ n ∷ []) ≡ n ∷ reverse ns
 pushed ns n = reverse-append ns (n ∷ [])
 
 -- the last of some is replaced
-pub replaced : (ns : List Least) (i : ℕ) (old new : Least) → i + 1 ≡ length ns → old ≡ get_or ns i old → (around : List Least) × ((reverse ns ≡ old ∷ around) × (reverse (set ns i new) ≡ new ∷ around))
+pub replaced : (ns : List LeastBytes) (i : ℕ) (old new : LeastBytes) → i + 1 ≡ length ns → old ≡ get_or ns i old → (around : List LeastBytes) × ((reverse ns ≡ old ∷ around) × (reverse (set ns i new) ≡ new ∷ around))
 replaced ns i old new last at =
     let less : i < length ns = omega (arith, last) in
-    let front : List Least = take i ns in
-    let split : ns ≡ front ++ old ∷ [] = sym (take_all (i + 1) ns (omega (arith, last))) ∙ take_more ns i old less ∙ ap (λ (x : Least). front ++ x ∷ []) (sym at) in
-    let changed : set ns i new ≡ front ++ new ∷ [] = set_split ns i new less ∙ ap (λ (xs : List Least). front ++ new ∷ xs) (drop_all (suc i) ns (omega (arith, last))) in
+    let front : List LeastBytes = take i ns in
+    let split : ns ≡ front ++ old ∷ [] = sym (take_all (i + 1) ns (omega (arith, last))) ∙ take_more ns i old less ∙ ap (λ (x : LeastBytes). front ++ x ∷ []) (sym at) in
+    let changed : set ns i new ≡ front ++ new ∷ [] = set_split ns i new less ∙ ap (λ (xs : List LeastBytes). front ++ new ∷ xs) (drop_all (suc i) ns (omega (arith, last))) in
     (reverse front, (ap reverse split ∙ pushed front old, ap reverse changed ∙ pushed front new))
 
--- what was put is counted at what was begun last, and its parts may be dropped
-pub count-kept : (most : ℕ) (all kept b : BuiltOf) (r got : ResponseOf) (key size : ℕ) (ns : List Least) (i : ℕ) (old new : Least) (top errors : ℕ) → Keeps most all kept (reverse ns) top errors → IsSure most (bytes_in (reverse ns)) all.levels all.position.part r got key size
+-- a value that was put is counted at what was begun last, and its parts may be dropped
+pub count-kept : (most : ℕ) (all kept b : BuiltOf) (r got : ResponseOf) (key size : ℕ) (ns : List LeastBytes) (i : ℕ) (old new : LeastBytes) (top errors : ℕ) → Keeps most all kept (reverse ns) top errors → IsSure most (bytes_in (reverse ns)) all.levels all.position.part r got key size
     → i + 1 ≡ length ns → old ≡ get_or ns i old → new.key ≡ old.key → new.around ≡ old.around → new.parts ≡ min (old.parts + min (key + size) (2 ^ 64 - 1)) (2 ^ 64 - 1) → b ≡ placed got kept → Keeps most (placed r all) b (reverse (set ns i new)) top errors
 count-kept most all kept b r got key size ns i old new top errors h sure last at same in_it sum e =
     let around = replaced ns i old new last at in
-    let was : Keeps most all kept (old ∷ around.0) top errors = subst (λ (xs : List Least). Keeps most all kept xs top errors) around.1.0 h in
-    let now : Keeps most (placed r all) (placed got kept) (new ∷ around.0) top errors = placed-inside most all kept all.levels kept.levels r got key size old new around.0 top errors was.levels was.rest (subst (λ (xs : List Least). IsSure most (bytes_in xs) all.levels all.position.part r got key size) around.1.0 sure) (counted-sum key size old new same in_it sum) in
-    subst (λ (x : BuiltOf). Keeps most (placed r all) x (reverse (set ns i new)) top errors) (sym e) (subst (λ (xs : List Least). Keeps most (placed r all) (placed got kept) xs top errors) (sym around.1.1) now)
+    let was : Keeps most all kept (old ∷ around.0) top errors = subst (λ (xs : List LeastBytes). Keeps most all kept xs top errors) around.1.0 h in
+    let now : Keeps most (placed r all) (placed got kept) (new ∷ around.0) top errors = placed-inside most all kept all.levels kept.levels r got key size old new around.0 top errors was.levels was.rest (subst (λ (xs : List LeastBytes). IsSure most (bytes_in xs) all.levels all.position.part r got key size) around.1.0 sure) (counted-sum key size old new same in_it sum) in
+    subst (λ (x : BuiltOf). Keeps most (placed r all) x (reverse (set ns i new)) top errors) (sym e) (subst (λ (xs : List LeastBytes). Keeps most (placed r all) (placed got kept) xs top errors) (sym around.1.1) now)
 
-pub count-dropped : (most : ℕ) (all b : BuiltOf) (ns : List Least) (i : ℕ) (old new : Least) (top errors : ℕ) → Keeps most all b (reverse (set ns i new)) top errors → i + 1 ≡ length ns → old ≡ get_or ns i old → most < min (new.around + new.parts) (2 ^ 64 - 1) → Keeps most all (without_last_parts b) (reverse (set ns i new)) top errors
+pub count-dropped : (most : ℕ) (all b : BuiltOf) (ns : List LeastBytes) (i : ℕ) (old new : LeastBytes) (top errors : ℕ) → Keeps most all b (reverse (set ns i new)) top errors → i + 1 ≡ length ns → old ≡ get_or ns i old → most < min (new.around + new.parts) (2 ^ 64 - 1) → Keeps most all (without_last_parts b) (reverse (set ns i new)) top errors
 count-dropped most all b ns i old new top errors h last at over =
     let around = replaced ns i old new last at in
-    let was : Keeps most all b (new ∷ around.0) top errors = subst (λ (xs : List Least). Keeps most all b xs top errors) around.1.1 h in
-    subst (λ (xs : List Least). Keeps most all (without_last_parts b) xs top errors) (sym around.1.1) (parts-dropped most all b new around.0 top errors over was)
+    let was : Keeps most all b (new ∷ around.0) top errors = subst (λ (xs : List LeastBytes). Keeps most all b xs top errors) around.1.1 h in
+    subst (λ (xs : List LeastBytes). Keeps most all (without_last_parts b) xs top errors) (sym around.1.1) (parts-dropped most all b new around.0 top errors over was)
 
-pub entered-kept : (most : ℕ) (all kept b : BuiltOf) (ns : List Least) (top errors : ℕ) (s : FieldPosition) → Keeps most all kept ns top errors → b ≡ record kept { position = s } → Keeps most (record all { position = s }) b ns top errors
+pub entered-kept : (most : ℕ) (all kept b : BuiltOf) (ns : List LeastBytes) (top errors : ℕ) (s : FieldPosition) → Keeps most all kept ns top errors → b ≡ record kept { position = s } → Keeps most (record all { position = s }) b ns top errors
 entered-kept most all kept b ns top errors s h e = subst (λ (x : BuiltOf). Keeps most (record all { position = s }) x ns top errors) (sym e) (record {
   levels = h.levels;
   rest = record { position = refl; top_least = h.rest.top_least; top_whole = h.rest.top_whole; errors_least = h.rest.errors_least; errors_fit = h.rest.errors_fit; errors_whole = h.rest.errors_whole };
 })
 
 -- nothing is in a list of this length
-pub none-there : (ns : List Least) → length ns ≡ 0 → ns ≡ []
+pub none-there : (ns : List LeastBytes) → length ns ≡ 0 → ns ≡ []
 none-there [] e = refl
 none-there (n ∷ ns) e = absurd (omega (arith, e))

@@ -1,4 +1,4 @@
--- What contracts see of what a builder has, as its lists grow.
+-- Lemmas on what contracts see of what a builder has, as its lists grow.
 use Rattle.std.proofs.Common.{◌≡◌, ℕ, suc, ◌<◌, ◌≤◌, ◌-◌, ◌+◌, true, List, [], ◌∷◌, ◌++◌, map, take, drop, set, length, get_or, sym, ◌∙◌, ap, refl, arith}
 use Rattle.std.specs.Prelude.{reverse, String, string_bytes}
 use Rattle.std.specs.declared.alloc.Global.{Global}
@@ -6,7 +6,7 @@ use Rattle.std.proofs.lemmas.List.{map-append, reverse-append, reverse-reverse, 
 use Rattle.answer_json.specs.declared.response.Response.{Response, fold-roll-Response}
 use Rattle.answer_json.specs.declared.response.Response.TheVariants as response
 use Rattle.answer_json.specs.declared.response.Response.TheOpen.{Null as Null-F}
-use Rattle.answer_json.specs.declared.response.PathPart.{PathPart}
+use Rattle.answer_json.specs.declared.response.PathSegment.{PathSegment}
 use Rattle.execution.specs.Program.{Null, At, ListOf, ObjectOf, Part, Key, Item, FieldPosition}
 use Rattle.execution.specs.Completion.{ResponseOf, NullResponse, null_message, own_errors}
 use Rattle.gq_resolve.specs.Answered.{part_of, items_from, members_of, response_step, response_of}
@@ -82,7 +82,7 @@ path-below root below part =
     ap (λ ls. path_in ls part) turned ∙ path-behind (reverse (map level_seen below)) (level_seen root) part ∙ ap (λ ls. map step ls ++ part ∷ []) (reverse-reverse (map level_seen below)) ∙ ap (λ steps. steps ++ part ∷ []) (map-steps below)
 
 -- after the loop over the levels below the root
-pub path-ended : (xs ls : List Level) (root : Level) (i : ℕ) (path new : List PathPart) (last : PathPart) (part : Part)
+pub path-ended : (xs ls : List Level) (root : Level) (i : ℕ) (path new : List PathSegment) (last : PathSegment) (part : Part)
     → xs ≡ ls → 1 ≤ length xs → root ≡ get_or xs 0 root → map part_of path ≡ map step_to (take i (take (length xs - 1) (drop 1 xs))) → length (take (length xs - 1) (drop 1 xs)) ≤ i
     → new ≡ path ++ last ∷ [] → part_of last ≡ part → map part_of new ≡ path_in (levels_seen ls) part
 path-ended xs ls root i path new last part same some at before ended e p =

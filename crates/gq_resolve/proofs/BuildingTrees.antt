@@ -1,4 +1,4 @@
--- What is built of a program is the answer of its execution tree.
+-- The builder's value of a program is the answer of its execution tree.
 use Rattle.std.proofs.Common.{◌≡◌, suc, Bool, true, false, ◌||◌, ◌&&◌, List, [], ◌∷◌, ◌++◌, sym, ◌∙◌, ap, subst, refl, append_assoc, append-nil, if◌then◌else◌, Some, None}
 use Rattle.std.proofs.Math.Bool.{or-false, or_assoc}
 use Rattle.std.proofs.lemmas.Bool.{or_parts}
@@ -49,7 +49,7 @@ whole t b = placed (response t) (with_errors (errors b.position.non_null b.posit
 abbrev shut : FieldPosition → Kind → ResponsesOf → Bool → List LevelOf → ResponseOf → List ErrorOf → BuiltOf
 shut position kind parts pulled ls top es = placed_in ls (if pulled then NullResponse else Holding kind parts) (record { levels = ls; position = position; top = top; errors = es })
 
--- the same, where these parts follow those that it has
+-- gives the same, where these parts follow those that it has
 abbrev closed : LevelOf → List LevelOf → ResponseOf → List ErrorOf → Trees → BuiltOf
 closed l ls top es ts = shut l.position l.kind (joined l.parts (responses ts)) (l.pulled || pulls_down ts) ls top (es ++ all_errors (path_in ls l.position.part) ts)
 
@@ -93,7 +93,7 @@ mutual
       let es' : List ErrorOf = es ++ errors position.non_null position.place (path_in (l ∷ ls) position.part) t in
       ap (λ xs. built xs b) (append_assoc first others end) ∙ built-append first (others ++ end) b ∙ ap (built (others ++ end)) (built-program p R b n.1 open_none.0) ∙ built-programs rest R kind l' ls root_position top es' next open_none.1 ∙ closed-more l ls top es position t (trees rest R) n.0 open_none.0
 
--- what was put of a program, of which nothing waits
+-- the value that was put of a program of which nothing waits
 whole-is : (b : BuiltOf) (p : Program) (R : Reader) → IsWhole b p R → b ≡ whole (tree p R) nothing_built
 whole-is b p R w = w.put ∙ built-program p R nothing_built w.numbered w.closed
 

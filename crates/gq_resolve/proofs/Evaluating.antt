@@ -14,7 +14,7 @@ use Rattle.execution.proofs.Monotone.{front-open}
 use Rattle.execution.proofs.Wanting.{wanting-firsts}
 use Rattle.gq_resolve.specs.Evaluated.{reader, front_over, AddsPart}
 use Rattle.gq_resolve.specs.Suspended.{load_of, loads_of}
-use Rattle.gq_resolve.specs.declared.waiting.Blocked.{Blocked}
+use Rattle.gq_resolve.specs.declared.waiting.BlockedPosition.{BlockedPosition}
 
 -- ---- what is left of a program waits for what is missing
 
@@ -84,12 +84,12 @@ on_ok (Err e) p = tt
 -- ---- positions that wait
 
 -- the loads of the first positions were added, and those of these are left
-pub record AreAdded (old now : List WantedOf) (all left : List Blocked) : Type 0 where
+pub record AreAdded (old now : List WantedOf) (all left : List BlockedPosition) : Type 0 where
   pub added : AddsPart old now (loads_of all)
   pub rest : added.left ≡ loads_of left
   pub loaders : length now ≡ length old
 
-pub added-none : (old : List WantedOf) (all left : List Blocked) → left ≡ all → AreAdded old old all left
+pub added-none : (old : List WantedOf) (all left : List BlockedPosition) → left ≡ all → AreAdded old old all left
 added-none old all left same = record {
   added = record { part = []; left = loads_of all; split = refl; added = refl };
   rest = ap loads_of (sym same);
@@ -97,7 +97,7 @@ added-none old all left same = record {
 }
 
 -- one more
-pub added-more : (old now new : List WantedOf) (all left after : List Blocked) (b : Blocked) → left ≡ b ∷ after → new ≡ with_wanted now (load_of b).loader (load_of b).key → length new ≡ length now
+pub added-more : (old now new : List WantedOf) (all left after : List BlockedPosition) (b : BlockedPosition) → left ≡ b ∷ after → new ≡ with_wanted now (load_of b).loader (load_of b).key → length new ≡ length now
     → AreAdded old now all left → AreAdded old new all after
 added-more old now new all left after b next is same h =
     let before : AddsPart old now (loads_of all) = h.added in
@@ -113,6 +113,6 @@ added-more old now new all left after b next is same h =
       loaders = same ∙ h.loaders;
     }
 
--- what was added stays, where the next isn't added
-pub added-part : (old now new : List WantedOf) (all left : List Blocked) → new ≡ now → AreAdded old now all left → AddsPart old new (loads_of all)
+-- the loads that were added stay, where the next isn't added
+pub added-part : (old now new : List WantedOf) (all left : List BlockedPosition) → new ≡ now → AreAdded old now all left → AddsPart old new (loads_of all)
 added-part old now new all left kept h = record { part = h.added.part; left = h.added.left; split = h.added.split; added = kept ∙ h.added.added }

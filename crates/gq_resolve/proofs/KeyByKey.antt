@@ -21,7 +21,7 @@ given-both : (R : Reader) (xs ys : List KeyCall) → AreGivenBy R xs → AreGive
 given-both R [] ys g h = h
 given-both R (x ∷ xs) ys g h = (g.0, given-both R xs ys g.1 h)
 
--- what answers more gave the same
+-- a reader that answers more gives the calls the same outcomes
 given-more : (R Q : Reader) (cs : List KeyCall) → AnswersMore R Q → AreGivenBy R cs → AreGivenBy Q cs
 given-more R Q [] more h = tt
 given-more R Q (c ∷ cs) more h = (more c.load c.outcome h.0, given-more R Q cs more h.1)
@@ -53,7 +53,7 @@ or-false true b h = absurd (cc h)
 or-false false b h = (refl, h)
 
 mutual
-  -- where nothing is open, there are such calls
+  -- calls key by key exist where nothing is open
   pub some-calls : (p : Program) (R : Reader) → is_open (tree p R) ≡ false → (calls : List KeyCall) × IsKeyByKey p calls (tree p R) × AreGivenBy R calls
   some-calls (Is own) R whole = ([], (refl, refl), tt)
   some-calls (Read load next) R whole = go (R load) refl (λ o h. some-calls (next o) R h)
@@ -81,7 +81,7 @@ mutual
 read-so-often : (p : Program) (R : Reader) (calls : List KeyCall) → called_loads calls ≡ needs p R → length calls ≡ count_read p R
 read-so-often p R calls same = sym (length-map calls (λ (c : KeyCall). c.load)) ∙ ap (λ (ls : List Load). length ls) same
 
--- where nothing is open, execution key by key makes as many calls as loads are read
+-- execution key by key makes as many calls as loads are read, where nothing is open
 pub makes-calls : (p : Program) (R : Reader) → is_open (tree p R) ≡ false → MakesCalls p R (count_read p R)
 makes-calls p R whole =
     let some : (calls : List KeyCall) × IsKeyByKey p calls (tree p R) × AreGivenBy R calls = some-calls p R whole in

@@ -24,7 +24,7 @@ use Rattle.plan_program.specs.PlanPrograms.{TypeOf, object_type, type_fault, typ
 use Rattle.gq_resolve.specs.Built.{step_in, IsNumbered, AreNumbered}
 
 abbrev mutual
-  -- each load is of one of the first so many loaders, and a list's items are numbered from 0, and an object's fields have keys
+  -- each load is of a loader below `n`, and a list's items are numbered from 0, and an object's fields have keys
   pub Fits : ℕ → Program → Type 0
   Fits n (Is leaf_value) = Unit {0}
   Fits n (Read load next) = (load.loader < n) × ((o : OutcomeOf) → Fits n (next o))

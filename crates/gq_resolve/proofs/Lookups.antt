@@ -1,4 +1,5 @@
--- What is looked up in a memory: of the loads of its loaders what it says, and of others nothing.
+-- Lemmas on what is looked up in a memory: of the loads of its loaders what it says, and of others
+-- nothing.
 use Rattle.std.proofs.Common.{◌≡◌, ℕ, ◌<◌, ◌≤◌, Bool, true, false, List, [], length, Option, Some, None, refl, ap, ◌∙◌, arith, if◌then◌else◌}
 use Rattle.std.specs.Prelude.{nat_lt}
 use Rattle.std.proofs.lemmas.Bool.Decides.{nat_tests}
@@ -24,11 +25,11 @@ lookup-nothing m load none = go (nat_lt load.loader (length m.modes)) refl
     go true e = rw (e, none) refl
     go false e = rw e refl
 
--- what a memory would say if it had these modes
+-- gives what a memory would say if it had these modes
 abbrev with_modes : MemoryOf → Load → List KeyMode → Option OutcomeOf
 with_modes m load modes = if nat_lt load.loader (length modes) then read modes (look m.pairs) load else None
 
--- what a memory says, one that has grown says too
+-- a memory that has grown says all that it said before
 pub lookup-more : (m n : MemoryOf) → GrowsTo m n → AnswersMore (lookup m) (lookup n)
 lookup-more m n grown load outcome h = ap (with_modes n load) grown.modes ∙ go (nat_lt load.loader (length m.modes)) refl
   where

@@ -1,4 +1,4 @@
--- What a poll answers, and that it may go on over each larger memory.
+-- Lemmas on what a poll answers, and that it may go on over each larger memory.
 use Rattle.std.proofs.Common.{◌≡◌, ◌≢◌, ◌≤◌, false, List, [], ◌∷◌, length, refl, sym, ap, ◌∙◌, subst, Option, Some, None, IfSome}
 use Rattle.load_memory.specs.Pairs.{MemoryOf}
 use Rattle.load_queue.specs.Wanted.{WantedOf}
@@ -16,9 +16,9 @@ use Rattle.plan_program.specs.PlanPrograms.{plan_program}
 use Rattle.gq_resolve.specs.Evaluated.{reader, front_over, AddsPart, lookup}
 use Rattle.gq_resolve.specs.Suspended.{FitsWaiting, FitsStopped, loads_of, Advanced, lacking}
 use Rattle.gq_resolve.specs.Written.{asks, thinned}
-use Rattle.gq_resolve.specs.declared.advance.Stopped.{Stopped}
-use Rattle.gq_resolve.specs.declared.advance.Walked.{Walked}
-use Rattle.gq_resolve.specs.declared.waiting.Blocked.{Blocked}
+use Rattle.gq_resolve.specs.declared.advance.Suspension.{Suspension}
+use Rattle.gq_resolve.specs.declared.advance.FinishedWalk.{FinishedWalk}
+use Rattle.gq_resolve.specs.declared.waiting.BlockedPosition.{BlockedPosition}
 use Rattle.gq_resolve.specs.declared.output.Output.{Output}
 use Rattle.gq_resolve.proofs.Evaluating.{needs-rest, front-none, front-there, closed-tree, wants-front}
 use Rattle.gq_resolve.proofs.Loaders.{same-rest, plan-fits}
@@ -28,7 +28,7 @@ use Rattle.gq_resolve.proofs.Lookups.{lookup-same, lookup-more}
 -- ---- larger memories
 
 -- positions that are kept fit each larger memory, and so does a root
-pub still-fits : (plan : PlanOf) (m n : MemoryOf) (w : Walked Output) (waiting : Option (List Blocked)) → Advanced plan m w → IfSome waiting (λ bs. bs ≡ w.out.blocked) → GrowsTo m n
+pub still-fits : (plan : PlanOf) (m n : MemoryOf) (w : FinishedWalk Output) (waiting : Option (List BlockedPosition)) → Advanced plan m w → IfSome waiting (λ bs. bs ≡ w.out.blocked) → GrowsTo m n
     → FitsWaiting plan n w.rooted waiting
 still-fits plan m n w None a h grown = a.goes_on.rooted
 still-fits plan m n w (Some bs) a h grown = rw h (record {
@@ -38,7 +38,7 @@ still-fits plan m n w (Some bs) a h grown = rw h (record {
 })
 
 -- a root fits every memory
-pub none-fits : (plan : PlanOf) (m : MemoryOf) (stopped : Option Stopped) → stopped ≡ None → FitsStopped plan m stopped
+pub none-fits : (plan : PlanOf) (m : MemoryOf) (stopped : Option Suspension) → stopped ≡ None → FitsStopped plan m stopped
 none-fits plan m stopped none = subst (FitsStopped plan m) (sym none) tt
 
 -- ---- what is looked up, and what the memory has
@@ -53,7 +53,7 @@ lookup-asks plan m le = sym (needs-rest (plan_program plan) (lookup m)) ∙ ap (
 lookup-tree : (plan : PlanOf) (m : MemoryOf) → length plan.bindings.loaders ≤ length m.modes → tree (plan_program plan) (lookup m) ≡ tree (plan_program plan) (reader m)
 lookup-tree plan m le = sym (held-rest (plan_program plan) (lookup m)) ∙ ap (λ q. tree q unanswered) (left-same plan m le) ∙ held-rest (plan_program plan) (reader m)
 
-module _ (plan : PlanOf) (m : MemoryOf) (old : List WantedOf) (w : Walked Output) (can : CanExecute (length plan.bindings.loaders) m old) (a : Advanced plan m w) where
+module _ (plan : PlanOf) (m : MemoryOf) (old : List WantedOf) (w : FinishedWalk Output) (can : CanExecute (length plan.bindings.loaders) m old) (a : Advanced plan m w) where
   -- the loads of what waits are those that are missing, each once
   same-loads : thinned [] (loads_of w.out.blocked) ≡ thinned [] (lacking plan m)
   same-loads = a.lacks ∙ ap (thinned []) (lookup-asks plan m can.enough)
@@ -65,7 +65,7 @@ module _ (plan : PlanOf) (m : MemoryOf) (old : List WantedOf) (w : Walked Output
     is ∙ sym (wanting-thinned old (loads_of w.out.blocked)) ∙ ap (wanting old) same-loads ∙ wanting-thinned old (lacking plan m) ∙ wants-front m (plan_program plan) old can.lined_up,
   )
     where
-      no-loads : (bs : List Blocked) → loads_of bs ≡ [] → bs ≡ []
+      no-loads : (bs : List BlockedPosition) → loads_of bs ≡ [] → bs ≡ []
       no-loads [] e = refl
       no-loads (b ∷ bs) e = absurd (cc e)
 

@@ -1,4 +1,4 @@
--- What a program puts over a memory: what it asks over larger ones, and its text.
+-- Lemmas on what a program puts over a memory: what it asks over larger ones, and its text.
 use Rattle.std.proofs.Common.{◌≡◌, Bool, true, false, ◌&&◌, if◌then◌else◌, List, [], ◌∷◌, ◌++◌, refl, sym, ap, ◌∙◌, subst, append_assoc, append-nil, decimal, Option, Some, None}
 use Rattle.std.specs.List.{list_all, flat_map}
 use Rattle.std.proofs.Math.Bool.{and-false}
@@ -23,7 +23,7 @@ use Rattle.gq_resolve.proofs.Evaluating.{needs-rest}
 
 -- ---- loads
 
--- what is asked of what is put
+-- the loads that puts ask for
 abbrev pub puts_ask : Reader → List Put → List Load
 puts_ask Q ps = flat_map (put_asks Q) ps
 
@@ -33,7 +33,7 @@ read-asked non_null load next R Q None e ih = rw e (append-nil (asks (Read load 
 read-asked non_null load next R Q (Some o) e ih = rw e (ih o)
 
 mutual
-  -- what is put asks what is left of the program
+  -- the puts of a program ask what the rest of the program asks
   asked-rest : (non_null : Bool) (p : Program) (R Q : Reader) → puts_ask Q (puts non_null p R) ≡ asks (rest p R) Q
   asked-rest non_null (Is leaf_value) R Q = refl
   asked-rest non_null (Read load next) R Q = read-asked non_null load next R Q (R load) refl (λ o. asked-rest non_null (next o) R Q)
@@ -107,7 +107,7 @@ read-plain non_null load next R None e ih h = let f : false ≡ true = rw e at h
 read-plain non_null load next R (Some o) e ih h = rw e (ih o (rw e at h))
 
 mutual
-  -- where all is plain, the tokens are those of the response, and there are no errors
+  -- puts that are all plain have the tokens of the response, and there are no errors
   pub plain-puts : (non_null : Bool) (p : Program) (R : Reader) → puts_plain (puts non_null p R) ≡ true → IsPlain non_null (tree p R) (puts_tokens (puts non_null p R))
   plain-puts non_null (Is (Value leaf)) R h = record { stays = and-false non_null; errors = λ place path. refl; tokens = sym (append-nil (leaf_value_tokens (Value leaf))) }
   plain-puts true (Is Null) R h = absurd (cc h)

@@ -1,4 +1,5 @@
--- How many loads an execution reads: those of the positions whose loads are still to be read, and those that were.
+-- Lemmas on how many loads an execution reads: those of the positions whose loads are still to be read, and those
+-- that were.
 use Rattle.std.proofs.Common.{◌≡◌, ℕ, suc, ◌<◌, ◌≤◌, ◌+◌, ◌-◌, ◌^◌, Bool, false, List, [], ◌∷◌, ◌++◌, length, refl, sym, ap, ◌∙◌, subst, arith, append-nil, length-append, Option, Some, None}
 use Rattle.std.specs.List.{flat_map}
 use Rattle.std.proofs.Math.Path.{fun_ext}
@@ -22,11 +23,11 @@ use Rattle.gq_resolve.specs.Walks.{Goes}
 use Rattle.gq_resolve.specs.Written.{left_of, AreWithin}
 use Rattle.gq_resolve.specs.Counting.{count_read, all_read, counted, plan_read, put_waits, all_left, IsUnread, AddsWaits, left_read, IsReading, puts_after}
 use Rattle.gq_resolve.specs.Adding.{unread-rises, unread-stays}
-use Rattle.gq_resolve.specs.declared.groups.Group.{Group}
-use Rattle.gq_resolve.specs.declared.waiting.Blocked.{Blocked}
+use Rattle.gq_resolve.specs.declared.loading_fields.LoadingField.{LoadingField}
+use Rattle.gq_resolve.specs.declared.waiting.BlockedPosition.{BlockedPosition}
 use Rattle.gq_resolve.specs.declared.counting.Unread.{Unread}
-use Rattle.gq_resolve.specs.declared.advance.Walked.{Walked}
-use Rattle.gq_resolve.specs.declared.tour.Progress.{Progress}
+use Rattle.gq_resolve.specs.declared.advance.FinishedWalk.{FinishedWalk}
+use Rattle.gq_resolve.specs.declared.walk.Progress.{Progress}
 use Rattle.gq_resolve.proofs.Evaluating.{no-items}
 use Rattle.gq_resolve.proofs.Grouping.{covers-view}
 use Rattle.gq_resolve.proofs.Loaders.{Fits, AllFit, plan-fits}
@@ -39,7 +40,7 @@ all_read-append [] qs R = omega arith
 all_read-append (p ∷ ps) qs R = let rest : all_read (ps ++ qs) R ≡ all_read ps R + all_read qs R = all_read-append ps qs R in omega (arith, rest)
 
 mutual
-  -- where nothing is answered, what waits reads what the program reads
+  -- the positions that wait read what the program reads, where nothing is answered
   waits-read : (non_null : Bool) (p : Program) (R : Reader) → all_read (flat_map put_waits (puts non_null p unanswered)) R ≡ count_read p R
   waits-read non_null (Is leaf_value) R = refl
   waits-read non_null (Read load next) R = omega arith
@@ -60,12 +61,12 @@ mutual
 nothing-answered : (m : MemoryOf) → m.pairs ≡ [] → lookup m ≡ unanswered
 nothing-answered m none = fun_ext (λ load. lookup-nothing m load none)
 
--- the same over such a memory
+-- shows the same over such a memory
 waits-read-over : (nothing : MemoryOf) (p : Program) (R : Reader) → nothing.pairs ≡ [] → all_read (flat_map put_waits (puts false p (lookup nothing))) R ≡ count_read p R
 waits-read-over nothing p R none = ap (λ (Q : Reader). all_read (flat_map put_waits (puts false p Q)) R) (nothing-answered nothing none) ∙ waits-read false p R
 
 -- the load of a position, and what waits after it
-after-read : (v : View) (b : Blocked) (m nothing : MemoryOf) → nothing.pairs ≡ [] → suc (all_read (flat_map put_waits (puts_after v b m (lookup nothing))) (lookup m)) ≡ count_read (left_of v b) (lookup m)
+after-read : (v : View) (b : BlockedPosition) (m nothing : MemoryOf) → nothing.pairs ≡ [] → suc (all_read (flat_map put_waits (puts_after v b m (lookup nothing))) (lookup m)) ≡ count_read (left_of v b) (lookup m)
 after-read v b m nothing none = go (lookup m (load_of b)) refl
   where
     go : (r : Option OutcomeOf) → lookup m (load_of b) ≡ r → suc (all_read (flat_map put_waits (puts_after v b m (lookup nothing))) (lookup m)) ≡ count_read (left_of v b) (lookup m)
@@ -75,27 +76,27 @@ after-read v b m nothing none = go (lookup m (load_of b)) refl
 -- ---- one load after another
 
 -- positions of groups that do the same have the same programs
-same-left : (v w : View) (n : ℕ) (bs : List Blocked) → ((o : OnwardOf) → o.group < n → v.after o ≡ w.after o) → AreWithin n bs → all_left v bs ≡ all_left w bs
+same-left : (v w : View) (n : ℕ) (bs : List BlockedPosition) → ((o : OnwardOf) → o.group < n → v.after o ≡ w.after o) → AreWithin n bs → all_left v bs ≡ all_left w bs
 same-left v w n [] same h = refl
 same-left v w n (b ∷ bs) same h =
-    let one : left_of v b ≡ left_of w b = ap (λ f. Read (load_of b) (with_rows f)) (same (onward_of b.onward) (All-head (λ (x : Blocked). x.onward.group < n) b bs h)) in
-    rw (one, same-left v w n bs same (All-tail (λ (x : Blocked). x.onward.group < n) b bs h)) refl
+    let one : left_of v b ≡ left_of w b = ap (λ f. Read (load_of b) (with_rows f)) (same (onward_of b.onward) (All-head (λ (x : BlockedPosition). x.onward.group < n) b bs h)) in
+    rw (one, same-left v w n bs same (All-tail (λ (x : BlockedPosition). x.onward.group < n) b bs h)) refl
 
-last-within : (n : ℕ) (bs : List Blocked) (b : Blocked) → AreWithin n (bs ++ b ∷ []) → b.onward.group < n
-last-within n bs b h = subst (λ (x : Blocked). x.onward.group < n) (get_or-append_seam bs b [] b) (h (length bs) b (omega (arith, length-append bs (b ∷ []))))
+last-within : (n : ℕ) (bs : List BlockedPosition) (b : BlockedPosition) → AreWithin n (bs ++ b ∷ []) → b.onward.group < n
+last-within n bs b h = subst (λ (x : BlockedPosition). x.onward.group < n) (get_or-append_seam bs b [] b) (h (length bs) b (omega (arith, length-append bs (b ∷ []))))
 
-others-within : (n : ℕ) (bs : List Blocked) (b : Blocked) → AreWithin n (bs ++ b ∷ []) → AreWithin n bs
-others-within n bs b h = λ k d lt. subst (λ (x : Blocked). x.onward.group < n) (get_or_append_left bs (b ∷ []) d k lt) (h k d (omega (arith, lt, length-append bs (b ∷ []))))
+others-within : (n : ℕ) (bs : List BlockedPosition) (b : BlockedPosition) → AreWithin n (bs ++ b ∷ []) → AreWithin n bs
+others-within n bs b h = λ k d lt. subst (λ (x : BlockedPosition). x.onward.group < n) (get_or_append_left bs (b ∷ []) d k lt) (h k d (omega (arith, lt, length-append bs (b ∷ []))))
 
--- how many loads are left, once one was read
+-- says how many loads are left, once one was read
 pub record IsOneLess (plan : PlanOf) (m : MemoryOf) (old new : Progress Unread) : Type 0 where
   pub reading : IsReading plan new
   pub less : left_read plan m old ≡ suc (left_read plan m new)
 
-pub one-read : {most : ℕ} {plan : PlanOf} (m nothing : MemoryOf) (b : Blocked) (old mid new : Progress Unread) → nothing.pairs ≡ [] → old.out.positions.items ≡ mid.out.positions.items ++ b ∷ [] → mid.groups ≡ old.groups
+pub one-read : {most : ℕ} {plan : PlanOf} (m nothing : MemoryOf) (b : BlockedPosition) (old mid new : Progress Unread) → nothing.pairs ≡ [] → old.out.positions.items ≡ mid.out.positions.items ++ b ∷ [] → mid.groups ≡ old.groups
     → Goes AddsWaits IsUnread most plan (b.onward.group < length mid.groups.items) (λ v. puts_after v b m (lookup nothing)) mid new → IsReading plan old → IsOneLess plan m old new
 one-read {plan = plan} m nothing b old mid new none taken same went reading =
-    let gs : List Group = mid.groups.items in
+    let gs : List LoadingField = mid.groups.items in
     let w : View = view_of plan new.groups.items in
     let v : View = view_of plan gs in
     let R : Reader = lookup m in
@@ -121,13 +122,13 @@ one-read {plan = plan} m nothing b old mid new none taken same went reading =
       less = omega (arith, before, now, after);
     }
 
--- so many were counted, and the others are left
+-- `count` loads were counted, and the others are left
 pub record IsCounted (plan : PlanOf) (m : MemoryOf) (start : Progress Unread) (count : ℕ) (now : Progress Unread) : Type 0 where
   pub reading : IsReading plan now
   pub sum : count + left_read plan m now ≡ left_read plan m start
 
 -- one more
-pub counted-more : {most : ℕ} {plan : PlanOf} (m nothing : MemoryOf) (b : Blocked) (start now mid new : Progress Unread) (count : ℕ)
+pub counted-more : {most : ℕ} {plan : PlanOf} (m nothing : MemoryOf) (b : BlockedPosition) (start now mid new : Progress Unread) (count : ℕ)
     → Goes AddsWaits IsUnread most plan (b.onward.group < length mid.groups.items) (λ v. puts_after v b m (lookup nothing)) mid new → nothing.pairs ≡ [] → now.out.positions.items ≡ mid.out.positions.items ++ b ∷ [] → mid.groups ≡ now.groups
     → IsCounted plan m start count now → IsCounted plan m start (count + 1) new
 counted-more {plan = plan} m nothing b start now mid new count went none taken same h =
@@ -147,7 +148,7 @@ most-counted plan m start now count most h = omega (arith, h.sum, most)
 -- ---- a whole plan
 
 mutual
-  -- what a memory says of other loaders makes no difference
+  -- says what a memory says of other loaders makes no difference
   same-needs : (n : ℕ) (T R : Reader) → ((load : Load) → load.loader < n → T load ≡ R load) → (p : Program) → Fits n p → needs p T ≡ needs p R
   same-needs n T R same (Is leaf_value) h = refl
   same-needs n T R same (Read load next) h =
@@ -159,11 +160,11 @@ mutual
   same-all-needs n T R same kind i End h = refl
   same-all-needs n T R same kind i (With position p ps) h = rw (same-needs n T R same p h.1, same-all-needs n T R same kind (suc i) ps h.2) refl
 
--- what is left once the whole plan was gone over, over a memory that answers nothing
-pub whole-left : (plan : PlanOf) (m nothing : MemoryOf) (start : Unread) (w : Walked Unread) (at : Progress Unread) → nothing.pairs ≡ [] → start.positions.items ≡ [] → at.groups ≡ w.rooted.groups → at.out ≡ w.out
+-- the loads to read that are left once the whole plan was gone over, over a memory that answers nothing
+pub whole-left : (plan : PlanOf) (m nothing : MemoryOf) (start : Unread) (w : FinishedWalk Unread) (at : Progress Unread) → nothing.pairs ≡ [] → start.positions.items ≡ [] → at.groups ≡ w.rooted.groups → at.out ≡ w.out
     → length plan.bindings.loaders ≤ length m.modes → GoesOver AddsWaits plan nothing start w → IsReading plan at × (left_read plan m at ≡ plan_read plan m)
 whole-left plan m nothing start w at none empty groups out enough went =
-    let gs : List Group = w.rooted.groups.items in
+    let gs : List LoadingField = w.rooted.groups.items in
     let v : View = view_of plan gs in
     let R : Reader = lookup m in
     let all : w.out.positions.items ≡ went.put.added = went.put.all ∙ ap (λ bs. bs ++ went.put.added) empty in

@@ -117,6 +117,6 @@ members-both : (es : List ErrorOf) (r : ResponseOf) → errors_size es + size_of
 members-both [] r = omega (arith, data-sure r)
 members-both (e ∷ es) r = omega (arith, errors-sure (e ∷ es), data-sure r, texts-append (items_tokens (errors_json (e ∷ es))) (members_tokens (data_member r)))
 
--- of the errors and the response so many bytes are sure
+-- an answer's text has at least the bytes that are counted of its errors and its response
 pub answer-sure : (a : AnsweredOf) → errors_size a.errors + size_of a.response ≤ length (answer_text a)
 answer-sure a = omega (arith, printed false (json_tokens (answered_json a)), members-both a.errors a.response)

@@ -6,12 +6,12 @@ use Rattle.json.specs.Value.{items_of}
 use Rattle.answer_json.specs.declared.response.Response.{Response, ind-Response, roll-Response, map-Response, fold-roll-Response}
 use Rattle.answer_json.specs.declared.response.Response.TheOpen.{Response-F}
 use Rattle.answer_json.specs.declared.response.FieldError.{FieldError}
-use Rattle.answer_json.specs.declared.response.PathPart.{PathPart}
-use Rattle.answer_json.specs.declared.response.PathPart.TheVariants as path
+use Rattle.answer_json.specs.declared.response.PathSegment.{PathSegment}
+use Rattle.answer_json.specs.declared.response.PathSegment.TheVariants as path
 use Rattle.answer_json.specs.Response as json
 use Rattle.answer_json.specs.Answer as written
 use Rattle.execution.specs.Completion.{ResponseOf}
-use Rattle.gq_resolve.specs.declared.answered.Answered.{Answered}
+use Rattle.gq_resolve.specs.declared.answered.ExecutionResult.{ExecutionResult}
 use Rattle.gq_resolve.specs.Answered.{response_of, response_step, items_from, members_of, answered_of, json_of, items_json, members_json, part_of, path_json, error_of, errors_of, error_json, errors_json, errors_before, answered_json, answer_text}
 
 abbrev IsSame : Response → Type 0
@@ -52,7 +52,7 @@ same_roll x y is =
 same_json : (r : Response) → IsSame r
 same_json = ind-Response IsSame same_roll
 
-same_path : (ps : List PathPart) → written.path_items ps ≡ path_json (map part_of ps)
+same_path : (ps : List PathSegment) → written.path_items ps ≡ path_json (map part_of ps)
 same_path [] = refl
 same_path (path.Key k ∷ ps) = ap (item (written.part_json (path.Key k))) (same_path ps)
 same_path (path.Item i ∷ ps) = ap (item (written.part_json (path.Item i))) (same_path ps)
@@ -74,11 +74,11 @@ same_before [] others = refl
 same_before (e ∷ es) others = ap (λ is. member (codes "errors") (array is) others) (same_errors (e ∷ es))
 
 -- the JSON value of an answer
-same_answer : (a : Answered) → written.answer_json a.response a.errors.items ≡ answered_json (answered_of a)
+same_answer : (a : ExecutionResult) → written.answer_json a.response a.errors.items ≡ answered_json (answered_of a)
 same_answer a =
     ap (λ j. object (written.errors_before a.errors.items (member (codes "data") j no_members))) (same_json a.response)
     ∙ ap object (same_before a.errors.items (member (codes "data") (json_of (response_of a.response)) no_members))
 
 -- the text of an answer
-pub same_text : (a : Answered) → written.json_text (written.answer_json a.response a.errors.items) ≡ answer_text (answered_of a)
+pub same_text : (a : ExecutionResult) → written.json_text (written.answer_json a.response a.errors.items) ≡ answer_text (answered_of a)
 same_text a = ap written.json_text (same_answer a)

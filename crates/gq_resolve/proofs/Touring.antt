@@ -1,4 +1,4 @@
--- What a walk puts, one thing after another.
+-- Lemmas on what a walk puts, one thing after another.
 use Rattle.std.proofs.Common.{◌≡◌, ◌⊎◌, inl, inr, ℕ, suc, ◌<◌, ◌≤◌, ◌+◌, ◌-◌, Bool, false, List, [], ◌∷◌, ◌++◌, map, take, drop, length, get_or, refl, sym, ap, ◌∙◌, subst, arith, append_assoc, append-nil, None}
 use Rattle.std.proofs.lemmas.List.{take_more, take_all, drop_all, map_push, length-map, length-take-le}
 use Rattle.std.proofs.Math.Path.{fun_ext}
@@ -18,20 +18,20 @@ use Rattle.gq_resolve.specs.Groups.{children_at, then_at, then_rows, next_rows, 
 use Rattle.gq_resolve.specs.Suspended.{view_of}
 use Rattle.gq_resolve.specs.Steps.{last_steps}
 use Rattle.gq_resolve.specs.Following.{FollowsTo, followed_puts}
-use Rattle.gq_resolve.specs.declared.following.Followed.{Followed}
+use Rattle.gq_resolve.specs.declared.following.ViaRows.{ViaRows}
 use Rattle.gq_resolve.specs.Walks.{Goes, LetsGo, items_after}
-use Rattle.gq_resolve.specs.declared.groups.Group.{Group}
-use Rattle.gq_resolve.specs.declared.groups.Member.{Member}
-use Rattle.gq_resolve.specs.declared.groups.Then.{Then}
-use Rattle.gq_resolve.specs.declared.groups.Then.TheVariants.{First, All as Each}
-use Rattle.gq_resolve.specs.declared.tour.Progress.{Progress}
+use Rattle.gq_resolve.specs.declared.loading_fields.LoadingField.{LoadingField}
+use Rattle.gq_resolve.specs.declared.loading_fields.Member.{Member}
+use Rattle.gq_resolve.specs.declared.loading_fields.RowUse.{RowUse}
+use Rattle.gq_resolve.specs.declared.loading_fields.RowUse.TheVariants.{First, All as Each}
+use Rattle.gq_resolve.specs.declared.walk.Progress.{Progress}
 use Rattle.gq_resolve.proofs.Grouping.{grows-self, grows-then, front-then, covers-view, asked-more, chained, members-append}
 
--- what is put takes a sink from one to another
+-- a relation of puts that take a sink from one state to another
 abbrev pub Putting : Type 0 → Type 1
 Putting S = View → List Put → S → S → Type 0
 
--- when what waits goes on at one of the first so many groups
+-- a relation that says whether what waits goes on at groups below a number
 abbrev pub Below : Type 0 → Type 1
 Below S = ℕ → S → Type 0
 
@@ -62,10 +62,10 @@ module _ {S : Type 0} {goes : Putting S} {below : Below S} {most : ℕ} {plan : 
   goes-put {a = a} {b = b} same h = record {
     grows = subst (Grows plan a.groups.items) (sym same) (grows-self plan a.groups.items);
     front = λ le. ap (take (length a.groups.items)) same ∙ take_all (length a.groups.items) a.groups.items (omega arith);
-    puts = λ k r w v cov. h k v (omega (arith, cov.count, ap (λ (gs : List Group). length gs) same));
+    puts = λ k r w v cov. h k v (omega (arith, cov.count, ap (λ (gs : List LoadingField). length gs) same));
   }
 
-  -- the same puts otherwise
+  -- a walk with other puts that are equal over each view
   pub goes-as : {known : Type 0} {ps qs : View → List Put} {a b : Progress S} → Goes goes below most plan known ps a b → (known → (v : View) → Covers plan a.groups.items v → ps v ≡ qs v) → Goes goes below most plan known qs a b
   goes-as {a = a} {b = b} p same = record {
     grows = p.grows;
@@ -73,12 +73,12 @@ module _ {S : Type 0} {goes : Putting S} {below : Below S} {most : ℕ} {plan : 
     puts = λ k r w v cov. subst (λ ts. goes v ts a.out b.out) (same k v (p.grows.covers v cov)) (p.puts k r w v cov);
   }
 
-  -- the same program otherwise
+  -- a walk of another program that is equal over each view
   pub walks-as : (non_null : Bool) (R : Reader) (p q : View → Program) {known : Type 0} {a b : Progress S} → Goes goes below most plan known (λ v. puts non_null (p v) R) a b → (known → (v : View) → Covers plan a.groups.items v → p v ≡ q v)
       → Goes goes below most plan known (λ v. puts non_null (q v) R) a b
   walks-as non_null R p q g same = goes-as g (λ k v cov. ap (λ x. puts non_null x R) (same k v cov))
 
-  -- what a look-up changes is none of what is put
+  -- a look-up changes nothing of what is put
   pub goes-probed : {known : Type 0} {ps : View → List Put} {a b : Progress S} (probe : Probe) → Goes goes below most plan known ps (record a { probe = probe }) b → Goes goes below most plan known ps a b
   goes-probed probe p = record { grows = p.grows; front = p.front; puts = p.puts }
 
@@ -122,7 +122,7 @@ module _ {S : Type 0} {goes : Putting S} {below : Below S} {most : ℕ} {plan : 
       go (inl e) = record {
         grows = subst (Grows plan a.groups.items) (sym e) p.grows;
         front = λ le. ap (take (length a.groups.items)) e ∙ p.front le;
-        puts = λ k rt w v cov. subst (λ (s : S). goes v ps a.out s) (sym gone.out) (p.puts k rt w v (subst (λ (gs : List Group). Covers plan gs v) e cov));
+        puts = λ k rt w v cov. subst (λ (s : S). goes v ps a.out s) (sym gone.out) (p.puts k rt w v (subst (λ (gs : List LoadingField). Covers plan gs v) e cov));
       }
       go (inr (full, still, cut)) =
           let back : c.groups.items ≡ a.groups.items = cut ∙ ap (λ (n : ℕ). take n b.groups.items) counted ∙ p.front (omega (arith, full, counted)) in
@@ -132,7 +132,7 @@ module _ {S : Type 0} {goes : Putting S} {below : Below S} {most : ℕ} {plan : 
             grows = subst (Grows plan a.groups.items) (sym back) (grows-self plan a.groups.items);
             front = λ le. ap (take (length a.groups.items)) back ∙ take_all (length a.groups.items) a.groups.items (omega arith);
             puts = λ k rt w v cov.
-                let covered : Covers plan a.groups.items v = subst (λ (gs : List Group). Covers plan gs v) back cov in
+                let covered : Covers plan a.groups.items v = subst (λ (gs : List LoadingField). Covers plan gs v) back cov in
                 subst (λ (s : S). goes v ps a.out s) (sym gone.out)
                 (narrow v all (length a.groups.items) ps a.out b.out covered.count (λ o lt. covered.tells o lt ∙ sym (shown.tells o lt)) w (sym were ∙ still) (p.puts k rt w all (covers-view plan b.groups.items)));
           }
@@ -145,7 +145,7 @@ puts-chained kind (With position p ps) qs R =
     ap (λ us. Enters kind position ∷ (puts position.non_null p R ++ us)) (puts-chained kind ps qs R)
     ∙ ap (λ us. Enters kind position ∷ us) (sym (append_assoc (puts position.non_null p R) (all_puts kind ps R) (all_puts kind qs R)))
 
--- what is put of an object up to some of its members
+-- gives what is put of an object up to some of its members
 abbrev pub fields_put : List Definition → ℕ → RowOf → Reader → List Member → View → List Put
 fields_put defs levels row R ms v = Begins ObjectOf ∷ all_puts ObjectOf (members_seen defs v levels row ms) R
 
@@ -158,7 +158,7 @@ fields-more defs levels row R ms i m v lt is =
     ∙ ap (λ ps. Begins ObjectOf ∷ all_puts ObjectOf ps R) (sym (members-append defs v levels row (take i ms) (m ∷ [])))
     ∙ ap (λ xs. fields_put defs levels row R xs v) (sym (take_more ms i m lt ∙ ap (λ x. take i ms ++ x ∷ []) (sym is)))
 
--- what one of them asks for is known
+-- one of several known members asks for what is known
 pub known-at : (n k : ℕ) (ms : List Member) (i : ℕ) (m : Member) → n ≤ k → i < length ms → m ≡ get_or ms i m → AreKnown n ms → IsAsked k m.asks
 known-at n k ms i m le lt is known = subst (λ (x : Member). IsAsked k x.asks) (sym is) (asked-more n k (get_or ms i m).asks le (known i m lt))
 
@@ -168,7 +168,7 @@ places-append non_null place n (q ∷ ps) p =
     let e : n + suc (length ps) ≡ suc n + length ps = omega arith in
     rw e (ap (With (record { part = Item n; non_null = non_null; place = place }) q) (places-append non_null place (suc n) ps p))
 
--- what is put of a list up to some of its items
+-- gives what is put of a list up to some of its items
 abbrev pub items_put : {A : Type 0} → Bool → Place → Reader → (View → A → Program) → List A → View → List Put
 items_put non_null place R f xs v = Begins ListOf ∷ all_puts ListOf (places non_null place 0 (map (f v) xs)) R
 
@@ -193,16 +193,16 @@ items-whole non_null to_be place there R f xs i v e g le =
 
 -- ---- rows
 
-module _ (plan : PlanOf) (gs : List Group) (v : View) (onward : OnwardOf) (cov : Covers plan gs v) (lt : onward.group < length gs) where
-  -- what later loaders come to, one after another
+module _ (plan : PlanOf) (gs : List LoadingField) (v : View) (onward : OnwardOf) (cov : Covers plan gs v) (lt : onward.group < length gs) where
+  -- the program that later loaders come to, one after another
   abbrev pub joined_by : List StepOf → RowOf → Program
   joined_by = joined_object plan.definitions (object_program plan onward.levels) (children_at gs onward.group)
 
-  -- what a view says of a later load, after which so many of these loaders come
+  -- says what a view says of a later load, after which `left` of these loaders come
   pub after-missing : (left : ℕ) (steps : List StepOf) → steps ≡ steps_in (then_at gs onward.group) → v.after (later_of left onward) ≡ first_of (joined_by (last_steps left steps))
   after-missing left steps same = cov.tells (later_of left onward) lt ∙ ap (λ (ss : List StepOf). first_of (joined_by (last_steps left ss))) (sym same)
 
-  -- where none is left
+  -- says where none is left
   after-none : v.after (later_of 0 onward) ≡ first_of (joined_by [])
   after-none = after-missing 0 _ refl ∙ ap (λ (ss : List StepOf). first_of (joined_by ss)) (drop_all (length (steps_in (then_at gs onward.group)) - 0) (steps_in (then_at gs onward.group)) (omega arith))
 
@@ -210,37 +210,37 @@ module _ (plan : PlanOf) (gs : List Group) (v : View) (onward : OnwardOf) (cov :
   pub after-row : (row : RowOf) → v.after (later_of 0 onward) (row ∷ []) ≡ row_object plan.definitions (object_program plan onward.levels) (children_at gs onward.group) row
   after-row row = ap (λ (f : List RowOf → Program). f (row ∷ [])) after-none
 
-  -- what a group does with the rows of its own load
-  after-own : (lent : List Group) (next : Then) → onward.later ≡ None → lent ≡ gs → then_at lent onward.group ≡ next → v.after onward ≡ then_rows plan onward.levels next (children_at gs onward.group)
+  -- says what a group does with the rows of its own load
+  after-own : (lent : List LoadingField) (next : RowUse) → onward.later ≡ None → lent ≡ gs → then_at lent onward.group ≡ next → v.after onward ≡ then_rows plan onward.levels next (children_at gs onward.group)
   after-own lent next own same is =
       cov.tells onward lt ∙ ap (λ later. next_rows plan onward.levels later (then_at gs onward.group) (children_at gs onward.group)) own
-      ∙ ap (λ n. then_rows plan onward.levels n (children_at gs onward.group)) (ap (λ (xs : List Group). then_at xs onward.group) (sym same) ∙ is)
+      ∙ ap (λ n. then_rows plan onward.levels n (children_at gs onward.group)) (ap (λ (xs : List LoadingField). then_at xs onward.group) (sym same) ∙ is)
 
-  pub after-first : (lent : List Group) → onward.later ≡ None → lent ≡ gs → then_at lent onward.group ≡ First → v.after onward ≡ v.after (later_of 0 onward)
+  pub after-first : (lent : List LoadingField) → onward.later ≡ None → lent ≡ gs → then_at lent onward.group ≡ First → v.after onward ≡ v.after (later_of 0 onward)
   after-first lent own same is = after-own lent First own same is ∙ fun_ext first ∙ sym after-none
     where
       first : (rows : List RowOf) → then_rows plan onward.levels First (children_at gs onward.group) rows ≡ first_of (joined_by []) rows
       first [] = refl
       first (row ∷ rows) = refl
 
-  pub after-all : (lent : List Group) (rows : List RowOf) → onward.later ≡ None → lent ≡ gs → then_at lent onward.group ≡ Each → v.after onward rows ≡ items_after v gs onward 0 rows
+  pub after-all : (lent : List LoadingField) (rows : List RowOf) → onward.later ≡ None → lent ≡ gs → then_at lent onward.group ≡ Each → v.after onward rows ≡ items_after v gs onward 0 rows
   after-all lent rows own same is =
       ap (λ (f : List RowOf → Program). f rows) (after-own lent Each own same is)
       ∙ ap (λ (f : RowOf → Program). list_of (children_at gs onward.group) (map f rows)) (fun_ext (λ (row : RowOf). sym (after-row row)))
 
   -- all of the later loaders are left
-  pub after-joined : (lent : List Group) (rows : List RowOf) (left : ℕ) (next : Then) → onward.later ≡ None → lent ≡ gs → then_at lent onward.group ≡ next → left ≡ length (steps_in next)
+  pub after-joined : (lent : List LoadingField) (rows : List RowOf) (left : ℕ) (next : RowUse) → onward.later ≡ None → lent ≡ gs → then_at lent onward.group ≡ next → left ≡ length (steps_in next)
       → ((below : ChildrenOf) → then_rows plan onward.levels next below rows ≡ joined_objects plan.definitions (object_program plan onward.levels) below (steps_in next) rows) → v.after onward rows ≡ items_after v gs onward left rows
   after-joined lent rows left next own same is all joins =
-      let does : then_at gs onward.group ≡ next = ap (λ (xs : List Group). then_at xs onward.group) (sym same) ∙ is in
+      let does : then_at gs onward.group ≡ next = ap (λ (xs : List LoadingField). then_at xs onward.group) (sym same) ∙ is in
       let none : length (steps_in next) - left ≡ 0 = omega (arith, all) in
       let steps : last_steps left (steps_in (then_at gs onward.group)) ≡ steps_in next = ap (λ n. last_steps left (steps_in n)) does ∙ ap (λ k. drop k (steps_in next)) none in
       ap (λ (f : List RowOf → Program). f rows) (after-own lent next own same is) ∙ joins (children_at gs onward.group)
       ∙ ap (λ (f : RowOf → Program). list_of (children_at gs onward.group) (map f rows))
       (fun_ext (λ (row : RowOf). sym (ap (λ (f : List RowOf → Program). f (row ∷ [])) (after-missing left _ refl) ∙ ap (λ (ss : List StepOf). joined_by ss row) steps)))
 
-  -- where so many later loaders came to from a row
-  pub after-followed : (left : ℕ) (non_null : Bool) (R : Reader) (steps : List StepOf) (row : RowOf) (f : Followed) → steps ≡ steps_in (then_at gs onward.group) → FollowsTo R steps left row f
+  -- says where the last `left` of the later loaders came to from a row
+  pub after-followed : (left : ℕ) (non_null : Bool) (R : Reader) (steps : List StepOf) (row : RowOf) (f : ViaRows) → steps ≡ steps_in (then_at gs onward.group) → FollowsTo R steps left row f
       → puts non_null (v.after (later_of left onward) (row ∷ [])) R ≡ followed_puts non_null R joined_by steps f
   after-followed left non_null R steps row f same is =
       ap (λ (f : List RowOf → Program). puts non_null (f (row ∷ [])) R) (after-missing left steps same) ∙ is non_null plan.definitions (object_program plan onward.levels) (children_at gs onward.group)
@@ -254,7 +254,7 @@ module _ (plan : PlanOf) (gs : List Group) (v : View) (onward : OnwardOf) (cov :
 
 -- ---- an object of the only type of its group
 
-module _ (plan : PlanOf) (gs : List Group) (v : View) (onward : OnwardOf) (cov : Covers plan gs v) (lt : onward.group < length gs) where
+module _ (plan : PlanOf) (gs : List LoadingField) (v : View) (onward : OnwardOf) (cov : Covers plan gs v) (lt : onward.group < length gs) where
   -- its program is that of the type's fields
   pub after-only : (row : RowOf) (ms : List Member) → IsWhole plan gs (children_at gs onward.group) ms
       → v.after (later_of 0 onward) (row ∷ []) ≡ object_program plan onward.levels (children_at gs onward.group).type_name (children_at gs onward.group).fields row

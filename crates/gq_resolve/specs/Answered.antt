@@ -1,4 +1,4 @@
--- What a response and its errors say, and the text of an answer.
+-- Definitions of what a response and its errors say, and the text of an answer.
 use Rattle.std.specs.Prelude.{ℕ, suc, Bool, true, false, List, [], ◌∷◌, map, String, string_bytes, codes, decimal}
 use Rattle.std.specs.Fmt.{signed_decimal}
 use Rattle.json.specs.Json.{Json, null, boolean, number, string, array, object, Items, no_items, item, Members, no_members, member}
@@ -6,12 +6,12 @@ use Rattle.std.specs.declared.alloc.Global.{Global}
 use Rattle.answer_json.specs.declared.response.Response.{Response, fold-Response}
 use Rattle.answer_json.specs.declared.response.Response.TheOpen.{Response-F}
 use Rattle.answer_json.specs.declared.response.FieldError.{FieldError}
-use Rattle.answer_json.specs.declared.response.PathPart.{PathPart}
-use Rattle.answer_json.specs.declared.response.PathPart.TheVariants as path
+use Rattle.answer_json.specs.declared.response.PathSegment.{PathSegment}
+use Rattle.answer_json.specs.declared.response.PathSegment.TheVariants as path
 use Rattle.answer_json.specs.Answer.{places_json, json_text}
 use Rattle.execution.specs.Program.{Leaf, Text, Int, Boolean, ListOf, ObjectOf, Part, Key, Item}
 use Rattle.execution.specs.Completion.{ResponseOf, NullResponse, LeafResponse, Holding, ResponsesOf, NoResponses, Responding, ErrorOf, AnsweredOf}
-use Rattle.gq_resolve.specs.declared.answered.Answered.{Answered}
+use Rattle.gq_resolve.specs.declared.answered.ExecutionResult.{ExecutionResult}
 
 -- ---- what a response and its errors say
 
@@ -36,7 +36,7 @@ response_step (Response-F.Object v) = Holding ObjectOf (members_of v.items)
 abbrev pub response_of : Response → ResponseOf
 response_of = fold-Response ResponseOf response_step
 
-abbrev pub part_of : PathPart → Part
+abbrev pub part_of : PathSegment → Part
 part_of (path.Key k) = Key (string_bytes k)
 part_of (path.Item i) = Item i
 
@@ -46,7 +46,7 @@ error_of e = record { message = string_bytes e.message; place = e.place; path = 
 abbrev pub errors_of : List FieldError → List ErrorOf
 errors_of es = map error_of es
 
-abbrev pub answered_of : Answered → AnsweredOf
+abbrev pub answered_of : ExecutionResult → AnsweredOf
 answered_of a = record { response = response_of a.response; errors = errors_of a.errors.items }
 
 -- ---- *Response text* (section 7.1)

@@ -1,4 +1,5 @@
--- What a list of puts builds: a response with its errors (sections 6.4.3 and 6.4.4 of the GraphQL specification).
+-- Definitions of what a list of puts builds: a response with its errors (sections 6.4.3 and 6.4.4 of the GraphQL
+-- specification).
 use Rattle.std.specs.Prelude.{◌≡◌, refl, ℕ, suc, Bool, false, ◌||◌, ◌&&◌, List, [], ◌∷◌, ◌++◌, map, reverse, String, if◌then◌else◌}
 use Rattle.std.proofs.Common.{ap, sym, ◌∙◌}
 use Rattle.std.specs.declared.alloc.Global.{Global}
@@ -12,8 +13,8 @@ use Rattle.gq_resolve.specs.Answered.{part_of, response_of, is_null_response, er
 use Rattle.gq_resolve.specs.Puts.{Put, Begins, Ends, Enters, Has, Waits, puts}
 use Rattle.gq_resolve.specs.Positions.{is_non_null}
 use Rattle.gq_resolve.specs.declared.level.Position.{Position}
-use Rattle.gq_resolve.specs.declared.level.Parts.{Parts}
-use Rattle.gq_resolve.specs.declared.level.Parts.TheVariants as parts
+use Rattle.gq_resolve.specs.declared.level.PartialValue.{PartialValue}
+use Rattle.gq_resolve.specs.declared.level.PartialValue.TheVariants as parts
 use Rattle.gq_resolve.specs.declared.level.Level.{Level}
 use Rattle.gq_resolve.specs.declared.builder.Builder.{Builder}
 
@@ -24,8 +25,8 @@ pub record LevelOf : Type 0 where
   pub parts : ResponsesOf
   pub pulled : Bool
 
--- What is built so far: what has begun and not ended, innermost first; the position of what is put next; the response of the
--- root, once it is put; and the errors.
+-- Says what is built so far: what has begun and not ended, innermost first; the position of what is put next; the response
+-- of the root, once it is put; and the errors.
 pub record BuiltOf : Type 0 where
   pub levels : List LevelOf
   pub position : FieldPosition
@@ -43,8 +44,8 @@ abbrev pub count_of : ResponsesOf → ℕ
 count_of NoResponses = 0
 count_of (Responding part r rs) = suc (count_of rs)
 
--- The step to a position of an object, or of a list that has so many before it. An item's step is its place, whatever it was
--- entered by, and a field's step is a key.
+-- The step to a position of an object, or of a list that has `n` before it. An item's step is its
+-- place, whatever it was entered by, and a field's step is a key.
 abbrev pub step_in : Kind → ℕ → Part → Part
 step_in ListOf n part = Item n
 step_in ObjectOf n (Key key) = Key key
@@ -128,9 +129,10 @@ abbrev mutual
 
   pub AreNumbered : Kind → ℕ → Programs → Type 0
   AreNumbered kind n End = Unit {0}
-  AreNumbered kind n (With position p rest) = (step_in kind n position.part ≡ position.part) × IsNumbered p × AreNumbered kind (suc n) rest
+  AreNumbered kind n (With position p rest) = (step_in kind n position.part ≡ position.part)
+      × IsNumbered p × AreNumbered kind (suc n) rest
 
--- what was put since the start is what a program, of which nothing waits, comes to
+-- the answer built since the start is what a program comes to, of which nothing waits
 pub record IsWhole (b : BuiltOf) (p : Program) (R : Reader) : Type 0 where
   pub numbered : IsNumbered p
   pub closed : is_open (tree p R) ≡ false
@@ -144,11 +146,11 @@ member_seen m = (m.0, response_of m.1)
 abbrev pub position_held : Position → FieldPosition
 position_held p = record { part = part_of p.step; non_null = is_non_null p.nullability; place = p.place }
 
-abbrev pub kind_held : Parts → Kind
+abbrev pub kind_held : PartialValue → Kind
 kind_held (parts.Items rs) = ListOf
 kind_held (parts.Fields ms) = ObjectOf
 
-abbrev pub parts_held : Parts → ResponsesOf
+abbrev pub parts_held : PartialValue → ResponsesOf
 parts_held (parts.Items rs) = items_from 0 (map response_of rs.items)
 parts_held (parts.Fields ms) = members_of (map member_seen ms.items)
 
@@ -162,5 +164,6 @@ abbrev pub built_of : Builder → BuiltOf
 built_of b = record { levels = levels_seen b.levels.items; position = position_held b.position; top = response_of b.top; errors = errors_of b.errors.items }
 
 -- the puts of two calls, one after the other
-pub goes-append : (ps qs : List Put) (a b c : BuiltOf) → b ≡ built ps a → c ≡ built qs b → c ≡ built (ps ++ qs) a
+pub goes-append : (ps qs : List Put) (a b c : BuiltOf)
+    → b ≡ built ps a → c ≡ built qs b → c ≡ built (ps ++ qs) a
 goes-append ps qs a b c f g = g ∙ ap (built qs) f ∙ sym (built-append ps qs a)

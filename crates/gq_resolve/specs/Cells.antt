@@ -1,4 +1,4 @@
--- What contracts see of a leaf's cell and its value, and of a row's object type.
+-- Definitions of what contracts see of a leaf's cell and its value, and of a row's object type.
 use Rattle.std.specs.Prelude.{string_bytes}
 use Rattle.gq_parser.specs.Tree.{type_of}
 use Rattle.gq_schema.specs.Types.{tree_of}

@@ -1,17 +1,17 @@
--- What a position completes to (sections 6.4.3 and 6.4.4).
+-- Definitions of what a position completes to (sections 6.4.3 and 6.4.4).
 use Rattle.std.specs.Prelude.{Bool, not, if◌then◌else◌}
 use Rattle.execution.specs.Completion.{ResponseOf}
-use Rattle.gq_resolve.specs.declared.completing.Completed.{Completed}
-use Rattle.gq_resolve.specs.declared.completing.Completed.TheVariants as rust
+use Rattle.gq_resolve.specs.declared.completing.CompletedValue.{CompletedValue}
+use Rattle.gq_resolve.specs.declared.completing.CompletedValue.TheVariants as rust
 use Rattle.gq_resolve.specs.Answered.{response_of, is_null_response}
 
--- what contracts see of a completed position
+-- says what contracts see of a completed position
 pub data CompletedOf : Type 0 where
   Value : ResponseOf → CompletedOf
   Null : CompletedOf
   NullAbove : Bool → CompletedOf
 
-abbrev pub completed_of : Completed → CompletedOf
+abbrev pub completed_of : CompletedValue → CompletedOf
 completed_of (rust.Value response) = Value (response_of response)
 completed_of rust.Null = Null
 completed_of (rust.NullAbove new) = NullAbove new

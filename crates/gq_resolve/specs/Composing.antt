@@ -1,4 +1,5 @@
--- What is put into an output, one part after another. These are proofs, which the laws of its sink need here.
+-- Definitions of what is put into an output, one part after another. These are proofs, which the laws of its
+-- sink need here.
 use Rattle.std.proofs.Common.{◌≡◌, ◌<◌, ◌≤◌, ℕ, List, [], ◌∷◌, ◌++◌, refl, sym, ap, ◌∙◌, subst, append_assoc, append-nil, length, take}
 use Rattle.std.specs.List.{list_all, flat_map}
 use Rattle.std.proofs.lemmas.Grind.{flat_map-append}
@@ -15,10 +16,11 @@ use Rattle.plan_program.specs.PlanPrograms.{read_key}
 use Rattle.gq_resolve.specs.Puts.{Put, OnwardOf, View}
 use Rattle.gq_resolve.specs.Positions.{onward_of}
 use Rattle.gq_resolve.specs.Written.{is_plain, put_tokens, asks, put_asks, thinned, with_load, left_of, all_asks, AreWithin, IsWithin, count_waiting, Puts}
-use Rattle.gq_resolve.specs.declared.waiting.Blocked.{Blocked}
+use Rattle.gq_resolve.specs.declared.waiting.BlockedPosition.{BlockedPosition}
 use Rattle.gq_resolve.specs.declared.output.Output.{Output}
 
-pub thinned-append : (noted xs ys : List Load) → thinned noted (xs ++ ys) ≡ thinned (thinned noted xs) ys
+pub thinned-append : (noted xs ys : List Load)
+    → thinned noted (xs ++ ys) ≡ thinned (thinned noted xs) ys
 thinned-append noted [] ys = refl
 thinned-append noted (x ∷ xs) ys = thinned-append (with_load noted x) xs ys
 
@@ -30,7 +32,8 @@ puts-none v o = record {
   written = λ w. (w, refl, sym (append-nil o.writer.tokens));
 }
 
-pub puts-more : (v : View) (ps qs : List Put) (a b c : Output) → Puts v ps a b → Puts v qs b c → Puts v (ps ++ qs) a c
+pub puts-more : (v : View) (ps qs : List Put) (a b c : Output)
+    → Puts v ps a b → Puts v qs b c → Puts v (ps ++ qs) a c
 puts-more v ps qs a b c p q = record {
   first = (p.first.0 ++ q.first.0, q.first.1 ∙ ap (λ bs. bs ++ q.first.0) p.first.1 ∙ append_assoc a.blocked p.first.0 q.first.0);
   within = λ h. q.within (p.within h);
@@ -41,8 +44,11 @@ puts-more v ps qs a b c p q = record {
       let u = q.written w in
       let t = p.written u.0 in (
         t.0,
-        list_all-append is_plain ps qs ∙ and_from (list_all is_plain ps) (list_all is_plain qs) t.1 u.1,
-        u.2 ∙ ap (λ ts. ts ++ flat_map put_tokens qs) t.2 ∙ append_assoc a.writer.tokens (flat_map put_tokens ps) (flat_map put_tokens qs) ∙ ap (λ ts. a.writer.tokens ++ ts) (sym (flat_map-append put_tokens ps qs)),
+        list_all-append is_plain ps qs
+            ∙ and_from (list_all is_plain ps) (list_all is_plain qs) t.1 u.1,
+        u.2 ∙ ap (λ ts. ts ++ flat_map put_tokens qs) t.2
+            ∙ append_assoc a.writer.tokens (flat_map put_tokens ps) (flat_map put_tokens qs)
+            ∙ ap (λ ts. a.writer.tokens ++ ts) (sym (flat_map-append put_tokens ps qs)),
       );
 }
 
@@ -51,22 +57,28 @@ puts-more v ps qs a b c p q = record {
 pub within-rises : (n m : ℕ) (o : Output) → n ≤ m → IsWithin n o → IsWithin m o
 within-rises n m o le h = λ k d lt. lt_of_lt_of_le (h k d lt) le
 
-pub within-stays : (v : View) (ps : List Put) (a b : Output) → Puts v ps a b → IsWithin v.count a → IsWithin v.count b
+pub within-stays : (v : View) (ps : List Put) (a b : Output)
+    → Puts v ps a b → IsWithin v.count a → IsWithin v.count b
 within-stays v ps a b p = p.within
 
 -- as many as before are the same
-same-keys : (a b rest : List Blocked) → b ≡ a ++ rest → length a ≡ length b → b ≡ a
+same-keys : (a b rest : List BlockedPosition) → b ≡ a ++ rest → length a ≡ length b → b ≡ a
 same-keys a b rest e same =
-    sym (take_all (length b) b (le_refl (length b))) ∙ ap (λ n. take n b) (sym same) ∙ ap (take (length a)) e ∙ take_at a rest (length a) refl
+    sym (take_all (length b) b (le_refl (length b))) ∙ ap (λ n. take n b) (sym same)
+    ∙ ap (take (length a)) e ∙ take_at a rest (length a) refl
 
 -- over two views that tell the same of them, they ask the same
-pub asks-narrow : (v w : View) (n : ℕ) (bs : List Blocked) (R : Reader) → ((o : OnwardOf) → o.group < n → v.after o ≡ w.after o) → AreWithin n bs → all_asks v bs R ≡ all_asks w bs R
+pub asks-narrow : (v w : View) (n : ℕ) (bs : List BlockedPosition) (R : Reader)
+    → ((o : OnwardOf) → o.group < n → v.after o ≡ w.after o)
+    → AreWithin n bs → all_asks v bs R ≡ all_asks w bs R
 asks-narrow v w n [] R same h = refl
 asks-narrow v w n (b ∷ bs) R same h =
-    ap (λ (f : List RowOf → Program). asks (read_key b.loader (key_of b.key) f) R ++ all_asks v bs R) (same (onward_of b.onward) (All-head (λ (x : Blocked). x.onward.group < n) b bs h))
-    ∙ ap (λ ls. asks (left_of w b) R ++ ls) (asks-narrow v w n bs R same (All-tail (λ (x : Blocked). x.onward.group < n) b bs h))
+    ap (λ (f : List RowOf → Program). asks (read_key b.loader (key_of b.key) f) R ++ all_asks v bs R) (same (onward_of b.onward) (All-head (λ (x : BlockedPosition). x.onward.group < n) b bs h))
+    ∙ ap (λ ls. asks (left_of w b) R ++ ls) (asks-narrow v w n bs R same (All-tail (λ (x : BlockedPosition). x.onward.group < n) b bs h))
 
-pub puts-narrow : (v w : View) (n : ℕ) (ps : List Put) (a b : Output) → n ≤ v.count → ((o : OnwardOf) → o.group < n → v.after o ≡ w.after o) → IsWithin n a → count_waiting a ≡ count_waiting b → Puts w ps a b → Puts v ps a b
+pub puts-narrow : (v w : View) (n : ℕ) (ps : List Put) (a b : Output) → n ≤ v.count
+    → ((o : OnwardOf) → o.group < n → v.after o ≡ w.after o) → IsWithin n a
+    → count_waiting a ≡ count_waiting b → Puts w ps a b → Puts v ps a b
 puts-narrow v w n ps a b le same within count p =
     let keys : b.blocked ≡ a.blocked = same-keys a.blocked b.blocked p.first.0 p.first.1 count in
     record {
@@ -74,7 +86,8 @@ puts-narrow v w n ps a b le same within count p =
       within = λ h. subst (AreWithin v.count) (sym keys) h;
       asked = λ R.
           let alike : all_asks v a.blocked R ≡ all_asks w a.blocked R = asks-narrow v w n a.blocked R same within in
-          ap (λ bs. thinned [] (all_asks v bs R)) keys ∙ ap (thinned []) alike ∙ ap (λ bs. thinned [] (all_asks w bs R)) (sym keys)
+          ap (λ bs. thinned [] (all_asks v bs R)) keys ∙ ap (thinned []) alike
+          ∙ ap (λ bs. thinned [] (all_asks w bs R)) (sym keys)
           ∙ p.asked R ∙ ap (λ ls. thinned (thinned [] ls) (flat_map (put_asks R) ps)) (sym alike);
       written = p.written;
     }

@@ -1,4 +1,4 @@
--- What an evaluation answers, and what it adds to the wants.
+-- Definitions of what an evaluation answers, and what it adds to the wants.
 use Rattle.std.specs.Prelude.{◌≡◌, ◌≢◌, List, [], ◌++◌, length, nat_lt, Some, None, if◌then◌else◌}
 use Rattle.load_memory.specs.Pairs.{MemoryOf, look}
 use Rattle.load_queue.specs.Wanted.{WantedOf}
@@ -8,14 +8,14 @@ use Rattle.execution.specs.Executed.{exec}
 use Rattle.execution.specs.Front.{front, missing, wanting}
 use Rattle.futures.specs.declared.task.Poll.{Poll}
 use Rattle.futures.specs.declared.task.Poll.TheVariants.{Ready, Pending}
-use Rattle.gq_resolve.specs.declared.answered.Answered.{Answered}
+use Rattle.gq_resolve.specs.declared.answered.ExecutionResult.{ExecutionResult}
 use Rattle.gq_resolve.specs.Answered.{answered_of}
 
--- what a memory says of a load
+-- gives what a memory says of a load
 abbrev pub reader : MemoryOf → Reader
 reader m = read m.modes (look m.pairs)
 
--- what the memory says of the loads of its loaders; nothing of others, which no plan has
+-- gives what the memory says of the loads of its loaders; nothing of others, which no plan has
 abbrev pub lookup : MemoryOf → Reader
 lookup m load = if nat_lt load.loader (length m.modes) then reader m load else None
 
@@ -28,8 +28,10 @@ abbrev pub missing_over : MemoryOf → Program → List Load
 missing_over m p = missing (reader m) (needs p (reader m))
 
 -- Ready with the execution exactly where the front is empty, and the wants are as they were. Else the front was added.
-abbrev pub IsEvaluated : List WantedOf → List WantedOf → Program → MemoryOf → Poll Answered → Type 0
-IsEvaluated old new p m (Ready a) = (front_over m p ≡ []) × (exec p (reader m) ≡ Some (answered_of a)) × (new ≡ old)
+abbrev pub IsEvaluated : List WantedOf → List WantedOf
+    → Program → MemoryOf → Poll ExecutionResult → Type 0
+IsEvaluated old new p m (Ready a) = (front_over m p ≡ [])
+    × (exec p (reader m) ≡ Some (answered_of a)) × (new ≡ old)
 IsEvaluated old new p m Pending = (front_over m p ≢ []) × (new ≡ wanting old (front_over m p))
 
 -- The wants are the old ones, to which the first of these loads were added.

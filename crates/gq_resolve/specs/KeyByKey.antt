@@ -20,12 +20,14 @@ abbrev mutual
   IsKeyByKey (Is own) calls t = (calls ≡ []) × (t ≡ At own)
   IsKeyByKey (Read load next) calls t =
       (outcome : OutcomeOf) × (later : List KeyCall) × (calls ≡ record { load = load; outcome = outcome } ∷ later) × IsKeyByKey (next outcome) later t
-  IsKeyByKey (Under kind below) calls t = (ts : Trees) × (t ≡ Over kind ts) × AreKeyByKey below calls ts
+  IsKeyByKey (Under kind below) calls t = (ts : Trees)
+      × (t ≡ Over kind ts) × AreKeyByKey below calls ts
 
   pub AreKeyByKey : Programs → List KeyCall → Trees → Type 0
   AreKeyByKey End calls ts = (calls ≡ []) × (ts ≡ NoMore)
   AreKeyByKey (With position p rest) calls ts =
-      (first : List KeyCall) × (later : List KeyCall) × (t : Tree) × (others : Trees) × (calls ≡ first ++ later) × (ts ≡ And position t others)
+      (first : List KeyCall) × (later : List KeyCall) × (t : Tree) × (others : Trees)
+      × (calls ≡ first ++ later) × (ts ≡ And position t others)
       × IsKeyByKey p first t × AreKeyByKey rest later others
 
 -- each call gave what a reader says of its load
@@ -33,7 +35,7 @@ abbrev pub AreGivenBy : Reader → List KeyCall → Type 0
 AreGivenBy R [] = Unit {0}
 AreGivenBy R (c ∷ cs) = (R c.load ≡ Some c.outcome) × AreGivenBy R cs
 
--- execution key by key, by what a reader says, makes so many calls
+-- execution key by key, by what a reader says, makes `count` calls
 pub record MakesCalls (p : Program) (R : Reader) (count : ℕ) : Type 0 where
   pub calls : List KeyCall
   pub executed : IsKeyByKey p calls (tree p R)

@@ -1,4 +1,4 @@
--- What contracts see of a key over a row.
+-- Definitions of what contracts see of a key over a row.
 use Rattle.std.specs.Prelude.{ℕ, List, option_map}
 use Rattle.load_memory.specs.Keys.{borrowed_of}
 use Rattle.load_memory.specs.Rows.{RowOf}
@@ -7,10 +7,10 @@ use Rattle.plan_program.specs.Texts.{no_column_message}
 use Rattle.plan_program.specs.PlanPrograms.{PartOver, known_part, lacking, read_key}
 use Rattle.gq_resolve.specs.declared.keys.KeyOver.{KeyOver}
 use Rattle.gq_resolve.specs.declared.keys.KeyOver.TheVariants as key
-use Rattle.gq_resolve.specs.declared.keys.PartOver as rust-part
-use Rattle.gq_resolve.specs.declared.keys.PartOver.TheVariants as part
+use Rattle.gq_resolve.specs.declared.keys.KeyPartOver as rust-part
+use Rattle.gq_resolve.specs.declared.keys.KeyPartOver.TheVariants as part
 
-abbrev pub part_seen : rust-part.PartOver → PartOver
+abbrev pub part_seen : rust-part.KeyPartOver → PartOver
 part_seen (part.Known text) = known_part (option_map (λ t. t.now) text)
 part_seen (part.Lacking column) = lacking column.now
 

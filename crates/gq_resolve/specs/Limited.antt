@@ -10,8 +10,8 @@ use Rattle.gq_check.specs.Plans.{PlanOf}
 use Rattle.plan_program.specs.PlanPrograms.{plan_program}
 use Rattle.gq_resolve.specs.Answered.{answer_text}
 use Rattle.gq_resolve.specs.Suspended.{IsResponse, Advanced}
-use Rattle.gq_resolve.specs.declared.advance.Walked.{Walked}
-use Rattle.gq_resolve.specs.declared.answered.Answered.{Answered}
+use Rattle.gq_resolve.specs.declared.advance.FinishedWalk.{FinishedWalk}
+use Rattle.gq_resolve.specs.declared.answered.ExecutionResult.{ExecutionResult}
 use Rattle.gq_resolve.specs.declared.output.Output.{Output}
 use Rattle.gq_resolve.specs.Evaluated.{lookup}
 
@@ -19,23 +19,25 @@ use Rattle.gq_resolve.specs.Evaluated.{lookup}
 abbrev pub too_long_text : List ℕ
 too_long_text = json_text (refusal_json (codes "answer too long") None)
 
--- a text of more than so many bytes is refused
+-- a text of more than `most` bytes is refused
 abbrev pub limited_text : ℕ → List ℕ → List ℕ
 limited_text most text = if nat_lt most (length text) then too_long_text else text
 
--- the text of an answer that may have so many bytes
+-- the text of an answer that may have `most` bytes
 abbrev pub limited_answer : ℕ → AnsweredOf → List ℕ
 limited_answer most answered = limited_text most (answer_text answered)
 
 -- the answer of a plan of which nothing is missing, or none where its text is longer
-abbrev pub RespondsWithin : ℕ → PlanOf → MemoryOf → Option Answered → Type 0
+abbrev pub RespondsWithin : ℕ → PlanOf → MemoryOf → Option ExecutionResult → Type 0
 RespondsWithin most plan m (Some a) = IsResponse plan m a
-RespondsWithin most plan m None = is_open (tree (plan_program plan) (lookup m)) ≡ false → most < length (answer_text (completed (tree (plan_program plan) (lookup m))))
+RespondsWithin most plan m None = is_open (tree (plan_program plan) (lookup m)) ≡ false
+    → most < length (answer_text (completed (tree (plan_program plan) (lookup m))))
 
 -- the execution has come to its end
-abbrev pub IsDone : PlanOf → MemoryOf → Walked Output → Type 0
+abbrev pub IsDone : PlanOf → MemoryOf → FinishedWalk Output → Type 0
 IsDone plan m w = Advanced plan m w × (w.out.blocked ≡ [])
 
 -- the limited text of a plan's answer, of which nothing is missing
 abbrev pub IsLimitedAnswer : ℕ → PlanOf → MemoryOf → String Global → Type 0
-IsLimitedAnswer most plan m text = is_open (tree (plan_program plan) (lookup m)) ≡ false → string_bytes text ≡ limited_answer most (completed (tree (plan_program plan) (lookup m)))
+IsLimitedAnswer most plan m text = is_open (tree (plan_program plan) (lookup m)) ≡ false
+    → string_bytes text ≡ limited_answer most (completed (tree (plan_program plan) (lookup m)))

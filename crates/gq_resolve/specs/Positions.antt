@@ -1,16 +1,16 @@
--- What contracts see of a position.
+-- Definitions of what contracts see of a position.
 use Rattle.std.specs.Prelude.{ℕ, Bool, false, true, Some}
 use Rattle.execution.specs.Program as program
 use Rattle.gq_resolve.specs.Puts.{OnwardOf}
-use Rattle.gq_resolve.specs.declared.positions.Kind as rust-kind
-use Rattle.gq_resolve.specs.declared.positions.Kind.TheVariants as kind
+use Rattle.gq_resolve.specs.declared.positions.PositionKind as rust-kind
+use Rattle.gq_resolve.specs.declared.positions.PositionKind.TheVariants as kind
 use Rattle.gq_resolve.specs.declared.positions.Nullability as rust-nullability
 use Rattle.gq_resolve.specs.declared.positions.Nullability.TheVariants as nullability
 use Rattle.gq_resolve.specs.declared.positions.FieldPosition as rust-position
 use Rattle.gq_resolve.specs.declared.positions.Items as rust-items
 use Rattle.gq_resolve.specs.declared.positions.Onward as rust-onward
 
-abbrev pub kind_of : rust-kind.Kind → program.Kind
+abbrev pub kind_of : rust-kind.PositionKind → program.Kind
 kind_of kind.List = program.ListOf
 kind_of kind.Object = program.ObjectOf
 
@@ -25,7 +25,7 @@ position_seen s = record { part = program.Key s.key.now; non_null = is_non_null 
 abbrev pub onward_of : rust-onward.Onward → OnwardOf
 onward_of o = record { group = o.group; later = o.later; levels = o.levels }
 
--- that it goes on so after a later load of a `via`, after which so many loaders come
+-- that it goes on so after a later load of a `via`, after which `left` loaders come
 abbrev pub later_of : ℕ → OnwardOf → OnwardOf
 later_of left o = record { group = o.group; later = Some left; levels = o.levels }
 

@@ -1,4 +1,4 @@
--- What a walk over a program puts into a sink, one thing after another.
+-- Definitions of what a walk over a program puts into a sink, one thing after another.
 use Rattle.std.specs.Prelude.{◌≡◌, ◌<◌, ℕ, Bool, List, [], ◌∷◌, ◌++◌, Option}
 use Rattle.load_memory.specs.Rows.{RowOf}
 use Rattle.load_memory.specs.Keys.{KeyOf}
@@ -17,7 +17,7 @@ pub data Put : Type 0 where
   -- a position that waits for a load, and then goes on so
   Waits : Program → Put
 
--- what is put of a position, whose type is non-null or not
+-- gives what is put of a position, whose type is non-null or not
 abbrev mutual
   pub puts : Bool → Program → Reader → List Put
   puts non_null (Is leaf_value) R = Has non_null leaf_value ∷ []
@@ -28,14 +28,15 @@ abbrev mutual
   all_puts kind End R = []
   all_puts kind (With position p rest) R = Enters kind position ∷ (puts position.non_null p R ++ all_puts kind rest R)
 
--- How a position goes on after a load: by what its group does with the rows, or, after a later load of a `via`, by the first of
--- them and so many more loaders. Below it are so many levels of objects.
+-- Says how a position goes on after a load: by what its group does with the rows, or, after a later
+-- load of a `via`, by the first of them and `later` more loaders. Below it are `levels` levels of
+-- objects.
 pub record OnwardOf : Type 0 where
   pub group : ℕ
   pub later : Option ℕ
   pub levels : ℕ
 
--- how many groups there are, and what each does with the rows of its load
+-- says how many groups there are, and what each does with the rows of its load
 pub record View : Type 0 where
   pub count : ℕ
   pub after : OnwardOf → List RowOf → Program

@@ -16,41 +16,43 @@ use Rattle.gq_resolve.specs.Evaluated.{front_over, missing_over, lookup}
 use Rattle.gq_resolve.specs.Groups.{after_at, Makes, AreRight}
 use Rattle.gq_resolve.specs.Puts.{Put, View, puts}
 use Rattle.gq_resolve.specs.Written.{asks, thinned, all_asks, AreWithin, IsWriting}
-use Rattle.gq_resolve.specs.declared.groups.Group.{Group}
-use Rattle.gq_resolve.specs.declared.waiting.Blocked.{Blocked}
+use Rattle.gq_resolve.specs.declared.loading_fields.LoadingField.{LoadingField}
+use Rattle.gq_resolve.specs.declared.waiting.BlockedPosition.{BlockedPosition}
 use Rattle.gq_resolve.specs.declared.output.Output.{Output}
-use Rattle.gq_resolve.specs.declared.advance.Rooted.{Rooted}
-use Rattle.gq_resolve.specs.declared.advance.Stopped.{Stopped}
-use Rattle.gq_resolve.specs.declared.advance.Walked.{Walked}
-use Rattle.gq_resolve.specs.declared.answered.Answered.{Answered}
+use Rattle.gq_resolve.specs.declared.advance.RootObject.{RootObject}
+use Rattle.gq_resolve.specs.declared.advance.Suspension.{Suspension}
+use Rattle.gq_resolve.specs.declared.advance.FinishedWalk.{FinishedWalk}
+use Rattle.gq_resolve.specs.declared.answered.ExecutionResult.{ExecutionResult}
 use Rattle.gq_resolve.specs.declared.root_state.RootState.{RootState}
-use Rattle.gq_resolve.specs.declared.tour.Tour.{Tour}
+use Rattle.gq_resolve.specs.declared.walk.Walk.{Walk}
 
--- what the groups do
-abbrev pub view_of : PlanOf → List Group → View
+-- gives what the groups do
+abbrev pub view_of : PlanOf → List LoadingField → View
 view_of plan gs = record { count = length gs; after = after_at plan gs }
 
 -- the members of the root, and groups that are right
-pub record IsRooted (plan : PlanOf) (r : Rooted) : Type 0 where
+pub record IsRooted (plan : PlanOf) (r : RootObject) : Type 0 where
   pub root : Makes plan r.groups.items r.members.items (root_prepared plan)
   pub right : AreRight plan r.groups.items
 
 -- Over each larger memory these positions ask what the plan asks, each load once.
-pub record MayGoOn (plan : PlanOf) (m : MemoryOf) (r : Rooted) (bs : List Blocked) : Type 0 where
+pub record MayGoOn (plan : PlanOf) (m : MemoryOf) (r : RootObject) (bs : List BlockedPosition) : Type 0 where
   pub rooted : IsRooted plan r
   pub within : AreWithin (length r.groups.items) bs
-  pub ask : (R : Reader) → AnswersMore (lookup m) R → thinned [] (all_asks (view_of plan r.groups.items) bs R) ≡ thinned [] (asks (plan_program plan) R)
+  pub ask : (R : Reader) → AnswersMore (lookup m) R
+      → thinned [] (all_asks (view_of plan r.groups.items) bs R)
+      ≡ thinned [] (asks (plan_program plan) R)
 
 -- an execution that begins at its root again fits every memory
-abbrev pub FitsWaiting : PlanOf → MemoryOf → Rooted → Option (List Blocked) → Type 0
+abbrev pub FitsWaiting : PlanOf → MemoryOf → RootObject → Option (List BlockedPosition) → Type 0
 FitsWaiting plan m r None = IsRooted plan r
 FitsWaiting plan m r (Some bs) = MayGoOn plan m r bs
 
-abbrev pub FitsStopped : PlanOf → MemoryOf → Option Stopped → Type 0
+abbrev pub FitsStopped : PlanOf → MemoryOf → Option Suspension → Type 0
 FitsStopped plan m None = Unit {0}
 FitsStopped plan m (Some s) = FitsWaiting plan m s.rooted s.waiting
 
--- what plan it executes
+-- gives what plan it executes
 abbrev pub plan_in : RootState → PlanOf
 plan_in s = plan_of s.plan.now
 
@@ -60,47 +62,52 @@ FitsMemory s m = FitsStopped (plan_in s) m s.stopped
 -- ---- how far a poll comes
 
 -- the plan that a walk goes over
-abbrev pub plan_on : Tour → PlanOf
-plan_on tour = plan_of tour.plan.now
+abbrev pub plan_on : Walk → PlanOf
+plan_on walk = plan_of walk.plan.now
 
-abbrev pub FitsTour : Tour → Option Stopped → Type 0
-FitsTour tour stopped = FitsStopped (plan_on tour) tour.memory.now stopped
+abbrev pub FitsTour : Walk → Option Suspension → Type 0
+FitsTour walk stopped = FitsStopped (plan_on walk) walk.memory.now stopped
 
-abbrev pub load_of : Blocked → Load
+abbrev pub load_of : BlockedPosition → Load
 load_of b = record { loader = b.loader; key = key_of b.key }
 
-abbrev pub loads_of : List Blocked → List Load
+abbrev pub loads_of : List BlockedPosition → List Load
 loads_of bs = map load_of bs
 
--- what waits in a sink goes on at one of the groups of a root
-abbrev pub WaitsBelow : {S : Type 0} → (ℕ → S → Type 0) → Rooted → S → Type 0
+-- says what waits in a sink goes on at one of the groups of a root
+abbrev pub WaitsBelow : {S : Type 0} → (ℕ → S → Type 0) → RootObject → S → Type 0
 WaitsBelow below r s = below (length r.groups.items) s
 
 -- the whole plan was put, by what the groups do
-pub record GoesOver {S : Type 0} (goes : View → List Put → S → S → Type 0) (plan : PlanOf) (m : MemoryOf) (old : S) (w : Walked S) : Type 0 where
+pub record GoesOver {S : Type 0} (goes : View → List Put → S → S → Type 0) (plan : PlanOf) (m : MemoryOf) (old : S) (w : FinishedWalk S) : Type 0 where
   pub rooted : IsRooted plan w.rooted
   pub put : goes (view_of plan w.rooted.groups.items) (puts false (plan_program plan) (lookup m)) old w.out
 
--- the same of a tour's plan and memory
-abbrev pub GoesOverTour : {S : Type 0} → (View → List Put → S → S → Type 0) → Tour → S → Walked S → Type 0
-GoesOverTour goes tour old w = GoesOver goes (plan_on tour) tour.memory.now old w
+-- says the same of a tour's plan and memory
+abbrev pub GoesOverTour : {S : Type 0} → (View → List Put → S → S → Type 0)
+    → Walk → S → FinishedWalk S → Type 0
+GoesOverTour goes walk old w = GoesOver goes (plan_on walk) walk.memory.now old w
 
--- What waits is what the plan still asks: now the loads that it lacks, and later what it then lacks. Where nothing waits and
--- no error was met, the answer was written.
-pub record Advanced (plan : PlanOf) (m : MemoryOf) (w : Walked Output) : Type 0 where
+-- Says what waits is what the plan still asks: now the loads that it lacks, and later what it then lacks. Where nothing
+-- waits and no error was met, the answer was written.
+pub record Advanced (plan : PlanOf) (m : MemoryOf) (w : FinishedWalk Output) : Type 0 where
   pub goes_on : MayGoOn plan m w.rooted w.out.blocked
   pub lacks : thinned [] (loads_of w.out.blocked) ≡ thinned [] (asks (plan_program plan) (lookup m))
-  pub written : IsWriting w.out → w.out.writer.tokens ≡ json_tokens (answered_json (completed (tree (plan_program plan) (lookup m))))
+  pub written : IsWriting w.out → w.out.writer.tokens
+      ≡ json_tokens (answered_json (completed (tree (plan_program plan) (lookup m))))
 
 -- It came to the end, and the wants are as they were. Else something is missing, and the wants got it.
-abbrev pub IsAdvanced : List WantedOf → List WantedOf → PlanOf → MemoryOf → Option (Walked Output) → Type 0
+abbrev pub IsAdvanced : List WantedOf → List WantedOf → PlanOf
+    → MemoryOf → Option (FinishedWalk Output) → Type 0
 IsAdvanced old new plan m (Some w) = Advanced plan m w × (w.out.blocked ≡ []) × (new ≡ old)
-IsAdvanced old new plan m None = (front_over m (plan_program plan) ≢ []) × (new ≡ wanting old (front_over m (plan_program plan)))
+IsAdvanced old new plan m None = (front_over m (plan_program plan) ≢ [])
+    × (new ≡ wanting old (front_over m (plan_program plan)))
 
 -- the loads that the plan needs and the memory lacks
 abbrev pub lacking : PlanOf → MemoryOf → List Load
 lacking plan m = missing_over m (plan_program plan)
 
 -- the answer of a plan of which nothing is missing
-abbrev pub IsResponse : PlanOf → MemoryOf → Answered → Type 0
-IsResponse plan m a = is_open (tree (plan_program plan) (lookup m)) ≡ false → answered_of a ≡ completed (tree (plan_program plan) (lookup m))
+abbrev pub IsResponse : PlanOf → MemoryOf → ExecutionResult → Type 0
+IsResponse plan m a = is_open (tree (plan_program plan) (lookup m)) ≡ false
+    → answered_of a ≡ completed (tree (plan_program plan) (lookup m))

@@ -1,4 +1,4 @@
--- What a walk puts into its sink, and what it does to the groups on its way.
+-- Definitions of what a walk puts into its sink, and what it does to the groups on its way.
 use Rattle.std.specs.Prelude.{◌≡◌, ◌<◌, ◌≤◌, ◌⊎◌, ℕ, Bool, false, List, [], ◌∷◌, length, map, take, Option}
 use Rattle.load_memory.specs.Keys.{KeyOf}
 use Rattle.load_memory.specs.Rows.{RowOf}
@@ -9,68 +9,74 @@ use Rattle.gq_resolve.specs.Groups.{children_at, Covers, AreRight, Grows, IsAske
 use Rattle.gq_resolve.specs.Puts.{Put, OnwardOf, View, puts}
 use Rattle.gq_resolve.specs.Positions.{is_non_null, onward_of, later_of}
 use Rattle.gq_resolve.specs.Evaluated.{lookup}
-use Rattle.gq_resolve.specs.declared.groups.Asks.{Asks}
-use Rattle.gq_resolve.specs.declared.groups.Group.{Group}
-use Rattle.gq_resolve.specs.declared.groups.Member.{Member}
+use Rattle.gq_resolve.specs.declared.loading_fields.FieldResolver.{FieldResolver}
+use Rattle.gq_resolve.specs.declared.loading_fields.LoadingField.{LoadingField}
+use Rattle.gq_resolve.specs.declared.loading_fields.Member.{Member}
 use Rattle.gq_resolve.specs.declared.positions.Items.{Items}
 use Rattle.gq_resolve.specs.declared.positions.Onward.{Onward}
-use Rattle.gq_resolve.specs.declared.tour.Loading.{Loading}
-use Rattle.gq_resolve.specs.declared.tour.Progress.{Progress}
-use Rattle.gq_resolve.specs.declared.tour.Tour.{Tour}
+use Rattle.gq_resolve.specs.declared.walk.LoadingPosition.{LoadingPosition}
+use Rattle.gq_resolve.specs.declared.walk.Progress.{Progress}
+use Rattle.gq_resolve.specs.declared.walk.Walk.{Walk}
 
--- Where the groups are right and what it begins with is known, it puts these, over each view that tells what its groups do.
--- Once there are so many groups, those that there are stay as they are.
+-- A walk puts these, over each view that tells what its groups do, where the groups are right and
+-- what it begins with is known. Once there are `most` groups, those that there are stay as they
+-- are.
 pub record Goes {S : Type 0} (goes : View → List Put → S → S → Type 0) (below : ℕ → S → Type 0) (most : ℕ) (plan : PlanOf) (known : Type 0) (ps : View → List Put) (old new : Progress S) : Type 0 where
   pub grows : Grows plan old.groups.items new.groups.items
-  pub front : most ≤ length old.groups.items → take (length old.groups.items) new.groups.items ≡ old.groups.items
-  pub puts : known → AreRight plan old.groups.items → below (length old.groups.items) old.out → (v : View) → Covers plan new.groups.items v → goes v (ps v) old.out new.out
+  pub front : most ≤ length old.groups.items
+      → take (length old.groups.items) new.groups.items ≡ old.groups.items
+  pub puts : known → AreRight plan old.groups.items → below (length old.groups.items) old.out
+      → (v : View) → Covers plan new.groups.items v → goes v (ps v) old.out new.out
 
 -- it puts a program over the memory
-abbrev pub Walks : {S : Type 0} (goes : View → List Put → S → S → Type 0) (below : ℕ → S → Type 0) → Tour → Type 0 → Bool → (View → Program) → Progress S → Progress S → Type 0
-Walks goes below tour known non_null program old new = Goes goes below tour.most (plan_of tour.plan.now) known (λ v. puts non_null (program v) (lookup tour.memory.now)) old new
+abbrev pub Walks : {S : Type 0} (goes : View → List Put → S → S → Type 0) (below : ℕ → S → Type 0)
+    → Walk → Type 0 → Bool → (View → Program) → Progress S → Progress S → Type 0
+Walks goes below walk known non_null program old new = Goes goes below walk.most (plan_of walk.plan.now) known (λ v. puts non_null (program v) (lookup walk.memory.now)) old new
 
 -- it puts an object of these members over a row
-abbrev pub WalksMembers : {S : Type 0} (goes : View → List Put → S → S → Type 0) (below : ℕ → S → Type 0) → Tour → ℕ → RowOf → List Member → Progress S → Progress S → Type 0
-WalksMembers goes below tour levels row ms old new =
-    Walks goes below tour (AreKnown (length old.groups.items) ms) false (λ v. Under ObjectOf (members_seen (plan_of tour.plan.now).definitions v levels row ms)) old new
+abbrev pub WalksMembers : {S : Type 0} (goes : View → List Put → S → S → Type 0) (below : ℕ → S → Type 0) → Walk → ℕ → RowOf → List Member → Progress S → Progress S → Type 0
+WalksMembers goes below walk levels row ms old new =
+    Walks goes below walk (AreKnown (length old.groups.items) ms) false (λ v. Under ObjectOf (members_seen (plan_of walk.plan.now).definitions v levels row ms)) old new
 
 -- it puts what a position asks for over a row
-abbrev pub WalksAsks : {S : Type 0} (goes : View → List Put → S → S → Type 0) (below : ℕ → S → Type 0) → Tour → Bool → ℕ → RowOf → Asks → Progress S → Progress S → Type 0
-WalksAsks goes below tour non_null levels row asks old new =
-    Walks goes below tour (IsAsked (length old.groups.items) asks) non_null (λ v. asks_seen (plan_of tour.plan.now).definitions v levels row asks) old new
+abbrev pub WalksAsks : {S : Type 0} (goes : View → List Put → S → S → Type 0) (below : ℕ → S → Type 0) → Walk → Bool → ℕ → RowOf → FieldResolver → Progress S → Progress S → Type 0
+WalksAsks goes below walk non_null levels row asks old new =
+    Walks goes below walk (IsAsked (length old.groups.items) asks) non_null (λ v. asks_seen (plan_of walk.plan.now).definitions v levels row asks) old new
 
 -- it puts a program at a position that loads
-abbrev pub WalksAt : {S : Type 0} (goes : View → List Put → S → S → Type 0) (below : ℕ → S → Type 0) → Tour → Loading → (View → Program) → Progress S → Progress S → Type 0
-WalksAt goes below tour to program old new = Walks goes below tour (to.onward.group < length old.groups.items) (is_non_null to.nullability) program old new
+abbrev pub WalksAt : {S : Type 0} (goes : View → List Put → S → S → Type 0) (below : ℕ → S → Type 0)
+    → Walk → LoadingPosition → (View → Program) → Progress S → Progress S → Type 0
+WalksAt goes below walk to program old new = Walks goes below walk (to.onward.group < length old.groups.items) (is_non_null to.nullability) program old new
 
--- what a position that loads goes on to, with the rows of its load
-abbrev pub after_load : Loading → View → List RowOf → Program
+-- gives what a position that loads goes on to, with the rows of its load
+abbrev pub after_load : LoadingPosition → View → List RowOf → Program
 after_load to v = v.after (onward_of to.onward)
 
 -- it puts a list, whose items go on so
-abbrev pub WalksList : {S : Type 0} (goes : View → List Put → S → S → Type 0) (below : ℕ → S → Type 0) → Tour → Onward → (View → Program) → Progress S → Progress S → Type 0
-WalksList goes below tour onward program old new = Walks goes below tour (onward.group < length old.groups.items) false program old new
+abbrev pub WalksList : {S : Type 0} (goes : View → List Put → S → S → Type 0) (below : ℕ → S → Type 0) → Walk → Onward → (View → Program) → Progress S → Progress S → Type 0
+WalksList goes below walk onward program old new = Walks goes below walk (onward.group < length old.groups.items) false program old new
 
--- it puts what so many later loaders come to from the first of some rows
-abbrev pub WalksLater : {S : Type 0} (goes : View → List Put → S → S → Type 0) (below : ℕ → S → Type 0) → Tour → Loading → ℕ → List RowOf → Progress S → Progress S → Type 0
-WalksLater goes below tour to left rows old new = WalksAt goes below tour to (λ v. v.after (later_of left (onward_of to.onward)) rows) old new
+-- it puts what `left` later loaders come to from the first of some rows
+abbrev pub WalksLater : {S : Type 0} (goes : View → List Put → S → S → Type 0) (below : ℕ → S → Type 0) → Walk → LoadingPosition → ℕ → List RowOf → Progress S → Progress S → Type 0
+WalksLater goes below walk to left rows old new = WalksAt goes below walk to (λ v. v.after (later_of left (onward_of to.onward)) rows) old new
 
 -- it puts an object over a row, at a position that no later loader is left of
-abbrev pub WalksRow : {S : Type 0} (goes : View → List Put → S → S → Type 0) (below : ℕ → S → Type 0) → Tour → Loading → RowOf → Progress S → Progress S → Type 0
-WalksRow goes below tour to row old new = WalksLater goes below tour to 0 (row ∷ []) old new
+abbrev pub WalksRow : {S : Type 0} (goes : View → List Put → S → S → Type 0) (below : ℕ → S → Type 0) → Walk → LoadingPosition → RowOf → Progress S → Progress S → Type 0
+WalksRow goes below walk to row old new = WalksLater goes below walk to 0 (row ∷ []) old new
 
--- the same where the object's type is known
-abbrev pub WalksTyped : {S : Type 0} (goes : View → List Put → S → S → Type 0) (below : ℕ → S → Type 0) → Tour → Loading → List ℕ → RowOf → Progress S → Progress S → Type 0
-WalksTyped goes below tour to ty row old new =
-    WalksAt goes below tour to (λ v. object_program (plan_of tour.plan.now) to.onward.levels ty (children_at old.groups.items to.onward.group).fields row) old new
+-- says the same where the object's type is known
+abbrev pub WalksTyped : {S : Type 0} (goes : View → List Put → S → S → Type 0) (below : ℕ → S → Type 0) → Walk → LoadingPosition → List ℕ → RowOf → Progress S → Progress S → Type 0
+WalksTyped goes below walk to ty row old new =
+    WalksAt goes below walk to (λ v. object_program (plan_of walk.plan.now) to.onward.levels ty (children_at old.groups.items to.onward.group).fields row) old new
 
--- Groups past the first so many were let go, where there were as many as are kept and no position more waits.
+-- Groups from `count` on were let go, where there were `most` or more and no position more waits.
 pub record LetsGo {S : Type 0} (waits : S → ℕ) (most count held : ℕ) (old new : Progress S) : Type 0 where
   pub out : new.out ≡ old.out
-  pub either : (new.groups.items ≡ old.groups.items) ⊎ ((most ≤ count) × (held ≡ waits old.out) × (new.groups.items ≡ take count old.groups.items))
+  pub either : (new.groups.items ≡ old.groups.items)
+      ⊎ ((most ≤ count) × (held ≡ waits old.out) × (new.groups.items ≡ take count old.groups.items))
 
--- a list with an item for each of the rows, from which so many later loaders go on
-abbrev pub items_after : View → List Group → OnwardOf → ℕ → List RowOf → Program
+-- a list with an item for each of the rows, from which `left` later loaders go on
+abbrev pub items_after : View → List LoadingField → OnwardOf → ℕ → List RowOf → Program
 items_after v gs onward left rows = list_of (children_at gs onward.group) (map (λ row. v.after (later_of left onward) (row ∷ [])) rows)
 
 -- a list with an item for each key, which goes on so with its rows

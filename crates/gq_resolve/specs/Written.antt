@@ -1,4 +1,4 @@
--- What an output holds: the text of an answer while it is plain, and the positions that wait.
+-- Definitions of what an output holds: the text of an answer while it is plain, and the positions that wait.
 use Rattle.std.specs.Prelude.{◌≡◌, ◌<◌, ◌==◌, ℕ, Bool, true, false, not, ◌&&◌, is_some, Option, Some, None, if◌then◌else◌, List, [], ◌∷◌, ◌++◌, decimal, length}
 use Rattle.std.specs.List.{All, list_any, list_all, flat_map}
 use Rattle.json.specs.Token.{Token, begin_object, end_object, begin_array, end_array, key, null}
@@ -10,7 +10,7 @@ use Rattle.execution.specs.Front.{missing}
 use Rattle.gq_resolve.specs.Answered.{leaf_json}
 use Rattle.gq_resolve.specs.Puts.{Put, Begins, Ends, Enters, Has, Waits, View, waiting}
 use Rattle.gq_resolve.specs.Positions.{onward_of}
-use Rattle.gq_resolve.specs.declared.waiting.Blocked.{Blocked}
+use Rattle.gq_resolve.specs.declared.waiting.BlockedPosition.{BlockedPosition}
 use Rattle.gq_resolve.specs.declared.output.Output.{Output}
 
 -- ---- text
@@ -56,7 +56,7 @@ put_tokens (Waits program) = []
 
 -- ---- loads
 
--- what a program needs and a reader doesn't answer, depth first
+-- gives what a program needs and a reader doesn't answer, depth first
 abbrev pub asks : Program → Reader → List Load
 asks p R = missing R (needs p R)
 
@@ -81,17 +81,17 @@ thinned noted [] = noted
 thinned noted (l ∷ ls) = thinned (with_load noted l) ls
 
 -- the program of a position that waits, by what its group does
-abbrev pub left_of : View → Blocked → Program
+abbrev pub left_of : View → BlockedPosition → Program
 left_of v b = waiting v (onward_of b.onward) b.loader (key_of b.key)
 
-abbrev pub all_asks : View → List Blocked → Reader → List Load
-all_asks v bs R = flat_map (λ (b : Blocked). asks (left_of v b) R) bs
+abbrev pub all_asks : View → List BlockedPosition → Reader → List Load
+all_asks v bs R = flat_map (λ (b : BlockedPosition). asks (left_of v b) R) bs
 
--- each group of a position that waits is one of so many
-abbrev pub AreWithin : ℕ → List Blocked → Type 0
-AreWithin count bs = All (λ (b : Blocked). b.onward.group < count) bs
+-- each group of a position that waits is below `count`
+abbrev pub AreWithin : ℕ → List BlockedPosition → Type 0
+AreWithin count bs = All (λ (b : BlockedPosition). b.onward.group < count) bs
 
--- an output whose positions that wait are of the first so many groups
+-- an output whose positions that wait are of groups below `count`
 abbrev pub IsWithin : ℕ → Output → Type 0
 IsWithin count o = AreWithin count o.blocked
 
@@ -108,15 +108,18 @@ pub record IsWriting (o : Output) : Type 0 where
 -- Over each memory the positions that wait ask what they asked, and what is put, each load once. Where the output is still
 -- written, all was plain, and its tokens were written.
 pub record Puts (v : View) (ps : List Put) (old new : Output) : Type 0 where
-  pub first : (rest : List Blocked) × (new.blocked ≡ old.blocked ++ rest)
+  pub first : (rest : List BlockedPosition) × (new.blocked ≡ old.blocked ++ rest)
   pub within : AreWithin v.count old.blocked → AreWithin v.count new.blocked
-  pub asked : (R : Reader) → thinned [] (all_asks v new.blocked R) ≡ thinned (thinned [] (all_asks v old.blocked R)) (flat_map (put_asks R) ps)
-  pub written : IsWriting new → IsWriting old × (list_all is_plain ps ≡ true) × (new.writer.tokens ≡ old.writer.tokens ++ flat_map put_tokens ps)
+  pub asked : (R : Reader) → thinned [] (all_asks v new.blocked R)
+      ≡ thinned (thinned [] (all_asks v old.blocked R)) (flat_map (put_asks R) ps)
+  pub written : IsWriting new → IsWriting old × (list_all is_plain ps ≡ true)
+      × (new.writer.tokens ≡ old.writer.tokens ++ flat_map put_tokens ps)
 
 -- These tokens and nothing else are put, which are plain or not.
 pub record Adds (plain : Bool) (ts : List Token) (old new : Output) : Type 0 where
   pub blocked : new.blocked ≡ old.blocked
-  pub written : IsWriting new → IsWriting old × (plain ≡ true) × (new.writer.tokens ≡ old.writer.tokens ++ ts)
+  pub written : IsWriting new
+      → IsWriting old × (plain ≡ true) × (new.writer.tokens ≡ old.writer.tokens ++ ts)
 
 abbrev pub AddsLeafValue : Bool → LeafValue → Output → Output → Type 0
 AddsLeafValue non_null leaf_value old new = Adds (leaf_value_plain non_null leaf_value) (leaf_value_tokens leaf_value) old new

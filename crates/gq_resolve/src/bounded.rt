@@ -9,44 +9,47 @@ ghost use Rattle.gq_resolve.specs.Positions.{is_non_null};
 ghost use Rattle.gq_resolve.specs.Built.{nothing_built};
 ghost use Rattle.gq_resolve.specs.Bounded.{size_of, bytes_in, Bounds, BoundsPuts, CountsPut, CountsErrors, AreErrorBytes, FinishesWhole, FinishesOver};
 
-use crate::answered::Answered;
-use crate::builder::{Builder, copied_leaf_value};
+use crate::answered::ExecutionResult;
+use crate::builder::{Builder, copy_leaf_value};
 use crate::cells::cell_value;
-use crate::positions::{FieldPosition, Items, Kind, Leaf, Nullability, Onward};
+use crate::positions::{FieldPosition, Items, Leaf, Nullability, Onward, PositionKind};
 use crate::sink::Sink;
-use load_memory::{KeyRef, NoMemory};
+use load_memory::KeyRef;
 use plan_program::LeafValue;
-use std::alloc::Global;
+use std::alloc::{AllocError, Global};
 
-/// How many bytes the text of an object or a list has at least.
+/// Says how many bytes the text of an object or a list has at least.
 #[derive(Drop)]
-pub struct Least {
+pub struct LeastBytes {
     /// Its key.
     pub key: usize,
-    /// What is open around it, before it.
+    /// Holds what is open around it, before it.
     pub around: usize,
     /// Its parts so far.
     pub parts: usize,
 }
 
-/// A builder that keeps no more than an answer of so many bytes needs.
+/// A builder that keeps no more than an answer of `most` bytes needs.
 ///
 /// It counts bytes that the text has for sure. Where the parts of an object or a list, with those of what is open around it, have
 /// more of them than the limit, it is null in the answer, or what is around it is, or the answer is too long: so its parts are
 /// dropped.
+///
+/// It goes on to the end, since an answer with errors may fit where much was put that becomes null. What it
+/// counts has no escapes, brackets or commas; the text itself is measured at the end.
 #[derive(Drop)]
 pub struct BoundedBuilder {
     alloc: Global,
     builder: Builder,
     most: usize,
     /// Of each object and list that has begun and not ended, outermost first.
-    levels: Vec<Least>,
+    levels: Vec<LeastBytes>,
     /// Of the response of the root.
     top: usize,
     errors: usize,
 }
 
-// How many bytes the text of an own value has at least.
+// Returns how many bytes the text of an own value has at least.
 fn leaf_value_size(leaf_value: &LeafValue) -> usize
     ensures { result ≤ size_of (response (At (leaf_value_seen leaf_value.now))) }
 {
@@ -56,9 +59,10 @@ fn leaf_value_size(leaf_value: &LeafValue) -> usize
     }
 }
 
-// How many bytes the error of an own value has at least, so deep in the answer.
+// Returns how many bytes the error of an own value has at least, so deep in the answer.
 fn error_size(leaf_value: &LeafValue, nullability: Nullability, depth: usize) -> usize
-    ensures { AreErrorBytes (leaf_value_seen leaf_value.now) (is_non_null nullability) depth result }
+    ensures { AreErrorBytes (leaf_value_seen leaf_value.now)
+        (is_non_null nullability) depth result }
 {
     match (leaf_value, nullability) {
         (LeafValue::Null, Nullability::NonNull) => depth.saturating_add(1),
@@ -68,7 +72,7 @@ fn error_size(leaf_value: &LeafValue, nullability: Nullability, depth: usize) ->
 }
 
 impl BoundedBuilder {
-    /// Nothing yet, at the root of an answer that may have so many bytes.
+    /// Nothing yet, at the root of an answer that may have `most` bytes.
     pub fn new(alloc: Global, most: usize) -> BoundedBuilder
         ensures bounds { Bounds nothing_built result }
         ensures most { result.most ≡ most }
@@ -84,7 +88,7 @@ impl BoundedBuilder {
     }
 
     /// The response with its errors, unless it is certain that its text is too long.
-    pub fn finish(self) -> Option<Answered>
+    pub fn finish(self) -> Option<ExecutionResult>
         ensures whole { FinishesWhole self result }
         ensures too_long { FinishesOver self result }
     {
@@ -94,7 +98,7 @@ impl BoundedBuilder {
         Some(self.builder.finish())
     }
 
-    // How many bytes of the objects and lists that are open are counted.
+    // Returns how many bytes of the objects and lists that are open are counted.
     fn open_bytes(&self) -> usize
         ensures { result ≤ bytes_in (reverse self.now.levels.items) }
     {
@@ -135,8 +139,9 @@ impl BoundedBuilder {
         &mut self,
         leaf_value: LeafValue,
         nullability: Nullability,
-    ) -> Result<(), NoMemory>
-        ensures { OnOk result (BoundsPuts (Has (is_non_null nullability) (leaf_value_seen leaf_value) ∷ []) self.old self.new) }
+    ) -> Result<(), AllocError>
+        ensures { OnOk result (BoundsPuts
+            (Has (is_non_null nullability) (leaf_value_seen leaf_value) ∷ []) self.old self.new) }
     {
         let added = error_size(&leaf_value, nullability, self.levels.len());
         let size = leaf_value_size(&leaf_value);
@@ -168,11 +173,11 @@ impl Sink for BoundedBuilder {
 
     ghost narrow = { λ v w n ps a b le same below held h. h };
 
-    fn begin(&mut self, kind: Kind) -> Result<(), NoMemory> {
+    fn begin(&mut self, kind: PositionKind) -> Result<(), AllocError> {
         let key = self.builder.key_size();
         let around = self.open_bytes();
         self.builder.begin(kind)?;
-        self.levels.push(Least {
+        self.levels.push(LeastBytes {
             key,
             around,
             parts: 0,
@@ -180,10 +185,10 @@ impl Sink for BoundedBuilder {
         Ok(())
     }
 
-    fn end(&mut self, kind: Kind) -> Result<(), NoMemory> {
+    fn end(&mut self, kind: PositionKind) -> Result<(), AllocError> {
         let pulled = self.builder.is_pulled();
         self.builder.end(kind)?;
-        let Some(Least { key, parts, .. }) = self.levels.pop() else {
+        let Some(LeastBytes { key, parts, .. }) = self.levels.pop() else {
             return Ok(());
         };
         let size = if pulled { 1 } else { parts.saturating_add(1) };
@@ -191,11 +196,11 @@ impl Sink for BoundedBuilder {
         Ok(())
     }
 
-    fn field(&mut self, position: FieldPosition<'_>) -> Result<(), NoMemory> {
+    fn field(&mut self, position: FieldPosition<'_>) -> Result<(), AllocError> {
         self.builder.field(position)
     }
 
-    fn item(&mut self, items: Items, number: usize) -> Result<(), NoMemory> {
+    fn item(&mut self, items: Items, number: usize) -> Result<(), AllocError> {
         self.builder.item(items, number)
     }
 
@@ -203,12 +208,12 @@ impl Sink for BoundedBuilder {
         &mut self,
         leaf_value: &LeafValue,
         nullability: Nullability,
-    ) -> Result<(), NoMemory> {
-        let leaf_value = copied_leaf_value(self.alloc, leaf_value)?;
+    ) -> Result<(), AllocError> {
+        let leaf_value = copy_leaf_value(self.alloc, leaf_value)?;
         self.put_leaf_value(leaf_value, nullability)
     }
 
-    fn cell(&mut self, leaf: Leaf<'_>, nullability: Nullability) -> Result<(), NoMemory> {
+    fn cell(&mut self, leaf: Leaf<'_>, nullability: Nullability) -> Result<(), AllocError> {
         let leaf_value = cell_value(self.alloc, leaf.schema, leaf.column, leaf.ty, leaf.row)?;
         self.put_leaf_value(leaf_value, nullability)
     }
@@ -218,7 +223,12 @@ impl Sink for BoundedBuilder {
     }
 
     // No answer is built where a position waits.
-    fn wait(&mut self, _onward: Onward, _loader: usize, _key: KeyRef<'_>) -> Result<(), NoMemory> {
+    fn wait(
+        &mut self,
+        _onward: Onward,
+        _loader: usize,
+        _key: KeyRef<'_>,
+    ) -> Result<(), AllocError> {
         Ok(())
     }
 }

@@ -1,4 +1,6 @@
 //! The response that a walk builds, with its errors (sections 6.4.3 and 6.4.4).
+//!
+//! It ends whole lists and objects, by the definition of which `complete` is the rule for a single position.
 
 ghost use Rattle.std.specs.Prelude.{◌≡◌, IfOk, OnOk, map, string_bytes, refl};
 ghost use Rattle.execution.specs.Loads.{Reader};
@@ -10,22 +12,22 @@ ghost use Rattle.gq_resolve.specs.Bounded.{key_size, without_last_parts, without
 ghost use Rattle.gq_resolve.specs.Positions.{is_non_null};
 ghost use Rattle.gq_resolve.specs.Built.{path_in, placed, given_leaf_value, at_root, with_error, built, nothing_built, IsWhole, position_held, built_of, goes-append};
 
-use crate::answered::Answered;
+use crate::answered::ExecutionResult;
 use crate::cells::cell_value;
-use crate::level::{Ended, Level, Parts, Position};
-use crate::positions::{FieldPosition, Items, Kind, Leaf, Nullability, Onward};
+use crate::level::{EndedLevel, Level, PartialValue, Position};
+use crate::positions::{FieldPosition, Items, Leaf, Nullability, Onward, PositionKind};
 use crate::sink::Sink;
-use answer_json::{FieldError, PathPart, Response};
-use load_memory::{KeyRef, NoMemory};
+use answer_json::{FieldError, PathSegment, Response};
+use load_memory::KeyRef;
 use plan_program::LeafValue;
 use std::alloc::{AllocError, Global};
 use std::mem;
 
-/// What a walk has built so far of a response, and the errors that it met.
+/// Holds what a walk has built so far of a response, and the errors that it met.
 #[derive(Drop)]
 pub struct Builder {
     alloc: Global,
-    /// What has begun and not ended, outermost first.
+    /// Holds what has begun and not ended, outermost first.
     levels: Vec<Level>,
     /// The position of what is put next.
     position: Position,
@@ -35,7 +37,7 @@ pub struct Builder {
 }
 
 /// A copy of an own value.
-pub fn copied_leaf_value(alloc: Global, leaf_value: &LeafValue) -> Result<LeafValue, AllocError>
+pub fn copy_leaf_value(alloc: Global, leaf_value: &LeafValue) -> Result<LeafValue, AllocError>
     ensures { IfOk result (λ copy. leaf_value_seen copy ≡ leaf_value_seen leaf_value.now) }
 {
     match leaf_value {
@@ -62,16 +64,17 @@ impl Builder {
     }
 
     /// The response that was built, with its errors.
-    pub fn finish(self) -> Answered
-        ensures { (p : Program) (R : Reader) → IsWhole (built_of self) p R → answered_of result ≡ completed (tree p R) }
+    pub fn finish(self) -> ExecutionResult
+        ensures { (p : Program) (R : Reader) → IsWhole (built_of self) p R
+            → answered_of result ≡ completed (tree p R) }
     {
-        Answered {
+        ExecutionResult {
             response: self.top,
             errors: self.errors,
         }
     }
 
-    /// How many bytes the key of what is put next has.
+    /// The number of bytes that the key of the next value has.
     pub fn key_size(&self) -> usize
         ensures { result ≡ key_size (built_of self.now).levels (built_of self.now).position.part }
     {
@@ -81,7 +84,7 @@ impl Builder {
         }
     }
 
-    /// Whether what was begun last will be null.
+    /// Tells whether what was begun last will be null.
     pub fn is_pulled(&self) -> bool
         ensures { result ≡ is_pulled (built_of self.now).levels }
     {
@@ -108,7 +111,7 @@ impl Builder {
     }
 
     // The position of what is put next, which is then the root's until another is entered.
-    fn taken(&mut self) -> Position
+    fn take_position(&mut self) -> Position
         ensures position { position_held result ≡ (built_of self.old).position }
         ensures left { built_of self.new ≡ at_root (built_of self.old) }
     {
@@ -116,23 +119,25 @@ impl Builder {
     }
 
     // The path of the position of what is put next.
-    fn path(&self) -> Result<Vec<PathPart>, AllocError>
-        ensures { IfOk result (λ path. map part_of path.items ≡ path_in (built_of self.now).levels (built_of self.now).position.part) }
+    fn path(&self) -> Result<Vec<PathSegment>, AllocError>
+        ensures { IfOk result (λ path. map part_of path.items
+            ≡ path_in (built_of self.now).levels (built_of self.now).position.part) }
     {
         let mut path = Vec::new(self.alloc);
         let [_root, below @ ..] = self.levels.as_slice() else {
             return Ok(path);
         };
         for level in below {
-            path.push(level.position.copied_step(self.alloc)?)?;
+            path.push(level.position.copy_step(self.alloc)?)?;
         }
-        path.push(self.position.copied_step(self.alloc)?)?;
+        path.push(self.position.copy_step(self.alloc)?)?;
         Ok(path)
     }
 
     // Puts an error at the position of what is put next.
-    fn put_error(&mut self, message: String) -> Result<(), NoMemory>
-        ensures { OnOk result (built_of self.new ≡ with_error (string_bytes message) (built_of self.old)) }
+    fn put_error(&mut self, message: String) -> Result<(), AllocError>
+        ensures { OnOk result
+            (built_of self.new ≡ with_error (string_bytes message) (built_of self.old)) }
     {
         let path = self.path()?;
         self.errors.push(FieldError {
@@ -143,10 +148,11 @@ impl Builder {
         Ok(())
     }
 
-    fn put(&mut self, response: Response) -> Result<(), NoMemory>
-        ensures { OnOk result (built_of self.new ≡ placed (response_of response) (built_of self.old)) }
+    fn put(&mut self, response: Response) -> Result<(), AllocError>
+        ensures { OnOk result
+            (built_of self.new ≡ placed (response_of response) (built_of self.old)) }
     {
-        let position = self.taken();
+        let position = self.take_position();
         match self.levels.last_mut() {
             Some(level) => level.put(self.alloc, position, response),
             None => {
@@ -161,8 +167,9 @@ impl Builder {
         &mut self,
         leaf_value: LeafValue,
         nullability: Nullability,
-    ) -> Result<(), NoMemory>
-        ensures { OnOk result (built_of self.new ≡ given_leaf_value (is_non_null nullability) (leaf_value_seen leaf_value) (built_of self.old)) }
+    ) -> Result<(), AllocError>
+        ensures { OnOk result (built_of self.new ≡ given_leaf_value
+            (is_non_null nullability) (leaf_value_seen leaf_value) (built_of self.old)) }
     {
         match leaf_value {
             LeafValue::Text(text) => self.put(Response::Text(text)),
@@ -177,8 +184,9 @@ impl Builder {
     }
 
     // Puts a null, which is an error at a non-null type.
-    fn put_null(&mut self, nullability: Nullability) -> Result<(), NoMemory>
-        ensures { OnOk result (built_of self.new ≡ given_leaf_value (is_non_null nullability) Null (built_of self.old)) }
+    fn put_null(&mut self, nullability: Nullability) -> Result<(), AllocError>
+        ensures { OnOk result (built_of self.new
+            ≡ given_leaf_value (is_non_null nullability) Null (built_of self.old)) }
     {
         match nullability {
             Nullability::Nullable => self.put(Response::Null),
@@ -208,12 +216,12 @@ impl Sink for Builder {
 
     ghost narrow = { λ v w n ps a b le same below held h. h };
 
-    fn begin(&mut self, kind: Kind) -> Result<(), NoMemory> {
+    fn begin(&mut self, kind: PositionKind) -> Result<(), AllocError> {
         let parts = match kind {
-            Kind::List => Parts::Items(Vec::new(self.alloc)),
-            Kind::Object => Parts::Fields(Vec::new(self.alloc)),
+            PositionKind::List => PartialValue::Items(Vec::new(self.alloc)),
+            PositionKind::Object => PartialValue::Fields(Vec::new(self.alloc)),
         };
-        let position = self.taken();
+        let position = self.take_position();
         self.levels.push(Level {
             position,
             parts,
@@ -222,28 +230,28 @@ impl Sink for Builder {
         Ok(())
     }
 
-    fn end(&mut self, _kind: Kind) -> Result<(), NoMemory> {
+    fn end(&mut self, _kind: PositionKind) -> Result<(), AllocError> {
         let Some(level) = self.levels.pop() else {
             return Ok(());
         };
-        let Ended { position, response } = level.ended();
+        let EndedLevel { position, response } = level.into_ended();
         self.position = position;
         self.put(response)
     }
 
-    fn field(&mut self, position: FieldPosition<'_>) -> Result<(), NoMemory> {
+    fn field(&mut self, position: FieldPosition<'_>) -> Result<(), AllocError> {
         let key = String::from_str(self.alloc, position.key)?;
         self.position = Position {
-            step: PathPart::Key(key),
+            step: PathSegment::Key(key),
             nullability: position.nullability,
             place: position.place,
         };
         Ok(())
     }
 
-    fn item(&mut self, items: Items, number: usize) -> Result<(), NoMemory> {
+    fn item(&mut self, items: Items, number: usize) -> Result<(), AllocError> {
         self.position = Position {
-            step: PathPart::Item(number),
+            step: PathSegment::Item(number),
             nullability: items.nullability,
             place: items.place,
         };
@@ -254,12 +262,12 @@ impl Sink for Builder {
         &mut self,
         leaf_value: &LeafValue,
         nullability: Nullability,
-    ) -> Result<(), NoMemory> {
-        let leaf_value = copied_leaf_value(self.alloc, leaf_value)?;
+    ) -> Result<(), AllocError> {
+        let leaf_value = copy_leaf_value(self.alloc, leaf_value)?;
         self.put_leaf_value(leaf_value, nullability)
     }
 
-    fn cell(&mut self, leaf: Leaf<'_>, nullability: Nullability) -> Result<(), NoMemory> {
+    fn cell(&mut self, leaf: Leaf<'_>, nullability: Nullability) -> Result<(), AllocError> {
         let leaf_value = cell_value(self.alloc, leaf.schema, leaf.column, leaf.ty, leaf.row)?;
         self.put_leaf_value(leaf_value, nullability)
     }
@@ -269,7 +277,12 @@ impl Sink for Builder {
     }
 
     // No answer is built where a position waits.
-    fn wait(&mut self, _onward: Onward, _loader: usize, _key: KeyRef<'_>) -> Result<(), NoMemory> {
+    fn wait(
+        &mut self,
+        _onward: Onward,
+        _loader: usize,
+        _key: KeyRef<'_>,
+    ) -> Result<(), AllocError> {
         Ok(())
     }
 }

@@ -1,4 +1,4 @@
-//! What the cells of a row say.
+//! Cells of a row, and what they say.
 
 ghost use Rattle.std.specs.Prelude.{◌≡◌, IfOk, option_map};
 ghost use Rattle.std.specs.Str.{all_ascii_digits};
@@ -20,7 +20,7 @@ use plan_program::{
 };
 use std::alloc::{AllocError, Global};
 
-/// What a text is at a leaf's type, with no copy of it.
+/// Says what a text is at a leaf's type, with no copy of it.
 #[derive(Clone, Copy, Drop)]
 pub enum CellValue<'t> {
     /// A text, an ID, or the name of an enum's value.
@@ -90,7 +90,7 @@ fn boolean_leaf<'t>(text: &str) -> Option<CellValue<'t>>
     None
 }
 
-// What a text is at the type of this name.
+// Returns what a text is at the type of this name.
 fn named_leaf<'t>(schema: &Schema, name: &str, text: &'t str) -> Option<CellValue<'t>>
     ensures { option_map value_seen result ≡ named_leaf (tree_of schema.now) name.now text.now }
 {
@@ -106,9 +106,10 @@ fn named_leaf<'t>(schema: &Schema, name: &str, text: &'t str) -> Option<CellValu
     None
 }
 
-/// What a text is at a type, if it is right there (section 3.5, Result Coercion).
+/// Returns what a text is at a type, if it is right there (section 3.5, Result Coercion).
 pub fn leaf_of<'t>(schema: &Schema, ty: &TypeRef, text: &'t str) -> Option<CellValue<'t>>
-    ensures { option_map value_seen result ≡ leaf_of (tree_of schema.now) (type_of ty.now) text.now }
+    ensures { option_map value_seen result
+        ≡ leaf_of (tree_of schema.now) (type_of ty.now) text.now }
 {
     match ty {
         TypeRef::Named { name, .. } => named_leaf(schema, name.as_str(), text),
@@ -145,7 +146,7 @@ pub enum TypeOf<'a> {
     Fault(String),
 }
 
-/// Whether it is an object type.
+/// Tells whether it is an object type.
 pub fn is_object_type(schema: &Schema, name: &str) -> bool
     ensures { result ≡ is_object_type (tree_of schema.now) name.now }
 {

@@ -9,21 +9,21 @@ ghost use Rattle.gq_resolve.specs.Completing.{complete, completed_of};
 use answer_json::Response;
 use gq_parser::TypeRef;
 
-/// What a position completes to.
+/// Says what a position completes to.
 #[derive(Debug, Drop)]
-pub enum Completed {
+pub enum CompletedValue {
     /// A response that isn't null.
     Value(Response),
     /// A null that stays where it is.
     Null,
     /// A null that goes on to the position above (section 6.4.4).
     NullAbove {
-        /// Whether this position adds an error.
+        /// Tells whether this position adds an error.
         new: bool,
     },
 }
 
-/// Whether it is null.
+/// Tells whether it is null.
 pub fn is_null(response: &Response) -> bool
     ensures { result ≡ is_null_response (response_of response.now) }
 {
@@ -31,15 +31,16 @@ pub fn is_null(response: &Response) -> bool
 }
 
 /// Completes a response at a type. A null of non-null type adds an error, unless the position has one: it is `faulted`.
-pub fn complete(ty: &TypeRef, response: Response, faulted: bool) -> Completed
-    ensures { completed_of result ≡ complete (is_non_null (type_of ty.now)) (response_of response) faulted }
+pub fn complete(ty: &TypeRef, response: Response, faulted: bool) -> CompletedValue
+    ensures { completed_of result
+        ≡ complete (is_non_null (type_of ty.now)) (response_of response) faulted }
 {
     if !is_null(&response) {
-        return Completed::Value(response);
+        return CompletedValue::Value(response);
     }
     if ty.is_non_null() {
-        Completed::NullAbove { new: !faulted }
+        CompletedValue::NullAbove { new: !faulted }
     } else {
-        Completed::Null
+        CompletedValue::Null
     }
 }

@@ -1,4 +1,4 @@
-//! What holds of the definitions. The function does nothing: its contract is the law.
+//! Laws of the definitions. The function does nothing: its contract is the law.
 
 ghost use Rattle.std.specs.Prelude.{◌≡◌, ℕ, List, [], false};
 ghost use Rattle.load_memory.specs.Pairs.{MemoryOf};
@@ -18,9 +18,12 @@ ghost use Rattle.plan_program.specs.PlanPrograms.{plan_program};
 pub fn loads_are_calls()
     ensures each { (p : Program) (R : Reader) (cs : List _) (t : _) → IsKeyByKey p cs t → AreGivenBy R cs
         → (called_loads cs ≡ needs p R) × (t ≡ tree p R) }
-    ensures some { (p : Program) (R : Reader) → is_open (tree p R) ≡ false → MakesCalls p R (count_read p R) }
-    ensures only { (p : Program) (R : Reader) (count : ℕ) → MakesCalls p R count → count ≡ count_read p R }
-    ensures more { (p : Program) (R Q : Reader) → AnswersMore R Q → is_open (tree p R) ≡ false → count_read p Q ≡ count_read p R }
+    ensures some { (p : Program) (R : Reader)
+        → is_open (tree p R) ≡ false → MakesCalls p R (count_read p R) }
+    ensures only { (p : Program) (R : Reader) (count : ℕ)
+        → MakesCalls p R count → count ≡ count_read p R }
+    ensures more { (p : Program) (R Q : Reader) → AnswersMore R Q
+        → is_open (tree p R) ≡ false → count_read p Q ≡ count_read p R }
     ensures plans { (plan : PlanOf) (m : MemoryOf) → front_over m (plan_program plan) ≡ []
         → MakesCalls (plan_program plan) (reader m) (plan_read plan m) }
 {}

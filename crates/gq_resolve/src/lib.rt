@@ -5,7 +5,7 @@
 //! (`plan_program::specs::PlanPrograms`) where nothing is missing, and else adds the front to the wants. A [`RootState`] does
 //! the same over a memory that grows from poll to poll, to a response or to its text, and keeps what is done.
 //!
-//! A plan is what can be executed (`execution::Execute`), and so is a plan with a limit ([`Limited`]): an answer whose text is
+//! A plan is what can be executed (`execution::Execute`), and so is a plan with a limit ([`LimitedPlan`]): an answer whose text is
 //! longer is refused, and all else is as for the plan. So whatever answers what can be executed answers plans.
 #![tactic(auto)]
 
@@ -18,30 +18,30 @@ mod completing;
 mod counting;
 mod evaluation;
 mod following;
-mod groups;
-mod kept;
 mod keys;
 pub mod law;
 mod level;
 mod limited;
 pub mod limited_plan;
+mod loading_fields;
+mod most_groups;
 mod output;
+mod places;
 mod plan;
 mod positions;
 mod reading;
 mod resolve;
 mod root_state;
 mod sink;
-mod tour;
 mod waiting;
+mod walk;
 mod wanting;
 
-pub use answered::{Answered, answer_text};
-pub use completing::{Completed, complete};
+pub use answered::{ExecutionResult, answer_text};
+pub use completing::{CompletedValue, complete};
 pub use counting::loads_read;
 pub use evaluation::evaluate;
-pub use limited_plan::Limited;
-pub use load_memory::NoMemory;
+pub use limited_plan::LimitedPlan;
 pub use plan_program::{ArgFault, Args, Group, arguments_of, collect};
 pub use resolve::Resolve;
 pub use root_state::RootState;

@@ -1,4 +1,4 @@
-//! Plans whose answers may have so many bytes and no more.
+//! Plans whose answers have a limit in bytes.
 ghost use Rattle.std.specs.Prelude.{◌≡◌, length};
 ghost use Rattle.gq_check.specs.Plans.{plan_of};
 ghost use Rattle.gq_resolve.specs.Suspended.{plan_in, FitsMemory};
@@ -9,20 +9,23 @@ use crate::root_state::RootState;
 use execution::Execute;
 use futures::task::Poll;
 use gq_check::Plan;
-use load_memory::{Memory, NoMemory};
+use load_memory::Memory;
 use load_queue::Wants;
-use std::alloc::Global;
+use std::alloc::{AllocError, Global};
 
-/// A plan with a limit. It is executed as the plan is, and its text is that of the plan's answer if that has at most so many
+/// A plan with a limit. It is executed as the plan is, and its text is that of the plan's answer if that has at most `most`
 /// bytes. A longer one is refused, and the text is that of the refusal: an execution keeps no more of it than the limit needs.
+///
+/// The limit is on the text of the response with its errors: what errors make null doesn't count. So everything
+/// that is said of texts holds of limited ones.
 #[derive(Drop)]
-pub struct Limited<'p> {
+pub struct LimitedPlan<'p> {
     pub plan: &'p Plan,
-    /// How many bytes the text of an answer has at most. Without a limit it is executed just as the plan is.
+    /// Says how many bytes the text of an answer has at most. Without a limit it is executed just as the plan is.
     pub most: Option<usize>,
 }
 
-impl<'p> Execute<'p, RootState<'p>> for Limited<'p> {
+impl<'p> Execute<'p, RootState<'p>> for LimitedPlan<'p> {
     ghost program = { λ limited. plan_program (plan_of limited.plan.now) };
 
     ghost text_of = { λ limited. text_within limited.most };
@@ -41,7 +44,7 @@ impl<'p> Execute<'p, RootState<'p>> for Limited<'p> {
         alloc: Global,
         memory: &Memory,
         wants: &mut Wants,
-    ) -> Result<Poll<String>, NoMemory> {
+    ) -> Result<Poll<String>, AllocError> {
         match self.most {
             Some(most) => progress.poll_text_within(alloc, memory, wants, most),
             None => progress.poll_text(alloc, memory, wants),

@@ -1,4 +1,8 @@
 //! An answer without errors, as it is written within a limit, and the positions of it that wait.
+//!
+//! An answer without errors is written straight from the rows, with no response and no string for a cell. Where
+//! an error was met and nothing is missing a second walk builds the response, since an error can make null what
+//! was written around it. Both ways have one contract.
 
 ghost use Rattle.std.specs.Prelude.{◌≡◌, ◌↔◌, ◌∷◌, [], IfOk, OnOk, IsTrue, Bool, false, true, option_map, string_bytes};
 ghost use Rattle.std.specs.Fmt.{signed_decimal};
@@ -11,13 +15,13 @@ ghost use Rattle.gq_resolve.specs.Cells.{value_seen};
 ghost use Rattle.gq_resolve.specs.Positions.{is_non_null};
 
 use crate::cells::{CellValue, leaf_of};
-use crate::positions::{FieldPosition, Items, Kind, Leaf, Nullability, Onward};
+use crate::positions::{FieldPosition, Items, Leaf, Nullability, Onward, PositionKind};
 use crate::sink::Sink;
-use crate::waiting::{Blocked, Waiting};
+use crate::waiting::Waiting;
 use json::{Token, Writer};
-use load_memory::{Cell, KeyRef, NoMemory};
+use load_memory::{Cell, KeyRef};
 use plan_program::LeafValue;
-use std::alloc::Global;
+use std::alloc::{AllocError, Global};
 
 /// The room that a text has from the start.
 const FIRST_ROOM: usize = 128;
@@ -25,21 +29,21 @@ const FIRST_ROOM: usize = 128;
 /// A limit that no text reaches.
 pub const NO_LIMIT: usize = usize::MAX;
 
-/// What a walk over a plan has written, and the positions that wait. It writes only while nothing waits, no error was met and
-/// the text isn't longer than its limit.
+/// Holds what a walk over a plan has written, and the positions that wait. It writes only while nothing waits, no error was
+/// met and the text isn't longer than its limit.
 #[derive(Drop)]
 pub struct Output {
     pub alloc: Global,
     pub writer: Writer,
     pub blocked: Waiting,
-    /// Whether no error was met, and the limit wasn't passed.
+    /// Tells whether no error was met, and the limit wasn't passed.
     pub is_plain: bool,
-    /// How many bytes the text may grow. An escape in it counts as the character that it stands for.
+    /// Says how many bytes the text may grow. An escape in it counts as the character that it stands for.
     left: usize,
     pub ghost begins: { writer.before ≡ [] },
 }
 
-// How many bytes a token takes at least.
+// Returns how many bytes a token takes at least.
 fn least_bytes(token: Token<'_>) -> usize {
     match token {
         Token::Key(text) | Token::String(text) => text.len().saturating_add(2),
@@ -50,8 +54,8 @@ fn least_bytes(token: Token<'_>) -> usize {
 impl Output {
     ghost use Rattle.gq_resolve.specs.Written.{IsWriting, Adds, AddsLeafValue, AddsLeaf};
 
-    /// Nothing yet. It writes up to so many bytes, and one token more.
-    pub fn new(alloc: Global, most: usize) -> Result<Output, NoMemory>
+    /// Nothing yet. It writes up to `most` bytes, and one token more.
+    pub fn new(alloc: Global, most: usize) -> Result<Output, AllocError>
         ensures tokens { IfOk result (λ out. out.writer.tokens ≡ []) }
         ensures blocked { IfOk result (λ out. out.blocked ≡ []) }
     {
@@ -65,7 +69,7 @@ impl Output {
     }
 
     /// Nothing yet, and nothing is written: only the positions that wait are noted.
-    pub fn unwritten(alloc: Global) -> Output
+    pub fn waiting_only(alloc: Global) -> Output
         ensures plain { result.is_plain ≡ false }
         ensures blocked { result.blocked ≡ [] }
     {
@@ -78,7 +82,7 @@ impl Output {
         }
     }
 
-    /// What was written, as text.
+    /// Returns what was written, as text.
     pub fn into_text(self) -> String
         ensures { string_bytes result ≡ print self.writer.tokens }
     {
@@ -87,7 +91,7 @@ impl Output {
         unsafe { String::from_utf8_unchecked(bytes) }
     }
 
-    /// Whether it is still written.
+    /// Tells whether it is still written.
     pub fn is_writing(&self) -> bool
         ensures { IsTrue result ↔ IsWriting self.now }
     {
@@ -112,7 +116,7 @@ impl Output {
     }
 
     // Writes a token.
-    fn put(&mut self, token: Token<'_>) -> Result<(), NoMemory>
+    fn put(&mut self, token: Token<'_>) -> Result<(), AllocError>
         requires { IsPrintable (token_of token) }
         ensures { OnOk result (Adds true (token_of token.entry ∷ []) self.old self.new) }
     {
@@ -125,7 +129,7 @@ impl Output {
     }
 
     // Writes a number.
-    fn put_number(&mut self, value: i32) -> Result<(), NoMemory>
+    fn put_number(&mut self, value: i32) -> Result<(), AllocError>
         ensures { OnOk result (Adds true (number (signed_decimal value) ∷ []) self.old self.new) }
     {
         if self.is_writing() {
@@ -136,7 +140,7 @@ impl Output {
     }
 
     // Writes a null, which is an error at a non-null type.
-    fn put_null(&mut self, nullability: Nullability) -> Result<(), NoMemory>
+    fn put_null(&mut self, nullability: Nullability) -> Result<(), AllocError>
         ensures { OnOk result (AddsLeafValue (is_non_null nullability) Null self.old self.new) }
     {
         match nullability {
@@ -149,7 +153,7 @@ impl Output {
     }
 
     // Writes the value of a leaf. None is an error.
-    fn put_leaf(&mut self, leaf: Option<CellValue<'_>>) -> Result<(), NoMemory>
+    fn put_leaf(&mut self, leaf: Option<CellValue<'_>>) -> Result<(), AllocError>
         ensures { OnOk result (AddsLeaf (option_map value_seen leaf.entry) self.old self.new) }
     {
         match leaf {
@@ -174,25 +178,25 @@ impl Sink for Output {
 
     ghost waits = { count_waiting };
 
-    fn begin(&mut self, kind: Kind) -> Result<(), NoMemory> {
+    fn begin(&mut self, kind: PositionKind) -> Result<(), AllocError> {
         match kind {
-            Kind::List => self.put(Token::BeginArray),
-            Kind::Object => self.put(Token::BeginObject),
+            PositionKind::List => self.put(Token::BeginArray),
+            PositionKind::Object => self.put(Token::BeginObject),
         }
     }
 
-    fn end(&mut self, kind: Kind) -> Result<(), NoMemory> {
+    fn end(&mut self, kind: PositionKind) -> Result<(), AllocError> {
         match kind {
-            Kind::List => self.put(Token::EndArray),
-            Kind::Object => self.put(Token::EndObject),
+            PositionKind::List => self.put(Token::EndArray),
+            PositionKind::Object => self.put(Token::EndObject),
         }
     }
 
-    fn field(&mut self, position: FieldPosition<'_>) -> Result<(), NoMemory> {
+    fn field(&mut self, position: FieldPosition<'_>) -> Result<(), AllocError> {
         self.put(Token::Key(position.key))
     }
 
-    fn item(&mut self, _items: Items, _number: usize) -> Result<(), NoMemory> {
+    fn item(&mut self, _items: Items, _number: usize) -> Result<(), AllocError> {
         Ok(())
     }
 
@@ -200,7 +204,7 @@ impl Sink for Output {
         &mut self,
         leaf_value: &LeafValue,
         nullability: Nullability,
-    ) -> Result<(), NoMemory> {
+    ) -> Result<(), AllocError> {
         match leaf_value {
             LeafValue::Text(text) => self.put(Token::String(text.as_str())),
             LeafValue::Int(number) => self.put_number(*number),
@@ -214,7 +218,7 @@ impl Sink for Output {
     }
 
     // It is written straight from its row.
-    fn cell(&mut self, leaf: Leaf<'_>, nullability: Nullability) -> Result<(), NoMemory> {
+    fn cell(&mut self, leaf: Leaf<'_>, nullability: Nullability) -> Result<(), AllocError> {
         if !self.is_writing() {
             return Ok(());
         }
@@ -232,13 +236,8 @@ impl Sink for Output {
         self.blocked.len()
     }
 
-    fn wait(&mut self, onward: Onward, loader: usize, key: KeyRef<'_>) -> Result<(), NoMemory> {
-        let key = key.to_key(self.alloc)?;
-        self.blocked.note(Blocked {
-            onward,
-            loader,
-            key,
-        })
+    fn wait(&mut self, onward: Onward, loader: usize, key: KeyRef<'_>) -> Result<(), AllocError> {
+        self.blocked.note(onward, loader, key)
     }
 
     ghost none = { puts-none };

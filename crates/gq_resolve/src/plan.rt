@@ -9,9 +9,9 @@ use crate::root_state::RootState;
 use execution::Execute;
 use futures::task::Poll;
 use gq_check::Plan;
-use load_memory::{Memory, NoMemory};
+use load_memory::Memory;
 use load_queue::Wants;
-use std::alloc::Global;
+use std::alloc::{AllocError, Global};
 
 impl<'p> Execute<'p, RootState<'p>> for Plan {
     ghost program = { λ plan. plan_program (plan_of plan) };
@@ -32,7 +32,7 @@ impl<'p> Execute<'p, RootState<'p>> for Plan {
         alloc: Global,
         memory: &Memory,
         wants: &mut Wants,
-    ) -> Result<Poll<String>, NoMemory> {
+    ) -> Result<Poll<String>, AllocError> {
         progress.poll_text(alloc, memory, wants)
     }
 }

@@ -8,14 +8,14 @@ use gq_parser::TypeRef;
 use gq_schema::Schema;
 use load_memory::Row;
 
-/// What a position with others below it is.
+/// Says what a position with others below it is.
 #[derive(Clone, Copy, PartialEq, Eq, Debug, Drop)]
-pub enum Kind {
+pub enum PositionKind {
     List,
     Object,
 }
 
-/// Whether a position may be null (section 3.12, Non-Null).
+/// Tells whether a position may be null (section 3.12, Non-Null).
 #[derive(Clone, Copy, PartialEq, Eq, Debug, Drop)]
 pub enum Nullability {
     Nullable,
@@ -46,19 +46,19 @@ pub struct Leaf<'r> {
     pub row: &'r Row,
 }
 
-/// How a position goes on after its load.
+/// Says how a position goes on after its load.
 #[derive(Clone, Copy, PartialEq, Eq, Hash, Debug, Drop)]
 pub struct Onward {
     /// The number of its group.
     pub group: usize,
     /// Of a later load of a `via`, of whose rows the first is taken, how many loaders come after it.
     pub later: Option<usize>,
-    /// How many levels of objects there may be below it.
+    /// Says how many levels of objects there may be below it.
     pub levels: u32,
 }
 
 impl Onward {
-    /// Onward at the group of this number, with at most so many levels of objects below.
+    /// Onward at the group of this number, with at most `levels` levels of objects below.
     pub fn at(group: usize, levels: u32) -> Onward
         ensures { result ≡ record { group = group; later = None; levels = levels } }
     {
@@ -71,7 +71,7 @@ impl Onward {
 }
 
 impl Nullability {
-    /// Whether a null is an error there.
+    /// Tells whether a null is an error there.
     pub fn is_non_null(self) -> bool
         ensures { result ≡ is_non_null self }
     {

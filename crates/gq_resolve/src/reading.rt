@@ -1,4 +1,4 @@
-//! What the memory says of a load.
+//! Reads of the memory, for a load.
 
 ghost use Rattle.std.specs.Prelude.{◌≡◌, IfOk, option_map};
 ghost use Rattle.std.specs.Option.{option_copied};
@@ -6,17 +6,17 @@ ghost use Rattle.load_memory.specs.Keys.{borrowed_of};
 ghost use Rattle.load_memory.specs.Outcomes.{outcome_of};
 ghost use Rattle.gq_resolve.specs.Evaluated.{lookup};
 
-use load_memory::{KeyRef, Memory, NoMemory, Outcome, Probe};
-use std::alloc::Global;
+use load_memory::{KeyRef, Memory, Outcome, Probe};
+use std::alloc::{AllocError, Global};
 
-/// What the memory says of a key of a loader; nothing where there is no such loader.
+/// Returns what the memory says of a key of a loader; nothing where there is no such loader.
 pub fn look_up<'m>(
     alloc: Global,
     memory: &'m Memory,
     probe: &mut Probe,
     loader: usize,
     key: KeyRef<'_>,
-) -> Result<Option<&'m Outcome>, NoMemory>
+) -> Result<Option<&'m Outcome>, AllocError>
     ensures { IfOk result (λ outcome. option_map outcome_of (option_copied outcome)
         ≡ lookup memory.now (record { loader = loader; key = borrowed_of key.entry })) }
 {

@@ -10,27 +10,31 @@ ghost use Rattle.gq_resolve.specs.Evaluated.{missing_over, AddsPart};
 ghost use Rattle.gq_resolve.specs.Limited.{limited_answer};
 ghost use Rattle.gq_resolve.specs.Suspended.{plan_in, FitsMemory};
 
-use crate::advance::{Stopped, Walked, advance, responded};
-use crate::answered::{Answered, answer_text};
-use crate::kept::most_kept;
-use crate::limited::limited_answer;
+use crate::advance::{FinishedWalk, Suspension, advance, build_response};
+use crate::answered::{ExecutionResult, answer_text};
+use crate::limited::text_or_refusal;
+use crate::most_groups::most_groups_of;
 use crate::output::NO_LIMIT;
 use crate::resolve::Resolve;
-use crate::tour::Tour;
+use crate::walk::Walk;
 use futures::task::Poll;
 use gq_check::Plan;
-use load_memory::{Memory, NoMemory};
+use load_memory::Memory;
 use load_queue::Wants;
-use std::alloc::Global;
+use std::alloc::{AllocError, Global};
 
 /// The execution of a plan, which goes on where it stopped.
+///
+/// A poll goes on at the positions that wait, looks below them for loads alone, and reads no cell but those of
+/// keys. When none waits, a walk from the root writes the answer, so each object is visited twice at most.
+/// Where nothing below the positions can load, what was prepared is kept alone, and the next poll is that walk.
 #[derive(Drop)]
 pub struct RootState<'p> {
     plan: &'p Plan,
-    /// How many groups are kept at most.
+    /// Says how many groups are kept at most.
     most: usize,
     /// Nothing before it is polled, after it has answered, and after it was out of memory: it then begins at its root.
-    stopped: Option<Stopped<'p>>,
+    stopped: Option<Suspension<'p>>,
 }
 
 impl<'p> RootState<'p> {
@@ -41,7 +45,7 @@ impl<'p> RootState<'p> {
     {
         RootState {
             plan,
-            most: most_kept(plan),
+            most: most_groups_of(plan),
             stopped: None,
         }
     }
@@ -57,34 +61,36 @@ impl<'p> RootState<'p> {
         alloc: Global,
         memory: &Memory,
         wants: &mut Wants,
-    ) -> Result<Poll<String>, NoMemory>
+    ) -> Result<Poll<String>, AllocError>
         requires { CanExecute (length (plan_in self.old).bindings.loaders) memory.now wants.old }
         ensures ok { FitsMemory self.old memory.now
             → IfOk result (IsExecuted answer_text wants.old wants.new (plan_program (plan_in self.old)) memory.now) }
-        ensures err { FitsMemory self.old memory.now → OnErr result (AddsPart wants.old wants.new (missing_over memory.now (plan_program (plan_in self.old)))) }
-        ensures grown { (m : MemoryOf) → FitsMemory self.old memory.now → GrowsTo memory.now m → FitsMemory self.new m }
+        ensures err { FitsMemory self.old memory.now → OnErr result (AddsPart wants.old
+            wants.new (missing_over memory.now (plan_program (plan_in self.old)))) }
+        ensures grown { (m : MemoryOf) → FitsMemory self.old memory.now
+            → GrowsTo memory.now m → FitsMemory self.new m }
         ensures same_plan { plan_in self.new ≡ plan_in self.old }
     {
-        let tour = Tour {
+        let walk = Walk {
             alloc,
             plan: self.plan,
             memory,
             most: self.most,
         };
-        let walked = advance(&tour, NO_LIMIT, &mut self.stopped, wants)?;
-        let Some(Walked { rooted, out }) = walked else {
+        let walked = advance(&walk, NO_LIMIT, &mut self.stopped, wants)?;
+        let Some(FinishedWalk { rooted, out }) = walked else {
             return Ok(Poll::Pending);
         };
         if out.is_plain {
             return Ok(Poll::Ready(out.into_text()));
         }
         drop(out);
-        let answered = responded(&tour, rooted)?;
+        let answered = build_response(&walk, rooted)?;
         Ok(Poll::Ready(answer_text(alloc, &answered)?))
     }
 
-    /// The same, where the text may have so many bytes and no more: a longer one is refused, and the text is that of its
-    /// refusal. What it holds of the answer at any time is in proportion to that limit.
+    /// Does the same, where the text may have `most` bytes and no more: a longer one is refused, and the text is that of
+    /// its refusal. What it holds of the answer at any time is in proportion to that limit.
     ///
     /// # Errors
     ///
@@ -95,22 +101,24 @@ impl<'p> RootState<'p> {
         memory: &Memory,
         wants: &mut Wants,
         most: usize,
-    ) -> Result<Poll<String>, NoMemory>
+    ) -> Result<Poll<String>, AllocError>
         requires { CanExecute (length (plan_in self.old).bindings.loaders) memory.now wants.old }
         ensures ok { FitsMemory self.old memory.now
             → IfOk result (IsExecuted (limited_answer most) wants.old wants.new (plan_program (plan_in self.old)) memory.now) }
-        ensures err { FitsMemory self.old memory.now → OnErr result (AddsPart wants.old wants.new (missing_over memory.now (plan_program (plan_in self.old)))) }
-        ensures grown { (m : MemoryOf) → FitsMemory self.old memory.now → GrowsTo memory.now m → FitsMemory self.new m }
+        ensures err { FitsMemory self.old memory.now → OnErr result (AddsPart wants.old
+            wants.new (missing_over memory.now (plan_program (plan_in self.old)))) }
+        ensures grown { (m : MemoryOf) → FitsMemory self.old memory.now
+            → GrowsTo memory.now m → FitsMemory self.new m }
         ensures same_plan { plan_in self.new ≡ plan_in self.old }
     {
-        let tour = Tour {
+        let walk = Walk {
             alloc,
             plan: self.plan,
             memory,
             most: self.most,
         };
-        match advance(&tour, most, &mut self.stopped, wants)? {
-            Some(walked) => Ok(Poll::Ready(limited_answer(&tour, walked, most)?)),
+        match advance(&walk, most, &mut self.stopped, wants)? {
+            Some(walked) => Ok(Poll::Ready(text_or_refusal(&walk, walked, most)?)),
             None => Ok(Poll::Pending),
         }
     }
@@ -128,15 +136,15 @@ impl<'p> Resolve for RootState<'p> {
         alloc: Global,
         memory: &Memory,
         wants: &mut Wants,
-    ) -> Result<Poll<Answered>, NoMemory> {
-        let tour = Tour {
+    ) -> Result<Poll<ExecutionResult>, AllocError> {
+        let walk = Walk {
             alloc,
             plan: self.plan,
             memory,
             most: self.most,
         };
-        match advance(&tour, NO_LIMIT, &mut self.stopped, wants)? {
-            Some(walked) => Ok(Poll::Ready(responded(&tour, walked.rooted)?)),
+        match advance(&walk, NO_LIMIT, &mut self.stopped, wants)? {
+            Some(walked) => Ok(Poll::Ready(build_response(&walk, walked.rooted)?)),
             None => Ok(Poll::Pending),
         }
     }

@@ -1,4 +1,4 @@
-//! What a walk puts an answer into.
+//! Sinks, into which a walk puts an answer.
 
 ghost use Rattle.std.specs.Prelude.{◌≡◌, ◌<◌, ◌≤◌, ◌++◌, ◌∷◌, [], ℕ, List, OnOk};
 ghost use Rattle.load_memory.specs.Keys.{borrowed_of};
@@ -8,54 +8,65 @@ ghost use Rattle.gq_resolve.specs.Cells.{leaf_seen};
 ghost use Rattle.gq_resolve.specs.Puts.{Put, Begins, Ends, Enters, Has, View, Agree, a_wait};
 ghost use Rattle.gq_resolve.specs.Positions.{kind_of, is_non_null, position_seen, item_position, onward_of};
 
-use crate::positions::{FieldPosition, Items, Kind, Leaf, Nullability, Onward};
-use load_memory::{KeyRef, NoMemory};
+use crate::positions::{FieldPosition, Items, Leaf, Nullability, Onward, PositionKind};
+use load_memory::KeyRef;
 use plan_program::LeafValue;
+use std::alloc::AllocError;
 
-/// What a walk puts an answer into, depth first. After an error it is only dropped.
+/// Says what a walk puts an answer into, depth first. After an error it is only dropped.
+///
+/// A walk doesn't know what becomes of what it puts: its contract says which puts a program over a memory comes
+/// to, and a sink's contract what it holds after each. The trait has no lifetime, since a bound that names one
+/// has no proof in a cycle of calls; so [`Builder`](crate::builder::Builder) copies response keys.
 pub trait Sink {
     // It goes from the first to the second by these puts, over groups that do so with the rows of their loads.
     ghost goes: { View → List Put → Self → Self → Type 0 };
 
-    // What waits in it goes on at one of the first so many groups.
+    // Positions that wait in it go on at groups below this number.
     ghost below: { ℕ → Self → Type 0 };
 
-    // how many positions wait in it
+    // the number of positions that wait in it
     ghost waits: { Self → ℕ };
 
     /// An object or a list begins.
-    fn begin(&mut self, kind: Kind) -> Result<(), NoMemory>
-        ensures { OnOk result ((v : View) → goes v (Begins (kind_of kind) ∷ []) self.old self.new) };
+    fn begin(&mut self, kind: PositionKind) -> Result<(), AllocError>
+        ensures { OnOk result
+            ((v : View) → goes v (Begins (kind_of kind) ∷ []) self.old self.new) };
 
     /// It ends.
-    fn end(&mut self, kind: Kind) -> Result<(), NoMemory>
+    fn end(&mut self, kind: PositionKind) -> Result<(), AllocError>
         ensures { OnOk result ((v : View) → goes v (Ends (kind_of kind) ∷ []) self.old self.new) };
 
     /// A field of the object follows.
-    fn field(&mut self, position: FieldPosition<'_>) -> Result<(), NoMemory>
-        ensures { OnOk result ((v : View) → goes v (Enters ObjectOf (position_seen position.entry) ∷ []) self.old self.new) };
+    fn field(&mut self, position: FieldPosition<'_>) -> Result<(), AllocError>
+        ensures { OnOk result ((v : View)
+            → goes v (Enters ObjectOf (position_seen position.entry) ∷ []) self.old self.new) };
 
     /// The item of a number follows, from 0.
-    fn item(&mut self, items: Items, number: usize) -> Result<(), NoMemory>
-        ensures { OnOk result ((v : View) → goes v (Enters ListOf (item_position items number) ∷ []) self.old self.new) };
+    fn item(&mut self, items: Items, number: usize) -> Result<(), AllocError>
+        ensures { OnOk result ((v : View)
+            → goes v (Enters ListOf (item_position items number) ∷ []) self.old self.new) };
 
     /// A position with nothing below it, which may be null or not.
     fn leaf_value(
         &mut self,
         leaf_value: &LeafValue,
         nullability: Nullability,
-    ) -> Result<(), NoMemory>
-        ensures { OnOk result ((v : View) → goes v (Has (is_non_null nullability) (leaf_value_seen leaf_value.now) ∷ []) self.old self.new) };
+    ) -> Result<(), AllocError>
+        ensures { OnOk result ((v : View) → goes v (Has (is_non_null nullability)
+            (leaf_value_seen leaf_value.now) ∷ []) self.old self.new) };
 
     /// A position that is bound to a column, which may be null or not.
-    fn cell(&mut self, leaf: Leaf<'_>, nullability: Nullability) -> Result<(), NoMemory>
-        ensures { OnOk result ((v : View) → goes v (Has (is_non_null nullability) (leaf_seen leaf.entry) ∷ []) self.old self.new) };
+    fn cell(&mut self, leaf: Leaf<'_>, nullability: Nullability) -> Result<(), AllocError>
+        ensures { OnOk result ((v : View) → goes v
+            (Has (is_non_null nullability) (leaf_seen leaf.entry) ∷ []) self.old self.new) };
 
     /// A position waits for a load, and then goes on so.
-    fn wait(&mut self, onward: Onward, loader: usize, key: KeyRef<'_>) -> Result<(), NoMemory>
-        ensures { OnOk result ((v : View) → onward.group < v.count → goes v (a_wait v (onward_of onward) loader (borrowed_of key.entry)) self.old self.new) };
+    fn wait(&mut self, onward: Onward, loader: usize, key: KeyRef<'_>) -> Result<(), AllocError>
+        ensures { OnOk result ((v : View) → onward.group < v.count → goes v
+            (a_wait v (onward_of onward) loader (borrowed_of key.entry)) self.old self.new) };
 
-    /// How many positions wait in it.
+    /// Returns how many positions wait in it.
     fn waiting(&self) -> usize
         ensures { result ≡ waits self.now };
 
@@ -67,7 +78,7 @@ pub trait Sink {
 
     ghost stays: { (v : View) (ps : List Put) (a b : Self) → goes v ps a b → below v.count a → below v.count b };
 
-    // Where no position more waits, it doesn't matter what groups do past those of the positions that wait.
+    // Groups past those of the positions that wait may do anything, where no position more waits.
     ghost narrow: { (v w : View) (n : ℕ) (ps : List Put) (a b : Self) → n ≤ v.count → Agree n v w
         → below n a → waits a ≡ waits b → goes w ps a b → goes v ps a b };
 }

@@ -10,7 +10,7 @@ use Rattle.gq_schema.specs.Reserved.{first_reserved}
 use Rattle.gq_schema.specs.Repeated.{first_repeated}
 use Rattle.gq_schema.specs.Fault.{fault_of, fault_of_types}
 
--- Where no name is reserved and none is defined twice, the rest decides.
+-- The first fault is that of the types, where no name is reserved and none is defined twice.
 pub fault_of-types : (defs : List Definition) (fault : Option SchemaFault) → first_reserved defs ≡ None → first_repeated defs ≡ None → fault_of_types defs ≡ fault → fault_of defs ≡ fault
 fault_of-types defs fault unreserved once rest =
     ap (λ (p : Option Place). or_else (option_map ReservedName p) (or_else (option_map Duplicate (first_repeated defs)) (fault_of_types defs))) unreserved

@@ -39,7 +39,7 @@ by_signs : (text : List ℕ) → int_by (slice_index text 0 == 45) (slice_index 
 unfolding int_by
 by_signs text = refl
 
--- what `parse` gives for a text
+-- the result of `parse` for a text
 pub parsed : {E : Type 0} (text : List ℕ) (r : Result ℤ E) → ParsesSigned w32 10 text r → result_ok r ≡ int_of text
 unfolding int_by
 parsed {E} text r h = minus (slice_index text 0 == 45) refl where

@@ -47,7 +47,7 @@ pub place_within : {A B : Type 0} (f : B → A) (test : A → Bool) (n : ℕ) (x
 place_within f test n [] i h = cc
 place_within f test n (x ∷ xs) i h = within_step f test n x xs i (test (f x)) refl h (place_within f test (n + 1) xs i)
 
--- the same, of elements that are seen as others
+-- shows the same, of elements that are seen as others
 pub seen_within : {A B C : Type 0} (f : B → A) (g : C → B) (test : A → Bool) (xs : List C) (i : ℕ) → place_from 0 test (map f (map g xs)) ≡ Some i → i < length xs
 seen_within f g test xs i h = let below = place_within f test 0 (map g xs) i h in omega (arith, length-map xs g)
 

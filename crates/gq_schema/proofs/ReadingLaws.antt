@@ -1,4 +1,4 @@
--- What was read of a text, once its definitions are checked.
+-- Lemmas on what was read of a text, once its definitions are checked.
 use Rattle.std.proofs.Common.{◌≡◌, ◌≢◌, ◌∙◌, sym, ap, subst, ℕ, List, Option, Some, None, Result, Ok, Err, refl}
 use Rattle.std.specs.Prelude.{IfOk, IfErr, IsErrAnd}
 use Rattle.schema_syntax.specs.declared.tree.Definition as rust
@@ -30,7 +30,7 @@ pub only : (text : List ℕ) (ds : List rust.Definition) (r : Result (List rust.
 only text ds (Ok s) defs is keeps same fault = ap tree_of same ∙ is
 only text ds (Err e) defs is keeps same fault = out_of_memory e (fault_of (tree_of ds)) fault (ap fault_of is ∙ keeps)
 
--- Where the syntax was not read for want of memory, nothing was.
+-- Memory that ran out over the syntax is the fault of the whole.
 pub unread : (defs : List Definition) (r : Result (List rust.Definition) SchemaFault) (s : SyntaxFault) → IsErrAnd r (λ e. e ≡ schema_fault_of s) → s ≡ syntax.NoMemory → Reads defs r
 unread defs (Ok x) s is memory = absurd is
 unread defs (Err e) s is memory = is ∙ ap schema_fault_of memory

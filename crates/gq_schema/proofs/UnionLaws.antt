@@ -1,4 +1,4 @@
--- What was found for a member among the unions.
+-- Lemmas on what was found for a member among the unions.
 use Rattle.std.proofs.Common.{◌≡◌, ◌∙◌, sym, ap, ℕ, false, List, [], map, bytes_eq, Option, Some, None}
 use Rattle.std.specs.Global.{Vec}
 use Rattle.std.specs.Borrow.{Bor}

@@ -36,18 +36,18 @@ from_int name text =
     else if bytes_eq name (codes "ID") then Some (Text text)
     else None
 
--- what a string gives
+-- gives what a string gives
 abbrev pub from_text : List ℕ → List ℕ → Option Input
 from_text name text = if bytes_eq name (codes "ID") || bytes_eq name (codes "String") then Some (Text text) else None
 
 abbrev pub from_boolean : List ℕ → Bool → Option Input
 from_boolean name b = if bytes_eq name (codes "Boolean") then Some (Boolean b) else None
 
--- what a name gives at an enum, where it is among the values
+-- gives what a name gives at an enum, where it is among the values
 abbrev pub from_enum : List Definition → List ℕ → List ℕ → Option Input
 from_enum defs name value = if has_value defs name value then Some (Text value) else None
 
--- what a value gives at the type of this name; variables give what is stated first
+-- gives what a value gives at the type of this name; variables give what is stated first
 abbrev pub named_value : Option Input → List Definition → List ℕ → Bool → Value → Option Input
 named_value variable defs name non_null (literal.Null p) = if non_null then None else Some Null
 named_value variable defs name non_null (Variable p v) = variable
@@ -76,7 +76,7 @@ abbrev pub one_item : Option Input → Option Input
 one_item (Some i) = Some (Items (and_input i no_input))
 one_item None = None
 
--- what a value gives at a list, where item says what a value gives at its items
+-- gives what a value gives at a list, where item says what a value gives at its items
 abbrev pub list_value : Option Input → (Value → Option Input) → Bool → Value → Option Input
 list_value variable item non_null (literal.Null p) = if non_null then None else Some Null
 list_value variable item non_null (Variable p v) = variable
@@ -87,7 +87,7 @@ abbrev pub value_with : Option Input → List Definition → TypeTree → Value 
 value_with variable defs (Named p n non_null) v = named_value variable defs n non_null v
 value_with variable defs (ListOf p t non_null) v = list_value variable (value_with variable defs t) non_null v
 
--- what a literal without variables gives, where it is right
+-- gives what a literal without variables gives, where it is right
 abbrev pub coerced : List Definition → TypeTree → Value → Option Input
 coerced = value_with None
 

@@ -1,10 +1,10 @@
--- Which definitions are no schema, and why.
+-- Definitions of which definitions are no schema, and why.
 use Rattle.std.specs.Prelude.{◌||◌, is_some, List, Option, Some, None, if◌then◌else◌}
 use Rattle.std.specs.Option.{option_map}
 use Rattle.schema_syntax.specs.Tree.{Definition}
 use Rattle.gq_schema.specs.declared.fault.SchemaFault.{SchemaFault}
 use Rattle.gq_schema.specs.declared.fault.SchemaFault.TheVariants.{ReservedName, Duplicate, UnknownType, BadKind, BadImplements, BadDefault, NoQueryRoot}
-use Rattle.gq_schema.specs.declared.rules.uses.Rule.TheVariants.{IsDefined, Fits}
+use Rattle.gq_schema.specs.declared.rules.uses.TypeUseDemand.TheVariants.{IsDefined, Fits}
 use Rattle.gq_schema.specs.Scan.{or_else}
 use Rattle.gq_schema.specs.Types.{declared_root, type_in, query}
 use Rattle.gq_schema.specs.Reserved.{first_reserved}
@@ -17,7 +17,7 @@ use Rattle.gq_schema.specs.Defaults.{first_bad_default}
 abbrev pub missing_root : List Definition → Option SchemaFault
 missing_root defs = if is_some (declared_root defs) || is_some (type_in defs query) then None else Some NoQueryRoot
 
--- what is left to be reported once no name is reserved and none is defined twice
+-- gives what is left to be reported once no name is reserved and none is defined twice
 abbrev pub fault_of_types : List Definition → Option SchemaFault
 fault_of_types defs =
     or_else (option_map UnknownType (first_broken defs IsDefined))

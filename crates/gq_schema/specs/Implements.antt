@@ -1,4 +1,5 @@
--- What an object type that implements an interface must have (section 3.6, IsValidImplementation).
+-- Definitions of what an object type that implements an interface must have (section 3.6,
+-- IsValidImplementation).
 use Rattle.std.specs.Prelude.{ℕ, Bool, false, ◌&&◌, ◌||◌, not, is_some, List, Option, Some, None, find, if◌then◌else◌}
 use Rattle.std.specs.List.{list_all}
 use Rattle.std.specs.Option.{option_map_or}

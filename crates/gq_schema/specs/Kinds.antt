@@ -9,7 +9,7 @@ is_leaf Scalar = true
 is_leaf Enum = true
 is_leaf _ = false
 
--- what an argument may be (section 3.6.1)
+-- gives what an argument may be (section 3.6.1)
 abbrev pub is_input : TypeKind → Bool
 is_input = is_leaf
 

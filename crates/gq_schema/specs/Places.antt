@@ -1,4 +1,4 @@
--- Where the first element of each name stands in a list.
+-- Definitions of where the first element of each name stands in a list.
 use Rattle.std.specs.Prelude.{◌≡◌, ℕ, ◌+◌, Bool, List, [], ◌∷◌, Option, Some, None, String, bytes_eq, string_bytes, if◌then◌else◌}
 use Rattle.std.specs.Global.{Global}
 use Rattle.std.specs.HashMap.{HashMap, get_by_text}
@@ -16,10 +16,11 @@ abbrev pub place_if_called : List ℕ → rust.Name → ℕ → Option ℕ
 place_if_called q name place = if bytes_eq q (string_bytes name.text) then Some place else None
 
 -- the map has the place of the first element of each name
-abbrev pub ArePlaces : {A S : Type 0} → (List ℕ → A → Bool) → List A → HashMap (String Global) ℕ S → Type 0
+abbrev pub ArePlaces : {A S : Type 0} → (List ℕ → A → Bool)
+    → List A → HashMap (String Global) ℕ S → Type 0
 ArePlaces named xs places = (q : List ℕ) → get_by_text places q ≡ place_from 0 (named q) xs
 
--- where the field, or the value of an enum, of this name stands in a definition
+-- gives where the field, or the value of an enum, of this name stands in a definition
 abbrev pub part_place : Definition → List ℕ → Option ℕ
 part_place (Object n is fs) q = place_from 0 (is_field q) fs
 part_place (Interface n fs) q = place_from 0 (is_field q) fs

@@ -1,4 +1,4 @@
--- Which texts are schemas, and the fault of every other text (section 3).
+-- Definitions of which texts are schemas, and the fault of every other text (section 3).
 use Rattle.std.specs.Prelude.{◌≡◌, ℕ, List, Some, None, Result, Ok, Err}
 use Rattle.schema_syntax.specs.declared.fault.SyntaxFault.TheVariants as syntax
 use Rattle.schema_syntax.specs.declared.tree.Definition as rust

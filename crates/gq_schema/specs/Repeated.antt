@@ -12,12 +12,12 @@ abbrev pub repeated_name : List Name → List Name → Option Place
 repeated_name earlier [] = None
 repeated_name earlier (n ∷ ns) = if list_any (is_called n.text) earlier then Some n.place else repeated_name (earlier ++ n ∷ []) ns
 
--- the same of arguments
+-- gives the same of arguments
 abbrev pub repeated_argument : List Argument → List Argument → Option Place
 repeated_argument earlier [] = None
 repeated_argument earlier (a ∷ others) = if list_any (is_argument a.name.text) earlier then Some a.name.place else repeated_argument (earlier ++ a ∷ []) others
 
--- the same of fields, and of the arguments of each
+-- gives the same of fields, and of the arguments of each
 abbrev pub repeated_field : List Field → List Field → Option Place
 repeated_field earlier [] = None
 repeated_field earlier (f ∷ fs) =

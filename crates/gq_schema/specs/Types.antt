@@ -1,5 +1,6 @@
--- What the definitions of a schema say of a name (sections 3.4 to 3.9). A schema is the list of its definitions, in the
--- order of the text. Where several definitions have one name, the first counts; no schema that is accepted has such.
+-- Definitions of what the definitions of a schema say of a name (sections 3.4 to 3.9). A schema is the list of its
+-- definitions, in the order of the text. Where several definitions have one name, the first counts; no schema that is
+-- accepted has such.
 use Rattle.std.specs.Prelude.{ℕ, Bool, true, false, ◌&&◌, ◌||◌, not, List, [], ◌∷◌, ◌++◌, map, filter, find, fold, Option, Some, None, codes, bytes_eq, unwrap_or, if◌then◌else◌}
 use Rattle.std.specs.List.{list_any}
 use Rattle.std.specs.Option.{option_and_then, option_map_or}
@@ -13,7 +14,7 @@ use Rattle.gq_schema.specs.declared.kind.TypeKind.TheVariants as kind
 use Rattle.gq_schema.specs.Kinds.{is_leaf}
 use Rattle.gq_schema.specs.Scan.{first_in}
 
--- what the program's definitions say
+-- gives what the program's definitions say
 abbrev pub tree_of : List rust.Definition → List Definition
 tree_of ds = map definition_of ds
 
@@ -50,7 +51,7 @@ kind_of (Interface n fs) = Some kind.Interface
 kind_of (Union n ms) = Some kind.Union
 kind_of (Enum n vs) = Some kind.Enum
 
--- what the type q is, where there is such a type
+-- gives what the type q is, where there is such a type
 abbrev pub kind_in : List Definition → List ℕ → Option TypeKind
 kind_in defs q = if is_built_in q then Some kind.Scalar else option_and_then kind_of (type_in defs q)
 
@@ -123,7 +124,7 @@ with_type names d = option_map_or (λ (n : Name). with_name names n.text) (type_
 abbrev pub possible_names : List Definition → List ℕ → List (List ℕ)
 possible_names defs q = fold with_type [] (filter (is_possible defs q) defs)
 
--- the same, where q is an object type, an interface or a union
+-- gives the same, where q is an object type, an interface or a union
 abbrev pub possible_in : List Definition → List ℕ → Option (List (List ℕ))
 possible_in defs q = option_and_then (λ k. if is_leaf k then None else Some (possible_names defs q)) (kind_in defs q)
 

@@ -1,4 +1,4 @@
-//! Whether definitions are a schema.
+//! Checks that definitions are a schema.
 
 ghost use Rattle.std.specs.Prelude.{◌≡◌, ◌≢◌, None, Some, IfOk, IfErr};
 ghost use Rattle.gq_schema.specs.Types.{tree_of};
@@ -9,7 +9,7 @@ use crate::rules::defaults::first_bad_default;
 use crate::rules::implements::first_bad_interface;
 use crate::rules::repeated::first_repeated;
 use crate::rules::reserved::first_reserved;
-use crate::rules::uses::{Rule, first_broken};
+use crate::rules::uses::{TypeUseDemand, first_broken};
 use crate::schema::Schema;
 use schema_syntax::SchemaDocument;
 use std::alloc::{AllocError, Global};
@@ -29,10 +29,10 @@ fn missing_root(schema: &Schema) -> Option<SchemaFault>
 fn fault_of_types(alloc: Global, schema: &Schema) -> Result<Option<SchemaFault>, AllocError>
     ensures { IfOk result (λ fault. fault ≡ fault_of_types (tree_of schema.now)) }
 {
-    if let Some(place) = first_broken(schema, Rule::IsDefined) {
+    if let Some(place) = first_broken(schema, TypeUseDemand::IsDefined) {
         return Ok(Some(SchemaFault::UnknownType(place)));
     }
-    if let Some(place) = first_broken(schema, Rule::Fits) {
+    if let Some(place) = first_broken(schema, TypeUseDemand::Fits) {
         return Ok(Some(SchemaFault::BadKind(place)));
     }
     if let Some(place) = first_bad_interface(alloc, schema)? {
@@ -48,7 +48,8 @@ fn fault_of_types(alloc: Global, schema: &Schema) -> Result<Option<SchemaFault>,
 pub fn check(alloc: Global, document: SchemaDocument) -> Result<Schema, SchemaFault>
     ensures definitions { IfOk result (λ schema. schema ≡ document.definitions.items) }
     ensures sound { IfOk result (λ _. fault_of (tree_of document.definitions.items) ≡ None) }
-    ensures fault { IfErr result (λ e. e ≢ SchemaFault.NoMemory → fault_of (tree_of document.definitions.items) ≡ Some e) }
+    ensures fault { IfErr result (λ e.
+        e ≢ SchemaFault.NoMemory → fault_of (tree_of document.definitions.items) ≡ Some e) }
 {
     if let Some(place) = first_reserved(&document.definitions) {
         return Err(SchemaFault::ReservedName(place));

@@ -38,9 +38,10 @@ fn accepts_int(name: &str, text: &str) -> bool
     }
 }
 
-// Whether a literal is right at the type of this name. Variables are passed over.
+// Tells whether a literal is right at the type of this name. Variables are passed over.
 fn accepts_named(schema: &Schema, ty: &TypeRef, name: &str, literal: &Literal) -> bool
-    ensures { result ≡ is_some (named_value (Some Null) (tree_of schema.now) name.now (is_non_null (type_of ty.now)) (literal_of literal.now)) }
+    ensures { result ≡ is_some (named_value (Some Null) (tree_of schema.now)
+        name.now (is_non_null (type_of ty.now)) (literal_of literal.now)) }
 {
     match &literal.value {
         Value::Null => !ty.is_non_null(),
@@ -55,7 +56,7 @@ fn accepts_named(schema: &Schema, ty: &TypeRef, name: &str, literal: &Literal) -
     }
 }
 
-/// Whether a literal may stand where this type is expected (section 5.6.1). Variables in it are skipped.
+/// Tells whether a literal may stand where this type is expected (section 5.6.1). Variables in it are skipped.
 ///
 /// An `Int` takes an Int within signed 32 bits, an `ID` a string or an Int, a `String` a string, a `Boolean` `true` or
 /// `false`, an enum a name among its values. A list takes a list item by item, and another value as a list of one. `null` is
@@ -82,7 +83,8 @@ pub fn accepts(schema: &Schema, ty: &TypeRef, literal: &Literal) -> bool
 
 #[cycle(accepts)]
 fn accepts_all(schema: &Schema, ty: &TypeRef, literals: &[Literal]) -> bool
-    ensures { result ≡ is_some (list_input (all_items (value_with (Some Null) (tree_of schema.now) (type_of ty.now)) (map_literals literals.now))) }
+    ensures { result ≡ is_some (list_input (all_items (value_with (Some Null)
+        (tree_of schema.now) (type_of ty.now)) (map_literals literals.now))) }
 {
     for literal in literals {
         if !accepts(schema, ty, literal) {
@@ -128,7 +130,8 @@ fn coerce_named(
     name: &str,
     literal: &Literal,
 ) -> Result<Option<Input>, AllocError>
-    ensures { Coerces (named_value None (tree_of schema.now) name.now (is_non_null (type_of ty.now)) (literal_of literal.now)) result }
+    ensures { Coerces (named_value None (tree_of schema.now) name.now
+        (is_non_null (type_of ty.now)) (literal_of literal.now)) result }
 {
     match &literal.value {
         Value::Null => Ok((!ty.is_non_null()).then_some(Input::Null)),
@@ -161,6 +164,10 @@ pub fn list_of_one(alloc: Global, item: Option<Input>) -> Result<Option<Input>, 
 ///
 /// It is right where `accepts` says so: an ID and an enum's value become a `Text`, an ID the text of an Int as it is written,
 /// and a value at a list type that is no list a list of one.
+///
+/// `plan_program` has a coercion with variables, which calls this one for what is no list and no variable: to
+/// share the walk through lists too, each function of the recursion would take a closure and require that it
+/// may be called.
 #[cycle(coerce)]
 pub fn coerce(
     alloc: Global,
@@ -168,7 +175,8 @@ pub fn coerce(
     ty: &TypeRef,
     literal: &Literal,
 ) -> Result<Option<Input>, AllocError>
-    ensures { Coerces (coerced (tree_of schema.now) (type_of ty.now) (literal_of literal.now)) result }
+    ensures { Coerces
+        (coerced (tree_of schema.now) (type_of ty.now) (literal_of literal.now)) result }
 {
     match ty {
         TypeRef::Named { name, .. } => Ok(coerce_named(schema, ty, name.as_str(), literal)?),
@@ -194,7 +202,8 @@ fn coerce_one(
     ty: &TypeRef,
     literal: &Literal,
 ) -> Result<Option<Input>, AllocError>
-    ensures { Coerces (one_item (coerced (tree_of schema.now) (type_of ty.now) (literal_of literal.now))) result }
+    ensures { Coerces
+        (one_item (coerced (tree_of schema.now) (type_of ty.now) (literal_of literal.now))) result }
 {
     let item = coerce(alloc, schema, ty, literal)?;
     Ok(list_of_one(alloc, item)?)
@@ -208,7 +217,8 @@ fn coerce_all(
     ty: &TypeRef,
     literals: &[Literal],
 ) -> Result<Option<Input>, AllocError>
-    ensures { Coerces (list_input (all_items (coerced (tree_of schema.now) (type_of ty.now)) (map_literals literals.now))) result }
+    ensures { Coerces (list_input (all_items (coerced (tree_of schema.now) (type_of ty.now))
+        (map_literals literals.now))) result }
 {
     let mut inputs = Vec::with_capacity(alloc, literals.len())?;
     for literal in literals {

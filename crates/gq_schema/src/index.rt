@@ -1,4 +1,4 @@
-//! Where definitions and what they define stand, by name.
+//! Indices of definitions, and of what they define, by name.
 
 ghost use Rattle.std.specs.Prelude.{◌≡◌, ℕ, List, Some, None, IfOk, OnOk, find, map};
 ghost use Rattle.std.specs.List.{list_any};
@@ -14,30 +14,31 @@ use std::alloc::{AllocError, Global};
 use std::collections::HashMap;
 
 /// The place of the first of each name in a list.
-pub type Places = HashMap<String, usize>;
+pub type NameIndices = HashMap<String, usize>;
 
 /// Notes the place of a name, unless one of the name stands earlier.
-pub fn note(places: &mut Places, name: &Name, place: usize) -> Result<(), AllocError>
-    ensures { (q : List ℕ) → OnOk result (get_by_text places.new q ≡ or_else (get_by_text places.old q) (place_if_called q name.now place)) }
+pub fn note(places: &mut NameIndices, name: &Name, place: usize) -> Result<(), AllocError>
+    ensures { (q : List ℕ) → OnOk result (get_by_text places.new q
+        ≡ or_else (get_by_text places.old q) (place_if_called q name.now place)) }
 {
     places.entry(name.text.clone()?)?.or_insert(place);
     Ok(())
 }
 
-fn field_places(alloc: Global, fields: &[FieldDefinition]) -> Result<Places, AllocError>
+fn field_places(alloc: Global, fields: &[FieldDefinition]) -> Result<NameIndices, AllocError>
     ensures { IfOk result (ArePlaces is_field (fields_of fields.now)) }
 {
-    let mut places: Places = HashMap::new(alloc);
+    let mut places: NameIndices = HashMap::new(alloc);
     for (i, field) in fields.iter().enumerate() {
         note(&mut places, &field.name, i)?;
     }
     Ok(places)
 }
 
-fn name_places(alloc: Global, names: &[Name]) -> Result<Places, AllocError>
+fn name_places(alloc: Global, names: &[Name]) -> Result<NameIndices, AllocError>
     ensures { IfOk result (ArePlaces is_called (names_of names.now)) }
 {
-    let mut places: Places = HashMap::new(alloc);
+    let mut places: NameIndices = HashMap::new(alloc);
     for (i, name) in names.iter().enumerate() {
         note(&mut places, name, i)?;
     }
@@ -46,14 +47,14 @@ fn name_places(alloc: Global, names: &[Name]) -> Result<Places, AllocError>
 
 /// A definition, with the places of its fields or values.
 #[derive(Drop)]
-pub struct Indexed {
+pub struct IndexedDefinition {
     pub definition: Definition,
-    parts: Places,
+    parts: NameIndices,
     ghost places: { (q : List ℕ) → get_by_text parts q ≡ part_place (definition_of definition) q },
 }
 
-impl Indexed {
-    fn new(alloc: Global, definition: Definition) -> Result<Indexed, AllocError>
+impl IndexedDefinition {
+    fn new(alloc: Global, definition: Definition) -> Result<IndexedDefinition, AllocError>
         ensures { IfOk result (λ indexed. indexed.definition ≡ definition) }
     {
         let parts = match &definition {
@@ -63,12 +64,13 @@ impl Indexed {
             Definition::Schema(_) => HashMap::new(alloc),
             Definition::Union(_) => HashMap::new(alloc),
         };
-        Ok(Indexed { definition, parts })
+        Ok(IndexedDefinition { definition, parts })
     }
 
     /// The field of this name.
     pub(crate) fn field(&self, name: &str) -> Option<&FieldDefinition>
-        ensures { option_map field_of (option_copied result) ≡ find (is_field name.now) (own_fields (definition_of self.now.definition)) }
+        ensures { option_map field_of (option_copied result)
+            ≡ find (is_field name.now) (own_fields (definition_of self.now.definition)) }
     {
         match &self.definition {
             Definition::Object(object) => {
@@ -85,9 +87,10 @@ impl Indexed {
         }
     }
 
-    /// Whether it is an enum that has this value.
+    /// Tells whether it is an enum that has this value.
     pub(crate) fn has_value(&self, value: &str) -> bool
-        ensures { result ≡ list_any (is_called value.now) (own_values (definition_of self.now.definition)) }
+        ensures { result
+            ≡ list_any (is_called value.now) (own_values (definition_of self.now.definition)) }
     {
         match &self.definition {
             Definition::Enum(_) => self.place_of(value).is_some(),
@@ -107,12 +110,16 @@ impl Indexed {
 }
 
 /// The definitions, each with its places.
-pub fn index(alloc: Global, definitions: Vec<Definition>) -> Result<Vec<Indexed>, AllocError>
-    ensures { IfOk result (λ all. map (λ indexed. indexed.definition) all.items ≡ definitions.items) }
+pub fn index(
+    alloc: Global,
+    definitions: Vec<Definition>,
+) -> Result<Vec<IndexedDefinition>, AllocError>
+    ensures { IfOk result (λ all.
+        map (λ indexed. indexed.definition) all.items ≡ definitions.items) }
 {
     let mut all = Vec::with_capacity(alloc, definitions.len())?;
     for definition in definitions {
-        all.push(Indexed::new(alloc, definition)?)?;
+        all.push(IndexedDefinition::new(alloc, definition)?)?;
     }
     Ok(all)
 }

@@ -1,8 +1,8 @@
-//! What a type is.
+//! Kinds of types.
 
 ghost use Rattle.std.specs.Prelude.{◌≡◌};
 
-/// What a type of a schema is (section 3.4).
+/// Says what a type of a schema is (section 3.4).
 #[derive(Clone, Copy, Debug, PartialEq, Eq)]
 pub enum TypeKind {
     /// One of the built-in scalars `Int`, `String`, `Boolean` and `ID` (section 3.5).
@@ -16,7 +16,7 @@ pub enum TypeKind {
 impl TypeKind {
     ghost use Rattle.gq_schema.specs.Kinds.{is_leaf};
 
-    /// Whether it is a scalar or an enum, which has no fields.
+    /// Tells whether it is a scalar or an enum, which has no fields.
     pub fn is_leaf(self) -> bool
         ensures { result ≡ is_leaf self }
     {

@@ -23,7 +23,7 @@ mod types;
 
 pub use coercion::{accepts, coerce, list_of_one};
 pub use fault::SchemaFault;
-pub use index::Indexed;
+pub use index::IndexedDefinition;
 pub use input::Input;
 pub use kind::TypeKind;
 pub use schema::Schema;

@@ -7,7 +7,7 @@ ghost use Rattle.gq_schema.specs.Types.{type_name, is_built_in, own_fields};
 
 use schema_syntax::{Definition, FieldDefinition, Name};
 
-/// Whether it is one of the scalars that each schema has (section 3.5).
+/// Tells whether it is one of the scalars that each schema has (section 3.5).
 pub fn is_built_in(name: &str) -> bool
     ensures { result ≡ is_built_in name.now }
 {

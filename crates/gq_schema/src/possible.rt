@@ -7,7 +7,7 @@ ghost use Rattle.gq_schema.specs.Indexes.{tree_in};
 ghost use Rattle.gq_schema.specs.Types.{is_called, possible_names};
 ghost use Rattle.gq_schema.specs.Possible.{names_at, CanBeIf, is_among, includes, unions_at, has_union, with_union_if, is_union_with, AreUnions, AddsPossible};
 
-use crate::index::Indexed;
+use crate::index::IndexedDefinition;
 use crate::type_names::TypeNames;
 use schema_syntax::{Definition, Name, ObjectDefinition, UnionDefinition};
 use std::alloc::{AllocError, Global};
@@ -26,7 +26,8 @@ fn add_to(
     name: &Name,
     object: &Name,
 ) -> Result<(), AllocError>
-    ensures { (q : List ℕ) → OnOk result (CanBeIf (bytes_eq q (string_bytes name.now.text)) q object.now possible.old possible.new) }
+    ensures { (q : List ℕ) → OnOk result
+        (CanBeIf (bytes_eq q (string_bytes name.now.text)) q object.now possible.old possible.new) }
 {
     possible
         .entry(name.text.clone()?)?
@@ -42,7 +43,8 @@ fn add_to_each(
     names: &[Name],
     object: &Name,
 ) -> Result<(), AllocError>
-    ensures { (q : List ℕ) → OnOk result (CanBeIf (list_any (is_called q) (names_of names.now)) q object.now possible.old possible.new) }
+    ensures { (q : List ℕ) → OnOk result (CanBeIf
+        (list_any (is_called q) (names_of names.now)) q object.now possible.old possible.new) }
 {
     for name in names {
         add_to(alloc, possible, name, object)?;
@@ -56,7 +58,8 @@ fn add_to_unions(
     names: &[&Name],
     object: &Name,
 ) -> Result<(), AllocError>
-    ensures { (q : List ℕ) → OnOk result (CanBeIf (is_among q names.now) q object.now possible.old possible.new) }
+    ensures { (q : List ℕ)
+        → OnOk result (CanBeIf (is_among q names.now) q object.now possible.old possible.new) }
 {
     for name in names {
         add_to(alloc, possible, name, object)?;
@@ -71,7 +74,8 @@ fn add_object(
     object: &ObjectDefinition,
     unions: &Unions,
 ) -> Result<(), AllocError>
-    ensures { (q : List ℕ) → OnOk result (CanBeIf (includes unions.now q object.now) q object.now.name possible.old possible.new) }
+    ensures { (q : List ℕ) → OnOk result
+        (CanBeIf (includes unions.now q object.now) q object.now.name possible.old possible.new) }
 {
     add_to(alloc, possible, &object.name, &object.name)?;
     add_to_each(alloc, possible, &object.interfaces, &object.name)?;
@@ -103,7 +107,8 @@ fn note_members<'a>(
     unions: &mut Unions<'a>,
     union: &'a UnionDefinition,
 ) -> Result<(), AllocError>
-    ensures { (o q : List ℕ) → OnOk result (has_union unions.new o q ≡ (is_union_with union.now o q || has_union unions.old o q)) }
+    ensures { (o q : List ℕ) → OnOk result
+        (has_union unions.new o q ≡ (is_union_with union.now o q || has_union unions.old o q)) }
 {
     for member in &union.members {
         note_union(alloc, unions, member, &union.name)?;
@@ -118,7 +123,8 @@ fn add_definition(
     definition: &Definition,
     unions: &Unions,
 ) -> Result<(), AllocError>
-    ensures { (defs : _) (q : List ℕ) → AreUnions unions.now defs → OnOk result (AddsPossible defs q (definition_of definition.now) possible.old possible.new) }
+    ensures { (defs : _) (q : List ℕ) → AreUnions unions.now defs → OnOk result
+        (AddsPossible defs q (definition_of definition.now) possible.old possible.new) }
 {
     match definition {
         Definition::Object(object) => {
@@ -133,7 +139,10 @@ fn add_definition(
 }
 
 // The unions that each type is a member of.
-fn unions_in<'a>(alloc: Global, definitions: &'a [Indexed]) -> Result<Unions<'a>, AllocError>
+fn unions_in<'a>(
+    alloc: Global,
+    definitions: &'a [IndexedDefinition],
+) -> Result<Unions<'a>, AllocError>
     ensures { IfOk result (λ unions. AreUnions unions (tree_in definitions.now)) }
 {
     let mut unions: Unions = HashMap::new(alloc);
@@ -146,8 +155,9 @@ fn unions_in<'a>(alloc: Global, definitions: &'a [Indexed]) -> Result<Unions<'a>
 }
 
 /// The object types that each type can be.
-pub fn possible_in(alloc: Global, definitions: &[Indexed]) -> Result<Possible, AllocError>
-    ensures { (q : List ℕ) → IfOk result (λ possible. names_at possible q ≡ possible_names (tree_in definitions.now) q) }
+pub fn possible_in(alloc: Global, definitions: &[IndexedDefinition]) -> Result<Possible, AllocError>
+    ensures { (q : List ℕ) → IfOk result (λ possible.
+        names_at possible q ≡ possible_names (tree_in definitions.now) q) }
 {
     let unions = unions_in(alloc, definitions)?;
     let mut possible: Possible = HashMap::new(alloc);

@@ -32,7 +32,7 @@ impl Schema {
     /// [`SchemaFault::BadDefault`], [`SchemaFault::NoQueryRoot`]. [`SchemaFault::NoMemory`] comes when out of memory,
     /// before any fault that would have been found later.
     pub fn read(alloc: Global, text: &str) -> Result<Schema, SchemaFault>
-        // What is read is a schema, with the definitions that the text says.
+        // The result is a schema, with the definitions that the text says.
         ensures found { IfOk result (λ schema. IsSchema text.now (tree_of schema)) }
 
         // A schema is read, and there is no other in the text.

@@ -6,7 +6,7 @@ ghost use Rattle.gq_schema.specs.Types.{is_same_type};
 
 use gq_parser::TypeRef;
 
-/// Whether both are the same type.
+/// Tells whether both are the same type.
 pub fn is_same_type(one: &TypeRef, other: &TypeRef) -> bool
     ensures { result ≡ is_same_type (type_of one.now) (type_of other.now) }
 {

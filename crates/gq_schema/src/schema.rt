@@ -7,7 +7,7 @@ ghost use Rattle.schema_syntax.specs.Tree.{field_of, fields_of, definition_of};
 ghost use Rattle.gq_parser.specs.Tree.{type_of};
 ghost use Rattle.gq_schema.specs.Types.{tree_of, declared_root, root_in, type_in, kind_of, kind_in, fields_in, field_in, has_value, can_be, possible_in, is_covariant};
 
-use crate::index::{Indexed, Places, index};
+use crate::index::{IndexedDefinition, NameIndices, index};
 use crate::kind::TypeKind;
 use crate::names::{is_built_in, own_fields};
 use crate::possible::{Possible, possible_in};
@@ -18,11 +18,13 @@ use std::alloc::{AllocError, Global};
 use std::marker::Model;
 
 /// The types of a schema with their fields, arguments, values and possible types, each found by its name (section 3).
+///
+/// The four built-in scalars are types of each schema.
 #[derive(Drop)]
 pub struct Schema {
-    definitions: Vec<Indexed>,
+    definitions: Vec<IndexedDefinition>,
     root: Option<String>,
-    types: Places,
+    types: NameIndices,
     possible: Possible,
 }
 
@@ -63,13 +65,13 @@ impl Schema {
     }
 
     /// The definitions in the order of the text.
-    pub fn definitions(&self) -> &[Indexed]
+    pub fn definitions(&self) -> &[IndexedDefinition]
         ensures { map definition_in result.now ≡ self.now }
     {
         &self.definitions
     }
 
-    /// Whether there is a `schema`.
+    /// Tells whether there is a `schema`.
     pub(crate) fn declares_root(&self) -> bool
         ensures { result ≡ is_some (declared_root (tree_of self.now)) }
     {
@@ -87,14 +89,15 @@ impl Schema {
     }
 
     // The definition of a type.
-    fn definition(&self, name: &str) -> Option<&Indexed>
-        ensures { option_map (λ indexed. definition_of indexed.definition) (option_copied result) ≡ type_in (tree_of self.now) name.now }
+    fn definition(&self, name: &str) -> Option<&IndexedDefinition>
+        ensures { option_map (λ indexed. definition_of indexed.definition) (option_copied result)
+            ≡ type_in (tree_of self.now) name.now }
     {
         let place = *self.types.get(name)?;
         Some(&self.definitions[place])
     }
 
-    /// Whether the text defines a type of this name.
+    /// Tells whether the text defines a type of this name.
     pub(crate) fn defines(&self, name: &str) -> bool
         ensures { result ≡ is_some (type_in (tree_of self.now) name.now) }
     {
@@ -123,12 +126,13 @@ impl Schema {
 
     /// The field of a type; nothing where there is no such type or no such field (section 3.6).
     pub fn field(&self, ty: &str, name: &str) -> Option<&FieldDef>
-        ensures { option_map field_of (option_copied result) ≡ field_in (tree_of self.now) ty.now name.now }
+        ensures { option_map field_of (option_copied result)
+            ≡ field_in (tree_of self.now) ty.now name.now }
     {
         self.definition(ty)?.field(name)
     }
 
-    /// Whether a type is an enum that has this value (section 3.9).
+    /// Tells whether a type is an enum that has this value (section 3.9).
     pub fn has_value(&self, ty: &str, value: &str) -> bool
         ensures { result ≡ has_value (tree_of self.now) ty.now value.now }
     {
@@ -138,7 +142,7 @@ impl Schema {
         }
     }
 
-    /// Whether an object type is a possible type of a type: it is that type, implements it, or is a member of it.
+    /// Tells whether an object type is a possible type of a type: it is that type, implements it, or is a member of it.
     pub fn can_be(&self, ty: &str, object: &str) -> bool
         ensures { result ≡ can_be (tree_of self.now) ty.now object.now }
     {
@@ -151,7 +155,8 @@ impl Schema {
     /// The object types that a type can be, in the order of their definitions: of an object type itself, of an interface
     /// the types that implement it, of a union its members. Nothing for a scalar, an enum and an unknown name.
     pub fn possible_types(&self, ty: &str) -> Option<&[String]>
-        ensures { option_map (λ names. map string_bytes names.now) result ≡ possible_in (tree_of self.now) ty.now }
+        ensures { option_map (λ names. map string_bytes names.now) result
+            ≡ possible_in (tree_of self.now) ty.now }
     {
         let kind = self.kind_of(ty)?;
         if kind.is_leaf() {
@@ -163,9 +168,9 @@ impl Schema {
         }
     }
 
-    /// Whether a type is covariant with another (section 3.6): equal types; an object type with an interface that it
-    /// implements or a union that has it; a list with a list, if their items are; a non-null type with one that may be
-    /// null.
+    /// Tells whether a type is covariant with another (section 3.6): equal types; an object type with an interface that
+    /// it implements or a union that has it; a list with a list, if their items are; a non-null type with one that may
+    /// be null.
     pub fn is_covariant(&self, own: &TypeRef, wanted: &TypeRef) -> bool
         ensures { result ≡ is_covariant (tree_of self.now) (type_of own.now) (type_of wanted.now) }
     {

@@ -37,7 +37,7 @@ impl TypeNames {
         }
     }
 
-    /// Whether the name is among them.
+    /// Tells whether the name is among them.
     pub fn contains(&self, name: &str) -> bool
         ensures { result ≡ list_any (bytes_eq name.now) self.now }
     {

@@ -1,4 +1,4 @@
--- What a host asks, planned.
+-- Lemmas on what a host asks, planned.
 use Rattle.std.proofs.Common.{◌≡◌, ℕ, List, [], refl, Ok, Err, Some, None, ap, sym}
 use Rattle.std.specs.Prelude.{Result, IfOk, Option, option_map}
 use Rattle.std.specs.Option.{option_copied}
@@ -20,7 +20,7 @@ module _ {S : Type 0} (c : ClientOf S) (planned : PlannedOf) where
   pub plans-none : (parts : PartsOf) → IsOfNoRequest parts → PlansAsked c (as_text []) planned → PlansHost c (request parts) planned
   plans-none parts none plans = record { asked = as_text []; asks = of_none none refl; plans = plans }
 
--- the same of what may have been planned
+-- shows the same of what may have been planned
 module _ {S E : Type 0} (c : ClientOf S) where
   pub line-planned : (r : Result PlannedOf E) (bytes : List ℕ) → IfOk r (PlansAsked c (as_text bytes)) → IfOk r (PlansHost c (line bytes))
   line-planned (Ok planned) bytes plans = plans-line c planned bytes plans

@@ -1,8 +1,8 @@
--- What is begun on a client that wasn't busy.
+-- Lemmas on what is begun on a client that wasn't busy.
 use Rattle.std.proofs.Common.{◌≡◌, ◌∙◌, sym, ap, Some, Ok, Err}
 use Rattle.std.specs.Prelude.{Result, OnOk, OnErr}
 use Rattle.server.specs.Clients.{ClientOf}
-use Rattle.owned_hand.specs.declared.handed_in.HandedIn.{HandedIn}
+use Rattle.server_owned.specs.declared.handed_in.HandedIn.{HandedIn}
 use Rattle.host_clients.specs.Asked.{HostAsked}
 use Rattle.host_clients.specs.Clients.{Begins, IsBegun, client_in}
 use Rattle.host_clients.specs.declared.client.HostClient.{HostClient}

@@ -1,5 +1,5 @@
--- A client that another language runs names no thread, and so what a handle holds: in steps, as in the `Crossing` of `server`. `object_send` is for
--- the crate of exports. Assumes nothing.
+-- A client that another language runs names no thread, and so what a handle holds: in steps, as in the `Crossing` of `server`.
+-- `object_send` is for the crate of exports. Assumes nothing.
 use denote.Param.Send.{IsSend, sendable}
 use denote.Param.SendFields.{declared_send, variants_send, VariantsHave}
 use Rattle.std.proofs.Crossing as over
@@ -8,9 +8,9 @@ use Rattle.server.proofs.Crossing.{client_send, documents_send, reader_send, ser
 use Rattle.server.specs.contracts.client.ClientSession as session
 use Rattle.server.specs.contracts.load_by_hand.LoadByHand as by_hand
 use Rattle.server.specs.contracts.load_by_hand.LoadByHand.TheInside as by_hand_inside
-use Rattle.owned_hand.proofs.handed_in.HandedIn.TheSendSync as handed_in_crosses
-use Rattle.owned_hand.specs.contracts.handed_in.HandedIn as handed_in
-use Rattle.owned_hand.proofs.owned.OwnedByHand.TheSendSync as owned_crosses
+use Rattle.server_owned.proofs.handed_in.HandedIn.TheSendSync as handed_in_crosses
+use Rattle.server_owned.specs.contracts.handed_in.HandedIn as handed_in
+use Rattle.server_owned.proofs.owned.OwnedByHand.TheSendSync as owned_crosses
 use Rattle.flat_orders.proofs.orders.FlatOrders.TheSendSync as orders_cross
 use Rattle.flat_outcomes.proofs.outcomes.FlatOutcomes.TheSendSync as outcomes_cross
 use Rattle.host_clients.specs.contracts.answered.AnsweredClient as answered

@@ -1,4 +1,4 @@
--- What a client loads, after a call of what is done by hand.
+-- Lemmas on what a client loads, after a call of what is done by hand.
 use Rattle.std.proofs.Common.{◌≡◌, ◌∙◌, ℕ, List, [], map, refl, sym, ap, subst}
 use Rattle.std.specs.Prelude.{◌⊎◌, Result, IfSome, slice_get}
 use Rattle.std.specs.Global.{Vec}
@@ -14,12 +14,12 @@ use Rattle.rounds_by_hand.specs.declared.load_hand.LoadAdvance.TheVariants.{Load
 use Rattle.rounds_by_hand.specs.declared.pending.Pending.TheVariants.{Out}
 use Rattle.server.specs.Clients.{ClientOf, IsClientCall, IsSameClient}
 use Rattle.server.specs.LoadsByHand.{LoadByHandOf, ClientLoads, ClientStopsLoad, load_by_hand_of, load_in}
-use Rattle.owned_hand.specs.declared.handed_in.HandedIn.{HandedIn}
+use Rattle.server_owned.specs.declared.handed_in.HandedIn.{HandedIn}
 use Rattle.host_clients.specs.Clients.{LoadsIt, MakesLoadRound, StopsLoad, TakesForLoad}
 use Rattle.host_clients.specs.Loads.{KeysOf, IsLoadOf, AreOutcomesOf, HoldsLoading, asked_by, load_orders}
 use Rattle.host_clients.proofs.Underway.{may-answer, orders-kept}
 
--- what is begun
+-- a load is begun
 pub holds-load-begun : (hand : LoadByHandOf HandedIn) (c : ClientOf HandedIn) (asked : KeysOf) (orders : List OrderOf) → hand ≡ load_by_hand_of c asked.loader asked.keys handed → orders ≡ []
     → HoldsLoading hand asked orders
 holds-load-begun hand c asked orders is none = rw (is, none) (record {
@@ -59,7 +59,7 @@ module _ (old new : LoadByHandOf HandedIn) (keys : IsSameLoad (load_in old) (loa
           subst (λ (k : KeysOf). (c.session ≡ begun.session) ⊎ IsClientCall any_tell (StoppedLoading k.loader k.keys) begun c) asked-same (stops begun (goes begun.session underway));
     }
 
--- what comes of a call that gives the outcomes
+-- a call gives the outcomes
 module _ (old new : LoadByHandOf HandedIn) (outcomes : Vec Outcome) (loads : ClientLoads any_tell old new (Loaded outcomes)) (client : IsSameClient old.client new.client) (c : ClientOf HandedIn)
     (is : c ≡ new.client) (asked : KeysOf) (asks : asked ≡ asked_by old) where
   loads-from : (begun : ClientOf HandedIn) → IsClientCall any_tell (Loading old.loader old.keys (map outcome_of outcomes.items)) begun new.client
@@ -99,7 +99,7 @@ module _ (old new : LoadByHandOf HandedIn) (number : ℕ) (answer : Result (Vec 
   pub takes-for-load : TakesForLoad number answer old new
   takes-for-load = record { same_keys = keys; client_is = client; goes_on = goes-on-taken; takes = takes }
 
--- where memory ran out, there are no orders
+-- no orders are left where memory ran out
 pub holds-load-over : (old new : LoadByHandOf HandedIn) (asked : KeysOf) (before orders : List OrderOf) → LoadGoesOn any_tell (load_in old) (load_in new) → new.client ≡ old.client
     → IsSameLoad (load_in old) (load_in new) → new.far ≡ over → orders ≡ [] → HoldsLoading old asked before → HoldsLoading new asked orders
 holds-load-over old new asked before orders goes client keys is none h =

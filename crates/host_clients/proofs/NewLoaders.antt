@@ -7,7 +7,7 @@ use Rattle.gq_bindings.specs.Tree as bindings
 use Rattle.gq_bindings.specs.Seen.{loader_of}
 use Rattle.gq_bindings.specs.declared.binding.LoaderLine.{LoaderLine}
 use Rattle.server.specs.Opening.{new_loader}
-use Rattle.owned_hand.specs.declared.handed_in.HandedIn.{HandedIn}
+use Rattle.server_owned.specs.declared.handed_in.HandedIn.{HandedIn}
 use Rattle.host_clients.specs.Opening.{AreNewLoaders, handed_in, limit_at, limits_after}
 
 -- nobody has asked a new loader
@@ -26,7 +26,8 @@ as-many limits [] (l ∷ ls) are = absurd are
 as-many limits (line ∷ lines) [] are = absurd are
 as-many limits (line ∷ lines) (l ∷ ls) are = ap suc (as-many (limits_after limits) lines ls are.1)
 
--- what are the loaders of the lines that are left are, after those that there are, the loaders of all lines
+-- says what are the loaders of the lines that are left are, after those that there are, the loaders of all
+-- lines
 abbrev pub SoFar : List ℕ → List ℕ → List LoaderLine → ℕ → List (LoaderOf HandedIn) → Type 0
 SoFar limits left lines i done = (more : List (LoaderOf HandedIn)) → AreNewLoaders handed_in left (map loader_of (drop i lines)) more
     → AreNewLoaders handed_in limits (map loader_of lines) (done ++ more)

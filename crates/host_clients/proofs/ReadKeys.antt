@@ -8,7 +8,8 @@ use Rattle.flat_rows.specs.declared.fault.FlatFault.TheVariants as flat
 use Rattle.host_clients.specs.AskedKeys.{IsKeyFault}
 use Rattle.host_clients.specs.Faults.{flat_fault}
 
--- what is said of the shapes and texts that are left is, after the keys that were read, what all say
+-- says what is said of the shapes and texts that are left is, after the keys that were read, what
+-- all say
 abbrev pub SoFar : List ℕ → List (List ℕ) → ℕ → ℕ → List KeyOf → Type 0
 SoFar shapes texts i at read = read ++ keys_said (drop i shapes) (drop at texts) ≡ keys_said shapes texts
 

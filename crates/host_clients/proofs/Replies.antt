@@ -1,4 +1,4 @@
--- What a call that takes a reply says of it.
+-- Lemmas on what a call that takes a reply says of it.
 use Rattle.std.proofs.Common.{◌≡◌, ℕ, List, Ok, Err, map, string_bytes}
 use Rattle.std.specs.Prelude.{Result, OnOk, String}
 use Rattle.std.specs.Global.{Global, Vec}

@@ -1,4 +1,4 @@
--- What is on its way to the answer, after a call of what is done by hand.
+-- Lemmas on what is on its way to the answer, after a call of what is done by hand.
 use Rattle.std.proofs.Common.{◌≡◌, ◌∙◌, ℕ, zero, suc, List, [], ◌∷◌, map, refl, sym, ap, subst, string_bytes, Ok, Err, Some}
 use Rattle.std.specs.Prelude.{Result, IfSome, slice_get}
 use Rattle.std.specs.List.{slice_set}
@@ -20,13 +20,13 @@ use Rattle.server.specs.Clients.{ClientOf, IsSameClient}
 use Rattle.server.specs.Hands.{ByHandOf, by_hand_of, IsUnderway, GoesOn, GoesOnIfMay, GivesUp, Responds}
 use Rattle.server.specs.Planned.{PlannedOf, PlansAsked}
 use Rattle.load_rounds.specs.SharedRounds.{report_of}
-use Rattle.server.specs.declared.by_hand.Step.TheVariants.{Answered}
-use Rattle.owned_hand.specs.declared.handed_in.HandedIn.{HandedIn}
+use Rattle.server.specs.declared.by_hand.ClientAdvance.TheVariants.{Answered}
+use Rattle.server_owned.specs.declared.handed_in.HandedIn.{HandedIn}
 use Rattle.host_clients.specs.Asked.{HostAsked, PlansHost, AnswersHost}
 use Rattle.host_clients.specs.Clients.{AnswersIt, IsBegunWith, MakesRound, StopsIt, Takes}
 use Rattle.host_clients.specs.UnderWay.{UnderWayOf, IsOf, IsAnswerOf, HoldsUnderWay, orders_out}
 
--- what is begun
+-- a request is begun
 pub holds-begun : (hand : ByHandOf HandedIn) (c : ClientOf HandedIn) (planned : PlannedOf) (asked : HostAsked) (orders : List OrderOf) → hand ≡ by_hand_of c planned handed
     → PlansHost c asked planned → orders ≡ [] → HoldsUnderWay hand asked orders
 holds-begun hand c planned asked orders is plans none = rw (is, none) (record {
@@ -53,7 +53,7 @@ module _ (old new : ByHandOf HandedIn) (goes : GoesOn any_tell old new) (same : 
   pub gives-up-before : (c : ClientOf HandedIn) → GivesUp any_tell new c → GivesUp any_tell old c
   gives-up-before c gives = λ begun asked underway plans. gives begun asked (goes begun.session underway) (subst (PlansAsked begun asked) (sym same) plans)
 
--- what answers it answers what was asked
+-- an answer of what is under way answers what was asked
 pub answers-host : (old new : ByHandOf HandedIn) (answer : Answer) → Responds any_tell old new (Answered answer) → (c : ClientOf HandedIn) (asked : HostAsked)
     → IsUnderway any_tell c.session old → PlansHost c asked old.planned → AnswersHost any_tell c asked (report_of answer) new.client.session
 answers-host old new answer responds c asked underway plans = record { asked = plans.asked; asks = plans.asks; answers = responds c plans.asked underway plans.plans }
@@ -67,7 +67,7 @@ answer-of old new asked answer c of client responds is = record {
   answers = answers-host old new answer responds of.begun asked of.underway of.planned;
 }
 
--- what comes of a call of what is done by hand
+-- a call on what is done by hand, and what it gives
 module _ (u : UnderWayOf) (new : ByHandOf HandedIn) (client : IsSameClient u.hand.client new.client) (c : ClientOf HandedIn) (is : c ≡ new.client) where
   same-client : IsSameClient u.hand.client c
   same-client = subst (IsSameClient u.hand.client) (sym is) client
@@ -133,7 +133,7 @@ module _ (old new : ByHandOf HandedIn) (number : ℕ) (answer : Result (Vec Item
   pub takes-it : (asked : HostAsked) → Takes number answer (record { hand = old; asked = asked }) (record { hand = new; asked = asked })
   takes-it asked = record { asked_is = refl; planned_is = same; client_is = client; goes_on = goes-taken; takes = takes }
 
--- where memory ran out, there are no orders
+-- no orders are left where memory ran out
 pub holds-over : (old new : ByHandOf HandedIn) (asked : HostAsked) (orders : List OrderOf) → GoesOn any_tell old new → new.client ≡ old.client → new.planned ≡ old.planned → IsOver new.far → orders ≡ []
     → IsOf old asked → HoldsUnderWay new asked orders
 holds-over old new asked orders goes client same over none of = record {

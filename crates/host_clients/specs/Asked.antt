@@ -1,4 +1,4 @@
--- What a host asks: a request line, or a request by its parts; and what that asks of a server.
+-- Definitions of what a host asks: a request line, or a request by its parts; and what that asks of a server.
 use Rattle.std.specs.Prelude.{ℕ, ◌≡◌, List, [], ◌∷◌, Option, None, Some, IsUtf8, MatchOption}
 use Rattle.serde_json.specs.Data.{Data}
 use Rattle.load_memory.specs.Keys.{KeyOf}
@@ -57,13 +57,13 @@ abbrev pub Asks : HostAsked → AskedOf → Type 0
 Asks (line bytes) asked = asked ≡ as_text bytes
 Asks (request parts) asked = ArePartsOf parts asked
 
--- what a host asks of a client is planned, as `server` says it
+-- says what a host asks of a client is planned, as `server` says it
 pub record PlansHost {S : Type 0} (c : ClientOf S) (host : HostAsked) (planned : PlannedOf) : Type 0 where
   pub asked : AskedOf
   pub asks : Asks host asked
   pub plans : PlansAsked c asked planned
 
--- what a host asks of a client is answered in its session, as `server` says it
+-- says what a host asks of a client is answered in its session, as `server` says it
 pub record AnswersHost {S : Type 0} (may : S → List KeyOf → AnswerOf → Type 0) (c : ClientOf S) (host : HostAsked) (report : ReportOf) (later : SessionOf S) : Type 0 where
   pub asked : AskedOf
   pub asks : Asks host asked

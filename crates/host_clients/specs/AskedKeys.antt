@@ -9,7 +9,7 @@ use Rattle.host_clients.specs.declared.fault.Fault.TheVariants as fault
 abbrev pub flat_keys : FlatKeys → KeysOf
 flat_keys k = record { loader = k.loader; keys = keys_in k.shapes.now k.ends.now k.bytes.now }
 
--- the same of what a client keeps
+-- gives the same of what a client keeps
 abbrev pub keys_asked : AskedKeys → KeysOf
 keys_asked k = record { loader = k.loader; keys = keys_in k.shapes.items k.ends.items k.bytes.items }
 

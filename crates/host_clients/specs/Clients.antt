@@ -1,4 +1,4 @@
--- What the calls of a client make of it.
+-- Definitions of what the calls of a client make of it.
 use Rattle.std.specs.Prelude.{ℕ, ◌≡◌, ◌≤◌, ◌⊎◌, List, [], Bool, true, false, Option, Some, None, Result, Ok, Err, map, length, slice_get, option_map, MatchOption, String, string_bytes}
 use Rattle.std.specs.Global.{Vec, Global}
 use Rattle.load_memory.specs.Outcomes.{ItemOf, item_of}
@@ -14,7 +14,7 @@ use Rattle.rounds_by_hand.specs.Pending.{TakesAnswer}
 use Rattle.server.specs.Clients.{ClientOf, IsClientCall, IsSameClient}
 use Rattle.server.specs.Hands.{IsUnderway, GoesOn, GivesUp}
 use Rattle.server.specs.LoadsByHand.{LoadByHandOf, ClientStopsLoad, load_by_hand_of, load_in}
-use Rattle.owned_hand.specs.declared.handed_in.HandedIn.{HandedIn}
+use Rattle.server_owned.specs.declared.handed_in.HandedIn.{HandedIn}
 use Rattle.host_clients.specs.Asked.{HostAsked, PlansHost, AnswersHost}
 use Rattle.host_clients.specs.Loads.{KeysOf, LoadedOf, asked_by, load_orders}
 use Rattle.host_clients.specs.UnderWay.{UnderWayOf, AnsweredOf, report_in, orders_out}
@@ -62,7 +62,7 @@ pub record IsBegunWith (asked : HostAsked) (u : UnderWayOf) : Type 0 where
   pub planned : PlansHost u.hand.client asked u.hand.planned
   pub far : u.hand.far ≡ handed
 
--- what comes of what a client is asked: it is begun, or memory ran out, and the client is as it was
+-- a client begins what it is asked, or memory ran out, and the client is as it was
 abbrev pub Begins : ClientOf HandedIn → HostAsked → HostClient → Result (Unit {0}) Fault → Type 0
 Begins c asked (Asked u) (Ok _) = (u.hand.client ≡ c) × IsBegunWith asked u
 Begins c asked (Idle same) (Err e) = (same ≡ c) × (e ≡ fault.NoMemory)
@@ -75,14 +75,16 @@ IsBegun old asked new = ⊥
 
 -- a client that wasn't busy has begun to load keys; nothing is done of it yet
 abbrev pub IsBegunLoad : KeysOf → HostClient → HostClient → Type 0
-IsBegunLoad asked old (Loading l) = (client_in old ≡ Some l.client) × (l ≡ load_by_hand_of l.client asked.loader asked.keys load_handed)
+IsBegunLoad asked old (Loading l) = (client_in old ≡ Some l.client)
+    × (l ≡ load_by_hand_of l.client asked.loader asked.keys load_handed)
 IsBegunLoad asked old new = ⊥
 
 -- from whichever client it was begun: this answers it in the client's session
 pub record AnswersIt (u : UnderWayOf) (a : AnsweredOf) : Type 0 where
   pub asked_is : a.asked ≡ u.asked
   pub same : IsSameClient u.hand.client a.client
-  pub answers : (c : ClientOf HandedIn) → IsUnderway any_tell c.session u.hand → PlansHost c u.asked u.hand.planned
+  pub answers : (c : ClientOf HandedIn) → IsUnderway any_tell c.session u.hand
+      → PlansHost c u.asked u.hand.planned
       → AnswersHost any_tell c u.asked (report_in a) a.client.session
 
 -- a new round is out
@@ -102,7 +104,7 @@ pub record StopsIt (u : UnderWayOf) (c : ClientOf HandedIn) : Type 0 where
 abbrev pub IsStopFault : UnderWayOf → Fault → Type 0
 IsStopFault u e = (e ≡ fault.NoMemory) ⊎ ((e ≡ fault.Stopped) × IsOver u.hand.far)
 
--- what comes of going on
+-- says what comes of going on
 abbrev pub GoesOnWith : UnderWayOf → HostClient → Result Progress Fault → Type 0
 GoesOnWith u (Answered a) (Ok Done) = AnswersIt u a
 GoesOnWith u (Asked v) (Ok Round) = MakesRound u v
@@ -112,13 +114,14 @@ GoesOnWith u new result = ⊥
 
 -- ---- keys that are loaded
 
--- Each order of its round had a reply, if it had a round. From whichever client it was begun: all that was done in its session is a call that
--- loads these keys, and these are its outcomes.
+-- Each order of its round had a reply, if it had a round. From whichever client it was begun: all that was done in its session is a call
+-- that loads these keys, and these are its outcomes.
 pub record LoadsIt (l : LoadByHandOf HandedIn) (d : LoadedOf) : Type 0 where
   pub ready : can_advance_load l.far ≡ true
   pub asked_is : d.asked ≡ asked_by l
   pub same : IsSameClient l.client d.client
-  pub loads : (c : ClientOf HandedIn) → IsLoadUnderway any_tell c.session (load_in l) → IsClientCall any_tell (LoadingCall l.loader l.keys d.outcomes) c d.client
+  pub loads : (c : ClientOf HandedIn) → IsLoadUnderway any_tell c.session (load_in l)
+      → IsClientCall any_tell (LoadingCall l.loader l.keys d.outcomes) c d.client
 
 -- nothing was done yet, and now the round of the keys that aren't known is out
 pub record MakesLoadRound (l m : LoadByHandOf HandedIn) : Type 0 where
@@ -136,7 +139,7 @@ pub record StopsLoad (l : LoadByHandOf HandedIn) (c : ClientOf HandedIn) : Type 
 abbrev pub IsLoadStopFault : LoadByHandOf HandedIn → Fault → Type 0
 IsLoadStopFault l e = (e ≡ fault.NoMemory) ⊎ ((e ≡ fault.Stopped) × (l.far ≡ over))
 
--- what comes of going on
+-- says what comes of going on
 abbrev pub LoadsOnWith : LoadByHandOf HandedIn → HostClient → Result Progress Fault → Type 0
 LoadsOnWith l (Loaded d) (Ok Done) = LoadsIt l d
 LoadsOnWith l (Loading m) (Ok Round) = MakesLoadRound l m
@@ -166,7 +169,7 @@ TakesAnswerTo number answer (Asked u) (Asked v) = Takes number answer u v
 TakesAnswerTo number answer (Loading l) (Loading m) = TakesForLoad number answer l m
 TakesAnswerTo number answer old new = ⊥
 
--- what a call to go on makes of a client
+-- says what a call to go on makes of a client
 abbrev pub Advances : HostClient → HostClient → Result Progress Fault → Type 0
 Advances (Idle c) new result = (new ≡ Idle c) × (result ≡ Err fault.Idle)
 Advances (Asked u) new result = GoesOnWith u new result
@@ -187,7 +190,7 @@ pub record TakesFailure (number : ℕ) (said : List ℕ) (old new : HostClient) 
   pub is_said : string_bytes text ≡ said
   pub takes : TakesAnswerTo number (Err (Failed text)) old new
 
--- what is on its way is given up
+-- a client gives up what is on its way
 abbrev pub Cancels : HostClient → HostClient → Result (Unit {0}) Fault → Type 0
 Cancels (Asked u) (Idle c) (Ok done) = StopsIt u c
 Cancels (Asked u) new result = ⊥
@@ -195,6 +198,6 @@ Cancels (Loading l) (Idle c) (Ok done) = StopsLoad l c
 Cancels (Loading l) new result = ⊥
 Cancels old new result = (new ≡ old) × (result ≡ Err fault.Idle)
 
--- the order of this number in the round that is out has so many keys
+-- the order of this number in the round that is out has `count` keys
 abbrev pub HasCount : ℕ → ℕ → HostClient → Type 0
 HasCount number count client = option_map (λ o. length (keys_of o)) (slice_get (orders_in client) number) ≡ Some count

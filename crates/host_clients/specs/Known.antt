@@ -1,4 +1,4 @@
--- What calls make of what a client knows. Each lets an answer go.
+-- Definitions of what calls make of what a client knows. Each lets an answer go.
 use Rattle.std.specs.Prelude.{ℕ, ◌≡◌, Bool, List, [], ◌∷◌, Option, MatchOption, is_none, is_some}
 use Rattle.load_memory.specs.Keys.{KeyOf}
 use Rattle.load_memory.specs.Outcomes.{ItemOf}
@@ -8,7 +8,7 @@ use Rattle.flat_rows.specs.Replies.{reply_items}
 use Rattle.flat_rows.specs.declared.reply.FlatReply.{FlatReply}
 use Rattle.load_rounds.specs.Histories.{Call, Priming, Clearing, any_tell}
 use Rattle.server.specs.Clients.{ClientOf, IsClientCall, IsSameClient, client_cell, client_pair, client_of, known_of}
-use Rattle.owned_hand.specs.declared.handed_in.HandedIn.{HandedIn}
+use Rattle.server_owned.specs.declared.handed_in.HandedIn.{HandedIn}
 use Rattle.host_clients.specs.Clients.{client_in}
 use Rattle.host_clients.specs.declared.client.HostClient.{HostClient}
 use Rattle.host_clients.specs.declared.client.HostClient.TheVariants.{Idle}
@@ -22,7 +22,8 @@ abbrev pub key_in : List ℕ → List ℕ → KeyOf
 key_in ends bytes = key_said (cut bytes 0 ends)
 
 -- a client of which nothing is asked becomes another
-abbrev pub OnClient : (ClientOf HandedIn → ClientOf HandedIn → Type 0) → HostClient → HostClient → Type 0
+abbrev pub OnClient : (ClientOf HandedIn → ClientOf HandedIn → Type 0)
+    → HostClient → HostClient → Type 0
 OnClient becomes old (Idle d) = MatchOption (client_in old) ⊥ (λ c. becomes c d)
 OnClient becomes old new = ⊥
 
@@ -32,16 +33,20 @@ Calls call c d = IsSameClient c d × IsClientCall any_tell call c d
 
 -- an item is added for a key, unless the key is known
 abbrev pub Primes : ℕ → KeyOf → ItemOf → Bool → ClientOf HandedIn → ClientOf HandedIn → Type 0
-Primes loader key item added c d = (added ≡ is_none (known_of c loader key)) × Calls (Priming (client_pair c loader key item)) c d
+Primes loader key item added c d = (added ≡ is_none (known_of c loader key))
+    × Calls (Priming (client_pair c loader key item)) c d
 
--- the same of the one item that is said
-abbrev pub PrimesSaid : ℕ → KeyOf → List ItemOf → Bool → ClientOf HandedIn → ClientOf HandedIn → Type 0
-PrimesSaid loader key items added c d = (item : ItemOf) × (items ≡ item ∷ []) × Primes loader key item added c d
+-- says the same of the one item that is said
+abbrev pub PrimesSaid : ℕ → KeyOf → List ItemOf → Bool
+    → ClientOf HandedIn → ClientOf HandedIn → Type 0
+PrimesSaid loader key items added c d = (item : ItemOf)
+    × (items ≡ item ∷ []) × Primes loader key item added c d
 
 -- a key is forgotten
 abbrev pub Clears : ℕ → KeyOf → Bool → ClientOf HandedIn → ClientOf HandedIn → Type 0
-Clears loader key there c d = (there ≡ is_some (known_of c loader key)) × Calls (Clearing (client_cell c loader key)) c d
+Clears loader key there c d = (there ≡ is_some (known_of c loader key))
+    × Calls (Clearing (client_cell c loader key)) c d
 
--- an answer has at most so many bytes from now on
+-- an answer has at most `most` bytes from now on
 abbrev pub LimitsAnswers : Option ℕ → ClientOf HandedIn → ClientOf HandedIn → Type 0
 LimitsAnswers most c d = d ≡ client_of c.server most c.session

@@ -11,7 +11,7 @@ abbrev pub kind_by : Option ByOf → ℕ
 kind_by None = 0
 kind_by (Some by) = if by.fold then parts_of by.second + 4 else parts_of by.second
 
--- how many texts a key has, and 4 more where keys are compared without the case of A to Z
+-- gives how many texts a key has, and 4 more where keys are compared without the case of A to Z
 abbrev pub kind_of : LoaderOf → ℕ
 kind_of l = kind_by l.by
 

@@ -6,12 +6,12 @@ use Rattle.load_memory.specs.Outcomes.{OutcomeOf}
 use Rattle.load_queue.specs.Orders.{OrderOf}
 use Rattle.flat_orders.specs.Written.{keys_said}
 use Rattle.load_rounds.specs.Histories.{Loading, any_tell}
-use Rattle.request_plans.specs.Servers.{ServerOf}
+use Rattle.plan_requests.specs.Servers.{ServerOf}
 use Rattle.rounds_by_hand.specs.LoadHands.{IsLoadUnderway, load_pending_in}
 use Rattle.rounds_by_hand.specs.Pending.{order_in}
 use Rattle.server.specs.Clients.{ClientOf, IsClientCall}
 use Rattle.server.specs.LoadsByHand.{LoadByHandOf, load_in}
-use Rattle.owned_hand.specs.declared.handed_in.HandedIn.{HandedIn}
+use Rattle.server_owned.specs.declared.handed_in.HandedIn.{HandedIn}
 
 -- the keys of a host's texts, which end at these places: for each key the number of its texts
 abbrev pub keys_in : List ℕ → List ℕ → List ℕ → List KeyOf
@@ -27,7 +27,7 @@ pub record IsLoadOf (hand : LoadByHandOf HandedIn) : Type 0 where
 abbrev pub load_orders : LoadByHandOf HandedIn → List OrderOf
 load_orders hand = map order_in (load_pending_in hand.far)
 
--- what was asked: keys of a loader
+-- says what was asked: keys of a loader
 pub record KeysOf : Type 0 where
   pub loader : ℕ
   pub keys : List KeyOf
@@ -35,7 +35,7 @@ pub record KeysOf : Type 0 where
 abbrev pub asked_by : LoadByHandOf HandedIn → KeysOf
 asked_by hand = record { loader = hand.loader; keys = hand.keys }
 
--- what holds between calls
+-- says what holds between calls
 pub record HoldsLoading (hand : LoadByHandOf HandedIn) (asked : KeysOf) (orders : List OrderOf) : Type 0 where
   pub is_of : IsLoadOf hand
   pub asked_is : asked ≡ asked_by hand
@@ -47,8 +47,8 @@ pub record LoadedOf : Type 0 where
   pub asked : KeysOf
   pub outcomes : List OutcomeOf
 
--- The outcomes are those of the keys, one for each, as `load_many` gives them: in the session of some client of this server, from one state to
--- a later one, in which the keys that weren't known were asked for in one round.
+-- The outcomes are those of the keys, one for each, as `load_many` gives them: in the session of some client of this server, from one state
+-- to a later one, in which the keys that weren't known were asked for in one round.
 pub record AreOutcomesOf (server : ServerOf) (asked : KeysOf) (outcomes : List OutcomeOf) : Type 0 where
   pub begun : ClientOf HandedIn
   pub later : ClientOf HandedIn

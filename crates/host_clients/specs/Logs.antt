@@ -1,9 +1,9 @@
--- What a loader was asked, as C is told.
+-- Definitions of what a loader was asked, as C is told.
 use Rattle.std.specs.Prelude.{ℕ, ◌≡◌, List, Option, MatchOption, map, option_map, slice_get, if◌then◌else◌}
 use Rattle.load_memory.specs.Keys.{KeyOf}
 use Rattle.load_queue.specs.Loaders.{AskedOf, LoaderOf}
 use Rattle.server.specs.Clients.{ClientOf}
-use Rattle.owned_hand.specs.declared.handed_in.HandedIn.{HandedIn}
+use Rattle.server_owned.specs.declared.handed_in.HandedIn.{HandedIn}
 use Rattle.host_clients.specs.Clients.{client_in}
 use Rattle.host_clients.specs.declared.client.HostClient.{HostClient}
 

@@ -1,4 +1,4 @@
--- What is made of objects.
+-- Definitions of what is made of objects.
 use Rattle.std.specs.Prelude.{◌≡◌, ℕ, List, Result, Ok, Err}
 use Rattle.host_clients.specs.Opening.{IsNewClient}
 use Rattle.host_clients.specs.declared.fault.Fault.{Fault}
@@ -6,7 +6,7 @@ use Rattle.host_clients.specs.declared.fault.Fault.TheVariants as fault
 use Rattle.host_clients.specs.declared.object.Object.{Object}
 use Rattle.host_clients.specs.declared.object.Object.TheVariants.{Server, Client}
 
--- the same server once more; what is none isn't shared
+-- shares a server once more; an object that is no server isn't shared
 abbrev pub Shares : Object → Result Object Fault → Type 0
 Shares (Server s) (Ok object) = object ≡ Server s
 Shares (Server s) (Err e) = e ≡ fault.NoMemory

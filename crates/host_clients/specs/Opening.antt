@@ -1,13 +1,13 @@
--- Why a schema or its bindings are refused, as C is told, and the loaders of a new client.
+-- Definitions of why a schema or its bindings are refused, as C is told, and the loaders of a new client.
 use Rattle.std.specs.Prelude.{ℕ, ◌≡◌, List, [], ◌∷◌, true, false, Option, Some, None, if◌then◌else◌, ◌==◌, IsUtf8}
 use Rattle.text_place.specs.declared.place.Place.{Place}
 use Rattle.gq_schema.specs.declared.fault.SchemaFault.{SchemaFault}
 use Rattle.gq_schema.specs.declared.fault.SchemaFault.TheVariants as schema
 use Rattle.load_queue.specs.Loaders.{LoaderOf}
 use Rattle.gq_bindings.specs.Tree as bindings
-use Rattle.request_plans.specs.Servers.{ServerOf, IsServerFault}
+use Rattle.plan_requests.specs.Servers.{ServerOf, IsServerFault}
 use Rattle.server.specs.Opening.{new_loader}
-use Rattle.owned_hand.specs.declared.handed_in.HandedIn.{HandedIn}
+use Rattle.server_owned.specs.declared.handed_in.HandedIn.{HandedIn}
 use Rattle.host_clients.specs.declared.client.HostClient.{HostClient}
 use Rattle.host_clients.specs.declared.client.HostClient.TheVariants.{Idle}
 use Rattle.host_clients.specs.declared.opening.OpenFault.{OpenFault}
@@ -48,11 +48,13 @@ limits_after [] = []
 limits_after (n ∷ ns) = ns
 
 -- new loaders of these lines, in order, each with its limit
-abbrev pub AreNewLoaders : {S : Type 0} → S → List ℕ → List bindings.LoaderOf → List (LoaderOf S) → Type 0
+abbrev pub AreNewLoaders : {S : Type 0} → S → List ℕ
+    → List bindings.LoaderOf → List (LoaderOf S) → Type 0
 AreNewLoaders source limits [] [] = Unit {0}
 AreNewLoaders source limits [] (l ∷ ls) = ⊥
 AreNewLoaders source limits (line ∷ lines) [] = ⊥
-AreNewLoaders source limits (line ∷ lines) (l ∷ ls) = (l ≡ new_loader (limit_at limits) line source) × AreNewLoaders source (limits_after limits) lines ls
+AreNewLoaders source limits (line ∷ lines) (l ∷ ls) = (l ≡ new_loader (limit_at limits) line source)
+    × AreNewLoaders source (limits_after limits) lines ls
 
 -- the source of every loader, which is never asked
 abbrev pub handed_in : HandedIn
@@ -60,12 +62,14 @@ handed_in = record {}
 
 -- a client of this server, which knows nothing: it has a new loader for each of the server's lines, and no round was made
 abbrev pub IsNewClient : ServerOf → List ℕ → HostClient → Type 0
-IsNewClient server limits (Idle c) = (c.server ≡ server) × (c.most ≡ None) × (c.session.pairs ≡ []) × (c.session.rounds ≡ 0)
+IsNewClient server limits (Idle c) = (c.server ≡ server)
+    × (c.most ≡ None) × (c.session.pairs ≡ []) × (c.session.rounds ≡ 0)
     × AreNewLoaders handed_in limits server.bindings.loaders c.session.loaders
 IsNewClient server limits other = ⊥
 
--- why no server is made of these texts. Of memory this says nothing.
+-- says why no server is made of these texts. Of memory this says nothing.
 abbrev pub RefusesOpening : List ℕ → List ℕ → OpenFault → Type 0
 RefusesOpening schema bindings NotUtf8 = ¬ (IsUtf8 schema × IsUtf8 bindings)
-RefusesOpening schema bindings (Refused place) = (fault : SchemaFault) × IsServerFault schema bindings fault × (place ≡ place_of fault)
+RefusesOpening schema bindings (Refused place) = (fault : SchemaFault)
+    × IsServerFault schema bindings fault × (place ≡ place_of fault)
 RefusesOpening schema bindings NoMemory = Unit {0}

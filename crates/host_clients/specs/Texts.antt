@@ -18,8 +18,9 @@ asked_in (texts.Request t) = request (parts_in t)
 
 -- the request is that of these texts, if those are its variables
 abbrev pub IsRequestWith : RequestTexts → Option Data → Request → Type 0
-IsRequestWith t found r = AreVariables t.variables.items found → IsRequestOf (parts_in t) (request_of r)
+IsRequestWith t found r = AreVariables t.variables.items found
+    → IsRequestOf (parts_in t) (request_of r)
 
--- the same of texts that the host keeps
+-- gives the same of texts that the host keeps
 abbrev pub flat_parts : FlatRequest → PartsOf
 flat_parts r = record { query = r.query.now; operation_name = r.operation_name.now; variables = r.variables.now }

@@ -1,18 +1,18 @@
--- What a client was asked, how far that is, and what answers it.
+-- Definitions of what a client was asked, how far that is, and what answers it.
 use Rattle.std.specs.Prelude.{ℕ, ◌≡◌, List, map}
 use Rattle.load_queue.specs.Orders.{OrderOf}
 use Rattle.load_rounds.specs.Histories.{any_tell}
 use Rattle.load_rounds.specs.Sessions.{SessionOf}
 use Rattle.load_rounds.specs.SharedRounds.{ReportOf}
-use Rattle.request_plans.specs.Servers.{ServerOf}
+use Rattle.plan_requests.specs.Servers.{ServerOf}
 use Rattle.rounds_by_hand.specs.Hands.{pending_in}
 use Rattle.rounds_by_hand.specs.Pending.{order_in}
 use Rattle.server.specs.Clients.{ClientOf}
 use Rattle.server.specs.Hands.{ByHandOf, IsUnderway}
-use Rattle.owned_hand.specs.declared.handed_in.HandedIn.{HandedIn}
+use Rattle.server_owned.specs.declared.handed_in.HandedIn.{HandedIn}
 use Rattle.host_clients.specs.Asked.{HostAsked, PlansHost, AnswersHost}
 
--- what a client was asked, and how far that is
+-- says what a client was asked, and how far that is
 pub record UnderWayOf : Type 0 where
   pub hand : ByHandOf HandedIn
   pub asked : HostAsked
@@ -28,7 +28,7 @@ pub record IsOf (hand : ByHandOf HandedIn) (asked : HostAsked) : Type 0 where
 abbrev pub orders_out : ByHandOf HandedIn → List OrderOf
 orders_out hand = map order_in (pending_in hand.far)
 
--- what holds between calls
+-- says what holds between calls
 pub record HoldsUnderWay (hand : ByHandOf HandedIn) (asked : HostAsked) (orders : List OrderOf) : Type 0 where
   pub is_of : IsOf hand asked
   pub orders_are : orders ≡ orders_out hand
@@ -43,8 +43,8 @@ pub record AnsweredOf : Type 0 where
 abbrev pub report_in : AnsweredOf → ReportOf
 report_in a = record { text = a.text; rounds = a.rounds }
 
--- The text answers what was asked, by the definitions of serving: in the session of some client of this server, from one state to a later one,
--- in which the loaders were asked exactly the batches of a lawful log.
+-- The text answers what was asked, by the definitions of serving: in the session of some client of this server, from one state to a later
+-- one, in which the loaders were asked exactly the batches of a lawful log.
 pub record IsAnswerOf (server : ServerOf) (asked : HostAsked) (text : List ℕ) (rounds : ℕ) : Type 0 where
   pub begun : ClientOf HandedIn
   pub later : SessionOf HandedIn

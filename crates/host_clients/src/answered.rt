@@ -3,8 +3,8 @@ ghost use Rattle.std.specs.Prelude.{◌≡◌, string_bytes};
 ghost use Rattle.host_clients.specs.UnderWay.{IsAnswerOf};
 
 use crate::asked::AskedTexts;
-use owned_hand::HandedIn;
 use server::ClientSession;
+use server_owned::HandedIn;
 use std::marker::Model;
 
 /// A client with the answer to what it was asked last.
@@ -23,7 +23,7 @@ impl Model for AnsweredClient {
     ghost use Rattle.std.specs.Prelude.{string_bytes};
     ghost use Rattle.gq_parser.specs.contracts.tree.TypeRef as type_ref;
     ghost use Rattle.gq_parser.specs.contracts.tree.Literal as literal;
-    ghost use Rattle.owned_hand.specs.contracts.handed_in.HandedIn as handed;
+    ghost use Rattle.server_owned.specs.contracts.handed_in.HandedIn as handed;
     ghost use Rattle.host_clients.specs.Texts.{asked_in};
     ghost use Rattle.host_clients.specs.UnderWay.{AnsweredOf, IsAnswerOf};
 
@@ -40,12 +40,13 @@ impl AnsweredClient {
     /// The text of the answer.
     pub fn text(&self) -> &str
         ensures text { result.now ≡ self.now.text }
-        ensures answer { IsAnswerOf self.now.client.server self.now.asked self.now.text self.now.rounds }
+        ensures answer { IsAnswerOf self.now.client.server
+            self.now.asked self.now.text self.now.rounds }
     {
         self.text.as_str()
     }
 
-    /// How many rounds it took.
+    /// Returns how many rounds it took.
     pub fn rounds(&self) -> u32
         ensures { result ≡ self.now.rounds }
     {

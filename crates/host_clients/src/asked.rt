@@ -1,4 +1,4 @@
-//! What a host asks, and its plan.
+//! Requests of a host, and their plans.
 ghost use Rattle.std.specs.Prelude.{◌≡◌, ◌≤◌, length, IfOk, IfSome, IfNone, MatchOption, option_map, Option, None, Some, IsUtf8};
 ghost use Rattle.serde_json.specs.Data.{Data};
 ghost use Rattle.serde_json.specs.Read.{read};
@@ -6,12 +6,11 @@ ghost use Rattle.serde_json.specs.View.{view};
 ghost use Rattle.host_clients.specs.Asked.{AreVariables, IsOfNoRequest, PlansHost, line as line_asked, request as request_asked};
 ghost use Rattle.host_clients.specs.Texts.{IsRequestWith, asked_in, flat_parts, parts_in};
 
-use load_memory::NoMemory;
-use owned_hand::HandedIn;
 use serde_json::Value;
 use serde_json::error::Category;
 use server::{ClientSession, PlannedRequest, Request};
-use std::alloc::Global;
+use server_owned::HandedIn;
+use std::alloc::{AllocError, Global};
 use std::str;
 
 /// A request by its parts, as a host passes them. What isn't UTF-8, or no JSON, is no request.
@@ -43,7 +42,7 @@ pub(crate) enum AskedTexts {
 }
 
 // The value that a text is. `None` is no JSON text.
-fn read_value(alloc: Global, text: &[u8]) -> Result<Option<Value>, NoMemory>
+fn read_value(alloc: Global, text: &[u8]) -> Result<Option<Value>, AllocError>
     ensures { IfOk result (λ r. MatchOption r (IsUtf8 text.now → read text.now ≡ None)
         (λ value. IsUtf8 text.now × (read text.now ≡ Some (view value)))) }
 {
@@ -51,7 +50,7 @@ fn read_value(alloc: Global, text: &[u8]) -> Result<Option<Value>, NoMemory>
         Ok(value) => Ok(Some(value)),
         Err(error) => {
             if error.classify() == Category::Memory {
-                Err(NoMemory)
+                Err(AllocError)
             } else {
                 Ok(None)
             }
@@ -60,7 +59,7 @@ fn read_value(alloc: Global, text: &[u8]) -> Result<Option<Value>, NoMemory>
 }
 
 // The variables that a text is, which are none where it is empty. `None` is no JSON text.
-fn read_variables(alloc: Global, text: &[u8]) -> Result<Option<Option<Value>>, NoMemory>
+fn read_variables(alloc: Global, text: &[u8]) -> Result<Option<Option<Value>>, AllocError>
     ensures { IfOk result (λ r. MatchOption r ((found : Option Data) → AreVariables text.now found → ⊥)
         (λ found. AreVariables text.now (option_map view found))) }
 {
@@ -76,7 +75,8 @@ fn read_variables(alloc: Global, text: &[u8]) -> Result<Option<Option<Value>>, N
 impl RequestTexts {
     // The request of these texts, whose variables are read.
     fn request<'t>(&'t self, variables: Option<&'t Value>) -> Option<Request<'t>>
-        ensures some { IfSome result (IsRequestWith self.now (option_map (λ v. view v.now) variables.entry)) }
+        ensures some { IfSome result
+            (IsRequestWith self.now (option_map (λ v. view v.now) variables.entry)) }
         ensures none { IfNone result (IsOfNoRequest (parts_in self.now)) }
     {
         let query = str::from_utf8(&self.query).ok()?;
@@ -88,14 +88,16 @@ impl RequestTexts {
         })
     }
 
-    // What these texts ask of a client. Texts of no request ask what the empty text asks, which is none.
+    // Returns what these texts ask of a client. Texts of no request ask what the empty text asks, which
+    // is none.
     fn plan(
         &self,
         alloc: Global,
         client: &mut ClientSession<HandedIn>,
-    ) -> Result<PlannedRequest, NoMemory>
+    ) -> Result<PlannedRequest, AllocError>
         ensures planned { IfOk result (PlansHost client.old (request_asked (parts_in self.now))) }
-        ensures fits { IfOk result (λ planned. planned.loaders ≤ length client.new.session.loaders) }
+        ensures fits { IfOk result (λ planned.
+            planned.loaders ≤ length client.new.session.loaders) }
         ensures same { client.new ≡ client.old }
     {
         let Some(variables) = read_variables(alloc, &self.variables)? else {
@@ -110,14 +112,14 @@ impl RequestTexts {
 
 impl AskedTexts {
     /// This line.
-    pub fn of_line(alloc: Global, line: &[u8]) -> Result<AskedTexts, NoMemory>
+    pub fn of_line(alloc: Global, line: &[u8]) -> Result<AskedTexts, AllocError>
         ensures { IfOk result (λ own. asked_in own ≡ line_asked line.now) }
     {
         Ok(AskedTexts::Line(line.to_vec(alloc)?))
     }
 
     /// The request of these parts.
-    pub fn of_request(alloc: Global, parts: &FlatRequest<'_>) -> Result<AskedTexts, NoMemory>
+    pub fn of_request(alloc: Global, parts: &FlatRequest<'_>) -> Result<AskedTexts, AllocError>
         ensures { IfOk result (λ own. asked_in own ≡ request_asked (flat_parts parts.now)) }
     {
         Ok(AskedTexts::Request(RequestTexts {
@@ -127,14 +129,15 @@ impl AskedTexts {
         }))
     }
 
-    /// What it asks of a client.
+    /// Returns what it asks of a client.
     pub fn plan(
         &self,
         alloc: Global,
         client: &mut ClientSession<HandedIn>,
-    ) -> Result<PlannedRequest, NoMemory>
+    ) -> Result<PlannedRequest, AllocError>
         ensures planned { IfOk result (PlansHost client.old (asked_in self.now)) }
-        ensures fits { IfOk result (λ planned. planned.loaders ≤ length client.new.session.loaders) }
+        ensures fits { IfOk result (λ planned.
+            planned.loaders ≤ length client.new.session.loaders) }
         ensures same { client.new ≡ client.old }
     {
         match self {

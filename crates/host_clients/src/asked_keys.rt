@@ -6,8 +6,8 @@ ghost use Rattle.host_clients.specs.AskedKeys.{IsKeyFault, flat_keys, keys_asked
 
 use crate::fault::Fault;
 use flat_rows::FlatTexts;
-use load_memory::{Key, NoMemory};
-use std::alloc::Global;
+use load_memory::Key;
+use std::alloc::{AllocError, Global};
 
 /// Keys of a loader, as a host passes them.
 #[derive(Clone, Copy)]
@@ -33,7 +33,7 @@ pub(crate) struct AskedKeys {
 
 impl AskedKeys {
     /// These keys.
-    pub fn of(alloc: Global, keys: &FlatKeys<'_>) -> Result<AskedKeys, NoMemory>
+    pub fn of(alloc: Global, keys: &FlatKeys<'_>) -> Result<AskedKeys, AllocError>
         ensures { IfOk result (λ own. keys_asked own ≡ flat_keys keys.now) }
     {
         Ok(AskedKeys {
@@ -45,7 +45,7 @@ impl AskedKeys {
     }
 }
 
-// The key of so many texts from one on.
+// The key of `count` texts from `at` on.
 fn key_at(alloc: Global, texts: &FlatTexts<'_>, at: usize, count: u32) -> Result<Key, Fault>
     requires { at ≤ length texts.now }
     ensures key { IfOk result (λ key. key_of key ≡ key_said (take count (drop at texts.now))) }

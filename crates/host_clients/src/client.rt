@@ -19,12 +19,12 @@ use crate::under_way::UnderWay;
 use flat_rows::FlatReply;
 use load_memory::Item;
 use load_queue::FetchFault;
-use owned_hand::HandedIn;
 use server::ClientSession;
+use server_owned::HandedIn;
 use std::alloc::Global;
 use std::{mem, str};
 
-/// How far a client is, after a call of [`HostClient::advance`].
+/// Says how far a client is, after a call of [`HostClient::advance`].
 #[derive(Clone, Copy, Debug, PartialEq, Eq)]
 pub enum Progress {
     /// There is an answer, or there are the outcomes of what is loaded.
@@ -40,9 +40,9 @@ pub enum Progress {
 pub enum HostClient {
     /// Nothing is asked.
     Idle(ClientSession<HandedIn>),
-    /// What was asked is on its way to the answer.
+    /// A request is on its way to its answer.
     Asked(UnderWay),
-    /// What was asked last is answered.
+    /// The last request is answered.
     Answered(AnsweredClient),
     /// The keys that it is to load are on their way to their outcomes.
     Loading(LoadUnderWay),
@@ -70,7 +70,8 @@ impl HostClient {
 
     /// The client, unless it is busy.
     pub(crate) fn idle(&self) -> Option<&ClientSession<HandedIn>>
-        ensures idle { IfSome result (λ client. (client_in self.now ≡ Some client.now) × (is_busy self.now ≡ false)) }
+        ensures idle { IfSome result (λ client.
+            (client_in self.now ≡ Some client.now) × (is_busy self.now ≡ false)) }
         ensures busy { IfNone result (is_busy self.now ≡ true) }
     {
         match self {
@@ -81,7 +82,7 @@ impl HostClient {
         }
     }
 
-    /// Whether what it was asked last is on its way.
+    /// Tells whether what it was asked last is on its way.
     pub fn is_busy(&self) -> bool
         ensures { result ≡ is_busy self.now }
     {
@@ -144,7 +145,8 @@ impl HostClient {
     ///
     /// Those of [`begin_line`](HostClient::begin_line).
     pub fn begin_request(&mut self, alloc: Global, parts: &FlatRequest<'_>) -> Result<(), Fault>
-        ensures begun { OnOk result (IsBegun self.old (request_asked (flat_parts parts.now)) self.new) }
+        ensures begun { OnOk result
+            (IsBegun self.old (request_asked (flat_parts parts.now)) self.new) }
         ensures kept { OnErr result (client_in self.new ≡ client_in self.old) }
         ensures busy { IsErrOf result Fault.Busy ↔ (is_busy self.old ≡ true) }
         ensures unchanged { is_busy self.old ≡ true → self.new ≡ self.old }
@@ -226,9 +228,10 @@ impl HostClient {
         }
     }
 
-    // How many keys the order of this number in the round that is out has, if there is one.
+    // Returns how many keys the order of this number in the round that is out has, if there is one.
     fn count(&self, number: usize) -> Option<usize>
-        ensures { result ≡ option_map (λ o. length (keys_of o)) (slice_get (orders_in self.now) number) }
+        ensures { result
+            ≡ option_map (λ o. length (keys_of o)) (slice_get (orders_in self.now) number) }
     {
         match self {
             HostClient::Asked(under_way) => under_way.orders().count(number),
@@ -259,9 +262,8 @@ impl HostClient {
     ///
     /// # Errors
     ///
-    /// [`NoOrder`](Fault::NoOrder); [`BadCount`](Fault::BadCount); the reply's first fault; [`Replied`](Fault::Replied). Nothing has changed
-    /// then. [`NoMemory`](Fault::NoMemory): nothing has changed, or it is stopped, which
-    /// [`advance`](HostClient::advance) tells.
+    /// [`NoOrder`](Fault::NoOrder); [`BadCount`](Fault::BadCount); the reply's first fault; [`Replied`](Fault::Replied). Nothing has
+    /// changed then. [`NoMemory`](Fault::NoMemory): nothing has changed, or it is stopped, which [`advance`](HostClient::advance) tells.
     pub fn take_rows(
         &mut self,
         alloc: Global,

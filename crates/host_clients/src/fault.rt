@@ -1,17 +1,16 @@
-//! Why a call is refused.
+//! Faults: why a call is refused.
 ghost use Rattle.std.specs.Prelude.{◌≡◌, IfSome, IfNone};
 ghost use Rattle.host_clients.specs.Faults.{code_of};
 ghost use Rattle.host_clients.specs.declared.fault.Fault.{Fault as FaultOf};
 
 use flat_orders::WrongSize;
 use flat_rows::FlatFault;
-use load_memory::NoMemory;
 use load_queue::QueueFault;
 use load_rounds::SessionFault;
 use rounds_by_hand::TakeFault;
 use std::alloc::AllocError;
 
-/// Why a call is refused.
+/// Says why a call is refused.
 #[derive(Clone, Copy, Debug, PartialEq, Eq)]
 pub enum Fault {
     /// Out of memory.
@@ -136,7 +135,7 @@ impl Fault {
         }
     }
 
-    /// What it says, in a few words.
+    /// Returns what it says, in a few words.
     pub fn text(self) -> &'static str {
         match self {
             Fault::NoMemory => "out of memory",
@@ -161,17 +160,6 @@ impl Fault {
             Fault::NoColumn => "rows of no column",
             Fault::TooManyRows => "more than 4,294,967,295 rows in one reply",
         }
-    }
-}
-
-impl From<NoMemory> for Fault {
-    ghost use Rattle.std.specs.Prelude.{◌≡◌};
-    ghost use Rattle.host_clients.specs.declared.fault.Fault.TheVariants.{NoMemory};
-
-    ghost from_gives = { λ _ e. e ≡ NoMemory };
-
-    fn from(_e: NoMemory) -> Fault {
-        Fault::NoMemory
     }
 }
 

@@ -1,4 +1,4 @@
-//! What a client knows of keys, primed and cleared.
+//! Keys of a client, primed and cleared.
 ghost use Rattle.std.specs.Prelude.{true, ◌≡◌, ◌≢◌, ◌∷◌, [], IfOk, IfErr, IfSome, OnOk, OnErr, IsErrOf};
 ghost use Rattle.load_memory.specs.Keys.{key_of};
 ghost use Rattle.load_memory.specs.Outcomes.{item_of};
@@ -43,14 +43,18 @@ fn the_one(items: Vec<Item>) -> Option<Item>
 }
 
 impl HostClient {
-    /// Adds an item for a loader's key, unless the key is known; true if it was added. Like each of these calls it lets an answer or outcomes go.
+    /// Adds an item for a loader's key, unless the key is known; true if it was added. Like each of these calls it lets an answer or
+    /// outcomes go.
     ///
     /// # Errors
     ///
-    /// [`Busy`](Fault::Busy) while a request is being answered or keys are loaded, [`NoLoader`](Fault::NoLoader), [`NoMemory`](Fault::NoMemory).
+    /// [`Busy`](Fault::Busy) while a request is being answered or keys are loaded, [`NoLoader`](Fault::NoLoader),
+    /// [`NoMemory`](Fault::NoMemory).
     pub fn prime(&mut self, loader: usize, key: &Key, item: Item) -> Result<bool, Fault>
-        ensures primed { IfOk result (λ added. OnClient (Primes loader (key_of key.now) (item_of item) added) self.old self.new) }
-        ensures kept { IfErr result (λ fault. fault ≢ Fault.NoMemory → client_in self.new ≡ client_in self.old) }
+        ensures primed { IfOk result (λ added.
+            OnClient (Primes loader (key_of key.now) (item_of item) added) self.old self.new) }
+        ensures kept { IfErr result (λ fault.
+            fault ≢ Fault.NoMemory → client_in self.new ≡ client_in self.old) }
         ensures busy { is_busy self.old ≡ true → self.new ≡ self.old }
         ensures no_loader { IsErrOf result Fault.NoLoader → LacksLoader self.old loader }
     {
@@ -84,7 +88,8 @@ impl HostClient {
     ) -> Result<bool, Fault>
         ensures primed { let key = key_in key_ends.now key_bytes.now in
             IfOk result (λ b. OnClient (PrimesSaid loader key (items_in reply.now) b) self.old self.new) }
-        ensures kept { IfErr result (λ fault. fault ≢ Fault.NoMemory → client_in self.new ≡ client_in self.old) }
+        ensures kept { IfErr result (λ fault.
+            fault ≢ Fault.NoMemory → client_in self.new ≡ client_in self.old) }
         ensures busy { is_busy self.old ≡ true → self.new ≡ self.old }
     {
         let key = read_key(alloc, key_ends, key_bytes)?;
@@ -106,8 +111,10 @@ impl HostClient {
         key_ends: &[u32],
         key_bytes: &[u8],
     ) -> Result<bool, Fault>
-        ensures cleared { IfOk result (λ there. OnClient (Clears loader (key_in key_ends.now key_bytes.now) there) self.old self.new) }
-        ensures kept { IfErr result (λ fault. fault ≢ Fault.NoMemory → client_in self.new ≡ client_in self.old) }
+        ensures cleared { IfOk result (λ there.
+            OnClient (Clears loader (key_in key_ends.now key_bytes.now) there) self.old self.new) }
+        ensures kept { IfErr result (λ fault.
+            fault ≢ Fault.NoMemory → client_in self.new ≡ client_in self.old) }
         ensures busy { is_busy self.old ≡ true → self.new ≡ self.old }
     {
         let key = read_key(alloc, key_ends, key_bytes)?;
@@ -120,8 +127,10 @@ impl HostClient {
     ///
     /// Those of [`prime`](HostClient::prime).
     pub fn clear(&mut self, loader: usize, key: &Key) -> Result<bool, Fault>
-        ensures cleared { IfOk result (λ there. OnClient (Clears loader (key_of key.now) there) self.old self.new) }
-        ensures kept { IfErr result (λ fault. fault ≢ Fault.NoMemory → client_in self.new ≡ client_in self.old) }
+        ensures cleared { IfOk result (λ there.
+            OnClient (Clears loader (key_of key.now) there) self.old self.new) }
+        ensures kept { IfErr result (λ fault.
+            fault ≢ Fault.NoMemory → client_in self.new ≡ client_in self.old) }
         ensures busy { is_busy self.old ≡ true → self.new ≡ self.old }
         ensures no_loader { IsErrOf result Fault.NoLoader → LacksLoader self.old loader }
     {
@@ -188,7 +197,7 @@ impl HostClient {
         }
     }
 
-    /// From now on the text of an answer has at most so many bytes, that of each value of an array by itself; `None` is no limit.
+    /// From now on the text of an answer has at most `most` bytes, that of each value of an array by itself; `None` is no limit.
     ///
     /// # Errors
     ///
@@ -212,13 +221,15 @@ impl HostClient {
         }
     }
 
-    /// What a loader was asked since the client was made or started again.
+    /// The batches that a loader was asked for since the client was made or started again.
     ///
     /// # Errors
     ///
-    /// [`Busy`](Fault::Busy) while a request is being answered or keys are loaded, [`NoLoader`](Fault::NoLoader), [`NoMemory`](Fault::NoMemory).
+    /// [`Busy`](Fault::Busy) while a request is being answered or keys are loaded, [`NoLoader`](Fault::NoLoader),
+    /// [`NoMemory`](Fault::NoMemory).
     pub fn log(&self, alloc: Global, loader: usize) -> Result<BatchLog, Fault>
-        ensures log { IfOk result (λ l. LogHolds (λ log. AreBatches log l.rounds.items l.stored.items l.keys) self.now loader) }
+        ensures log { IfOk result (λ l.
+            LogHolds (λ log. AreBatches log l.rounds.items l.stored.items l.keys) self.now loader) }
         ensures no_loader { IsErrOf result Fault.NoLoader → LacksLoader self.now loader }
     {
         let Some(client) = self.idle() else {

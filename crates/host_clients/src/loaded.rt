@@ -1,11 +1,14 @@
 //! A client that has loaded the keys that it was asked for.
+//!
+//! Outcomes are laid out flat as soon as they are there: then no copy can be out of memory, and the rows that
+//! they share with the memory aren't held longer.
 ghost use Rattle.std.specs.Prelude.{◌≡◌};
 ghost use Rattle.host_clients.specs.Loads.{AreOutcomesOf};
 
 use crate::asked_keys::AskedKeys;
 use flat_outcomes::FlatOutcomes;
-use owned_hand::HandedIn;
 use server::ClientSession;
+use server_owned::HandedIn;
 use std::marker::Model;
 
 /// A client with the outcomes of the keys that it loaded last.
@@ -22,7 +25,7 @@ impl Model for LoadedClient {
     ghost use Rattle.std.specs.Coded.{codes};
     ghost use Rattle.gq_parser.specs.contracts.tree.TypeRef as type_ref;
     ghost use Rattle.gq_parser.specs.contracts.tree.Literal as literal;
-    ghost use Rattle.owned_hand.specs.contracts.handed_in.HandedIn as handed;
+    ghost use Rattle.server_owned.specs.contracts.handed_in.HandedIn as handed;
     ghost use Rattle.host_clients.specs.AskedKeys.{keys_asked};
     ghost use Rattle.host_clients.specs.Loads.{AreOutcomesOf, LoadedOf};
 

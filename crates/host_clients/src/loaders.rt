@@ -9,14 +9,14 @@ ghost use Rattle.host_clients.specs.LoaderTexts.{columns_by, kind_of, texts_of};
 use crate::fault::Fault;
 use flat_orders::TextBuffer;
 use gq_bindings::{By, LoaderLine};
-use load_memory::NoMemory;
 use server::Server;
-use std::alloc::Global;
+use std::alloc::{AllocError, Global};
 
 /// The loaders of a server: for each a number that says its keys, and four texts.
 #[derive(Drop)]
 pub struct LoaderTexts {
-    /// How many texts a key has, and 4 more where keys are compared without the case of `A` to `Z`.
+    /// Says how many texts a key has, and 4 more where keys are compared without the case of `A` to
+    /// `Z`.
     kinds: Vec<u32>,
     /// The name, the table, and the columns that it is by, which are empty for none.
     texts: TextBuffer,
@@ -56,7 +56,7 @@ fn columns_of(line: &LoaderLine) -> (&str, &str)
 }
 
 // Writes the texts of a loader at the end. When out of memory, nothing is known of what was written.
-fn write_texts(texts: &mut TextBuffer, line: &LoaderLine) -> Result<(), NoMemory>
+fn write_texts(texts: &mut TextBuffer, line: &LoaderLine) -> Result<(), AllocError>
     ensures { OnOk result (texts.new ≡ texts.old ++ texts_of (loader_of line.now)) }
 {
     let (one, two) = columns_of(line);
@@ -68,7 +68,7 @@ fn write_texts(texts: &mut TextBuffer, line: &LoaderLine) -> Result<(), NoMemory
 
 impl LoaderTexts {
     /// The loaders of this server, in order.
-    pub fn of(alloc: Global, server: &Server) -> Result<LoaderTexts, NoMemory>
+    pub fn of(alloc: Global, server: &Server) -> Result<LoaderTexts, AllocError>
         ensures kinds { IfOk result (λ l. l.kinds.items ≡ map kind_of server.now.bindings.loaders) }
         ensures texts { IfOk result (λ l. l.texts ≡ flat_map texts_of server.now.bindings.loaders) }
     {
@@ -82,14 +82,14 @@ impl LoaderTexts {
         Ok(LoaderTexts { kinds, texts })
     }
 
-    /// How many loaders there are.
+    /// Returns how many loaders there are.
     pub fn len(&self) -> usize
         ensures { result ≡ length self.now.kinds.items }
     {
         self.kinds.len()
     }
 
-    /// How many bytes their texts have together.
+    /// Returns how many bytes their texts have together.
     pub fn byte_len(&self) -> usize
         ensures { result ≡ size_of self.now.texts }
     {
@@ -105,7 +105,8 @@ impl LoaderTexts {
     ) -> Result<(), Fault>
         ensures kinds { OnOk result (kinds.new ≡ self.now.kinds.items) }
         ensures texts { OnOk result (cut bytes.new 0 ends.new ≡ self.now.texts) }
-        ensures kept { OnErr result ((kinds.new ≡ kinds.old) × (ends.new ≡ ends.old) × (bytes.new ≡ bytes.old)) }
+        ensures kept { OnErr result
+            ((kinds.new ≡ kinds.old) × (ends.new ≡ ends.old) × (bytes.new ≡ bytes.old)) }
     {
         if kinds.len() != self.kinds.len() {
             return Err(Fault::BadSize);

@@ -1,4 +1,7 @@
 //! Keys that a client loads, on their way to the outcomes.
+//!
+//! A load goes on in the turns of a request, so that a host has one loop for both. It keeps the texts of its
+//! keys, since `AreOutcomesOf` speaks of what was asked once the load is over.
 ghost use Rattle.std.specs.Prelude.{◌≡◌, ◌<◌, OnOk, IsErrOf, length, map};
 ghost use Rattle.load_memory.specs.Keys.{key_of};
 ghost use Rattle.rounds_by_hand.specs.LoadHands.{handed, over};
@@ -16,9 +19,9 @@ use flat_orders::FlatOrders;
 use flat_outcomes::FlatOutcomes;
 use load_memory::{Item, Key};
 use load_queue::FetchFault;
-use owned_hand::HandedIn;
 use rounds_by_hand::{LoadAdvance, TakeFault};
 use server::{ClientSession, LoadByHand};
+use server_owned::HandedIn;
 use std::alloc::Global;
 use std::marker::Model;
 
@@ -36,8 +39,8 @@ impl Model for LoadUnderWay {
     ghost use Rattle.std.specs.Coded.{codes};
     ghost use Rattle.gq_parser.specs.contracts.tree.TypeRef as type_ref;
     ghost use Rattle.gq_parser.specs.contracts.tree.Literal as literal;
-    ghost use Rattle.owned_hand.specs.contracts.handed_in.HandedIn as handed;
-    ghost use Rattle.owned_hand.specs.declared.handed_in.HandedIn.{HandedIn as Handed};
+    ghost use Rattle.server_owned.specs.contracts.handed_in.HandedIn as handed;
+    ghost use Rattle.server_owned.specs.declared.handed_in.HandedIn.{HandedIn as Handed};
     ghost use Rattle.server.specs.LoadsByHand.{LoadByHandOf};
     ghost use Rattle.host_clients.specs.AskedKeys.{keys_asked};
     ghost use Rattle.host_clients.specs.Loads.{HoldsLoading};
@@ -71,7 +74,8 @@ impl LoadUnderWay {
         }
     }
 
-    /// What comes of it: the outcomes, or the round of the keys that aren't known is out, or nothing while an order of it has no reply.
+    /// Returns what comes of it: the outcomes, or the round of the keys that aren't known is out, or nothing while an order of it has
+    /// no reply.
     ///
     /// # Errors
     ///

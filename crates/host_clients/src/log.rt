@@ -1,4 +1,4 @@
-//! What a loader was asked, as a host reads it.
+//! Logs of loaders, as a host reads them.
 ghost use Rattle.std.specs.Prelude.{◌≡◌, ◌↔◌, IsTrue, IfOk, OnOk, OnErr, map, length};
 ghost use Rattle.load_memory.specs.Cells.{cut};
 ghost use Rattle.load_queue.specs.Logs.{asked_of};
@@ -7,9 +7,8 @@ ghost use Rattle.host_clients.specs.Logs.{AreBatches};
 
 use crate::fault::Fault;
 use flat_orders::{KeyLists, KeySizes};
-use load_memory::NoMemory;
-use load_queue::Asked;
-use std::alloc::Global;
+use load_queue::LogEntry;
+use std::alloc::{AllocError, Global};
 
 /// The batches that a loader was asked for, in order.
 #[derive(Drop)]
@@ -22,8 +21,9 @@ pub struct BatchLog {
 
 impl BatchLog {
     /// These entries of a log.
-    pub fn of(alloc: Global, entries: &[Asked]) -> Result<BatchLog, NoMemory>
-        ensures { IfOk result (λ l. AreBatches (map asked_of entries.now) l.rounds.items l.stored.items l.keys) }
+    pub fn of(alloc: Global, entries: &[LogEntry]) -> Result<BatchLog, AllocError>
+        ensures { IfOk result (λ l.
+            AreBatches (map asked_of entries.now) l.rounds.items l.stored.items l.keys) }
     {
         let mut rounds = Vec::with_capacity(alloc, entries.len())?;
         let mut stored = Vec::with_capacity(alloc, entries.len())?;
@@ -40,7 +40,8 @@ impl BatchLog {
         })
     }
 
-    /// How many elements the buffers have to hold that [`copy_to`](BatchLog::copy_to) fills. There is a list of keys for each batch.
+    /// Returns how many elements the buffers have to hold that [`copy_to`](BatchLog::copy_to) fills. There is a list of keys for
+    /// each batch.
     pub fn sizes(&self) -> KeySizes
         ensures lists { result.lists ≡ length self.now.keys }
         ensures keys { result.keys ≡ length (keys_in self.now.keys) }
@@ -50,9 +51,10 @@ impl BatchLog {
         self.keys.sizes()
     }
 
-    /// Whether buffers of these sizes may take the rounds, and whether replies were stored.
+    /// Tells whether buffers of these sizes may take the rounds, and whether replies were stored.
     pub fn has_rounds(&self, rounds: usize, stored: usize) -> bool
-        ensures { IsTrue result ↔ (rounds ≡ length self.now.rounds.items) × (stored ≡ length self.now.stored.items) }
+        ensures { IsTrue result
+            ↔ (rounds ≡ length self.now.rounds.items) × (stored ≡ length self.now.stored.items) }
     {
         rounds == self.rounds.len() && stored == self.stored.len()
     }
@@ -79,7 +81,8 @@ impl BatchLog {
         ends: &mut [u32],
         bytes: &mut [u8],
     ) -> Result<(), Fault>
-        ensures { OnOk result (lists_said counts.new shapes.new (cut bytes.new 0 ends.new) ≡ self.now.keys) }
+        ensures { OnOk result
+            (lists_said counts.new shapes.new (cut bytes.new 0 ends.new) ≡ self.now.keys) }
     {
         Ok(self.keys.copy_to(counts, shapes, ends, bytes)?)
     }

@@ -1,4 +1,4 @@
-//! What a handle holds.
+//! Objects that handles hold.
 ghost use Rattle.std.specs.Prelude.{◌≡◌};
 ghost use Rattle.host_clients.specs.Objects.{MakesClient, Shares};
 
@@ -8,7 +8,7 @@ use crate::opening::open_client;
 use server::Server;
 use std::alloc::Global;
 
-/// What a handle holds.
+/// Says what a handle holds.
 #[derive(Drop)]
 pub enum Object {
     /// A schema with its bindings.
@@ -17,8 +17,8 @@ pub enum Object {
     Client(HostClient),
 }
 
-// The same server once more.
-fn shared(server: &Server) -> Result<Object, Fault>
+// Returns the same server once more.
+fn share_server(server: &Server) -> Result<Object, Fault>
     ensures { Shares (Object.Server server.now) result }
 {
     Ok(Object::Server(server.clone()?))
@@ -32,7 +32,7 @@ fn client_of(alloc: Global, server: &Server, limits: &[u32]) -> Result<Object, F
 }
 
 impl Object {
-    /// The same server once more, which shares its schema and its bindings.
+    /// Returns the same server once more, which shares its schema and its bindings.
     ///
     /// # Errors
     ///
@@ -41,7 +41,7 @@ impl Object {
         ensures { Shares self.now result }
     {
         match self {
-            Object::Server(server) => shared(server),
+            Object::Server(server) => share_server(server),
             Object::Client(_) => Err(Fault::BadHandle),
         }
     }

@@ -1,7 +1,7 @@
 //! Servers from texts, and new clients.
 ghost use Rattle.std.specs.Prelude.{◌≡◌, IfOk, IfErr, map, option_map};
 ghost use Rattle.gq_bindings.specs.Seen.{by_of, loader_of};
-ghost use Rattle.request_plans.specs.Servers.{IsServer};
+ghost use Rattle.plan_requests.specs.Servers.{IsServer};
 ghost use Rattle.server.specs.Opening.{mode_of};
 ghost use Rattle.host_clients.specs.Opening.{AreNewLoaders, IsNewClient, RefusesOpening, fault_at, fault_without, handed_in, limit_at, limits_after, place_of};
 
@@ -12,12 +12,12 @@ use gq_lexer::Place;
 use load_memory::KeyMode;
 use load_queue::Loader;
 use load_rounds::Session;
-use owned_hand::HandedIn;
 use server::{ClientSession, SchemaFault, Server};
+use server_owned::HandedIn;
 use std::alloc::Global;
 use std::str;
 
-/// Why a schema or its bindings are refused, and where.
+/// Says why a schema or its bindings are refused, and where.
 #[derive(Clone, Copy, Debug, PartialEq, Eq)]
 pub struct FaultPlace {
     /// The fault Sn has the number n.
@@ -26,11 +26,11 @@ pub struct FaultPlace {
     pub line: u64,
     /// From 1, in characters; 0 where the fault has none.
     pub column: u64,
-    /// Whether it is a line of the bindings.
+    /// Tells whether it is a line of the bindings.
     pub in_bindings: bool,
 }
 
-/// Why no server was made.
+/// Says why no server was made.
 #[derive(Clone, Copy, Debug, PartialEq, Eq)]
 pub enum OpenFault {
     /// A text isn't UTF-8.
@@ -108,7 +108,7 @@ pub fn open_server(alloc: Global, schema: &[u8], bindings: &[u8]) -> Result<Serv
     }
 }
 
-// How the keys of a line's loader are compared.
+// Returns how the keys of a line's loader are compared.
 fn mode_of(line: &LoaderLine) -> KeyMode
     ensures { result ≡ mode_of (option_map by_of line.now.by) }
 {
@@ -136,7 +136,8 @@ fn new_loaders(
     lines: &[LoaderLine],
     limits: &[u32],
 ) -> Result<Vec<Loader<HandedIn>>, Fault>
-    ensures { IfOk result (λ loaders. AreNewLoaders handed_in limits.now (map loader_of lines.now) loaders.items) }
+    ensures { IfOk result (λ loaders.
+        AreNewLoaders handed_in limits.now (map loader_of lines.now) loaders.items) }
 {
     let mut loaders = Vec::with_capacity(alloc, lines.len())?;
     let mut left = limits;

@@ -1,4 +1,4 @@
-//! What a client was asked, on its way to the answer.
+//! Requests on their way to the answer.
 ghost use Rattle.std.specs.Prelude.{◌≡◌, ◌++◌, ◌∷◌, [], IfOk, OnOk, IsErrOf, map};
 ghost use Rattle.rounds_by_hand.specs.Hands.{IsOver};
 ghost use Rattle.rounds_by_hand.specs.Pending.{order_in};
@@ -11,15 +11,15 @@ use crate::asked::AskedTexts;
 use crate::client::{HostClient, Progress};
 use crate::fault::Fault;
 use flat_orders::FlatOrders;
-use load_memory::{Item, NoMemory};
+use load_memory::Item;
 use load_queue::FetchFault;
-use owned_hand::{HandedIn, OwnedByHand};
 use rounds_by_hand::{Pending, TakeFault};
-use server::{Answer, ClientSession, Step};
-use std::alloc::Global;
+use server::{Answer, ClientAdvance, ClientSession};
+use server_owned::{HandedIn, OwnedByHand};
+use std::alloc::{AllocError, Global};
 use std::marker::Model;
 
-/// What a client was asked, on its way to the answer, with the orders of the round that is out.
+/// Holds what a client was asked, on its way to the answer, with the orders of the round that is out.
 ///
 /// A contract sees what is answered by hand, and what was asked. What holds between calls is `HoldsUnderWay`.
 #[derive(Drop)]
@@ -38,7 +38,7 @@ impl Model for UnderWay {
     ghost use Rattle.gq_parser.specs.contracts.tree.Inline as inline;
     ghost use Rattle.gq_parser.specs.contracts.tree.SelectionSet as set;
     ghost use Rattle.gq_schema.specs.contracts.input.Input as input;
-    ghost use Rattle.owned_hand.specs.contracts.handed_in.HandedIn as handed;
+    ghost use Rattle.server_owned.specs.contracts.handed_in.HandedIn as handed;
     ghost use Rattle.host_clients.specs.Texts.{asked_in};
     ghost use Rattle.host_clients.specs.UnderWay.{UnderWayOf, HoldsUnderWay};
 
@@ -52,7 +52,7 @@ impl Model for UnderWay {
 }
 
 // The orders with one more at the end, which may have its reply.
-fn with_one(orders: FlatOrders, one: &Pending) -> Result<FlatOrders, NoMemory>
+fn with_one(orders: FlatOrders, one: &Pending) -> Result<FlatOrders, AllocError>
     ensures { IfOk result (λ more. more ≡ orders ++ order_in one.now ∷ []) }
 {
     match one {
@@ -62,7 +62,7 @@ fn with_one(orders: FlatOrders, one: &Pending) -> Result<FlatOrders, NoMemory>
 }
 
 /// The orders of a round, to be copied out.
-pub(crate) fn orders_of(alloc: Global, pending: &[Pending]) -> Result<FlatOrders, NoMemory>
+pub(crate) fn orders_of(alloc: Global, pending: &[Pending]) -> Result<FlatOrders, AllocError>
     ensures { IfOk result (λ orders. orders ≡ map order_in pending.now) }
 {
     let mut orders = FlatOrders::new(alloc);
@@ -74,20 +74,20 @@ pub(crate) fn orders_of(alloc: Global, pending: &[Pending]) -> Result<FlatOrders
 }
 
 // The orders of the round that is out, to be copied out.
-fn round_orders(alloc: Global, hand: &mut OwnedByHand) -> Result<FlatOrders, NoMemory>
+fn round_orders(alloc: Global, hand: &mut OwnedByHand) -> Result<FlatOrders, AllocError>
     ensures orders { IfOk result (λ orders. orders ≡ orders_out hand.old) }
     ensures same { hand.new ≡ hand.old }
 {
     hand.see_orders(
         &mut (),
-        |pending: &[Pending], _seen: &mut ()| -> Result<FlatOrders, NoMemory>
+        |pending: &[Pending], _seen: &mut ()| -> Result<FlatOrders, AllocError>
             ensures { IfOk result (λ orders. orders ≡ map order_in pending.now) }
         { orders_of(alloc, pending) },
     )
 }
 
 impl UnderWay {
-    /// What comes of what the client is asked: it is planned, or refused. Nothing is done of it yet.
+    /// Plans what the client is asked, or refuses it. Nothing is done of it yet.
     pub(crate) fn begin(
         alloc: Global,
         client: ClientSession<HandedIn>,
@@ -112,7 +112,8 @@ impl UnderWay {
         }
     }
 
-    /// What comes of it: an answer, or a new round is out, or nothing while an order of the round has no reply.
+    /// Returns what comes of it: an answer, or a new round is out, or nothing while an order of the round has no
+    /// reply.
     ///
     /// # Errors
     ///
@@ -127,7 +128,7 @@ impl UnderWay {
         } = self;
         let mut hand = hand;
         match hand.advance() {
-            Ok(Step::Answered(answer)) => {
+            Ok(ClientAdvance::Answered(answer)) => {
                 let Answer { text, rounds } = answer;
                 let answered = AnsweredClient {
                     client: hand.into_client(),
@@ -137,7 +138,7 @@ impl UnderWay {
                 };
                 (HostClient::Answered(answered), Ok(Progress::Done))
             }
-            Ok(Step::Round) => match round_orders(alloc, &mut hand) {
+            Ok(ClientAdvance::Round) => match round_orders(alloc, &mut hand) {
                 Ok(orders) => {
                     let under_way = UnderWay {
                         hand,
@@ -148,7 +149,7 @@ impl UnderWay {
                 }
                 Err(_) => (HostClient::Idle(hand.into_client()), Err(Fault::NoMemory)),
             },
-            Ok(Step::Waiting) => {
+            Ok(ClientAdvance::Waiting) => {
                 let under_way = UnderWay {
                     hand,
                     asked,
@@ -156,7 +157,7 @@ impl UnderWay {
                 };
                 (HostClient::Asked(under_way), Ok(Progress::Waiting))
             }
-            Ok(Step::Over) => (HostClient::Idle(hand.into_client()), Err(Fault::Stopped)),
+            Ok(ClientAdvance::Over) => (HostClient::Idle(hand.into_client()), Err(Fault::Stopped)),
             Err(_) => (HostClient::Idle(hand.into_client()), Err(Fault::NoMemory)),
         }
     }

@@ -1,4 +1,5 @@
--- What a memory says of a key after one of its parts is changed, and which of its pairs are of batches that failed.
+-- Lemmas on what a memory says of a key after one of its parts is changed, and which of its pairs are of batches
+-- that failed.
 use Rattle.std.proofs.Common.{◌≡◌, ℕ, zero, suc, ◌<◌, Bool, true, false, List, [], ◌∷◌, length, get_or, Option, Some, None, refl, ap, ◌∙◌, sym, arith}
 use Rattle.std.proofs.lemmas.Bool.{eqb-true, eqb-false}
 use Rattle.std.specs.Prelude.{◌==◌, ◌&&◌, not, is_some, option_map, if◌then◌else◌, slice_set, filter}
@@ -8,15 +9,15 @@ use Rattle.std.specs.Map.{keys_of, lookup}
 use Rattle.load_memory.specs.Keys.{KeyOf, cache_of, same_key}
 use Rattle.load_memory.specs.Outcomes.{ItemOf, OutcomeOf, known, batch_fault, outcome_of, is_failed}
 use Rattle.load_memory.specs.Pairs.{PairOf, is_at, look, primed, IsSameMap, IsWithout, unless_failed, IsUnfailed, IsWith}
-use Rattle.load_memory.specs.Parts.{PartOf, EntriesOf, pairs_from, look_in, AreUnfailed}
+use Rattle.load_memory.specs.LoaderMemories.{PartOf, EntriesOf, pairs_from, look_in, AreUnfailed}
 use Rattle.load_memory.specs.declared.key.CacheKey.{CacheKey}
 use Rattle.load_memory.specs.declared.outcome.Outcome.{Outcome}
 use Rattle.load_memory.specs.declared.outcome.Outcome.TheVariants as outcome
 use Rattle.load_memory.specs.contracts.key.CacheKeyPartialEq.TheImpl as cache_eq
 use Rattle.load_memory.proofs.Looks.{same_key-is, nothing, primed-absent}
-use Rattle.load_memory.proofs.PartLaws.{cache-eq, lookup-cache, at_part, look-part, at_part-read, at_part-same, at_part-other}
+use Rattle.load_memory.proofs.LoaderMemoryLaws.{cache-eq, lookup-cache, at_part, look-part, at_part-read, at_part-same, at_part-other}
 
--- what the part of a loader says
+-- a look-up in the memory finds what the loader's part says
 pub look-one : (ps : List PartOf) (i : ℕ) (d : PartOf) (q : KeyOf) → i < length ps → d ≡ get_or ps i d → look (pairs_from 0 ps) i q ≡ look_in d.entries q
 look-one ps i d q lt at = look-part ps i q ∙ at_part-read ps i d q lt ∙ ap (λ (p : PartOf). look_in p.entries q) (sym at)
 
@@ -118,7 +119,7 @@ look_in-items (e ∷ es) d q = go (look_in-items es d.1 q) (is_failed e.1) refl 
       rw (item, at) (rest ∙ ap unless_failed none ∙ sym (item-failed e.1 item))
   go rest true item false at = rw (item, at) rest
 
--- what a part's test of a key tells
+-- a part's test of a key tells whether the part has the key
 pub look_in-found : (es : EntriesOf) (k : CacheKey) (b : Bool) → b ≡ is_some (lookup ((cache_eq.eq-value).it k) es) → is_some (look_in es (cache_of k)) ≡ b
 look_in-found es k b e = ap is_some (sym (lookup-cache k es)) ∙ go (lookup ((cache_eq.eq-value).it k) es) ∙ sym e where
   go : (o : Option Outcome) → is_some (option_map outcome_of o) ≡ is_some o

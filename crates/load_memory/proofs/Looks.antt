@@ -50,7 +50,7 @@ pub look-append : (ps qs : List PairOf) (loader : ℕ) (key : KeyOf) → look (p
 look-append [] qs loader key = refl
 look-append (p ∷ ps) qs loader key = first_step (is_at loader key p) p.outcome (look (ps ++ qs) loader key) (look ps loader key) (look qs loader key) (look-append ps qs loader key)
 
--- what is there stays, and what is absent becomes known
+-- a key that is there stays, and an absent one becomes known
 pub primed-present : (ps : List PairOf) (p : PairOf) → is_some (look ps p.loader p.key) ≡ true → primed ps p ≡ ps
 primed-present ps p e = rw e refl
 

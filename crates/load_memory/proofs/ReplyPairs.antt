@@ -32,7 +32,7 @@ pairs-below modes n (r ∷ rs) below =
     (own-below (mode_at modes r.loader) n r.loader r.keys r.outcomes (All-head (λ (r : ReplyOf). r.loader < n) r rs below))
     (pairs-below modes n rs (All-tail (λ (r : ReplyOf). r.loader < n) r rs below))
 
--- what holds of each image holds of each, and the other way
+-- a property of each image is one of each element, and the other way
 pub All-of_map : {A B : Type 0} (f : A → B) (P : B → Type 0) (xs : List A) → All P (map f xs) → All (λ x. P (f x)) xs
 All-of_map f P [] h = All-nil (λ x. P (f x))
 All-of_map f P (x ∷ xs) h = All-cons (λ x. P (f x)) x xs (All-head P (f x) (map f xs) h) (All-of_map f P xs (All-tail P (f x) (map f xs) h))

@@ -57,7 +57,7 @@ module _ (name : List ℕ) where
   pub column-within : (names : List (List ℕ)) (i : ℕ) → Some i ≡ position (λ n. bytes_eq n name) names → i < length names
   column-within names i at = (position-Some (λ n. bytes_eq n name) names i [] (sym at)).0
 
--- how wide a row is, and what it has in a column by its place
+-- the width of a row, and its text in a column by the column's place
 pub paired-length : (names cells : List (List ℕ)) → length cells ≡ length names → length (paired names cells) ≡ length names
 paired-length [] cells same = refl
 paired-length (n ∷ ns) [] same = absurd (omega arith)

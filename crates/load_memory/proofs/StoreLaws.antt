@@ -9,10 +9,10 @@ use Rattle.std.specs.HashMap.{spare}
 use Rattle.load_memory.specs.Keys.{KeyOf, cache_of, same_key}
 use Rattle.load_memory.specs.Outcomes.{OutcomeOf, outcome_of, is_failed}
 use Rattle.load_memory.specs.Pairs.{look, IsSameMap, unless_failed}
-use Rattle.load_memory.specs.Parts.{PartOf, pairs_from, look_in, room_at, count_at, HaveRoom, staged_of, AreUnfailed}
-use Rattle.load_memory.specs.declared.part.Staged.{Staged}
+use Rattle.load_memory.specs.LoaderMemories.{PartOf, pairs_from, look_in, room_at, count_at, HaveRoom, staged_of, AreUnfailed}
+use Rattle.load_memory.specs.declared.loader_memory.StagedPair.{StagedPair}
 use Rattle.load_memory.proofs.Looks.{first_of_two, look-append}
-use Rattle.load_memory.proofs.PartLaws.{pairs-counted}
+use Rattle.load_memory.proofs.LoaderMemoryLaws.{pairs-counted}
 use Rattle.load_memory.proofs.ChangeLaws.{look-changed, item-known}
 
 -- the room of one part
@@ -34,13 +34,13 @@ room-other (p ∷ ps) (suc i) zero x ne = refl
 room-other (p ∷ ps) (suc i) (suc j) x ne = room-other ps i j x (λ e. ne (ap suc e))
 
 -- one pair more
-pub count-own : (s : Staged) (rest : List Staged) → count_at s.loader (s ∷ rest) ≡ suc (count_at s.loader rest)
+pub count-own : (s : StagedPair) (rest : List StagedPair) → count_at s.loader (s ∷ rest) ≡ suc (count_at s.loader rest)
 count-own s rest = rw (eq-eqb s.loader s.loader refl) refl
 
-pub count-other : (s : Staged) (rest : List Staged) (l : ℕ) → (s.loader ≡ l → ⊥) → count_at l (s ∷ rest) ≡ count_at l rest
+pub count-other : (s : StagedPair) (rest : List StagedPair) (l : ℕ) → (s.loader ≡ l → ⊥) → count_at l (s ∷ rest) ≡ count_at l rest
 count-other s rest l ne = rw (ne_eqb s.loader l ne) refl
 
-pub count-more : (l : ℕ) (xs : List Staged) (i n : ℕ) (s : Staged) → i < length xs → s ≡ get_or xs i s → n ≡ suc i → count_at l (take n xs) ≡ (if s.loader == l then suc (count_at l (take i xs)) else count_at l (take i xs))
+pub count-more : (l : ℕ) (xs : List StagedPair) (i n : ℕ) (s : StagedPair) → i < length xs → s ≡ get_or xs i s → n ≡ suc i → count_at l (take n xs) ≡ (if s.loader == l then suc (count_at l (take i xs)) else count_at l (take i xs))
 count-more l [] i n s lt at e = absurd (omega arith)
 count-more l (x ∷ xs) zero n s lt at e = rw (e, at) refl
 count-more l (x ∷ xs) (suc i) n s lt at e = rw e (go (x.loader == l) (s.loader == l) (count-more l xs i (suc i) s (omega arith) at refl)) where
@@ -51,7 +51,7 @@ count-more l (x ∷ xs) (suc i) n s lt at e = rw e (go (x.loader == l) (s.loader
   go false true e = e
   go false false e = e
 
-pub count-most : (l : ℕ) (xs : List Staged) → count_at l xs ≤ length xs
+pub count-most : (l : ℕ) (xs : List StagedPair) → count_at l xs ≤ length xs
 count-most l [] = omega arith
 count-most l (x ∷ xs) = go (x.loader == l) (count-most l xs) where
   go : (b : Bool) → count_at l xs ≤ length xs → (if b then suc (count_at l xs) else count_at l xs) ≤ suc (length xs)
@@ -59,13 +59,13 @@ count-most l (x ∷ xs) = go (x.loader == l) (count-most l xs) where
   go false le = omega (arith, le)
 
 -- of a loader past all of these there is none
-pub count-past : (n l : ℕ) (xs : List Staged) → All (λ (s : Staged). s.loader < n) xs → n ≤ l → count_at l xs ≡ 0
+pub count-past : (n l : ℕ) (xs : List StagedPair) → All (λ (s : StagedPair). s.loader < n) xs → n ≤ l → count_at l xs ≡ 0
 count-past n l [] below past = refl
 count-past n l (x ∷ xs) below past =
-    let first : x.loader < n = All-head (λ (s : Staged). s.loader < n) x xs below in
-    rw (ne_eqb x.loader l (λ e. omega (arith, first, e, past))) (count-past n l xs (All-tail (λ (s : Staged). s.loader < n) x xs below) past)
+    let first : x.loader < n = All-head (λ (s : StagedPair). s.loader < n) x xs below in
+    rw (ne_eqb x.loader l (λ e. omega (arith, first, e, past))) (count-past n l xs (All-tail (λ (s : StagedPair). s.loader < n) x xs below) past)
 
-module _ (ps : List PartOf) (s : Staged) (rest : List Staged) (x d : PartOf) (lt : s.loader < length ps) (at : d ≡ get_or ps s.loader d) where
+module _ (ps : List PartOf) (s : StagedPair) (rest : List StagedPair) (x d : PartOf) (lt : s.loader < length ps) (at : d ≡ get_or ps s.loader d) where
   pub room-first : HaveRoom ps (s ∷ rest) → 0 < spare d
   room-first room = omega (arith, room s.loader, count-own s rest, room-at ps s.loader d lt, ap spare at)
 
@@ -84,7 +84,7 @@ module _ (ps : List PartOf) (s : Staged) (rest : List Staged) (x d : PartOf) (lt
   or-step None o y = refl
   or-step (Some v) o y = refl
 
-  -- what the parts and the other pairs say together
+  -- says what the parts and the other pairs say together
   pub stored-step : ((q : KeyOf) → look_in x.entries q ≡ option_or (look_in d.entries q) (if same_key q (cache_of s.key) then Some (outcome_of s.outcome) else None))
       → (l : ℕ) (q : KeyOf) → option_or (look (pairs_from 0 (slice_set ps s.loader x)) l q) (look (map staged_of rest) l q) ≡ option_or (look (pairs_from 0 ps) l q) (look (map staged_of (s ∷ rest)) l q)
   stored-step put l q =
@@ -113,7 +113,7 @@ module _ (ps : List PartOf) (i : ℕ) (x d : PartOf) (lt : i < length ps) (at : 
   counted-held e = let same : length d.entries ≡ length (get_or ps i d).entries = ap (λ (p : PartOf). length p.entries) at in omega (arith, e, same, pairs-counted 0 ps i x d lt)
 
 -- the pairs that are counted
-pub unfailed-more : (xs : List Staged) (s : Staged) → AreUnfailed (map staged_of xs) → is_failed s.outcome ≡ false → AreUnfailed (map staged_of (xs ++ s ∷ []))
+pub unfailed-more : (xs : List StagedPair) (s : StagedPair) → AreUnfailed (map staged_of xs) → is_failed s.outcome ≡ false → AreUnfailed (map staged_of (xs ++ s ∷ []))
 unfailed-more xs s none item l q = rw (map-append staged_of xs (s ∷ []), look-append (map staged_of xs) (map staged_of (s ∷ [])) l q) (go (look (map staged_of xs) l q) (none l q)) where
   last : (b : Bool) → unless_failed (if b then Some (outcome_of s.outcome) else None) ≡ (if b then Some (outcome_of s.outcome) else None)
   last true = item-known s.outcome item

@@ -1,4 +1,5 @@
--- How a sheet keeps its cells: one text, the place where each cell ends, and so many cells to a row.
+-- Definitions of how a sheet keeps its cells: one text, the place where each cell ends, and the
+-- number of cells of a row.
 use Rattle.std.specs.Prelude.{◌≡◌, ◌≤◌, ◌<◌, ◌^◌, ℕ, zero, suc, List, [], ◌∷◌, length, take, drop, slice_range, IsUtf8, ⊤}
 use Rattle.load_memory.specs.Rows.{SheetOf, DraftOf}
 
@@ -7,7 +8,7 @@ unfoldable pub cut : List ℕ → ℕ → List ℕ → List (List ℕ)
 cut text start [] = []
 cut text start (end ∷ ends) = slice_range text start end ∷ cut text end ends
 
--- where the text with this index starts
+-- gives where the text with this index starts
 unfoldable pub start_at : ℕ → List ℕ → ℕ → ℕ
 start_at start ends zero = start
 start_at start [] (suc i) = start
@@ -18,12 +19,12 @@ unfoldable pub IsCut : List ℕ → ℕ → List ℕ → Type 0
 IsCut text start [] = start ≡ length text
 IsCut text start (end ∷ ends) = (start ≤ end) × IsUtf8 (drop end text) × IsCut text end ends
 
--- so many pieces of one width
+-- `n` pieces of one width
 unfoldable pub pieces : ℕ → ℕ → List (List ℕ) → List (List (List ℕ))
 pieces width zero cells = []
 pieces width (suc n) cells = take width cells ∷ pieces width n (drop width cells)
 
--- what follows those pieces
+-- gives what follows those pieces
 unfoldable pub beyond : ℕ → ℕ → List (List ℕ) → List (List ℕ)
 beyond width zero cells = cells
 beyond width (suc n) cells = beyond width n (drop width cells)
@@ -47,7 +48,7 @@ sheet_of width rows cells = record {
   rows = pieces width rows (drop width cells);
 }
 
--- the cells of so many columns and rows are there, and the rows can be counted in 32 bits
+-- the cells of `width` columns and `rows` rows are there, and the rows can be counted in 32 bits
 pub record HasSheet (width rows : ℕ) (cells : List (List ℕ)) : Type 0 where
   pub header : width ≤ length cells
   pub whole : HasPieces width rows (drop width cells)

@@ -1,4 +1,4 @@
--- What contracts see of an item and of an outcome.
+-- Definitions of what contracts see of an item and of an outcome.
 use Rattle.std.specs.Prelude.{ℕ, Bool, false, true, List, string_bytes}
 use Rattle.load_memory.specs.Rows.{RowOf}
 use Rattle.load_memory.specs.declared.outcome.Item.{Item}
@@ -25,7 +25,7 @@ outcome_of (outcome.Rows r) = known (rows r.items)
 outcome_of (outcome.KeyFault t) = known (key_fault (string_bytes t))
 outcome_of (outcome.BatchFault t) = batch_fault (string_bytes t)
 
--- whether the batch failed as a whole
+-- tells whether the batch failed as a whole
 abbrev pub is_failed : Outcome → Bool
 is_failed (outcome.Rows r) = false
 is_failed (outcome.KeyFault t) = false

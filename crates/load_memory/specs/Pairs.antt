@@ -14,7 +14,7 @@ pub record PairOf : Type 0 where
 abbrev pub pair_of : ℕ → KeyOf → OutcomeOf → PairOf
 pair_of loader key outcome = record { loader = loader; key = key; outcome = outcome }
 
--- what contracts see of a memory: the mode of each loader, and the pairs in no order that means anything
+-- says what contracts see of a memory: the mode of each loader, and the pairs in no order that means anything
 pub record MemoryOf : Type 0 where
   pub modes : List KeyMode
   pub pairs : List PairOf
@@ -47,7 +47,7 @@ IsWithout names old new = (loader : ℕ) (key : KeyOf) → look new loader key �
 abbrev pub is_key : ℕ → KeyOf → ℕ → KeyOf → Bool
 is_key at cached loader key = (at == loader) && same_key cached key
 
--- what is known, unless the batch failed as a whole
+-- gives what is known, unless the batch failed as a whole
 abbrev pub unless_failed : Option OutcomeOf → Option OutcomeOf
 unless_failed None = None
 unless_failed (Some (known item)) = Some (known item)
@@ -55,12 +55,14 @@ unless_failed (Some (batch_fault text)) = None
 
 -- the second is the map of the first without batch faults
 abbrev pub IsUnfailed : List PairOf → List PairOf → Type 0
-IsUnfailed old new = (loader : ℕ) (key : KeyOf) → look new loader key ≡ unless_failed (look old loader key)
+IsUnfailed old new = (loader : ℕ) (key : KeyOf)
+    → look new loader key ≡ unless_failed (look old loader key)
 
--- the same of one loader's pairs alone
+-- says the same of one loader's pairs alone
 abbrev pub IsUnfailedAt : ℕ → List PairOf → List PairOf → Type 0
 IsUnfailedAt at old new = (loader : ℕ) (key : KeyOf) → look new loader key ≡ (if at == loader then unless_failed (look old loader key) else look old loader key)
 
 -- the last is the map of the first with those of some more pairs whose keys are absent, of equal keys the first
 abbrev pub IsWith : List PairOf → List PairOf → List PairOf → Type 0
-IsWith old more new = (loader : ℕ) (key : KeyOf) → look new loader key ≡ option_or (look old loader key) (look more loader key)
+IsWith old more new = (loader : ℕ) (key : KeyOf)
+    → look new loader key ≡ option_or (look old loader key) (look more loader key)

@@ -1,4 +1,4 @@
--- What contracts see of a reply, and the pairs that it holds.
+-- Definitions of what contracts see of a reply, and the pairs that it holds.
 use Rattle.std.specs.Prelude.{ℕ, List, [], ◌∷◌, ◌++◌, map}
 use Rattle.load_memory.specs.Keys.{KeyOf, key_of, folded, mode_at}
 use Rattle.load_memory.specs.Outcomes.{OutcomeOf, outcome_of}

@@ -1,4 +1,4 @@
--- What contracts see of a shelf and its receipts.
+-- Definitions of what contracts see of a shelf and its receipts.
 use Rattle.boxcar.specs.Table.{Shows}
 use Rattle.load_memory.specs.Replies.{ReplyOf, reply_of}
 use Rattle.load_memory.specs.declared.shelf.Receipt.{Receipt}

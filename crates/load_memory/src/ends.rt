@@ -2,13 +2,12 @@
 ghost use Rattle.std.specs.Prelude.{◌≡◌, ◌<◌, ◌++◌, ◌∷◌, ◌^◌, [], OnOk, OnErr, IfOk, get_or, length};
 ghost use Rattle.load_memory.specs.Ends.{places_of};
 
-use crate::no_memory::NoMemory;
-use std::alloc::Global;
+use std::alloc::{AllocError, Global};
 use std::marker::Model;
 
-/// How the places are kept.
+/// Says how the places are kept.
 #[derive(Drop)]
-enum Places {
+enum EndOffsets {
     Narrow(Vec<u32>),
     Wide(Vec<usize>),
 }
@@ -16,7 +15,7 @@ enum Places {
 /// Places in a text, in order. A contract sees them as a list of numbers.
 #[derive(Drop)]
 pub(crate) struct Ends {
-    places: Places,
+    places: EndOffsets,
 }
 
 impl Model for Ends {
@@ -34,17 +33,17 @@ impl Ends {
         ensures { result ≡ [] }
     {
         Ends {
-            places: Places::Narrow(Vec::new(alloc)),
+            places: EndOffsets::Narrow(Vec::new(alloc)),
         }
     }
 
-    /// How many places there are.
+    /// Returns how many places there are.
     pub(crate) fn len(&self) -> usize
         ensures { result ≡ length self.now }
     {
         match &self.places {
-            Places::Narrow(places) => places.len(),
-            Places::Wide(places) => places.len(),
+            EndOffsets::Narrow(places) => places.len(),
+            EndOffsets::Wide(places) => places.len(),
         }
     }
 
@@ -54,13 +53,13 @@ impl Ends {
         ensures { result ≡ get_or self.now i 0 }
     {
         match &self.places {
-            Places::Narrow(places) => places[i] as usize,
-            Places::Wide(places) => places[i],
+            EndOffsets::Narrow(places) => places[i] as usize,
+            EndOffsets::Wide(places) => places[i],
         }
     }
 
     /// Adds a place at the end.
-    pub(crate) fn push(&mut self, place: usize) -> Result<(), NoMemory>
+    pub(crate) fn push(&mut self, place: usize) -> Result<(), AllocError>
         ensures ok { OnOk result (self.new ≡ self.old ++ place ∷ []) }
         ensures err { OnErr result (self.new ≡ self.old) }
     {
@@ -68,22 +67,22 @@ impl Ends {
     }
 }
 
-fn add(places: &mut Places, place: usize) -> Result<(), NoMemory>
+fn add(places: &mut EndOffsets, place: usize) -> Result<(), AllocError>
     ensures ok { OnOk result (places_of places.new ≡ places_of places.old ++ place ∷ []) }
     ensures err { OnErr result (places_of places.new ≡ places_of places.old) }
 {
     match places {
-        Places::Narrow(narrow) => match u32::try_from(place) {
+        EndOffsets::Narrow(narrow) => match u32::try_from(place) {
             Ok(place) => narrow.push(place)?,
-            Err(_) => *places = Places::Wide(widened(*narrow.allocator(), narrow, place)?),
+            Err(_) => *places = EndOffsets::Wide(widen_ends(*narrow.allocator(), narrow, place)?),
         },
-        Places::Wide(wide) => wide.push(place)?,
+        EndOffsets::Wide(wide) => wide.push(place)?,
     }
     Ok(())
 }
 
-// The same places in more memory, and one more.
-fn widened(alloc: Global, narrow: &[u32], place: usize) -> Result<Vec<usize>, NoMemory>
+// Returns the same places in more memory, and one more.
+fn widen_ends(alloc: Global, narrow: &[u32], place: usize) -> Result<Vec<usize>, AllocError>
     ensures { IfOk result (λ wide. wide.items ≡ narrow.now ++ place ∷ []) }
 {
     let mut wide = Vec::with_capacity(alloc, narrow.len())?;

@@ -3,18 +3,20 @@ ghost use Rattle.std.specs.Prelude.{◌≡◌, ◌==◌, ◌≤◌, [], take, dr
 ghost use Rattle.load_memory.specs.KeyLists.{shared};
 
 use crate::key::Key;
-use crate::no_memory::NoMemory;
 use std::alloc::{AllocError, Global};
 use std::marker::Model;
 use std::sync::Arc;
 
-/// How many keys a list may have that keeps its room to spare.
+/// Says how many keys a list may have that keeps its room to spare.
 const KEPT_ROOM: usize = 64;
 
 /// Keys that are asked together, in order: a range of a list that its clones and its parts share, so that none of them
 /// takes memory for keys.
 ///
 /// A contract sees the list of the keys.
+///
+/// The orders of a round, their replies and the logs share the list that the wants had. So keys of a round are
+/// copied twice in all: as the memory's cache keys, and as those by which the wants find duplicates.
 #[derive(Debug, Drop)]
 pub struct Keys {
     // none where no key is
@@ -35,7 +37,7 @@ impl Model for Keys {
     ghost invariant = { λ k. IsRange k.from k.to (shared k.list) };
 }
 
-// The same list once more, in no memory.
+// Returns the same list once more, in no memory.
 fn shared_again(list: &Option<Arc<Vec<Key>>>) -> Result<Option<Arc<Vec<Key>>>, AllocError>
     ensures { IfOk result (λ again. shared again ≡ shared list.now) }
 {
@@ -58,7 +60,7 @@ impl Keys {
     }
 
     /// All keys of a list, which it takes over. A long one gives back its room to spare.
-    pub fn from_vec(keys: Vec<Key>) -> Result<Keys, NoMemory>
+    pub fn from_vec(keys: Vec<Key>) -> Result<Keys, AllocError>
         ensures { IfOk result (λ all. all ≡ keys.items) }
     {
         if keys.is_empty() {
@@ -88,14 +90,14 @@ impl Keys {
         }
     }
 
-    /// How many keys there are.
+    /// Returns how many keys there are.
     pub fn len(&self) -> usize
         ensures { result ≡ length self.now }
     {
         self.to - self.from
     }
 
-    /// Whether there is no key.
+    /// Tells whether there is no key.
     pub fn is_empty(&self) -> bool
         ensures { result ≡ (length self.now == 0) }
     {
@@ -104,7 +106,7 @@ impl Keys {
 
     /// Takes the first `at` keys off, and leaves those that follow. Only a list with 2^63 owners has no room for one
     /// more; then nothing is taken off.
-    pub fn split_to(&mut self, at: usize) -> Result<Keys, NoMemory>
+    pub fn split_to(&mut self, at: usize) -> Result<Keys, AllocError>
         requires { at ≤ length self.old }
         ensures first { IfOk result (λ first. first ≡ take at self.old) }
         ensures rest { OnOk result (self.new ≡ drop at self.old) }

@@ -3,37 +3,41 @@ ghost use Rattle.std.specs.Prelude.{IsTrue, ◌↔◌, ◌≡◌, ◌==◌, ◌<
 ghost use Rattle.load_memory.specs.Keys.{borrowed_of, cache_of, folded, mode_at};
 ghost use Rattle.load_memory.specs.Outcomes.{known, outcome_of, item_of};
 ghost use Rattle.load_memory.specs.Pairs.{pair_of, look, primed, IsSameMap, AreApart, IsWithout, is_key, IsUnfailed, IsUnfailedAt, IsWith};
-ghost use Rattle.load_memory.specs.Parts.{staged_of};
+ghost use Rattle.load_memory.specs.LoaderMemories.{staged_of};
 ghost use Rattle.load_memory.specs.Replies.{reply_of, pairs_of};
 ghost use Rattle.load_memory.specs.Shelves.{IsOn, shown};
 
 use crate::key::{CacheKey, KeyMode, KeyRef};
-use crate::no_memory::NoMemory;
+use crate::loader_memory::{
+    LoaderMemory, StagedPair, at_place, drop_failed_of, find, put_absent, take_out,
+};
 use crate::outcome::{Item, Outcome};
-use crate::part::{Part, Staged, at_place, drop_failed_of, find, put_absent, take_out};
 use crate::probe::Probe;
 use crate::reply::Reply;
 use crate::shelf::{Receipt, Shelf};
-use crate::store::{clear_parts, counts_of, has_failed, make_room, put_all, stage, stage_owned};
+use crate::store::{clear_loaders, counts_of, has_failed, make_room, put_all, stage, stage_owned};
 use indexmap::IndexMap;
-use std::alloc::Global;
+use std::alloc::{AllocError, Global};
 use std::marker::Model;
 
-/// What is known of the keys of each loader. A contract sees the loaders' modes and the pairs.
+/// Holds what is known of the keys of each loader. A contract sees the loaders' modes and the pairs.
 ///
 /// Look-ups go by a hash whose seed is fixed.
+///
+/// Keys that were made to collide can slow look-ups. Nothing defends against that, since keys come from the
+/// operator's tables and bindings, or from a request of bounded length.
 #[derive(Drop)]
 pub struct Memory {
     modes: Vec<KeyMode>,
-    parts: Vec<Part>,
+    parts: Vec<LoaderMemory>,
     count: usize,
-    // whether some pair may be that of a batch that failed as a whole
+    // tells whether some pair may be that of a batch that failed as a whole
     failed: bool,
 }
 
 impl Model for Memory {
     ghost use Rattle.load_memory.specs.Pairs.{MemoryOf};
-    ghost use Rattle.load_memory.specs.Parts.{pairs_from, AreParts};
+    ghost use Rattle.load_memory.specs.LoaderMemories.{pairs_from, AreParts};
 
     ghost Value = { MemoryOf };
 
@@ -44,7 +48,7 @@ impl Model for Memory {
 
 impl Memory {
     /// An empty memory. Its loaders are numbered from 0 in the order of their modes.
-    pub fn new(alloc: Global, modes: Vec<KeyMode>) -> Result<Memory, NoMemory>
+    pub fn new(alloc: Global, modes: Vec<KeyMode>) -> Result<Memory, AllocError>
         ensures { IfOk result (λ m. m ≡ record { modes = modes.items; pairs = [] }) }
     {
         let mut parts = Vec::with_capacity(alloc, modes.len())?;
@@ -59,14 +63,14 @@ impl Memory {
         })
     }
 
-    /// How each loader compares its keys, in order of number.
+    /// Returns how each loader compares its keys, in order of number.
     pub fn modes(&self) -> &[KeyMode]
         ensures { result.now ≡ self.now.modes }
     {
         self.modes.as_slice()
     }
 
-    /// How a loader compares its keys.
+    /// Returns how a loader compares its keys.
     pub fn mode(&self, loader: usize) -> KeyMode
         requires { loader < length self.now.modes }
         ensures { slice_get self.now.modes loader ≡ Some result }
@@ -74,7 +78,7 @@ impl Memory {
         self.modes[loader]
     }
 
-    /// What is known of a loader's key.
+    /// Returns what is known of a loader's key.
     pub fn get(&self, loader: usize, key: &CacheKey) -> Option<&Outcome>
         requires { loader < length self.now.modes }
         ensures { option_map outcome_of (option_copied result)
@@ -83,30 +87,37 @@ impl Memory {
         self.parts[loader].get(key)
     }
 
-    /// What is known of a loader's key, as [`get`](Memory::get) tells it of the key's cache key. A key that follows the one that
-    /// the probe found before, in the order in which they were stored, is found without its hash.
+    /// Returns what is known of a loader's key, as [`get`](Memory::get) tells it of the key's cache key. A key that follows the one
+    /// that the probe found before, in the order in which they were stored, is found without its hash.
+    ///
+    /// # Errors
+    ///
+    /// When out of memory, the memory is as it was, and the probe may be used again.
     pub fn look_up(
         &self,
         alloc: Global,
         probe: &mut Probe,
         loader: usize,
         key: KeyRef<'_>,
-    ) -> Result<Option<&Outcome>, NoMemory>
+    ) -> Result<Option<&Outcome>, AllocError>
         requires { loader < length self.now.modes }
         ensures { IfOk result (λ outcome. option_map outcome_of (option_copied outcome)
             ≡ look self.now.pairs loader (folded (mode_at self.now.modes loader) (borrowed_of key.entry))) }
     {
         let mode = self.mode(loader);
         let part = &self.parts[loader];
+        if part.is_empty() {
+            return Ok(None);
+        }
         let place = probe.place(loader);
         if let Some(outcome) = at_place(part, place, mode, key) {
-            probe.found(loader, place);
+            probe.note_found(loader, place);
             return Ok(Some(outcome));
         }
         probe.key.set(alloc, key, mode)?;
         match find(part, &probe.key) {
             Some((place, outcome)) => {
-                probe.found(loader, place);
+                probe.note_found(loader, place);
                 Ok(Some(outcome))
             }
             None => Ok(None),
@@ -121,7 +132,7 @@ impl Memory {
         self.count
     }
 
-    /// Whether nothing is known of any key.
+    /// Tells whether nothing is known of any key.
     pub fn is_empty(&self) -> bool
         ensures { IsTrue result ↔ (self.now.pairs ≡ []) }
     {
@@ -130,9 +141,16 @@ impl Memory {
 
     /// Adds an item for a loader's key. Returns true if the key was absent. If it was there, its outcome stays
     /// and nothing changes.
-    pub fn prime(&mut self, loader: usize, key: CacheKey, item: Item) -> Result<bool, NoMemory>
+    ///
+    /// At 2^64 - 1 pairs it is out of memory, since one more couldn't be counted.
+    ///
+    /// # Errors
+    ///
+    /// When out of memory, the memory is equal to what it was (`kept`).
+    pub fn prime(&mut self, loader: usize, key: CacheKey, item: Item) -> Result<bool, AllocError>
         requires { loader < length self.old.modes }
-        ensures found { IfOk result (λ added. added ≡ is_none (look self.old.pairs loader (cache_of key))) }
+        ensures found { IfOk result (λ added.
+            added ≡ is_none (look self.old.pairs loader (cache_of key))) }
         ensures pairs { OnOk result (IsSameMap self.new.pairs
             (primed self.old.pairs (pair_of loader (cache_of key) (known (item_of item))))) }
         ensures modes { self.new.modes ≡ self.old.modes }
@@ -141,7 +159,7 @@ impl Memory {
         if self.parts[loader].contains_key(&key) {
             return Ok(false);
         }
-        let count = self.count.checked_add(1).ok_or(NoMemory)?;
+        let count = self.count.checked_add(1).ok_or(AllocError)?;
         put_absent(&mut self.parts[loader], key, Outcome::from(item))?;
         self.count = count;
         Ok(true)
@@ -175,7 +193,7 @@ impl Memory {
     pub fn forget_all(&mut self)
         ensures { self.new ≡ record { modes = self.old.modes; pairs = [] } }
     {
-        clear_parts(&mut self.parts);
+        clear_loaders(&mut self.parts);
         self.count = 0;
         self.failed = false;
     }
@@ -204,8 +222,12 @@ impl Memory {
     }
 
     /// Adds those pairs of replies whose keys are absent, one reply after another; of equal keys the first
-    /// counts. When out of memory, no pair is added.
-    pub fn keep(&mut self, replies: &[Reply]) -> Result<(), NoMemory>
+    /// counts.
+    ///
+    /// # Errors
+    ///
+    /// When out of memory, every key is known or not as before, with the same outcome (`kept`, `modes`).
+    pub fn keep(&mut self, replies: &[Reply]) -> Result<(), AllocError>
         requires { All (λ (r : Reply). r.loader < length self.old.modes) replies.now }
         ensures pairs { OnOk result (IsWith self.old.pairs
             (pairs_of self.old.modes (map reply_of replies.now)) self.new.pairs) }
@@ -220,7 +242,11 @@ impl Memory {
     }
 
     /// As [`keep`](Memory::keep), but takes the replies by value. It copies no outcome. The replies are gone even when out of memory.
-    pub fn keep_owned(&mut self, replies: Vec<Reply>) -> Result<(), NoMemory>
+    ///
+    /// # Errors
+    ///
+    /// Those of [`keep`](Memory::keep). The replies are gone even then.
+    pub fn keep_owned(&mut self, replies: Vec<Reply>) -> Result<(), AllocError>
         requires { All (λ (r : Reply). r.loader < length self.old.modes) replies.items }
         ensures pairs { OnOk result (IsWith self.old.pairs
             (pairs_of self.old.modes (map reply_of replies.items)) self.new.pairs) }
@@ -235,7 +261,11 @@ impl Memory {
     }
 
     /// Adds the pairs of the replies that receipts of this shelf show, as [`keep`](Memory::keep) does.
-    pub fn index(&mut self, shelf: &Shelf, receipts: &[Receipt]) -> Result<(), NoMemory>
+    ///
+    /// # Errors
+    ///
+    /// Those of [`keep`](Memory::keep).
+    pub fn index(&mut self, shelf: &Shelf, receipts: &[Receipt]) -> Result<(), AllocError>
         requires shelf { All (IsOn shelf.now) receipts.now }
         requires loaders { All (λ r. (shown r).loader < length self.old.modes) receipts.now }
         ensures pairs { OnOk result (IsWith self.old.pairs
@@ -251,14 +281,15 @@ impl Memory {
         self.store(pairs)
     }
 
-    fn store(&mut self, pairs: Vec<Staged>) -> Result<(), NoMemory>
-        requires { All (λ (s : Staged). s.loader < length self.old.modes) pairs.items }
-        ensures pairs { OnOk result (IsWith self.old.pairs (map staged_of pairs.items) self.new.pairs) }
+    fn store(&mut self, pairs: Vec<StagedPair>) -> Result<(), AllocError>
+        requires { All (λ (s : StagedPair). s.loader < length self.old.modes) pairs.items }
+        ensures pairs { OnOk result
+            (IsWith self.old.pairs (map staged_of pairs.items) self.new.pairs) }
         ensures modes { self.new.modes ≡ self.old.modes }
         ensures kept { OnErr result (IsSameMap self.new.pairs self.old.pairs) }
     {
         if self.count.checked_add(pairs.len()).is_none() {
-            return Err(NoMemory);
+            return Err(AllocError);
         }
         let counts = counts_of(*pairs.allocator(), &pairs, self.parts.len())?;
         make_room(&mut self.parts, &counts)?;

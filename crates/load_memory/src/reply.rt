@@ -1,4 +1,4 @@
-//! What came of one order.
+//! Replies: what came of one order.
 use crate::keys::Keys;
 use crate::outcome::Outcome;
 

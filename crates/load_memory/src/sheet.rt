@@ -7,11 +7,10 @@ ghost use Rattle.load_memory.specs.Cells.{start_at};
 ghost use Rattle.load_memory.specs.Rows.{IsRectangular, draft_with_names, draft_with_row};
 
 use crate::ends::Ends;
-use crate::no_memory::NoMemory;
-use std::alloc::Global;
+use std::alloc::{AllocError, Global};
 use std::marker::Model;
 
-// Where the text that ends at the place of this index starts.
+// Returns where the text that ends at the place of this index starts.
 fn start_of(ends: &Ends, i: usize) -> usize
     requires { i < length ends.now }
     ensures { result ≡ start_at 0 ends.now i }
@@ -69,7 +68,7 @@ impl Cells {
         &self.text.as_str()[start..end]
     }
 
-    fn push(&mut self, text: &str) -> Result<(), NoMemory>
+    fn push(&mut self, text: &str) -> Result<(), AllocError>
         ensures ok { OnOk result (self.new ≡ self.old ++ text.now ∷ []) }
         ensures err { OnErr result (self.new ≡ self.old) }
     {
@@ -115,7 +114,7 @@ impl SheetBuilder {
         }
     }
 
-    /// How many columns there are.
+    /// Returns how many columns there are.
     pub fn width(&self) -> usize
         ensures { result ≡ length self.now.names }
     {
@@ -123,10 +122,15 @@ impl SheetBuilder {
     }
 
     /// Adds a column at the right. All columns come before the first field.
-    pub fn add_column(&mut self, name: &str) -> Result<(), NoMemory>
+    ///
+    /// # Errors
+    ///
+    /// When out of memory, what is built is equal to what it was (`err`).
+    pub fn add_column(&mut self, name: &str) -> Result<(), AllocError>
         requires no_row { self.old.rows ≡ [] }
         requires no_field { self.old.begun ≡ [] }
-        ensures ok { OnOk result (self.new ≡ record self.old { names = self.old.names ++ name.now ∷ [] }) }
+        ensures ok { OnOk result
+            (self.new ≡ record self.old { names = self.old.names ++ name.now ∷ [] }) }
         ensures err { OnErr result (self.new ≡ self.old) }
     {
         self.cells.push(name)?;
@@ -135,8 +139,13 @@ impl SheetBuilder {
     }
 
     /// Adds a field to the row that was begun, or begins one.
-    pub fn add_field(&mut self, text: &str) -> Result<(), NoMemory>
-        ensures ok { OnOk result (self.new ≡ record self.old { begun = self.old.begun ++ text.now ∷ [] }) }
+    ///
+    /// # Errors
+    ///
+    /// When out of memory, what is built is equal to what it was (`err`).
+    pub fn add_field(&mut self, text: &str) -> Result<(), AllocError>
+        ensures ok { OnOk result
+            (self.new ≡ record self.old { begun = self.old.begun ++ text.now ∷ [] }) }
         ensures err { OnErr result (self.new ≡ self.old) }
     {
         self.cells.push(text)?;
@@ -165,6 +174,9 @@ impl SheetBuilder {
 /// A header and rows of fields, each row as wide as the header.
 ///
 /// A contract sees it as the list of its column names and the list of its rows.
+///
+/// All cells are one text and one list of ends, of four bytes each while the text is below 4 GiB and of eight
+/// beyond. A clone of a row is one more count on the sheet, and a count that would reach 2^63 is out of memory.
 #[derive(Drop)]
 pub struct Sheet {
     cells: Cells,
@@ -184,14 +196,14 @@ impl Model for Sheet {
 }
 
 impl Sheet {
-    /// How many columns there are.
+    /// Returns how many columns there are.
     pub fn width(&self) -> usize
         ensures { result ≡ length self.now.names }
     {
         self.width
     }
 
-    /// How many rows there are.
+    /// The number of rows.
     pub fn len(&self) -> u32
         ensures count { result ≡ length self.now.rows }
         ensures rectangular { IsRectangular self.now }
@@ -199,7 +211,7 @@ impl Sheet {
         self.rows
     }
 
-    /// Whether there is no row.
+    /// Tells whether there is no row.
     pub fn is_empty(&self) -> bool
         ensures { result ≡ (length self.now.rows == 0) }
     {

@@ -3,15 +3,17 @@ ghost use Rattle.std.specs.Prelude.{◌≡◌, IfOk, IfErr};
 ghost use Rattle.load_memory.specs.Replies.{reply_of};
 ghost use Rattle.load_memory.specs.Shelves.{IsOn, shown};
 
-use crate::no_memory::NoMemory;
 use crate::reply::Reply;
 use boxcar::Pushed;
-use std::alloc::Global;
+use std::alloc::{AllocError, Global};
 use std::sync::Wait;
 
 /// A place for the replies of a round, which all workers of the round fill at the same time through a `&`.
 ///
 /// It only grows, and a reply stays where it was put, so readers take no lock.
+///
+/// A receipt is the token of a push, which says what is at its place for good. A reply leaves the shelf with
+/// the shelf alone, so [`index`](crate::Memory::index) copies outcomes.
 #[derive(Drop)]
 pub struct Shelf {
     replies: boxcar::Vec<Reply>,
@@ -25,7 +27,7 @@ pub struct Receipt {
 
 impl Shelf {
     /// A shelf with no replies.
-    pub fn new(alloc: Global) -> Result<Shelf, NoMemory> {
+    pub fn new(alloc: Global) -> Result<Shelf, AllocError> {
         let replies = boxcar::Vec::new(alloc)?;
         Ok(Shelf { replies })
     }

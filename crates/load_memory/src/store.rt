@@ -1,16 +1,22 @@
 //! Storing many pairs, all or none.
+//!
+//! The pairs of a round are gathered and room is made in each loader's part, so that storing can't fail. When
+//! memory ran out, pairs may lie in another order, and the map is as it was.
 ghost use Rattle.std.specs.Prelude.{◌≡◌, ◌<◌, ◌≤◌, ◌+◌, false, ℕ, [], All, map, length, IfOk, OnOk, slice_index};
 ghost use Rattle.load_memory.specs.Pairs.{IsSameMap, IsWith};
-ghost use Rattle.load_memory.specs.Parts.{HaveOwnKeys, HaveRoom, room_at, count_at, pairs_from, staged_of, AreUnfailed, AddsReply};
+ghost use Rattle.load_memory.specs.LoaderMemories.{HaveOwnKeys, HaveRoom, room_at, count_at, pairs_from, staged_of, AreUnfailed, AddsReply};
 
 use crate::key::{KeyMode, cache_key};
-use crate::no_memory::NoMemory;
-use crate::part::{Part, Staged, put};
+use crate::loader_memory::{LoaderMemory, StagedPair, put};
 use crate::reply::Reply;
-use std::alloc::Global;
+use std::alloc::{AllocError, Global};
 
 /// Adds the pairs of a reply, place by place, to those that are to be stored.
-pub(crate) fn stage(pairs: &mut Vec<Staged>, mode: KeyMode, reply: &Reply) -> Result<(), NoMemory>
+pub(crate) fn stage(
+    pairs: &mut Vec<StagedPair>,
+    mode: KeyMode,
+    reply: &Reply,
+) -> Result<(), AllocError>
     ensures { OnOk result (AddsReply mode reply.now pairs.old.items pairs.new.items) }
 {
     let alloc = *pairs.allocator();
@@ -20,7 +26,7 @@ pub(crate) fn stage(pairs: &mut Vec<Staged>, mode: KeyMode, reply: &Reply) -> Re
         let Some(outcome) = outcomes.next() else {
             return Ok(());
         };
-        pairs.push(Staged {
+        pairs.push(StagedPair {
             loader: reply.loader,
             key: cache_key(alloc, key, mode)?,
             outcome: outcome.clone()?,
@@ -31,10 +37,10 @@ pub(crate) fn stage(pairs: &mut Vec<Staged>, mode: KeyMode, reply: &Reply) -> Re
 
 /// Adds the pairs of a reply that is handed over, as [`stage`] does. It copies no outcome.
 pub(crate) fn stage_owned(
-    pairs: &mut Vec<Staged>,
+    pairs: &mut Vec<StagedPair>,
     mode: KeyMode,
     reply: Reply,
-) -> Result<(), NoMemory>
+) -> Result<(), AllocError>
     ensures { OnOk result (AddsReply mode reply pairs.old.items pairs.new.items) }
 {
     let Reply {
@@ -50,7 +56,7 @@ pub(crate) fn stage_owned(
         let Some(outcome) = outcomes.next() else {
             return Ok(());
         };
-        pairs.push(Staged {
+        pairs.push(StagedPair {
             loader,
             key: cache_key(alloc, key, mode)?,
             outcome,
@@ -59,8 +65,8 @@ pub(crate) fn stage_owned(
     Ok(())
 }
 
-/// Whether some of the pairs are of a batch that failed as a whole.
-pub(crate) fn has_failed(pairs: &[Staged]) -> bool
+/// Tells whether some of the pairs are of a batch that failed as a whole.
+pub(crate) fn has_failed(pairs: &[StagedPair]) -> bool
     ensures { result ≡ false → AreUnfailed (map staged_of pairs.now) }
 {
     for pair in pairs {
@@ -71,13 +77,13 @@ pub(crate) fn has_failed(pairs: &[Staged]) -> bool
     false
 }
 
-/// How many of the pairs are of each of so many loaders.
+/// The number of the pairs of each of the loaders below `loaders`.
 pub(crate) fn counts_of(
     alloc: Global,
-    pairs: &[Staged],
+    pairs: &[StagedPair],
     loaders: usize,
-) -> Result<Vec<usize>, NoMemory>
-    requires { All (λ (s : Staged). s.loader < loaders) pairs.now }
+) -> Result<Vec<usize>, AllocError>
+    requires { All (λ (s : StagedPair). s.loader < loaders) pairs.now }
     ensures lined_up { IfOk result (λ v. length v.items ≡ loaders) }
     ensures counts { IfOk result (λ v. (loader : ℕ) → loader < loaders
         → slice_index v.items loader ≡ count_at loader pairs.now) }
@@ -91,7 +97,7 @@ pub(crate) fn counts_of(
 
 /// Makes room for this many more pairs in each part. The parts keep the same pairs, even when out of
 /// memory.
-pub(crate) fn make_room(parts: &mut Vec<Part>, counts: &[usize]) -> Result<(), NoMemory>
+pub(crate) fn make_room(parts: &mut Vec<LoaderMemory>, counts: &[usize]) -> Result<(), AllocError>
     requires lined_up { length counts.now ≡ length parts.old.items }
     requires own_keys { HaveOwnKeys parts.old.items }
     ensures lined_up { length parts.new.items ≡ length parts.old.items }
@@ -108,7 +114,7 @@ pub(crate) fn make_room(parts: &mut Vec<Part>, counts: &[usize]) -> Result<(), N
 }
 
 /// Takes the pairs out of each part.
-pub(crate) fn clear_parts(parts: &mut Vec<Part>)
+pub(crate) fn clear_loaders(parts: &mut Vec<LoaderMemory>)
     ensures lined_up { length parts.new.items ≡ length parts.old.items }
     ensures own_keys { HaveOwnKeys parts.new.items }
     ensures pairs { pairs_from 0 parts.new.items ≡ [] }
@@ -120,20 +126,21 @@ pub(crate) fn clear_parts(parts: &mut Vec<Part>)
 
 /// Stores the pairs whose keys are absent, of equal keys the first, where there is room for all. Gives
 /// how many it stored.
-pub(crate) fn put_all(parts: &mut Vec<Part>, pairs: Vec<Staged>) -> usize
+pub(crate) fn put_all(parts: &mut Vec<LoaderMemory>, pairs: Vec<StagedPair>) -> usize
     requires room { HaveRoom parts.old.items pairs.items }
-    requires loaders { All (λ (s : Staged). s.loader < length parts.old.items) pairs.items }
+    requires loaders { All (λ (s : StagedPair). s.loader < length parts.old.items) pairs.items }
     requires own_keys { HaveOwnKeys parts.old.items }
     ensures lined_up { length parts.new.items ≡ length parts.old.items }
     ensures own_keys { HaveOwnKeys parts.new.items }
     ensures pairs { IsWith (pairs_from 0 parts.old.items) (map staged_of pairs.items)
         (pairs_from 0 parts.new.items) }
-    ensures count { length (pairs_from 0 parts.new.items) ≡ length (pairs_from 0 parts.old.items) + result }
+    ensures count { length (pairs_from 0 parts.new.items)
+        ≡ length (pairs_from 0 parts.old.items) + result }
     ensures most { result ≤ length pairs.items }
 {
     let mut added = 0;
     for pair in pairs {
-        let Staged {
+        let StagedPair {
             loader,
             key,
             outcome,

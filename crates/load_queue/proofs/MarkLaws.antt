@@ -8,7 +8,7 @@ use Rattle.std.proofs.lemmas.Bool.{eq-eqb, ne_eqb}
 use Rattle.load_memory.specs.Keys.{KeyOf}
 use Rattle.load_queue.specs.Loaders.{AskedOf, marked, entered}
 use Rattle.load_queue.specs.Logs.{asked_of, IsLoader}
-use Rattle.load_queue.specs.declared.loader.Asked.{Asked}
+use Rattle.load_queue.specs.declared.loader.LogEntry.{LogEntry}
 
 heads : {X : Type 0} (x y : X) (xs ys : List X) → x ∷ xs ≡ y ∷ ys → x ≡ y
 heads x y xs ys e = cc e
@@ -17,7 +17,7 @@ tails : {X : Type 0} (x y : X) (xs ys : List X) → x ∷ xs ≡ y ∷ ys → xs
 tails x y xs ys e = cc e
 
 -- one entry more is marked
-pub mark-one : (round i n : ℕ) (es : List Asked) (all : List AskedOf) (e x : Asked) → n ≡ suc i → i < length es → e ≡ get_or es i e → asked_of x ≡ marked round (asked_of e)
+pub mark-one : (round i n : ℕ) (es : List LogEntry) (all : List AskedOf) (e x : LogEntry) → n ≡ suc i → i < length es → e ≡ get_or es i e → asked_of x ≡ marked round (asked_of e)
     → map asked_of es ≡ map (marked round) (take i all) ++ drop i all → map asked_of (slice_set es i x) ≡ map (marked round) (take n all) ++ drop n all
 mark-one round i n [] all e x next lt at is h = absurd (omega arith)
 mark-one round zero n (e0 ∷ es) [] e x next lt at is h = absurd (cc h)
@@ -31,14 +31,14 @@ mark-one round (suc i) n (e0 ∷ es) (a ∷ all) e x next lt at is h =
     rw (next, first) (ap (λ xs. marked round a ∷ xs) (mark-one round i (suc i) es all e x refl (omega arith) at is rest))
 
 -- an entry of another round stays
-pub mark-none : (round i n : ℕ) (es : List Asked) (all : List AskedOf) (e : Asked) → n ≡ suc i → i < length es → e ≡ get_or es i e → (e.round ≡ round → ⊥)
+pub mark-none : (round i n : ℕ) (es : List LogEntry) (all : List AskedOf) (e : LogEntry) → n ≡ suc i → i < length es → e ≡ get_or es i e → (e.round ≡ round → ⊥)
     → map asked_of es ≡ map (marked round) (take i all) ++ drop i all → map asked_of es ≡ map (marked round) (take n all) ++ drop n all
 mark-none round i n es all e next lt at other h =
     let same : slice_set es i e ≡ es = ap (λ x. slice_set es i x) at ∙ set-get_or es i e in
     ap (map asked_of) (sym same) ∙ mark-one round i n es all e e next lt at (rw (ne_eqb e.round round other) refl) h
 
 -- an entry of this round is marked
-pub mark-this : (round i n : ℕ) (es : List Asked) (all : List AskedOf) (e x : Asked) → n ≡ suc i → i < length es → e ≡ get_or es i e → e.round ≡ round → asked_of x ≡ record (asked_of e) { stored = true }
+pub mark-this : (round i n : ℕ) (es : List LogEntry) (all : List AskedOf) (e x : LogEntry) → n ≡ suc i → i < length es → e ≡ get_or es i e → e.round ≡ round → asked_of x ≡ record (asked_of e) { stored = true }
     → map asked_of es ≡ map (marked round) (take i all) ++ drop i all → map asked_of (slice_set es i x) ≡ map (marked round) (take n all) ++ drop n all
 mark-this round i n es all e x next lt at own is h = mark-one round i n es all e x next lt at (rw (eq-eqb e.round round own) is) h
 
@@ -49,7 +49,7 @@ none-marked round (x ∷ xs) h =
     let first : marked round x ≡ x = rw (ne_eqb x.round round (h 0 x (omega arith))) refl in
     ap (λ y. y ∷ map (marked round) xs) first ∙ ap (λ ys. x ∷ ys) (none-marked round xs (λ k d lt. h (suc k) d (omega (arith, lt))))
 
--- what stands at a place doesn't depend on what would stand past the end
+-- an element at a place doesn't depend on the default that stands for one past the end
 pub same-there : {X : Type 0} (i : ℕ) (xs : List X) (a b : X) → i < length xs → get_or xs i a ≡ get_or xs i b
 same-there i [] a b lt = absurd (omega arith)
 same-there zero (x ∷ xs) a b lt = refl
@@ -68,7 +68,7 @@ rounds-kept P round (x ∷ xs) h (suc k) d lt = rounds-kept P round xs (λ k d l
 pub earlier-other : (latest round : ℕ) (xs : List AskedOf) → latest ≤ round → All (λ (a : AskedOf). a.round < latest) xs → All (λ (a : AskedOf). a.round ≡ round → ⊥) xs
 earlier-other latest round xs le h k d lt e = absurd (omega (arith, h k d lt, e, le))
 
--- what a loader keeps of its log is kept by marking
+-- a loader's log stays lawful where it is marked
 pub is-loader-marked : (limit : Option ℕ) (latest earlier round : ℕ) (log : List AskedOf) → IsLoader limit latest earlier log → IsLoader limit latest earlier (map (marked round) log)
 is-loader-marked limit latest earlier round log h = record {
   limited = h.limited;

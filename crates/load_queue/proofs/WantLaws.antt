@@ -7,7 +7,7 @@ use Rattle.load_memory.specs.declared.key.CacheKey.{CacheKey}
 use Rattle.load_memory.specs.declared.key.Key.{Key}
 use Rattle.load_memory.specs.declared.key.KeyMode.{KeyMode}
 use Rattle.load_memory.specs.contracts.key.CacheKeyPartialEq.TheImpl as cache_eq
-use Rattle.load_memory.proofs.PartLaws.{cache-eq}
+use Rattle.load_memory.proofs.LoaderMemoryLaws.{cache-eq}
 use Rattle.load_queue.specs.Wanted.{WantedOf, nothing_wanted, is_wanted, with_key, keys_wanted, is_key_wanted, with_wanted, taken_from}
 
 any-map : {A B : Type 0} (f : A → Bool) (g : B → Bool) (h : A → B) → ((x : A) → f x ≡ g (h x)) → (xs : List A) → list_any f xs ≡ list_any g (map h xs)

@@ -1,4 +1,4 @@
--- What a source may answer, and the outcomes that follow.
+-- Definitions of what a source may answer, and the outcomes that follow.
 use Rattle.std.specs.Prelude.{ℕ, List, ◌++◌, map, length, replicate, ◌==◌, if◌then◌else◌, codes}
 use Rattle.std.specs.Fmt.{decimal}
 use Rattle.load_memory.specs.Outcomes.{ItemOf, OutcomeOf, known, batch_fault}
@@ -8,7 +8,7 @@ pub data AnswerOf : Type 0 where
   given : List ItemOf → AnswerOf
   failed : List ℕ → AnswerOf
 
--- what is said of n items for m keys
+-- gives what is said of n items for m keys
 abbrev pub wrong_count : ℕ → ℕ → List ℕ
 wrong_count n m = codes "the source answered " ++ decimal n ++ codes " results for " ++ decimal m ++ codes " keys"
 

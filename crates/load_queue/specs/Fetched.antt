@@ -1,4 +1,4 @@
--- What a call of `fetch` says of the source, and what follows from its answer.
+-- Definitions of what a call of `fetch` says of the source, and what follows from its answer.
 use Rattle.std.specs.Prelude.{◌≡◌, ℕ, List, map, string_bytes, Result, Ok, Err, ⊤}
 use Rattle.std.specs.Global.{Vec}
 use Rattle.load_memory.specs.Outcomes.{OutcomeOf, item_of}

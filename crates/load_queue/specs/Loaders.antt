@@ -1,10 +1,10 @@
--- What contracts see of a loader and of the entries of its log.
+-- Definitions of what contracts see of a loader and of the entries of its log.
 use Rattle.std.specs.Prelude.{◌≡◌, ◌==◌, ◌<◌, ◌⊎◌, ◌+◌, ◌++◌, ℕ, Bool, true, false, List, [], ◌∷◌, Option, Some, None, map, length, if◌then◌else◌}
 use Rattle.load_memory.specs.Keys.{KeyOf}
 use Rattle.load_memory.specs.declared.key.KeyMode.{KeyMode}
 use Rattle.load_queue.specs.Batches.{batches}
 
--- what was asked together in a round, and whether its outcomes were stored
+-- says what was asked together in a round, and whether its outcomes were stored
 pub record AskedOf : Type 0 where
   pub round : ℕ
   pub keys : List KeyOf
@@ -20,7 +20,7 @@ pub record LoaderOf (S : Type 0) : Type 0 where
   pub mode : KeyMode
   pub limit : Option ℕ
   pub log : List AskedOf
-  -- how many orders were ever made of it, which nothing resets
+  -- says how many orders were ever made of it, which nothing resets
   pub orders : ℕ
 
 -- the loader once these keys are asked in this round: its log has gained an entry for each batch, and each is counted
@@ -43,13 +43,14 @@ unasked l = record l { log = [] }
 abbrev pub as_made : {S : Type 0} → LoaderOf S → LoaderOf S
 as_made l = record l { log = []; orders = 0 }
 
--- every order that was made of the loader in between stands in its log: the count of orders, which nothing resets, grew by as many as the log did
+-- every order that was made of the loader in between stands in its log: the count of orders, which nothing resets, grew by as many as the
+-- log did
 pub record IsOnRecord {S : Type 0} (old new : LoaderOf S) : Type 0 where
   pub made : ℕ
   pub orders : new.orders ≡ old.orders + made
   pub entries : length new.log ≡ length old.log + made
 
--- the same of each loader of a list
+-- says the same of each loader of a list
 abbrev pub AreOnRecord : {S : Type 0} → List (LoaderOf S) → List (LoaderOf S) → Type 0
 AreOnRecord [] [] = Unit {0}
 AreOnRecord [] (new ∷ later) = ⊥

@@ -1,4 +1,4 @@
--- What contracts see of an order.
+-- Definitions of what contracts see of an order.
 use Rattle.std.specs.Prelude.{ℕ, List, Option, map}
 use Rattle.load_memory.specs.Keys.{KeyOf}
 use Rattle.load_queue.specs.Batches.{batches}

@@ -1,4 +1,4 @@
--- What a reply to an order says.
+-- Definitions of what a reply to an order says.
 use Rattle.std.specs.Prelude.{◌≡◌, List, length, slice_get, Some}
 use Rattle.load_memory.specs.Keys.{KeyOf}
 use Rattle.load_memory.specs.Replies.{ReplyOf}

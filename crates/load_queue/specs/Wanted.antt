@@ -4,7 +4,7 @@ use Rattle.std.specs.List.{list_any}
 use Rattle.load_memory.specs.Keys.{KeyOf, folded, same_key}
 use Rattle.load_memory.specs.declared.key.KeyMode.{KeyMode}
 
--- what is wanted of one loader, whose keys are compared by its mode
+-- says what is wanted of one loader, whose keys are compared by its mode
 pub record WantedOf : Type 0 where
   pub mode : KeyMode
   pub keys : List KeyOf
@@ -16,14 +16,14 @@ nothing_wanted mode = record { mode = mode; keys = [] }
 abbrev pub HaveSeen : KeyMode → List KeyOf → List KeyOf → Type 0
 HaveSeen mode seen keys = (seen ≡ map (folded mode) keys) ⊎ ((seen ≡ []) × (length keys ≡ 1))
 
--- whether a key with an equal cache key is wanted
+-- tells whether a key with an equal cache key is wanted
 abbrev pub is_wanted : WantedOf → KeyOf → Bool
 is_wanted w key = list_any (λ k. same_key (folded w.mode key) (folded w.mode k)) w.keys
 
 abbrev pub with_key : WantedOf → KeyOf → WantedOf
 with_key w key = if is_wanted w key then w else record { mode = w.mode; keys = w.keys ++ key ∷ [] }
 
--- the same of all loaders, by the loader's number
+-- gives the same of all loaders, by the loader's number
 abbrev pub keys_wanted : List WantedOf → ℕ → List KeyOf
 keys_wanted [] loader = []
 keys_wanted (w ∷ ws) zero = w.keys
@@ -39,7 +39,7 @@ with_wanted [] loader key = []
 with_wanted (w ∷ ws) zero key = with_key w key ∷ ws
 with_wanted (w ∷ ws) (suc loader) key = w ∷ with_wanted ws loader key
 
--- what is wanted once the keys of a loader are taken
+-- gives what is wanted once the keys of a loader are taken
 abbrev pub taken_from : List WantedOf → ℕ → List WantedOf
 taken_from [] loader = []
 taken_from (w ∷ ws) zero = nothing_wanted w.mode ∷ ws

@@ -6,16 +6,17 @@ ghost use Rattle.load_queue.specs.Orders.{order_of};
 ghost use Rattle.load_queue.specs.Loaders.{entered};
 ghost use Rattle.load_queue.specs.Logs.{asked_of};
 
-use crate::loader::Asked;
+use crate::loader::LogEntry;
 use crate::order::Order;
-use load_memory::{Key, Keys, NoMemory};
-use std::alloc::Global;
+use load_memory::{Key, Keys};
+use std::alloc::{AllocError, Global};
 
 /// The most keys that one piece may have.
 pub(crate) fn piece_length(limit: Option<u32>, keys: &[Key]) -> usize
     requires { (n : ℕ) → limit ≡ Some n → 0 < n }
     ensures positive { 0 < result }
-    ensures pieces { pieces (length keys.now) result (map key_of keys.now) ≡ batches limit (map key_of keys.now) }
+    ensures pieces { pieces (length keys.now) result (map key_of keys.now)
+        ≡ batches limit (map key_of keys.now) }
 {
     match limit {
         Some(limit) => limit as usize,
@@ -29,7 +30,7 @@ pub(crate) fn cut_orders(
     loader: usize,
     keys: Vec<Key>,
     most: usize,
-) -> Result<Vec<Order>, NoMemory>
+) -> Result<Vec<Order>, AllocError>
     requires { 0 < most }
     ensures { IfOk result (λ orders. orders.items
         ≡ map (order_of loader) (pieces (length keys.items) most (map key_of keys.items))) }
@@ -51,13 +52,13 @@ pub(crate) fn log_entries(
     alloc: Global,
     round: u32,
     orders: &[Order],
-) -> Result<Vec<Asked>, NoMemory>
+) -> Result<Vec<LogEntry>, AllocError>
     ensures { IfOk result (λ entries. map asked_of entries.items
         ≡ map (entered round) (map (λ o. o.keys) orders.now)) }
 {
     let mut entries = Vec::with_capacity(alloc, orders.len())?;
     for order in orders {
-        entries.push(Asked {
+        entries.push(LogEntry {
             round,
             keys: order.shared_keys()?,
             stored: false,
@@ -66,8 +67,8 @@ pub(crate) fn log_entries(
     Ok(entries)
 }
 
-/// The same keys once more.
-pub(crate) fn copy_of(alloc: Global, keys: &[Key]) -> Result<Vec<Key>, NoMemory>
+/// Returns the same keys once more.
+pub(crate) fn copy_of(alloc: Global, keys: &[Key]) -> Result<Vec<Key>, AllocError>
     ensures { IfOk result (λ copy. map key_of copy.items ≡ map key_of keys.now) }
 {
     let mut copy = Vec::with_capacity(alloc, keys.len())?;

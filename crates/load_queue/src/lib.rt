@@ -6,7 +6,7 @@
 //! - Only [`Loader::cut`], which [`Loader::cut_owned`] does by value, makes an [`Order`]. It enters
 //!   each in the loader's log and counts it, and nothing resets the count.
 //! - A source is private to its loader (no clause says it). An order reaches it by [`Order::run`]
-//!   alone; [`Order::answered`] reaches none. Both spend the order.
+//!   alone; [`Order::reply_with`] reaches none. Both spend the order.
 //! - So a call over which a loader's count grew by as many as its log made no other order; where it
 //!   was handed none either, it asked the source nothing else.
 //! - A reply of `run` has, place by place, an answer that the source may give for the order's keys.
@@ -20,8 +20,8 @@ pub mod per_key;
 pub mod source;
 pub mod wants;
 
-pub use loader::{Asked, Loader, MAX_LIMIT, QueueFault};
+pub use loader::{Loader, LogEntry, MAX_LIMIT, QueueFault};
 pub use order::Order;
 pub use per_key::PerKey;
-pub use source::{Asks, FetchFault, Source};
+pub use source::{FetchFault, LocalSource, Source};
 pub use wants::Wants;

@@ -8,12 +8,12 @@ ghost use Rattle.load_queue.specs.Orders.{orders_of};
 
 use crate::cut::{copy_of, cut_orders, log_entries, piece_length};
 use crate::order::Order;
-use load_memory::{Key, KeyMode, Keys, NoMemory};
+use load_memory::{Key, KeyMode, Keys};
 use std::alloc::{AllocError, Global};
 use std::marker::Model;
 use thiserror::Error;
 
-/// Why a loader can't be made.
+/// Says why a loader can't be made.
 #[derive(Clone, Copy, Debug, PartialEq, Eq, Error)]
 pub enum QueueFault {
     /// The limit is 0 or over 65,535.
@@ -38,17 +38,17 @@ impl From<AllocError> for QueueFault {
 /// The largest batch limit.
 pub const MAX_LIMIT: u32 = 65_535;
 
-/// How many entries a log may have for its memory to be kept when the loader starts again.
+/// Says how many entries a log may have for its memory to be kept when the loader starts again.
 const KEPT_ENTRIES: usize = 64;
 
-/// What was asked of a loader's source in one batch.
+/// Holds what was asked of a loader's source in one batch.
 #[derive(Debug, Drop)]
-pub struct Asked {
+pub struct LogEntry {
     /// The round, from 1.
     pub round: u32,
     /// The keys, in the order in which they were asked.
     pub keys: Keys,
-    /// Whether the outcomes were stored. It is false while the order is out, and stays so where its
+    /// Tells whether the outcomes were stored. It is false while the order is out, and stays so where its
     /// round was lost.
     pub stored: bool,
 }
@@ -63,11 +63,11 @@ pub struct Loader<S> {
     source: S,
     mode: KeyMode,
     limit: Option<u32>,
-    log: Vec<Asked>,
+    log: Vec<LogEntry>,
     // the latest round of the log, and how many entries stand before its first
     latest: u32,
     earlier: usize,
-    // how many orders were ever made of it; nothing resets it
+    // says how many orders were ever made of it; nothing resets it
     orders: u64,
 }
 
@@ -91,8 +91,9 @@ impl<S> Model for Loader<S> {
 }
 
 // Marks those entries of the log that are of this round, none of which stands before the first to look at.
-fn mark(log: &mut Vec<Asked>, first: usize, round: u32)
-    requires { All (λ (a : AskedOf). a.round ≡ round → ⊥) (take first (map asked_of log.old.items)) }
+fn mark(log: &mut Vec<LogEntry>, first: usize, round: u32)
+    requires { All (λ (a : AskedOf). a.round ≡ round → ⊥)
+        (take first (map asked_of log.old.items)) }
     ensures { map asked_of log.new.items ≡ map (marked round) (map asked_of log.old.items) }
 {
     for index in first..log.len() {
@@ -113,7 +114,7 @@ impl<S> Loader<S> {
         self.name.as_str()
     }
 
-    /// How the loader's keys are compared. A contract also sees here that no loader's limit is 0.
+    /// Returns how the loader's keys are compared. A contract also sees here that no loader's limit is 0.
     pub fn mode(&self) -> KeyMode
         ensures value { result ≡ self.now.mode }
         ensures limited { (n : ℕ) → self.now.limit ≡ Some n → 0 < n }
@@ -121,14 +122,14 @@ impl<S> Loader<S> {
         self.mode
     }
 
-    /// What was asked, oldest first.
-    pub fn log(&self) -> &[Asked]
+    /// Returns what was asked, oldest first.
+    pub fn log(&self) -> &[LogEntry]
         ensures { map asked_of result.now ≡ self.now.log }
     {
         self.log.as_slice()
     }
 
-    /// How many orders were ever made of it. It counts batches over the loader's whole life:
+    /// Returns how many orders were ever made of it. It counts batches over the loader's whole life:
     /// [`restart`](Loader::restart) doesn't reset it.
     pub fn orders(&self) -> u64
         ensures { result ≡ self.now.orders }
@@ -147,7 +148,7 @@ impl<S> Loader<S> {
     ///
     /// `loader` is the number that the orders and their replies get. When out of memory, or if the count of orders
     /// would overflow, the loader and its log are as they were.
-    pub fn cut(&mut self, loader: usize, round: u32, keys: &[Key]) -> Result<Vec<Order>, NoMemory>
+    pub fn cut(&mut self, loader: usize, round: u32, keys: &[Key]) -> Result<Vec<Order>, AllocError>
         ensures orders { IfOk result (λ orders. orders.items
             ≡ orders_of loader self.old.limit (map key_of keys.now)) }
         ensures pieces { IfOk result (λ orders.
@@ -167,7 +168,7 @@ impl<S> Loader<S> {
         loader: usize,
         round: u32,
         keys: Vec<Key>,
-    ) -> Result<Vec<Order>, NoMemory>
+    ) -> Result<Vec<Order>, AllocError>
         ensures orders { IfOk result (λ orders. orders.items
             ≡ orders_of loader self.old.limit (map key_of keys.items)) }
         ensures pieces { IfOk result (λ orders.
@@ -183,7 +184,7 @@ impl<S> Loader<S> {
         let count = self
             .orders
             .checked_add(entries.len() as u64)
-            .ok_or(NoMemory)?;
+            .ok_or(AllocError)?;
         let earlier = self.log.len();
         self.log.append(&mut entries)?;
         self.orders = count;

@@ -5,13 +5,13 @@ ghost use Rattle.load_queue.specs.Fetched.{Follow};
 
 use crate::loader::Loader;
 use crate::outcomes::outcomes_of_answer;
-use crate::source::{Asks, FetchFault};
-use load_memory::{Item, Key, Keys, NoMemory, Reply};
-use std::alloc::Global;
+use crate::source::{FetchFault, LocalSource};
+use load_memory::{Item, Key, Keys, Reply};
+use std::alloc::{AllocError, Global};
 use std::marker::Model;
 
 /// A batch that is still to be asked: keys for one call of a loader's source. Only
-/// [`Loader::cut`](crate::Loader::cut) makes one, and [`run`](Order::run) or [`answered`](Order::answered)
+/// [`Loader::cut`](crate::Loader::cut) makes one, and [`run`](Order::run) or [`reply_with`](Order::reply_with)
 /// spends it.
 ///
 /// A contract sees its loader's number and its keys.
@@ -43,7 +43,7 @@ impl Order {
     }
 
     /// Its keys once more, in the list that it shares.
-    pub(crate) fn shared_keys(&self) -> Result<Keys, NoMemory>
+    pub(crate) fn shared_keys(&self) -> Result<Keys, AllocError>
         ensures { IfOk result (λ keys. map key_of keys ≡ self.now.keys) }
     {
         Ok(self.keys.clone()?)
@@ -69,7 +69,11 @@ impl Order {
     /// `the source answered N results for M keys`.
     ///
     /// When out of memory, here or in the source, the order is spent and there is no reply.
-    pub fn run<S: Asks>(self, alloc: Global, loaders: &[Loader<S>]) -> Result<Reply, NoMemory>
+    pub fn run<S: LocalSource>(
+        self,
+        alloc: Global,
+        loaders: &[Loader<S>],
+    ) -> Result<Reply, AllocError>
         requires { self.loader < length loaders.now }
         ensures { IfOk result (λ reply. IsReplyTo S.may_tell loaders.now self (reply_of reply)) }
     {
@@ -89,14 +93,15 @@ impl Order {
     ///
     /// When out of memory, or if the answer is [`NoMemory`](FetchFault::NoMemory), the order is spent and there is no
     /// reply.
-    pub fn answered(
+    pub fn reply_with(
         self,
         alloc: Global,
         answer: Result<Vec<Item>, FetchFault>,
-    ) -> Result<Reply, NoMemory>
+    ) -> Result<Reply, AllocError>
         ensures loader { IfOk result (λ reply. reply.loader ≡ self.loader) }
         ensures keys { IfOk result (λ reply. (reply_of reply).keys ≡ self.keys) }
-        ensures outcomes { IfOk result (λ reply. Follow (reply_of reply).outcomes answer (length self.keys)) }
+        ensures outcomes { IfOk result (λ reply.
+            Follow (reply_of reply).outcomes answer (length self.keys)) }
     {
         let Order { loader, keys } = self;
         let outcomes = outcomes_of_answer(alloc, answer, keys.len())?;

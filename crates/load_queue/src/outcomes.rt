@@ -5,15 +5,15 @@ ghost use Rattle.load_queue.specs.Answers.{wrong_count};
 ghost use Rattle.load_queue.specs.Fetched.{Follow};
 
 use crate::source::FetchFault;
-use load_memory::{Item, NoMemory, Outcome};
-use std::alloc::Global;
+use load_memory::{Item, Outcome};
+use std::alloc::{AllocError, Global};
 
-/// The outcomes of so many keys that a source's answer gives.
+/// The outcomes of `keys` keys that a source's answer gives.
 pub(crate) fn outcomes_of_answer(
     alloc: Global,
     answer: Result<Vec<Item>, FetchFault>,
     keys: usize,
-) -> Result<Vec<Outcome>, NoMemory>
+) -> Result<Vec<Outcome>, AllocError>
     ensures { IfOk result (λ v. Follow (map outcome_of v.items) answer keys) }
 {
     match answer {
@@ -23,12 +23,12 @@ pub(crate) fn outcomes_of_answer(
             outcomes_of_fault(alloc, text.as_str(), keys)
         }
         Err(FetchFault::Failed(text)) => outcomes_of_fault(alloc, text.as_str(), keys),
-        Err(FetchFault::NoMemory) => Err(NoMemory),
+        Err(FetchFault::NoMemory) => Err(AllocError),
     }
 }
 
 /// Each item as the outcome of its key.
-fn outcomes_of_items(alloc: Global, items: Vec<Item>) -> Result<Vec<Outcome>, NoMemory>
+fn outcomes_of_items(alloc: Global, items: Vec<Item>) -> Result<Vec<Outcome>, AllocError>
     ensures { IfOk result (λ v. map outcome_of v.items ≡ map known (map item_of items.items)) }
 {
     let mut outcomes = Vec::with_capacity(alloc, items.len())?;
@@ -38,8 +38,8 @@ fn outcomes_of_items(alloc: Global, items: Vec<Item>) -> Result<Vec<Outcome>, No
     Ok(outcomes)
 }
 
-/// One fault as the outcome of each of so many keys.
-fn outcomes_of_fault(alloc: Global, text: &str, keys: usize) -> Result<Vec<Outcome>, NoMemory>
+/// One fault as the outcome of each of `keys` keys.
+fn outcomes_of_fault(alloc: Global, text: &str, keys: usize) -> Result<Vec<Outcome>, AllocError>
     ensures { IfOk result (λ v. map outcome_of v.items ≡ replicate keys (batch_fault text.now)) }
 {
     let mut outcomes = Vec::with_capacity(alloc, keys)?;
@@ -49,8 +49,8 @@ fn outcomes_of_fault(alloc: Global, text: &str, keys: usize) -> Result<Vec<Outco
     Ok(outcomes)
 }
 
-/// What is said of a list of items that hasn't one item for each key.
-fn wrong_count_text(alloc: Global, items: usize, keys: usize) -> Result<String, NoMemory>
+/// Returns what is said of a list of items that hasn't one item for each key.
+fn wrong_count_text(alloc: Global, items: usize, keys: usize) -> Result<String, AllocError>
     ensures { IfOk result (λ t. string_bytes t ≡ wrong_count items keys) }
 {
     Ok(format!(in alloc; "the source answered {items} results for {keys} keys")?)

@@ -13,13 +13,13 @@ use load_memory::KeyMode;
 pub trait PerKey: Source {
     ghost use Rattle.load_memory.specs.declared.key.KeyMode.{KeyMode};
 
-    // how it compares keys
+    // the mode in which it compares keys
     ghost mode_of: { Self → KeyMode };
 
     // the item of a key
     ghost item_at: { Self → KeyOf → ItemOf };
 
-    /// How it compares keys.
+    /// Returns how it compares keys.
     fn mode(&self) -> KeyMode
         ensures { result ≡ mode_of self.now };
 

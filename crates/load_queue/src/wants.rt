@@ -4,21 +4,21 @@ ghost use Rattle.load_memory.specs.Keys.{key_of, cache_of, folded};
 ghost use Rattle.load_queue.specs.Wanted.{nothing_wanted, HaveSeen, is_wanted, with_key, keys_wanted, is_key_wanted, with_wanted, taken_from};
 
 use indexmap::IndexSet;
-use load_memory::{CacheKey, Key, KeyMode, Memory, NoMemory, cache_key};
-use std::alloc::Global;
+use load_memory::{CacheKey, Key, KeyMode, Memory, cache_key};
+use std::alloc::{AllocError, Global};
 use std::marker::Model;
 use std::mem;
 
-/// What is wanted of one loader.
+/// Holds what is wanted of one loader.
 #[derive(Drop)]
-struct Wanted {
+struct WantedKeys {
     mode: KeyMode,
     keys: Vec<Key>,
     // the keys' cache keys, in the same order; none of a first key that is the only one so far
     seen: IndexSet<CacheKey>,
 }
 
-impl Model for Wanted {
+impl Model for WantedKeys {
     ghost use Rattle.std.specs.Prelude.{map};
     ghost use Rattle.load_memory.specs.Keys.{key_of, cache_of};
     ghost use Rattle.load_queue.specs.Wanted.{WantedOf, HaveSeen};
@@ -36,10 +36,11 @@ fn see_first(
     mode: KeyMode,
     keys: &[Key],
     seen: &mut IndexSet<CacheKey>,
-) -> Result<(), NoMemory>
+) -> Result<(), AllocError>
     requires some { 0 < length keys.now }
     requires seen { HaveSeen mode (map cache_of seen.old.keys) (map key_of keys.now) }
-    ensures all { OnOk result (map cache_of seen.new.keys ≡ map (folded mode) (map key_of keys.now)) }
+    ensures all { OnOk result
+        (map cache_of seen.new.keys ≡ map (folded mode) (map key_of keys.now)) }
     ensures kept { OnErr result (HaveSeen mode (map cache_of seen.new.keys) (map key_of keys.now)) }
 {
     if seen.is_empty() {
@@ -49,11 +50,11 @@ fn see_first(
     Ok(())
 }
 
-impl Wanted {
-    fn new(alloc: Global, mode: KeyMode) -> Wanted
+impl WantedKeys {
+    fn new(alloc: Global, mode: KeyMode) -> WantedKeys
         ensures { result ≡ nothing_wanted mode }
     {
-        Wanted {
+        WantedKeys {
             mode,
             keys: Vec::new(alloc),
             seen: IndexSet::new(alloc),
@@ -72,12 +73,12 @@ impl Wanted {
         ensures after { self.new ≡ nothing_wanted self.old.mode }
     {
         let alloc = *self.keys.allocator();
-        let all = mem::replace(self, Wanted::new(alloc, self.mode));
-        let Wanted { keys, .. } = all;
+        let all = mem::replace(self, WantedKeys::new(alloc, self.mode));
+        let WantedKeys { keys, .. } = all;
         keys
     }
 
-    fn add(&mut self, key: Key) -> Result<bool, NoMemory>
+    fn add(&mut self, key: Key) -> Result<bool, AllocError>
         ensures added { IfOk result (λ added. added ≡ not (is_wanted self.old (key_of key))) }
         ensures after { OnOk result (self.new ≡ with_key self.old (key_of key)) }
         ensures kept { OnErr result (self.new ≡ self.old) }
@@ -100,9 +101,12 @@ impl Wanted {
 }
 
 /// The keys that are wanted of each loader. A contract sees for each loader its mode and its keys.
+///
+/// The keys stand in a list, since callers read them as a slice, and their cache keys in an ordered set beside
+/// it. Room is made before a key is looked up, so to add a key that is there may be out of memory too.
 #[derive(Drop)]
 pub struct Wants {
-    parts: Vec<Wanted>,
+    parts: Vec<WantedKeys>,
 }
 
 impl Model for Wants {
@@ -116,13 +120,13 @@ impl Model for Wants {
 
 impl Wants {
     /// No wanted keys yet, for the memory's loaders, whose modes say when two keys are the same.
-    pub fn new(alloc: Global, memory: &Memory) -> Result<Wants, NoMemory>
+    pub fn new(alloc: Global, memory: &Memory) -> Result<Wants, AllocError>
         ensures { IfOk result (λ w. w ≡ map nothing_wanted memory.now.modes) }
     {
         let modes = memory.modes();
         let mut parts = Vec::with_capacity(alloc, modes.len())?;
         for mode in modes {
-            parts.push(Wanted::new(alloc, *mode))?;
+            parts.push(WantedKeys::new(alloc, *mode))?;
         }
         Ok(Wants { parts })
     }
@@ -144,12 +148,16 @@ impl Wants {
         self.parts[loader].take_keys()
     }
 
-    /// Adds a key to those that are wanted of a loader. Returns true if no equal cache key was there.
-    /// If one was, the first key stays and nothing changes. When out of memory, the wants are as they
-    /// were.
-    pub fn add(&mut self, loader: usize, key: Key) -> Result<bool, NoMemory>
+    /// Adds a key to those that are wanted of a loader. Returns true if no equal cache key was there. If one
+    /// was, the first key stays and nothing changes.
+    ///
+    /// # Errors
+    ///
+    /// When out of memory, the wants are equal to what they were (`kept`).
+    pub fn add(&mut self, loader: usize, key: Key) -> Result<bool, AllocError>
         requires { loader < length self.old }
-        ensures added { IfOk result (λ added. added ≡ not (is_key_wanted self.old loader (key_of key))) }
+        ensures added { IfOk result (λ added.
+            added ≡ not (is_key_wanted self.old loader (key_of key))) }
         ensures after { OnOk result (self.new ≡ with_wanted self.old loader (key_of key)) }
         ensures loaders { length self.new ≡ length self.old }
         ensures kept { OnErr result (self.new ≡ self.old) }

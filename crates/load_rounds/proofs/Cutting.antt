@@ -125,7 +125,7 @@ module _ {S : Type 0} (round i : ℕ) (keys : ℕ → List KeyOf) (old cur : Lis
       let same : made (orders_by 0 (map rule_of old) (first_keys (i + 1) keys)) ≡ made (orders_by 0 (map rule_of old) (first_keys i keys)) = ap made (more-orders ∙ ap (λ os. orders_by 0 (map rule_of old) (first_keys i keys) ++ os) none ∙ append-nil (orders_by 0 (map rule_of old) (first_keys i keys))) in
       record { loaders = entered-loaders; rounds = omega (arith, was.rounds, same) }
 
--- the same, by what the loader's cut gave
+-- shows the same, by what the loader's cut gave
 pub enters-cut : {S : Type 0} (round i : ℕ) (keys : ℕ → List KeyOf) (old cur : List (LoaderOf S)) (before rounds after : ℕ) → Enters round (first_keys i keys) old cur before rounds → (d x : LoaderOf S) → i < length cur → d ≡ get_or cur i d
     → (ks : List KeyOf) → ks ≡ keys i → x ≡ asked_in d round ks → (more : List OrderOf) → more ≡ orders_of i d.limit ks → ((more ≢ []) × (after ≡ round)) ⊎ ((more ≡ []) × (after ≡ rounds)) → round ≡ before + 1
     → Enters round (first_keys (i + 1) keys) old (slice_set cur i x) before after

@@ -55,7 +55,7 @@ module _ {S : Type 0} (may : S → List KeyOf → AnswerOf → Type 0) where
       let can : may at.0.source o.keys is.answer = rw (← at.2) is.may_be.2 in
       (record { loader = is.loader; keys = is.keys; answer = is.answer; may_be = (at.0, at.1, can); outcomes = is.outcomes }, replies-over old cur same os rs h.1)
 
-  -- after so many rounds
+  -- a state after `rounds` rounds
   pub record InRounds (old cur : StateOf S) (p : Program) (rounds : ℕ) : Type 0 where
     pub log : List (List ReplyOf)
     pub made : MakesRounds may old cur p log

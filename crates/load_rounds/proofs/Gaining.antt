@@ -1,4 +1,4 @@
--- What the logs gain by steps, and which cells are asked so.
+-- Lemmas on what the logs gain by steps, and which cells are asked so.
 use Rattle.std.proofs.Common.{◌≡◌, ◌==◌, ℕ, zero, suc, ◌+◌, Bool, true, false, List, [], ◌∷◌, ◌++◌, map, length, drop, inl, inr, ◌⊎◌, sym, ◌∙◌, ap, refl, Option, Some, None, if◌then◌else◌, arith, append_assoc, eqb-true, ◌<◌}
 use Rattle.std.proofs.lemmas.List.{append-nil, map-append}
 use Rattle.std.specs.Prelude.{slice_get}
@@ -92,7 +92,7 @@ AllGoOn [] = Unit {0}
 AllGoOn (step ∷ steps) = GoesOn step × AllGoOn steps
 
 module _ {S : Type 0} where
-  -- what a loader's log gains by a step
+  -- the entries that a loader's log gains by a step
   abbrev new_entries : Option (LoaderOf S) → Bool → ℕ → List KeyOf → List AskedOf
   new_entries None stored round keys = []
   new_entries (Some l) stored round keys = map (entry stored round) (batches l.limit keys)
@@ -178,7 +178,7 @@ module _ {S : Type 0} (modes : List KeyMode) (n : ℕ) where
     go None = refl
     go (Some l) = ap (entered_cells modes n) (none-stored (s.rounds + 1) (batches l.limit (keys_for n loads)))
 
-  -- what one round asks of a loader is apart
+  -- says what one round asks of a loader is apart
   pub asked-apart : (s : StateOf S) (loads : List Load) (replies : List ReplyOf) (M : Memory) → AreLimited (rules_of s) → AreMissing modes M loads → AreApart (step_cells s (AskedLoads loads replies))
   asked-apart s loads replies M limited lacks = rw (asked-cells s loads replies limited) (go (slice_get s.loaders n)) where
     go : (x : Option (LoaderOf S)) → AreApart (loader_cells x loads)

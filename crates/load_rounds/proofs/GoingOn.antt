@@ -62,7 +62,7 @@ or-left true b h = absurd (cc h)
 or-left false b h = (refl, h)
 
 module _ {P E : Type 0} (program : P → Program) (text_of : P → AnsweredOf → List ℕ) (loaders : P → ℕ) (fits : P → E → MemoryOf → Type 0) where
-  -- the first so many have gone on
+  -- the first `n` have gone on
   abbrev pub FirstGoOn : ℕ → ℕ → MemoryOf → List (PartOf P E) → List (PartOf P E) → Type 0
   FirstGoOn n rounds m [] [] = Unit {0}
   FirstGoOn n rounds m [] (y ∷ ys) = ⊥
@@ -111,7 +111,7 @@ module _ {P E : Type 0} (program : P → Program) (text_of : P → AnsweredOf �
   one-goes-on zero next rounds m (x ∷ xs) (z ∷ ys) d y is lt at h goes = rw is (subst (λ (w : PartOf P E). GoesOn program text_of loaders fits rounds m w y) (at ∙ sym h.0) goes, h.1)
   one-goes-on (suc n) next rounds m (x ∷ xs) (z ∷ ys) d y is lt at h goes = rw is (h.0, one-goes-on n (suc n) rounds m xs ys d y refl (omega (arith, lt)) at h.1 goes)
 
-  -- what is missing for one more
+  -- says what is missing for one more
   pub one-front : (n next rounds : ℕ) (m : MemoryOf) (xs ys : List (PartOf P E)) (d : PartOf P E) → next ≡ suc n → n < length ys → d ≡ get_or ys n d → FirstGoOn n rounds m xs ys
       → fronts program m (take next (plans_in xs)) ≡ fronts program m (take n (plans_in xs)) ++ front m.modes (program d.plan) (look m.pairs)
   one-front n next rounds m [] [] d is lt at h = absurd (omega (arith, lt))
@@ -164,7 +164,7 @@ module _ {P E : Type 0} (program : P → Program) (text_of : P → AnsweredOf �
         | inr other ↦ gone-within (suc n) rounds count m xs ys h.1 (All-tail (λ plan. loaders plan ≤ count) x.plan (plans_in xs) all) R load other
       ]
 
-  -- where each has its answer, nothing is missing
+  -- nothing is missing where each has its answer
   report-none : (rounds : ℕ) (loads : List Load) (old new : Option ReportOf) → TellsAt rounds loads old new → is_none new ≡ false → loads ≡ []
   report-none rounds loads old None h e = absurd (cc e)
   report-none rounds loads old (Some t) h e = h.0
@@ -185,7 +185,7 @@ module _ {P E : Type 0} (program : P → Program) (text_of : P → AnsweredOf �
   pub gone-lacks-none : (rounds : ℕ) (m : MemoryOf) (xs ys : List (PartOf P E)) → GoOn program text_of loaders fits rounds m xs ys → some_unreported ys ≡ false → front m.modes (together (requests program text_of (plans_in xs))) (look m.pairs) ≡ []
   gone-lacks-none rounds m xs ys h e = (front-open m.modes (together (requests program text_of (plans_in xs))) (look m.pairs)).1 (gone-closed 0 rounds m xs ys h e)
 
-  -- where one has no answer, something is missing for it
+  -- something is missing for one that has no answer
   pub front-below : (n rounds : ℕ) (m : MemoryOf) (xs ys : List (PartOf P E)) → GoOn program text_of loaders fits rounds m xs ys → some_unreported ys ≡ true
       → (p : Program) × IsBelow p (items_from n (requests program text_of (plans_in xs))) × (front m.modes p (look m.pairs) ≢ [])
   front-below n rounds m [] [] h e = absurd (cc e)
@@ -203,7 +203,7 @@ module _ {P E : Type 0} (program : P → Program) (text_of : P → AnsweredOf �
       let one = front-below 0 rounds m xs ys h e in
       λ none. one.2 (below-front m.modes ListOf (items_from 0 (requests program text_of (plans_in xs))) one.0 (look m.pairs) one.1 none)
 
--- what was known stays known
+-- a request that was done stays done
 done-later : (loaders : ℕ) (r : RequestOf) (m later : MemoryOf) (report : ReportOf) → IsDone loaders r m report → GrowsTo m later → IsDone loaders r later report
 done-later loaders r m later report done grown =
     let more = reads-more m.modes (look m.pairs) (look later.pairs) grown.pairs in
@@ -290,7 +290,7 @@ pub unreported-begun : {P E : Type 0} (xs : List (PartOf P E)) (plan : P) (progr
 unreported-begun [] plan progress = refl
 unreported-begun (x ∷ xs) plan progress = ap (λ ts. given_to x.report ++ ts) (unreported-begun xs plan progress)
 
--- whether one of the first so many has no answer
+-- the test whether one of the first `next` has no answer, by that of the first `n` and of the next one
 pub unreported-more : {X : Type 0} (f : X → Bool) (n next : ℕ) (xs : List X) (y : X) (b : Bool) → next ≡ suc n → n < length xs → b ≡ list_any f (take n xs) → (b || f y) ≡ list_any f (take next (slice_set xs n y))
 unreported-more f n next [] y b is lt e = absurd (omega (arith, lt))
 unreported-more f zero next (x ∷ xs) y b is lt e = rw (is, e) (or-none (f y))

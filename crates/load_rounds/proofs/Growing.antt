@@ -1,4 +1,4 @@
--- What a session knows grows by each round, and stays when a round is asked.
+-- Lemmas on what a session knows grows by each round, and stays when a round is asked.
 use Rattle.std.proofs.Common.{◌≡◌, List, refl, ap, ◌∙◌}
 use Rattle.load_memory.specs.Keys.{KeyOf}
 use Rattle.load_memory.specs.Pairs.{MemoryOf, look}
@@ -10,7 +10,7 @@ use Rattle.execution.specs.Sessions.{Lost}
 use Rattle.execution.specs.Executes.{GrowsTo}
 use Rattle.load_rounds.specs.Sessions.{SessionOf, StateOf, state_of, rules_of, session_modes, memory_of, after_step}
 use Rattle.load_rounds.specs.Calls.{RoundRan}
-use Rattle.load_rounds.specs.Runs.{received}
+use Rattle.load_rounds.specs.ByHand.{received}
 use Rattle.load_rounds.proofs.Onces.{ran-rules}
 use Rattle.load_rounds.proofs.Runs.{marked-rules, lost-rules}
 
@@ -21,11 +21,11 @@ round-extends : (rules : List RuleOf) (M : Memory) (replies : List ReplyOf) → 
 round-extends rules M replies = λ loader key outcome there. rw there refl
 
 module _ {S : Type 0} where
-  -- what an execution is handed
+  -- says what an execution is handed
   pub memory-is : (s : SessionOf S) (m : MemoryOf) → m.pairs ≡ s.pairs → m.modes ≡ session_modes (state_of s) → m ≡ memory_of s
   memory-is s m pairs modes = λ i. record { modes = modes i; pairs = pairs i }
 
-  -- what is known before is known after it
+  -- says what is known before is known after it
   grows : (old new : SessionOf S) (M : Memory) → rules_of (state_of new) ≡ rules_of (state_of old) → look new.pairs ≡ M → Extends (look old.pairs) M → GrowsTo (memory_of old) (memory_of new)
   grows old new M rules same more = record { modes = ap modes_of rules; pairs = λ loader key outcome there. rw same (more loader key outcome there) }
 

@@ -119,7 +119,7 @@ module _ {S : Type 0} where
   steps-append s (x ∷ xs) ys = steps-append (after_step s x) xs ys
 
   module _ (may : S → List KeyOf → AnswerOf → Type 0) where
-    -- what may be over the loaders as they are may be over them as they were
+    -- says what may be over the loaders as they are may be over them as they were
     over-step : (old cur : List (LoaderOf S)) → SameSources old cur → (rules : List RuleOf) (M : Memory) (step : Step) → IsStep (may_at may cur) rules M step → IsStep (may_at may old) rules M step
     over-step old cur from rules M Forgot h = tt
     over-step old cur from rules M (AskedLoads loads replies) h = (h.0, replies-over may old cur from (round_orders rules loads) replies h.1)

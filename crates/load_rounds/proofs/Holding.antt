@@ -1,4 +1,5 @@
--- What is known after rounds over sources that answer key by key: what asking key by key gives.
+-- Lemmas on what is known after rounds over sources that answer key by key: what asking key by key
+-- gives.
 use Rattle.std.proofs.Common.{◌≡◌, ◌⊎◌, ℕ, Bool, true, false, List, [], ◌∷◌, ◌++◌, map, length, inl, inr, sym, ◌∙◌, ap, refl, Option, Some, None, if◌then◌else◌, eq-eqb}
 use Rattle.std.specs.Option.{option_or}
 use Rattle.std.proofs.lemmas.List.{length-map}

@@ -44,7 +44,7 @@ none-some : {X : Type 0} (a : X) → None ≡ Some a → ⊥
 none-some a e = cc e
 
 module _ {S : Type 0} (may : S → List KeyOf → AnswerOf → Type 0) (item : S → KeyOf → ItemOf) (by_key : (s : S) (keys : List KeyOf) (answer : AnswerOf) → may s keys answer → answer ≡ given (map (item s) keys)) where
-  -- what the source of a number may answer is what its items are, key by key
+  -- the answers that the source of a number may give are those of its items, key by key
   pub may-report : (loaders : List (LoaderOf S)) (loader : ℕ) (keys : List KeyOf) (answer : AnswerOf) → may_at may loaders loader keys answer → key_by_key (item_over item loaders) loader keys answer
   may-report loaders loader keys answer h =
       by_key h.0.source keys answer h.2 ∙ ap (λ (o : Option (LoaderOf S)). given (map (item_of_loader item o) keys)) (sym h.1)

@@ -56,7 +56,7 @@ none-some : (o : Option OutcomeOf) → is_none o ≡ false → IsSome o
 none-some None e = absurd (cc e)
 none-some (Some x) e = refl
 
--- where nothing is missing all are known
+-- all keys are known where nothing is missing
 pub known-already : (modes : List KeyMode) (loader : ℕ) (ks : List KeyOf) (M : Memory) → front_of_keys modes loader ks M ≡ [] → All (λ k. IsSome (read modes M (load_of loader k))) ks
 known-already modes loader ks M none = go ks (none-missing (missing (read modes M) (map (load_of loader) ks)) none) where
   none-missing : (ls : List Load) → firsts modes ls ≡ [] → ls ≡ []

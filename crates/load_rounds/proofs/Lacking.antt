@@ -46,7 +46,7 @@ module _ (R : Reader) (loader : ℕ) (none : List WantedOf) (keys : List KeyOf) 
       let last : missing R (load_of loader k ∷ []) ≡ [] = rw known refl in
       is ∙ sym (ap (wanting none) (one-more ∙ ap (λ ls. missing R (map (load_of loader) keys) ++ ls) last ∙ append-nil (missing R (map (load_of loader) keys))))
 
--- what a look-up gave is what is known
+-- a look-up finds nothing exactly if nothing is known
 pub unknown : (o : Option (Bor Outcome)) (x : Option OutcomeOf) → option_map outcome_of (option_copied o) ≡ x → is_none x ≡ not (is_some o)
 unknown None x e = ap is_none (sym e)
 unknown (Some v) x e = ap is_none (sym e)

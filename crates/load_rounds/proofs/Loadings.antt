@@ -17,7 +17,7 @@ use Rattle.execution.specs.Sessions.{Forgot, Lost}
 use Rattle.load_rounds.specs.Sessions.{SessionOf, StateOf, state_of, rules_of, session_modes, memory_of, after_step, AreNumbered}
 use Rattle.load_rounds.specs.Calls.{load_of, front_at, asked_for, RoundRan, RoundLost, AsksOnce, IsStopped}
 use Rattle.load_rounds.specs.Histories.{any_tell}
-use Rattle.load_rounds.specs.Runs.{received}
+use Rattle.load_rounds.specs.ByHand.{received}
 use Rattle.load_rounds.specs.Loadings.{orders_at, HasAsked, IsLoading, AreToldAt}
 use Rattle.load_rounds.proofs.Numbering.{made-one, replies-before, replies-below, orders-below, orders-loads}
 use Rattle.load_rounds.proofs.Onces.{head-own, asks-none, asks-some, asks-rules, asks-known}
@@ -99,7 +99,7 @@ module _ {S : Type 0} where
   pub told-within : (may : S → List KeyOf → AnswerOf → Type 0) (s : StateOf S) (loader : ℕ) (keys : List KeyOf) (replies : List ReplyOf) → AreToldAt may s loader keys replies → All (λ (r : ReplyOf). r.loader < length s.loaders) replies
   told-within may s loader keys replies told = replies-below (may_at may s.loaders) (length s.loaders) (orders_at s loader keys) replies told (orders-within s loader keys)
 
-  -- what a source may tell is some answer
+  -- an answer that a source may give is some answer
   told-any : (may : S → List KeyOf → AnswerOf → Type 0) (ls : List (LoaderOf S)) (os : List OrderOf) (rs : List ReplyOf) → AreReplies (may_at may ls) os rs → AreReplies (may_at any_tell ls) os rs
   told-any may ls [] [] h = tt
   told-any may ls [] (r ∷ rs) h = absurd h

@@ -28,7 +28,7 @@ wants-front modes own loader ks M wants same is m lt =
 pub wants-size : (own : List KeyMode) (loader : ℕ) (ks : List KeyOf) (M : Memory) (wants : List WantedOf) → wants ≡ wanting (map nothing_wanted own) (missing (read own M) (map (load_of loader) ks)) → length wants ≡ length own
 wants-size own loader ks M wants is = ap length is ∙ length-wanting (map nothing_wanted own) (missing (read own M) (map (load_of loader) ks)) ∙ length-map own nothing_wanted
 
--- what is missing is of this loader
+-- the first load that is missing is of this loader
 pub head-own : (R : Reader) (loader : ℕ) (ks : List KeyOf) → (missing R (map (load_of loader) ks) ≡ []) ⊎ ((k : KeyOf) × (ls : List Load) × (missing R (map (load_of loader) ks) ≡ load_of loader k ∷ ls))
 head-own R loader [] = inl refl
 head-own R loader (k ∷ ks) = go (is_none (R (load_of loader k))) (head-own R loader ks) where

@@ -1,4 +1,4 @@
--- Where a pair of the memory after steps is from.
+-- Lemmas on where a pair of the memory after steps is from.
 use Rattle.std.proofs.Common.{◌≡◌, ◌==◌, ℕ, Bool, true, false, List, [], ◌∷◌, ◌++◌, inl, inr, ◌⊎◌, ◌∙◌, ap, refl, Option, Some, None, if◌then◌else◌}
 use Rattle.std.specs.Option.{option_or}
 use Rattle.load_memory.specs.Keys.{KeyOf}
@@ -84,7 +84,7 @@ module _ (rules : List RuleOf) (loader : ℕ) (key : KeyOf) (o : OutcomeOf) wher
     later (inr (inl h)) = inr (inl (inr h))
     later (inr (inr h)) = inr (inr (more-replies step steps h))
 
--- what was primed was primed by a call
+-- steps of asking prime nothing: a pair that was primed was primed by a call
 asking-primes : (pair : PairOf) (steps : List Step) → AreAsking steps → IsOneOf (Primed pair) steps → ⊥
 asking-primes pair [] h i = i
 asking-primes pair (AskedLoads loads replies ∷ steps) h (inl e) = cc e

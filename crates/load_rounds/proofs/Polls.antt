@@ -4,7 +4,7 @@ use Rattle.std.proofs.lemmas.List.{length-map}
 use Rattle.std.specs.Prelude.{slice_get, string_bytes}
 use Rattle.load_memory.specs.Keys.{KeyOf}
 use Rattle.load_memory.specs.Pairs.{MemoryOf}
-use Rattle.load_memory.specs.declared.no_memory.NoMemory.{NoMemory}
+use Rattle.std.specs.declared.alloc.AllocError.{AllocError}
 use Rattle.load_queue.specs.Answers.{AnswerOf}
 use Rattle.execution.specs.Loads.{read}
 use Rattle.execution.specs.Program.{Program}
@@ -72,8 +72,8 @@ module _ {S : Type 0} (may : S → List KeyOf → AnswerOf → Type 0) where
         (can.2, omega (arith, can.0, size can.2 (state_of s) p rounds made), rw (is, ← same) made)
     from-some over cur n at is can = absurd can
 
-    -- what comes of a future is what comes of it whichever state the rounds so far were made from
-    pub gives-output : (text_of : AnsweredOf → List ℕ) (st : FarOf S E) (cur : StateOf S) (n : ℕ) (out : SessionOf S × Result Answer NoMemory) → begun st ≡ Some cur → n ≡ rounds_of st → CanPoll may fits loaders p st
+    -- a future's output doesn't depend on the state from which the rounds so far were made
+    pub gives-output : (text_of : AnsweredOf → List ℕ) (st : FarOf S E) (cur : StateOf S) (n : ℕ) (out : SessionOf S × Result Answer AllocError) → begun st ≡ Some cur → n ≡ rounds_of st → CanPoll may fits loaders p st
         → ((old : StateOf S) → loaders ≤ length old.loaders → InRounds may old cur p n → Answers may old (state_of out.0) p text_of out.1) → Gives may p text_of st out
     gives-output text_of (handed s) cur n out at is can h = h (state_of s) can (rw is (in-none may (state_of s) cur p (sym (some-is _ _ at))))
     gives-output text_of (polled s rounds progress) cur n out at is can h = λ old made.
@@ -97,7 +97,7 @@ module _ {S : Type 0} (may : S → List KeyOf → AnswerOf → Type 0) where
             (rw (same, counted) answer, tt)
 
       -- the poll at which memory was wanted
-      pub gives-none : (text_of : AnsweredOf → List ℕ) (s : SessionOf S) (fault : NoMemory) → (state_of s ≡ cur) ⊎ RoundLost cur (state_of s) (front (session_modes cur) p cur.memory) → Gives may p text_of st (s, Err fault)
+      pub gives-none : (text_of : AnsweredOf → List ℕ) (s : SessionOf S) (fault : AllocError) → (state_of s ≡ cur) ⊎ RoundLost cur (state_of s) (front (session_modes cur) p cur.memory) → Gives may p text_of st (s, Err fault)
       gives-none text_of s fault end = gives-output text_of st cur n (s, Err fault) at is can go where
         go : (old : StateOf S) → loaders ≤ length old.loaders → InRounds may old cur p n → Answers may old (state_of s) p text_of (Err fault)
         go old enough so =
@@ -108,7 +108,7 @@ module _ {S : Type 0} (may : S → List KeyOf → AnswerOf → Type 0) where
         more old so = in-more may old cur (state_of s) p n next so counted lacks ran
 
         -- one round later memory was wanted
-        pub gives-none-more : (text_of : AnsweredOf → List ℕ) (fault : NoMemory) → Gives may p text_of st (s, Err fault)
+        pub gives-none-more : (text_of : AnsweredOf → List ℕ) (fault : AllocError) → Gives may p text_of st (s, Err fault)
         gives-none-more text_of fault = gives-output text_of st cur n (s, Err fault) at is can go where
           go : (old : StateOf S) → loaders ≤ length old.loaders → InRounds may old cur p n → Answers may old (state_of s) p text_of (Err fault)
           go old enough so = (tt, in-stops may old (state_of s) (state_of s) p next (more old so) (inl refl))
@@ -120,7 +120,7 @@ module _ {S : Type 0} (may : S → List KeyOf → AnswerOf → Type 0) where
             let one = more from.0 from.2 in
             (omega (arith, from.1, size from.0 (state_of s) p next one), fit, from.0, made from.0 (state_of s) p next one)
 
-        pub gives-same : (text_of : AnsweredOf → List ℕ) (x : SessionOf S × Result Answer NoMemory) → Gives may p text_of (polled s next progress) x → Gives may p text_of st x
+        pub gives-same : (text_of : AnsweredOf → List ℕ) (x : SessionOf S × Result Answer AllocError) → Gives may p text_of (polled s next progress) x → Gives may p text_of st x
         gives-same text_of x h = gives-output text_of st cur n x at is can (λ old enough so. h old (made old (state_of s) p next (more old so)))
 
         pub poll-ran : HasLoaders loaders p → AreLimited (rules_of cur) → PollRan may p st (polled s next progress)

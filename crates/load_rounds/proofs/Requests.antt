@@ -68,7 +68,7 @@ module _ {S : Type 0} (may : S → List KeyOf → AnswerOf → Type 0) (old new 
         fewest = h.answers.0.fewest;
       }
 
-  -- what stays after want of memory
+  -- says what stays after want of memory
   pub stops-one : (r : RequestOf) → StopsAnswering may old new (together (r ∷ [])) → StopsAnswering may old new r.program
   stops-one r h =
       let rules : List RuleOf = rules_of old in

@@ -1,4 +1,4 @@
--- What the calls of a run add to what was done since it was begun.
+-- Calls of a run, and what they add to what was done since it was begun.
 use Rattle.std.proofs.Common.{◌≡◌, ◌≢◌, ◌<◌, ◌≤◌, ◌+◌, ℕ, suc, Bool, true, false, List, [], ◌∷◌, ◌++◌, map, length, Option, Some, None, refl, ap, ◌∙◌, sym, arith, inl, inr, ◌⊎◌, Result, Ok, Err}
 use Rattle.std.proofs.lemmas.Bool.{eq-eqb, eqb-true, eqb-false}
 use Rattle.std.proofs.lemmas.List.{length-map}
@@ -25,9 +25,9 @@ use Rattle.load_rounds.specs.Rounds.{Enters}
 use Rattle.load_rounds.specs.Calls.{RoundRan, RoundLost}
 use Rattle.load_rounds.specs.Headline.{asked_steps, Headline, StopsAnswering}
 use Rattle.execution.specs.Executes.{IsTextOf}
-use Rattle.load_rounds.specs.declared.run.Stage.{Stage}
-use Rattle.load_rounds.specs.declared.run.Stage.TheVariants.{Ready, Out, Finished, Failed}
-use Rattle.load_rounds.specs.Runs.{AreReceived, front_in, orders_in, received, IsRound, IsAsked, IsBetween, IsOut, IsRun}
+use Rattle.load_rounds.specs.declared.by_hand.Stage.{Stage}
+use Rattle.load_rounds.specs.declared.by_hand.Stage.TheVariants.{Ready, Out, Finished, Failed}
+use Rattle.load_rounds.specs.ByHand.{AreReceived, front_in, orders_in, received, IsRound, IsAsked, IsBetween, IsOut, IsRun}
 use Rattle.load_rounds.proofs.Following.{SameSources, InRounds, in-more, in-all}
 use Rattle.load_rounds.proofs.Stepping.{made-recorded, end-recorded}
 use Rattle.load_rounds.proofs.Cutting.{rules-logged, logged-same, orders-same, first-some}

@@ -1,4 +1,4 @@
--- What the calls of a run of several plans add to what was done since it was begun.
+-- Calls of a run of several plans, and what they add to what was done since it was begun.
 use Rattle.std.proofs.Common.{◌≡◌, ◌≢◌, ◌+◌, ◌≤◌, ℕ, false, List, [], ◌∷◌, ◌++◌, length, Option, Some, None, is_none, refl, ap, subst, ◌∙◌, sym, ◌⊎◌}
 use Rattle.std.specs.Prelude.{All}
 use Rattle.load_memory.specs.Keys.{KeyOf}
@@ -14,16 +14,16 @@ use Rattle.load_rounds.specs.Sessions.{SessionOf, StateOf, state_of, rules_of, m
 use Rattle.load_rounds.specs.Calls.{RoundLost}
 use Rattle.load_rounds.specs.SharedRounds.{ReportOf, requests, together, AreTexts, SharedHeadline}
 use Rattle.load_rounds.specs.Together.{PartOf, TogetherOf, plans_in, reports_in, given_to, some_unreported, CountRounds, FitsPart, FitParts, GoOn, AreBegun}
-use Rattle.load_rounds.specs.Runs.{front_in, orders_in, received, AreReceived}
+use Rattle.load_rounds.specs.ByHand.{front_in, orders_in, received, AreReceived}
 use Rattle.load_rounds.specs.SharedRuns.{IsRunAll}
-use Rattle.load_rounds.specs.declared.run.Stage.TheVariants.{Ready, Out, Finished, Failed}
+use Rattle.load_rounds.specs.declared.by_hand.Stage.TheVariants.{Ready, Out, Finished, Failed}
 use Rattle.load_rounds.proofs.Following.{InRounds, in-more, in-more-log, in-loaders}
 use Rattle.load_rounds.proofs.GoingOn.{or-left, gone-within}
 use Rattle.load_rounds.proofs.Runs.{between-in, between-stops, out-ran, out-stops}
 use Rattle.load_rounds.proofs.Sharing.{begun-counted, all-counted, all-round-counted, InShared, shared-gone, shared-all}
 
 module _ {P E : Type 0} (program : P → Program) (text_of : P → AnsweredOf → List ℕ) (loaders : P → ℕ) (fits : P → E → MemoryOf → Type 0) where
-  -- what each tells once nothing is missing
+  -- says what each tells once nothing is missing
   pub all-texts : (m : MemoryOf) (ys : List (PartOf P E)) → some_unreported ys ≡ false → FitParts program text_of loaders fits ys m → AreTexts (requests program text_of (plans_in ys)) (read m.modes (look m.pairs)) (reports_in ys)
   all-texts m [] all fit = tt
   all-texts m (y ∷ ys) all fit = go y.report (or-left (is_none y.report) (some_unreported ys) all).0 fit.0 (all-texts m ys (or-left (is_none y.report) (some_unreported ys) all).1 fit.1)

@@ -1,4 +1,5 @@
--- What shared rounds are to each of the requests: its own rounds, and its answer over the last memory.
+-- Lemmas on what shared rounds are to each of the requests: its own rounds, and its answer over the
+-- last memory.
 use Rattle.std.proofs.Common.{◌≡◌, ◌≢◌, ℕ, zero, suc, ◌+◌, ◌≤◌, Bool, true, false, ◌⊎◌, List, [], ◌∷◌, ◌++◌, length, Option, Some, None, is_none, refl, ap, subst, ◌∙◌, sym, arith, inl, inr, length-append}
 use Rattle.std.proofs.Math.Path.{fun_ext}
 use Rattle.std.proofs.lemmas.List.{length-map}
@@ -112,7 +113,7 @@ module _ {P E : Type 0} (program : P → Program) where
         go (Some t) known own (inl e) later = omega (arith, ap (λ q. own_rounds rules q M log) e, own)
         go (Some t) known own (inr rest) later = omega (arith, later rest)
 
-    -- where nothing is missing for all of them, each has its answer
+    -- each has its answer where nothing is missing for any of them
     pub all-report : (rounds : ℕ) (m : MemoryOf) (xs ys : List (PartOf P E)) → GoOn program text_of loaders fits rounds m xs ys → front m.modes (together (requests program text_of (plans_in xs))) (look m.pairs) ≡ [] → some_unreported ys ≡ false
     all-report rounds m xs ys h none = go (some_unreported ys) refl
       where
@@ -121,7 +122,7 @@ module _ {P E : Type 0} (program : P → Program) where
         go false e = e
 
     module _ {S : Type 0} (may : S → List KeyOf → AnswerOf → Type 0) where
-      -- after so many rounds, of which each of them has counted its own
+      -- a state after `rounds` rounds, of which each of them has counted its own
       pub record InShared (plans : List P) (old cur : StateOf S) (parts : List (PartOf P E)) (rounds : ℕ) : Type 0 where
         pub is : InRounds may old cur (together (requests program text_of plans)) rounds
         pub counts : CountRounds program (rules_of old) (without_failed old.memory) is.log parts

@@ -62,7 +62,7 @@ module _ {S : Type 0} where
         numbered = enters-numbered round before after keys old new next h is.numbered;
       }
 
-  -- the same, once the round is marked
+  -- shows the same, once the round is marked
   module _ (round before after : ℕ) (keys : ℕ → List KeyOf) (old cut new : List (LoaderOf S)) (memory later : MemoryOf) (next : round ≡ before + 1) (is : IsSession old memory before) (h : Enters round keys old cut before after) (marks : new ≡ map (λ l. stored_in l round) cut) where
     pub marked-loaders : new ≡ logged_from 0 true round keys old
     marked-loaders = marks ∙ ap (map (λ l. stored_in l round)) h.loaders ∙ marked-round round before 0 keys old (omega (arith, next)) is.numbered

@@ -1,5 +1,5 @@
--- Whatever the steps, the loaders keep their sources, their modes and their limits. Their logs gain entries until the session
--- starts again, and each order is counted.
+-- Lemmas on whatever the steps, the loaders keep their sources, their modes and their limits. Their logs gain entries until
+-- the session starts again, and each order is counted.
 use Rattle.std.proofs.Common.{true, false, Bool, ◌≡◌, ◌+◌, ℕ, zero, suc, List, [], ◌∷◌, map, length, Some, refl, ap, ◌∙◌, arith, length-append, ◌⊎◌, inl, inr}
 use Rattle.std.proofs.lemmas.List.{length-map}
 use Rattle.std.specs.Prelude.{slice_get}
@@ -21,7 +21,7 @@ use Rattle.load_rounds.proofs.Cutting.{rules-logged}
 use Rattle.load_rounds.proofs.Numbering.{source-at}
 use Rattle.load_rounds.proofs.States.{rules-unasked}
 
--- the same sources, whatever the logs are
+-- both lists have the same sources, whatever the logs are
 abbrev pub SameSources : {S : Type 0} → List (LoaderOf S) → List (LoaderOf S) → Type 0
 SameSources {S} old cur = (i : ℕ) (x : LoaderOf S) → slice_get cur i ≡ Some x → (y : LoaderOf S) × (slice_get old i ≡ Some y) × (x.source ≡ y.source)
 

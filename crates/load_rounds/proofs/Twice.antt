@@ -57,7 +57,7 @@ calls-clear c (call ∷ calls) steps h k =
     let b = either-false (clears_at c call) (list_any (clears_at c) calls) k in
     rw h.2 (none-append c h.0 h.1 (call-clears c call h.0 h.3 b.0) (calls-clear c calls h.1 h.4 b.1))
 
--- what is known stays
+-- an item that is known stays known
 module _ (rules : List RuleOf) (c : Cell) where
   kept-step : (item : ItemOf) (M : Memory) (step : Step) → M c.0 c.1 ≡ Some (known item) → clears c step ≡ false → after rules M step c.0 c.1 ≡ Some (known item)
   kept-step item M Forgot e h = ap unless_failed e
@@ -200,7 +200,7 @@ module _ {S : Type 0} (may : S → List KeyOf → AnswerOf → Type 0) where
   round-step : (old new : StateOf S) (c : Cell) (f : Found may old new c) → IsStep (may_at may old.loaders) (rules_of old) (before_round old new c f) (AskedLoads f.loads f.replies)
   round-step old new c f = (are-after (may_at may old.loaders) (rules_of old) old.memory (Forgot ∷ f.before) (AskedLoads f.loads f.replies ∷ f.rest) f.leads.may_be).0
 
-  -- what was asked is known at the end of the call
+  -- a key that was asked is known at the end of the call
   known-after : (old new : StateOf S) (c : Cell) → AreLimited (rules_of old) → Found may old new c → (o : OutcomeOf) × (new.memory c.0 c.1 ≡ Some o)
   known-after old new c limited f =
       let rules = rules_of old in
@@ -210,7 +210,7 @@ module _ {S : Type 0} (may : S → List KeyOf → AnswerOf → Type 0) where
       let memory = leads-memory may old new (Forgot ∷ (f.before ++ AskedLoads f.loads f.replies ∷ f.rest)) f.leads ∙ memory-append rules old.memory (Forgot ∷ f.before) (AskedLoads f.loads f.replies ∷ f.rest) in
       (got.0, ap (λ (N : Memory). N c.0 c.1) memory ∙ end)
 
-  -- what is known isn't asked
+  -- a known key isn't asked
   unknown-before : (old new : StateOf S) (c : Cell) (item : ItemOf) → AreLimited (rules_of old) → Found may old new c → old.memory c.0 c.1 ≡ Some (known item) → ⊥
   unknown-before old new c item limited f e =
       let rules = rules_of old in

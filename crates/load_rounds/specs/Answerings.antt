@@ -1,9 +1,9 @@
--- What contracts see of an answering future, and what it does, poll by poll.
+-- Definitions of what contracts see of an answering future, and what it does, poll by poll.
 use Rattle.std.specs.Prelude.{◌≡◌, ◌≢◌, ◌≤◌, ℕ, List, [], ◌+◌, length, Option, Some, None, Result, String, string_bytes}
 use Rattle.load_memory.specs.Keys.{KeyOf}
 use Rattle.load_memory.specs.Pairs.{MemoryOf, look}
 use Rattle.load_memory.specs.Replies.{ReplyOf}
-use Rattle.load_memory.specs.declared.no_memory.NoMemory.{NoMemory}
+use Rattle.std.specs.declared.alloc.AllocError.{AllocError}
 use Rattle.load_queue.specs.Answers.{AnswerOf}
 use Rattle.execution.specs.Loads.{read}
 use Rattle.execution.specs.Program.{Program, chain}
@@ -21,14 +21,14 @@ use Rattle.load_rounds.specs.declared.answer.Answer.{Answer}
 use Rattle.load_rounds.specs.declared.answering.Far.{Far}
 use Rattle.load_rounds.specs.declared.answering.Far.TheVariants.{Unpolled, Polled, Over}
 
--- how far a future is: the session that was handed in, or the session after so many rounds, one for each poll, with the
--- execution so far, or it has answered
+-- says how far a future is: the session that was handed in, or the session after some rounds, one
+-- for each poll, with the execution so far, or it has answered
 pub data FarOf (S E : Type 0) : Type 0 where
   handed : SessionOf S → FarOf S E
   polled : SessionOf S → ℕ → E → FarOf S E
   over : FarOf S E
 
--- what is executed, and how far it is
+-- says what is executed, and how far it is
 pub record AnsweringOf (S P E : Type 0) : Type 0 where
   pub plan : P
   pub far : FarOf S E
@@ -41,11 +41,14 @@ far_of Over = over
 
 module _ {S : Type 0} (may : S → List KeyOf → AnswerOf → Type 0) where
   -- one turn: the text where nothing is missing, and then nothing has changed; else exactly one round, which asked the front
-  abbrev pub Turned : (AnsweredOf → List ℕ) → StateOf S → StateOf S → Program → Poll (String Global) → Type 0
+  abbrev pub Turned : (AnsweredOf → List ℕ) → StateOf S
+      → StateOf S → Program → Poll (String Global) → Type 0
   Turned text_of old new p (Ready text) =
-      (new ≡ old) × (front (session_modes old) p old.memory ≡ []) × IsTextOf text_of p (read (session_modes old) old.memory) (string_bytes text)
+      (new ≡ old) × (front (session_modes old) p old.memory ≡ [])
+      × IsTextOf text_of p (read (session_modes old) old.memory) (string_bytes text)
   Turned text_of old new p Pending =
-      (front (session_modes old) p old.memory ≢ []) × RoundRan may old new (front (session_modes old) p old.memory)
+      (front (session_modes old) p old.memory ≢ [])
+      × RoundRan may old new (front (session_modes old) p old.memory)
 
   -- this many rounds were made, each with the front's batches, after failed batches were forgotten
   pub record HasMade (old cur : StateOf S) (p : Program) (rounds : ℕ) : Type 0 where
@@ -60,7 +63,7 @@ module _ {S E : Type 0} where
   rounds_of (polled s rounds progress) = rounds
   rounds_of over = 0
 
-  -- where the next poll begins: at first failed batches are forgotten
+  -- gives where the next poll begins: at first failed batches are forgotten
   abbrev pub begun : FarOf S E → Option (StateOf S)
   begun (handed s) = Some (after_step (state_of s) Forgot)
   begun (polled s rounds progress) = Some (state_of s)
@@ -77,23 +80,28 @@ module _ {S E : Type 0} where
     abbrev pub CanPoll : (E → MemoryOf → Type 0) → ℕ → Program → FarOf S E → Type 0
     CanPoll fits loaders p (handed s) = loaders ≤ length s.loaders
     CanPoll fits loaders p (polled s rounds progress) =
-        (loaders ≤ length s.loaders) × fits progress (memory_of s) × (old : StateOf S) × HasMade may old (state_of s) p rounds
+        (loaders ≤ length s.loaders) × fits progress (memory_of s) × (old : StateOf S)
+        × HasMade may old (state_of s) p rounds
     CanPoll fits loaders p over = ⊥
 
-    -- What comes of it: the session that is handed back with the answer, which say what an answering call says of the session
-    -- that was handed in, from whichever state the rounds so far were made.
-    abbrev pub Gives : Program → (AnsweredOf → List ℕ) → FarOf S E → SessionOf S × Result Answer NoMemory → Type 0
+    -- Says what comes of it: the session that is handed back with the answer, which say what an answering call says of the
+    -- session that was handed in, from whichever state the rounds so far were made.
+    abbrev pub Gives : Program → (AnsweredOf → List ℕ) → FarOf S E
+        → SessionOf S × Result Answer AllocError → Type 0
     Gives p text_of (handed s) out = Answers may (state_of s) (state_of out.0) p text_of out.1
-    Gives p text_of (polled s rounds progress) out = (old : StateOf S) → HasMade may old (state_of s) p rounds → Answers may old (state_of out.0) p text_of out.1
+    Gives p text_of (polled s rounds progress) out = (old : StateOf S)
+        → HasMade may old (state_of s) p rounds → Answers may old (state_of out.0) p text_of out.1
     Gives p text_of over out = ⊥
 
-    -- what comes of the second, one poll later, comes of the first too
-    abbrev pub GivesNoMore : {P : Type 0} → (P → Program) → (P → AnsweredOf → List ℕ) → AnsweringOf S P E → AnsweringOf S P E → Type 0
-    GivesNoMore program text_of old new = (out : SessionOf S × Result Answer NoMemory) → Gives (program new.plan) (text_of new.plan) new.far out
+    -- says what comes of the second, one poll later, comes of the first too
+    abbrev pub GivesNoMore : {P : Type 0} → (P → Program)
+        → (P → AnsweredOf → List ℕ) → AnsweringOf S P E → AnsweringOf S P E → Type 0
+    GivesNoMore program text_of old new = (out : SessionOf S × Result Answer AllocError)
+        → Gives (program new.plan) (text_of new.plan) new.far out
         → Gives (program old.plan) (text_of old.plan) old.far out
 
-    -- A poll that was pending has made exactly one round, which asked the front, and this isn't empty. So many polls are within
-    -- the load chain over the memory after it.
+    -- A poll that was pending has made exactly one round, which asked the front, and this isn't
+    -- empty. The polls so far are within the load chain over the memory after it.
     pub record PollRan (p : Program) (old new : FarOf S E) : Type 0 where
       pub before : StateOf S
       pub after : SessionOf S

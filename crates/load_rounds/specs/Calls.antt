@@ -1,4 +1,4 @@
--- What the calls of a session do.
+-- Definitions of what the calls of a session do.
 use Rattle.std.specs.Prelude.{◌≡◌, ◌⊎◌, ℕ, List, [], ◌∷◌, map, Some}
 use Rattle.load_memory.specs.Keys.{KeyOf}
 use Rattle.load_memory.specs.Outcomes.{OutcomeOf, ItemOf, known}
@@ -14,7 +14,7 @@ use Rattle.load_rounds.specs.Sessions.{StateOf, rules_of, session_modes, after_s
 abbrev pub load_of : ℕ → KeyOf → Load
 load_of loader key = record { loader = loader; key = key }
 
--- what a memory says of loads
+-- gives what a memory says of loads
 abbrev pub reader_of : MemoryOf → Reader
 reader_of m = read m.modes (look m.pairs)
 
@@ -31,11 +31,11 @@ module _ {S : Type 0} where
   abbrev pub front_at : StateOf S → ℕ → List KeyOf → List Load
   front_at s loader keys = front_of_keys (session_modes s) loader keys s.memory
 
-  -- what a call asks for keys of a loader: those that aren't known once failed batches are forgotten
+  -- gives what a call asks for keys of a loader: those that aren't known once failed batches are forgotten
   abbrev pub asked_for : StateOf S → ℕ → List KeyOf → List Load
   asked_for s loader keys = front_of_keys (session_modes s) loader keys (without_failed s.memory)
 
-  -- what is known of keys of a loader, place by place
+  -- says what is known of keys of a loader, place by place
   abbrev pub AreKnown : StateOf S → ℕ → List KeyOf → List OutcomeOf → Type 0
   AreKnown s loader keys outcomes = map (λ key. read (session_modes s) s.memory (load_of loader key)) keys ≡ map Some outcomes
 
@@ -65,4 +65,5 @@ module _ {S : Type 0} where
     -- after want of memory failed batches are forgotten, and the round was lost, or it is there and its outcomes weren't
     -- copied
     abbrev pub IsStopped : StateOf S → StateOf S → List Load → Type 0
-    IsStopped old new loads = AsksOnce may (after_step old Forgot) new loads ⊎ RoundLost (after_step old Forgot) new loads
+    IsStopped old new loads = AsksOnce may (after_step old Forgot) new loads
+        ⊎ RoundLost (after_step old Forgot) new loads

@@ -3,7 +3,7 @@ use Rattle.std.specs.Prelude.{◌≡◌, ◌≤◌, ◌⊎◌, ℕ, List, [], �
 use Rattle.load_memory.specs.Keys.{KeyOf}
 use Rattle.load_memory.specs.Pairs.{PairOf}
 use Rattle.load_memory.specs.Replies.{ReplyOf}
-use Rattle.load_memory.specs.declared.no_memory.NoMemory.{NoMemory}
+use Rattle.std.specs.declared.alloc.AllocError.{AllocError}
 use Rattle.load_queue.specs.Answers.{AnswerOf}
 use Rattle.load_queue.specs.Loaders.{AreOnRecord}
 use Rattle.execution.specs.Loads.{Memory, read}
@@ -27,7 +27,8 @@ module _ {S : Type 0} (may : S → List KeyOf → AnswerOf → Type 0) where
   -- each batch was answered as its source may, and the logs gained it as stored, under the session's next number.
   pub record MakesRounds (old new : StateOf S) (p : Program) (log : List (List ReplyOf)) : Type 0 where
     pub rounds : AreRounds (may_at may old.loaders) (rules_of old) p (without_failed old.memory) log new.memory
-    pub after : new ≡ after_steps old (Forgot ∷ asked_steps (rules_of old) p (without_failed old.memory) log)
+    pub after : new
+        ≡ after_steps old (Forgot ∷ asked_steps (rules_of old) p (without_failed old.memory) log)
 
   -- The headline, of a program: what is executed. Whoever ran the orders, in whatever order they came back.
   pub record Headline (old new : StateOf S) (p : Program) (text_of : AnsweredOf → List ℕ) (text : List ℕ) (rounds : ℕ) : Type 0 where
@@ -41,13 +42,16 @@ module _ {S : Type 0} (may : S → List KeyOf → AnswerOf → Type 0) where
     pub recorded : AreOnRecord old.loaders new.loaders
     -- each pair of the memory was there, primed or kept, or its source answered it in one batch of the log
     pub pairs : (pair : PairOf) → new.memory pair.loader pair.key ≡ Some pair.outcome
-        → (without_failed old.memory pair.loader pair.key ≡ Some pair.outcome) ⊎ IsAnsweredIn (session_modes old) pair log
+        → (without_failed old.memory pair.loader pair.key ≡ Some pair.outcome)
+        ⊎ IsAnsweredIn (session_modes old) pair log
     -- no key is asked twice
     pub once : AreApart (asked_cells (rules_of old) p (without_failed old.memory) log)
     -- the rounds are counted, at most the longest chain of dependent loads, and no sparing run is shorter
     pub counted : length log ≡ rounds
     pub chained : rounds ≤ chain p (read (session_modes old) new.memory)
-    pub fewest : (Ns : List Memory) → IsSparing (session_modes old) p new.memory (without_failed old.memory) Ns → rounds ≤ length Ns
+    pub fewest : (Ns : List Memory)
+        → IsSparing (session_modes old) p new.memory (without_failed old.memory) Ns
+        → rounds ≤ length Ns
 
   -- an answer with the headline
   abbrev pub HasHeadline : StateOf S → StateOf S → Program → (AnsweredOf → List ℕ) → Answer → Type 0
@@ -61,6 +65,8 @@ module _ {S : Type 0} (may : S → List KeyOf → AnswerOf → Type 0) where
     pub end : (new ≡ mid) ⊎ RoundLost mid new (front (session_modes old) p mid.memory)
     pub recorded : AreOnRecord old.loaders new.loaders
 
-  -- what an answering call says: the headline, or after want of memory what stays
-  abbrev pub Answers : StateOf S → StateOf S → Program → (AnsweredOf → List ℕ) → Result Answer NoMemory → Type 0
-  Answers old new p text_of result = IfOk result (HasHeadline old new p text_of) × OnErr result (StopsAnswering old new p)
+  -- says what an answering call says: the headline, or after want of memory what stays
+  abbrev pub Answers : StateOf S → StateOf S → Program
+      → (AnsweredOf → List ℕ) → Result Answer AllocError → Type 0
+  Answers old new p text_of result = IfOk result (HasHeadline old new p text_of)
+      × OnErr result (StopsAnswering old new p)

@@ -17,14 +17,14 @@ use Rattle.load_rounds.specs.Sessions.{SessionOf, StateOf, state_of, session_mod
 use Rattle.load_rounds.specs.Calls.{asked_for, IsLoaded, IsStopped}
 use Rattle.load_rounds.specs.Headline.{Headline, StopsAnswering}
 use Rattle.load_rounds.specs.SharedRounds.{RequestOf, ReportOf, SharedHeadline}
-use Rattle.load_rounds.specs.Runs.{IsRun}
-use Rattle.load_rounds.specs.declared.run.Stage.{Stage}
+use Rattle.load_rounds.specs.ByHand.{IsRun}
+use Rattle.load_rounds.specs.declared.by_hand.Stage.{Stage}
 
 -- A call that a session didn't refuse for its loader's number.
 pub data Call : Type 0 where
   -- `load` or `load_many` of a loader's keys, with the outcomes that it gave
   Loading : ℕ → List KeyOf → List OutcomeOf → Call
-  -- the same, at which memory was wanted
+  -- a `load` or `load_many` at which memory ran out
   StoppedLoading : ℕ → List KeyOf → Call
   -- `prime` of a pair, `clear` of a cell, `clear_all` of a loader
   Priming : PairOf → Call
@@ -34,13 +34,14 @@ pub data Call : Type 0 where
   Forgetting : Call
   -- `answer` or an answering future of a program, with its text and its rounds
   Executing : Program → (AnsweredOf → List ℕ) → List ℕ → ℕ → Call
-  -- the same, at which memory was wanted
+  -- an `answer` or an answering future at which memory ran out
   StoppedExecuting : Program → Call
   -- `answer_all` of several requests, with its report of each; where memory was wanted, and in a run by hand, they are one program
   ExecutingTogether : List RequestOf → List ReportOf → Call
   -- `restart`
   Restarting : Call
-  -- a run of a program by hand from `begin` on, which after so many rounds was finished, failed or was dropped at this stage
+  -- a run of a program by hand from `begin` on, which after some rounds was finished, failed or was
+  -- dropped at this stage
   Running : Program → ℕ → Stage → Call
 
 -- the call clears this cell
@@ -85,7 +86,8 @@ IsMadeOf (Running p rounds stage) steps = AreAsking steps
 -- the steps of calls, one after another
 abbrev pub AreMadeOf : List Call → List Step → Type 0
 AreMadeOf [] steps = steps ≡ []
-AreMadeOf (call ∷ calls) steps = (own : List Step) × (more : List Step) × (steps ≡ Forgot ∷ (own ++ more)) × IsMadeOf call own × AreMadeOf calls more
+AreMadeOf (call ∷ calls) steps = (own : List Step) × (more : List Step)
+    × (steps ≡ Forgot ∷ (own ++ more)) × IsMadeOf call own × AreMadeOf calls more
 
 -- the replies of each round that was stored
 abbrev pub replies_of : List Step → List (List ReplyOf)
@@ -111,14 +113,14 @@ module _ {S : Type 0} where
   abbrev pub log_of : StateOf S → ℕ → List AskedOf
   log_of s loader = log_in (slice_get s.loaders loader)
 
-  -- what the log of a loader gained from a state to another, and that of it which is stored
+  -- gives what the log of a loader gained from a state to another, and that of it which is stored
   abbrev pub gained : ℕ → StateOf S → StateOf S → List AskedOf
   gained loader old new = drop (length (log_of old loader)) (log_of new loader)
 
   abbrev pub stored_gained : ℕ → StateOf S → StateOf S → List AskedOf
   stored_gained loader old new = filter (λ e. e.stored) (gained loader old new)
 
-  -- what was asked of a loader in rounds that were stored
+  -- gives what was asked of a loader in rounds that were stored
   abbrev pub gained_cells : ℕ → StateOf S → StateOf S → List Cell
   gained_cells loader old new = entered_cells (session_modes old) loader (stored_gained loader old new)
 
@@ -126,11 +128,11 @@ module _ {S : Type 0} where
   abbrev pub IsEntered : Cell → StateOf S → StateOf S → Type 0
   IsEntered cell old new = IsOneOf cell (gained_cells cell.0 old new)
 
-  -- what is known of the cell is the fault of its whole batch
+  -- the cell's outcome is the fault of its whole batch
   abbrev pub IsFailedAt : Cell → StateOf S → Type 0
   IsFailedAt cell s = (text : List ℕ) × (s.memory cell.0 cell.1 ≡ Some (batch_fault text))
 
-  -- where it makes no difference what sources may answer
+  -- says where it makes no difference what sources may answer
   abbrev pub any_tell : S → List KeyOf → AnswerOf → Type 0
   any_tell source keys answer = Unit {0}
 
@@ -140,7 +142,7 @@ module _ {S : Type 0} where
       pub after : new ≡ after_steps old steps
       pub may_be : MayBe may old steps
 
-    -- what the contract of the call says of the states before and after it
+    -- says what the contract of the call says of the states before and after it
     abbrev pub IsCall : Call → StateOf S → StateOf S → Type 0
     IsCall (Loading loader keys outcomes) old new = IsLoaded may old new loader keys outcomes
     IsCall (StoppedLoading loader keys) old new = IsStopped may old new (asked_for old loader keys)
@@ -160,7 +162,8 @@ module _ {S : Type 0} where
     -- calls one after another
     abbrev pub AreCalls : List Call → StateOf S → StateOf S → Type 0
     AreCalls [] old new = new ≡ old
-    AreCalls (call ∷ calls) old new = (mid : StateOf S) × IsCall call old mid × AreCalls calls mid new
+    AreCalls (call ∷ calls) old new = (mid : StateOf S)
+        × IsCall call old mid × AreCalls calls mid new
 
 -- two calls of a session, the calls between them, the states before and after each, and a cell
 pub record TwiceOf (S : Type 0) : Type 0 where
@@ -182,7 +185,7 @@ module _ {S : Type 0} (may : S → List KeyOf → AnswerOf → Type 0) where
     pub entered : IsEntered t.cell t.old t.mid
     pub entered_again : IsEntered t.cell t.late t.new
 
-  -- where a pair is from after calls: it was there, was primed by one of them, or is in a reply of one of their rounds
+  -- a pair's origin after calls: it was there, was primed by one of them, or is in a reply of one of their rounds
   abbrev pub IsFrom : List Call → StateOf S → StateOf S → PairOf → Type 0
   IsFrom calls old new pair = HasPair old.memory pair ⊎ IsOneOf (Priming pair) calls
       ⊎ ((steps : List Step) × Leads may old steps new × AreMadeOf calls steps × IsAnsweredIn (session_modes old) pair (replies_of steps))

@@ -15,11 +15,13 @@ use Rattle.execution.specs.Executes.{IsTextOf}
 module _ {S : Type 0} where
   -- whatever a source may answer has one item for each key, which follows from that key alone
   abbrev pub AnswerKeyByKey : (S → List KeyOf → AnswerOf → Type 0) → (S → KeyOf → ItemOf) → Type 0
-  AnswerKeyByKey may item = (source : S) (keys : List KeyOf) (answer : AnswerOf) → may source keys answer → answer ≡ given (map (item source) keys)
+  AnswerKeyByKey may item = (source : S) (keys : List KeyOf) (answer : AnswerOf)
+      → may source keys answer → answer ≡ given (map (item source) keys)
 
   -- keys that are one for a source have one item
   abbrev pub RespectModes : (S → KeyMode) → (S → KeyOf → ItemOf) → Type 0
-  RespectModes mode_of item = (source : S) (j k : KeyOf) → folded (mode_of source) j ≡ folded (mode_of source) k → item source j ≡ item source k
+  RespectModes mode_of item = (source : S) (j k : KeyOf)
+      → folded (mode_of source) j ≡ folded (mode_of source) k → item source j ≡ item source k
 
   -- each loader compares keys as its source does
   abbrev pub CompareAlike : (S → KeyMode) → List (LoaderOf S) → Type 0
@@ -51,5 +53,7 @@ module _ {S : Type 0} (may : S → List KeyOf → AnswerOf → Type 0) where
   -- first what the sources would answer.
   abbrev pub IsAnsweredDirectly : (S → KeyOf → ItemOf) → (S → KeyMode) → Type 0
   IsAnsweredDirectly item mode_of = (old new : StateOf S) (p : Program) (text_of : AnsweredOf → List ℕ) (text : List ℕ) (rounds : ℕ)
-      → CompareAlike mode_of old.loaders → HoldsItems (session_modes old) (item_over item old.loaders) (without_failed old.memory)
-      → Headline may old new p text_of text rounds → IsTextOf text_of p (direct (item_over item old.loaders)) text
+      → CompareAlike mode_of old.loaders
+      → HoldsItems (session_modes old) (item_over item old.loaders) (without_failed old.memory)
+      → Headline may old new p text_of text rounds
+      → IsTextOf text_of p (direct (item_over item old.loaders)) text

@@ -6,7 +6,7 @@ pub mod Histories
 pub mod KeyByKey
 pub mod Loadings
 pub mod Rounds
-pub mod Runs
+pub mod ByHand
 pub mod Sessions
 pub mod SharedKeyByKey
 pub mod SharedRounds

@@ -25,7 +25,8 @@ module _ {S : Type 0} where
   -- no key is missing, or these are wanted
   abbrev pub FindsKeys : StateOf S → ℕ → List KeyOf → Option (List WantedOf) → Type 0
   FindsKeys s loader keys None = front_at s loader keys ≡ []
-  FindsKeys s loader keys (Some wants) = (front_at s loader keys ≢ []) × (length wants ≡ length s.loaders) × AreWanted wants (front_at s loader keys)
+  FindsKeys s loader keys (Some wants) = (front_at s loader keys ≢ [])
+      × (length wants ≡ length s.loaders) × AreWanted wants (front_at s loader keys)
 
   -- The round that asks these loads is out, and nothing was done since: its batches are in the logs, not stored. No entry of an earlier
   -- round bears its number.
@@ -39,26 +40,30 @@ module _ {S : Type 0} where
   abbrev pub IsLoading : StateOf S → StateOf S → ℕ → List KeyOf → Type 0
   IsLoading begun now loader keys = HasAsked (after_step begun Forgot) now (asked_for begun loader keys)
 
-  -- the same, whatever session it was begun on
+  -- says the same, whatever session it was begun on
   abbrev pub IsLoadOut : StateOf S → ℕ → List KeyOf → Type 0
   IsLoadOut now loader keys = (begun : StateOf S) × IsLoading begun now loader keys
 
   module _ (may : S → List KeyOf → AnswerOf → Type 0) where
-    -- what the begin of a load did: all keys are known, and these are their outcomes, or its round is out, and these are its orders
+    -- says what the begin of a load did: all keys are known, and these are their outcomes, or its round is out, and these are its orders
     abbrev pub BeginsLoad : StateOf S → StateOf S → ℕ → List KeyOf → NextLoad → Type 0
     BeginsLoad old new loader keys (next.Loaded outcomes) = IsLoaded may old new loader keys (map outcome_of outcomes.items)
-    BeginsLoad old new loader keys (next.Round orders) = IsLoading old new loader keys × (orders.items ≡ orders_at new loader keys)
+    BeginsLoad old new loader keys (next.Round orders) = IsLoading old new loader keys
+        × (orders.items ≡ orders_at new loader keys)
 
     -- one reply to each order of the round that is out, in order, as its source may answer it
     abbrev pub AreToldAt : StateOf S → ℕ → List KeyOf → List ReplyOf → Type 0
     AreToldAt s loader keys replies = AreReplies (may_at may s.loaders) (orders_at s loader keys) replies
 
     -- From whichever session the load was begun: it has loaded its keys, if the replies are as the sources may give them.
-    abbrev pub LoadsFrom : StateOf S → StateOf S → ℕ → List KeyOf → List ReplyOf → Vec Outcome → Type 0
+    abbrev pub LoadsFrom : StateOf S → StateOf S → ℕ
+        → List KeyOf → List ReplyOf → Vec Outcome → Type 0
     LoadsFrom old new loader keys replies outcomes =
-        (begun : StateOf S) → IsLoading begun old loader keys → AreToldAt old loader keys replies → IsLoaded may begun new loader keys (map outcome_of outcomes.items)
+        (begun : StateOf S) → IsLoading begun old loader keys → AreToldAt old loader keys replies
+        → IsLoaded may begun new loader keys (map outcome_of outcomes.items)
 
-    -- the same where memory was wanted
+    -- says the same where memory was wanted
     abbrev pub StopsLoadFrom : StateOf S → StateOf S → ℕ → List KeyOf → List ReplyOf → Type 0
     StopsLoadFrom old new loader keys replies =
-        (begun : StateOf S) → IsLoading begun old loader keys → AreToldAt old loader keys replies → IsStopped may begun new (asked_for begun loader keys)
+        (begun : StateOf S) → IsLoading begun old loader keys → AreToldAt old loader keys replies
+        → IsStopped may begun new (asked_for begun loader keys)

@@ -24,6 +24,7 @@ pub record Enters {S : Type 0} (round : ℕ) (keys : ℕ → List KeyOf) (old ne
   pub loaders : new ≡ logged_from 0 false round keys old
   pub rounds : after ≡ before + made (orders_by 0 (map rule_of old) keys)
 
--- what is wanted of each of the loaders is what the loads ask of it
+-- the keys that are wanted of each loader are those that the loads ask of it
 abbrev pub AreWanted : List WantedOf → List Load → Type 0
-AreWanted wants loads = (loader : ℕ) → loader < length wants → keys_wanted wants loader ≡ keys_for loader loads
+AreWanted wants loads = (loader : ℕ) → loader < length wants
+    → keys_wanted wants loader ≡ keys_for loader loads

@@ -1,4 +1,5 @@
--- What contracts see of a session, and what the steps of its calls do to it.
+-- Definitions of what contracts see of a session, and what the steps of its calls do to it.
+-- A state is what is known of each key, since the order of pairs means nothing.
 use Rattle.std.specs.Prelude.{◌≡◌, ◌≤◌, ℕ, suc, Bool, true, false, List, [], ◌∷◌, ◌++◌, ◌+◌, map, length, All, nat_lt}
 use Rattle.std.specs.List.{filter}
 use Rattle.load_memory.specs.Keys.{KeyOf}
@@ -19,7 +20,7 @@ pub record SessionOf (S : Type 0) : Type 0 where
   pub pairs : List PairOf
   pub rounds : ℕ
 
--- the same, with what is known of each key
+-- says the same, with what is known of each key
 pub record StateOf (S : Type 0) : Type 0 where
   pub loaders : List (LoaderOf S)
   pub memory : Memory
@@ -59,7 +60,7 @@ module _ {S : Type 0} where
     orders = l.orders + length (batches l.limit keys);
   }
 
-  -- the same of loaders numbered from n on, each with its own keys
+  -- gives the same of loaders numbered from n on, each with its own keys
   abbrev pub logged_from : ℕ → Bool → ℕ → (ℕ → List KeyOf) → List (LoaderOf S) → List (LoaderOf S)
   logged_from n stored round keys [] = []
   logged_from n stored round keys (l ∷ ls) = logged stored round (keys n) l ∷ logged_from (suc n) stored round keys ls
@@ -87,7 +88,7 @@ module _ {S : Type 0} where
   after_steps s [] = s
   after_steps s (step ∷ steps) = after_steps (after_step s step) steps
 
-  -- what the session hands to an execution
+  -- gives what the session hands to an execution
   abbrev pub memory_of : SessionOf S → MemoryOf
   memory_of s = record { modes = session_modes (state_of s); pairs = s.pairs }
 

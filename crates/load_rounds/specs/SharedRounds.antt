@@ -18,7 +18,7 @@ use Rattle.load_rounds.specs.Headline.{MakesRounds, Headline}
 use Rattle.execution.specs.Executes.{IsTextOf}
 use Rattle.load_rounds.specs.declared.answer.Answer.{Answer}
 
--- what is executed, and the text of a response of it
+-- says what is executed, and the text of a response of it
 pub record RequestOf : Type 0 where
   pub program : Program
   pub text_of : AnsweredOf → List ℕ
@@ -31,7 +31,8 @@ pub record ReportOf : Type 0 where
 abbrev pub request_of : Program → (AnsweredOf → List ℕ) → RequestOf
 request_of program text_of = record { program = program; text_of = text_of }
 
-abbrev pub requests : {P : Type 0} → (P → Program) → (P → AnsweredOf → List ℕ) → List P → List RequestOf
+abbrev pub requests : {P : Type 0} → (P → Program)
+    → (P → AnsweredOf → List ℕ) → List P → List RequestOf
 requests program text_of plans = map (λ plan. request_of (program plan) (text_of plan)) plans
 
 abbrev pub report_of : Answer → ReportOf
@@ -75,12 +76,16 @@ module _ {S : Type 0} where
   -- something that it needed was missing: at most its own load chain, and no more than the steps of any sparing run of it alone.
   pub record IsShared (old new : StateOf S) (log : List (List ReplyOf)) (r : RequestOf) (report : ReportOf) : Type 0 where
     pub answered : IsTextOf r.text_of r.program (read (session_modes old) new.memory) report.text
-    pub counted : own_rounds (rules_of old) r.program (without_failed old.memory) log ≡ report.rounds
+    pub counted : own_rounds (rules_of old) r.program (without_failed old.memory) log
+        ≡ report.rounds
     pub chained : report.rounds ≤ chain r.program (read (session_modes old) new.memory)
-    pub fewest : (Ns : List Memory) → IsSparing (session_modes old) r.program new.memory (without_failed old.memory) Ns → report.rounds ≤ length Ns
+    pub fewest : (Ns : List Memory)
+        → IsSparing (session_modes old) r.program new.memory (without_failed old.memory) Ns
+        → report.rounds ≤ length Ns
 
   -- one answer to each request, in order
-  abbrev pub AreShared : StateOf S → StateOf S → List (List ReplyOf) → List RequestOf → List ReportOf → Type 0
+  abbrev pub AreShared : StateOf S → StateOf S → List (List ReplyOf)
+      → List RequestOf → List ReportOf → Type 0
   AreShared old new log [] [] = Unit {0}
   AreShared old new log [] (t ∷ ts) = ⊥
   AreShared old new log (r ∷ rs) [] = ⊥
@@ -95,22 +100,25 @@ module _ {S : Type 0} where
     pub recorded : AreOnRecord old.loaders new.loaders
     pub answers : AreShared old new log rs reports
     pub pairs : (pair : PairOf) → new.memory pair.loader pair.key ≡ Some pair.outcome
-        → (without_failed old.memory pair.loader pair.key ≡ Some pair.outcome) ⊎ IsAnsweredIn (session_modes old) pair log
+        → (without_failed old.memory pair.loader pair.key ≡ Some pair.outcome)
+        ⊎ IsAnsweredIn (session_modes old) pair log
     pub once : AreApart (asked_cells (rules_of old) (together rs) (without_failed old.memory) log)
     pub longest : length log ≡ greatest reports
 
-  -- what an answering call says of its answers
-  abbrev pub AreAnswers : (S → List KeyOf → AnswerOf → Type 0) → StateOf S → StateOf S → List RequestOf → Vec Answer → Type 0
+  -- says what an answering call says of its answers
+  abbrev pub AreAnswers : (S → List KeyOf → AnswerOf → Type 0)
+      → StateOf S → StateOf S → List RequestOf → Vec Answer → Type 0
   AreAnswers may old new rs answers = SharedHeadline may old new rs (map report_of answers.items)
 
   -- the headline of one request alone
-  abbrev pub IsAnsweredAlone : (S → List KeyOf → AnswerOf → Type 0) → StateOf S → StateOf S → RequestOf → ReportOf → Type 0
+  abbrev pub IsAnsweredAlone : (S → List KeyOf → AnswerOf → Type 0)
+      → StateOf S → StateOf S → RequestOf → ReportOf → Type 0
   IsAnsweredAlone may old new r report = Headline may old new r.program r.text_of report.text report.rounds
 
   -- the longest load chain of all requests, over the memory of a state
   abbrev pub longest_chain : List KeyMode → List RequestOf → StateOf S → ℕ
   longest_chain modes rs s = chain (together rs) (read modes s.memory)
 
-  -- so many rounds are no more than that chain is long
+  -- `rounds` rounds are no more than that chain is long
   abbrev pub AreWithinChain : StateOf S → StateOf S → List RequestOf → ℕ → Type 0
   AreWithinChain old new rs rounds = rounds ≤ longest_chain (session_modes old) rs new

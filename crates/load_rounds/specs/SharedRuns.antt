@@ -12,13 +12,13 @@ use Rattle.load_rounds.specs.Sessions.{StateOf, rules_of, session_modes}
 use Rattle.execution.specs.Executes.{FitsFrom}
 use Rattle.load_rounds.specs.SharedRounds.{RequestOf, ReportOf, requests, report_of, together, joint, AreTexts, AreAnswers}
 use Rattle.load_rounds.specs.Together.{PartOf, TogetherOf, plans_in, CountRounds, FitParts}
-use Rattle.load_rounds.specs.Runs.{front_in, IsRound, IsRun, AreReceivedIn}
-use Rattle.load_rounds.specs.declared.run.Stage.{Stage}
-use Rattle.load_rounds.specs.declared.run.Stage.TheVariants.{Ready, Out, Finished, Failed}
-use Rattle.load_rounds.specs.declared.run_all.NextAll.{NextAll}
-use Rattle.load_rounds.specs.declared.run_all.NextAll.TheVariants as next
+use Rattle.load_rounds.specs.ByHand.{front_in, IsRound, IsRun, AreReceivedIn}
+use Rattle.load_rounds.specs.declared.by_hand.Stage.{Stage}
+use Rattle.load_rounds.specs.declared.by_hand.Stage.TheVariants.{Ready, Out, Finished, Failed}
+use Rattle.load_rounds.specs.declared.all_by_hand.NextAll.{NextAll}
+use Rattle.load_rounds.specs.declared.all_by_hand.NextAll.TheVariants as next
 
--- what is executed, how far each execution is and how many rounds were asked, with one that is out, and what may be done next
+-- says what is executed, how far each execution is and how many rounds were asked, with one that is out, and what may be done next
 pub record RunAllOf (P E : Type 0) : Type 0 where
   pub plans : List P
   pub executions : TogetherOf P E
@@ -32,15 +32,17 @@ module _ {S : Type 0} where
     pub same : new ≡ old
 
   module _ {P E : Type 0} (program : P → Program) (text_of : P → AnsweredOf → List ℕ) where
-    -- what comes next, by what is missing
+    -- says what comes next, by what is missing
     abbrev pub IsNextAll : RunAllOf P E → RunAllOf P E → StateOf S → StateOf S → NextAll → Type 0
     IsNextAll run later old new (next.Finished answers) = AreLast (requests program text_of run.plans) old new (map report_of answers.items) × (later.stage ≡ Finished)
     IsNextAll run later old new (next.Round orders) =
-        IsRound (joint program text_of run.plans) old new orders.items × (later.executions.rounds ≡ run.executions.rounds + 1) × (later.stage ≡ Out)
+        IsRound (joint program text_of run.plans) old new orders.items
+        × (later.executions.rounds ≡ run.executions.rounds + 1) × (later.stage ≡ Out)
 
     module _ (may : S → List KeyOf → AnswerOf → Type 0) (plans : List P) (begun now : StateOf S) where
       -- Each of them has counted the rounds since the run was begun, with the one that is out.
-      abbrev pub HaveCounted : List (PartOf P E) → (rounds : ℕ) (stage : Stage) → IsRun may (joint program text_of plans) begun now rounds stage → Type 0
+      abbrev pub HaveCounted : List (PartOf P E) → (rounds : ℕ) (stage : Stage)
+          → IsRun may (joint program text_of plans) begun now rounds stage → Type 0
       HaveCounted parts rounds Ready is = CountRounds program (rules_of begun) (without_failed begun.memory) is.log parts
       HaveCounted parts rounds Out is = (round : List ReplyOf) → CountRounds program (rules_of begun) (without_failed begun.memory) (is.between.log ++ round ∷ []) parts
       HaveCounted parts rounds Finished is = Unit {0}
@@ -52,17 +54,24 @@ module _ {S : Type 0} where
       pub counts : HaveCounted may run.plans begun now run.executions.parts run.executions.rounds run.stage is
 
     -- From whichever state the run was begun: the session is as the run before the call left it, and then as the run after it does.
-    abbrev pub GoesOnFrom : (S → List KeyOf → AnswerOf → Type 0) → StateOf S → StateOf S → RunAllOf P E → RunAllOf P E → Type 0
-    GoesOnFrom may old new run later = (begun : StateOf S) → IsRunAll may begun old run → IsRunAll may begun new later
+    abbrev pub GoesOnFrom : (S → List KeyOf → AnswerOf → Type 0)
+        → StateOf S → StateOf S → RunAllOf P E → RunAllOf P E → Type 0
+    GoesOnFrom may old new run later = (begun : StateOf S)
+        → IsRunAll may begun old run → IsRunAll may begun new later
 
-    -- the same where the replies to the round that is out are as the sources may give them
-    abbrev pub GoesOnIfReceived : (S → List KeyOf → AnswerOf → Type 0) → StateOf S → StateOf S → RunAllOf P E → RunAllOf P E → List ReplyOf → Type 0
+    -- says the same where the replies to the round that is out are as the sources may give them
+    abbrev pub GoesOnIfReceived : (S → List KeyOf → AnswerOf → Type 0) → StateOf S
+        → StateOf S → RunAllOf P E → RunAllOf P E → List ReplyOf → Type 0
     GoesOnIfReceived may old new run later replies =
-        AreReceivedIn may (joint program text_of run.plans) old replies → GoesOnFrom may old new run later
+        AreReceivedIn may (joint program text_of run.plans) old replies
+        → GoesOnFrom may old new run later
 
     -- and the answers have the headline, from there
-    abbrev pub AnswersFrom : (S → List KeyOf → AnswerOf → Type 0) → StateOf S → StateOf S → RunAllOf P E → NextAll → Type 0
-    AnswersFrom may old new run (next.Finished answers) = (begun : StateOf S) → IsRunAll may begun old run → AreAnswers may begun new (requests program text_of run.plans) answers
+    abbrev pub AnswersFrom : (S → List KeyOf → AnswerOf → Type 0)
+        → StateOf S → StateOf S → RunAllOf P E → NextAll → Type 0
+    AnswersFrom may old new run (next.Finished answers) = (begun : StateOf S)
+        → IsRunAll may begun old run
+        → AreAnswers may begun new (requests program text_of run.plans) answers
     AnswersFrom may old new run (next.Round orders) = Unit {0}
 
 module _ {P E : Type 0} (program : P → Program) (text_of : P → AnsweredOf → List ℕ) (loaders : P → ℕ) (fits : P → E → MemoryOf → Type 0) where

@@ -32,27 +32,30 @@ pub record IsDone (loaders : ℕ) (r : RequestOf) (m : MemoryOf) (report : Repor
   pub answered : IsTextOf r.text_of r.program (read m.modes (look m.pairs)) report.text
   pub within : HasLoaders loaders r.program
 
--- By what is missing: no answer yet, or, once nothing is, the answer that was there or one after so many rounds.
+-- By what is missing: no answer yet, or, once nothing is, the answer that was there or one after `rounds` rounds.
 abbrev pub TellsAt : ℕ → List Load → Option ReportOf → Option ReportOf → Type 0
 TellsAt rounds loads old None = (loads ≢ []) × (old ≡ None)
-TellsAt rounds loads old (Some report) = (loads ≡ []) × ((old ≡ Some report) ⊎ ((old ≡ None) × (report.rounds ≡ rounds)))
+TellsAt rounds loads old (Some report) = (loads ≡ [])
+    × ((old ≡ Some report) ⊎ ((old ≡ None) × (report.rounds ≡ rounds)))
 
 -- of the rounds of a log, those of a program that has no answer yet are all; else they are those that its answer tells
-abbrev pub CountsRounds : List RuleOf → Memory → List (List ReplyOf) → Program → Option ReportOf → Type 0
+abbrev pub CountsRounds : List RuleOf → Memory
+    → List (List ReplyOf) → Program → Option ReportOf → Type 0
 CountsRounds rules M log p None = own_rounds rules p M log ≡ length log
 CountsRounds rules M log p (Some report) = own_rounds rules p M log ≡ report.rounds
 
 -- no key is missing for any of them, or these are wanted
 abbrev pub FindsAll : {S : Type 0} → Program → StateOf S → Option (List WantedOf) → Type 0
 FindsAll p s None = front (session_modes s) p s.memory ≡ []
-FindsAll p s (Some wants) = (front (session_modes s) p s.memory ≢ []) × (length wants ≡ length s.loaders) × AreWanted wants (front (session_modes s) p s.memory)
+FindsAll p s (Some wants) = (front (session_modes s) p s.memory ≢ [])
+    × (length wants ≡ length s.loaders) × AreWanted wants (front (session_modes s) p s.memory)
 
 -- the rounds that are asked of these wants
 abbrev pub asked_in : Option (List WantedOf) → ℕ
 asked_in None = 0
 asked_in (Some wants) = 1
 
--- what each of several plans needs and the memory lacks, one after another
+-- gives what each of several plans needs and the memory lacks, one after another
 abbrev pub fronts : {P : Type 0} → (P → Program) → MemoryOf → List P → List Load
 fronts program m [] = []
 fronts program m (p ∷ ps) = front m.modes (program p) (look m.pairs) ++ fronts program m ps
@@ -75,9 +78,11 @@ module _ {P E : Type 0} where
   some_unreported parts = list_any (λ part. is_none part.report) parts
 
   -- each has counted the rounds of a log
-  abbrev pub CountRounds : (P → Program) → List RuleOf → Memory → List (List ReplyOf) → List (PartOf P E) → Type 0
+  abbrev pub CountRounds : (P → Program) → List RuleOf → Memory
+      → List (List ReplyOf) → List (PartOf P E) → Type 0
   CountRounds program rules M log [] = Unit {0}
-  CountRounds program rules M log (x ∷ xs) = CountsRounds rules M log (program x.plan) x.report × CountRounds program rules M log xs
+  CountRounds program rules M log (x ∷ xs) = CountsRounds rules M log (program x.plan) x.report
+      × CountRounds program rules M log xs
 
   module _ (program : P → Program) (text_of : P → AnsweredOf → List ℕ) (loaders : P → ℕ) (fits : P → E → MemoryOf → Type 0) where
     abbrev pub FitsPart : P → E → Option ReportOf → MemoryOf → Type 0
@@ -89,11 +94,12 @@ module _ {P E : Type 0} where
     FitParts [] m = Unit {0}
     FitParts (x ∷ xs) m = FitsPart x.plan x.progress x.report m × FitParts xs m
 
-    -- one of them went on over a memory, after so many rounds
+    -- one of them went on over a memory, after `rounds` rounds
     pub record GoesOn (rounds : ℕ) (m : MemoryOf) (old new : PartOf P E) : Type 0 where
       pub same : new.plan ≡ old.plan
       pub report : TellsAt rounds (front m.modes (program old.plan) (look m.pairs)) old.report new.report
-      pub fitting : (later : MemoryOf) → GrowsTo m later → FitsPart new.plan new.progress new.report later
+      pub fitting : (later : MemoryOf) → GrowsTo m later
+          → FitsPart new.plan new.progress new.report later
       pub within : HasLoaders (loaders new.plan) (program new.plan)
 
     -- all of them

@@ -2,12 +2,12 @@
 ghost use Rattle.std.specs.Prelude.{◌≤◌, length, IfOk, OnOk, OnErr};
 ghost use Rattle.execution.specs.Rounds.{HasLoaders};
 
-use crate::executed::Executed;
+use crate::executed::ExecutionFinding;
 use crate::session::Session;
 use execution::Execute;
 use futures::task::Poll;
-use load_memory::NoMemory;
-use load_queue::Asks;
+use load_queue::LocalSource;
+use std::alloc::AllocError;
 
 /// The text of an answer, and how many rounds it took.
 #[derive(Debug, Drop)]
@@ -18,9 +18,9 @@ pub struct Answer {
     pub rounds: u32,
 }
 
-impl<S: Asks> Session<S> {
+impl<S: LocalSource> Session<S> {
     ghost use Rattle.load_rounds.specs.Sessions.{state_of, memory_of};
-    ghost use Rattle.load_rounds.specs.Runs.{IsUnasked};
+    ghost use Rattle.load_rounds.specs.ByHand.{IsUnasked};
     ghost use Rattle.load_rounds.specs.Answerings.{Turned};
     ghost use Rattle.load_rounds.specs.Headline.{HasHeadline, StopsAnswering};
 
@@ -28,10 +28,14 @@ impl<S: Asks> Session<S> {
     /// missing. Each round asks for all keys that are needed and missing.
     ///
     /// When out of memory, the finished rounds stay, and a round that was out is lost.
+    ///
+    /// # Headline
+    ///
+    /// `answer`; out of memory, `stopped`: the finished rounds stay
     pub fn answer<'p, E: Drop, P: Execute<'p, E>>(
         &mut self,
         plan: &'p P,
-    ) -> Result<Answer, NoMemory>
+    ) -> Result<Answer, AllocError>
         requires { P.loaders plan.now ≤ length self.old.loaders }
         ensures answer { IfOk result (HasHeadline S.may_tell (state_of self.old) (state_of self.new)
             (P.program plan.now) (P.text_of plan.now)) }
@@ -44,7 +48,7 @@ impl<S: Asks> Session<S> {
         loop {
             match self.turn(plan, &mut progress)? {
                 Poll::Ready(text) => return Ok(Answer { text, rounds }),
-                Poll::Pending => rounds = rounds.checked_add(1).ok_or(NoMemory)?,
+                Poll::Pending => rounds = rounds.checked_add(1).ok_or(AllocError)?,
             }
         }
     }
@@ -55,18 +59,19 @@ impl<S: Asks> Session<S> {
         &mut self,
         plan: &'p P,
         progress: &mut E,
-    ) -> Result<Poll<String>, NoMemory>
+    ) -> Result<Poll<String>, AllocError>
         requires loaders { P.loaders plan.now ≤ length self.old.loaders }
         requires fits { P.fits plan.now progress.old (memory_of self.old) }
         ensures turned { IfOk result (λ polled. Turned S.may_tell (P.text_of plan.now) (state_of self.old)
             (state_of self.new) (P.program plan.now) polled) }
         ensures fits { OnOk result (P.fits plan.now progress.new (memory_of self.new)) }
         ensures within { OnOk result (HasLoaders (P.loaders plan.now) (P.program plan.now)) }
-        ensures stopped { OnErr result (IsUnasked (P.program plan.now) (state_of self.old) (state_of self.new)) }
+        ensures stopped { OnErr result
+            (IsUnasked (P.program plan.now) (state_of self.old) (state_of self.new)) }
     {
         match self.execute(plan, progress)? {
-            Executed::Ready(text) => Ok(Poll::Ready(text)),
-            Executed::Missing(wants) => {
+            ExecutionFinding::Ready(text) => Ok(Poll::Ready(text)),
+            ExecutionFinding::Missing(wants) => {
                 self.ask(wants)?;
                 Ok(Poll::Pending)
             }

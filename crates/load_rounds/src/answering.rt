@@ -2,8 +2,13 @@
 //!
 //! The layer above may rely on this: after an executor has run the future, its output is what `answer` says of the
 //! session that was handed in (`gives`, which is `Answers` for a new future). A poll that is pending has run exactly one
-//! round and has asked for the next poll, and so many polls are within the load chain; so the future is ready after at
+//! round and has asked for the next poll, and there are no more such polls than the load chain is long; so the future is ready after at
 //! most one poll more.
+//!
+//! A future states what its output will be by its own state, and a pending poll has to show that the new
+//! promise implies the old one. So a future that has made rounds promises its output for whichever state these
+//! began from (`Gives`). That the session has the plan's loaders is required where the future is polled, and
+//! not where it is made.
 ghost use Rattle.std.specs.Prelude.{◌≡◌, true, IsSome, Some, IfOk};
 ghost use Rattle.execution.specs.Rounds.{AreLimited};
 ghost use Rattle.futures.specs.Poll.{IfReady, OnPending};
@@ -14,26 +19,26 @@ use crate::session::Session;
 use execution::Execute;
 use futures::Future;
 use futures::task::{Context, Poll};
-use load_memory::NoMemory;
-use load_queue::Asks;
+use load_queue::LocalSource;
+use std::alloc::AllocError;
 use std::marker::Model;
 use std::mem;
 
 /// An answer that is under way: its session, its rounds so far, and the execution that goes on from there.
 #[derive(Drop)]
-struct Underway<S, E> {
+struct AnswerUnderWay<S, E> {
     session: Session<S>,
     rounds: u32,
     progress: E,
 }
 
-/// How far an answering future is.
+/// Says how far an answering future is.
 #[derive(Drop)]
 enum Far<S, E> {
     /// It wasn't polled yet.
     Unpolled(Session<S>),
     /// It has made a round per poll.
-    Polled(Underway<S, E>),
+    Polled(AnswerUnderWay<S, E>),
     /// It has answered, and has returned the session.
     Over,
 }
@@ -42,6 +47,9 @@ enum Far<S, E> {
 /// again. The poll that finds nothing missing returns the session with the answer. It isn't polled after that.
 ///
 /// It keeps one execution of the plan, an `E`, from poll to poll. A contract sees what is executed, and how far it is.
+///
+/// The progress is a parameter of the type, since that it fits the session is part of what a poll requires and
+/// ensures again (`CanPoll`).
 #[derive(Drop)]
 pub struct Answering<'p, S, P, E> {
     plan: &'p P,
@@ -61,6 +69,16 @@ impl<S> Session<S> {
 
     /// Answers a plan as [`answer`](Session::answer) does, one round per poll, where the session has the plan's loaders.
     /// Nothing is done before the first poll. It takes no memory.
+    ///
+    /// # Errors
+    ///
+    /// None of this call. A poll that is out of memory is ready, with the session and the fault, as after
+    /// [`answer`](Session::answer) (`gives`). A future that is dropped before it is ready takes its session
+    /// with it.
+    ///
+    /// # Headline
+    ///
+    /// `gives` of the future that it returns: `Answers`, which is what both clauses of `answer` say
     pub fn into_answering<'p, E, P: Execute<'p, E>>(self, plan: &'p P) -> Answering<'p, S, P, E>
         ensures { result ≡ record { plan = plan.now; far = handed self } }
     {
@@ -75,8 +93,9 @@ impl<S, E> Far<S, E> {
     ghost use Rattle.load_rounds.specs.Sessions.{state_of, rules_of, memory_of};
     ghost use Rattle.load_rounds.specs.Answerings.{far_of, begun, rounds_of, FitsFar};
 
-    // Where the next poll begins. At first failed batches are forgotten. A contract also sees here that no loader's limit is 0.
-    fn begin<'p, P: Execute<'p, E>>(self, plan: &'p P) -> Underway<S, E>
+    // Returns where the next poll begins. At first failed batches are forgotten. A contract also sees here that no loader's
+    // limit is 0.
+    fn begin<'p, P: Execute<'p, E>>(self, plan: &'p P) -> AnswerUnderWay<S, E>
         requires can { IsSome (begun (far_of self)) }
         requires fits { FitsFar (P.fits plan.now) (far_of self) }
         ensures state { begun (far_of self) ≡ Some (state_of result.session) }
@@ -87,7 +106,7 @@ impl<S, E> Far<S, E> {
         match self {
             Far::Unpolled(mut session) => {
                 session.forget();
-                Underway {
+                AnswerUnderWay {
                     session,
                     rounds: 0,
                     progress: plan.start(),
@@ -102,11 +121,12 @@ impl<S, E> Far<S, E> {
     }
 }
 
-impl<'p, S: Asks + Drop, E: Drop, P: Execute<'p, E> + Drop> Future for Answering<'p, S, P, E> {
+impl<'p, S: LocalSource + Drop, E: Drop, P: Execute<'p, E> + Drop> Future
+    for Answering<'p, S, P, E> {
     ghost use Rattle.load_rounds.specs.Sessions.{state_of};
     ghost use Rattle.load_rounds.specs.Answerings.{CanPoll, Gives, GivesNoMore, PollRan, begun, rounds_of};
 
-    type Output = (Session<S>, Result<Answer, NoMemory>);
+    type Output = (Session<S>, Result<Answer, AllocError>);
 
     ghost can_poll = { λ a. CanPoll S.may_tell (P.fits a.plan) (P.loaders a.plan) (P.program a.plan) a.far };
 
@@ -114,23 +134,27 @@ impl<'p, S: Asks + Drop, E: Drop, P: Execute<'p, E> + Drop> Future for Answering
 
     ghost needs = { λ a s. ⊥ };
 
-    fn poll(&mut self, cx: &mut Context<'_>) -> Poll<(Session<S>, Result<Answer, NoMemory>)>
-        requires { CanPoll S.may_tell (P.fits self.old.plan) (P.loaders self.old.plan) (P.program self.old.plan) self.old.far }
+    fn poll(&mut self, cx: &mut Context<'_>) -> Poll<(Session<S>, Result<Answer, AllocError>)>
+        requires { CanPoll S.may_tell (P.fits self.old.plan)
+            (P.loaders self.old.plan) (P.program self.old.plan) self.old.far }
         ensures value { IfReady result (λ out.
             Gives S.may_tell (P.program self.old.plan) (P.text_of self.old.plan) self.old.far out) }
         ensures again { OnPending result
             (CanPoll S.may_tell (P.fits self.new.plan) (P.loaders self.new.plan) (P.program self.new.plan) self.new.far) }
-        ensures same { OnPending result (GivesNoMore S.may_tell P.program P.text_of self.old self.new) }
+        ensures same { OnPending result
+            (GivesNoMore S.may_tell P.program P.text_of self.old self.new) }
         ensures registered { OnPending result (Covers cx.new (λ _. ⊥)) }
         ensures kept { Keeps cx.old cx.new }
         ensures plan { self.new.plan ≡ self.old.plan }
         ensures round { OnPending result
             (PollRan S.may_tell (P.program self.old.plan) self.old.far self.new.far) }
         ensures yielded { OnPending result (cx.new.is_woken ≡ true) }
-        ensures counted { IfReady result (λ out. IfOk out.1 (λ a. a.rounds ≡ rounds_of self.old.far)) }
-        ensures asks_nothing { IfReady result (λ out. IfOk out.1 (λ _. begun self.old.far ≡ Some (state_of out.0))) }
+        ensures counted { IfReady result (λ out.
+            IfOk out.1 (λ a. a.rounds ≡ rounds_of self.old.far)) }
+        ensures asks_nothing { IfReady result (λ out.
+            IfOk out.1 (λ _. begun self.old.far ≡ Some (state_of out.0))) }
     {
-        let Underway {
+        let AnswerUnderWay {
             mut session,
             rounds,
             mut progress,
@@ -139,14 +163,14 @@ impl<'p, S: Asks + Drop, E: Drop, P: Execute<'p, E> + Drop> Future for Answering
             Ok(Poll::Ready(text)) => Poll::Ready((session, Ok(Answer { text, rounds }))),
             Ok(Poll::Pending) => match rounds.checked_add(1) {
                 Some(rounds) => {
-                    self.far = Far::Polled(Underway {
+                    self.far = Far::Polled(AnswerUnderWay {
                         session,
                         rounds,
                         progress,
                     });
                     cx.yield_now()
                 }
-                None => Poll::Ready((session, Err(NoMemory))),
+                None => Poll::Ready((session, Err(AllocError))),
             },
             Err(fault) => Poll::Ready((session, Err(fault))),
         }

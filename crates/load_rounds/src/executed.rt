@@ -5,12 +5,12 @@ ghost use Rattle.execution.specs.Rounds.{AreLimited, HasLoaders};
 use crate::session::Session;
 use execution::Execute;
 use futures::task::Poll;
-use load_memory::NoMemory;
 use load_queue::Wants;
+use std::alloc::AllocError;
 
-/// What an execution finds over a session.
+/// Says what an execution finds over a session.
 #[derive(Drop)]
-pub(crate) enum Executed {
+pub(crate) enum ExecutionFinding {
     /// The text, since nothing is missing.
     Ready(String),
     /// The keys that are needed and missing.
@@ -27,10 +27,11 @@ impl<S> Session<S> {
         &self,
         plan: &'p P,
         progress: &mut E,
-    ) -> Result<Executed, NoMemory>
+    ) -> Result<ExecutionFinding, AllocError>
         requires loaders { P.loaders plan.now ≤ length self.now.loaders }
         requires fits { P.fits plan.now progress.old (memory_of self.now) }
-        ensures found { IfOk result (Finds (P.text_of plan.now) (P.program plan.now) (state_of self.now)) }
+        ensures found { IfOk result
+            (Finds (P.text_of plan.now) (P.program plan.now) (state_of self.now)) }
         ensures fits { OnOk result (FitsFrom (P.fits plan.now progress.new) (memory_of self.now)) }
         ensures limited { AreLimited (rules_of (state_of self.now)) }
         ensures within { OnOk result (HasLoaders (P.loaders plan.now) (P.program plan.now)) }
@@ -38,8 +39,8 @@ impl<S> Session<S> {
         let memory = self.memory();
         let mut wants = Wants::new(self.alloc(), memory)?;
         match plan.execute(progress, self.alloc(), memory, &mut wants)? {
-            Poll::Ready(text) => Ok(Executed::Ready(text)),
-            Poll::Pending => Ok(Executed::Missing(wants)),
+            Poll::Ready(text) => Ok(ExecutionFinding::Ready(text)),
+            Poll::Pending => Ok(ExecutionFinding::Missing(wants)),
         }
     }
 }

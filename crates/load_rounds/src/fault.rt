@@ -1,9 +1,8 @@
-//! Why a call of a session was refused.
-use load_memory::NoMemory;
+//! Faults: why a call of a session was refused.
 use std::alloc::{AllocError, AllocFailed};
 use thiserror::Error;
 
-/// Why a call of a session was refused.
+/// Says why a call of a session was refused.
 #[derive(Clone, Copy, Debug, PartialEq, Eq, Error)]
 pub enum SessionFault {
     /// The session has no loader of that number.
@@ -12,17 +11,6 @@ pub enum SessionFault {
     /// Out of memory, here or in a source; or the number of the next round would overflow.
     #[error("out of memory")]
     NoMemory,
-}
-
-impl From<NoMemory> for SessionFault {
-    ghost use Rattle.std.specs.Prelude.{◌≡◌};
-    ghost use Rattle.load_rounds.specs.declared.fault.SessionFault.TheVariants.{NoMemory};
-
-    ghost from_gives = { λ _ fault. fault ≡ NoMemory };
-
-    fn from(_e: NoMemory) -> SessionFault {
-        SessionFault::NoMemory
-    }
 }
 
 impl From<AllocError> for SessionFault {

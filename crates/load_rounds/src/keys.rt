@@ -7,17 +7,17 @@ ghost use Rattle.execution.specs.Loads.{read};
 ghost use Rattle.execution.specs.Front.{missing, wanted};
 ghost use Rattle.load_rounds.specs.Calls.{load_of, reader_of};
 
-use load_memory::{Key, Memory, NoMemory, Outcome, cache_key};
+use load_memory::{Key, Memory, Outcome, cache_key};
 use load_queue::Wants;
-use std::alloc::Global;
+use std::alloc::{AllocError, Global};
 
-/// What is known of a key.
+/// Returns what is known of a key.
 fn known_of<'a>(
     alloc: Global,
     memory: &'a Memory,
     loader: usize,
     key: &Key,
-) -> Result<Option<&'a Outcome>, NoMemory>
+) -> Result<Option<&'a Outcome>, AllocError>
     requires { loader < length memory.now.modes }
     ensures { IfOk result (λ known. option_map outcome_of (option_copied known)
         ≡ read memory.now.modes (look memory.now.pairs) (load_of loader (key_of key.now))) }
@@ -32,7 +32,7 @@ pub(crate) fn missing_keys(
     memory: &Memory,
     loader: usize,
     keys: &[Key],
-) -> Result<Wants, NoMemory>
+) -> Result<Wants, AllocError>
     requires { loader < length memory.now.modes }
     ensures { IfOk result (λ wants. wants
         ≡ wanted memory.now.modes (missing (reader_of memory.now) (map (load_of loader) (map key_of keys.now)))) }
@@ -52,7 +52,7 @@ pub(crate) fn known_outcomes(
     memory: &Memory,
     loader: usize,
     keys: &[Key],
-) -> Result<Vec<Outcome>, NoMemory>
+) -> Result<Vec<Outcome>, AllocError>
     requires loader { loader < length memory.now.modes }
     requires known { All (λ k. IsSome (read memory.now.modes (look memory.now.pairs) (load_of loader k)))
         (map key_of keys.now) }

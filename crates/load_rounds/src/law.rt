@@ -1,4 +1,4 @@
-//! What holds of the calls of a session, one after another. Each function does nothing: its contract is the law.
+//! Laws of the calls of a session, one after another. Each function does nothing: its contract is the law.
 ghost use Rattle.std.specs.Prelude.{◌≡◌, ◌⊎◌, ◌∷◌, [], List, true, length, map};
 ghost use Rattle.std.specs.List.{list_any};
 ghost use Rattle.load_queue.specs.Loaders.{as_made};
@@ -17,12 +17,12 @@ ghost use Rattle.load_rounds.specs.KeyByKey.{AnswerKeyByKey, RespectModes, HasLa
 ghost use Rattle.load_rounds.specs.SharedKeyByKey.{AreAnsweredAlike, AreAnsweredDirectly};
 ghost use Rattle.load_rounds.specs.Histories.{Call, IsMadeOf, AreMadeOf, Leads, IsCall, AreCalls, clears_at, IsFrom, gained_cells, AskTwice, IsFailedAt};
 
-use load_queue::Asks;
+use load_queue::LocalSource;
 
 /// Each call is a list of steps, and each step is lawful: a round asks only for what the memory lacks at that moment, of equal
 /// cache keys only the first. Calls in a row make their steps in a row. So each pair of the memory after them was there
 /// before, was primed by one of them, or is in a reply of one of their rounds.
-pub fn calls_are_steps<S: Asks>()
+pub fn calls_are_steps<S: LocalSource>()
     ensures one { (call : Call) (old new : _) → IsCall S.may_tell call old new
         → (steps : _) × Leads S.may_tell old (Forgot ∷ steps) new × IsMadeOf call steps }
     ensures all { (calls : List Call) (old new : _) → AreCalls S.may_tell calls old new
@@ -33,7 +33,7 @@ pub fn calls_are_steps<S: Asks>()
 
 /// No call changes more of a loader than its log and the count of its orders. So a session that starts again is as a new one over the
 /// loaders that it was made with, whatever was called before, but that their orders stay counted.
-pub fn calls_keep_loaders<S: Asks>()
+pub fn calls_keep_loaders<S: LocalSource>()
     ensures { (calls : List Call) (old new : StateOf S) → AreCalls S.may_tell calls old new
         → map as_made new.loaders ≡ map as_made old.loaders }
 {}
@@ -43,7 +43,10 @@ pub fn calls_keep_loaders<S: Asks>()
 /// the earlier call the memory has that batch's fault for it. Entries of a lost round aren't stored, and their keys may be
 /// asked for again. A run by hand counts as one call, at whatever stage it was dropped, unless another call changed its
 /// session before that. A session that starts again has cleared every key.
-pub fn no_key_twice<S: Asks>()
+///
+/// A call that is out of memory counts, with the rounds that it stored; such a `clear` has cleared nothing. A
+/// call that is refused because of its loader's number doesn't count.
+pub fn no_key_twice<S: LocalSource>()
     ensures together { (call : _) (old new : _) (loader : _) → AreLimited (rules_of old) → IsCall S.may_tell call old new
         → AreApart (gained_cells loader old new) }
     ensures again { (t : _) → AreLimited (rules_of t.old) → AskTwice S.may_tell t
@@ -53,7 +56,7 @@ pub fn no_key_twice<S: Asks>()
 /// *Shared rounds*. Several requests are one program, whose front is the front of all of them: what any of them needs and the memory
 /// lacks, in order, of equal cache keys only the first. The rounds of all together are at most the longest of their load chains. For
 /// one request alone this is the headline.
-pub fn requests_share_rounds<S: Asks>()
+pub fn requests_share_rounds<S: LocalSource>()
     ensures front { (modes : List KeyMode) (rs : List RequestOf) (M : Memory)
         → front modes (together rs) M ≡ front_of_all modes (map (λ r. r.program) rs) M }
     ensures chain { (old new : _) (rs : _) (report : _) → (h : SharedHeadline S.may_tell old new rs report)
@@ -68,9 +71,11 @@ pub fn requests_share_rounds<S: Asks>()
 /// an answer's log is fixed. So two answers from one state are one: the same text, rounds, memory and logs, whoever ran the
 /// orders. If the loaders compare keys as their sources do, and the memory has at first what the sources would answer, as in a
 /// new session, the text is that of direct execution.
-pub fn answers_key_by_key<S: Asks>()
-    ensures lawful { (item : S → KeyOf → ItemOf) → AnswerKeyByKey S.may_tell item → HasLawfulLog S.may_tell item }
-    ensures one { (item : S → KeyOf → ItemOf) → AnswerKeyByKey S.may_tell item → IsAnsweredAlike S.may_tell }
+pub fn answers_key_by_key<S: LocalSource>()
+    ensures lawful { (item : S → KeyOf → ItemOf)
+        → AnswerKeyByKey S.may_tell item → HasLawfulLog S.may_tell item }
+    ensures one { (item : S → KeyOf → ItemOf)
+        → AnswerKeyByKey S.may_tell item → IsAnsweredAlike S.may_tell }
     ensures direct { (item : _) (mode_of : S → KeyMode) → AnswerKeyByKey S.may_tell item → RespectModes mode_of item
         → IsAnsweredDirectly S.may_tell item mode_of }
 {}
@@ -78,8 +83,9 @@ pub fn answers_key_by_key<S: Asks>()
 /// *One lawful log*, of answers to several requests. Over sources that answer key by key two times the answers to the same requests
 /// from one state are the same, and leave the same memory and logs, whoever ran the orders. Each text is that of direct execution, as
 /// that of an answer alone is.
-pub fn requests_key_by_key<S: Asks>()
-    ensures one { (item : S → KeyOf → ItemOf) → AnswerKeyByKey S.may_tell item → AreAnsweredAlike S.may_tell }
+pub fn requests_key_by_key<S: LocalSource>()
+    ensures one { (item : S → KeyOf → ItemOf)
+        → AnswerKeyByKey S.may_tell item → AreAnsweredAlike S.may_tell }
     ensures direct { (item : _) (mode_of : S → KeyMode) → AnswerKeyByKey S.may_tell item → RespectModes mode_of item
         → AreAnsweredDirectly S.may_tell item mode_of }
 {}

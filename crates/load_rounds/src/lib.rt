@@ -8,21 +8,23 @@
 //!
 //! Every answer carries one definition, the headline (`specs::Headline`). Answers come in turn ([`Session::answer`]), by a
 //! future ([`Answering`]), or in rounds that the caller runs ([`Session::begin`]): a run gives the orders of each round and
-//! takes their replies in any order. Each call's contract says what has been done since the run was begun (`specs::Runs`,
+//! takes their replies in any order. Each call's contract says what has been done since the run was begun (`specs::ByHand`,
 //! `IsRun`), and in the end that is the headline.
 //!
 //! Keys of one loader are loaded in turn ([`Session::load_many`]), or in a round that the caller runs ([`Session::begin_load`],
 //! [`Session::end_load`]): `specs::Loadings`.
 //!
-//! What is answered is whatever can be executed ([`Execute`]): it loads keys, and gives a text. A plan of a GraphQL document is
-//! that; nothing here knows of one.
+//! Answers are given to whatever can be executed ([`Execute`]): it loads keys, and gives a text. A
+//! plan of a GraphQL document is that; nothing here knows of one.
 //!
 //! Several plans are answered in rounds that they share, in turn ([`Session::answer_all`]) or by hand ([`Session::begin_all`]):
 //! there is one log, and each answer has a headline of its own (`specs::SharedRounds`, `SharedHeadline`).
 #![tactic(auto)]
 
+pub mod all_by_hand;
 pub mod answer;
 pub mod answering;
+pub mod by_hand;
 mod executed;
 pub mod fault;
 mod keys;
@@ -30,17 +32,15 @@ pub mod law;
 pub mod load;
 mod restart;
 mod round;
-pub mod run;
-pub mod run_all;
 pub mod session;
 pub mod shared;
 mod together;
 
+pub use all_by_hand::{AllRoundsByHand, NextAll};
 pub use answer::Answer;
 pub use answering::Answering;
+pub use by_hand::{Next, RoundsByHand, Stage};
 pub use execution::Execute;
 pub use fault::SessionFault;
 pub use load::NextLoad;
-pub use run::{Next, Run, Stage};
-pub use run_all::{NextAll, RunAll};
 pub use session::Session;

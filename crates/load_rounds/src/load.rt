@@ -9,10 +9,11 @@ ghost use Rattle.execution.specs.Loads.{read};
 use crate::fault::SessionFault;
 use crate::keys::{known_outcomes, missing_keys};
 use crate::session::Session;
-use load_memory::{Key, NoMemory, Outcome, Reply};
-use load_queue::{Asks, Order, Wants};
+use load_memory::{Key, Outcome, Reply};
+use load_queue::{LocalSource, Order, Wants};
+use std::alloc::AllocError;
 
-/// What [`Session::begin_load`] returns.
+/// Says what [`Session::begin_load`] returns.
 #[derive(Drop)]
 pub enum NextLoad {
     /// All keys are known. There is an outcome for each, in order.
@@ -26,8 +27,8 @@ impl<S> Session<S> {
     ghost use Rattle.load_rounds.specs.Calls.{load_of, AreKnown};
     ghost use Rattle.load_rounds.specs.Loadings.{FindsKeys};
 
-    // What is to be asked of a loader for its keys. `None` if all are known.
-    fn wanted_keys(&self, loader: usize, keys: &[Key]) -> Result<Option<Wants>, NoMemory>
+    // Returns what is to be asked of a loader for its keys. `None` if all are known.
+    fn wanted_keys(&self, loader: usize, keys: &[Key]) -> Result<Option<Wants>, AllocError>
         requires { loader < length self.now.loaders }
         ensures { IfOk result (FindsKeys (state_of self.now) loader (map key_of keys.now)) }
     {
@@ -39,17 +40,18 @@ impl<S> Session<S> {
     }
 
     // Copies of what is known of a loader's keys, place by place.
-    fn outcomes(&self, loader: usize, keys: &[Key]) -> Result<Vec<Outcome>, NoMemory>
+    fn outcomes(&self, loader: usize, keys: &[Key]) -> Result<Vec<Outcome>, AllocError>
         requires loader { loader < length self.now.loaders }
         requires known { All (λ k. IsSome (read (session_modes (state_of self.now)) (state_of self.now).memory (load_of loader k)))
             (map key_of keys.now) }
-        ensures { IfOk result (λ outcomes. AreKnown (state_of self.now) loader (map key_of keys.now) (map outcome_of outcomes.items)) }
+        ensures { IfOk result (λ outcomes. AreKnown (state_of self.now)
+            loader (map key_of keys.now) (map outcome_of outcomes.items)) }
     {
         known_outcomes(self.alloc(), self.memory(), loader, keys)
     }
 }
 
-impl<S: Asks> Session<S> {
+impl<S: LocalSource> Session<S> {
     ghost use Rattle.load_rounds.specs.Sessions.{state_of};
     ghost use Rattle.load_rounds.specs.Histories.{IsCallOf, StoppedLoading, any_tell};
     ghost use Rattle.load_rounds.specs.Loadings.{BeginsLoad, IsLoadOut, AreToldAt, LoadsFrom, StopsLoadFrom};
@@ -58,13 +60,23 @@ impl<S: Asks> Session<S> {
     /// and otherwise the orders of the one round that asks for those that aren't, of equal cache keys only the first. The caller answers
     /// each of them, and [ends](Session::end_load) the load.
     ///
-    /// When out of memory, no round is out, or it is lost and the log has none of its batches, or all.
+    /// # Errors
+    ///
+    /// Those of [`load`](Session::load). When out of memory no round is out, or it is lost and the log has none
+    /// of its batches, or all (`no_memory`).
+    ///
+    /// # Headline
+    ///
+    /// `begun` and `loaded`: together they are a call of `load_many`, if the replies are as the sources may give
+    /// them. A `LoadHand` of `rounds_by_hand` keeps both
     pub fn begin_load(&mut self, loader: usize, keys: &[Key]) -> Result<NextLoad, SessionFault>
-        ensures no_loader { IsErrOf result SessionFault.NoSuchLoader ↔ (length self.old.loaders ≤ loader) }
+        ensures no_loader { IsErrOf result SessionFault.NoSuchLoader
+            ↔ (length self.old.loaders ≤ loader) }
         ensures refused { IsErrOf result SessionFault.NoSuchLoader → self.new ≡ self.old }
         ensures no_memory { IsErrOf result SessionFault.NoMemory
             → IsCallOf S.may_tell (StoppedLoading loader (map key_of keys.now)) self.old self.new }
-        ensures begun { IfOk result (BeginsLoad S.may_tell (state_of self.old) (state_of self.new) loader (map key_of keys.now)) }
+        ensures begun { IfOk result (BeginsLoad S.may_tell (state_of self.old)
+            (state_of self.new) loader (map key_of keys.now)) }
         ensures recorded { AreOnRecord self.old.loaders self.new.loaders }
     {
         if loader >= self.loaders().len() {
@@ -81,17 +93,25 @@ impl<S: Asks> Session<S> {
     /// session is as [`begin_load`](Session::begin_load) left it. A reply may have any answer; what the sources may answer counts where
     /// the contract says what was loaded.
     ///
-    /// When out of memory, the session is as it was, and the round is lost; or it is stored, and the outcomes weren't copied. The replies
-    /// are gone then.
+    /// # Errors
+    ///
+    /// When out of memory, the session is as it was, and the round is lost; or it is stored, and the outcomes
+    /// weren't copied (`stopped`). The replies are gone then.
+    ///
+    /// # Headline
+    ///
+    /// `begun` and `loaded`: together they are a call of `load_many`, if the replies are as the sources may give
+    /// them. A `LoadHand` of `rounds_by_hand` keeps both
     pub fn end_load(
         &mut self,
         loader: usize,
         keys: &[Key],
         replies: Vec<Reply>,
-    ) -> Result<Vec<Outcome>, NoMemory>
+    ) -> Result<Vec<Outcome>, AllocError>
         requires loader { loader < length self.old.loaders }
         requires out { IsLoadOut (state_of self.old) loader (map key_of keys.now) }
-        requires round { AreToldAt any_tell (state_of self.old) loader (map key_of keys.now) (map reply_of replies.items) }
+        requires round { AreToldAt any_tell (state_of self.old) loader
+            (map key_of keys.now) (map reply_of replies.items) }
         ensures loaded { IfOk result (LoadsFrom S.may_tell (state_of self.old) (state_of self.new)
             loader (map key_of keys.now) (map reply_of replies.items)) }
         ensures stopped { OnErr result (StopsLoadFrom S.may_tell (state_of self.old) (state_of self.new)

@@ -1,17 +1,17 @@
-//! What a session forgets when it starts again.
+//! Restarts: what a session forgets when it starts again.
 ghost use Rattle.std.specs.Prelude.{◌≡◌, [], map, IfOk, OnOk, OnErr};
 ghost use Rattle.load_queue.specs.Loaders.{unasked};
 
-use load_memory::{Memory, NoMemory};
+use load_memory::Memory;
 use load_queue::Loader;
-use std::alloc::Global;
+use std::alloc::{AllocError, Global};
 
-/// How many keys a memory may know for its tables to be kept. Emptying a table takes as long as it is large, so one large
-/// session would slow all that come after it.
+/// Says how many keys a memory may know for its tables to be kept. Emptying a table takes as long as it is large, so one
+/// large session would slow all that come after it.
 const KEPT_KEYS: usize = 1_024;
 
 /// Forgets all keys. When out of memory, all stay.
-pub(crate) fn forget_all(alloc: Global, memory: &mut Memory) -> Result<(), NoMemory>
+pub(crate) fn forget_all(alloc: Global, memory: &mut Memory) -> Result<(), AllocError>
     ensures pairs { OnOk result (memory.new.pairs ≡ []) }
     ensures modes { memory.new.modes ≡ memory.old.modes }
     ensures kept { OnErr result (memory.new ≡ memory.old) }
@@ -25,7 +25,7 @@ pub(crate) fn forget_all(alloc: Global, memory: &mut Memory) -> Result<(), NoMem
 }
 
 // A memory that compares keys as this one does, and knows none.
-fn fresh_memory(alloc: Global, memory: &Memory) -> Result<Memory, NoMemory>
+fn fresh_memory(alloc: Global, memory: &Memory) -> Result<Memory, AllocError>
     ensures { IfOk result (λ fresh. fresh ≡ record { modes = memory.now.modes; pairs = [] }) }
 {
     let mut modes = Vec::with_capacity(alloc, memory.modes().len())?;

@@ -1,4 +1,7 @@
 //! One round in turn: the batches of what is wanted are entered in the logs, each is asked, and all are stored.
+//!
+//! A round counts as soon as it has an order. A lost round keeps its number, and the batches that it entered
+//! are those of the first loaders.
 ghost use Rattle.std.specs.Prelude.{◌≡◌, ◌<◌, ◌+◌, ℕ, All, map, length, IfOk, OnOk, OnErr};
 ghost use Rattle.load_memory.specs.Replies.{reply_of};
 ghost use Rattle.load_queue.specs.Loaders.{stored_in};
@@ -7,9 +10,9 @@ ghost use Rattle.load_queue.specs.Orders.{OrderOf};
 ghost use Rattle.execution.specs.Rounds.{rule_of, may_at, AreReplies};
 ghost use Rattle.load_rounds.specs.Rounds.{orders_by, first_keys, Enters};
 
-use load_memory::{NoMemory, Reply};
-use load_queue::{Asks, Loader, Order, Wants};
-use std::alloc::Global;
+use load_memory::Reply;
+use load_queue::{Loader, LocalSource, Order, Wants};
+use std::alloc::{AllocError, Global};
 
 /// Cuts the wanted keys into batches, enters these in the logs of their loaders as asked in this round, and returns
 /// their orders. The keys move from the wants to the orders. A loader of which nothing is wanted isn't touched. The round
@@ -20,7 +23,7 @@ pub(crate) fn cut_all<S>(
     rounds: &mut u32,
     round: u32,
     wants: &mut Wants,
-) -> Result<Vec<Order>, NoMemory>
+) -> Result<Vec<Order>, AllocError>
     requires lined_up { length wants.old ≡ length loaders.old.items }
     requires next { round ≡ rounds.old + 1 }
     ensures orders { IfOk result (λ orders. orders.items
@@ -46,11 +49,11 @@ pub(crate) fn cut_all<S>(
 }
 
 /// Runs orders one after another.
-pub(crate) fn run_all<S: Asks>(
+pub(crate) fn run_all<S: LocalSource>(
     alloc: Global,
     orders: Vec<Order>,
     loaders: &[Loader<S>],
-) -> Result<Vec<Reply>, NoMemory>
+) -> Result<Vec<Reply>, AllocError>
     requires { All (λ (o : OrderOf). o.loader < length loaders.now) orders.items }
     ensures { IfOk result (λ replies.
         AreReplies (may_at S.may_tell loaders.now) orders.items (map reply_of replies.items)) }

@@ -16,9 +16,9 @@ use crate::fault::SessionFault;
 use crate::load::NextLoad;
 use crate::restart::{forget_all, restart_all};
 use crate::round::{cut_all, mark_all, run_all};
-use load_memory::{Item, Key, Memory, NoMemory, Outcome, Receipt, Reply, Shelf, cache_key};
-use load_queue::{Asked, Asks, Loader, Order, Wants};
-use std::alloc::Global;
+use load_memory::{Item, Key, Memory, Outcome, Receipt, Reply, Shelf, cache_key};
+use load_queue::{Loader, LocalSource, LogEntry, Order, Wants};
+use std::alloc::{AllocError, Global};
 use std::marker::Model;
 
 /// A set of loaders with one cache of what they returned. A contract sees the loaders with their logs, the known pairs,
@@ -44,7 +44,7 @@ impl<S> Session<S> {
     ghost use Rattle.load_rounds.specs.Sessions.{session_modes, rules_of, state_of, after_step, restarted, AreNumbered};
     ghost use Rattle.load_rounds.specs.Calls.{cell_at, pair_at, RoundLost};
     ghost use Rattle.load_rounds.specs.Histories.{IsCallOf, Priming, Clearing, ClearingAll, Forgetting, Restarting, any_tell};
-    ghost use Rattle.load_rounds.specs.Runs.{received};
+    ghost use Rattle.load_rounds.specs.ByHand.{received};
 
     pub(crate) fn alloc(&self) -> Global {
         *self.loaders.allocator()
@@ -67,7 +67,7 @@ impl<S> Session<S> {
 
     /// Cuts the wanted keys into the batches of the next round, enters these in the logs, and returns their orders, into
     /// which the keys move. A contract also sees here that the log's entries have the numbers of rounds that were made.
-    pub(crate) fn cut(&mut self, wants: &mut Wants) -> Result<Vec<Order>, NoMemory>
+    pub(crate) fn cut(&mut self, wants: &mut Wants) -> Result<Vec<Order>, AllocError>
         requires { length wants.old ≡ length self.old.loaders }
         ensures orders { (loads : List Load) → AreWanted wants.old loads
             → IfOk result (λ orders. orders.items ≡ round_orders (rules_of (state_of self.old)) loads) }
@@ -77,16 +77,17 @@ impl<S> Session<S> {
             → OnErr result (RoundLost (state_of self.old) (state_of self.new) loads) }
         ensures numbered { AreNumbered self.old.rounds self.old.loaders }
     {
-        let round = self.rounds.checked_add(1).ok_or(NoMemory)?;
+        let round = self.rounds.checked_add(1).ok_or(AllocError)?;
         cut_all(&mut self.loaders, &mut self.rounds, round, wants)
     }
 
     /// Stores the replies to the latest round, given by their receipts in any order, and marks its log entries as
     /// stored. A contract also sees here that no loader's limit is 0.
-    pub(crate) fn receive(&mut self, shelf: &Shelf, receipts: &[Receipt]) -> Result<(), NoMemory>
+    pub(crate) fn receive(&mut self, shelf: &Shelf, receipts: &[Receipt]) -> Result<(), AllocError>
         requires shelf { All (IsOn shelf.now) receipts.now }
         requires loaders { All (λ r. (shown r).loader < length self.old.loaders) receipts.now }
-        ensures received { OnOk result (state_of self.new ≡ received (state_of self.old) (map shown receipts.now)) }
+        ensures received { OnOk result
+            (state_of self.new ≡ received (state_of self.old) (map shown receipts.now)) }
         ensures kept { OnErr result (state_of self.new ≡ state_of self.old) }
         ensures limited { AreLimited (rules_of (state_of self.old)) }
     {
@@ -96,9 +97,10 @@ impl<S> Session<S> {
     }
 
     /// Does what [`receive`](Session::receive) does with replies that it is handed.
-    pub(crate) fn receive_owned(&mut self, replies: Vec<Reply>) -> Result<(), NoMemory>
+    pub(crate) fn receive_owned(&mut self, replies: Vec<Reply>) -> Result<(), AllocError>
         requires { All (λ r. r.loader < length self.old.loaders) replies.items }
-        ensures received { OnOk result (state_of self.new ≡ received (state_of self.old) (map reply_of replies.items)) }
+        ensures received { OnOk result
+            (state_of self.new ≡ received (state_of self.old) (map reply_of replies.items)) }
         ensures kept { OnErr result (state_of self.new ≡ state_of self.old) }
         ensures limited { AreLimited (rules_of (state_of self.old)) }
     {
@@ -107,7 +109,7 @@ impl<S> Session<S> {
         Ok(())
     }
 
-    /// What is known of the loaders' keys. A contract also sees here that no loader's limit is 0.
+    /// Returns what is known of the loaders' keys. A contract also sees here that no loader's limit is 0.
     pub fn memory(&self) -> &Memory
         ensures pairs { result.now.pairs ≡ self.now.pairs }
         ensures limited { AreLimited (rules_of (state_of self.now)) }
@@ -124,7 +126,7 @@ impl<S> Session<S> {
     }
 
     /// The batches that a loader was asked for, oldest first. `None` if there is no loader of that number.
-    pub fn logs(&self, loader: usize) -> Option<&[Asked]>
+    pub fn logs(&self, loader: usize) -> Option<&[LogEntry]>
         ensures { option_map (map asked_of) (option_copied result)
             ≡ option_map (λ l. l.log) (slice_get self.now.loaders loader) }
     {
@@ -136,13 +138,23 @@ impl<S> Session<S> {
 
     /// Forgets failed batches, and then adds an item for a loader's key unless the key is known. Returns true if it was
     /// added. A known key keeps its outcome.
+    ///
+    /// # Errors
+    ///
+    /// [`NoSuchLoader`](SessionFault::NoSuchLoader) exactly where the session has no loader of that number: it
+    /// is as it was, failed batches too (`no_loader`, `refused`). When out of memory failed batches are
+    /// forgotten, and nothing else has changed: no pair, no log and no number of a round (`no_memory`, by
+    /// `Forgetting`).
     pub fn prime(&mut self, loader: usize, key: &Key, item: Item) -> Result<bool, SessionFault>
-        ensures no_loader { IsErrOf result SessionFault.NoSuchLoader ↔ (length self.old.loaders ≤ loader) }
+        ensures no_loader { IsErrOf result SessionFault.NoSuchLoader
+            ↔ (length self.old.loaders ≤ loader) }
         ensures refused { IsErrOf result SessionFault.NoSuchLoader → self.new ≡ self.old }
-        ensures no_memory { IsErrOf result SessionFault.NoMemory → IsCallOf any_tell Forgetting self.old self.new }
+        ensures no_memory { IsErrOf result SessionFault.NoMemory
+            → IsCallOf any_tell Forgetting self.old self.new }
         ensures report { IfOk result (λ added. added
             ≡ is_none (without_failed (look self.old.pairs) loader (cell_at (state_of self.old) loader (key_of key.now)).1)) }
-        ensures after { OnOk result (IsCallOf any_tell (Priming (pair_at (state_of self.old) loader (key_of key.now) (item_of item))) self.old self.new) }
+        ensures after { OnOk result (IsCallOf any_tell (Priming (pair_at (state_of self.old)
+            loader (key_of key.now) (item_of item))) self.old self.new) }
     {
         if loader >= self.loaders.len() {
             return Err(SessionFault::NoSuchLoader);
@@ -154,13 +166,20 @@ impl<S> Session<S> {
     }
 
     /// Forgets failed batches, and then what is known of a loader's key. Returns true if the key was still known then.
+    ///
+    /// # Errors
+    ///
+    /// Those of [`prime`](Session::prime).
     pub fn clear(&mut self, loader: usize, key: &Key) -> Result<bool, SessionFault>
-        ensures no_loader { IsErrOf result SessionFault.NoSuchLoader ↔ (length self.old.loaders ≤ loader) }
+        ensures no_loader { IsErrOf result SessionFault.NoSuchLoader
+            ↔ (length self.old.loaders ≤ loader) }
         ensures refused { IsErrOf result SessionFault.NoSuchLoader → self.new ≡ self.old }
-        ensures no_memory { IsErrOf result SessionFault.NoMemory → IsCallOf any_tell Forgetting self.old self.new }
+        ensures no_memory { IsErrOf result SessionFault.NoMemory
+            → IsCallOf any_tell Forgetting self.old self.new }
         ensures report { IfOk result (λ there. there
             ≡ is_some (without_failed (look self.old.pairs) loader (cell_at (state_of self.old) loader (key_of key.now)).1)) }
-        ensures after { OnOk result (IsCallOf any_tell (Clearing (cell_at (state_of self.old) loader (key_of key.now))) self.old self.new) }
+        ensures after { OnOk result (IsCallOf any_tell
+            (Clearing (cell_at (state_of self.old) loader (key_of key.now))) self.old self.new) }
     {
         if loader >= self.loaders.len() {
             return Err(SessionFault::NoSuchLoader);
@@ -174,7 +193,8 @@ impl<S> Session<S> {
     /// Forgets failed batches, and then all keys of one loader. It takes no memory: its only fault is
     /// [`NoSuchLoader`](SessionFault::NoSuchLoader).
     pub fn clear_all(&mut self, loader: usize) -> Result<(), SessionFault>
-        ensures no_loader { IsErrOf result SessionFault.NoSuchLoader ↔ (length self.old.loaders ≤ loader) }
+        ensures no_loader { IsErrOf result SessionFault.NoSuchLoader
+            ↔ (length self.old.loaders ≤ loader) }
         ensures refused { OnErr result (self.new ≡ self.old) }
         ensures no_other { IsErrOf result SessionFault.NoMemory → ⊥ }
         ensures after { OnOk result (IsCallOf any_tell (ClearingAll loader) self.old self.new) }
@@ -187,10 +207,15 @@ impl<S> Session<S> {
         Ok(())
     }
 
-    /// Starts again: the session is as a [new](Session::new) one over its loaders. Nothing is known of any key, the logs are
-    /// empty, and no round was made; the counts of orders go on. Its tables stay for what comes, unless very many keys were
-    /// known. When out of memory, nothing is changed.
-    pub fn restart(&mut self) -> Result<(), NoMemory>
+    /// Starts again: the session is as a [new](Session::new) one over its loaders. Nothing is known of any key,
+    /// the logs are empty, and no round was made; the counts of orders go on. Its tables stay for what comes,
+    /// unless very many keys were known.
+    ///
+    /// # Errors
+    ///
+    /// When out of memory, the session is equal to what it was (`kept`). In the code that comes only where more
+    /// than 1,024 keys were known, which no clause says.
+    pub fn restart(&mut self) -> Result<(), AllocError>
         ensures restarted { OnOk result (self.new ≡ restarted self.old) }
         ensures after { OnOk result (IsCallOf any_tell Restarting self.old self.new) }
         ensures kept { OnErr result (self.new ≡ self.old) }
@@ -204,9 +229,10 @@ impl<S> Session<S> {
 
 impl<S: Drop> Session<S> {
     /// A new, empty session, over loaders that haven't been asked yet. They are numbered from 0.
-    pub fn new(alloc: Global, loaders: Vec<Loader<S>>) -> Result<Session<S>, NoMemory>
+    pub fn new(alloc: Global, loaders: Vec<Loader<S>>) -> Result<Session<S>, AllocError>
         requires { All (λ l. l.log ≡ []) loaders.items }
-        ensures { IfOk result (λ s. s ≡ record { loaders = loaders.items; pairs = []; rounds = 0 }) }
+        ensures { IfOk result (λ s.
+            s ≡ record { loaders = loaders.items; pairs = []; rounds = 0 }) }
     {
         let mut modes = Vec::with_capacity(alloc, loaders.len())?;
         for loader in loaders.iter() {
@@ -221,19 +247,32 @@ impl<S: Drop> Session<S> {
     }
 }
 
-impl<S: Asks> Session<S> {
+impl<S: LocalSource> Session<S> {
     ghost use Rattle.load_rounds.specs.Sessions.{state_of};
     ghost use Rattle.load_rounds.specs.Calls.{RoundRan, RoundLost};
     ghost use Rattle.load_rounds.specs.Histories.{IsCallOf, Loading, StoppedLoading};
 
     /// Loads one key of a loader, after it forgets failed batches. Returns a copy of the key's outcome: the known one,
     /// or else what the source returns in a round of this one key, which is kept.
+    ///
+    /// # Errors
+    ///
+    /// [`NoSuchLoader`](SessionFault::NoSuchLoader) exactly where the session has no loader of that number: it
+    /// is as it was, failed batches too (`no_loader`, `refused`). When out of memory failed batches are
+    /// forgotten, and the round was lost, or it was made and stored and its outcomes weren't copied
+    /// (`no_memory`, by `IsStopped`).
+    ///
+    /// # Headline
+    ///
+    /// `loaded` and `no_memory`: one lawful round, or none; `recorded`: nothing was asked off the record
     pub fn load(&mut self, loader: usize, key: Key) -> Result<Outcome, SessionFault>
-        ensures no_loader { IsErrOf result SessionFault.NoSuchLoader ↔ (length self.old.loaders ≤ loader) }
+        ensures no_loader { IsErrOf result SessionFault.NoSuchLoader
+            ↔ (length self.old.loaders ≤ loader) }
         ensures refused { IsErrOf result SessionFault.NoSuchLoader → self.new ≡ self.old }
         ensures no_memory { IsErrOf result SessionFault.NoMemory
             → IsCallOf S.may_tell (StoppedLoading loader (key_of key ∷ [])) self.old self.new }
-        ensures loaded { IfOk result (λ outcome. IsCallOf S.may_tell (Loading loader (key_of key ∷ []) (outcome_of outcome ∷ [])) self.old self.new) }
+        ensures loaded { IfOk result (λ outcome. IsCallOf S.may_tell
+            (Loading loader (key_of key ∷ []) (outcome_of outcome ∷ [])) self.old self.new) }
         ensures recorded { AreOnRecord self.old.loaders self.new.loaders }
     {
         let keys = [key];
@@ -246,8 +285,17 @@ impl<S: Asks> Session<S> {
 
     /// Loads keys of a loader, as [`load`](Session::load) does one, and returns an outcome for each, in order. The
     /// unknown keys are asked for in one round, of equal cache keys only the first.
+    ///
+    /// # Errors
+    ///
+    /// Those of [`load`](Session::load).
+    ///
+    /// # Headline
+    ///
+    /// `loaded` and `no_memory`: one lawful round, or none; `recorded`: nothing was asked off the record
     pub fn load_many(&mut self, loader: usize, keys: &[Key]) -> Result<Vec<Outcome>, SessionFault>
-        ensures no_loader { IsErrOf result SessionFault.NoSuchLoader ↔ (length self.old.loaders ≤ loader) }
+        ensures no_loader { IsErrOf result SessionFault.NoSuchLoader
+            ↔ (length self.old.loaders ≤ loader) }
         ensures refused { IsErrOf result SessionFault.NoSuchLoader → self.new ≡ self.old }
         ensures no_memory { IsErrOf result SessionFault.NoMemory
             → IsCallOf S.may_tell (StoppedLoading loader (map key_of keys.now)) self.old self.new }
@@ -266,14 +314,14 @@ impl<S: Asks> Session<S> {
 
     /// Asks for the wanted keys in one round, batch after batch, and stores the replies. The wants are dropped once
     /// their orders are made.
-    pub(crate) fn ask(&mut self, wants: Wants) -> Result<(), NoMemory>
+    pub(crate) fn ask(&mut self, wants: Wants) -> Result<(), AllocError>
         requires { length wants ≡ length self.old.loaders }
         ensures ran { (loads : List Load) → AreWanted wants loads
             → OnOk result (RoundRan S.may_tell (state_of self.old) (state_of self.new) loads) }
         ensures lost { (loads : List Load) → AreWanted wants loads
             → OnErr result (RoundLost (state_of self.old) (state_of self.new) loads) }
     {
-        let round = self.rounds.checked_add(1).ok_or(NoMemory)?;
+        let round = self.rounds.checked_add(1).ok_or(AllocError)?;
         let mut wants = wants;
         let orders = cut_all(&mut self.loaders, &mut self.rounds, round, &mut wants)?;
         drop(wants);

@@ -5,10 +5,10 @@ use crate::answer::Answer;
 use crate::session::Session;
 use crate::together::Together;
 use execution::Execute;
-use load_memory::NoMemory;
-use load_queue::Asks;
+use load_queue::LocalSource;
+use std::alloc::AllocError;
 
-impl<S: Asks> Session<S> {
+impl<S: LocalSource> Session<S> {
     ghost use Rattle.load_rounds.specs.Sessions.{state_of};
     ghost use Rattle.load_rounds.specs.Headline.{StopsAnswering};
     ghost use Rattle.load_rounds.specs.SharedRounds.{requests, joint, AreAnswers};
@@ -17,13 +17,19 @@ impl<S: Asks> Session<S> {
     /// that are missing. It forgets failed batches first. There is an answer for each plan, in order.
     ///
     /// When out of memory, the finished rounds stay, and a round that was out is lost.
+    ///
+    /// # Headline
+    ///
+    /// `answers`: `SharedHeadline`, the headline of several plans; out of memory, `stopped`
     pub fn answer_all<'p, E: Drop, P: Execute<'p, E>>(
         &mut self,
         plans: &'p [P],
-    ) -> Result<Vec<Answer>, NoMemory>
+    ) -> Result<Vec<Answer>, AllocError>
         requires { All (λ plan. P.loaders plan ≤ length self.old.loaders) plans.now }
-        ensures answers { IfOk result (AreAnswers S.may_tell (state_of self.old) (state_of self.new) (requests P.program P.text_of plans.now)) }
-        ensures stopped { OnErr result (StopsAnswering S.may_tell (state_of self.old) (state_of self.new) (joint P.program P.text_of plans.now)) }
+        ensures answers { IfOk result (AreAnswers S.may_tell (state_of self.old)
+            (state_of self.new) (requests P.program P.text_of plans.now)) }
+        ensures stopped { OnErr result (StopsAnswering S.may_tell (state_of self.old)
+            (state_of self.new) (joint P.program P.text_of plans.now)) }
     {
         self.forget();
         let mut together = Together::begin(self.alloc(), plans)?;

@@ -1,4 +1,8 @@
 //! Executions of several plans that share rounds.
+//!
+//! Several plans are one program, the items of a list, each of nullable type. So the log of shared rounds is
+//! lawful by the same definition as any other, and a plan's own rounds are those in which its own front isn't
+//! empty.
 ghost use Rattle.std.specs.Prelude.{◌≡◌, ◌≤◌, ◌<◌, ◌+◌, ◌^◌, All, length, map, is_none, IfOk, OnOk};
 ghost use Rattle.execution.specs.Front.{front, wanting, modes_wanted};
 ghost use Rattle.execution.specs.Rounds.{AreLimited};
@@ -11,21 +15,21 @@ use crate::answer::Answer;
 use crate::session::Session;
 use execution::Execute;
 use futures::task::Poll;
-use load_memory::{Memory, NoMemory};
+use load_memory::Memory;
 use load_queue::Wants;
-use std::alloc::Global;
+use std::alloc::{AllocError, Global};
 use std::marker::Model;
 use std::mem;
 
 /// The execution of one of several plans, and its answer once nothing that it needs is missing.
 #[derive(Drop)]
-struct Part<'p, P, E> {
+struct SharedExecution<'p, P, E> {
     plan: &'p P,
     progress: E,
     answer: Option<Answer>,
 }
 
-impl<'p, P, E> Model for Part<'p, P, E> {
+impl<'p, P, E> Model for SharedExecution<'p, P, E> {
     ghost use Rattle.std.specs.Prelude.{option_map};
     ghost use Rattle.load_rounds.specs.SharedRounds.{report_of};
     ghost use Rattle.load_rounds.specs.Together.{PartOf};
@@ -38,7 +42,7 @@ impl<'p, P, E> Model for Part<'p, P, E> {
 /// The executions of several plans, in order, and how many rounds were asked for them.
 #[derive(Drop)]
 pub(crate) struct Together<'p, P, E> {
-    parts: Vec<Part<'p, P, E>>,
+    parts: Vec<SharedExecution<'p, P, E>>,
     rounds: u32,
 }
 
@@ -53,7 +57,7 @@ impl<'p, P, E> Model for Together<'p, P, E> {
     ghost invariant = { λ t. t.rounds < 2 ^ 32 };
 }
 
-impl<'p, E: Drop, P: Execute<'p, E>> Part<'p, P, E> {
+impl<'p, E: Drop, P: Execute<'p, E>> SharedExecution<'p, P, E> {
     ghost use Rattle.load_rounds.specs.Together.{FitsPart, GoesOn};
 
     /// Goes on with the execution over the memory, unless there is an answer already. If loads are missing, adds them to the wants
@@ -64,11 +68,14 @@ impl<'p, E: Drop, P: Execute<'p, E>> Part<'p, P, E> {
         memory: &Memory,
         rounds: u32,
         wants: &mut Wants,
-    ) -> Result<bool, NoMemory>
+    ) -> Result<bool, AllocError>
         requires can { CanExecute (P.loaders self.old.plan) memory.now wants.old }
-        requires fits { FitsPart P.program P.text_of P.loaders P.fits self.old.plan self.old.progress self.old.report memory.now }
-        ensures went { OnOk result (GoesOn P.program P.text_of P.loaders P.fits rounds memory.now self.old self.new) }
-        ensures wanted { OnOk result (wants.new ≡ wanting wants.old (front memory.now.modes (P.program self.old.plan) (look memory.now.pairs))) }
+        requires fits { FitsPart P.program P.text_of P.loaders P.fits
+            self.old.plan self.old.progress self.old.report memory.now }
+        ensures went { OnOk result
+            (GoesOn P.program P.text_of P.loaders P.fits rounds memory.now self.old self.new) }
+        ensures wanted { OnOk result (wants.new ≡ wanting wants.old
+            (front memory.now.modes (P.program self.old.plan) (look memory.now.pairs))) }
         ensures missing { IfOk result (λ missing. missing ≡ is_none self.new.report) }
     {
         if self.answer.is_some() {
@@ -86,17 +93,20 @@ impl<'p, E: Drop, P: Execute<'p, E>> Part<'p, P, E> {
 
 // Goes on with each of them, in order. Returns true if loads are missing.
 fn go_on_all<'p, E: Drop, P: Execute<'p, E>>(
-    parts: &mut Vec<Part<'p, P, E>>,
+    parts: &mut Vec<SharedExecution<'p, P, E>>,
     alloc: Global,
     memory: &Memory,
     rounds: u32,
     wants: &mut Wants,
-) -> Result<bool, NoMemory>
-    requires enough { All (λ plan. P.loaders plan ≤ length memory.now.modes) (plans_in parts.old.items) }
+) -> Result<bool, AllocError>
+    requires enough { All (λ plan. P.loaders plan ≤ length memory.now.modes)
+        (plans_in parts.old.items) }
     requires lined_up { modes_wanted wants.old ≡ memory.now.modes }
     requires fits { FitParts P.program P.text_of P.loaders P.fits parts.old.items memory.now }
-    ensures went { OnOk result (GoOn P.program P.text_of P.loaders P.fits rounds memory.now parts.old.items parts.new.items) }
-    ensures wanted { OnOk result (wants.new ≡ wanting wants.old (fronts P.program memory.now (plans_in parts.old.items))) }
+    ensures went { OnOk result (GoOn P.program P.text_of P.loaders
+        P.fits rounds memory.now parts.old.items parts.new.items) }
+    ensures wanted { OnOk result
+        (wants.new ≡ wanting wants.old (fronts P.program memory.now (plans_in parts.old.items))) }
     ensures missing { IfOk result (λ missing. missing ≡ some_unreported parts.new.items) }
 {
     let mut is_missing = false;
@@ -113,12 +123,12 @@ impl<'p, E: Drop, P: Execute<'p, E>> Together<'p, P, E> {
     ghost use Rattle.load_rounds.specs.Together.{AreBegun, FindsAll, asked_in, reports_in};
 
     /// Executions of the plans of which nothing is done.
-    pub(crate) fn begin(alloc: Global, plans: &'p [P]) -> Result<Together<'p, P, E>, NoMemory>
+    pub(crate) fn begin(alloc: Global, plans: &'p [P]) -> Result<Together<'p, P, E>, AllocError>
         ensures { IfOk result (λ t. AreBegun P.program P.text_of P.loaders P.fits plans.now t) }
     {
         let mut parts = Vec::with_capacity(alloc, plans.len())?;
         for plan in plans {
-            parts.push(Part {
+            parts.push(SharedExecution {
                 plan,
                 progress: plan.start(),
                 answer: None,
@@ -129,12 +139,17 @@ impl<'p, E: Drop, P: Execute<'p, E>> Together<'p, P, E> {
 
     /// Goes on with each plan that has no answer yet, in order, over what is known. Returns what is missing for all of them, of
     /// which the caller makes a round, and nothing once each has its answer. A contract also sees here that no loader's limit is 0.
-    pub(crate) fn go_on<S>(&mut self, session: &Session<S>) -> Result<Option<Wants>, NoMemory>
-        requires loaders { All (λ plan. P.loaders plan ≤ length session.now.loaders) (plans_in self.old.parts) }
-        requires fits { FitParts P.program P.text_of P.loaders P.fits self.old.parts (memory_of session.now) }
-        ensures found { IfOk result (λ wants. FindsAll (joint P.program P.text_of (plans_in self.old.parts)) (state_of session.now) wants) }
-        ensures went { OnOk result (GoOn P.program P.text_of P.loaders P.fits self.old.rounds (memory_of session.now) self.old.parts self.new.parts) }
-        ensures counted { IfOk result (λ wants. self.new.rounds ≡ self.old.rounds + asked_in wants) }
+    pub(crate) fn go_on<S>(&mut self, session: &Session<S>) -> Result<Option<Wants>, AllocError>
+        requires loaders { All (λ plan.
+            P.loaders plan ≤ length session.now.loaders) (plans_in self.old.parts) }
+        requires fits { FitParts P.program P.text_of P.loaders
+            P.fits self.old.parts (memory_of session.now) }
+        ensures found { IfOk result (λ wants. FindsAll
+            (joint P.program P.text_of (plans_in self.old.parts)) (state_of session.now) wants) }
+        ensures went { OnOk result (GoOn P.program P.text_of P.loaders P.fits
+            self.old.rounds (memory_of session.now) self.old.parts self.new.parts) }
+        ensures counted { IfOk result (λ wants.
+            self.new.rounds ≡ self.old.rounds + asked_in wants) }
         ensures bounded { self.new.rounds < 2 ^ 32 }
         ensures limited { AreLimited (rules_of (state_of session.now)) }
     {
@@ -143,7 +158,7 @@ impl<'p, E: Drop, P: Execute<'p, E>> Together<'p, P, E> {
         let mut wants = Wants::new(session.alloc(), memory)?;
         let is_missing = go_on_all(&mut self.parts, session.alloc(), memory, rounds, &mut wants)?;
         if is_missing {
-            self.rounds = rounds.checked_add(1).ok_or(NoMemory)?;
+            self.rounds = rounds.checked_add(1).ok_or(AllocError)?;
             Ok(Some(wants))
         } else {
             Ok(None)
@@ -151,13 +166,14 @@ impl<'p, E: Drop, P: Execute<'p, E>> Together<'p, P, E> {
     }
 
     /// Takes the answers out, in order. No plan is left.
-    pub(crate) fn take_answers(&mut self, alloc: Global) -> Result<Vec<Answer>, NoMemory>
-        ensures answers { IfOk result (λ answers. map report_of answers.items ≡ reports_in self.old.parts) }
+    pub(crate) fn take_answers(&mut self, alloc: Global) -> Result<Vec<Answer>, AllocError>
+        ensures answers { IfOk result (λ answers.
+            map report_of answers.items ≡ reports_in self.old.parts) }
         ensures counted { self.new.rounds ≡ self.old.rounds }
     {
         let mut answers = Vec::with_capacity(alloc, self.parts.len())?;
         for part in mem::replace(&mut self.parts, Vec::new(alloc)) {
-            let Part { answer, .. } = part;
+            let SharedExecution { answer, .. } = part;
             if let Some(answer) = answer {
                 answers.push(answer)?;
             }

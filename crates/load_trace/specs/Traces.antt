@@ -18,8 +18,8 @@ pub record BatchOf : Type 0 where
 abbrev pub batch_of : List ℕ → List KeyOf → BatchOf
 batch_of loader keys = record { loader = loader; keys = keys }
 
--- what the trace of a line has: the batches of each round, in order; and how many calls execution key by key would have made, where that
--- was counted
+-- says what the trace of a line has: the batches of each round, in order; and how many calls execution key by key would have made, where
+-- that was counted
 pub record TraceOf : Type 0 where
   pub rounds : List (List BatchOf)
   pub key_by_key : Option ℕ

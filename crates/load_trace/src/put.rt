@@ -9,12 +9,13 @@ ghost use Rattle.load_trace.specs.Traces.{key_json, batch_json, batch_of, batche
 
 use json::Writer;
 use load_memory::Key;
-use load_queue::{Asked, Loader};
+use load_queue::{Loader, LogEntry};
 use std::alloc::AllocError;
 
 // Writes a key.
 fn put_key(writer: &mut Writer, key: &Key) -> Result<(), AllocError>
-    ensures ok { OnOk result (writer.new.tokens ≡ writer.old.tokens ++ json_tokens (key_json (key_of key.now))) }
+    ensures ok { OnOk result
+        (writer.new.tokens ≡ writer.old.tokens ++ json_tokens (key_json (key_of key.now))) }
     ensures before { writer.new.before ≡ writer.old.before }
 {
     match key {
@@ -31,7 +32,8 @@ fn put_key(writer: &mut Writer, key: &Key) -> Result<(), AllocError>
 
 // Writes keys and the end of their list.
 fn put_keys(writer: &mut Writer, keys: &[Key]) -> Result<(), AllocError>
-    ensures ok { OnOk result (writer.new.tokens ≡ writer.old.tokens ++ items_tokens (items_of (map key_json (map key_of keys.now)))) }
+    ensures ok { OnOk result (writer.new.tokens
+        ≡ writer.old.tokens ++ items_tokens (items_of (map key_json (map key_of keys.now)))) }
     ensures before { writer.new.before ≡ writer.old.before }
 {
     for key in keys {
@@ -42,7 +44,8 @@ fn put_keys(writer: &mut Writer, keys: &[Key]) -> Result<(), AllocError>
 
 // Writes a batch.
 fn put_batch(writer: &mut Writer, loader: &str, keys: &[Key]) -> Result<(), AllocError>
-    ensures ok { OnOk result (writer.new.tokens ≡ writer.old.tokens ++ json_tokens (batch_json (batch_of loader.now (map key_of keys.now)))) }
+    ensures ok { OnOk result (writer.new.tokens ≡ writer.old.tokens ++ json_tokens
+        (batch_json (batch_of loader.now (map key_of keys.now)))) }
     ensures before { writer.new.before ≡ writer.old.before }
 {
     writer.begin_object()?;
@@ -58,10 +61,11 @@ fn put_batch(writer: &mut Writer, loader: &str, keys: &[Key]) -> Result<(), Allo
 fn put_entries(
     writer: &mut Writer,
     loader: &str,
-    log: &[Asked],
+    log: &[LogEntry],
     round: u32,
 ) -> Result<(), AllocError>
-    ensures ok { OnOk result (writer.new.tokens ≡ writer.old.tokens ++ batches_tokens (batches_in round loader.now (map asked_of log.now))) }
+    ensures ok { OnOk result (writer.new.tokens ≡ writer.old.tokens ++ batches_tokens
+        (batches_in round loader.now (map asked_of log.now))) }
     ensures before { writer.new.before ≡ writer.old.before }
 {
     for entry in log {
@@ -74,7 +78,8 @@ fn put_entries(
 
 // Writes the batches of a round.
 fn put_batches<S>(writer: &mut Writer, loaders: &[Loader<S>], round: u32) -> Result<(), AllocError>
-    ensures ok { OnOk result (writer.new.tokens ≡ writer.old.tokens ++ batches_tokens (round_batches round loaders.now)) }
+    ensures ok { OnOk result (writer.new.tokens
+        ≡ writer.old.tokens ++ batches_tokens (round_batches round loaders.now)) }
     ensures before { writer.new.before ≡ writer.old.before }
 {
     for loader in loaders {
@@ -85,7 +90,8 @@ fn put_batches<S>(writer: &mut Writer, loaders: &[Loader<S>], round: u32) -> Res
 
 // Writes a round.
 fn put_round<S>(writer: &mut Writer, loaders: &[Loader<S>], round: u32) -> Result<(), AllocError>
-    ensures ok { OnOk result (writer.new.tokens ≡ writer.old.tokens ++ json_tokens (round_json (round_batches round loaders.now))) }
+    ensures ok { OnOk result (writer.new.tokens
+        ≡ writer.old.tokens ++ json_tokens (round_json (round_batches round loaders.now))) }
     ensures before { writer.new.before ≡ writer.old.before }
 {
     writer.begin_array()?;
@@ -99,7 +105,8 @@ pub fn put_rounds<S>(
     loaders: &[Loader<S>],
     last: u32,
 ) -> Result<(), AllocError>
-    ensures ok { OnOk result (writer.new.tokens ≡ writer.old.tokens ++ json_tokens (rounds_json (rounds_upto last loaders.now))) }
+    ensures ok { OnOk result (writer.new.tokens
+        ≡ writer.old.tokens ++ json_tokens (rounds_json (rounds_upto last loaders.now))) }
     ensures before { writer.new.before ≡ writer.old.before }
 {
     writer.begin_array()?;

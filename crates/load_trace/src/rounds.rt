@@ -1,13 +1,13 @@
-//! How many rounds stand in logs.
+//! Counts of the rounds in logs.
 
 ghost use Rattle.std.specs.Prelude.{◌≡◌, map, max};
 ghost use Rattle.load_queue.specs.Logs.{asked_of};
 ghost use Rattle.load_trace.specs.Traces.{last_in, last_round};
 
-use load_queue::{Asked, Loader};
+use load_queue::{Loader, LogEntry};
 
 // The latest round of the entries, or one that is later.
-fn later(last: u32, log: &[Asked]) -> u32
+fn later(last: u32, log: &[LogEntry]) -> u32
     ensures { result ≡ max last (last_in (map asked_of log.now)) }
 {
     let mut latest = last;

@@ -8,7 +8,6 @@ ghost use Rattle.load_trace.specs.Traces.{count_member, trace_json, trace_of, tr
 use crate::put::put_rounds;
 use crate::rounds::last_round;
 use json::Writer;
-use load_memory::NoMemory;
 use load_queue::Loader;
 use load_rounds::Session;
 use std::alloc::{AllocError, Global};
@@ -16,7 +15,7 @@ use std::alloc::{AllocError, Global};
 /// The room that a text has from the start.
 const FIRST_ROOM: usize = 128;
 
-// What was written, as text.
+// Returns what was written, as text.
 fn into_text(writer: Writer) -> String
     requires { writer.before ≡ [] }
     ensures { string_bytes result ≡ print writer.tokens }
@@ -28,7 +27,8 @@ fn into_text(writer: Writer) -> String
 
 // Writes the count, where there is one, and the end of the object.
 fn put_count(writer: &mut Writer, key_by_key: Option<u64>) -> Result<(), AllocError>
-    ensures ok { OnOk result (writer.new.tokens ≡ writer.old.tokens ++ members_tokens (count_member key_by_key)) }
+    ensures ok { OnOk result
+        (writer.new.tokens ≡ writer.old.tokens ++ members_tokens (count_member key_by_key)) }
     ensures before { writer.new.before ≡ writer.old.before }
 {
     if let Some(count) = key_by_key {
@@ -44,7 +44,8 @@ fn put_trace<S>(
     loaders: &[Loader<S>],
     key_by_key: Option<u64>,
 ) -> Result<(), AllocError>
-    ensures ok { OnOk result (writer.new.tokens ≡ writer.old.tokens ++ json_tokens (trace_json (trace_of_logs loaders.now key_by_key))) }
+    ensures ok { OnOk result (writer.new.tokens
+        ≡ writer.old.tokens ++ json_tokens (trace_json (trace_of_logs loaders.now key_by_key))) }
     ensures before { writer.new.before ≡ writer.old.before }
 {
     writer.begin_object()?;
@@ -65,8 +66,9 @@ pub fn write_trace<S>(
     alloc: Global,
     session: &Session<S>,
     key_by_key: Option<u64>,
-) -> Result<String, NoMemory>
-    ensures { IfOk result (λ text. string_bytes text ≡ trace_text (trace_of session.now key_by_key)) }
+) -> Result<String, AllocError>
+    ensures { IfOk result (λ text.
+        string_bytes text ≡ trace_text (trace_of session.now key_by_key)) }
 {
     let mut writer = Writer::new(Vec::with_capacity(alloc, FIRST_ROOM)?);
     put_trace(&mut writer, session.loaders(), key_by_key)?;

@@ -6,6 +6,6 @@ use Rattle.plan_program.specs.PlanPrograms.{plan_program}
 use Rattle.gq_resolve.specs.Answered.{answer_text}
 use Rattle.load_rounds.specs.SharedRounds.{RequestOf, requests}
 
--- what is executed for each of the plans, in order
+-- gives what is executed for each of the plans, in order
 abbrev pub plan_requests : List Plan → List RequestOf
 plan_requests plans = requests (λ plan. plan_program (plan_of plan)) (λ plan. answer_text) plans

@@ -1,4 +1,4 @@
--- What a group asks whose field has a definition, a binding and the binding's loaders.
+-- Lemmas on what a group asks whose field has a definition, a binding and the binding's loaders.
 use Rattle.std.proofs.Common.{◌≡◌, ◌∙◌, ap, refl, ℕ, true, false, List, [], ◌∷◌, length, Option, Some}
 use Rattle.std.specs.Prelude.{nat_lt, bytes_eq, codes}
 use Rattle.std.proofs.lemmas.Bool.{lt-ltb}

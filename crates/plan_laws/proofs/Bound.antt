@@ -163,7 +163,7 @@ statements-whole defs b c (s ∷ ss) h whole =
 abbrev is_bound : BindingsOf → List ℕ → List ℕ → Bool
 is_bound b ty name = is_some (binding_in b.fields ty name)
 
--- what is bound stays bound
+-- a field that is bound stays bound
 abbrev Keeps : BindingsOf → BindingsOf → Type 0
 Keeps b c = (ty name : List ℕ) → is_bound b ty name ≡ true → is_bound c ty name ≡ true
 
@@ -188,7 +188,7 @@ find-last ty name (f ∷ fs) binding = go (binds ty name f) (find-last ty name f
     go true e = refl
     go false e = e
 
--- what one more field leaves
+-- says what one more field leaves
 record Settles (b c : BindingsOf) : Type 0 where
   whole : AreWhole b → AreWhole c
   keeps : Keeps b c
@@ -286,7 +286,7 @@ read-there defs text b ty name binding h e = binding-there (length b.loaders) b.
 
 -- ---- object types
 
--- what a type that is an object type has
+-- says what a type that is an object type has
 pub record IsObjectOf (defs : List Definition) (ty : List ℕ) : Type 0 where
   pub name : Name
   pub interfaces : List Name

@@ -3,13 +3,13 @@ use Rattle.std.proofs.Common.{◌≡◌, ◌∙◌, ap, refl, ℕ, ◌+◌, ◌�
 use Rattle.std.proofs.lemmas.List.Elements.{filter_map-append}
 use Rattle.gq_parser.specs.Tree.{Selection, Field, Spread, Inline, Below, nothing_below, below, SelectionSet, set_at, Selections, no_selection, and_selection, Operation, Fragment, Document}
 use Rattle.schema_syntax.specs.Tree.{Definition}
-use Rattle.document_parts.specs.declared.part.Owner.{Owner}
-use Rattle.document_parts.specs.declared.part.Owner.TheVariants as owner
-use Rattle.document_parts.specs.Parts.{SelectionPart, FieldPart}
-use Rattle.document_parts.specs.Parents.{known_field, inside_operation, inside_field, inside_condition, inside_inline}
-use Rattle.document_parts.specs.Selections.{selections_in, selections_among, selections_from, selections_below, operation_selections, fragment_selections}
-use Rattle.document_parts.specs.Listing.{field_part, fields_in, parts_of}
-use Rattle.selection_members.specs.Members.{count_in, count_among, count_from, count_below, count_operations, count_fragments}
+use Rattle.rules_parts.specs.declared.part.Owner.{Owner}
+use Rattle.rules_parts.specs.declared.part.Owner.TheVariants as owner
+use Rattle.rules_parts.specs.Parts.{SelectionPart, FieldPart}
+use Rattle.rules_parts.specs.Parents.{known_field, inside_operation, inside_field, inside_condition, inside_inline}
+use Rattle.rules_parts.specs.Selections.{selections_in, selections_among, selections_from, selections_below, operation_selections, fragment_selections}
+use Rattle.rules_parts.specs.Listing.{field_part, fields_in, parts_of}
+use Rattle.merging_members.specs.Members.{count_in, count_among, count_from, count_below, count_operations, count_fragments}
 
 -- the fields of a list of selections
 abbrev pub many : List SelectionPart → ℕ

@@ -10,7 +10,7 @@ use Rattle.gq_check.specs.Plans.{PlanOf, is_fragment, fragment_in}
 use Rattle.plan_program.specs.Chosen.{is_left_out, applies}
 use Rattle.plan_program.specs.Groups.{Collected, Entering, with_field, chosen_field, has_entered, collect_one, collect_set, collect_all, enter_fragment, entering}
 
--- how many of these fragments weren't entered
+-- gives how many of these fragments weren't entered
 abbrev free : List Fragment → List (List ℕ) → ℕ
 free [] entered = 0
 free (f ∷ fs) entered = (if list_any (bytes_eq f.name) entered then 0 else 1) + free fs entered
@@ -131,7 +131,7 @@ module _ (plan : PlanOf) (ty : List ℕ) where
   shrinks zero so_far name = omega arith
   shrinks (suc left) so_far name = enter-shrinks (entering plan ty left) (shrinks left) so_far (fragment_in plan.fragments name)
 
-  -- ---- two ways of entering that are alike where so many fragments are left
+  -- ---- two ways of entering that are alike where at most `most` fragments are left
 
   abbrev AreAlike : ℕ → Entering → Entering → Type 0
   AreAlike most enter other = (so_far : Collected) (name : List ℕ) → left_in so_far ≤ most → has_entered so_far name ≡ false → enter (with_name so_far name) name ≡ other (with_name so_far name) name
@@ -165,7 +165,7 @@ module _ (plan : PlanOf) (ty : List ℕ) where
       go None e = refl
       go (Some f) e = let less : Lessens plan.fragments so_far.entered name = free-less plan.fragments so_far.entered name f e new in absurd (omega (arith, less, le, lm))
 
-  -- where as many may be entered as are left, more make no difference
+  -- more fragments to enter make no difference, where as many may be entered as are left
   entering-alike : (n m most : ℕ) → most ≤ n → most ≤ m → AreAlike most (entering plan ty n) (entering plan ty m)
   entering-alike zero m most ln lm so_far name le new = sym (none-left most m ln so_far name le new)
   entering-alike (suc n) zero most ln lm so_far name le new = none-left most (suc n) lm so_far name le new

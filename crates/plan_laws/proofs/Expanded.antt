@@ -1,4 +1,5 @@
--- Where no fragment reaches itself, no path expands more fragments than there are: each spreads only fragments that reach fewer.
+-- No path expands more fragments than there are, where no fragment reaches itself: each spreads
+-- only fragments that reach fewer.
 use Rattle.std.proofs.Common.{◌≡◌, ◌∙◌, ap, subst, refl, ℕ, zero, suc, ◌+◌, ◌<◌, ◌≤◌, Bool, true, false, List, [], ◌∷◌, ◌++◌, length, Option, Some, None, find, arith, eq-eqb, if◌then◌else◌}
 use Rattle.std.specs.Prelude.{◌||◌, ◌==◌, max, nat_lt, slice_get, filter_map}
 use Rattle.std.specs.Option.{option_map_or}
@@ -8,19 +9,19 @@ use Rattle.std.proofs.lemmas.List.Elements.{filter_map-append}
 use Rattle.gq_schema.specs.Places.{place_from}
 use Rattle.gq_parser.specs.Tree.{Selection, Field, Spread, Inline, Below, nothing_below, below, SelectionSet, set_at, Selections, no_selection, and_selection, Fragment, Document}
 use Rattle.schema_syntax.specs.Tree.{Definition}
-use Rattle.document_parts.specs.declared.part.Owner.{Owner}
-use Rattle.document_parts.specs.declared.part.Owner.TheVariants as owner
-use Rattle.document_parts.specs.Parts.{SelectionPart, SpreadPart}
-use Rattle.document_parts.specs.Parents.{known_field, inside_field, inside_inline, inside_condition}
-use Rattle.document_parts.specs.Fragments.{is_fragment, fragment_place}
-use Rattle.document_parts.specs.Selections.{selections_in, selections_among, selections_from, selections_below, operation_selections, fragment_selections}
-use Rattle.document_parts.specs.Listing.{spread_part, parts_of}
-use Rattle.spread_graph.specs.Graphs.{GraphOf, fragment_number, target_of, targets_of, rows_from, row_at, graph_of}
-use Rattle.spread_graph.specs.Reach.{is_among, spreads, reaches, is_cyclic, are_known, Reaches, start, along}
-use Rattle.spread_graph.specs.Levels.{levels_in, levels_among, levels_from, levels_below, levels_named, levels_expanded}
+use Rattle.rules_parts.specs.declared.part.Owner.{Owner}
+use Rattle.rules_parts.specs.declared.part.Owner.TheVariants as owner
+use Rattle.rules_parts.specs.Parts.{SelectionPart, SpreadPart}
+use Rattle.rules_parts.specs.Parents.{known_field, inside_field, inside_inline, inside_condition}
+use Rattle.rules_parts.specs.Fragments.{is_fragment, fragment_place}
+use Rattle.rules_parts.specs.Selections.{selections_in, selections_among, selections_from, selections_below, operation_selections, fragment_selections}
+use Rattle.rules_parts.specs.Listing.{spread_part, parts_of}
+use Rattle.rules_spreads.specs.Graphs.{GraphOf, fragment_number, target_of, targets_of, rows_from, row_at, graph_of}
+use Rattle.rules_spreads.specs.Reach.{is_among, spreads, reaches, is_cyclic, are_known, Reaches, start, along}
+use Rattle.rules_spreads.specs.Levels.{levels_in, levels_among, levels_from, levels_below, levels_named, levels_expanded}
 use Rattle.plan_laws.proofs.Leveled.{AreLevels}
-use Rattle.spread_graph.proofs.ReachLaws.{through_sound, reaches_complete}
-use Rattle.spread_graph.proofs.RowLaws.{length-rows_from, graph-known}
+use Rattle.rules_spreads.proofs.ReachLaws.{through_sound, reaches_complete}
+use Rattle.rules_spreads.proofs.RowLaws.{length-rows_from, graph-known}
 
 -- ---- what holds of each name that is spread
 
@@ -78,7 +79,7 @@ mutual
 
 -- ---- places of fragments
 
--- what is found is at a place
+-- a fragment that is found is at a place
 found-place : (test : Fragment → Bool) (n : ℕ) (fs : List Fragment) (f : Fragment) → find test fs ≡ Some f → (i : ℕ) × (place_from n test fs ≡ Some (n + i)) × (slice_get fs i ≡ Some f)
 found-place test n [] f h = absurd (cc h)
 found-place test n (g ∷ fs) f h = go (test g) (λ k. found-place test (n + 1) fs f k) h

@@ -10,7 +10,7 @@ use Rattle.gq_bindings.specs.Tree.{StepOf, BindingOf, by_column, by_one, by_many
 use Rattle.load_memory.specs.Rows.{RowOf}
 use Rattle.execution.specs.Program.{Value, Null, Text as LeafText, Program, Programs, Under, With, ObjectOf}
 use Rattle.gq_check.specs.Plans.{PlanOf, fragment_in}
-use Rattle.spread_graph.specs.Levels.{levels_in, levels_among, levels_from, levels_below}
+use Rattle.rules_spreads.specs.Levels.{levels_in, levels_among, levels_from, levels_below}
 use Rattle.plan_program.specs.Chosen.{is_left_out, applies}
 use Rattle.plan_program.specs.Groups.{FieldOf, GroupOf, Collected, Entering, nothing_collected, with_field, chosen_field, has_entered, collect_one, collect_set, collect_all, enter_fragment, entering, collect_from, collect, collect_subfields, selections_in, selections_below}
 use Rattle.plan_program.specs.Arguments.{ArgumentsOf, ValueOf, all_values, null_argument, arguments_of}
@@ -23,12 +23,12 @@ use Rattle.plan_laws.specs.Levels.{program_with}
 abbrev pub AreLevels : List Fragment → (List ℕ → ℕ) → Type 0
 AreLevels fragments spread = (name : List ℕ) (f : Fragment) → fragment_in fragments name ≡ Some f → levels_in spread f.selection_set ≤ spread name
 
--- where there is a field
+-- says where there is a field
 abbrev IfAny : List FieldOf → Type 0 → Type 0
 IfAny [] P = Unit {0}
 IfAny (f ∷ fs) P = P
 
--- what holds of the fields that select below what is asked
+-- says what holds of the fields that select below what is asked
 abbrev OverFields : (List FieldOf → Type 0) → ValueFrom → Type 0
 OverFields P (settled own) = Unit {0}
 OverFields P (cell column t) = Unit {0}
@@ -153,7 +153,7 @@ program-alike plan objects other ty row gs h = ap (Under ObjectOf) (fields-alike
 -- ---- levels of what is collected
 
 module _ (plan : PlanOf) (spread : List ℕ → ℕ) where
-  -- each of these fields has at most so many levels, its own among them
+  -- each of these fields has at most `most` levels, its own among them
   abbrev AreWithin : ℕ → List FieldOf → Type 0
   AreWithin most [] = Unit {0}
   AreWithin most (f ∷ fs) = (levels_below spread f.below < most) × AreWithin most fs

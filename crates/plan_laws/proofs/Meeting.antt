@@ -12,21 +12,21 @@ use Rattle.gq_schema.specs.Kinds.{is_object}
 use Rattle.gq_schema.specs.Types.{kind_in, field_in, root_in, can_be, is_covariant, core_of}
 use Rattle.gq_schema.specs.Fault.{fault_of}
 use Rattle.gq_bindings.specs.Types.{is_object_type}
-use Rattle.document_parts.specs.declared.part.Owner.{Owner}
-use Rattle.document_parts.specs.declared.part.Owner.TheVariants as owner
-use Rattle.document_parts.specs.Parts.{FieldPart}
-use Rattle.document_parts.specs.Parents.{composite_in, inside_operation, inside_field, inside_condition}
-use Rattle.document_parts.specs.Listing.{parts_of}
-use Rattle.typed_rules.specs.FieldSelections.{is_unknown, unknown_field}
-use Rattle.merge_table.specs.Merging.{Fields, CanMerge, Merges}
-use Rattle.merge_table.specs.Numbered.{is_in}
-use Rattle.merge_table.proofs.MergeLaws.{can-gives}
-use Rattle.merge_table.proofs.ReachLaws.{in-append}
-use Rattle.selection_members.specs.Members.{count_from, members_in, members_among, members_from, members_below, members_entered, members_of_fragment}
-use Rattle.argument_sets.specs.Same.{same_arguments}
-use Rattle.field_merging.specs.Compare.{response_key, have_one_key, same_parent, is_object_parent, may_meet, do_agree}
-use Rattle.field_merging.specs.Members.{members_at, fields_of}
-use Rattle.field_merging.proofs.Twins.{at-is, test-is}
+use Rattle.rules_parts.specs.declared.part.Owner.{Owner}
+use Rattle.rules_parts.specs.declared.part.Owner.TheVariants as owner
+use Rattle.rules_parts.specs.Parts.{FieldPart}
+use Rattle.rules_parts.specs.Parents.{composite_in, inside_operation, inside_field, inside_condition}
+use Rattle.rules_parts.specs.Listing.{parts_of}
+use Rattle.rules_typed.specs.FieldSelections.{is_unknown, unknown_field}
+use Rattle.merging_pairs.specs.Merging.{Fields, CanMerge, Merges}
+use Rattle.merging_pairs.specs.Numbered.{is_in}
+use Rattle.merging_pairs.proofs.MergeLaws.{can-gives}
+use Rattle.merging_pairs.proofs.ReachLaws.{in-append}
+use Rattle.merging_members.specs.Members.{count_from, members_in, members_among, members_from, members_below, members_entered, members_of_fragment}
+use Rattle.merging_arguments.specs.Same.{same_arguments}
+use Rattle.merging_fields.specs.Compare.{response_key, have_one_key, same_parent, is_object_parent, may_meet, do_agree}
+use Rattle.merging_fields.specs.Members.{members_at, fields_of}
+use Rattle.merging_fields.proofs.Twins.{at-is, test-is}
 use Rattle.execution.specs.Loads.{IsOneOf}
 use Rattle.gq_check.specs.Plans.{PlanOf, fragment_in}
 use Rattle.gq_check.specs.Planned.{IsPlan}
@@ -358,7 +358,7 @@ module _ (defs : List Definition) (d : Document) where
         let field : field_in defs m.parent f.name ≡ Some k.0 = ap (field_in defs m.parent) m.name ∙ (sym m.definition ∙ k.1) in
         (k.0, k.1, field-serves defs kept m.parent ty f.name k.0 object m.fits field)
 
-    -- what holds of a group that is met
+    -- properties of a group that is met
     pub record IsGood (ty : List ℕ) (g : GroupOf) : Type 1 where
       pub numbers : ℕ → Type 0
       pub object : is_object_type defs ty ≡ true

@@ -1,4 +1,4 @@
--- What an answer that was given came from.
+-- Lemmas on what an answer that was given came from.
 use Rattle.std.proofs.Common.{◌≡◌, refl, Bool, true, false, List, [], ◌∷◌, ◌++◌, Option, Some, None, if◌then◌else◌}
 use Rattle.std.specs.Prelude.{option_map, option_and_then, find, is_some, filter_map}
 use Rattle.std.specs.List.{cons_option}

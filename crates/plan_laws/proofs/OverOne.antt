@@ -7,7 +7,7 @@ use Rattle.gq_bindings.specs.Reading.{bindings_of, accepted}
 use Rattle.gq_check.specs.Plans.{PlanOf}
 use Rattle.gq_check.specs.Prepared.{prepared}
 use Rattle.gq_check.specs.Verdict.{IsValid}
-use Rattle.request_plans.specs.Servers.{ServerOf}
+use Rattle.plan_requests.specs.Servers.{ServerOf}
 use Rattle.plan_laws.specs.Met.{IsOverOne}
 use Rattle.plan_laws.specs.OfServers.{IsMade, IsPlanOver}
 

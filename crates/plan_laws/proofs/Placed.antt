@@ -1,20 +1,21 @@
--- Where the fields of a document stand in the list of all of them, and that their selection sets can be merged.
+-- Lemmas on where the fields of a document stand in the list of all of them, and that their selection sets can
+-- be merged.
 use Rattle.std.proofs.Common.{◌≡◌, ◌∙◌, sym, ap, subst, refl, ℕ, zero, suc, ◌+◌, Bool, true, false, List, [], ◌∷◌, ◌++◌, length, append_assoc, append-nil, Option, Some, inl, inr, arith, if◌then◌else◌}
 use Rattle.std.specs.Prelude.{All, slice_get, bytes_eq}
 use Rattle.std.proofs.lemmas.List.Elements.{filter_map-append, All-head, All-tail}
 use Rattle.text_place.specs.declared.place.Place.{Place}
 use Rattle.gq_parser.specs.Tree.{Argument, Directive, Condition, Selection, Field, Inline, Below, SelectionSet, set_at, Selections, and_selection, Operation, Fragment, Document}
 use Rattle.schema_syntax.specs.Tree.{Definition}
-use Rattle.document_parts.specs.declared.part.Owner.{Owner}
-use Rattle.document_parts.specs.declared.part.Owner.TheVariants as owner
-use Rattle.document_parts.specs.Parts.{SelectionPart, FieldPart}
-use Rattle.document_parts.specs.Parents.{known_field, inside_operation, inside_field, inside_condition, inside_inline}
-use Rattle.document_parts.specs.Selections.{selections_in, selections_among, selections_from, selections_below, operation_selections, fragment_selections}
-use Rattle.document_parts.specs.Listing.{field_part, fields_in, parts_of}
-use Rattle.merge_table.specs.Merging.{CanMerge}
-use Rattle.merge_table.specs.Numbered.{is_in}
-use Rattle.selection_members.specs.Members.{count_in, count_from, count_operations, members_in, members_among, members_named, members_of_fragment, SetOf, own_set, sets_in, sets_among, sets_from, sets_below, operation_sets, fragment_sets, sets_of}
-use Rattle.field_merging.specs.Members.{fields_of}
+use Rattle.rules_parts.specs.declared.part.Owner.{Owner}
+use Rattle.rules_parts.specs.declared.part.Owner.TheVariants as owner
+use Rattle.rules_parts.specs.Parts.{SelectionPart, FieldPart}
+use Rattle.rules_parts.specs.Parents.{known_field, inside_operation, inside_field, inside_condition, inside_inline}
+use Rattle.rules_parts.specs.Selections.{selections_in, selections_among, selections_from, selections_below, operation_selections, fragment_selections}
+use Rattle.rules_parts.specs.Listing.{field_part, fields_in, parts_of}
+use Rattle.merging_pairs.specs.Merging.{CanMerge}
+use Rattle.merging_pairs.specs.Numbered.{is_in}
+use Rattle.merging_members.specs.Members.{count_in, count_from, count_operations, members_in, members_among, members_named, members_of_fragment, SetOf, own_set, sets_in, sets_among, sets_from, sets_below, operation_sets, fragment_sets, sets_of}
+use Rattle.merging_fields.specs.Members.{fields_of}
 use Rattle.execution.specs.Loads.{IsOneOf}
 use Rattle.gq_check.specs.Plans.{fragment_in}
 use Rattle.gq_check.specs.Valid.{CanBeMerged}
@@ -80,7 +81,7 @@ module _ (defs : List Definition) (d : Document) where
     from = past-next n (parts_of defs d).fields (fields_in xs) (fields_in ys ++ s.rest) (s.from ∙ (ap (λ (fs : List FieldPart). fs ++ s.rest) (filter_map-append field_part xs ys) ∙ append_assoc (fields_in xs) (fields_in ys) s.rest));
   }
 
-  -- what stands from the number n on, in a set of this parent type
+  -- selections from the number n on, in a set of this parent type
   pub record Placed (o : Owner) (parent : Option (List ℕ)) (n : ℕ) (ss : Selections) : Type 0 where
     pub stands : Stands n (selections_among defs o parent ss)
     pub merge : AllMerge (sets_among (members_of_fragment d) n ss)

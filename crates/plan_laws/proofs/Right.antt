@@ -13,12 +13,12 @@ use Rattle.gq_schema.specs.Types.{field_in, is_same_flag, is_same_type, is_argum
 use Rattle.gq_schema.specs.Inputs.{Input, Null, Int, Text, Boolean, Items, Inputs}
 use Rattle.gq_schema.specs.Implements.{argument_in, has_argument}
 use Rattle.gq_schema.specs.Coercion.{and_items, all_items, list_input, one_item, list_value, value_with, accepts, place_of}
-use Rattle.document_parts.specs.Parts.{FieldPart, ArgumentPart, PartsOf}
-use Rattle.document_parts.specs.Listing.{parts_of, field_arguments, directive_arguments, argument_with, listed_arguments}
-use Rattle.typed_rules.specs.Words.{named_if}
-use Rattle.typed_rules.specs.ArgumentNames.{unknown_argument, type_name_arguments}
-use Rattle.typed_rules.specs.ValuesOfCorrectType.{wrong_argument, wrong_variable}
-use Rattle.variable_values.specs.Variables.{value_in}
+use Rattle.rules_parts.specs.Parts.{FieldPart, ArgumentPart, PartsOf}
+use Rattle.rules_parts.specs.Listing.{parts_of, field_arguments, directive_arguments, argument_with, listed_arguments}
+use Rattle.rules_typed.specs.DefaultWords.{named_if}
+use Rattle.rules_typed.specs.ArgumentNames.{unknown_argument, type_name_arguments}
+use Rattle.rules_typed.specs.ValuesOfCorrectType.{wrong_argument, wrong_variable}
+use Rattle.gq_variables.specs.Variables.{value_in}
 use Rattle.execution.specs.Loads.{IsOneOf}
 use Rattle.gq_check.specs.Plans.{PlanOf}
 use Rattle.gq_check.specs.Planned.{IsPlan}

@@ -1,4 +1,5 @@
--- What the definitions of a schema keep: each name is defined once, interfaces are implemented, and the root is an object type.
+-- Lemmas on what the definitions of a schema keep: each name is defined once, interfaces are implemented, and the root is an
+-- object type.
 use Rattle.std.proofs.Common.{◌≡◌, ◌∙◌, sym, ap, subst, refl, ℕ, Bool, true, false, not, ◌&&◌, ◌||◌, ◌⊎◌, inl, inr, List, [], ◌∷◌, ◌++◌, Option, Some, None, if◌then◌else◌}
 use Rattle.std.specs.Prelude.{option_map, find, is_some, is_none, bytes_eq, unwrap_or}
 use Rattle.std.specs.List.{list_any, list_all}
@@ -14,8 +15,8 @@ use Rattle.gq_schema.specs.declared.kind.TypeKind.{TypeKind}
 use Rattle.gq_schema.specs.declared.kind.TypeKind.TheVariants as kind
 use Rattle.gq_schema.specs.declared.rules.uses.Role.{Role}
 use Rattle.gq_schema.specs.declared.rules.uses.Role.TheVariants.{Implemented, Member, Root}
-use Rattle.gq_schema.specs.declared.rules.uses.Rule.{Rule}
-use Rattle.gq_schema.specs.declared.rules.uses.Rule.TheVariants.{IsDefined, Fits}
+use Rattle.gq_schema.specs.declared.rules.uses.TypeUseDemand.{TypeUseDemand}
+use Rattle.gq_schema.specs.declared.rules.uses.TypeUseDemand.TheVariants.{IsDefined, Fits}
 use Rattle.gq_schema.specs.Kinds.{is_object}
 use Rattle.gq_schema.specs.Scan.{or_else, first_in}
 use Rattle.gq_schema.specs.Types.{is_called, is_built_in, type_name, defines, type_in, kind_in, own_fields, fields_in, is_field, field_in, root_of, declared_root, query, root_in, has_member, is_possible, can_be, is_covariant, core_of}
@@ -30,7 +31,7 @@ use Rattle.load_memory.specs.Rows.{cell_of}
 use Rattle.execution.specs.Loads.{IsOneOf}
 use Rattle.plan_program.specs.Texts.{not_type_message}
 use Rattle.plan_program.specs.PlanPrograms.{object_type, type_fault, typename, resolved_type, type_of_row}
-use Rattle.document_parts.specs.Parents.{composite_in}
+use Rattle.rules_parts.specs.Parents.{composite_in}
 use Rattle.plan_laws.specs.Met.{MayStand}
 use Rattle.plan_laws.proofs.Options.{some-of, none-else, none-map, found-one, none-first}
 use Rattle.plan_laws.proofs.Bound.{object-of}
@@ -135,7 +136,7 @@ module _ (defs : List Definition) (kept : fault_of defs ≡ None) where
   once : (q : List ℕ) (d : Definition) → IsOneOf d defs → defines q d ≡ true → IsOnce [] defs q d
   once q d i e = defined-once [] defs q d (none-map (λ (p : Place). Duplicate p) (first_repeated defs) kept-1.0) i e
 
-  unbroken : (rule : Rule) (d : Definition) → IsOneOf d defs → broken_in defs rule d ≡ None
+  unbroken : (rule : TypeUseDemand) (d : Definition) → IsOneOf d defs → broken_in defs rule d ≡ None
   unbroken IsDefined d i = none-first (broken_in defs IsDefined) defs d (none-map (λ (p : Place). UnknownType p) (first_broken defs IsDefined) kept-2.0) i
   unbroken Fits d i = none-first (broken_in defs Fits) defs d (none-map (λ (p : Place). BadKind p) (first_broken defs Fits) kept-3.0) i
 
@@ -162,7 +163,7 @@ module _ (defs : List Definition) (kept : fault_of defs ≡ None) where
       let kinds : kind_in defs q ≡ Some kind.Object = rw (o.built, o.found) refl in
       (ap object_kind kinds, o.found)
 
-  -- why a type can be an object type
+  -- reasons why a type can be an object type
   data Why (q ty : List ℕ) : Type 0 where
     itself : q ≡ ty → Why q ty
     implemented : (n : Name) (is : List Name) (fs : List Field) (i : Name) → IsOneOf (Object n is fs) defs → ty ≡ n.text → IsOneOf i is → q ≡ i.text → Why q ty
@@ -209,7 +210,7 @@ module _ (defs : List Definition) (kept : fault_of defs ≡ None) where
       let u = used Implemented i (part IsDefined (unbroken IsDefined (Object n is fs) at)) (part Fits (unbroken Fits (Object n is fs) at)) in
       kinds u.0 u.1 u.2
     where
-      part : (rule : Rule) → broken_in defs rule (Object n is fs) ≡ None → broken_use defs rule Implemented i ≡ None
+      part : (rule : TypeUseDemand) → broken_in defs rule (Object n is fs) ≡ None → broken_use defs rule Implemented i ≡ None
       part rule h =
           let a = none-else (broken_root defs rule n) (or_else (first_in (broken_use defs rule Implemented) is) (first_in (broken_field defs rule) fs)) h in
           let b = none-else (first_in (broken_use defs rule Implemented) is) (first_in (broken_field defs rule) fs) a.1 in
@@ -231,7 +232,7 @@ module _ (defs : List Definition) (kept : fault_of defs ≡ None) where
   object-kind : (q : List ℕ) → is_object_type defs q ≡ true → kind_in defs q ≡ Some kind.Object
   object-kind q h = let o = object-of defs q h in let built = o.built in let found = o.found in rw (built, found) refl
 
-  -- what can be an object type is composite
+  -- a type that can be an object type is composite
   pub for-composite : (q ty : List ℕ) → is_object_type defs ty ≡ true → IsFor defs q ty → composite_in defs q ≡ Some q
   for-composite q ty object (inl same) = let k : kind_in defs q ≡ Some kind.Object = ap (kind_in defs) same ∙ object-kind ty object in rw k refl
   for-composite q ty object (inr can) = go (can-why q ty can).why
@@ -323,7 +324,7 @@ module _ (defs : List Definition) (kept : fault_of defs ≡ None) where
       let both = and_parts (is_covariant defs own.of_type wanted.of_type) (list_all (has_argument own.arguments) wanted.arguments && list_all (may_stand wanted.arguments) own.arguments) h in
       all-one (has_argument own.arguments) wanted.arguments a (and_parts (list_all (has_argument own.arguments) wanted.arguments) (list_all (may_stand wanted.arguments) own.arguments) both.1).0 i
 
-  -- what stands for a type stands for each that it is covariant to
+  -- an object type that may stand for a type stands for each that this type is covariant to
   pub may-for : (t u : TypeTree) (object : List ℕ) → is_covariant defs t u ≡ true → MayStand defs (core_of t).text object → IsFor defs (core_of u).text object
   may-for (Named p n non_null) (Named q m wanted) object e may = elim (or_cases (bytes_eq n m) (can_be defs m n) (and_parts (non_null || not wanted) (bytes_eq n m || can_be defs m n) e).1) [
     | inl h ↦ subst (λ (x : List ℕ). IsFor defs x object) (same-text n m h) (stands-for n object may).1
@@ -352,14 +353,14 @@ module _ (defs : List Definition) (kept : fault_of defs ≡ None) where
   pub root-object : is_object_type defs (root_in defs) ≡ true
   root-object = go (declared_root defs) refl
     where
-      own : declared_root defs ≡ None → (n : Name) (rule : Rule) → n.text ≡ query → broken_root defs rule n ≡ None → broken_use defs rule Root n ≡ None
+      own : declared_root defs ≡ None → (n : Name) (rule : TypeUseDemand) → n.text ≡ query → broken_root defs rule n ≡ None → broken_use defs rule Root n ≡ None
       own none n rule same h =
           let undeclared : is_none (declared_root defs) ≡ true = ap (λ (o : Option (List ℕ)). is_none o) none in
           let is : is_own_root defs n ≡ true = and_from (is_none (declared_root defs)) (bytes_eq n.text query) undeclared (ap (λ (x : List ℕ). bytes_eq x query) same ∙ own-text query) in
           let it : broken_root defs rule n ≡ broken_use defs rule Root n = rw is refl in
           sym it ∙ h
 
-      part : (rule : Rule) (d : Definition) (n : Name) → type_name d ≡ Some n → broken_in defs rule d ≡ None → broken_root defs rule n ≡ None
+      part : (rule : TypeUseDemand) (d : Definition) (n : Name) → type_name d ≡ Some n → broken_in defs rule d ≡ None → broken_root defs rule n ≡ None
       part rule (Schema p m) n e h = absurd (cc e)
       part rule (Object m is fs) n e h = let same : m ≡ n = cc in subst (λ (x : Name). broken_root defs rule x ≡ None) same (none-else (broken_root defs rule m) (or_else (first_in (broken_use defs rule Implemented) is) (first_in (broken_field defs rule) fs)) h).0
       part rule (Interface m fs) n e h = let same : m ≡ n = cc in subst (λ (x : Name). broken_root defs rule x ≡ None) same (none-else (broken_root defs rule m) (first_in (broken_field defs rule) fs) h).0

@@ -5,14 +5,14 @@ use Rattle.std.specs.List.{cons_option}
 use Rattle.gq_parser.specs.Tree.{Operation, Fragment, Document}
 use Rattle.schema_syntax.specs.Tree.{Definition}
 use Rattle.serde_json.specs.Data.{Data}
-use Rattle.document_parts.specs.Broken.{BrokenOf}
-use Rattle.document_parts.specs.Listing.{parts_of}
-use Rattle.spread_graph.specs.Graphs.{GraphOf, graph_of}
-use Rattle.spread_graph.specs.Reach.{is_cyclic}
-use Rattle.spread_graph.specs.Levels.{levels_named, levels_expanded, levels_of}
-use Rattle.spread_graph.specs.Rules.{cycles_among, deep_operation}
-use Rattle.variable_values.specs.Variables.{VariableOf}
-use Rattle.variable_values.specs.Values as values
+use Rattle.rules_parts.specs.Broken.{BrokenOf}
+use Rattle.rules_parts.specs.Listing.{parts_of}
+use Rattle.rules_spreads.specs.Graphs.{GraphOf, graph_of}
+use Rattle.rules_spreads.specs.Reach.{is_cyclic}
+use Rattle.rules_spreads.specs.Levels.{levels_named, levels_expanded, levels_of}
+use Rattle.rules_spreads.specs.Rules.{cycles_among, deep_operation}
+use Rattle.gq_variables.specs.Variables.{VariableOf}
+use Rattle.gq_variables.specs.Values as values
 use Rattle.gq_check.specs.Plans.{PlanOf}
 use Rattle.gq_check.specs.Planned.{IsPlan}
 use Rattle.gq_check.specs.Prepared.{PreparedOf, FaultOf as Fault, is_operation, found_operation, chosen_operation, with_variables, prepared_operation, prepared}

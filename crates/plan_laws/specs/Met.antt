@@ -36,7 +36,8 @@ pub record IsAskedBy (g : GroupOf) (f : FieldOf) : Type 0 where
 pub data CanBeMet (plan : PlanOf) : List ℕ → GroupOf → Type 0 where
   of_root : {g : GroupOf} → IsOneOf g (collect plan (root_in plan.definitions) (selections_in plan.operation.selection_set)) → CanBeMet plan (root_in plan.definitions) g
   inside : {ty object : List ℕ} {g h : GroupOf} {f : FieldOf} {d : Field}
-      → CanBeMet plan ty g → IsAskedBy g f → field_in plan.definitions ty f.name ≡ Some d → MayStand plan.definitions (core_of d.of_type).text object
+      → CanBeMet plan ty g → IsAskedBy g f → field_in plan.definitions ty f.name ≡ Some d
+      → MayStand plan.definitions (core_of d.of_type).text object
       → IsOneOf h (collect_subfields plan object nothing_collected g.fields).groups
       → CanBeMet plan object h
 
@@ -87,7 +88,7 @@ pub record IsBound (b : BindingsOf) (ty name : List ℕ) : Type 0 where
   pub bound : binding_in b.fields ty name ≡ Some binding
   pub there : AreThere (length b.loaders) binding
 
--- what a binding asks, with its loaders there
+-- gives what a binding asks, with its loaders there
 abbrev pub asked_by_binding : TypeTree → ChildrenOf → List ValueOf → BindingOf → ValueFrom
 asked_by_binding t below values (by_column column) = cell column t
 asked_by_binding t below values (by_one loader key) = with_key (key_from values key) (λ k. first_row loader k below)
@@ -110,11 +111,13 @@ IsDefined defs ty name = (d : Field) × (field_in defs ty name ≡ Some d)
 
 -- each field of each object type is bound
 abbrev pub BindsFields : List Definition → BindingsOf → Type 0
-BindsFields defs b = (ty name : List ℕ) (d : Field) → is_object_type defs ty ≡ true → field_in defs ty name ≡ Some d → IsBound b ty name
+BindsFields defs b = (ty name : List ℕ) (d : Field) → is_object_type defs ty ≡ true
+    → field_in defs ty name ≡ Some d → IsBound b ty name
 
 -- the loaders that bindings name are defined there
 abbrev pub NamesItsLoaders : BindingsOf → Type 0
-NamesItsLoaders b = (ty name : List ℕ) (binding : BindingOf) → binding_in b.fields ty name ≡ Some binding → AreThere (length b.loaders) binding
+NamesItsLoaders b = (ty name : List ℕ) (binding : BindingOf)
+    → binding_in b.fields ty name ≡ Some binding → AreThere (length b.loaders) binding
 
 -- ---- plans over one schema
 
@@ -128,7 +131,7 @@ pub record IsOverSchema (plan : PlanOf) : Type 0 where
   pub valid : IsPlan plan
   pub keeps : fault_of plan.definitions ≡ None
 
--- the same, and its bindings were read over that schema
+-- says the same, and its bindings were read over that schema
 pub record IsOverOne (plan : PlanOf) : Type 0 where
   pub schema : IsOverSchema plan
   pub read : AreRead plan.definitions plan.bindings

@@ -3,8 +3,8 @@ use Rattle.std.specs.Prelude.{◌≡◌, ℕ, List, Option}
 use Rattle.serde_json.specs.Data.{Data}
 use Rattle.gq_schema.specs.Types.{tree_of}
 use Rattle.gq_check.specs.Plans.{PlanOf}
-use Rattle.request_plans.specs.Requests.{IsPlanOf}
-use Rattle.request_plans.specs.Servers.{ServerOf, IsServer}
+use Rattle.plan_requests.specs.Requests.{IsPlanOf}
+use Rattle.plan_requests.specs.Servers.{ServerOf, IsServer}
 
 -- some texts are this server
 pub record IsMade (s : ServerOf) : Type 0 where

@@ -2,7 +2,7 @@
 use Rattle.std.specs.Prelude.{◌≡◌, Bool, true, false, ◌||◌, Option, Some, None, is_some}
 use Rattle.gq_parser.specs.Tree.{TypeTree, Value, Variable, Array, Values, no_value, and_value}
 use Rattle.gq_schema.specs.Inputs.{Input, Null}
-use Rattle.variable_values.specs.Variables.{value_in}
+use Rattle.gq_variables.specs.Variables.{value_in}
 use Rattle.gq_check.specs.Plans.{PlanOf}
 use Rattle.plan_program.specs.Arguments.{literal_value}
 

@@ -1,4 +1,4 @@
-//! What holds of collection, of levels, and of what execution can meet.
+//! Laws of collection, of levels, and of what execution can meet.
 ghost use Rattle.std.specs.Prelude.{◌≡◌, ◌≤◌, ℕ, List, length, false};
 ghost use Rattle.gq_parser.specs.Tree.{Value};
 ghost use Rattle.schema_syntax.specs.Tree.{Argument, Definition};
@@ -6,7 +6,7 @@ ghost use Rattle.gq_bindings.specs.Tree.{BindingsOf};
 ghost use Rattle.gq_check.specs.Plans.{PlanOf};
 ghost use Rattle.gq_check.specs.Planned.{IsPlan};
 ghost use Rattle.plan_program.specs.PlanPrograms.{most_levels, plan_program};
-ghost use Rattle.request_plans.specs.Servers.{ServerOf};
+ghost use Rattle.plan_requests.specs.Servers.{ServerOf};
 ghost use Rattle.plan_laws.specs.Collecting.{CollectsTheSame, CollectsBySelections};
 ghost use Rattle.plan_laws.specs.Levels.{program_with};
 ghost use Rattle.plan_laws.specs.Met.{CanBeMet, IsMetBy, HasFirst, CanHave, IsDefined, BindsFields, NamesItsLoaders, AsksItsBinding, AreRead, IsOverSchema, IsOverOne};
@@ -18,21 +18,25 @@ ghost use Rattle.plan_program.specs.Groups.{FieldOf, GroupOf};
 /// another than the plan has, so a higher bound would collect the same. A fragment that is entered collects what its selections
 /// collect, with fragments in them entered in the same way.
 pub fn collection_ends()
-    ensures more { (plan : PlanOf) (ty : List ℕ) (left : ℕ) → length plan.fragments ≤ left → CollectsTheSame plan ty left }
+    ensures more { (plan : PlanOf) (ty : List ℕ) (left : ℕ)
+        → length plan.fragments ≤ left → CollectsTheSame plan ty left }
     ensures enters { (plan : PlanOf) (ty : List ℕ) → CollectsBySelections plan ty }
 {}
 
 /// More levels than a plan has change nothing: its operation has no path of more than 128 fields, fragments expanded, so its
 /// program is the same where objects have any more levels.
 pub fn more_levels_change_nothing()
-    ensures { (plan : PlanOf) (levels : ℕ) → IsPlan plan → most_levels ≤ levels → program_with plan levels ≡ plan_program plan }
+    ensures { (plan : PlanOf) (levels : ℕ) → IsPlan plan
+        → most_levels ≤ levels → program_with plan levels ≡ plan_program plan }
 {}
 
 /// Bindings that are read over a schema bind each field of each object type, and name only loaders that they define. So if a
 /// plan's bindings are of its own schema, no field of an object type is null because either is lacking.
 pub fn fields_are_bound()
-    ensures bound { (defs : List Definition) (b : BindingsOf) → AreRead defs b → BindsFields defs b }
-    ensures loaders { (defs : List Definition) (b : BindingsOf) → AreRead defs b → NamesItsLoaders b }
+    ensures bound { (defs : List Definition) (b : BindingsOf)
+        → AreRead defs b → BindsFields defs b }
+    ensures loaders { (defs : List Definition) (b : BindingsOf)
+        → AreRead defs b → NamesItsLoaders b }
 {}
 
 /// Each group of fields that the execution of a plan can meet is answered by its first field. Unless that is `__typename`, it
@@ -40,10 +44,12 @@ pub fn fields_are_bound()
 /// whose loaders exist, and the group asks for what that binding asks for. So in such a plan's program no field is null because
 /// it lacks one of these.
 pub fn met_fields_are_answered()
-    ensures first { (plan : PlanOf) (ty : List ℕ) (g : GroupOf) → IsOverSchema plan → CanBeMet plan ty g → HasFirst g }
+    ensures first { (plan : PlanOf) (ty : List ℕ) (g : GroupOf)
+        → IsOverSchema plan → CanBeMet plan ty g → HasFirst g }
     ensures defined { (plan : PlanOf) (ty : List ℕ) (g : GroupOf) (f : FieldOf) → IsOverSchema plan → IsMetBy plan ty g f
         → IsDefined plan.definitions ty f.name }
-    ensures answered { (plan : PlanOf) (ty : List ℕ) (g : GroupOf) (f : FieldOf) → IsOverOne plan → IsMetBy plan ty g f → AsksItsBinding plan ty g f }
+    ensures answered { (plan : PlanOf) (ty : List ℕ) (g : GroupOf) (f : FieldOf)
+        → IsOverOne plan → IsMetBy plan ty g f → AsksItsBinding plan ty g f }
 {}
 
 /// A literal that is given for an argument of a field that execution can meet is right at the argument's type, unless a

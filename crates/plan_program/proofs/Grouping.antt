@@ -47,7 +47,7 @@ pub any_texts : (q : List ℕ) (ks : List (Bor (List ℕ))) → list_any (λ (k 
 any_texts q [] = refl
 any_texts q (k ∷ ks) = ap (λ b. bytes_eq q k.now || b) (any_texts q ks)
 
--- what a set of names has
+-- a test of a set of names is one of the names' texts
 pub set_has : (q : List ℕ) (ks : List (Bor (List ℕ))) (b : Bool) → b ≡ list_any (λ (k : Bor (List ℕ)). bytes_eq q k.now) ks → b ≡ list_any (bytes_eq q) (texts_of ks)
 set_has q ks b h = h ∙ any_texts q ks
 
@@ -103,7 +103,7 @@ insert-later done (k ∷ ks) q = insert-later (insert_key bytes_eq done k) ks q
 pub apart-more : (ks : List (List ℕ)) (q : List ℕ) → insert_all bytes_eq [] ks ≡ ks → position (bytes_eq q) ks ≡ None → insert_all bytes_eq [] (ks ++ q ∷ []) ≡ ks ++ q ∷ []
 apart-more ks q apart none = insert-later [] ks q ∙ ap (λ done. insert_key bytes_eq done q) apart ∙ insert-absent ks q (absent q ks none)
 
--- what a table has after a key is inserted
+-- the texts of a table after a key is inserted
 pub table-insert : (ks : List (Bor (List ℕ))) (q : Bor (List ℕ)) → texts_of (insert_key (λ (a b : Bor (List ℕ)). bytes_eq a.now b.now) ks q) ≡ insert_key bytes_eq (texts_of ks) q.now
 table-insert ks q = pick (list_any (λ (k : Bor (List ℕ)). bytes_eq q.now k.now) ks) (any_texts q.now ks) where
   pick : (b : Bool) → b ≡ list_any (bytes_eq q.now) (texts_of ks) → texts_of (if b then ks else ks ++ q ∷ []) ≡ insert_key bytes_eq (texts_of ks) q.now

@@ -1,4 +1,4 @@
--- What is left to collect, as selections are put there and taken from there.
+-- Lemmas on what is left to collect, as selections are put there and taken from there.
 use Rattle.std.proofs.Common.{◌≡◌, ◌∙◌, sym, ap, refl, ℕ, zero, suc, ◌+◌, ◌-◌, ◌<◌, ◌≤◌, Bool, true, false, List, [], ◌∷◌, ◌++◌, length, Option, Some, None, bytes_eq, append-nil, arith}
 use Rattle.std.specs.Prelude.{option_to_list}
 use Rattle.text_place.specs.declared.place.Place.{Place}
@@ -10,7 +10,7 @@ use Rattle.plan_program.specs.Groups.{Collected, Entering, collect_one, collect_
 use Rattle.plan_program.specs.Collecting.{collect_rest, collect_rests, collect_left}
 use Rattle.plan_program.specs.Steps.{steps_one, steps_set, steps_all, steps_inside, most_steps, steps_rest, steps_if, all_steps}
 
--- what is put last comes first
+-- a rest that is put last is collected first
 pub rests-push : (plan : PlanOf) (ty : List ℕ) (so_far : Collected) (rs : List Rest) (r : Rest) → collect_rests plan ty so_far (rs ++ r ∷ []) ≡ collect_rests plan ty (collect_rest plan ty so_far r) rs
 rests-push plan ty so_far [] r = refl
 rests-push plan ty so_far (q ∷ rs) r = ap (λ (c : Collected). collect_rest plan ty c q) (rests-push plan ty so_far rs r)
@@ -28,7 +28,7 @@ steps-found inside (g ∷ gs) name f h = go (bytes_eq name g.name) refl (steps-f
     go true e later = let same : Some f ≡ Some g = rw e at h in let it : f ≡ g = cc same in rw it (omega arith)
     go false e later = let other : Some f ≡ fragment_in gs name = rw e at h in omega (arith, later other)
 
--- what a fragment takes is within what entering one takes
+-- the steps of a fragment are within those of entering one
 pub steps-entered : (fs : List Fragment) (left : ℕ) (name : List ℕ) (f : Fragment) (p : Place) (ss : Selections)
     → 0 < left → Some f ≡ fragment_in fs name → f.selection_set ≡ set_at p ss → steps_all (steps_inside fs (left - 1)) ss ≤ steps_inside fs left
 steps-entered fs zero name f p ss pos found set = absurd (omega arith)
@@ -49,7 +49,7 @@ steps-first : (fs : List Fragment) (r others : Rest) (s : Selection)
     → map_selections r.selections.now ≡ and_selection s (map_selections others.selections.now) → r.enterable ≡ others.enterable → steps_rest fs r ≡ steps_one (steps_inside fs r.enterable) s + steps_rest fs others
 steps-first fs r others s first same = rw (first, ← same) refl
 
--- where no selection is left, nothing more is collected
+-- nothing more is collected where no selection is left
 collects-none : (plan : PlanOf) (ty : List ℕ) (enter : Entering) (c : Collected) (ss : List rust.Selection) → length ss ≡ 0 → collect_all plan ty enter c (map_selections ss) ≡ c
 collects-none plan ty enter c [] none = refl
 collects-none plan ty enter c (s ∷ ss) none = absurd (omega (arith, none))
@@ -58,7 +58,7 @@ steps-none : (inside : ℕ) (ss : List rust.Selection) → length ss ≡ 0 → s
 steps-none inside [] none = refl
 steps-none inside (s ∷ ss) none = absurd (omega (arith, none))
 
--- what comes next is the last that is left, where there is one
+-- the last rest that is left comes next, where there is one
 pub rests-last : (plan : PlanOf) (ty : List ℕ) (c : Collected) (old new : List Rest) (r : Rest) (next : Option Rest) → length r.selections.now ≡ 0
     → old ≡ new ++ option_to_list next → (next ≡ None → length old ≡ 0) → collect_left plan ty c next new ≡ collect_left plan ty c (Some r) old
 rests-last plan ty c [] new r None none is nothing = sym (collects-none plan ty (entering plan ty r.enterable) c r.selections.now none)

@@ -7,7 +7,7 @@ use Rattle.schema_syntax.specs.Tree.{Argument, Field}
 use Rattle.gq_schema.specs.Inputs.{Input, Null}
 use Rattle.gq_schema.specs.Types.{field_in, is_non_null}
 use Rattle.gq_schema.specs.Coercion.{named_value, all_items, list_input, one_item, coerced}
-use Rattle.variable_values.specs.Variables.{value_in}
+use Rattle.gq_variables.specs.Variables.{value_in}
 use Rattle.gq_check.specs.Plans.{PlanOf}
 use Rattle.plan_program.specs.Chosen.{given_to}
 use Rattle.plan_program.specs.Groups.{FieldOf, GroupOf}
@@ -22,16 +22,17 @@ variable_value non_null None = null_input non_null
 variable_value non_null (Some Null) = null_input non_null
 variable_value non_null (Some i) = Some i
 
--- what a literal with its variables gives at the type of this name, where it is right
+-- gives what a literal with its variables gives at the type of this name, where it is right
 abbrev pub name_value : PlanOf → List ℕ → Bool → Value → Option Input
 name_value plan name non_null (Variable p v) = variable_value non_null (value_in plan.variables v)
 name_value plan name non_null v = named_value None plan.definitions name non_null v
 
 -- the input is what a literal gives at a type, where that is a name
 abbrev pub IsValueAtName : PlanOf → TypeTree → Value → Option Input → Type 0
-IsValueAtName plan t v input = (p : Place) (name : List ℕ) (non_null : Bool) → t ≡ Named p name non_null → input ≡ name_value plan name non_null v
+IsValueAtName plan t v input = (p : Place) (name : List ℕ) (non_null : Bool)
+    → t ≡ Named p name non_null → input ≡ name_value plan name non_null v
 
--- the same at a list, where item says what a literal gives at its items
+-- gives the same at a list, where item says what a literal gives at its items
 abbrev pub list_value : PlanOf → (Value → Option Input) → Bool → Value → Option Input
 list_value plan item non_null (literal.Null p) = null_input non_null
 list_value plan item non_null (Variable p v) = variable_value non_null (value_in plan.variables v)
@@ -67,7 +68,7 @@ argument_value plan a None = default_value plan a.of_type a.default
 argument_value plan a (Some (Variable p v)) = by_variable plan a (value_in plan.variables v)
 argument_value plan a (Some v) = or_refused (literal_value plan a.of_type v)
 
--- the same from all that is given
+-- gives the same from all that is given
 abbrev pub value_given : PlanOf → List literal.Argument → Argument → Coerced
 value_given plan given a = argument_value plan a (given_to given a.name.text)
 

@@ -1,4 +1,5 @@
--- Which selections count: `@skip`, `@include` and the types of fragments (sections 3.13.1, 3.13.2 and 6.3.2).
+-- Definitions of which selections count: `@skip`, `@include` and the types of fragments (sections 3.13.1, 3.13.2 and
+-- 6.3.2).
 use Rattle.std.specs.Prelude.{ℕ, Bool, true, false, not, List, Option, Some, None, codes, bytes_eq, find, option_map, if◌then◌else◌}
 use Rattle.std.specs.List.{list_any}
 use Rattle.std.specs.Option.{option_map_or}
@@ -6,7 +7,7 @@ use Rattle.gq_parser.specs.Tree.{Value, Variable, Argument, Directive, Condition
 use Rattle.gq_parser.specs.Tree as literal
 use Rattle.gq_schema.specs.Inputs.{Input, Boolean}
 use Rattle.gq_schema.specs.Types.{can_be}
-use Rattle.variable_values.specs.Variables.{value_in}
+use Rattle.gq_variables.specs.Variables.{value_in}
 use Rattle.gq_check.specs.Plans.{PlanOf}
 
 -- true, and no other value

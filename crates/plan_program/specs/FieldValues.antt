@@ -19,19 +19,19 @@ use Rattle.plan_program.specs.Groups.{FieldOf, GroupOf}
 use Rattle.plan_program.specs.Arguments.{ArgumentsOf, ValueOf, all_values, null_argument, arguments_of}
 use Rattle.plan_program.specs.Texts.{null_argument_message}
 
--- where a part of a key of two comes from: an argument, of which nothing is null, or a column
+-- the origin of a part of a key of two: an argument, where nothing stands for null, or a column
 pub data PartFrom : Type 0 where
   fixed_part : Option (List ℕ) → PartFrom
   column_part : List ℕ → PartFrom
 
--- where the key of a load comes from
+-- says where the key of a load comes from
 pub data KeyFrom : Type 0 where
   fixed : KeyOf → KeyFrom
   of_column : List ℕ → KeyFrom
   of_pair : PartFrom → PartFrom → KeyFrom
 
--- what an object below a field is made from: its type's name, which may be an interface or a union, and the fields that
--- select of it; and the positions of a list's items
+-- says what an object below a field is made from: its type's name, which may be an interface or a union, and the fields
+-- that select of it; and the positions of a list's items
 pub record ChildrenOf : Type 0 where
   pub type_name : List ℕ
   pub item_non_null : Bool
@@ -39,7 +39,7 @@ pub record ChildrenOf : Type 0 where
   pub fields : List FieldOf
 
 pub data ValueFrom : Type 0 where
-  -- the same for each row
+  -- one value for every row
   known : LeafValue → ValueFrom
   -- a column's field, at a type
   cell : List ℕ → TypeTree → ValueFrom
@@ -95,7 +95,7 @@ keys_of (and_input i is) = key_of_input i ∷ keys_of is
 abbrev pub with_loader : PlanOf → ℕ → ValueFrom → ValueFrom
 with_loader plan loader asked = if nat_lt loader (length plan.bindings.loaders) then asked else known Null
 
--- the later loaders of `via` are among so many
+-- the later loaders of `via` are below `n`
 abbrev pub have_loaders : List StepOf → ℕ → Bool
 have_loaders steps n = list_all (λ (s : StepOf). nat_lt s.loader n) steps
 
@@ -109,13 +109,15 @@ with_key (Some key) asked = asked key
 
 -- this key is that one where the bindings define the loader, and else none
 abbrev pub IsLoadedBy : PlanOf → ℕ → Option KeyFrom → Option KeyFrom → Type 0
-IsLoadedBy plan loader key found = (asked : KeyFrom → ValueFrom) → with_loader plan loader (with_key key asked) ≡ with_key found asked
+IsLoadedBy plan loader key found = (asked : KeyFrom → ValueFrom)
+    → with_loader plan loader (with_key key asked) ≡ with_key found asked
 
 abbrev pub each_asked : ℕ → ChildrenOf → Option Input → ValueFrom
 each_asked loader children (Some (Items is)) = each_row loader (keys_of is) children
 each_asked loader children _ = known Null
 
-abbrev pub bound_asked : PlanOf → TypeTree → ChildrenOf → List ValueOf → Option BindingOf → ValueFrom
+abbrev pub bound_asked : PlanOf → TypeTree → ChildrenOf
+    → List ValueOf → Option BindingOf → ValueFrom
 bound_asked plan t children values None = known Null
 bound_asked plan t children values (Some (by_column column)) = cell column t
 bound_asked plan t children values (Some (by_one loader key)) = with_loader plan loader (with_key (key_from values key) (λ k. first_row loader k children))
@@ -141,7 +143,7 @@ with_arguments (all_values values) asked = asked values
 abbrev pub position_of : List ℕ → Place → Bool → FieldPosition
 position_of key place non_null = record { part = Key key; non_null = non_null; place = place }
 
--- what a group asks for by the definition of its field
+-- gives what a group asks for by the definition of its field
 abbrev pub asked_by : PlanOf → List ℕ → FieldOf → GroupOf → Field → ValueFrom
 asked_by plan ty f g d =
     with_arguments (arguments_of plan ty g) (λ values. bound_asked plan d.of_type (children_of d.of_type f.place g.fields) values (binding_in plan.bindings.fields ty f.name))

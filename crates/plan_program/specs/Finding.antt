@@ -1,4 +1,4 @@
--- How the group of a response key is found. No public clause names these.
+-- Definitions of how the group of a response key is found. No public clause names these.
 use Rattle.std.specs.Prelude.{◌≡◌, ◌<◌, ℕ, List, [], map, length, bytes_eq}
 use Rattle.std.specs.Borrow.{Bor}
 use Rattle.indexmap.specs.IndexSet.{insert_all}

@@ -26,7 +26,8 @@ with_field [] f = record { key = f.key; fields = f ∷ [] } ∷ []
 with_field (g ∷ gs) f =
     if bytes_eq f.key g.key then record { key = g.key; fields = g.fields ++ f ∷ [] } ∷ gs else g ∷ with_field gs f
 
--- what was collected: the groups, and the names of the fragments that were entered, of which none is entered again
+-- says what was collected: the groups, and the names of the fragments that were entered, of which none is entered
+-- again
 pub record Collected : Type 0 where
   pub groups : List GroupOf
   pub entered : List (List ℕ)
@@ -49,7 +50,7 @@ with_entered_if entered so_far name = if entered then record { groups = so_far.g
 abbrev pub has_entered : Collected → List ℕ → Bool
 has_entered so_far name = list_any (bytes_eq name) so_far.entered
 
--- what entering the fragment of a name collects
+-- says what entering the fragment of a name collects
 abbrev pub Entering : Type 0
 Entering = Collected → List ℕ → Collected
 
@@ -76,7 +77,7 @@ abbrev pub enter_fragment : PlanOf → List ℕ → Entering → Collected → O
 enter_fragment plan ty enter so_far None = so_far
 enter_fragment plan ty enter so_far (Some f) = if applies plan (Some f.condition) ty then collect_set plan ty enter so_far f.selection_set else so_far
 
--- the fragments of a plan, of which so many may still be entered one inside another
+-- the fragments of a plan, of which this number may still be entered one inside another
 abbrev pub entering : PlanOf → List ℕ → ℕ → Entering
 entering plan ty zero so_far name = so_far
 entering plan ty (suc left) so_far name = enter_fragment plan ty (entering plan ty left) so_far (fragment_in plan.fragments name)
@@ -95,7 +96,7 @@ abbrev pub selections_below : Below → Selections
 selections_below nothing_below = no_selection
 selections_below (below set) = selections_in set
 
--- the same for what several fields select, joined in order (MergeSelectionSets)
+-- gives the same for what several fields select, joined in order (MergeSelectionSets)
 abbrev pub collect_subfields : PlanOf → List ℕ → Collected → List FieldOf → Collected
 collect_subfields plan ty so_far [] = so_far
 collect_subfields plan ty so_far (f ∷ fs) = collect_subfields plan ty (collect_from plan ty so_far (selections_below f.below)) fs

@@ -30,7 +30,7 @@ int_leaf t = if is_int_text t then option_map (λ z. Int z) (int_of t) else None
 abbrev pub text_if : Bool → List ℕ → Option Leaf
 text_if b t = if b then Some (Text t) else None
 
--- what the text of a cell is at the type of this name, where it is right (section 3.5, Result Coercion)
+-- gives what the text of a cell is at the type of this name, where it is right (section 3.5, Result Coercion)
 abbrev pub named_leaf : List Definition → List ℕ → List ℕ → Option Leaf
 named_leaf defs name t =
     if bytes_eq name (codes "Int") then int_leaf t
@@ -86,7 +86,7 @@ abbrev pub fields_of : (ValueFrom → Program) → List PreparedOf → Programs
 fields_of program [] = End
 fields_of program (p ∷ ps) = With p.position (program p.asked) (fields_of program ps)
 
--- what the fields select of an object of this type over a row
+-- says what the fields select of an object of this type over a row
 abbrev pub Objects : Type 0
 Objects = List ℕ → List FieldOf → RowOf → Program
 
@@ -113,7 +113,8 @@ read_cell loader column None next = Is (Fault (no_column_message column))
 read_cell loader column (Some []) next = Is Null
 read_cell loader column (Some (c ∷ cs)) next = read_key loader (text (c ∷ cs)) next
 
--- what a part of a key of two is over a row: its text, of which nothing is null, or the column that the row doesn't have
+-- says what a part of a key of two is over a row: its text, of which nothing is null, or the column that the row doesn't
+-- have
 pub data PartOver : Type 0 where
   known_part : Option (List ℕ) → PartOver
   lacking : List ℕ → PartOver
@@ -166,7 +167,7 @@ module _ (defs : List Definition) (objects : Objects) where
   abbrev pub joined_objects : ChildrenOf → List StepOf → List RowOf → Program
   joined_objects children steps rs = list_of children (map (joined_object children steps) rs)
 
-  -- what comes of what a group asks for, over a row
+  -- gives what comes of what a group asks for, over a row
   abbrev pub asked_program : RowOf → ValueFrom → Program
   asked_program row (settled leaf_value) = Is leaf_value
   asked_program row (cell column t) = Is (cell_value defs column t (cell_of row column))
@@ -179,13 +180,13 @@ module _ (defs : List Definition) (objects : Objects) where
   abbrev pub prepared_program : List PreparedOf → RowOf → Program
   prepared_program ps row = Under ObjectOf (fields_of (asked_program row) ps)
 
--- An object with so many levels of fields. A plan's document has no more than the plan's levels.
+-- An object with this number of levels of fields. A plan's document has no more than the plan's levels.
 abbrev pub object_program : PlanOf → ℕ → Objects
 object_program plan zero ty fields row = Is Null
 object_program plan (suc levels) ty fields row =
     prepared_program plan.definitions (object_program plan levels) (all_prepared plan ty (collect_subfields plan ty nothing_collected fields).groups) row
 
--- how many levels of fields a valid document has at most
+-- gives how many levels of fields a valid document has at most
 abbrev pub most_levels : ℕ
 most_levels = 128
 

@@ -1,26 +1,29 @@
--- What contracts see of what a group asks for.
+-- Definitions of what contracts see of what a group asks for.
 use Rattle.std.specs.Prelude.{ℕ, List, map, Option, Some, None, string_bytes, option_map}
 use Rattle.std.specs.Arc.{arc_value}
 use Rattle.gq_parser.specs.Tree.{TypeTree, type_of}
+use Rattle.schema_syntax.specs.Tree.{Field}
 use Rattle.gq_bindings.specs.declared.binding.Binding.{Binding}
 use Rattle.gq_bindings.specs.Seen.{step_of, binding_of}
+use Rattle.gq_bindings.specs.Tree.{binding_in}
 use Rattle.load_memory.specs.Keys.{KeyOf, key_of}
 use Rattle.load_memory.specs.declared.key.Key.{Key}
 use Rattle.execution.specs.Program.{Text, Int, Boolean, LeafValue, Value, Null, Fault}
 use Rattle.plan_program.specs.declared.prepared.LeafValue as rust-leaf_value
 use Rattle.plan_program.specs.declared.prepared.LeafValue.TheVariants as leaf_value
-use Rattle.plan_program.specs.declared.prepared.PartFrom as rust-part
-use Rattle.plan_program.specs.declared.prepared.PartFrom.TheVariants as part
+use Rattle.plan_program.specs.declared.prepared.KeyPartFrom as rust-part
+use Rattle.plan_program.specs.declared.prepared.KeyPartFrom.TheVariants as part
 use Rattle.plan_program.specs.declared.prepared.KeyFrom as rust-key
 use Rattle.plan_program.specs.declared.prepared.KeyFrom.TheVariants as key
 use Rattle.plan_program.specs.declared.prepared.Children.{Children}
 use Rattle.plan_program.specs.declared.prepared.ValueFrom as rust-value
 use Rattle.plan_program.specs.declared.prepared.ValueFrom.TheVariants as value
-use Rattle.plan_program.specs.declared.prepared.Prepared.{Prepared}
+use Rattle.plan_program.specs.declared.prepared.PreparedField.{PreparedField}
 use Rattle.gq_check.specs.Plans.{PlanOf}
-use Rattle.plan_program.specs.Arguments.{ValueOf}
+use Rattle.plan_program.specs.Arguments.{ValueOf, coerced_arguments}
+use Rattle.plan_program.specs.Groups.{FieldOf}
 use Rattle.plan_program.specs.Seen.{fields_seen}
-use Rattle.plan_program.specs.FieldValues.{PartFrom, fixed_part, column_part, KeyFrom, fixed, of_column, of_pair, ChildrenOf, ValueFrom, with_key, known, cell, first_row, all_rows, each_row, joined_rows, PreparedOf, position_of, bound_asked}
+use Rattle.plan_program.specs.FieldValues.{PartFrom, fixed_part, column_part, KeyFrom, fixed, of_column, of_pair, ChildrenOf, ValueFrom, with_key, known, cell, first_row, all_rows, each_row, joined_rows, PreparedOf, position_of, bound_asked, with_arguments, children_of}
 
 abbrev pub leaf_value_seen : rust-leaf_value.LeafValue → LeafValue
 leaf_value_seen (leaf_value.Text t) = Value (Text (string_bytes t))
@@ -29,7 +32,7 @@ leaf_value_seen (leaf_value.Bool b) = Value (Boolean b)
 leaf_value_seen leaf_value.Null = Null
 leaf_value_seen (leaf_value.Fault t) = Fault (string_bytes t)
 
-abbrev pub part_from_seen : rust-part.PartFrom → PartFrom
+abbrev pub part_from_seen : rust-part.KeyPartFrom → PartFrom
 part_from_seen (part.Fixed t) = fixed_part t
 part_from_seen (part.Column c) = column_part c.now
 
@@ -52,16 +55,23 @@ value_from_seen (value.All loader k b) = all_rows loader (key_from_seen k) (chil
 value_from_seen (value.Each loader ks b) = each_row loader (keys_seen ks.items) (children_seen (arc_value b))
 value_from_seen (value.Joined loader k steps b) = joined_rows loader (key_from_seen k) (map step_of steps.now) (children_seen (arc_value b))
 
--- what a key asks for, where there is one
+-- gives what a key asks for, where there is one
 abbrev pub by_key : Option rust-key.KeyFrom → (KeyFrom → ValueFrom) → ValueFrom
 by_key key asked = with_key (option_map key_from_seen key) asked
 
--- what a binding asks for
+-- gives what a binding asks for
 abbrev pub bound_by : PlanOf → TypeTree → ChildrenOf → List ValueOf → Binding → ValueFrom
 bound_by plan t below values binding = bound_asked plan t below values (Some (binding_of binding))
 
-abbrev pub prepared_seen : Prepared → PreparedOf
+-- gives what fields of one response key ask for, by the definition of the first
+abbrev pub defined_by : PlanOf → List ℕ → FieldOf → List FieldOf → Field → ValueFrom
+defined_by plan ty f fields d =
+    with_arguments (coerced_arguments plan f.arguments d.arguments)
+    (λ values. bound_asked plan d.of_type (children_of d.of_type f.place fields) values
+    (binding_in plan.bindings.fields ty f.name))
+
+abbrev pub prepared_seen : PreparedField → PreparedOf
 prepared_seen p = record { position = position_of p.key.now p.place p.non_null; asked = value_from_seen p.asked }
 
-abbrev pub all_prepared_seen : List Prepared → List PreparedOf
+abbrev pub all_prepared_seen : List PreparedField → List PreparedOf
 all_prepared_seen ps = map prepared_seen ps

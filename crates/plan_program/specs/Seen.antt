@@ -1,4 +1,4 @@
--- What contracts see of fields, groups and arguments.
+-- Definitions of what contracts see of fields, groups and arguments.
 use Rattle.std.specs.Prelude.{ℕ, List, [], map, Option, Some, None, string_bytes}
 use Rattle.std.specs.Borrow.{Bor}
 use Rattle.std.specs.declared.string.String.{String}
@@ -21,7 +21,7 @@ field_in (Inline place condition ds set) = chosen_field place None [] [] nothing
 abbrev pub field_seen : rust.Field → FieldOf
 field_seen f = field_in (field_of f)
 
--- what a field selects
+-- gives what a field selects
 abbrev pub selected_by : rust.Field → Selections
 selected_by f = selections_below (field_seen f).below
 

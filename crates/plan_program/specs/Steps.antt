@@ -1,10 +1,10 @@
--- How many steps a collection takes at most, where it takes one for each selection and one for the end of each list of them. The
--- number is huge and never computed: it shows that collecting ends.
+-- Definitions of how many steps a collection takes at most, where it takes one for each selection and one for the end of each
+-- list of them. The number is huge and never computed: it shows that collecting ends.
 use Rattle.std.specs.Prelude.{ℕ, zero, suc, ◌+◌, ◌<◌, max, List, [], ◌∷◌, Option, Some, None}
 use Rattle.gq_parser.specs.Tree.{Selection, Field, Spread, Inline, SelectionSet, set_at, Selections, no_selection, and_selection, Fragment, map_selections}
 use Rattle.plan_program.specs.declared.collection.Rest.{Rest}
 
--- where what a fragment has takes so many
+-- gives the steps of selections, where a fragment that they spread takes `inside`
 abbrev mutual
   pub steps_one : ℕ → Selection → ℕ
   steps_one inside (Field p alias name given ds b) = 1
@@ -22,12 +22,13 @@ abbrev pub most_steps : ℕ → List Fragment → ℕ
 most_steps inside [] = 0
 most_steps inside (f ∷ fs) = max (steps_set inside f.selection_set) (most_steps inside fs)
 
--- what a fragment has, where so many may still be entered one inside another
+-- gives the steps of the fragment that takes most, where this number of fragments may still be
+-- entered one inside another
 abbrev pub steps_inside : List Fragment → ℕ → ℕ
 steps_inside fs zero = 0
 steps_inside fs (suc enterable) = most_steps (steps_inside fs enterable) fs
 
--- what is left
+-- gives what is left
 abbrev pub steps_rest : List Fragment → Rest → ℕ
 steps_rest fs r = steps_all (steps_inside fs r.enterable) (map_selections r.selections.now)
 
@@ -39,7 +40,7 @@ abbrev pub all_steps : List Fragment → List Rest → ℕ
 all_steps fs [] = 0
 all_steps fs (r ∷ rs) = steps_rest fs r + all_steps fs rs
 
--- what is left of these, and of what comes next
+-- gives what is left of these, and of what comes next
 abbrev pub steps_left : List Fragment → List Rest → Option Rest → ℕ
 steps_left fs left next = all_steps fs left + steps_if fs next
 

@@ -7,7 +7,7 @@ ghost use Rattle.gq_parser.specs.Types.{is_non_null};
 ghost use Rattle.schema_syntax.specs.Tree.{argument_of, arguments_of as arguments_defined};
 ghost use Rattle.gq_schema.specs.Inputs.{input_of, Coerces};
 ghost use Rattle.gq_schema.specs.Coercion.{list_input, all_items, one_item};
-ghost use Rattle.variable_values.specs.Variables.{value_in};
+ghost use Rattle.gq_variables.specs.Variables.{value_in};
 ghost use Rattle.gq_check.specs.Plans.{plan_of};
 ghost use Rattle.plan_program.specs.Chosen.{given_to};
 ghost use Rattle.plan_program.specs.Arguments.{null_input, variable_value, IsValueAtName, literal_value, or_refused, default_value, by_variable, argument_value, value_given, coerced_arguments, arguments_of, all_values};
@@ -28,7 +28,7 @@ pub struct Args {
     pub pairs: Vec<(String, Input)>,
 }
 
-/// Why a field has no arguments.
+/// Says why a field has no arguments.
 #[derive(Debug, Drop, Error)]
 pub enum ArgFault {
     /// The first argument, in order of definition, of non-null type that has no value or null.
@@ -61,8 +61,8 @@ impl<T: Drop> From<AllocFailed<T>> for ArgFault {
     }
 }
 
-/// What becomes of an argument.
-enum Coerced {
+/// Says what becomes of an argument.
+enum CoercedArgument {
     Absent,
     Present(Input),
     Refused,
@@ -70,7 +70,7 @@ enum Coerced {
 
 // An input of its own.
 #[cycle(copied)]
-fn copied(input: &Input) -> Result<Input, AllocError>
+fn copy_input(input: &Input) -> Result<Input, AllocError>
     ensures { IfOk result (λ copy. input_of copy ≡ input_of input.now) }
 {
     match input {
@@ -78,17 +78,17 @@ fn copied(input: &Input) -> Result<Input, AllocError>
         Input::Int(number) => Ok(Input::Int(*number)),
         Input::Text(text) => Ok(Input::Text(text.clone()?)),
         Input::Bool(value) => Ok(Input::Bool(*value)),
-        Input::List(items) => Ok(Input::List(all_copied(items)?)),
+        Input::List(items) => Ok(Input::List(copy_all(items)?)),
     }
 }
 
 #[cycle(copied)]
-fn all_copied(inputs: &Vec<Input>) -> Result<Vec<Input>, AllocError>
+fn copy_all(inputs: &Vec<Input>) -> Result<Vec<Input>, AllocError>
     ensures { IfOk result (λ copies. map input_of copies.items ≡ map input_of inputs.now.items) }
 {
     let mut copies = Vec::with_capacity(*inputs.allocator(), inputs.len())?;
     for input in inputs {
-        copies.push(copied(input)?)?;
+        copies.push(copy_input(input)?)?;
     }
     Ok(copies)
 }
@@ -101,20 +101,22 @@ fn null_input(ty: &TypeRef) -> Option<Input>
 
 // The value of a variable that has one.
 fn value_of_variable(ty: &TypeRef, value: &Input) -> Result<Option<Input>, AllocError>
-    ensures { Coerces (variable_value (is_non_null (type_of ty.now)) (Some (input_of value.now))) result }
+    ensures { Coerces
+        (variable_value (is_non_null (type_of ty.now)) (Some (input_of value.now))) result }
 {
     match value {
         Input::Null => Ok(null_input(ty)),
         Input::Int(number) => Ok(Some(Input::Int(*number))),
         Input::Text(text) => Ok(Some(Input::Text(text.clone()?))),
         Input::Bool(value) => Ok(Some(Input::Bool(*value))),
-        Input::List(items) => Ok(Some(Input::List(all_copied(items)?))),
+        Input::List(items) => Ok(Some(Input::List(copy_all(items)?))),
     }
 }
 
 // The value of a variable; an absent one is null.
 fn variable_value(plan: &Plan, ty: &TypeRef, name: &str) -> Result<Option<Input>, AllocError>
-    ensures { Coerces (variable_value (is_non_null (type_of ty.now)) (value_in (plan_of plan.now).variables name.now)) result }
+    ensures { Coerces (variable_value (is_non_null (type_of ty.now))
+        (value_in (plan_of plan.now).variables name.now)) result }
 {
     match plan.variable(name) {
         Some(value) => value_of_variable(ty, value),
@@ -122,14 +124,15 @@ fn variable_value(plan: &Plan, ty: &TypeRef, name: &str) -> Result<Option<Input>
     }
 }
 
-// What a literal gives at a type that is no list.
+// Returns what a literal gives at a type that is no list.
 fn name_value(
     alloc: Global,
     plan: &Plan,
     ty: &TypeRef,
     literal: &Literal,
 ) -> Result<Option<Input>, AllocError>
-    ensures { IfOk result (λ i. IsValueAtName (plan_of plan.now) (type_of ty.now) (literal_of literal.now) (option_map input_of i)) }
+    ensures { IfOk result (λ i. IsValueAtName (plan_of plan.now)
+        (type_of ty.now) (literal_of literal.now) (option_map input_of i)) }
 {
     match &literal.value {
         Value::Variable(name) => Ok(variable_value(plan, ty, name.as_str())?),
@@ -144,7 +147,7 @@ fn name_value(
     }
 }
 
-// What a literal with its variables gives at a type.
+// Returns what a literal with its variables gives at a type.
 #[cycle(literal)]
 fn literal_value(
     alloc: Global,
@@ -152,7 +155,8 @@ fn literal_value(
     ty: &TypeRef,
     literal: &Literal,
 ) -> Result<Option<Input>, AllocError>
-    ensures { Coerces (literal_value (plan_of plan.now) (type_of ty.now) (literal_of literal.now)) result }
+    ensures { Coerces
+        (literal_value (plan_of plan.now) (type_of ty.now) (literal_of literal.now)) result }
 {
     match ty {
         TypeRef::Named { .. } => Ok(name_value(alloc, plan, ty, literal)?),
@@ -178,7 +182,8 @@ fn one_value(
     ty: &TypeRef,
     literal: &Literal,
 ) -> Result<Option<Input>, AllocError>
-    ensures { Coerces (one_item (literal_value (plan_of plan.now) (type_of ty.now) (literal_of literal.now))) result }
+    ensures { Coerces (one_item
+        (literal_value (plan_of plan.now) (type_of ty.now) (literal_of literal.now))) result }
 {
     let item = literal_value(alloc, plan, ty, literal)?;
     Ok(list_of_one(alloc, item)?)
@@ -192,7 +197,8 @@ fn list_value(
     ty: &TypeRef,
     literals: &[Literal],
 ) -> Result<Option<Input>, AllocError>
-    ensures { Coerces (list_input (all_items (literal_value (plan_of plan.now) (type_of ty.now)) (map_literals literals.now))) result }
+    ensures { Coerces (list_input (all_items (literal_value (plan_of plan.now) (type_of ty.now))
+        (map_literals literals.now))) result }
 {
     let mut inputs = Vec::with_capacity(alloc, literals.len())?;
     for literal in literals {
@@ -204,17 +210,21 @@ fn list_value(
     Ok(Some(Input::List(inputs)))
 }
 
-fn or_refused(input: Option<Input>) -> Coerced
+fn or_refused(input: Option<Input>) -> CoercedArgument
     ensures { coerced_seen result ≡ or_refused (option_map input_of input) }
 {
     match input {
-        Some(input) => Coerced::Present(input),
-        None => Coerced::Refused,
+        Some(input) => CoercedArgument::Present(input),
+        None => CoercedArgument::Refused,
     }
 }
 
-// What becomes of an argument for which nothing is given.
-fn default_value(alloc: Global, plan: &Plan, argument: &ArgDef) -> Result<Coerced, AllocError>
+// Returns what becomes of an argument for which nothing is given.
+fn default_value(
+    alloc: Global,
+    plan: &Plan,
+    argument: &ArgDef,
+) -> Result<CoercedArgument, AllocError>
     ensures { IfOk result (λ value. coerced_seen value
         ≡ default_value (plan_of plan.now) (argument_of argument.now).of_type (argument_of argument.now).default) }
 {
@@ -225,21 +235,21 @@ fn default_value(alloc: Global, plan: &Plan, argument: &ArgDef) -> Result<Coerce
         }
         None => {
             if argument.of_type.is_non_null() {
-                Ok(Coerced::Refused)
+                Ok(CoercedArgument::Refused)
             } else {
-                Ok(Coerced::Absent)
+                Ok(CoercedArgument::Absent)
             }
         }
     }
 }
 
-// What becomes of an argument that is given by a variable.
+// Returns what becomes of an argument that is given by a variable.
 fn by_variable(
     alloc: Global,
     plan: &Plan,
     argument: &ArgDef,
     name: &str,
-) -> Result<Coerced, AllocError>
+) -> Result<CoercedArgument, AllocError>
     ensures { IfOk result (λ v. coerced_seen v
         ≡ by_variable (plan_of plan.now) (argument_of argument.now) (value_in (plan_of plan.now).variables name.now)) }
 {
@@ -249,14 +259,15 @@ fn by_variable(
     }
 }
 
-// What becomes of an argument for which a literal is given.
+// Returns what becomes of an argument for which a literal is given.
 fn given_value(
     alloc: Global,
     plan: &Plan,
     argument: &ArgDef,
     literal: &Literal,
-) -> Result<Coerced, AllocError>
-    ensures { IfOk result (λ value. coerced_seen value ≡ argument_value (plan_of plan.now) (argument_of argument.now) (Some (literal_of literal.now))) }
+) -> Result<CoercedArgument, AllocError>
+    ensures { IfOk result (λ value. coerced_seen value ≡ argument_value
+        (plan_of plan.now) (argument_of argument.now) (Some (literal_of literal.now))) }
 {
     let ty = &argument.of_type;
     match &literal.value {
@@ -277,7 +288,7 @@ fn argument_value(
     plan: &Plan,
     argument: &ArgDef,
     given: &[Argument],
-) -> Result<Coerced, AllocError>
+) -> Result<CoercedArgument, AllocError>
     ensures { IfOk result (λ v. coerced_seen v
         ≡ value_given (plan_of plan.now) (arguments_seen given.now) (argument_of argument.now)) }
 {
@@ -287,7 +298,8 @@ fn argument_value(
     }
 }
 
-fn coerced_arguments(
+/// The coerced arguments of a field, by what is given to it and by the arguments of its definition.
+pub(crate) fn coerced_arguments(
     alloc: Global,
     plan: &Plan,
     given: &[Argument],
@@ -295,19 +307,20 @@ fn coerced_arguments(
 ) -> Result<Args, ArgFault>
     ensures ok { IfOk result (λ a.
         coerced_arguments (plan_of plan.now) (arguments_seen given.now) (arguments_defined arguments.now) ≡ all_values (values_of a)) }
-    ensures fault { IfErr result (λ fault. Refuses fault (coerced_arguments (plan_of plan.now) (arguments_seen given.now) (arguments_defined arguments.now))) }
+    ensures fault { IfErr result (λ fault. Refuses fault (coerced_arguments
+        (plan_of plan.now) (arguments_seen given.now) (arguments_defined arguments.now))) }
 {
     let mut args = Args {
         pairs: Vec::new(alloc),
     };
     for argument in arguments {
         match argument_value(alloc, plan, argument, given)? {
-            Coerced::Absent => {}
-            Coerced::Present(input) => {
+            CoercedArgument::Absent => {}
+            CoercedArgument::Present(input) => {
                 let name = argument.name.text.clone()?;
                 args.pairs.push((name, input))?;
             }
-            Coerced::Refused => {
+            CoercedArgument::Refused => {
                 return Err(ArgFault::NullArgument(argument.name.text.clone()?));
             }
         }
@@ -328,8 +341,10 @@ pub fn arguments_of(
     ty: &str,
     group: &Group<'_>,
 ) -> Result<Args, ArgFault>
-    ensures ok { IfOk result (λ args. arguments_of (plan_of plan.now) ty.now (group_of group.now) ≡ all_values (values_of args)) }
-    ensures fault { IfErr result (λ fault. Refuses fault (arguments_of (plan_of plan.now) ty.now (group_of group.now))) }
+    ensures ok { IfOk result (λ args.
+        arguments_of (plan_of plan.now) ty.now (group_of group.now) ≡ all_values (values_of args)) }
+    ensures fault { IfErr result (λ fault.
+        Refuses fault (arguments_of (plan_of plan.now) ty.now (group_of group.now))) }
 {
     let none = Args {
         pairs: Vec::new(alloc),

@@ -1,10 +1,10 @@
-//! Which selections count.
+//! Selections that count.
 
 ghost use Rattle.std.specs.Prelude.{◌≡◌, Some, codes};
 ghost use Rattle.std.specs.Option.{option_map, option_copied};
 ghost use Rattle.gq_parser.specs.Tree.{literal_of, arguments_of as arguments_seen, directive_of, directives_of, condition_of, condition_if};
 ghost use Rattle.gq_schema.specs.Inputs.{input_of};
-ghost use Rattle.variable_values.specs.Variables.{value_in};
+ghost use Rattle.gq_variables.specs.Variables.{value_in};
 ghost use Rattle.gq_check.specs.Plans.{plan_of};
 ghost use Rattle.plan_program.specs.Chosen.{is_true_input, is_true, given_to, holds, leaves_out, is_left_out, applies};
 
@@ -51,7 +51,8 @@ fn is_true(plan: &Plan, literal: &Literal) -> bool
 
 /// The value that is given to the argument of this name.
 pub fn given_to<'p>(given: &'p [Argument], name: &str) -> Option<&'p Literal>
-    ensures { option_map literal_of (option_copied result) ≡ given_to (arguments_seen given.now) name.now }
+    ensures { option_map literal_of (option_copied result)
+        ≡ given_to (arguments_seen given.now) name.now }
 {
     for argument in given {
         if argument.name.as_str() == name {
@@ -61,7 +62,7 @@ pub fn given_to<'p>(given: &'p [Argument], name: &str) -> Option<&'p Literal>
     None
 }
 
-// Whether the argument `if` is true.
+// Tells whether the argument `if` is true.
 fn holds(plan: &Plan, directive: &Directive) -> bool
     ensures { result ≡ holds (plan_of plan.now) (directive_of directive.now) }
 {
@@ -83,7 +84,7 @@ fn leaves_out(plan: &Plan, directive: &Directive) -> bool
     false
 }
 
-/// Whether `@skip` is true or `@include` isn't (sections 3.13.1 and 3.13.2).
+/// Tells whether `@skip` is true or `@include` isn't (sections 3.13.1 and 3.13.2).
 pub fn is_left_out(plan: &Plan, directives: &[Directive]) -> bool
     ensures { result ≡ is_left_out (plan_of plan.now) (directives_of directives.now) }
 {
@@ -95,14 +96,15 @@ pub fn is_left_out(plan: &Plan, directives: &[Directive]) -> bool
     false
 }
 
-/// Whether fragments on a type apply to an object type (section 6.3.2, DoesFragmentTypeApply).
+/// Tells whether fragments on a type apply to an object type (section 6.3.2,
+/// DoesFragmentTypeApply).
 pub fn applies(plan: &Plan, condition: &TypeCondition, ty: &str) -> bool
     ensures { result ≡ applies (plan_of plan.now) (Some (condition_of condition.now)) ty.now }
 {
     plan.schema().can_be(condition.name.as_str(), ty)
 }
 
-/// The same of an inline fragment, which may have no type.
+/// Does the same of an inline fragment, which may have no type.
 pub fn applies_inline(plan: &Plan, condition: &Option<TypeCondition>, ty: &str) -> bool
     ensures { result ≡ applies (plan_of plan.now) (condition_if condition.now) ty.now }
 {

@@ -1,4 +1,4 @@
-//! What is collected.
+//! Collected fields.
 
 ghost use Rattle.plan_program.specs.Finding.{texts_of, keys_in, AreFound};
 
@@ -11,7 +11,7 @@ use std::alloc::{AllocError, Global};
 
 /// Groups, each found by its key, and the fragments that were entered.
 #[derive(Drop)]
-pub struct Collected<'p> {
+pub struct CollectedFields<'p> {
     groups: Vec<Group<'p>>,
     // the keys of the groups, in the same order; none while the groups are few
     table: IndexSet<&'p str>,
@@ -20,16 +20,16 @@ pub struct Collected<'p> {
     ghost found: { AreFound (texts_of table.keys) (keys_in groups.items) },
 }
 
-impl<'p> Collected<'p> {
+impl<'p> CollectedFields<'p> {
     ghost use Rattle.std.specs.Prelude.{◌≡◌, not, OnOk, IfOk};
     ghost use Rattle.plan_program.specs.Groups.{with_chosen, with_entered_if, nothing_collected, has_entered};
     ghost use Rattle.plan_program.specs.Seen.{field_seen, groups_of};
     ghost use Rattle.plan_program.specs.Collecting.{collected_of};
 
-    pub fn new(alloc: Global) -> Collected<'p>
+    pub fn new(alloc: Global) -> CollectedFields<'p>
         ensures { collected_of result ≡ nothing_collected }
     {
-        Collected {
+        CollectedFields {
             groups: Vec::new(alloc),
             table: IndexSet::new(alloc),
             entered: IndexSet::new(alloc),
@@ -44,7 +44,8 @@ impl<'p> Collected<'p> {
 
     /// Adds a field to the group of its key, or begins one.
     pub fn add_field(&mut self, alloc: Global, field: &'p Field) -> Result<(), AllocError>
-        ensures { OnOk result (collected_of self.new ≡ with_chosen (collected_of self.old) (field_seen field.now)) }
+        ensures { OnOk result
+            (collected_of self.new ≡ with_chosen (collected_of self.old) (field_seen field.now)) }
     {
         let key = key_of(field);
         match place_of(&self.groups, &self.table, key) {
@@ -64,8 +65,10 @@ impl<'p> Collected<'p> {
 
     /// Notes that a fragment is entered; false where it was before.
     pub fn enter(&mut self, name: &'p str) -> Result<bool, AllocError>
-        ensures is_new { IfOk result (λ entered. entered ≡ not (has_entered (collected_of self.old) name.now)) }
-        ensures after { IfOk result (λ entered. collected_of self.new ≡ with_entered_if entered (collected_of self.old) name.now) }
+        ensures is_new { IfOk result (λ entered.
+            entered ≡ not (has_entered (collected_of self.old) name.now)) }
+        ensures after { IfOk result (λ entered.
+            collected_of self.new ≡ with_entered_if entered (collected_of self.old) name.now) }
     {
         Ok(self.entered.insert(name)?)
     }

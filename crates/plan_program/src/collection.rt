@@ -10,24 +10,25 @@ ghost use Rattle.plan_program.specs.Collecting.{collected_of, collect_rest_if, C
 ghost use Rattle.plan_program.specs.Steps.{steps_inside, steps_one, steps_if, TakesStep};
 
 use crate::chosen::{applies, applies_inline, is_left_out};
-use crate::collected::Collected;
+use crate::collected::CollectedFields;
 use crate::group::Group;
 use gq_check::Plan;
 use gq_parser::{Field, Selection};
-use load_memory::NoMemory;
 use std::alloc::{AllocError, Global};
 
-// Selections that are left to collect, where so many fragments may still be entered one inside another.
+// Selections that are left to collect, where `enterable` fragments may still be entered one inside another.
 #[derive(Clone, Copy)]
 struct Rest<'p> {
     selections: &'p [Selection],
     enterable: usize,
 }
 
-// What a fragment leaves to collect, where it applies.
+// Returns what a fragment leaves to collect, where it applies.
 fn rest_of_fragment<'p>(plan: &'p Plan, ty: &str, enterable: usize, name: &str) -> Option<Rest<'p>>
-    ensures entered { (so_far : _) → collect_rest_if (plan_of plan.now) ty.now so_far result ≡ entering (plan_of plan.now) ty.now enterable so_far name.now }
-    ensures steps { steps_if (plan_of plan.now).fragments result ≤ steps_inside (plan_of plan.now).fragments enterable }
+    ensures entered { (so_far : _) → collect_rest_if (plan_of plan.now) ty.now so_far result
+        ≡ entering (plan_of plan.now) ty.now enterable so_far name.now }
+    ensures steps { steps_if (plan_of plan.now).fragments result
+        ≤ steps_inside (plan_of plan.now).fragments enterable }
 {
     if enterable == 0 {
         return None;
@@ -52,9 +53,10 @@ fn collect_one<'p>(
     ty: &str,
     enterable: usize,
     selection: &'p Selection,
-    so_far: &mut Collected<'p>,
+    so_far: &mut CollectedFields<'p>,
 ) -> Result<Option<Rest<'p>>, AllocError>
-    ensures collected { IfOk result (Collects (plan_of plan.now) ty.now enterable (selection_of selection.now) so_far.old so_far.new) }
+    ensures collected { IfOk result (Collects (plan_of plan.now) ty.now
+        enterable (selection_of selection.now) so_far.old so_far.new) }
     ensures steps { let fs = (plan_of plan.now).fragments in
         IfOk result (λ i. steps_if fs i < steps_one (steps_inside fs enterable) (selection_of selection.now)) }
 {
@@ -97,11 +99,12 @@ fn collect_first<'p>(
     ty: &str,
     rest: Rest<'p>,
     left: &mut Vec<Rest<'p>>,
-    so_far: &mut Collected<'p>,
+    so_far: &mut CollectedFields<'p>,
 ) -> Result<Option<Rest<'p>>, AllocError>
     ensures collected { IfOk result (CollectsFirst (plan_of plan.now) ty.now rest.entry so_far.old so_far.new
         left.old.items left.new.items) }
-    ensures steps { IfOk result (TakesStep (plan_of plan.now).fragments left.old.items rest.entry left.new.items) }
+    ensures steps { IfOk result
+        (TakesStep (plan_of plan.now).fragments left.old.items rest.entry left.new.items) }
 {
     let Some((selection, selections)) = rest.selections.split_first() else {
         return Ok(left.pop());
@@ -126,9 +129,10 @@ fn collect_from<'p>(
     plan: &'p Plan,
     ty: &str,
     selections: &'p [Selection],
-    so_far: &mut Collected<'p>,
+    so_far: &mut CollectedFields<'p>,
 ) -> Result<(), AllocError>
-    ensures { OnOk result (collected_of so_far.new ≡ collect_from (plan_of plan.now) ty.now (collected_of so_far.old) (map_selections selections.now)) }
+    ensures { OnOk result (collected_of so_far.new ≡ collect_from (plan_of plan.now)
+        ty.now (collected_of so_far.old) (map_selections selections.now)) }
 {
     let mut left = Vec::new(alloc);
     let mut rest = Rest {
@@ -147,9 +151,10 @@ fn collect_field<'p>(
     plan: &'p Plan,
     ty: &str,
     field: &'p Field,
-    so_far: &mut Collected<'p>,
+    so_far: &mut CollectedFields<'p>,
 ) -> Result<(), AllocError>
-    ensures { OnOk result (collected_of so_far.new ≡ collect_from (plan_of plan.now) ty.now (collected_of so_far.old) (selected_by field.now)) }
+    ensures { OnOk result (collected_of so_far.new ≡ collect_from (plan_of plan.now)
+        ty.now (collected_of so_far.old) (selected_by field.now)) }
 {
     match &field.selection_set {
         Some(set) => collect_from(alloc, plan, ty, &set.selections, so_far),
@@ -168,15 +173,16 @@ pub fn collect<'p>(
     plan: &'p Plan,
     ty: &str,
     selections: &'p [Selection],
-) -> Result<Vec<Group<'p>>, NoMemory>
-    ensures { IfOk result (λ groups. groups_of groups.items ≡ collect (plan_of plan.now) ty.now (map_selections selections.now)) }
+) -> Result<Vec<Group<'p>>, AllocError>
+    ensures { IfOk result (λ groups. groups_of groups.items
+        ≡ collect (plan_of plan.now) ty.now (map_selections selections.now)) }
 {
-    let mut collected = Collected::new(alloc);
+    let mut collected = CollectedFields::new(alloc);
     collect_from(alloc, plan, ty, selections, &mut collected)?;
     Ok(collected.into_groups())
 }
 
-/// The same for what several fields select, joined in order (section 6.3.2, MergeSelectionSets).
+/// Does the same for what several fields select, joined in order (section 6.3.2, MergeSelectionSets).
 ///
 /// # Errors
 ///
@@ -186,10 +192,11 @@ pub fn collect_subfields<'p>(
     plan: &'p Plan,
     ty: &str,
     fields: &[&'p Field],
-) -> Result<Vec<Group<'p>>, NoMemory>
-    ensures { IfOk result (λ groups. groups_of groups.items ≡ (collect_subfields (plan_of plan.now) ty.now nothing_collected (fields_seen fields.now)).groups) }
+) -> Result<Vec<Group<'p>>, AllocError>
+    ensures { IfOk result (λ groups. groups_of groups.items ≡ (collect_subfields
+        (plan_of plan.now) ty.now nothing_collected (fields_seen fields.now)).groups) }
 {
-    let mut collected = Collected::new(alloc);
+    let mut collected = CollectedFields::new(alloc);
     for field in fields {
         collect_field(alloc, plan, ty, field, &mut collected)?;
     }

@@ -1,4 +1,4 @@
-//! What fields say.
+//! Values that fields give.
 
 ghost use Rattle.std.specs.Prelude.{◌≡◌};
 ghost use Rattle.plan_program.specs.Seen.{field_seen};

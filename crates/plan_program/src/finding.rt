@@ -8,7 +8,8 @@ use crate::group::Group;
 use indexmap::IndexSet;
 use std::alloc::AllocError;
 
-/// From so many groups on a group is found by a table of the keys, and no longer by a look at each.
+/// The number of groups from which on a group is found by a table of the keys, and no longer by a
+/// look at each.
 const MANY_GROUPS: usize = 8;
 
 /// The place of the group of a key, found by the table if it has the keys.
@@ -54,7 +55,8 @@ pub fn note_key<'p>(
 ) -> Result<(), AllocError>
     requires found { AreFound (texts_of table.old.keys) (keys_in groups.now) }
     requires absent { position (bytes_eq key.now) (keys_in groups.now) ≡ None }
-    ensures ok { OnOk result (AreFound (texts_of table.new.keys) (keys_in groups.now ++ key.now ∷ [])) }
+    ensures ok { OnOk result
+        (AreFound (texts_of table.new.keys) (keys_in groups.now ++ key.now ∷ [])) }
     ensures err { OnErr result (AreFound (texts_of table.new.keys) (keys_in groups.now)) }
 {
     if table.is_empty() {

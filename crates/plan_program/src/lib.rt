@@ -1,4 +1,4 @@
-//! What a plan asks, as a program: the fields that are collected of an object type, their arguments, and the loads of their
+//! Programs of plans: the fields that are collected of an object type, their arguments, and the loads of their
 //! bindings (sections 6.3 and 6.4.1 of the GraphQL specification of October 2021).
 //!
 //! `specs/PlanPrograms.antt` gives each plan its program in the words of `execution`. The layer above executes it, and may
@@ -19,7 +19,6 @@ mod texts;
 pub use arguments::{ArgFault, Args, arguments_of};
 pub use collection::{collect, collect_subfields};
 pub use group::Group;
-pub use load_memory::NoMemory;
 pub use preparation::prepare_groups;
-pub use prepared::{Children, KeyFrom, LeafValue, PartFrom, Prepared, ValueFrom};
+pub use prepared::{Children, KeyFrom, KeyPartFrom, LeafValue, PreparedField, ValueFrom};
 pub use texts::{bad_value_message, no_column_message, no_type_message, not_type_message};

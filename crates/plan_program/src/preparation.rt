@@ -9,22 +9,21 @@ ghost use Rattle.gq_schema.specs.Inputs.{input_of, inputs_of};
 ghost use Rattle.gq_bindings.specs.Seen.{part_of, key_of as source_of, step_of, binding_of};
 ghost use Rattle.load_memory.specs.Keys.{key_of};
 ghost use Rattle.gq_check.specs.Plans.{plan_of};
-ghost use Rattle.plan_program.specs.Arguments.{arguments_of};
-ghost use Rattle.plan_program.specs.FieldValues.{item_type, text_of_input, key_of_input, input_named, key_if, part_from, key_from, keys_of, have_loaders, IsLoadedBy, first_row, all_rows, each_asked, joined_rows, children_of, asked_by, position_of, known, prepared, all_prepared};
+ghost use Rattle.plan_program.specs.FieldValues.{item_type, text_of_input, key_of_input, input_named, key_if, part_from, key_from, keys_of, have_loaders, IsLoadedBy, first_row, all_rows, each_asked, joined_rows, children_of, position_of, known, prepared, all_prepared};
 ghost use Rattle.execution.specs.Program.{Null};
 ghost use Rattle.plan_program.specs.Seen.{field_seen, fields_seen, group_of, groups_of, values_of};
-ghost use Rattle.plan_program.specs.Prepared.{bound_by, by_key, part_from_seen, key_from_seen, keys_seen, children_seen, value_from_seen, prepared_seen, all_prepared_seen};
+ghost use Rattle.plan_program.specs.Prepared.{bound_by, by_key, part_from_seen, key_from_seen, keys_seen, children_seen, value_from_seen, defined_by, prepared_seen, all_prepared_seen};
 
-use crate::arguments::{ArgFault, Args, arguments_of};
+use crate::arguments::{ArgFault, Args, coerced_arguments};
 use crate::group::Group;
-use crate::prepared::{Children, KeyFrom, LeafValue, PartFrom, Prepared, ValueFrom};
+use crate::prepared::{Children, KeyFrom, KeyPartFrom, LeafValue, PreparedField, ValueFrom};
 use crate::texts::null_argument_message;
-use gq_bindings::{Binding, KeyPart, KeySource, Step};
+use gq_bindings::{Binding, KeyOrigin, KeyPart, ViaLoader};
 use gq_check::Plan;
 use gq_lexer::Place;
 use gq_parser::{Field, TypeRef};
 use gq_schema::{FieldDef, Input};
-use load_memory::{Key, NoMemory, Text};
+use load_memory::{Key, Text};
 use std::alloc::{AllocError, Global};
 use std::sync::Arc;
 
@@ -53,7 +52,8 @@ fn key_of_input(alloc: Global, input: &Input) -> Result<Option<Key>, AllocError>
 
 // The value of the argument of this name.
 fn input_named<'a>(args: &'a Args, name: &str) -> Option<&'a Input>
-    ensures { option_map input_of (option_copied result) ≡ input_named name.now (values_of args.now) }
+    ensures { option_map input_of (option_copied result)
+        ≡ input_named name.now (values_of args.now) }
 {
     for (own_name, input) in &args.pairs {
         if own_name.as_str() == name {
@@ -68,7 +68,8 @@ fn key_of_argument<'p>(
     args: &Args,
     name: &str,
 ) -> Result<Option<KeyFrom<'p>>, AllocError>
-    ensures { IfOk result (λ key. option_map key_from_seen key ≡ key_if (input_named name.now (values_of args.now))) }
+    ensures { IfOk result (λ key.
+        option_map key_from_seen key ≡ key_if (input_named name.now (values_of args.now))) }
 {
     match input_named(args, name) {
         Some(input) => match key_of_input(alloc, input)? {
@@ -79,36 +80,38 @@ fn key_of_argument<'p>(
     }
 }
 
-// Where a part of a key of two parts comes from.
+// Returns where a part of a key of two parts comes from.
 fn part_from<'p>(
     alloc: Global,
     args: &Args,
     source: &'p KeyPart,
-) -> Result<PartFrom<'p>, AllocError>
-    ensures { IfOk result (λ part. part_from_seen part ≡ part_from (values_of args.now) (part_of source.now)) }
+) -> Result<KeyPartFrom<'p>, AllocError>
+    ensures { IfOk result (λ part.
+        part_from_seen part ≡ part_from (values_of args.now) (part_of source.now)) }
 {
     match source {
         KeyPart::Argument(name) => match input_named(args, name.as_str()) {
-            Some(input) => Ok(PartFrom::Fixed(text_of_input(alloc, input)?)),
-            None => Ok(PartFrom::Fixed(None)),
+            Some(input) => Ok(KeyPartFrom::Fixed(text_of_input(alloc, input)?)),
+            None => Ok(KeyPartFrom::Fixed(None)),
         },
-        KeyPart::Column(column) => Ok(PartFrom::Column(column.as_str())),
+        KeyPart::Column(column) => Ok(KeyPartFrom::Column(column.as_str())),
     }
 }
 
-// Where a key comes from; nothing where it is null.
+// Returns where a key comes from; nothing where it is null.
 fn key_from<'p>(
     alloc: Global,
     args: &Args,
-    source: &'p KeySource,
+    source: &'p KeyOrigin,
 ) -> Result<Option<KeyFrom<'p>>, AllocError>
-    ensures { IfOk result (λ key. option_map key_from_seen key ≡ key_from (values_of args.now) (source_of source.now)) }
+    ensures { IfOk result (λ key.
+        option_map key_from_seen key ≡ key_from (values_of args.now) (source_of source.now)) }
 {
     match source {
-        KeySource::Argument(name) => key_of_argument(alloc, args, name.as_str()),
-        KeySource::Column(column) => Ok(Some(KeyFrom::Column(column.as_str()))),
-        KeySource::All => Ok(Some(KeyFrom::Fixed(Key::All))),
-        KeySource::Pair(one, two) => {
+        KeyOrigin::Argument(name) => key_of_argument(alloc, args, name.as_str()),
+        KeyOrigin::Column(column) => Ok(Some(KeyFrom::Column(column.as_str()))),
+        KeyOrigin::All => Ok(Some(KeyFrom::Fixed(Key::All))),
+        KeyOrigin::Pair(one, two) => {
             let one = part_from(alloc, args, one)?;
             let two = part_from(alloc, args, two)?;
             Ok(Some(KeyFrom::Pair(one, two)))
@@ -117,7 +120,8 @@ fn key_from<'p>(
 }
 
 fn keys_of(alloc: Global, inputs: &Vec<Input>) -> Result<Vec<Option<Key>>, AllocError>
-    ensures { IfOk result (λ keys. keys_seen keys.items ≡ keys_of (inputs_of (map input_of inputs.now.items))) }
+    ensures { IfOk result (λ keys.
+        keys_seen keys.items ≡ keys_of (inputs_of (map input_of inputs.now.items))) }
 {
     let mut keys = Vec::with_capacity(alloc, inputs.len())?;
     for input in inputs {
@@ -133,7 +137,8 @@ fn first_row<'p>(
     key: Option<KeyFrom<'p>>,
     children: Children<'p>,
 ) -> Result<ValueFrom<'p>, AllocError>
-    ensures { IfOk result (λ a. value_from_seen a ≡ by_key key.entry (λ k. first_row loader k (children_seen children.entry))) }
+    ensures { IfOk result (λ a. value_from_seen a
+        ≡ by_key key.entry (λ k. first_row loader k (children_seen children.entry))) }
 {
     match key {
         Some(key) => Ok(ValueFrom::First {
@@ -152,7 +157,8 @@ fn all_rows<'p>(
     key: Option<KeyFrom<'p>>,
     children: Children<'p>,
 ) -> Result<ValueFrom<'p>, AllocError>
-    ensures { IfOk result (λ a. value_from_seen a ≡ by_key key.entry (λ k. all_rows loader k (children_seen children.entry))) }
+    ensures { IfOk result (λ a. value_from_seen a
+        ≡ by_key key.entry (λ k. all_rows loader k (children_seen children.entry))) }
 {
     match key {
         Some(key) => Ok(ValueFrom::All {
@@ -169,7 +175,7 @@ fn joined_rows<'p>(
     alloc: Global,
     loader: usize,
     key: Option<KeyFrom<'p>>,
-    steps: &'p [Step],
+    steps: &'p [ViaLoader],
     children: Children<'p>,
 ) -> Result<ValueFrom<'p>, AllocError>
     ensures { IfOk result (λ a. value_from_seen a
@@ -187,7 +193,7 @@ fn joined_rows<'p>(
 }
 
 // `each`.
-fn each_asked<'p>(
+fn prepare_each<'p>(
     alloc: Global,
     loader: usize,
     children: Children<'p>,
@@ -213,8 +219,8 @@ fn each_asked<'p>(
     }
 }
 
-// Whether the later loaders of `via` are among so many.
-fn have_loaders(steps: &[Step], loaders: usize) -> bool
+// Tells whether the later loaders of `via` are below `loaders`.
+fn have_loaders(steps: &[ViaLoader], loaders: usize) -> bool
     ensures { result ≡ have_loaders (map step_of steps.now) loaders }
 {
     steps.iter().all(|step| step.loader < loaders)
@@ -226,9 +232,10 @@ fn key_of_load<'p>(
     plan: &Plan,
     args: &Args,
     loader: usize,
-    source: &'p KeySource,
+    source: &'p KeyOrigin,
 ) -> Result<Option<KeyFrom<'p>>, AllocError>
-    ensures { IfOk result (λ key. IsLoadedBy (plan_of plan.now) loader (key_from (values_of args.now) (source_of source.now)) (option_map key_from_seen key)) }
+    ensures { IfOk result (λ key. IsLoadedBy (plan_of plan.now) loader
+        (key_from (values_of args.now) (source_of source.now)) (option_map key_from_seen key)) }
 {
     if loader < plan.loaders() {
         key_from(alloc, args, source)
@@ -237,8 +244,8 @@ fn key_of_load<'p>(
     }
 }
 
-// What a binding asks for.
-fn bound_asked<'p>(
+// Returns what a binding asks for.
+fn prepare_bound<'p>(
     alloc: Global,
     plan: &Plan,
     ty: &'p TypeRef,
@@ -267,7 +274,7 @@ fn bound_asked<'p>(
                 return Ok(ValueFrom::Known(LeafValue::Null));
             }
             let input = input_named(args, argument.as_str());
-            each_asked(alloc, *loader, children, input)
+            prepare_each(alloc, *loader, children, input)
         }
         Binding::Via { loader, key, steps } => {
             if !have_loaders(steps, plan.loaders()) {
@@ -279,7 +286,7 @@ fn bound_asked<'p>(
     }
 }
 
-// Whether a `!` ends the type of the items, or of the one that it is where it is no list.
+// Tells whether a `!` ends the type of the items, or of the one that it is where it is no list.
 fn is_item_non_null(ty: &TypeRef) -> bool
     ensures { result ≡ is_non_null (item_type (type_of ty.now)) }
 {
@@ -290,29 +297,30 @@ fn is_item_non_null(ty: &TypeRef) -> bool
 }
 
 fn children_of<'p>(ty: &'p TypeRef, place: Place, fields: Vec<&'p Field>) -> Children<'p>
-    ensures { children_seen result ≡ children_of (type_of ty.now) place (fields_seen fields.entry.items) }
+    ensures { children_seen result
+        ≡ children_of (type_of ty.now) place (fields_seen fields.entry.items) }
 {
     Children {
-        type_name: ty.named(),
+        type_name: ty.innermost_name(),
         item_non_null: is_item_non_null(ty),
         place,
         fields,
     }
 }
 
-// What a group asks for by the definition of its field.
-fn defined_asked<'p>(
+// Returns what fields of one response key ask for, by the definition of the first.
+fn prepare_defined<'p>(
     alloc: Global,
     plan: &'p Plan,
     ty: &str,
     definition: &'p FieldDef,
     first: &'p Field,
-    group: Group<'p>,
+    fields: Vec<&'p Field>,
 ) -> Result<ValueFrom<'p>, AllocError>
     ensures { IfOk result (λ a. value_from_seen a
-        ≡ asked_by (plan_of plan.now) ty.now (field_seen first.now) (group_of group.entry) (field_of definition.now)) }
+        ≡ defined_by (plan_of plan.now) ty.now (field_seen first.now) (fields_seen fields.entry.items) (field_of definition.now)) }
 {
-    let args = match arguments_of(alloc, plan, ty, &group) {
+    let args = match coerced_arguments(alloc, plan, &first.arguments, &definition.arguments) {
         Ok(args) => args,
         Err(ArgFault::NullArgument(name)) => {
             let message = null_argument_message(alloc, name.as_str())?;
@@ -323,15 +331,16 @@ fn defined_asked<'p>(
     let Some(binding) = plan.bindings().binding_of(ty, first.name.as_str()) else {
         return Ok(ValueFrom::Known(LeafValue::Null));
     };
-    let children = children_of(&definition.of_type, first.place, group.fields);
-    bound_asked(alloc, plan, &definition.of_type, children, &args, binding)
+    let children = children_of(&definition.of_type, first.place, fields);
+    prepare_bound(alloc, plan, &definition.of_type, children, &args, binding)
 }
 
 // A position that is null.
-fn null_at<'p>(key: &'p str, place: Place) -> Prepared<'p>
-    ensures { prepared_seen result ≡ record { position = position_of key.now place false; asked = known Null } }
+fn null_at<'p>(key: &'p str, place: Place) -> PreparedField<'p>
+    ensures { prepared_seen result
+        ≡ record { position = position_of key.now place false; asked = known Null } }
 {
-    Prepared {
+    PreparedField {
         key,
         place,
         non_null: false,
@@ -344,8 +353,9 @@ fn prepare_one<'p>(
     plan: &'p Plan,
     ty: &str,
     group: Group<'p>,
-) -> Result<Prepared<'p>, AllocError>
-    ensures { IfOk result (λ done. prepared_seen done ≡ prepared (plan_of plan.now) ty.now (group_of group.entry)) }
+) -> Result<PreparedField<'p>, AllocError>
+    ensures { IfOk result (λ done.
+        prepared_seen done ≡ prepared (plan_of plan.now) ty.now (group_of group.entry)) }
 {
     let key = group.key;
     let Some(first) = group.fields.first() else {
@@ -354,7 +364,7 @@ fn prepare_one<'p>(
     let first: &'p Field = *first;
     if first.name.as_str() == "__typename" {
         let name = String::from_str(alloc, ty)?;
-        return Ok(Prepared {
+        return Ok(PreparedField {
             key,
             place: first.place,
             non_null: true,
@@ -364,8 +374,8 @@ fn prepare_one<'p>(
     let Some(definition) = plan.schema().field(ty, first.name.as_str()) else {
         return Ok(null_at(key, first.place));
     };
-    let asked = defined_asked(alloc, plan, ty, definition, first, group)?;
-    Ok(Prepared {
+    let asked = prepare_defined(alloc, plan, ty, definition, first, group.fields)?;
+    Ok(PreparedField {
         key,
         place: first.place,
         non_null: definition.of_type.is_non_null(),
@@ -373,7 +383,7 @@ fn prepare_one<'p>(
     })
 }
 
-/// What each of the groups of an object type asks for.
+/// Returns what each of the groups of an object type asks for.
 ///
 /// # Errors
 ///
@@ -383,8 +393,9 @@ pub fn prepare_groups<'p>(
     plan: &'p Plan,
     ty: &str,
     groups: Vec<Group<'p>>,
-) -> Result<Vec<Prepared<'p>>, NoMemory>
-    ensures { IfOk result (λ all. all_prepared_seen all.items ≡ all_prepared (plan_of plan.now) ty.now (groups_of groups.entry.items)) }
+) -> Result<Vec<PreparedField<'p>>, AllocError>
+    ensures { IfOk result (λ all. all_prepared_seen all.items
+        ≡ all_prepared (plan_of plan.now) ty.now (groups_of groups.entry.items)) }
 {
     let mut all = Vec::with_capacity(alloc, groups.len())?;
     for group in groups {

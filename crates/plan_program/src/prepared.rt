@@ -1,6 +1,6 @@
-//! What a group of fields asks for, whatever the row is.
+//! Prepared fields: what a group asks for, whatever the row is.
 
-use gq_bindings::Step;
+use gq_bindings::ViaLoader;
 use gq_lexer::Place;
 use gq_parser::{Field, TypeRef};
 use load_memory::{Key, Text};
@@ -14,46 +14,46 @@ pub enum LeafValue {
     Int(i32),
     Bool(bool),
     Null,
-    /// Why there is no value.
+    /// Says why there is no value.
     Fault(String),
 }
 
-/// Where a part of a key of two parts comes from.
+/// Says where a part of a key of two parts comes from.
 #[derive(Drop)]
-pub enum PartFrom<'p> {
+pub enum KeyPartFrom<'p> {
     /// The text of an argument; none where it is null.
     Fixed(Option<Text>),
     /// A column of the row.
     Column(&'p str),
 }
 
-/// Where the key of a load comes from.
+/// Says where the key of a load comes from.
 #[derive(Drop)]
 pub enum KeyFrom<'p> {
     Fixed(Key),
     /// A column of the row.
     Column(&'p str),
     /// Two parts. Where a part is null, there is no key; but a column that the row doesn't have is a fault all the same.
-    Pair(PartFrom<'p>, PartFrom<'p>),
+    Pair(KeyPartFrom<'p>, KeyPartFrom<'p>),
 }
 
-/// What the objects below a field are made from.
+/// Holds what the objects below a field are made from.
 #[derive(Drop)]
 pub struct Children<'p> {
     /// An object type, an interface or a union.
     pub type_name: &'p str,
-    /// Whether the items of the field's list are of non-null type.
+    /// Tells whether the items of the field's list are of non-null type.
     pub item_non_null: bool,
-    /// Where errors of the items stand: at the first field of the group.
+    /// Says where errors of the items stand: at the first field of the group.
     pub place: Place,
     /// The fields of the group, which select of the object.
     pub fields: Vec<&'p Field>,
 }
 
-/// What a group asks for.
+/// Says what a group asks for.
 #[derive(Drop)]
 pub enum ValueFrom<'p> {
-    /// The same for each row.
+    /// One value for every row.
     Known(LeafValue),
     /// A column's field, at a type.
     Cell {
@@ -82,14 +82,14 @@ pub enum ValueFrom<'p> {
     Joined {
         loader: usize,
         key: KeyFrom<'p>,
-        steps: &'p [Step],
+        steps: &'p [ViaLoader],
         children: Arc<Children<'p>>,
     },
 }
 
 /// The position of a group in its object, and what it asks for.
 #[derive(Drop)]
-pub struct Prepared<'p> {
+pub struct PreparedField<'p> {
     pub key: &'p str,
     pub place: Place,
     pub non_null: bool,

@@ -6,7 +6,7 @@ ghost use Rattle.plan_program.specs.Texts.{null_argument_message, bad_value_mess
 use std::alloc::{AllocError, Global};
 
 // A message that ends in a name.
-fn about(alloc: Global, start: &str, name: &str) -> Result<String, AllocError>
+fn text_about(alloc: Global, start: &str, name: &str) -> Result<String, AllocError>
     ensures { IfOk result (λ text. string_bytes text ≡ start.now ++ name.now) }
 {
     let mut text = String::from_str(alloc, start)?;
@@ -18,21 +18,21 @@ fn about(alloc: Global, start: &str, name: &str) -> Result<String, AllocError>
 pub fn null_argument_message(alloc: Global, name: &str) -> Result<String, AllocError>
     ensures { IfOk result (λ text. string_bytes text ≡ null_argument_message name.now) }
 {
-    about(alloc, "null for the non-null argument ", name)
+    text_about(alloc, "null for the non-null argument ", name)
 }
 
 /// A cell's text is none of its field's type.
 pub fn bad_value_message(alloc: Global, column: &str) -> Result<String, AllocError>
     ensures { IfOk result (λ text. string_bytes text ≡ bad_value_message column.now) }
 {
-    about(alloc, "bad value in column ", column)
+    text_about(alloc, "bad value in column ", column)
 }
 
 /// The row has no such column.
 pub fn no_column_message(alloc: Global, column: &str) -> Result<String, AllocError>
     ensures { IfOk result (λ text. string_bytes text ≡ no_column_message column.now) }
 {
-    about(alloc, "no column ", column)
+    text_about(alloc, "no column ", column)
 }
 
 /// The row tells no object type.
@@ -46,5 +46,5 @@ pub fn no_type_message(alloc: Global) -> Result<String, AllocError>
 pub fn not_type_message(alloc: Global, name: &str) -> Result<String, AllocError>
     ensures { IfOk result (λ text. string_bytes text ≡ not_type_message name.now) }
 {
-    about(alloc, "no object type ", name)
+    text_about(alloc, "no object type ", name)
 }

@@ -33,12 +33,12 @@ no_value text none = record {
 
 -- ---- an array
 
--- what values ask, one by one
+-- the requests of values, one by one
 pub asked-items : (vs : List Value) → map (λ v. asked (view v)) vs ≡ asked_each (items_view vs)
 asked-items [] = refl
 asked-items (v ∷ vs) = ap (λ rs. asked (view v) ∷ rs) (asked-items vs)
 
--- what was collected, as it is seen
+-- the collected items, as they are seen
 pub seen-collected : {S A B Z E : Type 0} {steps : S → Option A → S → Type 0} {s : S} {all : List B} → (v : A → B) → (r : Result (Vec A Z) E) → IsCollectResult steps s r → YieldsList steps v s all
     → IfOk r (λ w. map v (vec_items w) ≡ all)
 seen-collected v (Ok w) ran yields = ap (map v) ran.2.0 ∙ items_from_drains ran.0 ran.1 yields

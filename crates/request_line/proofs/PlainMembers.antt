@@ -14,7 +14,7 @@ use Rattle.serde_json.proofs.Views.{get_member-put, get_member-put_other}
 use Rattle.request_line.specs.Requests.{name_of}
 use Rattle.request_line.proofs.Loops.{converted_some, converted-array, converted-object}
 use Rattle.request_line.specs.Plain.{ReadsValue, array_items, object_members, Says}
-use Rattle.request_line.specs.declared.plain.Parts.{Parts}
+use Rattle.request_line.specs.declared.plain.RequestMembers.{RequestMembers}
 
 -- ---- values
 
@@ -41,7 +41,7 @@ object_read text ts rest found opened members over =
 
 -- ---- what it says
 
-module _ (found : Members) (old new : Parts) (says : Says found old) (d : Data) where
+module _ (found : Members) (old new : RequestMembers) (says : Says found old) (d : Data) where
   pub says_query : option_map (λ s. s.now) new.query ≡ as_str d → new.operation_name ≡ old.operation_name → new.variables ≡ old.variables
       → Says (put (codes "query") d found) new
   says_query here same kept = record {
@@ -68,7 +68,7 @@ module _ (found : Members) (old new : Parts) (says : Says found old) (d : Data) 
     variables = here ∙ sym (get_member-put (codes "variables") d found);
   }
 
-pub says_other : (found : Members) (parts : Parts) (k : List ℕ) (d : Data) → Says found parts → (codes "query" ≡ k → ⊥) → (codes "operationName" ≡ k → ⊥) → (codes "variables" ≡ k → ⊥) → Says (put k d found) parts
+pub says_other : (found : Members) (parts : RequestMembers) (k : List ℕ) (d : Data) → Says found parts → (codes "query" ≡ k → ⊥) → (codes "operationName" ≡ k → ⊥) → (codes "variables" ≡ k → ⊥) → Says (put k d found) parts
 says_other found parts k d says query name variables = record {
   query = says.query ∙ ap (option_and_then as_str) (sym (get_member-put_other (codes "query") k d found query));
   operation_name = says.operation_name ∙ ap name_of (sym (get_member-put_other (codes "operationName") k d found name));

@@ -1,4 +1,4 @@
--- What a request line is.
+-- Definitions of what a request line is.
 use Rattle.std.specs.Prelude.{◌≡◌, ◌<◌, ◌≤◌, ℕ, List, [], ◌∷◌, length, codes, Option, Some, None, option_and_then, option_map, IsUtf8}
 use Rattle.serde_json.specs.Data.{Data, null, boolean, number, string, array, object, Items, no_items, item}
 use Rattle.serde_json.specs.Find.{get, as_str, as_array}
@@ -48,7 +48,7 @@ pub record IsRequest (line : List ℕ) (request : RequestOf) : Type 0 where
 abbrev pub most_requests : ℕ
 most_requests = 16
 
--- what each value of an array asks, in order; nothing where it is no request, as a further array isn't
+-- gives what each value of an array asks, in order; nothing where it is no request, as a further array isn't
 abbrev pub asked_each : Items → List (Option RequestOf)
 asked_each no_items = []
 asked_each (item d ds) = asked d ∷ asked_each ds

@@ -1,4 +1,4 @@
--- What is seen of a request, and of what is read of a line.
+-- Definitions of what is seen of a request, and of what is read of a line.
 use Rattle.std.specs.Prelude.{ℕ, List, map, Option, option_map}
 use Rattle.serde_json.specs.View.{view}
 use Rattle.request_line.specs.declared.request.Request.{Request}

@@ -15,5 +15,5 @@ mod reader;
 mod request;
 
 pub use line::Line;
-pub use reader::{LineReader, NoMemory};
+pub use reader::LineReader;
 pub use request::Request;

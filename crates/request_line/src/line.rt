@@ -1,4 +1,4 @@
-//! What lines ask.
+//! Lines, and what they ask.
 
 ghost use Rattle.std.specs.Prelude.{◌≡◌, ℕ, List, None, IfOk, option_map};
 ghost use Rattle.serde_json.specs.Data.{Data};
@@ -14,7 +14,7 @@ use std::alloc::{AllocError, Global};
 /// At most how many values an array has that is answered.
 const MOST_REQUESTS: usize = 16;
 
-/// What a line asks.
+/// Says what a line asks.
 #[derive(Drop)]
 pub enum Line<'v> {
     /// One request.
@@ -25,7 +25,7 @@ pub enum Line<'v> {
     NoRequest,
 }
 
-// What the values of an array ask, in order.
+// Returns what the values of an array ask, in order.
 fn requests(alloc: Global, values: &[Value]) -> Result<Vec<Option<Request<'_>>>, AllocError>
     ensures { IfOk result (λ found. requests_of found.items ≡ asked_each (items_view values.now)) }
 {
@@ -35,7 +35,8 @@ fn requests(alloc: Global, values: &[Value]) -> Result<Vec<Option<Request<'_>>>,
 impl<'v> Line<'v> {
     /// A line that is no array, in which this request was found or none.
     pub(crate) fn of_request(found: Option<Request<'v>>) -> Line<'v>
-        ensures { (line : List ℕ) (d : Data) → IsValue line d → as_array d ≡ None → option_map request_of found.entry ≡ asked d → IsReading line result }
+        ensures { (line : List ℕ) (d : Data) → IsValue line d → as_array d ≡ None
+            → option_map request_of found.entry ≡ asked d → IsReading line result }
     {
         match found {
             Some(request) => Line::One(request),
@@ -45,7 +46,8 @@ impl<'v> Line<'v> {
 
     /// A line that reads as this value.
     pub(crate) fn of_value(alloc: Global, value: &'v Value) -> Result<Line<'v>, AllocError>
-        ensures { IfOk result (λ read. (line : List ℕ) → IsValue line (view value.entry.now) → IsReading line read) }
+        ensures { IfOk result (λ read.
+            (line : List ℕ) → IsValue line (view value.entry.now) → IsReading line read) }
     {
         let Some(values) = value.as_array() else {
             return Ok(Line::of_request(Request::of_value(value)));

@@ -35,7 +35,8 @@ impl<'l> MemberValue<'l> {
 
     /// The name of an operation, which is none if it is null. What is neither null nor a string is no name.
     pub(crate) fn as_name(&self) -> Option<Option<&'l str>>
-        ensures { option_map (λ name. option_map (λ s. s.now) name) result ≡ name_of (Some (value_seen self.now)) }
+        ensures { option_map (λ name. option_map (λ s. s.now) name) result
+            ≡ name_of (Some (value_seen self.now)) }
     {
         match self {
             MemberValue::Null => Some(None),
@@ -44,7 +45,7 @@ impl<'l> MemberValue<'l> {
         }
     }
 
-    /// The same as a value of its own.
+    /// Does the same as a value of its own.
     pub(crate) fn into_value(self, alloc: Global) -> Result<Value, AllocError>
         ensures { IfOk result (λ value. view value ≡ value_seen self.entry) }
     {
@@ -71,8 +72,10 @@ pub(crate) fn next_value<'l>(
     reader: &mut Reader<'l>,
     depth: usize,
 ) -> Result<Option<MemberValue<'l>>, AllocError>
-    ensures value { IfOk result (λ read. IfSome read (λ value. ReadsValue depth reader.old reader.new (value_seen value))) }
-    ensures shorter { IfOk result (λ read. IfSome read (λ _. length reader.new < length reader.old)) }
+    ensures value { IfOk result (λ read.
+        IfSome read (λ value. ReadsValue depth reader.old reader.new (value_seen value))) }
+    ensures shorter { IfOk result (λ read.
+        IfSome read (λ _. length reader.new < length reader.old)) }
 {
     let Some(token) = reader.next() else {
         return Ok(None);
@@ -114,8 +117,10 @@ fn read_array(
     reader: &mut Reader<'_>,
     depth: usize,
 ) -> Result<Option<Vec<Value>>, AllocError>
-    ensures value { IfOk result (λ read. IfSome read (λ vs. array_items depth reader.old ≡ Some (items_view vs.items, reader.new))) }
-    ensures shorter { IfOk result (λ read. IfSome read (λ _. length reader.new < length reader.old)) }
+    ensures value { IfOk result (λ read.
+        IfSome read (λ vs. array_items depth reader.old ≡ Some (items_view vs.items, reader.new))) }
+    ensures shorter { IfOk result (λ read.
+        IfSome read (λ _. length reader.new < length reader.old)) }
 {
     let mut found = Vec::new(alloc);
     while !reader.take_end_array() {
@@ -135,8 +140,10 @@ fn read_object(
     reader: &mut Reader<'_>,
     depth: usize,
 ) -> Result<Option<Map<String, Value>>, AllocError>
-    ensures value { IfOk result (λ read. IfSome read (λ m. object_members depth reader.old ≡ Some (members_view m.entries, reader.new))) }
-    ensures shorter { IfOk result (λ read. IfSome read (λ _. length reader.new < length reader.old)) }
+    ensures value { IfOk result (λ read. IfSome read (λ m.
+        object_members depth reader.old ≡ Some (members_view m.entries, reader.new))) }
+    ensures shorter { IfOk result (λ read.
+        IfSome read (λ _. length reader.new < length reader.old)) }
 {
     let mut found = Map::new(alloc);
     loop {

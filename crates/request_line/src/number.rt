@@ -7,7 +7,7 @@ ghost use Rattle.serde_json.specs.View.{number_view};
 use fast_float::Numeral;
 use serde_json::Number;
 
-// What a numeral after a minus writes. `-0` is a float.
+// Returns what a numeral after a minus writes. `-0` is a float.
 fn negative(numeral: &Numeral<'_>) -> Option<Number>
     ensures { option_map number_view result ≡ number_from true numeral.now }
 {
@@ -19,7 +19,7 @@ fn negative(numeral: &Numeral<'_>) -> Option<Number>
     Number::from_f64(numeral.to_float(true))
 }
 
-// What a numeral without a sign writes.
+// Returns what a numeral without a sign writes.
 fn unsigned(numeral: &Numeral<'_>) -> Option<Number>
     ensures { option_map number_view result ≡ number_from false numeral.now }
 {

@@ -1,4 +1,8 @@
 //! Requests read token by token, without a value of the whole line.
+//!
+//! It keeps the last string of each name, borrowed from the line, and the value of the variables, with numbers
+//! read as `serde_json` reads them. It gives up at the first fault, and `serde_json` reads the line from its
+//! beginning: so one place says what no request is, and only a line that is refused or an array is read twice.
 
 ghost use Rattle.std.specs.Prelude.{◌≡◌, ◌<◌, length, IfSome, IfOk, OnOk, option_map};
 ghost use Rattle.serde_json.specs.Data.{Members, no_members, object, put};
@@ -13,12 +17,12 @@ use json::{Reader, Scratch, Token};
 use serde_json::Value;
 use std::alloc::{AllocError, Global};
 
-// How deep the value of a member of a line may nest: the line's object is the first of 127 levels.
+// Says how deep the value of a member of a line may nest: the line's object is the first of 127 levels.
 const MEMBER_DEPTH: usize = 126;
 
-// What the members of an object say of its request.
+// Holds what the members of an object say of its request.
 #[derive(Drop)]
-struct Parts<'l> {
+struct RequestMembers<'l> {
     // The query, if it is a string.
     query: Option<&'l str>,
     // The name of the operation, if it is a string, null or not given.
@@ -27,12 +31,12 @@ struct Parts<'l> {
     variables: Option<Value>,
 }
 
-impl<'l> Parts<'l> {
+impl<'l> RequestMembers<'l> {
     // Of no members.
-    fn new() -> Parts<'l>
+    fn new() -> RequestMembers<'l>
         ensures { Says no_members result }
     {
-        Parts {
+        RequestMembers {
             query: None,
             operation_name: Some(None),
             variables: None,
@@ -41,7 +45,8 @@ impl<'l> Parts<'l> {
 
     // One more member, whose value counts instead of an earlier one of its name.
     fn put(&mut self, alloc: Global, name: &str, value: MemberValue<'l>) -> Result<(), AllocError>
-        ensures { OnOk result ((found : Members) → Says found self.old → Says (put name.now (value_seen value.entry) found) self.new) }
+        ensures { OnOk result ((found : Members) → Says found self.old
+            → Says (put name.now (value_seen value.entry) found) self.new) }
     {
         if name == "query" {
             self.query = value.as_str();
@@ -55,7 +60,8 @@ impl<'l> Parts<'l> {
 
     // The request that they say, whose variables are put into a value.
     fn request(self, value: &'l mut Value) -> Option<Request<'l>>
-        ensures { (found : Members) → Says found self.entry → option_map request_of result ≡ asked (object found) }
+        ensures { (found : Members) → Says found self.entry
+            → option_map request_of result ≡ asked (object found) }
     {
         let query = self.query?;
         let operation_name = self.operation_name?;
@@ -74,11 +80,15 @@ impl<'l> Parts<'l> {
     }
 }
 
-// What the members of an object say, from the token after its brace on. `None` where one isn't read here.
-fn read_members<'l>(alloc: Global, reader: &mut Reader<'l>) -> Result<Option<Parts<'l>>, AllocError>
+// Returns what the members of an object say, from the token after its brace on. `None` where one isn't read
+// here.
+fn read_members<'l>(
+    alloc: Global,
+    reader: &mut Reader<'l>,
+) -> Result<Option<RequestMembers<'l>>, AllocError>
     ensures { IfOk result (λ read. IfSome read (ReadsMembers reader.old reader.new)) }
 {
-    let mut parts = Parts::new();
+    let mut parts = RequestMembers::new();
     loop {
         let name = match reader.next_key() {
             Ok(Some(name)) => name,
@@ -92,7 +102,8 @@ fn read_members<'l>(alloc: Global, reader: &mut Reader<'l>) -> Result<Option<Par
     }
 }
 
-/// What a text asks that is an object. Its variables are put into a value. `None` says nothing of the text.
+/// Returns what a text asks that is an object. Its variables are put into a value. `None` says nothing of
+/// the text.
 ///
 /// # Errors
 ///

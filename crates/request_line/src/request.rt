@@ -21,7 +21,8 @@ pub struct Request<'v> {
 
 // The name of the operation: none where it is not given or null, and no request where it is no string.
 fn operation_name(value: &Value) -> Option<Option<&str>>
-    ensures { option_map (λ name. option_map (λ s. s.now) name) result ≡ name_of (get (codes "operationName") (view value.now)) }
+    ensures { option_map (λ name. option_map (λ s. s.now) name) result
+        ≡ name_of (get (codes "operationName") (view value.now)) }
 {
     match value.get("operationName") {
         None => Some(None),

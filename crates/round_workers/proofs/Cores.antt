@@ -4,7 +4,7 @@ use Rattle.std.proofs.lemmas.List.Sorted.{IsPermutation-refl, IsPermutation-tran
 use Rattle.load_queue.specs.Orders.{OrderOf}
 use Rattle.round_workers.specs.Core.{Event, take, store, Core, core, held_by, without, taken_by, stored_by, step, run, IsOf, Conserved}
 
--- what a worker holds, and what the others hold
+-- the order that a worker holds, and those that the others hold
 apart : (w : ℕ) (hs : List (ℕ × OrderOf)) (x : OrderOf) → held_by w hs ≡ Some x → IsPermutation (map (λ h. h.1) hs) (x ∷ map (λ h. h.1) (without w hs))
 apart w [] x e = absurd (cc)
 apart w (h ∷ hs) x e =

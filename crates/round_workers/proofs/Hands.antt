@@ -1,4 +1,4 @@
--- What a change of one pass does to the parts and to the orders taken.
+-- Lemmas on what a change of one pass does to the parts and to the orders taken.
 use Rattle.std.proofs.Common.{◌≡◌, ◌≢◌, ℕ, zero, suc, ◌+◌, ◌≤◌, List, [], ◌∷◌, ◌++◌, set, sym, refl, ap, ◌∙◌, ap₂, append_assoc, append-nil, arith, IsPermutation}
 use Rattle.std.proofs.lemmas.List.Sorted.{IsPermutation-append_right, IsPermutation-append_comm}
 use mathlib.Core.Option.{some, some-injective, some-ne-none}
@@ -53,7 +53,7 @@ pub taken_none : (views : List Hand) → ((j : ℕ) (u : Hand) → get_elem? vie
 taken_none [] idle = refl
 taken_none (x ∷ xs) idle = ap₂ ◌++◌ (idle 0 x refl) (taken_none xs (λ j u e. idle (suc j) u e))
 
--- where the others have taken nothing, all was taken by one
+-- all orders were taken by one worker, where the others have taken nothing
 pub taken_by_one : (views : List Hand) (port : ℕ) (v : Hand) → get_elem? views port ≡ some v → ((j : ℕ) (u : Hand) → j ≢ port → get_elem? views j ≡ some u → u.taken ≡ []) → taken_of views ≡ v.taken
 taken_by_one [] port v e idle = absurd (some-ne-none v (sym e))
 taken_by_one (x ∷ xs) zero v e idle =

@@ -24,7 +24,7 @@ module _ {X Y : Type 0} (f : X → Y) where
   map_swaps xs [] = refl
   map_swaps xs (p ∷ ps) = map_swap (apply_swaps xs ps) p.0 p.1 ∙ ap (λ l. swap l p.0 p.1) (map_swaps xs ps)
 
-  -- what permutes the images permutes the elements
+  -- says what permutes the images permutes the elements
   pub lifted : (xs : List X) (ys : List Y) → IsPermutation (map f xs) ys → (zs : List X) × IsPermutation xs zs × (map f zs ≡ ys)
   lifted xs ys p = (
     apply_swaps xs p.moves,

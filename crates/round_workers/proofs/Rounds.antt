@@ -10,7 +10,7 @@ use Rattle.load_memory.specs.declared.shelf.Receipt.{Receipt}
 use Rattle.load_queue.specs.Answers.{AnswerOf}
 use Rattle.load_queue.specs.Orders.{OrderOf}
 use Rattle.load_queue.specs.Loaders.{LoaderOf}
-use Rattle.load_memory.specs.declared.no_memory.NoMemory.{NoMemory}
+use Rattle.std.specs.declared.alloc.AllocError.{AllocError}
 use Rattle.round_workers.specs.declared.desk.Hand.{Hand}
 use Rattle.round_workers.specs.Desk.{hand}
 use Rattle.round_workers.specs.Round.{Shows, EachShown, AllAnswered}
@@ -29,7 +29,7 @@ module _ {S : Type 0} (may : S → List KeyOf → AnswerOf → Type 0) (loaders 
   shown_on (o ∷ os) [] h = absurd h
   shown_on (o ∷ os) (r ∷ rs) h = All-cons (IsOn shelf) r rs h.0.0 (shown_on os rs h.1)
 
-  pub answers_on : (orders : List OrderOf) (r : Result (Vec Receipt) NoMemory) → IfOk r (λ v. AllAnswered may loaders shelf orders v.items) → IfOk r (λ v. All (IsOn shelf) v.items)
+  pub answers_on : (orders : List OrderOf) (r : Result (Vec Receipt) AllocError) → IfOk r (λ v. AllAnswered may loaders shelf orders v.items) → IfOk r (λ v. All (IsOn shelf) v.items)
   answers_on orders (Ok v) h = shown_on h.taken v.items h.fit
   answers_on orders (Err e) h = tt
 
@@ -45,7 +45,7 @@ module _ {S : Type 0} (may : S → List KeyOf → AnswerOf → Type 0) (loaders 
   }
 
   -- an order was taken, and memory ran out
-  pub stopped : (old v w : Hand) (x : OrderOf) (rs : Vec Receipt) (e : NoMemory) → Worked may loaders shelf old v (Ok rs) → w ≡ hand v.parts v.all (v.taken ++ x ∷ []) → Worked may loaders shelf old w (Err e)
+  pub stopped : (old v w : Hand) (x : OrderOf) (rs : Vec Receipt) (e : AllocError) → Worked may loaders shelf old v (Ok rs) → w ≡ hand v.parts v.all (v.taken ++ x ∷ []) → Worked may loaders shelf old w (Err e)
   stopped old v w x rs e h is = record {
     parts = ap (λ (u : Hand). u.parts) is ∙ h.parts;
     all = ap (λ (u : Hand). u.all) is ∙ h.all;
@@ -54,7 +54,7 @@ module _ {S : Type 0} (may : S → List KeyOf → AnswerOf → Type 0) (loaders 
     fit = tt;
   }
 
-  both_shown : (os ps : List OrderOf) (a b r : Result (Vec Receipt) NoMemory) → IfOk a (λ v. EachShown may loaders shelf os v.items) → IfOk b (λ v. EachShown may loaders shelf ps v.items)
+  both_shown : (os ps : List OrderOf) (a b r : Result (Vec Receipt) AllocError) → IfOk a (λ v. EachShown may loaders shelf os v.items) → IfOk b (λ v. EachShown may loaders shelf ps v.items)
       → IfOk r (λ v. IfOk a (λ x. IfOk b (λ y. v.items ≡ x.items ++ y.items))) → (IsOk r → IsOk a × IsOk b) → IfOk r (λ v. EachShown may loaders shelf (os ++ ps) v.items)
   both_shown os ps (Ok x) (Ok y) (Ok v) m t items oks = rw items (shown_both os ps x.items y.items m t)
   both_shown os ps (Ok x) (Err e) (Ok v) m t items oks = absurd (true≢false (sym (oks refl).1))
@@ -62,7 +62,7 @@ module _ {S : Type 0} (may : S → List KeyOf → AnswerOf → Type 0) (loaders 
   both_shown os ps a b (Err e) m t items oks = tt
 
   -- two halves end, and their passes are joined
-  pub both_worked : (old left right new mine theirs : Hand) (a b r : Result (Vec Receipt) NoMemory)
+  pub both_worked : (old left right new mine theirs : Hand) (a b r : Result (Vec Receipt) AllocError)
       → Worked may loaders shelf left mine a → Worked may loaders shelf right theirs b
       → left.parts + right.parts ≡ old.parts → left.all ≡ old.all → left.taken ≡ old.taken → right.taken ≡ []
       → new ≡ hand (mine.parts + theirs.parts) mine.all (mine.taken ++ theirs.taken)
@@ -78,8 +78,8 @@ module _ {S : Type 0} (may : S → List KeyOf → AnswerOf → Type 0) (loaders 
     fit = both_shown m.more t.more a b r m.fit t.fit items oks;
   }
 
-  -- where the pass with all parts finds that nothing waits, all orders are answered
-  pub answered : (orders : List OrderOf) (first mid last : Hand) (a b r : Result (Vec Receipt) NoMemory) → first ≡ hand 16 orders []
+  -- all orders are answered where the pass with all parts finds that nothing waits
+  pub answered : (orders : List OrderOf) (first mid last : Hand) (a b r : Result (Vec Receipt) AllocError) → first ≡ hand 16 orders []
       → Worked may loaders shelf first mid a → Worked may loaders shelf mid last b → (last.parts ≡ 16 → IfOk b (λ _. IsPermutation last.all last.taken))
       → IfOk r (λ v. IfOk a (λ x. IfOk b (λ y. v.items ≡ x.items ++ y.items))) → (IsOk r → IsOk a × IsOk b)
       → IfOk r (λ v. AllAnswered may loaders shelf orders v.items)

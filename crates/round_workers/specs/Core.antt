@@ -14,7 +14,7 @@ pub record Core : Type 0 where
 abbrev pub core : List OrderOf → List (ℕ × OrderOf) → List OrderOf → Core
 core waiting held stored = record { waiting = waiting; held = held; stored = stored }
 
--- what worker w holds
+-- gives what worker w holds
 abbrev pub held_by : ℕ → List (ℕ × OrderOf) → Option OrderOf
 held_by w [] = None
 held_by w (h ∷ hs) = if h.0 == w then Some h.1 else held_by w hs
@@ -51,4 +51,5 @@ pub record IsOf (orders : List OrderOf) (s : Core) : Type 0 where
   pub suffix : orders ≡ gone ++ s.waiting
 
 abbrev pub Conserved : Type 0
-Conserved = (orders : List OrderOf) (events : List Event) → IsOf orders (run (core orders [] []) events)
+Conserved = (orders : List OrderOf) (events : List Event)
+    → IsOf orders (run (core orders [] []) events)

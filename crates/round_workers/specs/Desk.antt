@@ -17,7 +17,7 @@ right_half v = hand (v.parts / 2) v.all []
 abbrev pub both_halves : Hand → Hand → Hand
 both_halves v w = hand (v.parts + w.parts) v.all (v.taken ++ w.taken)
 
--- what the passes have taken
+-- gives what the passes have taken
 abbrev pub taken_of : List Hand → List OrderOf
 taken_of [] = []
 taken_of (v ∷ vs) = v.taken ++ taken_of vs
@@ -48,4 +48,5 @@ Takes v x w = (w ≡ hand v.parts v.all (v.taken ++ x ∷ [])) × Contains v.all
 
 -- no more orders wait than were put, and the pass with all parts knows that it has taken what doesn't wait, each order once
 abbrev pub Knows : Hand → List OrderOf → Type 0
-Knows v items = (length items ≤ length v.all) × (v.parts ≡ 16 → IsPermutation v.all (v.taken ++ items))
+Knows v items = (length items ≤ length v.all)
+    × (v.parts ≡ 16 → IsPermutation v.all (v.taken ++ items))

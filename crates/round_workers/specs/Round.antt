@@ -1,4 +1,4 @@
--- What a round of orders gives.
+-- Definitions of what a round of orders gives.
 use Rattle.std.specs.Prelude.{◌<◌, List, [], ◌∷◌, length, IsPermutation, ⊤, All}
 use Rattle.load_memory.specs.Keys.{KeyOf}
 use Rattle.load_memory.specs.Shelves.{IsOn, shown}

@@ -1,4 +1,8 @@
 //! The queue of a round, its rule, and what a worker knows of it. The rule and what is known exist in proofs alone.
+//!
+//! The right to know the whole comes in 16 parts, which are halved as workers are started and put together as
+//! they end. Whoever has all parts and finds the queue empty has taken every order, so the rule doesn't depend
+//! on the number of workers.
 ghost use Rattle.std.specs.Prelude.{◌≡◌};
 
 use crossbeam_queue::protocol::{Join, Lesson, Outcome, Protocol, Split};
@@ -6,7 +10,8 @@ use crossbeam_queue::{Pass, RuledArrayQueue};
 use load_queue::Order;
 use std::collections::LinkedList;
 
-/// What a pass knows: its parts of the right to know the whole, the round's orders, and the orders that it has taken. No value of it is made.
+/// Holds what a pass knows: its parts of the right to know the whole, the round's orders, and the orders that it has taken. No value of it
+/// is made.
 pub struct Hand {
     pub parts: u64,
     pub all: LinkedList<Order>,
@@ -57,15 +62,15 @@ impl Lesson<Order, Hand> for Put {
     ghost fact = { Knows };
 }
 
-pub struct Taken;
+pub struct TakenOrder;
 
-impl Outcome<Order, Hand> for Taken {
+impl Outcome<Order, Hand> for TakenOrder {
     ghost use Rattle.round_workers.specs.Desk.{Takes};
 
     ghost then = { Takes };
 }
 
-impl Lesson<Order, Hand> for Taken {
+impl Lesson<Order, Hand> for TakenOrder {
     ghost use Rattle.round_workers.specs.Desk.{Knows};
 
     ghost fact = { Knows };

@@ -8,6 +8,9 @@
 //! The queue's rule (`specs::Desk`) holds at every step of every worker, and is what the worker core (`specs::Core`)
 //! says after the same steps; the law [`every_schedule_keeps_the_orders`](law::every_schedule_keeps_the_orders) is of
 //! that core. Only this crate and those above it start threads or wait.
+//!
+//! It stands below sessions, over `load_queue` alone, so that the longest chain of crates doesn't go through
+//! it.
 #![tactic(auto)]
 
 pub mod desk;

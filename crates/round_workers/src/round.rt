@@ -1,4 +1,7 @@
 //! A round: its orders go through one queue to the workers, and their replies to the shelf.
+//!
+//! Workers are started by halves, each by the one before. After all have ended the caller looks once more
+//! whether an order waits: that none does shows that each was taken.
 ghost use Rattle.std.specs.Prelude.{◌≡◌, ◌≤◌, ◌<◌, ◌++◌, [], IfOk, IsOk, IsPermutation, length, All};
 ghost use Rattle.std.specs.Thread.{IsSync};
 ghost use Rattle.crossbeam_queue.specs.Passes.{view, IsPassOf, ruled_capacity};
@@ -7,17 +10,17 @@ ghost use Rattle.round_workers.specs.Desk.{hand};
 ghost use Rattle.round_workers.specs.Round.{HaveLoaders, Shows, AllAnswered};
 ghost use Rattle.round_workers.specs.Work.{CanShare, Worked, WorkedAt};
 
-use crate::desk::{Desk, Halves, Put, Taken, Worker};
-use load_memory::{NoMemory, Receipt, Shelf};
+use crate::desk::{Desk, Halves, Put, TakenOrder, Worker};
+use load_memory::{Receipt, Shelf};
 use load_queue::{Loader, Order, Source};
-use std::alloc::Global;
+use std::alloc::{AllocError, Global};
 use std::sync::Wait;
 use std::thread::{Threads, join_mut};
 
 /// The most workers that a round may have.
 pub const MOST_WORKERS: usize = 16;
 
-/// What the workers of a round share.
+/// Holds what the workers of a round share.
 #[derive(Drop)]
 struct Bench<'a, S> {
     alloc: Global,
@@ -31,14 +34,15 @@ fn serve<S: Source, R: Wait>(
     rt: &R,
     bench: &Bench<'_, S>,
     order: Order,
-) -> Result<Receipt, NoMemory>
+) -> Result<Receipt, AllocError>
     requires { order.loader < length bench.now.loaders.now }
-    ensures { IfOk result (λ r. Shows S.may_answer bench.now.loaders.now bench.now.shelf.now order r) }
+    ensures { IfOk result (λ r.
+        Shows S.may_answer bench.now.loaders.now bench.now.shelf.now order r) }
 {
     let reply = order.run(bench.alloc, bench.loaders)?;
     match bench.shelf.put(rt, reply) {
         Ok(receipt) => Ok(receipt),
-        Err(_) => Err(NoMemory),
+        Err(_) => Err(AllocError),
     }
 }
 
@@ -47,17 +51,19 @@ fn work<S: Source, R: Wait>(
     rt: &R,
     bench: &Bench<'_, S>,
     worker: &mut Worker,
-) -> Result<Vec<Receipt>, NoMemory>
+) -> Result<Vec<Receipt>, AllocError>
     requires desk { IsPassOf bench.now.desk.now worker.old }
     requires part { 0 < (view worker.old).parts }
     requires loaders { HaveLoaders bench.now.loaders.now (view worker.old).all }
     ensures desk { IsPassOf bench.now.desk.now worker.new }
-    ensures worked { Worked S.may_answer bench.now.loaders.now bench.now.shelf.now (view worker.old) (view worker.new) result }
-    ensures whole { (view worker.new).parts ≡ 16 → IfOk result (λ _. IsPermutation (view worker.new).all (view worker.new).taken) }
+    ensures worked { Worked S.may_answer bench.now.loaders.now
+        bench.now.shelf.now (view worker.old) (view worker.new) result }
+    ensures whole { (view worker.new).parts ≡ 16
+        → IfOk result (λ _. IsPermutation (view worker.new).all (view worker.new).taken) }
 {
     let mut receipts = Vec::new(bench.alloc);
     for _ in rt.forever() {
-        let Some(order) = bench.desk.pop_as::<Taken, R>(rt, worker) else {
+        let Some(order) = bench.desk.pop_as::<TakenOrder, R>(rt, worker) else {
             return Ok(receipts);
         };
         receipts.push(serve(rt, bench, order)?)?;
@@ -71,12 +77,13 @@ fn share<S: Source, R: Threads + Wait + Sync>(
     bench: &Bench<'_, S>,
     worker: &mut Worker,
     workers: usize,
-) -> Result<Vec<Receipt>, NoMemory>
+) -> Result<Vec<Receipt>, AllocError>
     requires desk { IsPassOf bench.now.desk.now worker.old }
     requires part { (0 < workers) × (workers ≤ (view worker.old).parts) }
     requires loaders { HaveLoaders bench.now.loaders.now (view worker.old).all }
     ensures desk { IsPassOf bench.now.desk.now worker.new }
-    ensures worked { Worked S.may_answer bench.now.loaders.now bench.now.shelf.now (view worker.old) (view worker.new) result }
+    ensures worked { Worked S.may_answer bench.now.loaders.now
+        bench.now.shelf.now (view worker.old) (view worker.new) result }
 {
     if workers < 2 {
         return work(rt, bench, worker);
@@ -92,9 +99,11 @@ fn share<S: Source, R: Threads + Wait + Sync>(
     let mut other = desk.another::<Halves>(worker);
     let (mine, theirs) = join_mut(
         rt,
-        &mut || -> Result<Vec<Receipt>, NoMemory>
-            requires { IsSync R.row × IsSync S.row × IsPassOf desk.now worker.now × CanShare loaders.now (view worker.now) rest }
-            ensures { WorkedAt S.may_answer loaders.entry.now shelf.entry.now desk.entry.now worker.entry.now worker.exit.now result }
+        &mut || -> Result<Vec<Receipt>, AllocError>
+            requires { IsSync R.row × IsSync S.row × IsPassOf desk.now worker.now
+                × CanShare loaders.now (view worker.now) rest }
+            ensures { WorkedAt S.may_answer loaders.entry.now shelf.entry.now
+                desk.entry.now worker.entry.now worker.exit.now result }
         {
             share(
                 rt,
@@ -108,9 +117,11 @@ fn share<S: Source, R: Threads + Wait + Sync>(
                 rest,
             )
         },
-        &mut || -> Result<Vec<Receipt>, NoMemory>
-            requires { IsSync R.row × IsSync S.row × IsPassOf desk.now other × CanShare loaders.now (view other) half }
-            ensures { WorkedAt S.may_answer loaders.entry.now shelf.entry.now desk.entry.now other.entry other.exit result }
+        &mut || -> Result<Vec<Receipt>, AllocError>
+            requires { IsSync R.row × IsSync S.row × IsPassOf desk.now other
+                × CanShare loaders.now (view other) half }
+            ensures { WorkedAt S.may_answer loaders.entry.now shelf.entry.now
+                desk.entry.now other.entry other.exit result }
         {
             share(
                 rt,
@@ -126,15 +137,16 @@ fn share<S: Source, R: Threads + Wait + Sync>(
         },
     );
     desk.absorb::<Halves>(worker, other);
-    joined(mine, theirs)
+    join_receipts(mine, theirs)
 }
 
 // The receipts of both, unless one is out of memory.
-fn joined(
-    mine: Result<Vec<Receipt>, NoMemory>,
-    theirs: Result<Vec<Receipt>, NoMemory>,
-) -> Result<Vec<Receipt>, NoMemory>
-    ensures items { IfOk result (λ v. IfOk mine (λ a. IfOk theirs (λ b. v.items ≡ a.items ++ b.items))) }
+fn join_receipts(
+    mine: Result<Vec<Receipt>, AllocError>,
+    theirs: Result<Vec<Receipt>, AllocError>,
+) -> Result<Vec<Receipt>, AllocError>
+    ensures items { IfOk result (λ v.
+        IfOk mine (λ a. IfOk theirs (λ b. v.items ≡ a.items ++ b.items))) }
     ensures both { IsOk result → IsOk mine × IsOk theirs }
 {
     let mut all = mine?;
@@ -164,6 +176,11 @@ fn put_all<R: Wait>(rt: &R, desk: &Desk, worker: &mut Worker, orders: Vec<Order>
 ///
 /// All workers have ended when it returns. A worker that runs out of memory, here or in a source, takes no further order. The
 /// orders that are left are dropped unrun, and the round is lost.
+///
+/// # Errors
+///
+/// When out of memory, here or in a source: the orders are gone, and no receipt is returned, not even for a
+/// reply that is on the shelf (`answered` and `shelved` speak of `Ok` alone).
 pub fn run_round<S: Source, R: Threads + Wait + Sync>(
     rt: &R,
     alloc: Global,
@@ -171,10 +188,11 @@ pub fn run_round<S: Source, R: Threads + Wait + Sync>(
     shelf: &Shelf,
     orders: Vec<Order>,
     workers: usize,
-) -> Result<Vec<Receipt>, NoMemory>
+) -> Result<Vec<Receipt>, AllocError>
     requires workers { (0 < workers) × (workers ≤ 16) }
     requires loaders { HaveLoaders loaders.now orders.items }
-    ensures answered { IfOk result (λ v. AllAnswered S.may_answer loaders.now shelf.now orders.items v.items) }
+    ensures answered { IfOk result (λ v.
+        AllAnswered S.may_answer loaders.now shelf.now orders.items v.items) }
     ensures shelved { IfOk result (λ v. All (IsOn shelf.now) v.items) }
 {
     if orders.is_empty() {
@@ -191,5 +209,5 @@ pub fn run_round<S: Source, R: Threads + Wait + Sync>(
     };
     let most = share(rt, &bench, &mut worker, busy)?;
     let last = work(rt, &bench, &mut worker);
-    joined(Ok(most), last)
+    join_receipts(Ok(most), last)
 }

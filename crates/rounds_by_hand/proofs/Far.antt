@@ -1,4 +1,4 @@
--- How far a hand is, and what its calls make of that.
+-- Lemmas on how far a hand is, and what its calls make of that.
 use Rattle.std.proofs.Common.{◌≡◌, ◌<◌, ◌∙◌, ◌⊎◌, ℕ, List, [], ◌∷◌, map, length, refl, ap, sym, subst, arith, inl, inr, false}
 use Rattle.std.proofs.lemmas.List.{length-map}
 use Rattle.std.proofs.lemmas.List.Elements.{All-head, All-tail, All-nil, All-cons}
@@ -18,10 +18,10 @@ use Rattle.execution.specs.Rounds.{RuleOf, rule_of, any_answer, may_at, AreRepli
 use Rattle.execution.specs.Sessions.{Forgot, Lost}
 use Rattle.load_rounds.specs.Headline.{StopsAnswering}
 use Rattle.load_rounds.specs.Sessions.{SessionOf, StateOf, state_of, rules_of, after_step, of_first}
-use Rattle.load_rounds.specs.Runs.{AreReceived, front_in, orders_in, received, IsAsked, IsRound, IsUnasked}
+use Rattle.load_rounds.specs.ByHand.{AreReceived, front_in, orders_in, received, IsAsked, IsRound, IsUnasked}
 use Rattle.load_rounds.specs.SharedRounds.{joint, requests, AreAnswers}
 use Rattle.load_rounds.specs.SharedRuns.{RunAllOf, IsRunAll}
-use Rattle.load_rounds.specs.declared.run.Stage.TheVariants as stage
+use Rattle.load_rounds.specs.declared.by_hand.Stage.TheVariants as stage
 use Rattle.load_rounds.proofs.Numbering.{orders-below, orders-loads}
 use Rattle.load_rounds.proofs.Runs.{run-stops, round-asked, round-orders}
 use Rattle.load_rounds.proofs.Stepping.{steps-made}
@@ -80,7 +80,7 @@ module _ {S : Type 0} where
     stops begun now run plans e is =
         subst (λ ps. StopsAnswering may begun now (joint program text_of ps)) e (run-stops may (joint program text_of run.plans) begun now run.executions.rounds run.stage is.is)
 
-    -- what holds of the session whatever comes next
+    -- a property of the session whatever comes next
     pub gone-stops : (begun now : SessionOf S) (plans : List P) (far : FarOf P E) → HasGone program text_of may begun now plans far → (now ≡ begun) ⊎ StopsAnswering may (state_of begun) (state_of now) (joint program text_of plans)
     gone-stops begun now plans handed h = inl h
     gone-stops begun now plans (out run ps) h = inr (stops (state_of begun) (state_of now) run plans h.0 h.1)

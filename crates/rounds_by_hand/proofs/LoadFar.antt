@@ -1,4 +1,4 @@
--- How far a load by hand is, and what its calls make of that.
+-- Lemmas on how far a load by hand is, and what its calls make of that.
 use Rattle.std.proofs.Common.{◌≡◌, ◌<◌, ◌∙◌, ◌⊎◌, ℕ, List, map, length, false, subst, sym, arith, inl, inr}
 use Rattle.std.specs.Prelude.{All, Result}
 use Rattle.std.specs.Global.{Vec}
@@ -51,7 +51,7 @@ module _ {S : Type 0} where
     pub loading-stops : (begun now : StateOf S) (loader : ℕ) (keys : List KeyOf) → IsLoading begun now loader keys → IsStopped may begun now (asked_for begun loader keys)
     loading-stops begun now loader keys is = inr (loading-lost begun now loader keys is)
 
-    -- what holds of the session whatever comes next
+    -- a property of the session whatever comes next
     pub load-gives-up : (begun now : SessionOf S) (loader : ℕ) (keys : List KeyOf) (far : LoadFarOf) → HasGoneLoad may begun now loader keys far → (now ≡ begun) ⊎ IsStopped may (state_of begun) (state_of now) (asked_for (state_of begun) loader keys)
     load-gives-up begun now loader keys handed h = inl h
     load-gives-up begun now loader keys (out ps) h = inr (loading-stops (state_of begun) (state_of now) loader keys h.0)
@@ -70,7 +70,7 @@ module _ {S : Type 0} where
     begun-loads old new Waiting e tells = tt
     begun-loads old new Over e tells = tt
 
-  -- what holds between calls once it is over
+  -- says what holds between calls once it is over
   pub over-holds : (old now : SessionOf S) (loader : ℕ) (keys : List KeyOf) (far : LoadFarOf) → far ≡ over → loader < length old.loaders → AreOnRecord old.loaders now.loaders → HoldsLoad now loader keys far
   over-holds old now loader keys far e lt recorded =
       let many = record-many old.loaders now.loaders recorded in

@@ -55,7 +55,7 @@ set-order [] n was now at same = absurd (cc at)
 set-order (p ∷ ps) zero was now at same = let first : p ≡ was = cc at in ap (λ o. o ∷ map order_in ps) (same ∙ ap order_in (sym first))
 set-order (p ∷ ps) (suc n) was now at same = ap (λ os. order_in p ∷ os) (set-order ps n was now at same)
 
--- what holds of each holds of the one
+-- a property of each element is one of the element at a place
 all-at : {X : Type 0} (P : X → Type 0) (xs : List X) (n : ℕ) (x : X) → slice_get xs n ≡ Some x → All P xs → P x
 all-at P [] n x at all = absurd (cc at)
 all-at P (y ∷ ys) zero x at all = let first : y ≡ x = cc at in subst P first (all 0 y (omega arith))

@@ -1,4 +1,4 @@
--- What contracts see of rounds by hand, and what was done since they were begun.
+-- Definitions of what contracts see of rounds by hand, and what was done since they were begun.
 use Rattle.std.specs.Prelude.{◌≡◌, ◌≤◌, ◌⊎◌, ℕ, Bool, true, false, List, [], Result, map, length, All}
 use Rattle.std.specs.List.{list_all}
 use Rattle.std.specs.Global.{Vec}
@@ -12,10 +12,10 @@ use Rattle.execution.specs.Completion.{AnsweredOf}
 use Rattle.execution.specs.Rounds.{any_answer, may_at}
 use Rattle.load_rounds.specs.Sessions.{SessionOf, StateOf, state_of, memory_of}
 use Rattle.load_rounds.specs.Headline.{StopsAnswering}
-use Rattle.load_rounds.specs.Runs.{orders_in, IsAsked}
+use Rattle.load_rounds.specs.ByHand.{orders_in, IsAsked}
 use Rattle.load_rounds.specs.SharedRounds.{requests, joint, AreAnswers}
 use Rattle.load_rounds.specs.SharedRuns.{RunAllOf, IsRunAll, FitsLater, GoesOnFrom}
-use Rattle.load_rounds.specs.declared.run.Stage.TheVariants as stage
+use Rattle.load_rounds.specs.declared.by_hand.Stage.TheVariants as stage
 use Rattle.rounds_by_hand.specs.declared.hand.Advance.{Advance}
 use Rattle.rounds_by_hand.specs.declared.hand.Advance.TheVariants.{Finished, Round, Waiting, Over}
 use Rattle.rounds_by_hand.specs.declared.hand.Far.{Far}
@@ -23,7 +23,7 @@ use Rattle.rounds_by_hand.specs.declared.hand.Far.TheVariants as rust
 use Rattle.rounds_by_hand.specs.declared.pending.Pending.{Pending}
 use Rattle.rounds_by_hand.specs.Pending.{order_in, is_in, IsAnswered, MayAnswer}
 
--- how far they are: nothing is done yet, or a round of a run is out with its orders, or nothing more can be done
+-- says how far they are: nothing is done yet, or a round of a run is out with its orders, or nothing more can be done
 pub data FarOf (P E : Type 0) : Type 0 where
   handed : FarOf P E
   out : RunAllOf P E → List Pending → FarOf P E
@@ -80,24 +80,26 @@ module _ {S P : Type 0} (program : P → Program) (text_of : P → AnsweredOf �
   -- from whichever session they were begun: the answers have the headline
   abbrev pub TellsFrom : (SessionOf S → Type 0) → SessionOf S → List P → Advance → Type 0
   TellsFrom from now plans (Finished answers) =
-      (begun : SessionOf S) → from begun → AreAnswers may (state_of begun) (state_of now) (requests program text_of plans) answers
+      (begun : SessionOf S) → from begun
+      → AreAnswers may (state_of begun) (state_of now) (requests program text_of plans) answers
   TellsFrom from now plans Round = Unit {0}
   TellsFrom from now plans Waiting = Unit {0}
   TellsFrom from now plans Over = Unit {0}
 
   -- after want of memory: the finished rounds stay, and perhaps one more was lost
   abbrev pub StopsFrom : (SessionOf S → Type 0) → SessionOf S → List P → Type 0
-  StopsFrom from now plans = (begun : SessionOf S) → from begun → StopsAnswering may (state_of begun) (state_of now) (joint program text_of plans)
+  StopsFrom from now plans = (begun : SessionOf S) → from begun
+      → StopsAnswering may (state_of begun) (state_of now) (joint program text_of plans)
 
 module _ {S P E : Type 0} where
-  -- what a call did
+  -- says what a call did
   abbrev pub Advances : HandOf S P E → HandOf S P E → Advance → Type 0
   Advances old new (Finished answers) = (can_advance old.far ≡ true) × IsOver new.far
   Advances old new Round = (can_advance old.far ≡ true) × IsNewRound new.far
   Advances old new Waiting = IsWaiting old.far × (new ≡ old)
   Advances old new Over = IsOver old.far × (new ≡ old)
 
-  -- the same of a call that asks the sources for the orders that nobody answered: it never waits
+  -- says the same of a call that asks the sources for the orders that nobody answered: it never waits
   abbrev pub AsksAndAdvances : HandOf S P E → HandOf S P E → Advance → Type 0
   AsksAndAdvances old new (Finished answers) = ¬ (IsOver old.far) × IsOver new.far
   AsksAndAdvances old new Round = ¬ (IsOver old.far) × IsNewRound new.far
@@ -117,10 +119,11 @@ module _ {S P E : Type 0} where
       abbrev pub HoldsFar : SessionOf S → List P → FarOf P E → Type 0
       HoldsFar session plans handed = Unit {0}
       HoldsFar session plans (out run pending) =
-          (run.plans ≡ plans) × IsOutWith (state_of session) run pending × FitsLater program text_of loaders fits run (memory_of session)
+          (run.plans ≡ plans) × IsOutWith (state_of session) run pending
+          × FitsLater program text_of loaders fits run (memory_of session)
       HoldsFar session plans over = Unit {0}
 
-      -- What holds between calls: the session has the loaders of each plan, and the round that is out is of a run that fits it.
+      -- Gives what holds between calls: the session has the loaders of each plan, and the round that is out is of a run that fits it.
       pub record Holds (session : SessionOf S) (plans : List P) (far : FarOf P E) : Type 0 where
         pub enough : All (λ plan. loaders plan ≤ length session.loaders) plans
         pub round : HoldsFar session plans far
@@ -130,7 +133,8 @@ module _ {S P E : Type 0} where
       abbrev pub HasGone : SessionOf S → SessionOf S → List P → FarOf P E → Type 0
       HasGone begun now plans handed = now ≡ begun
       HasGone begun now plans (out run pending) =
-          (run.plans ≡ plans) × IsRunAll program text_of may (state_of begun) (state_of now) run × All (IsAnswered (may_at may now.loaders)) pending
+          (run.plans ≡ plans) × IsRunAll program text_of may (state_of begun) (state_of now) run
+          × All (IsAnswered (may_at may now.loaders)) pending
       HasGone begun now plans over = StopsAnswering may (state_of begun) (state_of now) (joint program text_of plans)
 
       -- They were begun on this session, as it was then. Since then nothing but their rounds was made in it, and each order was answered as
@@ -142,25 +146,29 @@ module _ {S P E : Type 0} where
       abbrev pub GoesFrom : (SessionOf S → Type 0) → SessionOf S → List P → FarOf P E → Type 0
       GoesFrom from now plans far = (begun : SessionOf S) → from begun → HasGone begun now plans far
 
-      -- the same of the calls of a hand
+      -- says the same of the calls of a hand
       abbrev pub GoesOn : HandOf S P E → HandOf S P E → Type 0
       GoesOn old new = GoesFrom (λ begun. IsUnderway begun old) new.session new.plans new.far
 
       abbrev pub AnswersFrom : HandOf S P E → HandOf S P E → Advance → Type 0
       AnswersFrom old new advance = TellsFrom program text_of may (λ begun. IsUnderway begun old) new.session new.plans advance
 
-      -- the same where an order is answered, if the answer is one that the order's source may give
-      abbrev pub GoesOnIfMay : Result (Vec Item) FetchFault → HandOf S P E → HandOf S P E → Pending → Type 0
-      GoesOnIfMay answer old new one = MayAnswer may old.session.loaders (order_in one) answer → GoesOn old new
+      -- says the same where an order is answered, if the answer is one that the order's source may give
+      abbrev pub GoesOnIfMay : Result (Vec Item) FetchFault
+          → HandOf S P E → HandOf S P E → Pending → Type 0
+      GoesOnIfMay answer old new one = MayAnswer may old.session.loaders (order_in one) answer
+          → GoesOn old new
 
-      -- The session as it is when they are given up: as they were begun on it, or with the finished rounds, and perhaps one more that was lost.
+      -- The session as it is when they are given up: as they were begun on it, or with the finished rounds, and perhaps one more that was
+      -- lost.
       abbrev pub GivesUp : HandOf S P E → SessionOf S → Type 0
       GivesUp old now =
-          (begun : SessionOf S) → IsUnderway begun old → (now ≡ begun) ⊎ StopsAnswering may (state_of begun) (state_of now) (joint program text_of old.plans)
+          (begun : SessionOf S) → IsUnderway begun old → (now ≡ begun)
+          ⊎ StopsAnswering may (state_of begun) (state_of now) (joint program text_of old.plans)
 
-      -- what a step does, from whichever session the run was begun on
+      -- gives what a step does, from whichever session the run was begun on
       module _ (old : SessionOf S) (run : RunAllOf P E) (new : SessionOf S) where
-        -- where no round is out
+        -- says where no round is out
         abbrev pub RunGoes : FarOf P E → Type 0
         RunGoes far = GoesFrom (λ begun. IsRunAll program text_of may (state_of begun) (state_of old) run) new run.plans far
 
@@ -170,7 +178,7 @@ module _ {S P E : Type 0} where
         abbrev pub RunStops : Type 0
         RunStops = StopsFrom program text_of may (λ begun. IsRunAll program text_of may (state_of begun) (state_of old) run) new run.plans
 
-        -- where a round is out, with its orders
+        -- a step to a round that is out, with its orders
         abbrev pub OutGoes : List Pending → FarOf P E → Type 0
         OutGoes pending far = GoesFrom (λ begun. HasGone begun old run.plans (out run pending)) new run.plans far
 
@@ -180,7 +188,8 @@ module _ {S P E : Type 0} where
         abbrev pub OutStops : List Pending → Type 0
         OutStops pending = StopsFrom program text_of may (λ begun. HasGone begun old run.plans (out run pending)) new run.plans
 
-        -- where each order of the round is answered as its source may answer it: the round is stored
+        -- says where each order of the round is answered as its source may answer it: the round is stored
         abbrev pub GoesOnIfAnswered : List Pending → RunAllOf P E → Type 0
         GoesOnIfAnswered pending later =
-            All (IsAnswered (may_at may old.loaders)) pending → GoesOnFrom program text_of may (state_of old) (state_of new) run later
+            All (IsAnswered (may_at may old.loaders)) pending
+            → GoesOnFrom program text_of may (state_of old) (state_of new) run later

@@ -1,4 +1,4 @@
--- What contracts see of a load by hand, and what was done since it was begun.
+-- Definitions of what contracts see of a load by hand, and what was done since it was begun.
 use Rattle.std.specs.Prelude.{◌≡◌, ◌<◌, ◌⊎◌, ℕ, Bool, true, false, List, [], Result, map, length, All}
 use Rattle.std.specs.List.{list_all}
 use Rattle.std.specs.Global.{Vec}
@@ -20,7 +20,7 @@ use Rattle.rounds_by_hand.specs.declared.load_hand.LoadFar.TheVariants as rust
 use Rattle.rounds_by_hand.specs.declared.pending.Pending.{Pending}
 use Rattle.rounds_by_hand.specs.Pending.{order_in, is_in, IsAnswered, MayAnswer}
 
--- how far a load is: nothing is done yet, or its round is out with its orders, or nothing more can be done
+-- says how far a load is: nothing is done yet, or its round is out with its orders, or nothing more can be done
 pub data LoadFarOf : Type 0 where
   handed : LoadFarOf
   out : List Pending → LoadFarOf
@@ -74,14 +74,14 @@ module _ {S : Type 0} where
   abbrev pub load_hand_of : SessionOf S → ℕ → List KeyOf → LoadFarOf → LoadHandOf S
   load_hand_of session loader keys far = record { session = session; loader = loader; keys = keys; far = far }
 
-  -- what a call did; a load has at most one round
+  -- says what a call did; a load has at most one round
   abbrev pub AdvancesLoad : LoadHandOf S → LoadHandOf S → LoadAdvance → Type 0
   AdvancesLoad old new (Loaded outcomes) = (can_advance_load old.far ≡ true) × (new.far ≡ over)
   AdvancesLoad old new Round = (old.far ≡ handed) × IsNewLoadRound new.far
   AdvancesLoad old new Waiting = IsLoadWaiting old.far × (new ≡ old)
   AdvancesLoad old new Over = (old.far ≡ over) × (new ≡ old)
 
-  -- the same of a call that asks the source for the orders that nobody answered: it never waits
+  -- says the same of a call that asks the source for the orders that nobody answered: it never waits
   abbrev pub AsksAndAdvancesLoad : LoadHandOf S → LoadHandOf S → LoadAdvance → Type 0
   AsksAndAdvancesLoad old new (Loaded outcomes) = ¬ (old.far ≡ over) × (new.far ≡ over)
   AsksAndAdvancesLoad old new Round = (old.far ≡ handed) × IsNewLoadRound new.far
@@ -126,13 +126,15 @@ module _ {S : Type 0} where
     abbrev pub IsLoadUnderway : SessionOf S → LoadHandOf S → Type 0
     IsLoadUnderway begun h = HasGoneLoad begun h.session h.loader h.keys h.far
 
-    -- what was so before a call is so after it, from whichever session the load was begun on
+    -- says what was so before a call is so after it, from whichever session the load was begun on
     abbrev pub LoadGoesOn : LoadHandOf S → LoadHandOf S → Type 0
     LoadGoesOn old new = (begun : SessionOf S) → IsLoadUnderway begun old → IsLoadUnderway begun new
 
-    -- the same where an order is answered, if the answer is one that the order's source may give
-    abbrev pub LoadGoesOnIfMay : Result (Vec Item) FetchFault → LoadHandOf S → LoadHandOf S → Pending → Type 0
-    LoadGoesOnIfMay answer old new one = MayAnswer may old.session.loaders (order_in one) answer → LoadGoesOn old new
+    -- says the same where an order is answered, if the answer is one that the order's source may give
+    abbrev pub LoadGoesOnIfMay : Result (Vec Item) FetchFault
+        → LoadHandOf S → LoadHandOf S → Pending → Type 0
+    LoadGoesOnIfMay answer old new one = MayAnswer may old.session.loaders (order_in one) answer
+        → LoadGoesOn old new
 
     -- the keys were loaded, from whichever session the load was begun on: all that was done in it is a call that loads them
     abbrev pub LoadsKeys : LoadHandOf S → LoadHandOf S → LoadAdvance → Type 0
@@ -145,16 +147,17 @@ module _ {S : Type 0} where
     -- The session as it is when the load is given up: as it was begun on it, or after a call that stopped.
     abbrev pub GivesUpLoad : LoadHandOf S → SessionOf S → Type 0
     GivesUpLoad old now =
-        (begun : SessionOf S) → IsLoadUnderway begun old → (now ≡ begun) ⊎ IsCallOf may (StoppedLoading old.loader old.keys) begun now
+        (begun : SessionOf S) → IsLoadUnderway begun old
+        → (now ≡ begun) ⊎ IsCallOf may (StoppedLoading old.loader old.keys) begun now
 
-    -- what a step does where nothing is done yet
+    -- says what a step does where nothing is done yet
     abbrev pub BegunLoadTells : SessionOf S → SessionOf S → ℕ → List KeyOf → LoadAdvance → Type 0
     BegunLoadTells old new loader keys (Loaded outcomes) = IsLoaded may (state_of old) (state_of new) loader keys (map outcome_of outcomes.items)
     BegunLoadTells old new loader keys Round = Unit {0}
     BegunLoadTells old new loader keys Waiting = Unit {0}
     BegunLoadTells old new loader keys Over = Unit {0}
 
-    -- what a step does where the round is out, from whichever session the load was begun on
+    -- gives what a step does where the round is out, from whichever session the load was begun on
     module _ (old new : SessionOf S) (loader : ℕ) (keys : List KeyOf) (pending : List Pending) where
       abbrev pub OutLoads : Vec Outcome → Type 0
       OutLoads outcomes =

@@ -35,7 +35,7 @@ pub record HasAnswer (may : ℕ → List KeyOf → AnswerOf → Type 0) (reply :
   pub may_be : may reply.loader reply.keys answer
   pub outcomes : reply.outcomes ≡ outcomes_of (length reply.keys) answer
 
--- where it is answered, it has an answer that may be given
+-- the answer of an order, where it is answered, is one that may be given
 abbrev pub IsAnswered : (ℕ → List KeyOf → AnswerOf → Type 0) → Pending → Type 0
 IsAnswered may (Out order) = Unit {0}
 IsAnswered may (In reply) = HasAnswer may (reply_of reply)
@@ -44,9 +44,11 @@ IsAnswered may (In reply) = HasAnswer may (reply_of reply)
 abbrev pub AreRepliesTo : (ℕ → List KeyOf → AnswerOf → Type 0) → List Pending → List Reply → Type 0
 AreRepliesTo may pending replies = AreReplies may (map order_in pending) (map reply_of replies)
 
--- the same where each answer that is there already may be given
-abbrev pub AreRepliesIfAnswered : (ℕ → List KeyOf → AnswerOf → Type 0) → List Pending → List Reply → Type 0
-AreRepliesIfAnswered may pending replies = All (IsAnswered may) pending → AreRepliesTo may pending replies
+-- says the same where each answer that is there already may be given
+abbrev pub AreRepliesIfAnswered : (ℕ → List KeyOf → AnswerOf → Type 0)
+    → List Pending → List Reply → Type 0
+AreRepliesIfAnswered may pending replies = All (IsAnswered may) pending
+    → AreRepliesTo may pending replies
 
 -- the order of this number, which was out, has got the reply that follows from an answer; the others are as they were
 pub record TakesAnswer (old : List Pending) (number : ℕ) (answer : Result (Vec Item) FetchFault) (new : List Pending) : Type 0 where
@@ -59,5 +61,7 @@ pub record TakesAnswer (old : List Pending) (number : ℕ) (answer : Result (Vec
   pub put : new ≡ slice_set old number (In reply)
 
 -- the answer is one that the source of the order's loader may give
-abbrev pub MayAnswer : {S : Type 0} → (S → List KeyOf → AnswerOf → Type 0) → List (LoaderOf S) → OrderOf → Result (Vec Item) FetchFault → Type 0
-MayAnswer {S} may loaders order answer = (asked : LoaderOf S) → slice_get loaders order.loader ≡ Some asked → Fetched (may asked.source order.keys) answer
+abbrev pub MayAnswer : {S : Type 0} → (S → List KeyOf → AnswerOf → Type 0)
+    → List (LoaderOf S) → OrderOf → Result (Vec Item) FetchFault → Type 0
+MayAnswer {S} may loaders order answer = (asked : LoaderOf S)
+    → slice_get loaders order.loader ≡ Some asked → Fetched (may asked.source order.keys) answer

@@ -1,8 +1,8 @@
-//! Why an answer to an order wasn't taken.
-use load_memory::NoMemory;
+//! Faults: why an answer to an order wasn't taken.
+use std::alloc::AllocError;
 use thiserror::Error;
 
-/// Why an answer to an order wasn't taken.
+/// Says why an answer to an order wasn't taken.
 #[derive(Clone, Copy, Debug, PartialEq, Eq, Error)]
 pub enum TakeFault {
     /// No round is out, or it has no order of that number. Nothing has changed.
@@ -16,13 +16,13 @@ pub enum TakeFault {
     NoMemory,
 }
 
-impl From<NoMemory> for TakeFault {
+impl From<AllocError> for TakeFault {
     ghost use Rattle.std.specs.Prelude.{◌≡◌};
     ghost use Rattle.rounds_by_hand.specs.declared.fault.TakeFault.TheVariants.{NoMemory};
 
     ghost from_gives = { λ _ fault. fault ≡ NoMemory };
 
-    fn from(_e: NoMemory) -> TakeFault {
+    fn from(_e: AllocError) -> TakeFault {
         TakeFault::NoMemory
     }
 }

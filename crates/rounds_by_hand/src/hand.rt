@@ -5,24 +5,25 @@ use crate::fault::TakeFault;
 use crate::pending::{Pending, are_in, take_answer};
 use crate::steps::{begin, finish_round};
 use execution::Execute;
-use load_memory::{Item, NoMemory};
-use load_queue::{Asks, FetchFault};
-use load_rounds::{Answer, RunAll, Session};
+use load_memory::Item;
+use load_queue::{FetchFault, LocalSource};
+use load_rounds::{AllRoundsByHand, Answer, Session};
+use std::alloc::AllocError;
 use std::marker::Model;
 use std::mem;
 
-/// How far they are.
+/// Says how far they are.
 #[derive(Drop)]
 pub(crate) enum Far<'p, P, E> {
     /// Nothing is done yet.
     Handed,
     /// A round is out, with its orders.
-    Out(RunAll<'p, P, E>, Vec<Pending>),
+    Out(AllRoundsByHand<'p, P, E>, Vec<Pending>),
     /// Nothing more can be done.
     Over,
 }
 
-/// What a call of [`Hand::advance`] did.
+/// Says what a call of [`Hand::advance`] did.
 #[derive(Drop)]
 pub enum Advance {
     /// Nothing is missing any more. There is an answer for each plan, in order.
@@ -42,9 +43,9 @@ pub enum Advance {
 /// ([`orders`](Hand::orders)) by its number, in any order ([`answer`](Hand::answer)), and advances again.
 ///
 /// A contract sees the session, the plans, and how far they are. `Holds` of `specs/Hands.antt` is what each call needs and keeps: the
-/// session has the loaders of each plan, as where they were begun. (In this kit no invariant of the type can say it, since it speaks of what
-/// a trait with a lifetime says.) What was done in the session since they were begun is
-/// `IsUnderway` of `specs/Hands.antt`: each call keeps it, and in the end it is the headline.
+/// session has the loaders of each plan, as where they were begun. (In this kit no invariant of the type can say it, since it speaks of
+/// what a trait with a lifetime says.) What was done in the session since they were begun is `IsUnderway` of `specs/Hands.antt`: each call
+/// keeps it, and in the end it is the headline.
 #[derive(Drop)]
 pub struct Hand<'p, S, P, E> {
     session: Session<S>,
@@ -93,7 +94,7 @@ impl<'p, S, P, E> Hand<'p, S, P, E> {
     }
 }
 
-impl<'p, S: Asks, P: Execute<'p, E>, E: Drop> Hand<'p, S, P, E> {
+impl<'p, S: LocalSource, P: Execute<'p, E>, E: Drop> Hand<'p, S, P, E> {
     ghost use Rattle.rounds_by_hand.specs.Hands.{Advances, AsksAndAdvances, AnswersFrom, GoesOn, GoesOnIfMay, GivesUp, Holds, IsOver, pending_in};
     ghost use Rattle.rounds_by_hand.specs.Pending.{TakesAnswer, is_in_at};
 
@@ -103,13 +104,16 @@ impl<'p, S: Asks, P: Execute<'p, E>, E: Drop> Hand<'p, S, P, E> {
     /// # Errors
     ///
     /// Only when out of memory: the finished rounds stay, and a round that was out is lost. It is over then.
-    pub fn advance(&mut self) -> Result<Advance, NoMemory>
-        requires { Holds P.program P.text_of P.loaders P.fits self.old.session self.old.plans self.old.far }
-        ensures holds { Holds P.program P.text_of P.loaders P.fits self.new.session self.new.plans self.new.far }
+    pub fn advance(&mut self) -> Result<Advance, AllocError>
+        requires { Holds P.program P.text_of P.loaders P.fits
+            self.old.session self.old.plans self.old.far }
+        ensures holds { Holds P.program P.text_of P.loaders
+            P.fits self.new.session self.new.plans self.new.far }
         ensures advanced { IfOk result (Advances self.old self.new) }
         ensures over { OnErr result (IsOver self.new.far) }
         ensures underway { GoesOn P.program P.text_of S.may_tell self.old self.new }
-        ensures answers { IfOk result (AnswersFrom P.program P.text_of S.may_tell self.old self.new) }
+        ensures answers { IfOk result
+            (AnswersFrom P.program P.text_of S.may_tell self.old self.new) }
         ensures plans { self.new.plans ≡ self.old.plans }
         ensures loaders { length self.new.session.loaders ≡ length self.old.session.loaders }
     {
@@ -125,13 +129,16 @@ impl<'p, S: Asks, P: Execute<'p, E>, E: Drop> Hand<'p, S, P, E> {
     /// # Errors
     ///
     /// Those of [`advance`](Hand::advance).
-    pub fn ask_and_advance(&mut self) -> Result<Advance, NoMemory>
-        requires { Holds P.program P.text_of P.loaders P.fits self.old.session self.old.plans self.old.far }
-        ensures holds { Holds P.program P.text_of P.loaders P.fits self.new.session self.new.plans self.new.far }
+    pub fn ask_and_advance(&mut self) -> Result<Advance, AllocError>
+        requires { Holds P.program P.text_of P.loaders P.fits
+            self.old.session self.old.plans self.old.far }
+        ensures holds { Holds P.program P.text_of P.loaders
+            P.fits self.new.session self.new.plans self.new.far }
         ensures advanced { IfOk result (AsksAndAdvances self.old self.new) }
         ensures over { OnErr result (IsOver self.new.far) }
         ensures underway { GoesOn P.program P.text_of S.may_tell self.old self.new }
-        ensures answers { IfOk result (AnswersFrom P.program P.text_of S.may_tell self.old self.new) }
+        ensures answers { IfOk result
+            (AnswersFrom P.program P.text_of S.may_tell self.old self.new) }
         ensures plans { self.new.plans ≡ self.old.plans }
         ensures loaders { length self.new.session.loaders ≡ length self.old.session.loaders }
     {
@@ -156,14 +163,19 @@ impl<'p, S: Asks, P: Execute<'p, E>, E: Drop> Hand<'p, S, P, E> {
         number: usize,
         answer: Result<Vec<Item>, FetchFault>,
     ) -> Result<(), TakeFault>
-        requires { Holds P.program P.text_of P.loaders P.fits self.old.session self.old.plans self.old.far }
-        ensures holds { Holds P.program P.text_of P.loaders P.fits self.new.session self.new.plans self.new.far }
-        ensures no_order { IsErrOf result TakeFault.NoSuchOrder ↔ (length (pending_in self.old.far) ≤ number) }
-        ensures answered { IsErrOf result TakeFault.Answered ↔ (is_in_at (slice_get (pending_in self.old.far) number) ≡ true) }
+        requires { Holds P.program P.text_of P.loaders P.fits
+            self.old.session self.old.plans self.old.far }
+        ensures holds { Holds P.program P.text_of P.loaders
+            P.fits self.new.session self.new.plans self.new.far }
+        ensures no_order { IsErrOf result TakeFault.NoSuchOrder
+            ↔ (length (pending_in self.old.far) ≤ number) }
+        ensures answered { IsErrOf result TakeFault.Answered
+            ↔ (is_in_at (slice_get (pending_in self.old.far) number) ≡ true) }
         ensures none { IsErrOf result TakeFault.NoSuchOrder → self.new ≡ self.old }
         ensures kept { IsErrOf result TakeFault.Answered → self.new ≡ self.old }
         ensures over { IsErrOf result TakeFault.NoMemory → IsOver self.new.far }
-        ensures taken { OnOk result (TakesAnswer (pending_in self.old.far) number answer (pending_in self.new.far)) }
+        ensures taken { OnOk result
+            (TakesAnswer (pending_in self.old.far) number answer (pending_in self.new.far)) }
         // It is still as the sources may answer, if this answer is.
         ensures underway { OnOk result (IfSome (slice_get (pending_in self.old.far) number)
             (GoesOnIfMay P.program P.text_of S.may_tell answer self.old self.new)) }

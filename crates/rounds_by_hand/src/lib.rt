@@ -7,8 +7,8 @@
 //! `load_rounds`. An answer that no source may give is taken too, and then nothing is promised of the answers' texts. The requests of
 //! these calls are what the hand was made with, the loaders that the plans need, and each call keeps that.
 //!
-//! A [`LoadHand`] does the same for keys of one loader, which take at most one round: `IsLoadUnderway` of `specs/LoadHands.antt`, and in the
-//! end what was done is a call of `load_many`.
+//! A [`LoadHand`] does the same for keys of one loader, which take at most one round: `IsLoadUnderway` of
+//! `specs/LoadHands.antt`, and in the end what was done is a call of `load_many`.
 #![tactic(auto)]
 
 pub mod fault;

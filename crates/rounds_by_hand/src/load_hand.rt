@@ -6,13 +6,14 @@ ghost use Rattle.load_queue.specs.Loaders.{AreOnRecord};
 use crate::fault::TakeFault;
 use crate::load_steps::{begin_keys, finish_keys};
 use crate::pending::{Pending, are_in, take_answer};
-use load_memory::{Item, Key, NoMemory, Outcome};
-use load_queue::{Asks, FetchFault};
+use load_memory::{Item, Key, Outcome};
+use load_queue::{FetchFault, LocalSource};
 use load_rounds::Session;
+use std::alloc::AllocError;
 use std::marker::Model;
 use std::mem;
 
-/// How far a load is.
+/// Says how far a load is.
 #[derive(Drop)]
 pub(crate) enum LoadFar {
     /// Nothing is done yet.
@@ -23,7 +24,7 @@ pub(crate) enum LoadFar {
     Over,
 }
 
-/// What a call of [`LoadHand::advance`] did.
+/// Says what a call of [`LoadHand::advance`] did.
 #[derive(Drop)]
 pub enum LoadAdvance {
     /// All keys are known. There is an outcome for each, in order.
@@ -36,11 +37,12 @@ pub enum LoadAdvance {
     Over,
 }
 
-/// Keys of a loader that are loaded as [`Session::load_many`] loads them, but in a round that the caller runs, with the session in which they
-/// are loaded. While the load is under way, nothing else can change the session.
+/// Keys of a loader that are loaded as [`Session::load_many`] loads them, but in a round that the caller runs, with the session in which
+/// they are loaded. While the load is under way, nothing else can change the session.
 ///
-/// It is used in turns, as a [`Hand`](crate::Hand): [`advance`](LoadHand::advance) returns the outcomes, or the round is out: then the caller
-/// answers each of the orders ([`orders`](LoadHand::orders)) by its number, in any order ([`answer`](LoadHand::answer)), and advances again.
+/// It is used in turns, as a [`Hand`](crate::Hand): [`advance`](LoadHand::advance) returns the outcomes, or the round is out: then the
+/// caller answers each of the orders ([`orders`](LoadHand::orders)) by its number, in any order ([`answer`](LoadHand::answer)), and
+/// advances again.
 ///
 /// A contract sees the session, the loader and its keys, and how far the load is. What was done in the session since the load was begun is
 /// `IsLoadUnderway` of `specs/LoadHands.antt`: each call keeps it, and in the end it is what a call of `load_many` does.
@@ -98,7 +100,7 @@ impl<S> LoadHand<S> {
     }
 }
 
-impl<S: Asks> LoadHand<S> {
+impl<S: LocalSource> LoadHand<S> {
     ghost use Rattle.rounds_by_hand.specs.LoadHands.{AdvancesLoad, AsksAndAdvancesLoad, GivesUpLoad, IsSameLoad, LoadGoesOn, LoadGoesOnIfMay, LoadsKeys};
     ghost use Rattle.rounds_by_hand.specs.LoadHands.{load_pending_in, over};
     ghost use Rattle.rounds_by_hand.specs.Pending.{TakesAnswer, is_in_at};
@@ -109,7 +111,7 @@ impl<S: Asks> LoadHand<S> {
     /// # Errors
     ///
     /// Only when out of memory: a round that was out is lost, or it is stored and its outcomes aren't copied. The load is over then.
-    pub fn advance(&mut self) -> Result<LoadAdvance, NoMemory>
+    pub fn advance(&mut self) -> Result<LoadAdvance, AllocError>
         ensures advanced { IfOk result (AdvancesLoad self.old self.new) }
         ensures over { OnErr result (self.new.far ≡ over) }
         ensures underway { LoadGoesOn S.may_tell self.old self.new }
@@ -123,13 +125,13 @@ impl<S: Asks> LoadHand<S> {
         self.ask_and_advance()
     }
 
-    /// Does what [`advance`](LoadHand::advance) does, but asks the source of the loader for the orders that nobody has answered. So it never
-    /// waits.
+    /// Does what [`advance`](LoadHand::advance) does, but asks the source of the loader for the orders that nobody has answered. So it
+    /// never waits.
     ///
     /// # Errors
     ///
     /// Those of [`advance`](LoadHand::advance).
-    pub fn ask_and_advance(&mut self) -> Result<LoadAdvance, NoMemory>
+    pub fn ask_and_advance(&mut self) -> Result<LoadAdvance, AllocError>
         ensures advanced { IfOk result (AsksAndAdvancesLoad self.old self.new) }
         ensures over { OnErr result (self.new.far ≡ over) }
         ensures underway { LoadGoesOn S.may_tell self.old self.new }
@@ -163,12 +165,15 @@ impl<S: Asks> LoadHand<S> {
         number: usize,
         answer: Result<Vec<Item>, FetchFault>,
     ) -> Result<(), TakeFault>
-        ensures no_order { IsErrOf result TakeFault.NoSuchOrder ↔ (length (load_pending_in self.old.far) ≤ number) }
-        ensures answered { IsErrOf result TakeFault.Answered ↔ (is_in_at (slice_get (load_pending_in self.old.far) number) ≡ true) }
+        ensures no_order { IsErrOf result TakeFault.NoSuchOrder
+            ↔ (length (load_pending_in self.old.far) ≤ number) }
+        ensures answered { IsErrOf result TakeFault.Answered
+            ↔ (is_in_at (slice_get (load_pending_in self.old.far) number) ≡ true) }
         ensures none { IsErrOf result TakeFault.NoSuchOrder → self.new ≡ self.old }
         ensures kept { IsErrOf result TakeFault.Answered → self.new ≡ self.old }
         ensures over { IsErrOf result TakeFault.NoMemory → self.new.far ≡ over }
-        ensures taken { OnOk result (TakesAnswer (load_pending_in self.old.far) number answer (load_pending_in self.new.far)) }
+        ensures taken { OnOk result (TakesAnswer (load_pending_in self.old.far)
+            number answer (load_pending_in self.new.far)) }
         // It is still as the sources may answer, if this answer is.
         ensures underway { OnOk result (IfSome (slice_get (load_pending_in self.old.far) number)
             (LoadGoesOnIfMay S.may_tell answer self.old self.new)) }

@@ -1,4 +1,4 @@
-//! What a call does, on the parts of a load by hand.
+//! Steps of a load by hand: what a call does, on its parts.
 ghost use Rattle.std.specs.Prelude.{◌≡◌, ◌<◌, length, map, IfOk, OnErr};
 ghost use Rattle.load_memory.specs.Keys.{key_of};
 ghost use Rattle.load_queue.specs.Loaders.{AreOnRecord};
@@ -8,43 +8,50 @@ ghost use Rattle.rounds_by_hand.specs.LoadHands.{load_far_of, BegunLoadTells, Ha
 
 use crate::load_hand::{LoadAdvance, LoadFar};
 use crate::pending::{Pending, all_out, replies_to};
-use load_memory::{Key, NoMemory, Outcome};
-use load_queue::Asks;
+use load_memory::{Key, Outcome};
+use load_queue::LocalSource;
 use load_rounds::{NextLoad, Session, SessionFault};
+use std::alloc::AllocError;
 
 /// Begins a load of these keys over what is known.
-pub(crate) fn begin_keys<S: Asks>(
+pub(crate) fn begin_keys<S: LocalSource>(
     session: &mut Session<S>,
     loader: usize,
     keys: &[Key],
-) -> Result<(LoadFar, LoadAdvance), NoMemory>
+) -> Result<(LoadFar, LoadAdvance), AllocError>
     requires { loader < length session.old.loaders }
-    ensures holds { IfOk result (λ gone. HoldsLoad session.new loader (map key_of keys.now) (load_far_of gone.0)) }
+    ensures holds { IfOk result (λ gone.
+        HoldsLoad session.new loader (map key_of keys.now) (load_far_of gone.0)) }
     ensures step { IfOk result (λ gone. IsLoadStep (load_far_of gone.0) gone.1) }
-    ensures went { IfOk result (λ gone. HasGoneLoad S.may_tell session.old session.new loader (map key_of keys.now) (load_far_of gone.0)) }
-    ensures tells { IfOk result (λ gone. BegunLoadTells S.may_tell session.old session.new loader (map key_of keys.now) gone.1) }
-    ensures stopped { OnErr result (IsCallOf S.may_tell (StoppedLoading loader (map key_of keys.now)) session.old session.new) }
+    ensures went { IfOk result (λ gone. HasGoneLoad S.may_tell session.old
+        session.new loader (map key_of keys.now) (load_far_of gone.0)) }
+    ensures tells { IfOk result (λ gone.
+        BegunLoadTells S.may_tell session.old session.new loader (map key_of keys.now) gone.1) }
+    ensures stopped { OnErr result (IsCallOf S.may_tell
+        (StoppedLoading loader (map key_of keys.now)) session.old session.new) }
     ensures recorded { AreOnRecord session.old.loaders session.new.loaders }
 {
     match session.begin_load(loader, keys) {
         Ok(NextLoad::Loaded(outcomes)) => Ok((LoadFar::Over, LoadAdvance::Loaded(outcomes))),
         Ok(NextLoad::Round(orders)) => Ok((LoadFar::Out(all_out(orders)?), LoadAdvance::Round)),
-        Err(SessionFault::NoMemory) => Err(NoMemory),
+        Err(SessionFault::NoMemory) => Err(AllocError),
         Err(SessionFault::NoSuchLoader) => unreachable!(),
     }
 }
 
 /// Stores the round that is out, and returns the outcomes. The source is asked for the orders that nobody has answered.
-pub(crate) fn finish_keys<S: Asks>(
+pub(crate) fn finish_keys<S: LocalSource>(
     session: &mut Session<S>,
     loader: usize,
     keys: &[Key],
     pending: Vec<Pending>,
-) -> Result<Vec<Outcome>, NoMemory>
+) -> Result<Vec<Outcome>, AllocError>
     requires within { loader < length session.old.loaders }
     requires out { IsLoadOutWith (state_of session.old) loader (map key_of keys.now) pending.items }
-    ensures loaded { IfOk result (OutLoads S.may_tell session.old session.new loader (map key_of keys.now) pending.items) }
-    ensures stopped { OnErr result (OutLoadStops S.may_tell session.old session.new loader (map key_of keys.now) pending.items) }
+    ensures loaded { IfOk result
+        (OutLoads S.may_tell session.old session.new loader (map key_of keys.now) pending.items) }
+    ensures stopped { OnErr result (OutLoadStops S.may_tell session.old
+        session.new loader (map key_of keys.now) pending.items) }
     ensures recorded { AreOnRecord session.old.loaders session.new.loaders }
 {
     let replies = replies_to(pending, session.loaders())?;

@@ -7,9 +7,9 @@ ghost use Rattle.load_rounds.specs.Histories.{any_tell};
 ghost use Rattle.rounds_by_hand.specs.Pending.{order_in, is_in, is_in_at, IsAnswered, AreRepliesTo, AreRepliesIfAnswered, TakesAnswer};
 
 use crate::fault::TakeFault;
-use load_memory::{Item, Keys, NoMemory, Reply};
-use load_queue::{Asks, FetchFault, Loader, Order};
-use std::alloc::Global;
+use load_memory::{Item, Keys, Reply};
+use load_queue::{FetchFault, Loader, LocalSource, Order};
+use std::alloc::{AllocError, Global};
 use std::mem;
 
 /// An order of a round that is out, or the reply to it. Its number is its place among the orders of the round.
@@ -22,7 +22,7 @@ pub enum Pending {
 }
 
 /// The orders of a round, none of which is answered yet.
-pub(crate) fn all_out(orders: Vec<Order>) -> Result<Vec<Pending>, NoMemory>
+pub(crate) fn all_out(orders: Vec<Order>) -> Result<Vec<Pending>, AllocError>
     ensures orders { IfOk result (λ pending. map order_in pending.items ≡ orders.items) }
     ensures out { IfOk result (λ pending. All (λ one. is_in one ≡ false) pending.items) }
 {
@@ -33,7 +33,7 @@ pub(crate) fn all_out(orders: Vec<Order>) -> Result<Vec<Pending>, NoMemory>
     Ok(pending)
 }
 
-/// Whether each order was answered.
+/// Tells whether each order was answered.
 pub(crate) fn are_in(pending: &[Pending]) -> bool
     ensures { result ≡ list_all is_in pending.now }
 {
@@ -46,9 +46,14 @@ pub(crate) fn are_in(pending: &[Pending]) -> bool
 }
 
 // The reply to an order, for which its source is asked if nobody has answered it.
-fn reply_to<S: Asks>(alloc: Global, one: Pending, loaders: &[Loader<S>]) -> Result<Reply, NoMemory>
+fn reply_to<S: LocalSource>(
+    alloc: Global,
+    one: Pending,
+    loaders: &[Loader<S>],
+) -> Result<Reply, AllocError>
     requires { (order_in one).loader < length loaders.now }
-    ensures any { IsAnswered any_answer one → IfOk result (λ r. IsReply (may_at any_tell loaders.now) (order_in one) (reply_of r)) }
+    ensures any { IsAnswered any_answer one
+        → IfOk result (λ r. IsReply (may_at any_tell loaders.now) (order_in one) (reply_of r)) }
     ensures told { IsAnswered (may_at S.may_tell loaders.now) one
         → IfOk result (λ r. IsReply (may_at S.may_tell loaders.now) (order_in one) (reply_of r)) }
 {
@@ -59,14 +64,15 @@ fn reply_to<S: Asks>(alloc: Global, one: Pending, loaders: &[Loader<S>]) -> Resu
 }
 
 /// The replies to the orders of a round, in order. The source is asked for those that nobody has answered.
-pub(crate) fn replies_to<S: Asks>(
+pub(crate) fn replies_to<S: LocalSource>(
     pending: Vec<Pending>,
     loaders: &[Loader<S>],
-) -> Result<Vec<Reply>, NoMemory>
+) -> Result<Vec<Reply>, AllocError>
     requires { All (λ one. (order_in one).loader < length loaders.now) pending.items }
     ensures any { All (IsAnswered any_answer) pending.items
         → IfOk result (λ rs. AreRepliesTo (may_at any_tell loaders.now) pending.items rs.items) }
-    ensures told { IfOk result (λ rs. AreRepliesIfAnswered (may_at S.may_tell loaders.now) pending.items rs.items) }
+    ensures told { IfOk result (λ rs.
+        AreRepliesIfAnswered (may_at S.may_tell loaders.now) pending.items rs.items) }
 {
     let alloc = *pending.allocator();
     let mut replies = Vec::with_capacity(alloc, pending.len())?;
@@ -83,7 +89,8 @@ pub(crate) fn take_answer(
     answer: Result<Vec<Item>, FetchFault>,
 ) -> Result<(), TakeFault>
     ensures no_order { IsErrOf result TakeFault.NoSuchOrder ↔ (length pending.old.items ≤ number) }
-    ensures answered { IsErrOf result TakeFault.Answered ↔ (is_in_at (slice_get pending.old.items number) ≡ true) }
+    ensures answered { IsErrOf result TakeFault.Answered
+        ↔ (is_in_at (slice_get pending.old.items number) ≡ true) }
     ensures none { IsErrOf result TakeFault.NoSuchOrder → pending.new.items ≡ pending.old.items }
     ensures kept { IsErrOf result TakeFault.Answered → pending.new.items ≡ pending.old.items }
     ensures taken { OnOk result (TakesAnswer pending.old.items number answer pending.new.items) }
@@ -99,7 +106,7 @@ pub(crate) fn take_answer(
     });
     match mem::replace(&mut pending[number], blank) {
         Pending::Out(order) => {
-            pending[number] = Pending::In(order.answered(alloc, answer)?);
+            pending[number] = Pending::In(order.reply_with(alloc, answer)?);
             Ok(())
         }
         Pending::In(reply) => {

@@ -1,4 +1,4 @@
-//! What a call does, on the parts of a hand.
+//! Steps of a hand: what a call does, on its parts.
 ghost use Rattle.std.specs.Prelude.{◌≡◌, ◌≤◌, All, length, IfOk, OnErr};
 ghost use Rattle.load_rounds.specs.Sessions.{SessionOf, state_of, memory_of};
 ghost use Rattle.load_rounds.specs.SharedRuns.{FitsRun, FitsLater, KeepsFitting};
@@ -8,23 +8,27 @@ ghost use Rattle.rounds_by_hand.specs.Hands.{RunGoes, RunTells, RunStops, OutGoe
 use crate::hand::{Advance, Far};
 use crate::pending::{Pending, all_out, replies_to};
 use execution::Execute;
-use load_memory::NoMemory;
-use load_queue::Asks;
-use load_rounds::{NextAll, RunAll, Session, Stage};
+use load_queue::LocalSource;
+use load_rounds::{AllRoundsByHand, NextAll, Session, Stage};
+use std::alloc::AllocError;
 
 // Goes on with a run over what is known.
-fn go_on<'p, E: Drop, P: Execute<'p, E>, S: Asks>(
+fn go_on<'p, E: Drop, P: Execute<'p, E>, S: LocalSource>(
     session: &mut Session<S>,
-    run: RunAll<'p, P, E>,
-) -> Result<(Far<'p, P, E>, Advance), NoMemory>
+    run: AllRoundsByHand<'p, P, E>,
+) -> Result<(Far<'p, P, E>, Advance), AllocError>
     requires ready { run.stage ≡ Stage.Ready }
     requires enough { All (λ plan. P.loaders plan ≤ length session.old.loaders) run.plans }
     requires fits { FitsRun P.program P.text_of P.loaders P.fits run (memory_of session.old) }
-    ensures holds { IfOk result (λ gone. HoldsFar P.program P.text_of P.loaders P.fits session.new run.entry.plans (far_of gone.0)) }
+    ensures holds { IfOk result (λ gone.
+        HoldsFar P.program P.text_of P.loaders P.fits session.new run.entry.plans (far_of gone.0)) }
     ensures step { IfOk result (λ gone. IsStep (far_of gone.0) gone.1) }
-    ensures went { IfOk result (λ gone. RunGoes P.program P.text_of S.may_tell session.old run.entry session.new (far_of gone.0)) }
-    ensures tells { IfOk result (λ gone. RunTells P.program P.text_of S.may_tell session.old run.entry session.new gone.1) }
-    ensures stopped { OnErr result (RunStops P.program P.text_of S.may_tell session.old run.entry session.new) }
+    ensures went { IfOk result (λ gone.
+        RunGoes P.program P.text_of S.may_tell session.old run.entry session.new (far_of gone.0)) }
+    ensures tells { IfOk result (λ gone.
+        RunTells P.program P.text_of S.may_tell session.old run.entry session.new gone.1) }
+    ensures stopped { OnErr result
+        (RunStops P.program P.text_of S.may_tell session.old run.entry session.new) }
     ensures loaders { length session.new.loaders ≡ length session.old.loaders }
 {
     let mut run = run;
@@ -35,16 +39,20 @@ fn go_on<'p, E: Drop, P: Execute<'p, E>, S: Asks>(
 }
 
 /// Begins answers to these plans, and goes on with them over what is known.
-pub(crate) fn begin<'p, E: Drop, P: Execute<'p, E>, S: Asks>(
+pub(crate) fn begin<'p, E: Drop, P: Execute<'p, E>, S: LocalSource>(
     session: &mut Session<S>,
     plans: &'p [P],
-) -> Result<(Far<'p, P, E>, Advance), NoMemory>
+) -> Result<(Far<'p, P, E>, Advance), AllocError>
     requires enough { All (λ plan. P.loaders plan ≤ length session.old.loaders) plans.now }
-    ensures holds { IfOk result (λ gone. HoldsFar P.program P.text_of P.loaders P.fits session.new plans.now (far_of gone.0)) }
+    ensures holds { IfOk result (λ gone.
+        HoldsFar P.program P.text_of P.loaders P.fits session.new plans.now (far_of gone.0)) }
     ensures step { IfOk result (λ gone. IsStep (far_of gone.0) gone.1) }
-    ensures went { IfOk result (λ gone. GoesFrom P.program P.text_of S.may_tell (λ begun. session.old ≡ begun) session.new plans.now (far_of gone.0)) }
-    ensures tells { IfOk result (λ gone. TellsFrom P.program P.text_of S.may_tell (λ begun. session.old ≡ begun) session.new plans.now gone.1) }
-    ensures stopped { OnErr result (StopsFrom P.program P.text_of S.may_tell (λ begun. session.old ≡ begun) session.new plans.now) }
+    ensures went { IfOk result (λ gone. GoesFrom P.program P.text_of S.may_tell
+        (λ begun. session.old ≡ begun) session.new plans.now (far_of gone.0)) }
+    ensures tells { IfOk result (λ gone. TellsFrom P.program P.text_of
+        S.may_tell (λ begun. session.old ≡ begun) session.new plans.now gone.1) }
+    ensures stopped { OnErr result (StopsFrom P.program P.text_of
+        S.may_tell (λ begun. session.old ≡ begun) session.new plans.now) }
     ensures loaders { length session.new.loaders ≡ length session.old.loaders }
 {
     let run = session.begin_all(plans)?;
@@ -52,15 +60,17 @@ pub(crate) fn begin<'p, E: Drop, P: Execute<'p, E>, S: Asks>(
 }
 
 // Stores the replies to the round that is out. The sources are asked for the orders that nobody has answered.
-fn store<'p, E: Drop, P: Execute<'p, E>, S: Asks>(
+fn store<'p, E: Drop, P: Execute<'p, E>, S: LocalSource>(
     session: &mut Session<S>,
-    run: RunAll<'p, P, E>,
+    run: AllRoundsByHand<'p, P, E>,
     pending: Vec<Pending>,
-) -> Result<RunAll<'p, P, E>, NoMemory>
+) -> Result<AllRoundsByHand<'p, P, E>, AllocError>
     requires { IsOutWith P.program P.text_of (state_of session.old) run pending.items }
     ensures ready { IfOk result (λ later. later ≡ record run.entry { stage = Stage.Ready }) }
-    ensures fits { IfOk result (λ later. KeepsFitting P.program P.text_of P.loaders P.fits run.entry later (memory_of session.old) (memory_of session.new)) }
-    ensures ran { IfOk result (GoesOnIfAnswered P.program P.text_of S.may_tell session.old run.entry session.new pending.items) }
+    ensures fits { IfOk result (λ later. KeepsFitting P.program P.text_of P.loaders
+        P.fits run.entry later (memory_of session.old) (memory_of session.new)) }
+    ensures ran { IfOk result (GoesOnIfAnswered P.program P.text_of
+        S.may_tell session.old run.entry session.new pending.items) }
     ensures lost { OnErr result (state_of session.new ≡ state_of session.old) }
     ensures loaders { length session.new.loaders ≡ length session.old.loaders }
 {
@@ -71,19 +81,23 @@ fn store<'p, E: Drop, P: Execute<'p, E>, S: Asks>(
 }
 
 /// Stores the round that is out, and goes on over what is known then. The sources are asked for the orders that nobody has answered.
-pub(crate) fn finish_round<'p, E: Drop, P: Execute<'p, E>, S: Asks>(
+pub(crate) fn finish_round<'p, E: Drop, P: Execute<'p, E>, S: LocalSource>(
     session: &mut Session<S>,
-    run: RunAll<'p, P, E>,
+    run: AllRoundsByHand<'p, P, E>,
     pending: Vec<Pending>,
-) -> Result<(Far<'p, P, E>, Advance), NoMemory>
+) -> Result<(Far<'p, P, E>, Advance), AllocError>
     requires enough { All (λ plan. P.loaders plan ≤ length session.old.loaders) run.plans }
     requires out { IsOutWith P.program P.text_of (state_of session.old) run pending.items }
     requires fits { FitsLater P.program P.text_of P.loaders P.fits run (memory_of session.old) }
-    ensures holds { IfOk result (λ gone. HoldsFar P.program P.text_of P.loaders P.fits session.new run.entry.plans (far_of gone.0)) }
+    ensures holds { IfOk result (λ gone.
+        HoldsFar P.program P.text_of P.loaders P.fits session.new run.entry.plans (far_of gone.0)) }
     ensures step { IfOk result (λ gone. IsStep (far_of gone.0) gone.1) }
-    ensures went { IfOk result (λ gone. OutGoes P.program P.text_of S.may_tell session.old run.entry session.new pending.items (far_of gone.0)) }
-    ensures tells { IfOk result (λ gone. OutTells P.program P.text_of S.may_tell session.old run.entry session.new pending.items gone.1) }
-    ensures stopped { OnErr result (OutStops P.program P.text_of S.may_tell session.old run.entry session.new pending.items) }
+    ensures went { IfOk result (λ gone. OutGoes P.program P.text_of S.may_tell
+        session.old run.entry session.new pending.items (far_of gone.0)) }
+    ensures tells { IfOk result (λ gone. OutTells P.program P.text_of
+        S.may_tell session.old run.entry session.new pending.items gone.1) }
+    ensures stopped { OnErr result
+        (OutStops P.program P.text_of S.may_tell session.old run.entry session.new pending.items) }
     ensures loaders { length session.new.loaders ≡ length session.old.loaders }
 {
     let run = store(session, run, pending)?;

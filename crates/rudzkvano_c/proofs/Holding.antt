@@ -1,7 +1,7 @@
 -- A handle whose object is taken out, and put back after a call.
 use Rattle.std.proofs.Common.{◌≡◌, Some, None, subst, sym}
 use Rattle.std.specs.Prelude.{Option, Result, ℤ}
-use Rattle.request_plans.specs.Servers.{ServerOf}
+use Rattle.plan_requests.specs.Servers.{ServerOf}
 use Rattle.host_clients.specs.Faults.{code_of}
 use Rattle.host_clients.specs.declared.client.HostClient.{HostClient}
 use Rattle.host_clients.specs.declared.client.Progress.{Progress}

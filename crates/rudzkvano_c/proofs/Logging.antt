@@ -22,7 +22,7 @@ module _ (loader : ℕ) (rounds stored : List ℕ) (keys : List (List KeyOf)) wh
   log-left (Server s) l e is = absurd is
   log-left (Client c) l e is = tt
 
-  -- the same of what a handle holds
+  -- shows the same of what a handle holds
   module _ (held : Option Object) (o : Object) (code : ℤ) (is : Some o ≡ held) where
     pub copies-no-log : (e : Fault) → code ≡ code_of e → IsLogOf o loader (Err e) → Copies (CopiesLog loader rounds stored keys) held code
     copies-no-log e went none = copies-some held o is (CopiesLog loader rounds stored keys) code (Err e) went (log-refused o e none)

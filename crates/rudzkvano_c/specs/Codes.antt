@@ -1,4 +1,4 @@
--- What calls return.
+-- Definitions of what calls return.
 use Rattle.std.specs.Prelude.{ℤ, pos, Result, Ok, Err}
 use Rattle.host_clients.specs.Faults.{code_of}
 use Rattle.host_clients.specs.declared.fault.Fault.{Fault}

@@ -1,12 +1,12 @@
--- What handles hold, and what calls make of them.
+-- Definitions of what handles hold, and what calls make of them.
 use Rattle.std.specs.Prelude.{◌≡◌, ◌≢◌, ℤ, ℕ, List, [], ◌∷◌, Bool, true, Option, Some, None, Result, Ok, Err, OnOk, IfOk, IfErr, length, if◌then◌else◌}
 use Rattle.load_memory.specs.Keys.{KeyOf}
 use Rattle.load_memory.specs.Outcomes.{ItemOf, OutcomeOf}
 use Rattle.load_queue.specs.Orders.{OrderOf}
 use Rattle.flat_rows.specs.Replies.{reply_items}
-use Rattle.request_plans.specs.Servers.{ServerOf, IsServer}
+use Rattle.plan_requests.specs.Servers.{ServerOf, IsServer}
 use Rattle.server.specs.Clients.{ClientOf}
-use Rattle.owned_hand.specs.declared.handed_in.HandedIn.{HandedIn}
+use Rattle.server_owned.specs.declared.handed_in.HandedIn.{HandedIn}
 use Rattle.host_clients.specs.Asked.{HostAsked}
 use Rattle.host_clients.specs.Clients.{Advances, HasCount, IsBegun, IsBegunLoad, LacksLoader, TakesFailure, TakesReply, client_in, is_busy}
 use Rattle.host_clients.specs.Faults.{code_of}
@@ -30,7 +30,7 @@ HoldsServer holds (Some (object.Server s)) = holds s
 HoldsServer holds (Some (object.Client c)) = ⊥
 HoldsServer holds None = ⊥
 
--- how a call went, by its code
+-- says how a call went, by its code
 abbrev pub WentAs : ℤ → (Result (Unit {0}) Fault → Type 0) → Type 0
 WentAs code went = (done : Result (Unit {0}) Fault) × (code ≡ code_in done) × went done
 
@@ -38,30 +38,38 @@ WentAs code went = (done : Result (Unit {0}) Fault) × (code ≡ code_in done) �
 abbrev pub IsBadHandle : ℤ → Type 0
 IsBadHandle code = code ≡ code_of fault.BadHandle
 
--- what a call makes of an object that is a client; another stays as it is, and the call is refused
-abbrev pub MakesObject : (HostClient → HostClient → Result (Unit {0}) Fault → Type 0) → Object → Object → Result (Unit {0}) Fault → Type 0
+-- says what a call makes of an object that is a client; another stays as it is, and the call is refused
+abbrev pub MakesObject : (HostClient → HostClient → Result (Unit {0}) Fault → Type 0)
+    → Object → Object → Result (Unit {0}) Fault → Type 0
 MakesObject makes (object.Client c) (object.Client d) done = makes c d done
 MakesObject makes (object.Client c) (object.Server s) done = ⊥
-MakesObject makes (object.Server s) new done = (new ≡ object.Server s) × (done ≡ Err fault.BadHandle)
+MakesObject makes (object.Server s) new done = (new ≡ object.Server s)
+    × (done ≡ Err fault.BadHandle)
 
--- what a call makes of what a handle holds, and how it went; an empty handle stays empty
-abbrev pub Makes : (HostClient → HostClient → Result (Unit {0}) Fault → Type 0) → Option Object → Option Object → ℤ → Type 0
+-- says what a call makes of what a handle holds, and how it went; an empty handle stays empty
+abbrev pub Makes : (HostClient → HostClient → Result (Unit {0}) Fault → Type 0)
+    → Option Object → Option Object → ℤ → Type 0
 Makes makes None new code = (new ≡ None) × IsBadHandle code
 Makes makes (Some old) None code = ⊥
 Makes makes (Some old) (Some new) code = WentAs code (MakesObject makes old new)
 
--- what is made of the object that a handle holds; of none nothing is made
-abbrev pub IsMadeOf : (Object → Result Object Fault → Type 0) → Option Object → Result Object Fault → Type 0
+-- says what is made of the object that a handle holds; of none nothing is made
+abbrev pub IsMadeOf : (Object → Result Object Fault → Type 0)
+    → Option Object → Result Object Fault → Type 0
 IsMadeOf makes (Some object) made = makes object made
 IsMadeOf makes None made = made ≡ Err fault.BadHandle
 
--- what is made of what a handle holds is put into another, and how it went
-abbrev pub Gives : (Object → Result Object Fault → Type 0) → Option Object → Option Object → Option Object → ℤ → Type 0
-Gives makes held old new code = (made : Result Object Fault) × IsMadeOf makes held made × WentAs code (Puts made old new)
+-- a call makes an object of what a handle holds and puts it into another, and its code says how that went
+abbrev pub Gives : (Object → Result Object Fault → Type 0)
+    → Option Object → Option Object → Option Object → ℤ → Type 0
+Gives makes held old new code = (made : Result Object Fault)
+    × IsMadeOf makes held made × WentAs code (Puts made old new)
 
 -- a server of these texts is put into a handle, or it holds what it held
 abbrev pub Opens : List ℕ → List ℕ → Option Object → Option Object → ℤ → Type 0
-Opens schema bindings old new code = (made : Result Object Fault) × IfOk made (λ o. HoldsServer (IsServer schema bindings) (Some o)) × WentAs code (Puts made old new)
+Opens schema bindings old new code = (made : Result Object Fault)
+    × IfOk made (λ o. HoldsServer (IsServer schema bindings) (Some o))
+    × WentAs code (Puts made old new)
 
 -- ---- what is asked of a client
 
@@ -79,29 +87,33 @@ abbrev pub BeginsLoad : KeysOf → HostClient → HostClient → Result (Unit {0
 BeginsLoad asked old new (Ok done) = IsBegunLoad asked old new
 BeginsLoad asked old new (Err e) = (new ≡ old) × (e ≡ fault.NoLoader → LacksLoader old asked.loader)
 
--- what a call to go on makes of an object
+-- says what a call to go on makes of an object
 abbrev pub AdvancesObject : Object → Object → Result Progress Fault → Type 0
 AdvancesObject (object.Client c) (object.Client d) progress = Advances c d progress
 AdvancesObject (object.Client c) (object.Server s) progress = ⊥
-AdvancesObject (object.Server s) new progress = (new ≡ object.Server s) × (progress ≡ Err fault.BadHandle)
+AdvancesObject (object.Server s) new progress = (new ≡ object.Server s)
+    × (progress ≡ Err fault.BadHandle)
 
--- what `rz_next` makes of a handle: of what it holds what a call to go on makes of it, by the code
+-- says what `rz_next` makes of a handle: of what it holds what a call to go on makes of it, by the code
 abbrev pub AdvancesHeld : Option Object → Option Object → ℤ → Type 0
 AdvancesHeld None new code = (new ≡ None) × IsBadHandle code
 AdvancesHeld (Some old) None code = ⊥
-AdvancesHeld (Some old) (Some new) code = (progress : Result Progress Fault) × (code ≡ progress_in progress) × AdvancesObject old new progress
+AdvancesHeld (Some old) (Some new) code = (progress : Result Progress Fault)
+    × (code ≡ progress_in progress) × AdvancesObject old new progress
 
 -- unless memory ran out, a refused reply changes nothing
 abbrev pub KeepsIfRefused : HostClient → HostClient → Result (Unit {0}) Fault → Type 0
 KeepsIfRefused old new done = IfErr done (λ e. e ≢ fault.NoMemory → new ≡ old)
 
 -- the items of a reply are taken for an order, which has a key for each number of rows
-abbrev pub TakesRows : ℕ → List ℕ → List ItemOf → HostClient → HostClient → Result (Unit {0}) Fault → Type 0
+abbrev pub TakesRows : ℕ → List ℕ → List ItemOf → HostClient
+    → HostClient → Result (Unit {0}) Fault → Type 0
 TakesRows order rows items old new done = OnOk done (HasCount order (length rows) old × TakesReply order items old new) × KeepsIfRefused old new done
 
 -- a batch is taken to have failed
 abbrev pub TakesFailed : ℕ → List ℕ → HostClient → HostClient → Result (Unit {0}) Fault → Type 0
-TakesFailed order text old new done = OnOk done (TakesFailure order text old new) × KeepsIfRefused old new done
+TakesFailed order text old new done = OnOk done (TakesFailure order text old new)
+    × KeepsIfRefused old new done
 
 -- ---- what a client knows
 
@@ -110,15 +122,19 @@ abbrev pub KeepsClient : HostClient → HostClient → Result (Unit {0}) Fault �
 KeepsClient old new done = IfErr done (λ e. e ≢ fault.NoMemory → client_in new ≡ client_in old)
 
 -- this is made of the client, or it is as it was unless memory ran out; what is under way stays as it is
-abbrev pub Becomes : (ClientOf HandedIn → ClientOf HandedIn → Type 0) → HostClient → HostClient → Result (Unit {0}) Fault → Type 0
-Becomes becomes old new done = OnOk done (OnClient becomes old new) × KeepsClient old new done × StaysUnderWay old new
+abbrev pub Becomes : (ClientOf HandedIn → ClientOf HandedIn → Type 0)
+    → HostClient → HostClient → Result (Unit {0}) Fault → Type 0
+Becomes becomes old new done = OnOk done (OnClient becomes old new)
+    × KeepsClient old new done × StaysUnderWay old new
 
--- the same, and what the call tells of it is written as a number
-abbrev pub Tells : (Bool → ClientOf HandedIn → ClientOf HandedIn → Type 0) → ℕ → HostClient → HostClient → Result (Unit {0}) Fault → Type 0
+-- says the same, and what the call tells of it is written as a number
+abbrev pub Tells : (Bool → ClientOf HandedIn → ClientOf HandedIn → Type 0)
+    → ℕ → HostClient → HostClient → Result (Unit {0}) Fault → Type 0
 Tells becomes told old new done = Becomes (λ c d. (b : Bool) × (told ≡ number_of b) × becomes b c d) old new done
 
 -- an item is added for a key, and whether it was added is told
-abbrev pub Primes : ℕ → KeyOf → List ItemOf → ℕ → HostClient → HostClient → Result (Unit {0}) Fault → Type 0
+abbrev pub Primes : ℕ → KeyOf → List ItemOf → ℕ → HostClient
+    → HostClient → Result (Unit {0}) Fault → Type 0
 Primes loader key items told = Tells (PrimesSaid loader key items) told
 
 -- the one item of a reply
@@ -137,8 +153,8 @@ abbrev pub CopiesAnswer : List ℕ → HostClient → Result (Unit {0}) Fault �
 CopiesAnswer text (Answered a) done = OnOk done ((text ≡ a.text) × IsAnswerOf a.client.server a.asked text a.rounds)
 CopiesAnswer text client done = done ≡ Err fault.Idle
 
--- The outcomes are those of the keys that were asked for, one for each, in order: as a call of `load_many` gives them in a session of a client
--- of its server.
+-- The outcomes are those of the keys that were asked for, one for each, in order: as a call of `load_many` gives them in a session of a
+-- client of its server.
 abbrev pub CopiesOutcomes : List OutcomeOf → HostClient → Result (Unit {0}) Fault → Type 0
 CopiesOutcomes outcomes (Loaded d) done = OnOk done ((outcomes ≡ d.outcomes) × AreOutcomesOf d.client.server d.asked outcomes)
 CopiesOutcomes outcomes client done = done ≡ Err fault.Idle
@@ -158,7 +174,7 @@ abbrev pub AreOrdersIn : Object → List OrderOf → Type 0
 AreOrdersIn (object.Client c) orders = AreOrdersOf c orders
 AreOrdersIn (object.Server s) orders = ⊥
 
--- why an object has none
+-- says why an object has none
 abbrev pub LacksOrders : HostClient → Fault → Type 0
 LacksOrders (Asked u) e = ⊥
 LacksOrders (Loading l) e = ⊥
@@ -168,21 +184,24 @@ abbrev pub AreNoOrdersIn : Object → Fault → Type 0
 AreNoOrdersIn (object.Client c) e = LacksOrders c e
 AreNoOrdersIn (object.Server s) e = e ≡ fault.BadHandle
 
--- what is copied of an object that is a client
-abbrev pub CopiesObject : (HostClient → Result (Unit {0}) Fault → Type 0) → Object → Result (Unit {0}) Fault → Type 0
+-- says what is copied of an object that is a client
+abbrev pub CopiesObject : (HostClient → Result (Unit {0}) Fault → Type 0)
+    → Object → Result (Unit {0}) Fault → Type 0
 CopiesObject copies (object.Client c) done = copies c done
 CopiesObject copies (object.Server s) done = done ≡ Err fault.BadHandle
 
--- what is copied of the client that a handle holds
+-- says what is copied of the client that a handle holds
 abbrev pub Copies : (HostClient → Result (Unit {0}) Fault → Type 0) → Option Object → ℤ → Type 0
 Copies copies None code = IsBadHandle code
 Copies copies (Some object) code = WentAs code (CopiesObject copies object)
 
--- the same of a server
-abbrev pub CopiesServer : (ServerOf → Result (Unit {0}) Fault → Type 0) → Object → Result (Unit {0}) Fault → Type 0
+-- says the same of a server
+abbrev pub CopiesServer : (ServerOf → Result (Unit {0}) Fault → Type 0)
+    → Object → Result (Unit {0}) Fault → Type 0
 CopiesServer copies (object.Server s) done = copies s done
 CopiesServer copies (object.Client c) done = done ≡ Err fault.BadHandle
 
-abbrev pub CopiesOfServer : (ServerOf → Result (Unit {0}) Fault → Type 0) → Option Object → ℤ → Type 0
+abbrev pub CopiesOfServer : (ServerOf → Result (Unit {0}) Fault → Type 0)
+    → Option Object → ℤ → Type 0
 CopiesOfServer copies None code = IsBadHandle code
 CopiesOfServer copies (Some object) code = WentAs code (CopiesServer copies object)

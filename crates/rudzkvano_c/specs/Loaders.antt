@@ -1,8 +1,8 @@
--- What is copied of the loaders of a server.
+-- Definitions of what is copied of the loaders of a server.
 use Rattle.std.specs.Prelude.{ℕ, ◌≡◌, List, length, map, Result, OnOk}
 use Rattle.std.specs.List.{flat_map}
 use Rattle.flat_orders.specs.Written.{size_of}
-use Rattle.request_plans.specs.Servers.{ServerOf}
+use Rattle.plan_requests.specs.Servers.{ServerOf}
 use Rattle.host_clients.specs.LoaderTexts.{kind_of, texts_of}
 use Rattle.host_clients.specs.declared.fault.Fault.{Fault}
 use Rattle.rudzkvano_c.specs.declared.servers.LoaderSizes.{LoaderSizes}

@@ -1,4 +1,5 @@
--- How the outcomes of the keys that a client loaded last are copied: first the rows, and then the faults.
+-- Definitions of how the outcomes of the keys that a client loaded last are copied: first the rows, and
+-- then the faults.
 use Rattle.std.specs.Prelude.{ℕ, ◌≡◌, List, Result, Ok, Err, OnOk}
 use Rattle.load_memory.specs.Outcomes.{OutcomeOf}
 use Rattle.flat_outcomes.specs.Said.{outcomes_said}
@@ -18,14 +19,15 @@ keys_of_loader loader texts ends bytes = record { loader = loader; keys = keys_i
 
 -- a client has these outcomes, which are those of the keys that it loaded last
 abbrev pub HasOutcomes : List OutcomeOf → HostClient → Type 0
-HasOutcomes outcomes (Loaded d) = (outcomes ≡ d.outcomes) × AreOutcomesOf d.client.server d.asked outcomes
+HasOutcomes outcomes (Loaded d) = (outcomes ≡ d.outcomes)
+    × AreOutcomesOf d.client.server d.asked outcomes
 HasOutcomes outcomes client = ⊥
 
 abbrev pub AreOutcomesIn : Object → List OutcomeOf → Type 0
 AreOutcomesIn (object.Client c) outcomes = HasOutcomes outcomes c
 AreOutcomesIn (object.Server s) outcomes = ⊥
 
--- why an object has no outcomes
+-- says why an object has no outcomes
 abbrev pub LacksOutcomes : Fault → HostClient → Type 0
 LacksOutcomes e (Loaded d) = ⊥
 LacksOutcomes e client = e ≡ fault.Idle
@@ -35,7 +37,8 @@ AreNoOutcomesIn (object.Client c) e = LacksOutcomes e c
 AreNoOutcomesIn (object.Server s) e = e ≡ fault.BadHandle
 
 -- with the client's faults these numbers and texts say its outcomes
-abbrev pub CopiesRows : List ℕ → List ℕ → List (List ℕ) → HostClient → Result (Unit {0}) Fault → Type 0
+abbrev pub CopiesRows : List ℕ → List ℕ → List (List ℕ)
+    → HostClient → Result (Unit {0}) Fault → Type 0
 CopiesRows counts widths texts (Loaded d) done =
     OnOk done ((outcomes_said counts widths texts (all_faults d.outcomes) ≡ d.outcomes) × AreOutcomesOf d.client.server d.asked d.outcomes)
 CopiesRows counts widths texts client done = done ≡ Err fault.Idle
@@ -45,7 +48,8 @@ abbrev pub CopiesFaults : List (List ℕ) → HostClient → Result (Unit {0}) F
 CopiesFaults faults (Loaded d) done = OnOk done (faults ≡ all_faults d.outcomes)
 CopiesFaults faults client done = done ≡ Err fault.Idle
 
--- the same once the rows were copied, unless that was refused
-abbrev pub CopiesFaultsAfter : Result (Unit {0}) Fault → List (List ℕ) → Object → Result (Unit {0}) Fault → Type 0
+-- says the same once the rows were copied, unless that was refused
+abbrev pub CopiesFaultsAfter : Result (Unit {0}) Fault
+    → List (List ℕ) → Object → Result (Unit {0}) Fault → Type 0
 CopiesFaultsAfter (Ok copied) faults o done = CopiesObject (CopiesFaults faults) o done
 CopiesFaultsAfter (Err e) faults o done = done ≡ Err e

@@ -1,4 +1,4 @@
--- What is copied of what a loader was asked.
+-- Copies of what a loader was asked.
 use Rattle.std.specs.Prelude.{ℕ, ◌≡◌, List, length, map, Result, Ok, Err, OnOk}
 use Rattle.load_memory.specs.Keys.{KeyOf}
 use Rattle.load_queue.specs.Loaders.{AskedOf}
@@ -16,7 +16,7 @@ use Rattle.rudzkvano_c.specs.declared.keys.LogSizes.{LogSizes}
 abbrev pub HasLog : BatchLog → HostClient → ℕ → Type 0
 HasLog l client loader = LogHolds (λ log. AreBatches log l.rounds.items l.stored.items l.keys) client loader
 
--- what is no client has no log
+-- an object that is no client has no log
 abbrev pub IsLogOf : Object → ℕ → Result BatchLog Fault → Type 0
 IsLogOf (Server s) loader (Ok l) = ⊥
 IsLogOf (Server s) loader (Err e) = e ≡ fault.BadHandle
@@ -24,7 +24,8 @@ IsLogOf (Client c) loader (Ok l) = HasLog l c loader
 IsLogOf (Client c) loader (Err e) = Unit {0}
 
 -- the buffers say the log of a client's loader
-abbrev pub CopiesLog : ℕ → List ℕ → List ℕ → List (List KeyOf) → HostClient → Result (Unit {0}) Fault → Type 0
+abbrev pub CopiesLog : ℕ → List ℕ → List ℕ → List (List KeyOf)
+    → HostClient → Result (Unit {0}) Fault → Type 0
 CopiesLog loader rounds stored keys client done = OnOk done (LogHolds (λ log. AreBatches log rounds stored keys) client loader)
 
 -- a batch of each entry, with its keys and their texts

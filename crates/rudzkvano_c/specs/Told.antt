@@ -1,4 +1,4 @@
--- What a call tells, as a number.
+-- Definitions of what a call tells, as a number.
 use Rattle.std.specs.Prelude.{◌≡◌, ℕ, Bool, Result, Ok, Err, if◌then◌else◌}
 use Rattle.host_clients.specs.declared.fault.Fault.{Fault}
 

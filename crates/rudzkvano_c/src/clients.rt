@@ -12,7 +12,7 @@ use host_clients::{Fault, Object};
 use std::alloc::Global;
 
 // A client of the server of a handle.
-fn opened(alloc: Global, server: &mut Handle, limits: &[u32]) -> Result<Object, Fault>
+fn client_object(alloc: Global, server: &mut Handle, limits: &[u32]) -> Result<Object, Fault>
     ensures made { IsMadeOf (MakesClient limits.now) server.old.held result }
     ensures kept { server.new.held ≡ server.old.held }
 {
@@ -25,6 +25,11 @@ fn opened(alloc: Global, server: &mut Handle, limits: &[u32]) -> Result<Object, 
 }
 
 /// Holds a client of a server in a handle of its own. It knows nothing.
+///
+/// # Promise
+///
+/// The server that the texts say; the same server; a client that knows nothing, within its limits. Refused, the
+/// handle holds what it held
 #[unsafe(no_mangle)]
 pub extern "C" fn rz_client(
     alloc: Global,
@@ -32,10 +37,11 @@ pub extern "C" fn rz_client(
     client: &mut Handle,
     limits: &[u32],
 ) -> i32
-    ensures made { Gives (MakesClient limits.now) server.old.held client.old.held client.new.held result }
+    ensures made { Gives (MakesClient limits.now)
+        server.old.held client.old.held client.new.held result }
     ensures kept { server.new.held ≡ server.old.held }
 {
-    let opened = opened(alloc, server, limits);
+    let opened = client_object(alloc, server, limits);
     code_of(client.put_made(alloc, opened))
 }
 
@@ -55,10 +61,15 @@ fn limit_answers(object: &mut Object, most: usize) -> Result<(), Fault>
     }
 }
 
-/// Limits the answers of a client to so many bytes; 0 is no limit.
+/// Limits the answers of a client to `most` bytes; 0 is no limit.
+///
+/// # Promise
+///
+/// What these calls of `server` make of the client (`Becomes`); what is under way stays as it is
 #[unsafe(no_mangle)]
 pub extern "C" fn rz_limit_answers(alloc: Global, client: &mut Handle, most: usize) -> i32
-    ensures { Makes (Becomes (LimitsAnswers (limit_of most))) client.old.held client.new.held result }
+    ensures { Makes (Becomes (LimitsAnswers (limit_of most)))
+        client.old.held client.new.held result }
 {
     let Some(mut object) = client.take(alloc) else {
         return Fault::BadHandle.code();
@@ -78,6 +89,10 @@ fn restart(object: &mut Object) -> Result<(), Fault>
 }
 
 /// Forgets all keys, logs and rounds.
+///
+/// # Promise
+///
+/// What these calls of `server` make of the client (`Becomes`); what is under way stays as it is
 #[unsafe(no_mangle)]
 pub extern "C" fn rz_restart(alloc: Global, client: &mut Handle) -> i32
     ensures { Makes (Becomes (λ c d. d ≡ begun c)) client.old.held client.new.held result }
@@ -91,6 +106,10 @@ pub extern "C" fn rz_restart(alloc: Global, client: &mut Handle) -> i32
 }
 
 /// Frees what a handle holds.
+///
+/// # Promise
+///
+/// The handle holds nothing
 #[unsafe(no_mangle)]
 pub extern "C" fn rz_close(alloc: Global, handle: &mut Handle)
     ensures { handle.new.held ≡ None }

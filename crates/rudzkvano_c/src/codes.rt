@@ -7,7 +7,7 @@ use host_clients::{Fault, Progress};
 /// The version of the library: 65,536 times the major number, 256 times the minor one, and the patch.
 const VERSION: u32 = 65_792;
 
-/// What a call returns.
+/// Returns what a call returns.
 pub fn code_of(done: Result<(), Fault>) -> i32
     ensures { result ≡ code_in done }
 {
@@ -17,7 +17,7 @@ pub fn code_of(done: Result<(), Fault>) -> i32
     }
 }
 
-/// What `rz_next` returns.
+/// Returns what `rz_next` returns.
 pub fn progress_code(progress: Result<Progress, Fault>) -> i32
     ensures { result ≡ progress_in progress }
 {

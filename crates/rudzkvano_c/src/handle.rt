@@ -1,4 +1,4 @@
-//! What C holds.
+//! Handles, which C holds.
 ghost use Rattle.std.specs.Prelude.{◌≡◌, Option, None, Some, OnOk, IfErr, option_map};
 ghost use Rattle.std.specs.Coded.{coded_option};
 ghost use Rattle.host_clients.specs.declared.object.Object.{Object};
@@ -13,6 +13,9 @@ use std::mem;
 /// C's `struct { void *at; }`, which holds an object or nothing. A handle of zeros holds nothing.
 ///
 /// `held` is what it holds.
+///
+/// It is a struct in the host's memory, and no pointer that is passed by value: so a call finds out by itself
+/// whether it holds nothing, a server or a client, and refuses the wrong one.
 #[repr(C)]
 pub struct Handle {
     at: *mut u8,
@@ -59,7 +62,8 @@ impl Handle {
     /// Holds this in a box of its own. What it held before is freed.
     pub fn put_new(&mut self, alloc: Global, object: Object) -> Result<(), Fault>
         ensures put { OnOk result (self.new.held ≡ Some object) }
-        ensures kept { IfErr result (λ fault. (fault ≡ Fault.NoMemory) × (self.new.held ≡ self.old.held)) }
+        ensures kept { IfErr result (λ fault.
+            (fault ≡ Fault.NoMemory) × (self.new.held ≡ self.old.held)) }
     {
         let Ok(object) = Box::new(alloc, object) else {
             return Err(Fault::NoMemory);

@@ -1,4 +1,4 @@
-//! What a client knows of keys, and what its loaders were asked.
+//! Keys of a client, and what its loaders were asked.
 ghost use Rattle.std.specs.Prelude.{◌≡◌, IfOk};
 ghost use Rattle.load_memory.specs.Cells.{cut};
 ghost use Rattle.load_rounds.specs.Histories.{ClearingAll};
@@ -14,7 +14,7 @@ use crate::handle::Handle;
 use host_clients::{BatchLog, Fault, FlatReply, HostClient, Object};
 use std::alloc::Global;
 
-/// How many elements the buffers of `rz_log` have to hold.
+/// Says how many elements the buffers of `rz_log` have to hold.
 #[repr(C)]
 #[derive(Drop)]
 pub struct LogSizes {
@@ -47,7 +47,8 @@ fn prime(
     item: &FlatReply<'_>,
     primed: &mut u32,
 ) -> Result<(), Fault>
-    ensures { MakesObject (Primes key.entry.loader (flat_key key.entry) (items_in item.now) primed.new) object.old object.new result }
+    ensures { MakesObject (Primes key.entry.loader (flat_key key.entry)
+        (items_in item.now) primed.new) object.old object.new result }
 {
     match object {
         Object::Client(client) => {
@@ -59,6 +60,10 @@ fn prime(
 }
 
 /// Adds an item for a loader's key, unless the key is known.
+///
+/// # Promise
+///
+/// What these calls of `server` make of the client (`Becomes`); what is under way stays as it is
 #[unsafe(no_mangle)]
 pub extern "C" fn rz_prime(
     alloc: Global,
@@ -101,7 +106,8 @@ fn clear(
     key: FlatKey<'_>,
     was_known: &mut u32,
 ) -> Result<(), Fault>
-    ensures { MakesObject (TellsCleared key.entry.loader (flat_key key.entry) was_known.new) object.old object.new result }
+    ensures { MakesObject (TellsCleared key.entry.loader (flat_key key.entry) was_known.new)
+        object.old object.new result }
 {
     match object {
         Object::Client(client) => {
@@ -113,6 +119,10 @@ fn clear(
 }
 
 /// Forgets a loader's key.
+///
+/// # Promise
+///
+/// What these calls of `server` make of the client (`Becomes`); what is under way stays as it is
 #[unsafe(no_mangle)]
 pub extern "C" fn rz_clear(
     alloc: Global,
@@ -148,6 +158,10 @@ fn clear_all(object: &mut Object, loader: usize) -> Result<(), Fault>
 }
 
 /// Forgets all keys of a loader.
+///
+/// # Promise
+///
+/// What these calls of `server` make of the client (`Becomes`); what is under way stays as it is
 #[unsafe(no_mangle)]
 pub extern "C" fn rz_clear_all(alloc: Global, client: &mut Handle, loader: usize) -> i32
     ensures { Makes (Becomes (Calls (ClearingAll loader))) client.old.held client.new.held result }
@@ -199,7 +213,12 @@ fn tell_log_sizes(
     }
 }
 
-/// How many elements the buffers of `rz_log` have to hold.
+/// Returns how many elements the buffers of `rz_log` have to hold.
+///
+/// # Promise
+///
+/// Where it gives 0, it tells how much there is to copy (`TellsSizes`, `TellsLoadSizes`, `TellsLoaderSizes`,
+/// `TellsLogSizes`)
 #[unsafe(no_mangle)]
 pub extern "C" fn rz_log_sizes(
     alloc: Global,
@@ -219,6 +238,11 @@ pub extern "C" fn rz_log_sizes(
 }
 
 /// Copies the batches that a loader was asked for.
+///
+/// # Promise
+///
+/// Where it gives 0, what the buffers say are the loaders of the bindings, or the batches of the loader's log
+/// (`CopiesLoaders`, `CopiesLog`)
 #[unsafe(no_mangle)]
 pub extern "C" fn rz_log(
     alloc: Global,

@@ -12,7 +12,7 @@ use crate::handle::Handle;
 use host_clients::{Fault, FlatKeys, FlatOutcomes, HostClient, Object};
 use std::alloc::Global;
 
-/// How many elements the buffers of `rz_loaded` have to hold.
+/// Says how many elements the buffers of `rz_loaded` have to hold.
 #[repr(C)]
 #[derive(Drop)]
 pub struct LoadSizes {
@@ -34,6 +34,11 @@ fn begin_load(alloc: Global, object: &mut Object, keys: &FlatKeys<'_>) -> Result
 }
 
 /// Begins to load keys of a loader.
+///
+/// # Promise
+///
+/// The keys that the buffers say (`keys_said`) are to be loaded, and nothing is done yet (`IsBegunLoad`); or,
+/// refused, nothing has changed, and by `RZ_NO_LOADER` only where there is no such loader
 #[unsafe(no_mangle)]
 pub extern "C" fn rz_begin_load(
     alloc: Global,
@@ -43,7 +48,8 @@ pub extern "C" fn rz_begin_load(
     ends: &[u32],
     bytes: &[u8],
 ) -> i32
-    ensures { Makes (BeginsLoad (keys_of_loader loader texts.now ends.now bytes.now)) client.old.held client.new.held result }
+    ensures { Makes (BeginsLoad (keys_of_loader loader texts.now ends.now bytes.now))
+        client.old.held client.new.held result }
 {
     let Some(mut object) = client.take(alloc) else {
         return Fault::BadHandle.code();
@@ -92,7 +98,12 @@ fn tell_load_sizes(object: &Object, sizes: &mut LoadSizes) -> Result<(), Fault>
     Ok(())
 }
 
-/// How many elements the buffers of `rz_loaded` have to hold.
+/// Returns how many elements the buffers of `rz_loaded` have to hold.
+///
+/// # Promise
+///
+/// Where it gives 0, it tells how much there is to copy (`TellsSizes`, `TellsLoadSizes`, `TellsLoaderSizes`,
+/// `TellsLogSizes`)
 #[unsafe(no_mangle)]
 pub extern "C" fn rz_load_sizes(alloc: Global, client: &mut Handle, sizes: &mut LoadSizes) -> i32
     ensures sizes { Copies (TellsLoadSizes sizes.new) client.old.held result }
@@ -106,7 +117,8 @@ pub extern "C" fn rz_load_sizes(alloc: Global, client: &mut Handle, sizes: &mut 
     code_of(told)
 }
 
-// Copies the rows of outcomes, where there is also just the room that their faults take: for so many, and so many bytes.
+// Copies the rows of outcomes, where there is also just the room that their faults take: `faults`
+// says their number and their bytes.
 fn copy_rows(
     object: &Object,
     faults: (usize, usize),
@@ -115,7 +127,8 @@ fn copy_rows(
     ends: &mut [u32],
     bytes: &mut [u8],
 ) -> Result<(), Fault>
-    ensures { CopiesObject (CopiesRows counts.new widths.new (cut bytes.new 0 ends.new)) object.now result }
+    ensures { CopiesObject (CopiesRows counts.new widths.new (cut bytes.new 0 ends.new))
+        object.now result }
 {
     let outcomes = outcomes_of(object)?;
     let sizes = outcomes.sizes();
@@ -139,6 +152,12 @@ fn copy_faults(
 }
 
 /// Copies the outcomes of the keys that were loaded last.
+///
+/// # Promise
+///
+/// Where it gives 0, what the buffers say (`outcomes_said`) are the outcomes that the handle holds, one for each
+/// key that was asked for; and they are those of a call of `load_many` with these keys in a session of a client of
+/// its server (`AreOutcomesOf`)
 #[unsafe(no_mangle)]
 pub extern "C" fn rz_loaded(
     alloc: Global,
@@ -150,7 +169,7 @@ pub extern "C" fn rz_loaded(
     fault_ends: &mut [u32],
     fault_bytes: &mut [u8],
 ) -> i32
-    // Where it gives 0, what the buffers say are the outcomes of what was begun.
+    // The buffers say the outcomes of what was begun, where it gives 0.
     ensures copied { let outcomes = outcomes_said counts.new widths.new (cut bytes.new 0 ends.new) (cut fault_bytes.new 0 fault_ends.new) in
         Copies (CopiesOutcomes outcomes) client.old.held result }
     ensures kept { client.new.held ≡ client.old.held }

@@ -1,4 +1,7 @@
 //! Requests, and their rounds.
+//!
+//! A call has as many parameters as it has buffers: a struct of slices can't cross from C, and structs of
+//! pointers and lengths would be read by code that no contract reaches.
 ghost use Rattle.std.specs.Prelude.{◌≡◌, IfOk, IfErr};
 ghost use Rattle.load_memory.specs.Cells.{cut};
 ghost use Rattle.flat_orders.specs.Orders.{orders_said};
@@ -16,7 +19,8 @@ use crate::handle::Handle;
 use host_clients::{Fault, FlatOrders, FlatReply, FlatRequest, HostClient, Object, Progress};
 use std::alloc::Global;
 
-/// How many elements the buffers of `rz_orders` and `rz_answer` have to hold, and how many rounds the answer took.
+/// Says how many elements the buffers of `rz_orders` and `rz_answer` have to hold, and how many rounds the answer
+/// took.
 #[repr(C)]
 #[derive(Drop)]
 pub struct Sizes {
@@ -38,6 +42,11 @@ fn begin(alloc: Global, object: &mut Object, line: &[u8]) -> Result<(), Fault>
 }
 
 /// Begins the answer to a request line.
+///
+/// # Promise
+///
+/// What is asked is planned for the client as it is, and nothing is asked of loaders yet (`IsBegun`); or, refused,
+/// the client is as it was
 #[unsafe(no_mangle)]
 pub extern "C" fn rz_begin(alloc: Global, client: &mut Handle, line: &[u8]) -> i32
     ensures { Makes (BeginsWith (line_asked line.now)) client.old.held client.new.held result }
@@ -51,7 +60,8 @@ pub extern "C" fn rz_begin(alloc: Global, client: &mut Handle, line: &[u8]) -> i
 }
 
 fn begin_request(alloc: Global, object: &mut Object, request: &FlatRequest<'_>) -> Result<(), Fault>
-    ensures { MakesObject (BeginsWith (request_asked (flat_parts request.now))) object.old object.new result }
+    ensures { MakesObject (BeginsWith (request_asked (flat_parts request.now)))
+        object.old object.new result }
 {
     match object {
         Object::Client(client) => client.begin_request(alloc, request),
@@ -60,6 +70,11 @@ fn begin_request(alloc: Global, object: &mut Object, request: &FlatRequest<'_>) 
 }
 
 /// Begins the answer to a request by its parts.
+///
+/// # Promise
+///
+/// What is asked is planned for the client as it is, and nothing is asked of loaders yet (`IsBegun`); or, refused,
+/// the client is as it was
 #[unsafe(no_mangle)]
 pub extern "C" fn rz_begin_request(
     alloc: Global,
@@ -68,7 +83,8 @@ pub extern "C" fn rz_begin_request(
     operation_name: &[u8],
     variables: &[u8],
 ) -> i32
-    ensures { Makes (BeginsWith (parts_asked query.now operation_name.now variables.now)) client.old.held client.new.held result }
+    ensures { Makes (BeginsWith (parts_asked query.now operation_name.now variables.now))
+        client.old.held client.new.held result }
 {
     let Some(mut object) = client.take(alloc) else {
         return Fault::BadHandle.code();
@@ -93,6 +109,10 @@ fn cancel(object: &mut Object) -> Result<(), Fault>
 }
 
 /// Gives up the request that is being answered, or the keys that are loaded.
+///
+/// # Promise
+///
+/// What was begun is given up: the finished rounds stay in the client's session, and perhaps one more was lost
 #[unsafe(no_mangle)]
 pub extern "C" fn rz_cancel(alloc: Global, client: &mut Handle) -> i32
     ensures { Makes Cancels client.old.held client.new.held result }
@@ -115,6 +135,13 @@ fn advance(alloc: Global, object: &mut Object) -> Result<Progress, Fault>
 }
 
 /// Goes on with the request, or with the keys that are loaded.
+///
+/// # Promise
+///
+/// What a call of `HostClient::advance` makes of the client, and its code (`AdvancesHeld`). `RZ_DONE`: from
+/// whichever client it was begun, the text answers it in the client's session as it is now (`AnswersIt`); or all
+/// that was done there is a call of `load_many` with these keys and outcomes (`LoadsIt`). `RZ_ROUND`: a new round
+/// is out, none of whose orders has a reply. `RZ_WAITING`: nothing has changed
 #[unsafe(no_mangle)]
 pub extern "C" fn rz_next(alloc: Global, client: &mut Handle) -> i32
     ensures { AdvancesHeld client.old.held client.new.held result }
@@ -177,7 +204,12 @@ fn tell_sizes(object: &Object, sizes: &mut Sizes) -> Result<(), Fault>
     }
 }
 
-/// How many elements the buffers of `rz_orders` and `rz_answer` have to hold.
+/// Returns how many elements the buffers of `rz_orders` and `rz_answer` have to hold.
+///
+/// # Promise
+///
+/// Where it gives 0, it tells how much there is to copy (`TellsSizes`, `TellsLoadSizes`, `TellsLoaderSizes`,
+/// `TellsLogSizes`)
 #[unsafe(no_mangle)]
 pub extern "C" fn rz_sizes(alloc: Global, client: &mut Handle, sizes: &mut Sizes) -> i32
     ensures sizes { Copies (TellsSizes sizes.new) client.old.held result }
@@ -219,6 +251,10 @@ fn copy_orders(
 }
 
 /// Copies the orders of the round that is out.
+///
+/// # Promise
+///
+/// Where it gives 0, what the buffers say (`orders_said`) are the orders of the round that is out
 #[unsafe(no_mangle)]
 pub extern "C" fn rz_orders(
     alloc: Global,
@@ -247,7 +283,8 @@ fn take_rows(
     order: usize,
     reply: &FlatReply<'_>,
 ) -> Result<(), Fault>
-    ensures { MakesObject (TakesRows order reply.now.rows.now (items_in reply.now)) object.old object.new result }
+    ensures { MakesObject (TakesRows order reply.now.rows.now (items_in reply.now))
+        object.old object.new result }
 {
     match object {
         Object::Client(client) => client.take_rows(alloc, order, reply),
@@ -256,6 +293,12 @@ fn take_rows(
 }
 
 /// Takes the rows for the keys of an order.
+///
+/// # Promise
+///
+/// Where it gives 0, the order of that number takes the items that the buffers say (`reply_items`), an item for
+/// each key, or the failure of its batch, and no other order changes. Refused for another reason than memory, the
+/// client is as it was
 #[unsafe(no_mangle)]
 pub extern "C" fn rz_take_rows(
     alloc: Global,
@@ -293,6 +336,12 @@ fn take_failed(alloc: Global, object: &mut Object, order: usize, text: &[u8]) ->
 }
 
 /// Takes it that the batch of an order failed as a whole.
+///
+/// # Promise
+///
+/// Where it gives 0, the order of that number takes the items that the buffers say (`reply_items`), an item for
+/// each key, or the failure of its batch, and no other order changes. Refused for another reason than memory, the
+/// client is as it was
 #[unsafe(no_mangle)]
 pub extern "C" fn rz_take_failed(
     alloc: Global,
@@ -327,9 +376,15 @@ fn copy_answer(object: &Object, bytes: &mut [u8]) -> Result<(), Fault>
 }
 
 /// Copies the text of the answer.
+///
+/// # Promise
+///
+/// Where it gives 0, the bytes are the text of the answer that the handle holds, and that answers what was begun
+/// (`IsAnswerOf`): in a session of a client of its server, from one state to a later one, as `server` answers it
+/// (`AnswersAsked`)
 #[unsafe(no_mangle)]
 pub extern "C" fn rz_answer(alloc: Global, client: &mut Handle, bytes: &mut [u8]) -> i32
-    // Where it gives 0, the text is the answer of what was asked.
+    // The text is the answer of what was asked, where it gives 0.
     ensures text { Copies (CopiesAnswer bytes.new) client.old.held result }
     ensures kept { client.new.held ≡ client.old.held }
 {

@@ -1,7 +1,7 @@
 //! Servers.
 ghost use Rattle.std.specs.Prelude.{◌≡◌, Some, IfOk};
 ghost use Rattle.load_memory.specs.Cells.{cut};
-ghost use Rattle.request_plans.specs.Servers.{IsServer};
+ghost use Rattle.plan_requests.specs.Servers.{IsServer};
 ghost use Rattle.host_clients.specs.Objects.{Shares};
 ghost use Rattle.rudzkvano_c.specs.Held.{CopiesOfServer, CopiesServer, Gives, HoldsServer, IsMadeOf, Opens};
 ghost use Rattle.rudzkvano_c.specs.Loaders.{CopiesLoaders, HasLoaderSizes, TellsLoaderSizes};
@@ -11,7 +11,7 @@ use crate::handle::Handle;
 use host_clients::{Fault, FaultPlace, LoaderTexts, Object, OpenFault, Server, open_server};
 use std::alloc::Global;
 
-/// Why a schema or its bindings are refused, and where.
+/// Says why a schema or its bindings are refused, and where.
 #[repr(C)]
 #[derive(Drop)]
 pub struct SchemaFault {
@@ -21,7 +21,7 @@ pub struct SchemaFault {
     pub in_bindings: u32,
 }
 
-/// How many elements the buffers of `rz_loaders` have to hold.
+/// Says how many elements the buffers of `rz_loaders` have to hold.
 #[repr(C)]
 #[derive(Drop)]
 pub struct LoaderSizes {
@@ -39,7 +39,7 @@ fn fault_of(place: FaultPlace) -> SchemaFault {
 }
 
 // The server of two texts. What is wrong with them goes to `fault`.
-fn opened(
+fn server_object(
     alloc: Global,
     schema: &[u8],
     bindings: &[u8],
@@ -59,6 +59,11 @@ fn opened(
 }
 
 /// Reads a schema and its bindings. The handle then holds their server.
+///
+/// # Promise
+///
+/// The server that the texts say; the same server; a client that knows nothing, within its limits. Refused, the
+/// handle holds what it held
 #[unsafe(no_mangle)]
 pub extern "C" fn rz_open(
     alloc: Global,
@@ -69,12 +74,12 @@ pub extern "C" fn rz_open(
 ) -> i32
     ensures { Opens schema.now bindings.now server.old.held server.new.held result }
 {
-    let opened = opened(alloc, schema, bindings, fault);
+    let opened = server_object(alloc, schema, bindings, fault);
     code_of(server.put_made(alloc, opened))
 }
 
 // The server of a handle once more.
-fn shared(alloc: Global, server: &mut Handle) -> Result<Object, Fault>
+fn shared_server_object(alloc: Global, server: &mut Handle) -> Result<Object, Fault>
     ensures shared { IsMadeOf Shares server.old.held result }
     ensures kept { server.new.held ≡ server.old.held }
 {
@@ -87,12 +92,17 @@ fn shared(alloc: Global, server: &mut Handle) -> Result<Object, Fault>
 }
 
 /// Holds the same server in another handle too.
+///
+/// # Promise
+///
+/// The server that the texts say; the same server; a client that knows nothing, within its limits. Refused, the
+/// handle holds what it held
 #[unsafe(no_mangle)]
 pub extern "C" fn rz_share(alloc: Global, server: &mut Handle, other: &mut Handle) -> i32
     ensures shared { Gives Shares server.old.held other.old.held other.new.held result }
     ensures kept { server.new.held ≡ server.old.held }
 {
-    let shared = shared(alloc, server);
+    let shared = shared_server_object(alloc, server);
     code_of(other.put_made(alloc, shared))
 }
 
@@ -118,7 +128,12 @@ fn tell_sizes(alloc: Global, object: &Object, sizes: &mut LoaderSizes) -> Result
     }
 }
 
-/// How many elements the buffers of `rz_loaders` have to hold.
+/// Returns how many elements the buffers of `rz_loaders` have to hold.
+///
+/// # Promise
+///
+/// Where it gives 0, it tells how much there is to copy (`TellsSizes`, `TellsLoadSizes`, `TellsLoaderSizes`,
+/// `TellsLogSizes`)
 #[unsafe(no_mangle)]
 pub extern "C" fn rz_loaders_sizes(
     alloc: Global,
@@ -152,6 +167,11 @@ fn copy_loaders(
 }
 
 /// Copies the loaders of the bindings.
+///
+/// # Promise
+///
+/// Where it gives 0, what the buffers say are the loaders of the bindings, or the batches of the loader's log
+/// (`CopiesLoaders`, `CopiesLog`)
 #[unsafe(no_mangle)]
 pub extern "C" fn rz_loaders(
     alloc: Global,
@@ -160,7 +180,8 @@ pub extern "C" fn rz_loaders(
     ends: &mut [u32],
     bytes: &mut [u8],
 ) -> i32
-    ensures copied { CopiesOfServer (CopiesLoaders kinds.new (cut bytes.new 0 ends.new)) server.old.held result }
+    ensures copied { CopiesOfServer
+        (CopiesLoaders kinds.new (cut bytes.new 0 ends.new)) server.old.held result }
     ensures kept { server.new.held ≡ server.old.held }
 {
     let Some(object) = server.take(alloc) else {

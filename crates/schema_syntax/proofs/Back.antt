@@ -54,7 +54,7 @@ accepts_implements : (s : SchemaWord) → implements_verdict s ≡ Accepts → s
 accepts_implements word.Implements e = refl
 accepts_implements _ e = absurd (cc)
 
--- what was taken was accepted
+-- a token that was taken was accepted
 accepted : (v : Verdict) (symbols stack : List Symbol) (skipped : Shift) (tokens : List Token) → Shifted (moved (on_verdict v symbols) stack skipped) tokens → (v ≡ Accepts) × Means (symbols ++ stack) tokens
 accepted Accepts symbols stack skipped tokens h = (refl, h)
 accepted Rejects symbols stack skipped tokens h = absurd h

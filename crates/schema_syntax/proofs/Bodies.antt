@@ -1,4 +1,4 @@
--- What each step of reading a definition gives.
+-- Lemmas on what each step of reading a definition gives.
 use Rattle.std.proofs.Common.{◌≡◌, ℕ, ◌<◌, ◌≤◌, Bool, true, false, List, [], ◌∷◌, ◌++◌, length, Ok, refl, sym, ap, subst, ◌∙◌, arith}
 use Rattle.std.proofs.lemmas.List.{append-nil}
 use Rattle.text_place.specs.declared.place.Place.{Place}

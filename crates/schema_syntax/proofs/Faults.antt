@@ -1,4 +1,4 @@
--- Where the machine stops there is the first fault.
+-- Lemmas on where the machine stops there is the first fault.
 use Rattle.std.specs.Prelude.{not, if◌then◌else◌}
 use Rattle.std.proofs.Common.{◌≡◌, ℕ, zero, suc, Bool, true, false, List, [], ◌∷◌, ◌++◌, Option, Some, None, refl, sym, ap, subst, ◌∙◌, ◌⊎◌, inl, inr}
 use Rattle.std.proofs.lemmas.List.{append-nil}
@@ -9,8 +9,8 @@ use Rattle.gq_parser.specs.Word.{Word, Punct, Name, Token, at, place_of_next}
 use Rattle.gq_parser.specs.Fault.{Bracket, Opening, Closing, Neither, bracket, IsShallow}
 use Rattle.schema_syntax.specs.declared.word.SchemaWord.{SchemaWord}
 use Rattle.schema_syntax.specs.declared.word.SchemaWord.TheVariants as word
-use Rattle.schema_syntax.specs.declared.fault.Stop.{Stop}
-use Rattle.schema_syntax.specs.declared.fault.Stop.TheVariants.{Unexpected, NotServed, NoMemory}
+use Rattle.schema_syntax.specs.declared.fault.TokenFault.{TokenFault}
+use Rattle.schema_syntax.specs.declared.fault.TokenFault.TheVariants.{Unexpected, NotServed, NoMemory}
 use Rattle.schema_syntax.specs.Word.{word_of}
 use Rattle.schema_syntax.specs.Fault.{IsUnservedWord, definition, operation, implements, float, EndsIn, IsUnserved, directive, a_word, list, PartsDirective}
 use Rattle.schema_syntax.specs.Machine.{Symbol, A, AColon, AnEquals, ABracket, AParenthesis, AName, ATypeName, AnItem, AnEnumName, AText, ADeprecated, AReason, AQuery, ARootEnd}
@@ -41,12 +41,12 @@ pub record FirstItem (stack : List Symbol) (good bad : List Token) : Type 0 wher
   pub is : bad ≡ at place (Punct BracketLeft) ∷ rest
   pub never : Comes stack [] (at place (Punct BracketLeft) ∷ []) → ⊥
 
-abbrev pub Why : ℕ → List Symbol → List Token → List Token → Stop → Type 0
+abbrev pub Why : ℕ → List Symbol → List Token → List Token → TokenFault → Type 0
 Why room stack good bad (Unexpected place) = (place_of_next bad ≡ place) × RefusedAt room stack good bad × ServedAt stack good bad
 Why room stack good bad (NotServed place) = (place_of_next bad ≡ Some place) × (IsUnserved (Comes stack good) good bad ⊎ FirstItem stack good bad)
 Why room stack good bad NoMemory = ⊥
 
-pub record StopsAt (room : ℕ) (stack : List Symbol) (tokens : List Token) (stop : Stop) : Type 0 where
+pub record StopsAt (room : ℕ) (stack : List Symbol) (tokens : List Token) (stop : TokenFault) : Type 0 where
   pub good : List Token
   pub bad : List Token
   pub whole : tokens ≡ good ++ bad
@@ -55,7 +55,7 @@ pub record StopsAt (room : ℕ) (stack : List Symbol) (tokens : List Token) (sto
   pub together : PartsDirective good bad → ⊥
   pub why : Why room stack good bad stop
 
-abbrev pub Ends : ℕ → List Symbol → List Token → Option Stop → Type 0
+abbrev pub Ends : ℕ → List Symbol → List Token → Option TokenFault → Type 0
 Ends room stack tokens None = IsShallow room tokens
 Ends room stack tokens (Some stop) = StopsAt room stack tokens stop
 
@@ -215,7 +215,7 @@ module _ (stack next : List Symbol) (p : Place) (w : Word) (e : shift stack w �
         rw (f.none, f.is) u
   ]
 
-  why_later : (room r : ℕ) (good bad : List Token) (stop : Stop) → Lawful stack → ((more : List Token) → IsShallow room (at p w ∷ more) → IsShallow r more) → Why r next good bad stop → Why room stack (at p w ∷ good) bad stop
+  why_later : (room r : ℕ) (good bad : List Token) (stop : TokenFault) → Lawful stack → ((more : List Token) → IsShallow room (at p w ∷ more) → IsShallow r more) → Why r next good bad stop → Why room stack (at p w ∷ good) bad stop
   why_later room r good [] (Unexpected place) lawful shallow y = (y.0, λ m. y.1 (came good e m), served_later good [] y.2)
   why_later room r good (t ∷ bad) (Unexpected place) lawful shallow y = (
     y.0,
@@ -226,7 +226,7 @@ module _ (stack next : List Symbol) (p : Place) (w : Word) (e : shift stack w �
   why_later room r good bad NoMemory lawful shallow y = y
 
 -- a name can't be where a reading stops, if it can come
-name_stops : (room : ℕ) (stack : List Symbol) (q : Place) (k : Keyword) (n : List ℕ) (rest : List Token) (stop : Stop) → Comes stack [] (at q (Name k n) ∷ []) → Why room stack [] (at q (Name k n) ∷ rest) stop → ⊥
+name_stops : (room : ℕ) (stack : List Symbol) (q : Place) (k : Keyword) (n : List ℕ) (rest : List Token) (stop : TokenFault) → Comes stack [] (at q (Name k n) ∷ []) → Why room stack [] (at q (Name k n) ∷ rest) stop → ⊥
 name_stops room stack q k n rest (Unexpected place) c y = elim y.1 [ inl d ↦ d c | inr d ↦ d tt ]
 name_stops room stack q k n rest (NotServed place) c y = elim y.1 [ inl u ↦ unserved_name u | inr f ↦ no_bracket f.is ]
   where
@@ -246,7 +246,7 @@ parts_later p w (t ∷ good) (at q (Name k n) ∷ rest) h g x = g x
 parts_later p w good (at q (Punct y) ∷ rest) h g x = x
 parts_later p w good (at q _ ∷ rest) h g x = x
 
-first_name : (room r : ℕ) (stack next : List Symbol) (p : Place) (w : Word) (tokens : List Token) (stop : Stop) → shift stack w ≡ Shifts next → is_other_directive w tokens ≡ false → (s : StopsAt r next tokens stop)
+first_name : (room r : ℕ) (stack next : List Symbol) (p : Place) (w : Word) (tokens : List Token) (stop : TokenFault) → shift stack w ≡ Shifts next → is_other_directive w tokens ≡ false → (s : StopsAt r next tokens stop)
     → s.good ≡ [] → w ≡ Punct At → (q : Place) (k : Keyword) (n : List ℕ) (rest : List Token) → s.bad ≡ at q (Name k n) ∷ rest → ⊥
 first_name room r stack next p w tokens stop e h s nothing is q k n rest follows =
     let whole : tokens ≡ at q (Name k n) ∷ rest = s.whole ∙ ap (λ g. g ++ s.bad) nothing ∙ follows in
@@ -258,7 +258,7 @@ first_name room r stack next p w tokens stop e h s nothing is q k n rest follows
 lawful_next : (stack next : List Symbol) (w : Word) → Lawful stack → shift stack w ≡ Shifts next → Lawful next
 lawful_next stack next w lawful e = elim (keeps stack next w lawful e) [ inl plain ↦ plain_lawful next plain | inr x ↦ x.1 ]
 
-later : (o : Option Stop) (room r : ℕ) (stack next : List Symbol) (p : Place) (w : Word) (tokens : List Token) → Lawful stack → StepIs room stack p w tokens (Goes r next) → Ends r next tokens o → Ends room stack (at p w ∷ tokens) o
+later : (o : Option TokenFault) (room r : ℕ) (stack next : List Symbol) (p : Place) (w : Word) (tokens : List Token) → Lawful stack → StepIs room stack p w tokens (Goes r next) → Ends r next tokens o → Ends room stack (at p w ∷ tokens) o
 later None room r stack next p w tokens lawful c s = c.2 tokens s
 later (Some stop) room r stack next p w tokens lawful c s = record {
   good = at p w ∷ s.good;
@@ -279,7 +279,7 @@ nothing_parted (at q (Name k n) ∷ rest) x = x
 nothing_parted (at q (Punct y) ∷ rest) x = x
 nothing_parted (at q _ ∷ rest) x = x
 
-at_once : (room : ℕ) (stack : List Symbol) (tokens : List Token) (stop : Stop) → Why room stack [] tokens stop → StopsAt room stack tokens stop
+at_once : (room : ℕ) (stack : List Symbol) (tokens : List Token) (stop : TokenFault) → Why room stack [] tokens stop → StopsAt room stack tokens stop
 at_once room stack tokens stop y =
     let m = meets stack in
     record { good = []; bad = tokens; whole = refl; viable = record { more = m.tokens; spelled = m.spelled; means = m.means }; shallow = tt; together = nothing_parted tokens; why = y }
@@ -336,7 +336,7 @@ sinks_why room stack next p w tokens e is deep = (refl, inr (λ h. deep [] h), r
 -- ---- all tokens
 
 ends_step : (s : Step) (room : ℕ) (stack : List Symbol) (p : Place) (w : Word) (tokens : List Token) → Lawful stack → StepIs room stack p w tokens s → ((r : ℕ) (next : List Symbol) → Lawful next → Ends r next tokens (read r next tokens))
-    → Ends room stack (at p w ∷ tokens) (elim s as (λ x. Option Stop) [ Goes r next ↦ read r next tokens | Stops ↦ Some (refused (at p w ∷ tokens)) | Forbids ↦ Some (NotServed p) | Sinks ↦ Some (Unexpected (Some p)) ])
+    → Ends room stack (at p w ∷ tokens) (elim s as (λ x. Option TokenFault) [ Goes r next ↦ read r next tokens | Stops ↦ Some (refused (at p w ∷ tokens)) | Forbids ↦ Some (NotServed p) | Sinks ↦ Some (Unexpected (Some p)) ])
 ends_step (Goes r next) room stack p w tokens lawful c all = later (read r next tokens) room r stack next p w tokens lawful c (all r next (lawful_next stack next w lawful c.0))
 ends_step Stops room stack p w tokens lawful c all = at_once room stack (at p w ∷ tokens) (refused (at p w ∷ tokens)) (stops_why room stack p w tokens c)
 ends_step Forbids room stack p w tokens lawful (inl e) all = at_once room stack (at p w ∷ tokens) (NotServed p) (denied_why room stack p w tokens lawful e)
@@ -357,7 +357,7 @@ at_end_is (_ ∷ stack) = inr refl
 none_left : (stack : List Symbol) → IsUnserved (Comes stack []) [] [] → ⊥
 none_left stack u = elim u [ ]
 
-not_done : {stop : Stop} → None ≡ Some stop → ⊥
+not_done : {stop : TokenFault} → None ≡ Some stop → ⊥
 not_done e = cc
 
 at_end_ends : (room : ℕ) (stack : List Symbol) → Ends room stack [] (at_end stack)
@@ -373,14 +373,14 @@ read_ends room stack (at p w ∷ tokens) lawful = ends_step (step room stack w t
 
 done_step : (s : Step) (room : ℕ) (stack : List Symbol) (p : Place) (w : Word) (tokens : List Token) → StepIs room stack p w tokens s → Means stack (at p w ∷ tokens) → IsShallow room (at p w ∷ tokens)
     → ((r : ℕ) (next : List Symbol) → Means next tokens → IsShallow r tokens → read r next tokens ≡ None)
-    → elim s as (λ x. Option Stop) [ Goes r next ↦ read r next tokens | Stops ↦ Some (refused (at p w ∷ tokens)) | Forbids ↦ Some (NotServed p) | Sinks ↦ Some (Unexpected (Some p)) ] ≡ None
+    → elim s as (λ x. Option TokenFault) [ Goes r next ↦ read r next tokens | Stops ↦ Some (refused (at p w ∷ tokens)) | Forbids ↦ Some (NotServed p) | Sinks ↦ Some (Unexpected (Some p)) ] ≡ None
 done_step (Goes r next) room stack p w tokens c h shallow all = all r next (came tokens c.0 h) (c.3 tokens shallow)
 done_step Stops room stack p w tokens c h shallow all = absurd (subst (λ o. Shifted o tokens) c (shifts h))
 done_step Forbids room stack p w tokens (inl e) h shallow all = absurd (subst (λ o. Shifted o tokens) e (shifts h))
 done_step Forbids room stack p w tokens (inr x) h shallow all = absurd (directive_never stack p w tokens x.2 [] (rw append-nil h) x.0 x.1)
 done_step Sinks room stack p w tokens c h shallow all = absurd (c.3 tokens shallow)
 
--- what comes whole is read to its end, where it is shallow
+-- tokens that come whole are read to their end, where they are shallow
 pub read_done : (room : ℕ) (stack : List Symbol) (tokens : List Token) → Means stack tokens → IsShallow room tokens → read room stack tokens ≡ None
 read_done room stack [] h shallow = at_end_done h
 read_done room stack (at p w ∷ tokens) h shallow = done_step (step room stack w tokens) room stack p w tokens (step_is room stack p w tokens) h shallow (λ r next. read_done r next tokens)

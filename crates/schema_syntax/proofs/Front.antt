@@ -1,7 +1,7 @@
 -- A list that is read up to the bracket that closes it.
 use Rattle.std.proofs.Common.{◌≡◌, ℕ, ◌<◌, List, ◌++◌, length, false, sym, ap, subst, ◌∙◌, arith}
 use Rattle.gq_parser.specs.Word.{Word, Token}
-use Rattle.schema_syntax.specs.declared.fault.Stop as rust
+use Rattle.schema_syntax.specs.declared.fault.TokenFault as rust
 use Rattle.schema_syntax.specs.Machine.{Symbol, read}
 use Rattle.schema_syntax.specs.Parsing.{Fails, Eats, IsNotNext, IsFront}
 use Rattle.schema_syntax.proofs.Steps.{fails_earlier}
@@ -24,7 +24,7 @@ module _ {T W : Type 0} (AreRest : T → List Token → List Token → Type 0) (
   }
 
   -- an item that is none
-  pub front_fails : (mid : List Token) (closer : Word) (e : rust.Stop)
+  pub front_fails : (mid : List Token) (closer : Word) (e : rust.TokenFault)
       → IsFront AreRest AreWhole join room symbols room_now more before now
       → Eats closer now mid false
       → (IsNotNext closer mid → (stack : List Symbol) → Fails e (read room_now (more ++ stack) mid))

@@ -1,4 +1,4 @@
--- What each step of reading fields, arguments and values of enums gives.
+-- Lemmas on what each step of reading fields, arguments and values of enums gives.
 use Rattle.std.proofs.Common.{◌≡◌, ℕ, ◌<◌, Bool, true, false, List, [], ◌∷◌, ◌++◌, length, Ok, Option, Some, None, refl, sym, ap, subst, ◌∙◌, arith}
 use Rattle.std.proofs.lemmas.List.{append-nil}
 use Rattle.text_place.specs.declared.place.Place.{Place}

@@ -1,4 +1,5 @@
--- What may come where a list of symbols is expected, and that a token changes it as the machine says.
+-- Lemmas on what may come where a list of symbols is expected, and that a token changes it as the machine
+-- says.
 use Rattle.std.proofs.Common.{◌≡◌, ◌≢◌, ℕ, Bool, true, false, List, [], ◌∷◌, ◌++◌, Option, refl, ap}
 use Rattle.text_place.specs.declared.place.Place.{Place}
 use Rattle.gq_lexer.specs.declared.token.Punct.TheVariants.{Bang, ParenLeft, ParenRight, Colon, Equals, At, BracketLeft, BracketRight, BraceLeft, BraceRight, Pipe}
@@ -85,7 +86,7 @@ Starts (at p (Punct ParenRight) ∷ rest) = Unit {0}
 Starts (at p (Punct BraceRight) ∷ rest) = Unit {0}
 Starts (at p _ ∷ rest) = ⊥
 
--- what does not come there
+-- says what does not come there
 pub record IsNoStart (tokens : List Token) : Type 0 where
   pub no_bang : IsNotNext (Punct Bang) tokens
   pub no_at : IsNotNext (Punct At) tokens

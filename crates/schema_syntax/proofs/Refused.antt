@@ -1,4 +1,4 @@
--- Where the machine refuses a word, that word is none of those that aren't served.
+-- No word that the machine refuses is one of those that aren't served.
 use Rattle.std.specs.Prelude.{codes}
 use Rattle.std.proofs.Common.{◌≡◌, ℕ, true, List, [], ◌∷◌, ◌++◌, refl, sym, ap, ◌∙◌, inl, inr}
 use Rattle.text_place.specs.declared.place.Place.{Place}
@@ -38,7 +38,7 @@ verdict_fails Accepts symbols stack skipped skipped' tokens r m = cc
 verdict_fails Rejects symbols stack skipped skipped' tokens r m = m
 verdict_fails Bars symbols stack skipped skipped' tokens r m = m
 
--- where `type` can come, no unserved word is refused
+-- no unserved word is refused where `type` can come
 definition_refused : (stack : List Symbol) (k : Keyword) (n : List ℕ) (tokens : List Token) → word_of n ≡ word.Unserved → shift stack (Name k n) ≡ Refused → Shifted (shift stack (Name k (codes "type"))) tokens → ⊥
 definition_refused [] k n tokens e r m = body_refused (word_of n) [] Refused e r
 definition_refused (A AColon ∷ stack) k n tokens e r m = m
@@ -72,7 +72,7 @@ definition_refused (MaybePipe ∷ stack) k n tokens e r m = definition_refused s
 definition_refused (MoreMembers ∷ stack) k n tokens e r m = definition_refused stack k n tokens e r m
 definition_refused (_ ∷ stack) k n tokens e r m = m
 
--- where another name can come, `Float` is not refused
+-- `Float` is not refused where another name can come
 float_refused : (stack : List Symbol) (k : Keyword) (n : List ℕ) (tokens : List Token) → word_of n ≡ word.Float → shift stack (Name k n) ≡ Refused → Shifted (shift stack (Name k (a))) tokens → ⊥
 float_refused [] k n tokens e r m = m
 float_refused (A AColon ∷ stack) k n tokens e r m = m
@@ -106,7 +106,7 @@ float_refused (MaybePipe ∷ stack) k n tokens e r m = float_refused stack k n t
 float_refused (MoreMembers ∷ stack) k n tokens e r m = float_refused stack k n tokens e r m
 float_refused (_ ∷ stack) k n tokens e r m = m
 
--- how `mutation` and `subscription` are judged
+-- says how `mutation` and `subscription` are judged
 record IsOther (k : Keyword) : Type 0 where
   pub enum_name : enum_name_verdict k ≡ Accepts
   pub query : query_verdict k ≡ Bars
@@ -123,7 +123,7 @@ accepted_refused v symbols stack skipped e r = let q : Shifts (symbols ++ stack)
 barred_refused : (v : Verdict) (symbols stack : List Symbol) (skipped : Shift) → v ≡ Bars → moved (on_verdict v symbols) stack skipped ≡ Refused → ⊥
 barred_refused v symbols stack skipped e r = let q : Denied ≡ Refused = verdict_refused v Bars symbols stack skipped e r in cc
 
--- where `query` or a closing brace can come, `mutation` and `subscription` are not refused
+-- `mutation` and `subscription` are not refused where `query` or a closing brace can come
 query_refused : (stack : List Symbol) (k : Keyword) (n : List ℕ) (tokens : List Token) → IsOther k → shift stack (Name k n) ≡ Refused → Shifted (shift stack (Name Query (codes "query"))) tokens → ⊥
 query_refused [] k n tokens h r m = m
 query_refused (A AColon ∷ stack) k n tokens h r m = m
@@ -190,7 +190,7 @@ brace_refused (MaybePipe ∷ stack) k n tokens h r m = brace_refused stack k n t
 brace_refused (MoreMembers ∷ stack) k n tokens h r m = brace_refused stack k n tokens h r m
 brace_refused (_ ∷ stack) k n tokens h r m = m
 
--- where fields in braces can come, and no `&`, `implements` is not refused
+-- `implements` is not refused where fields in braces can come, and no `&`
 abbrev fields_next : Place → List Token
 fields_next p = at p (Punct BraceLeft) ∷ at p (Name Other a) ∷ at p (Punct Colon) ∷ []
 
@@ -233,7 +233,7 @@ refused_served stack p w r (operation {k = k} {n = n} h (inr c)) = brace_refused
 refused_served stack p w r (implements {k = k} {n = n} e c d) = implements_never stack p k n e r c d
 refused_served stack p w r (float {k = k} {n = n} e c) = float_refused stack k n c.more e r (shifts c.means)
 
--- what another `[` does behind a token
+-- gives what another `[` does behind a token
 abbrev after_bracket : Shift → Shift
 after_bracket (Shifts next) = shift next (Punct BracketLeft)
 after_bracket o = o

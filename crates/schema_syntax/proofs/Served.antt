@@ -1,4 +1,4 @@
--- Where the machine denies a word, that word is one of those that aren't served; and where it refuses one, it is none of them.
+-- Words that the machine denies are some of those that aren't served, and words that it refuses are none of them.
 use Rattle.std.specs.Prelude.{codes}
 use Rattle.std.proofs.Common.{◌≡◌, ◌≢◌, ℕ, Bool, true, false, List, [], ◌∷◌, ◌++◌, refl, sym, ap, subst, ◌∙◌, ◌⊎◌, inl, inr}
 use Rattle.text_place.specs.declared.place.Place.{Place}
@@ -37,7 +37,7 @@ denied_comes stack p w rest e c = subst (λ o. Shifted o (rest ++ c.more)) e (sh
 
 -- ---- symbols that are passed over
 
--- what is passed over does not matter
+-- a symbol that is passed over does not matter
 pub comes_behind : (s : Symbol) (stack : List Symbol) (p : Place) (w : Word) (rest : List Token) → move s w ≡ Skips → Comes (s ∷ stack) [] (at p w ∷ rest) → Comes stack [] (at p w ∷ rest)
 comes_behind s stack p w rest e c =
     let same : shift (s ∷ stack) w ≡ shift stack w = ap (λ m. moved m stack (shift stack w)) e in
@@ -48,7 +48,7 @@ comes_before s stack p w rest e c =
     let same : shift (s ∷ stack) w ≡ shift stack w = ap (λ m. moved m stack (shift stack w)) e in
     record { more = c.more; spelled = c.spelled; means = shifts_back (s ∷ stack) p w (rest ++ c.more) (subst (λ o. Shifted o (rest ++ c.more)) (sym same) (shifts c.means)) }
 
--- what passes over the words that are asked about
+-- says what passes over the words that are asked about
 pub record IsPassed (s : Symbol) : Type 0 where
   pub names : (k : Keyword) (n : List ℕ) → move s (Name k n) ≡ Skips
   pub opens : move s (Punct BraceLeft) ≡ Skips
@@ -171,7 +171,7 @@ plain_top (Text s) = tt
 plain_top (Name k n) = plain_body (word_of n)
 plain_top _ = tt
 
--- what is expected after a token that goes on
+-- the symbols that are expected after a token that goes on
 plain_moved : (m : Move) (stack next : List Symbol) (skipped : Shift) → PlainMove m → Plain stack → (skipped ≡ Shifts next → Plain next) → moved m stack skipped ≡ Shifts next → Plain next
 plain_moved (Takes symbols) stack next skipped h h' later e = subst Plain (taken e) (plain_joined symbols stack h h')
   where
@@ -276,7 +276,7 @@ end_denied : (b : Bool) → end_verdict b ≡ Bars → ⊥
 end_denied true e = cc
 end_denied false e = cc
 
--- which verdict denies
+-- the verdict that denies
 barred : (v : Verdict) (symbols stack : List Symbol) (skipped : Shift) → moved (on_verdict v symbols) stack skipped ≡ Denied → v ≡ Bars
 barred Accepts symbols stack skipped e = absurd (cc)
 barred Rejects symbols stack skipped e = absurd (cc)

@@ -1,4 +1,4 @@
--- What each step of a method gives.
+-- Lemmas on what each step of a method gives.
 use Rattle.std.proofs.Common.{◌≡◌, ◌≢◌, ℕ, suc, Bool, true, false, List, [], ◌∷◌, ◌++◌, Result, Ok, Err, Option, Some, None, refl, sym, ap, subst, ◌∙◌}
 use Rattle.std.specs.Global.{Global}
 use Rattle.std.specs.Prelude.{string_bytes, not, if◌then◌else◌}
@@ -14,8 +14,8 @@ use Rattle.gq_parser.specs.declared.tree.TypeRef.TheOpen as open-type
 use Rattle.gq_parser.specs.Word.{Word, Punct, Name, Text, Token, at}
 use Rattle.gq_parser.specs.Tree.{TypeTree, Named, ListOf, type_of, type_step}
 use Rattle.gq_parser.specs.Grammar.{IsBang, no_bang, bang, IsType, named, list_of}
-use Rattle.schema_syntax.specs.declared.fault.Stop.{Stop}
-use Rattle.schema_syntax.specs.declared.fault.Stop.TheVariants.{Unexpected, NotServed}
+use Rattle.schema_syntax.specs.declared.fault.TokenFault.{TokenFault}
+use Rattle.schema_syntax.specs.declared.fault.TokenFault.TheVariants.{Unexpected, NotServed}
 use Rattle.schema_syntax.specs.declared.word.SchemaWord.{SchemaWord}
 use Rattle.schema_syntax.specs.declared.word.SchemaWord.TheVariants as word
 use Rattle.schema_syntax.specs.Word.{word_of, IsServedName}
@@ -25,17 +25,17 @@ use Rattle.schema_syntax.specs.Machine.{Symbol, RootBody, ObjectBody, InterfaceB
 use Rattle.schema_syntax.specs.Parsing.{Reads, Fails, Eats, Expects, IsNotNext, IsTaken, IsTextTaken, IsNoName, IsTypeRead, IsNamed}
 
 -- a fault is the same fault earlier, where the reading is the same
-pub fails_earlier : (e : Stop) (o o' : Option Stop) → o ≡ o' → Fails e o' → Fails e o
+pub fails_earlier : (e : TokenFault) (o o' : Option TokenFault) → o ≡ o' → Fails e o' → Fails e o
 fails_earlier e o o' same h = subst (λ x. Fails e x) (sym same) h
 
--- what is read here is read from earlier on
-pub reads_from : {T : Type 0} (P Q : T → List Token → List Token → Type 0) (room r1 r2 : ℕ) (s0 s1 s2 : List Symbol) (before mid after : List Token) (res : Result T Stop)
+-- a tree that is read here is read from earlier on, too
+pub reads_from : {T : Type 0} (P Q : T → List Token → List Token → Type 0) (room r1 r2 : ℕ) (s0 s1 s2 : List Symbol) (before mid after : List Token) (res : Result T TokenFault)
     → ((stack : List Symbol) → read room (s0 ++ stack) before ≡ read r1 (s1 ++ stack) mid) → ((t : T) → P t mid after → Q t before after) → Reads P r1 s1 r2 s2 mid after res → Reads Q room s0 r2 s2 before after res
 reads_from P Q room r1 r2 s0 s1 s2 before mid after (Ok t) e f h = (f t h.0, λ stack. e stack ∙ h.1 stack)
 reads_from P Q room r1 r2 s0 s1 s2 before mid after (Err x) e f h = λ stack. fails_earlier x _ _ (e stack) (h stack)
 
--- the same where nothing was taken in between
-pub reads_at : {T : Type 0} (P : T → List Token → List Token → Type 0) (room r1 r2 : ℕ) (s0 s1 s2 : List Symbol) (before mid after : List Token) (res : Result T Stop)
+-- shows the same where nothing was taken in between
+pub reads_at : {T : Type 0} (P : T → List Token → List Token → Type 0) (room r1 r2 : ℕ) (s0 s1 s2 : List Symbol) (before mid after : List Token) (res : Result T TokenFault)
     → mid ≡ before → ((stack : List Symbol) → read room (s0 ++ stack) before ≡ read r1 (s1 ++ stack) before) → Reads P r1 s1 r2 s2 mid after res → Reads P room s0 r2 s2 before after res
 reads_at P room r1 r2 s0 s1 s2 before mid after res e f h = reads_from P P room r1 r2 s0 s1 s2 before mid after res (λ stack. f stack ∙ ap (read r1 (s1 ++ stack)) (sym e)) (λ t x. subst (λ b. P t b after) e x) h
 
@@ -121,7 +121,7 @@ type_comes room (at p _ ∷ tokens) stack h = refl
 pub list_opens : (room : ℕ) (p : Place) (before mid : List Token) (stack : List Symbol) → before ≡ at p (Punct BracketLeft) ∷ mid → read (suc room) (AType ∷ stack) before ≡ read room (A AnItem ∷ MaybeBang ∷ A ABracket ∷ MaybeBang ∷ stack) mid
 list_opens room p before mid stack e = rw e refl
 
-refused_is : (tokens : List Token) (o : Option Stop) (stop : Stop) → stop ≡ refused tokens → o ≡ Some (refused tokens) → Fails stop o
+refused_is : (tokens : List Token) (o : Option TokenFault) (stop : TokenFault) → stop ≡ refused tokens → o ≡ Some (refused tokens) → Fails stop o
 refused_is [] o stop e h = rw e h
 refused_is (at p (Punct At) ∷ at q (Name k n) ∷ rest) o stop e h = rw e h
 refused_is (at p (Punct At) ∷ []) o stop e h = rw e h
@@ -131,8 +131,8 @@ refused_is (at p _ ∷ rest) o stop e h = rw e h
 refused_reads : (room : ℕ) (p : Place) (w : Word) (tokens : List Token) (stack : List Symbol) → shift stack w ≡ Refused → read room stack (at p w ∷ tokens) ≡ Some (refused (at p w ∷ tokens))
 refused_reads room p w tokens stack e = rw (e, read) refl
 
--- what can neither come nor end
-pub fails_here : (room : ℕ) (before : List Token) (stop : Stop) (stack : List Symbol) → stop ≡ refused before → at_end stack ≡ Some (Unexpected None) → ((p : Place) (w : Word) (rest : List Token) → before ≡ at p w ∷ rest → shift stack w ≡ Refused) → Fails stop (read room stack before)
+-- a text that can neither go on nor end fails here
+pub fails_here : (room : ℕ) (before : List Token) (stop : TokenFault) (stack : List Symbol) → stop ≡ refused before → at_end stack ≡ Some (Unexpected None) → ((p : Place) (w : Word) (rest : List Token) → before ≡ at p w ∷ rest → shift stack w ≡ Refused) → Fails stop (read room stack before)
 fails_here room [] stop stack e ends f = refused_is [] _ stop e ends
 fails_here room (at p w ∷ rest) stop stack e ends f = refused_is (at p w ∷ rest) _ stop e (refused_reads room p w rest stack (f p w rest refl))
 
@@ -144,42 +144,42 @@ bracket_shift : (w : Word) (stack : List Symbol) → w ≢ Punct BracketRight �
 bracket_shift (Punct BracketRight) stack h = absurd (h refl)
 bracket_shift _ stack h = refl
 
-pub bracket_fails : (room : ℕ) (before : List Token) (stop : Stop) (stack : List Symbol) → (stop ≡ refused before) × IsNotNext (Punct BracketRight) before → Fails stop (read room (A ABracket ∷ stack) before)
+pub bracket_fails : (room : ℕ) (before : List Token) (stop : TokenFault) (stack : List Symbol) → (stop ≡ refused before) × IsNotNext (Punct BracketRight) before → Fails stop (read room (A ABracket ∷ stack) before)
 bracket_fails room before stop stack h = fails_here room before stop (A ABracket ∷ stack) h.0 refl (λ p w rest e. bracket_shift w stack (not_first h.1 e))
 
 colon_shift : (w : Word) (stack : List Symbol) → w ≢ Punct Colon → shift (A AColon ∷ stack) w ≡ Refused
 colon_shift (Punct Colon) stack h = absurd (h refl)
 colon_shift _ stack h = refl
 
-pub colon_fails : (room : ℕ) (before : List Token) (stop : Stop) (stack : List Symbol) → (stop ≡ refused before) × IsNotNext (Punct Colon) before → Fails stop (read room (A AColon ∷ stack) before)
+pub colon_fails : (room : ℕ) (before : List Token) (stop : TokenFault) (stack : List Symbol) → (stop ≡ refused before) × IsNotNext (Punct Colon) before → Fails stop (read room (A AColon ∷ stack) before)
 colon_fails room before stop stack h = fails_here room before stop (A AColon ∷ stack) h.0 refl (λ p w rest e. colon_shift w stack (not_first h.1 e))
 
 equals_shift : (w : Word) (stack : List Symbol) → w ≢ Punct Equals → shift (A AnEquals ∷ stack) w ≡ Refused
 equals_shift (Punct Equals) stack h = absurd (h refl)
 equals_shift _ stack h = refl
 
-pub equals_fails : (room : ℕ) (before : List Token) (stop : Stop) (stack : List Symbol) → (stop ≡ refused before) × IsNotNext (Punct Equals) before → Fails stop (read room (A AnEquals ∷ stack) before)
+pub equals_fails : (room : ℕ) (before : List Token) (stop : TokenFault) (stack : List Symbol) → (stop ≡ refused before) × IsNotNext (Punct Equals) before → Fails stop (read room (A AnEquals ∷ stack) before)
 equals_fails room before stop stack h = fails_here room before stop (A AnEquals ∷ stack) h.0 refl (λ p w rest e. equals_shift w stack (not_first h.1 e))
 
 parenthesis_shift : (w : Word) (stack : List Symbol) → w ≢ Punct ParenRight → shift (A AParenthesis ∷ stack) w ≡ Refused
 parenthesis_shift (Punct ParenRight) stack h = absurd (h refl)
 parenthesis_shift _ stack h = refl
 
-pub parenthesis_fails : (room : ℕ) (before : List Token) (stop : Stop) (stack : List Symbol) → (stop ≡ refused before) × IsNotNext (Punct ParenRight) before → Fails stop (read room (A AParenthesis ∷ stack) before)
+pub parenthesis_fails : (room : ℕ) (before : List Token) (stop : TokenFault) (stack : List Symbol) → (stop ≡ refused before) × IsNotNext (Punct ParenRight) before → Fails stop (read room (A AParenthesis ∷ stack) before)
 parenthesis_fails room before stop stack h = fails_here room before stop (A AParenthesis ∷ stack) h.0 refl (λ p w rest e. parenthesis_shift w stack (not_first h.1 e))
 
 root_shift : (w : Word) (stack : List Symbol) → w ≢ Punct BraceLeft → shift (RootBody ∷ stack) w ≡ Refused
 root_shift (Punct BraceLeft) stack h = absurd (h refl)
 root_shift _ stack h = refl
 
-pub root_fails : (room : ℕ) (before : List Token) (stop : Stop) (stack : List Symbol) → (stop ≡ refused before) × IsNotNext (Punct BraceLeft) before → Fails stop (read room (RootBody ∷ stack) before)
+pub root_fails : (room : ℕ) (before : List Token) (stop : TokenFault) (stack : List Symbol) → (stop ≡ refused before) × IsNotNext (Punct BraceLeft) before → Fails stop (read room (RootBody ∷ stack) before)
 root_fails room before stop stack h = fails_here room before stop (RootBody ∷ stack) h.0 refl (λ p w rest e. root_shift w stack (not_first h.1 e))
 
 enum_shift : (w : Word) (stack : List Symbol) → w ≢ Punct BraceLeft → shift (EnumBody ∷ stack) w ≡ Refused
 enum_shift (Punct BraceLeft) stack h = absurd (h refl)
 enum_shift _ stack h = refl
 
-pub enum_fails : (room : ℕ) (before : List Token) (stop : Stop) (stack : List Symbol) → (stop ≡ refused before) × IsNotNext (Punct BraceLeft) before → Fails stop (read room (EnumBody ∷ stack) before)
+pub enum_fails : (room : ℕ) (before : List Token) (stop : TokenFault) (stack : List Symbol) → (stop ≡ refused before) × IsNotNext (Punct BraceLeft) before → Fails stop (read room (EnumBody ∷ stack) before)
 enum_fails room before stop stack h = fails_here room before stop (EnumBody ∷ stack) h.0 refl (λ p w rest e. enum_shift w stack (not_first h.1 e))
 
 -- a name that is not next
@@ -191,7 +191,7 @@ object_shift p (Punct BraceLeft) rest stack h g = absurd (g refl)
 object_shift p (Name k n) rest stack h g = absurd h
 object_shift p _ rest stack h g = refl
 
-pub object_fails : (room : ℕ) (before : List Token) (stop : Stop) (stack : List Symbol) → IsNoName before → (stop ≡ refused before) × IsNotNext (Punct BraceLeft) before → Fails stop (read room (ObjectBody ∷ stack) before)
+pub object_fails : (room : ℕ) (before : List Token) (stop : TokenFault) (stack : List Symbol) → IsNoName before → (stop ≡ refused before) × IsNotNext (Punct BraceLeft) before → Fails stop (read room (ObjectBody ∷ stack) before)
 object_fails room before stop stack g h = fails_here room before stop (ObjectBody ∷ stack) h.0 refl (λ p w rest e. object_shift p w rest stack (not_name g e) (not_first h.1 e))
 
 interface_shift : (p : Place) (w : Word) (rest : List Token) (stack : List Symbol) → IsNoName (at p w ∷ rest) → w ≢ Punct BraceLeft → shift (InterfaceBody ∷ stack) w ≡ Refused
@@ -199,7 +199,7 @@ interface_shift p (Punct BraceLeft) rest stack h g = absurd (g refl)
 interface_shift p (Name k n) rest stack h g = absurd h
 interface_shift p _ rest stack h g = refl
 
-pub interface_fails : (room : ℕ) (before : List Token) (stop : Stop) (stack : List Symbol) → IsNoName before → (stop ≡ refused before) × IsNotNext (Punct BraceLeft) before → Fails stop (read room (InterfaceBody ∷ stack) before)
+pub interface_fails : (room : ℕ) (before : List Token) (stop : TokenFault) (stack : List Symbol) → IsNoName before → (stop ≡ refused before) × IsNotNext (Punct BraceLeft) before → Fails stop (read room (InterfaceBody ∷ stack) before)
 interface_fails room before stop stack g h = fails_here room before stop (InterfaceBody ∷ stack) h.0 refl (λ p w rest e. interface_shift p w rest stack (not_name g e) (not_first h.1 e))
 
 root_end_shift : (p : Place) (w : Word) (rest : List Token) (stack : List Symbol) → IsNoName (at p w ∷ rest) → w ≢ Punct BraceRight → shift (A ARootEnd ∷ stack) w ≡ Refused
@@ -207,7 +207,7 @@ root_end_shift p (Punct BraceRight) rest stack h g = absurd (g refl)
 root_end_shift p (Name k n) rest stack h g = absurd h
 root_end_shift p _ rest stack h g = refl
 
-pub root_end_fails : (room : ℕ) (before : List Token) (stop : Stop) (stack : List Symbol) → IsNoName before → (stop ≡ refused before) × IsNotNext (Punct BraceRight) before → Fails stop (read room (A ARootEnd ∷ stack) before)
+pub root_end_fails : (room : ℕ) (before : List Token) (stop : TokenFault) (stack : List Symbol) → IsNoName before → (stop ≡ refused before) × IsNotNext (Punct BraceRight) before → Fails stop (read room (A ARootEnd ∷ stack) before)
 root_end_fails room before stop stack g h = fails_here room before stop (A ARootEnd ∷ stack) h.0 refl (λ p w rest e. root_end_shift p w rest stack (not_name g e) (not_first h.1 e))
 
 more_shift : (w : Word) (stack : List Symbol) → w ≢ Punct Amp → w ≢ Punct BraceLeft → shift (MoreInterfaces ∷ stack) w ≡ Refused
@@ -215,7 +215,7 @@ more_shift (Punct Amp) stack h g = absurd (h refl)
 more_shift (Punct BraceLeft) stack h g = absurd (g refl)
 more_shift _ stack h g = refl
 
-pub more_fails : (room : ℕ) (before : List Token) (stop : Stop) (stack : List Symbol) → IsNotNext (Punct Amp) before → (stop ≡ refused before) × IsNotNext (Punct BraceLeft) before → Fails stop (read room (MoreInterfaces ∷ stack) before)
+pub more_fails : (room : ℕ) (before : List Token) (stop : TokenFault) (stack : List Symbol) → IsNotNext (Punct Amp) before → (stop ≡ refused before) × IsNotNext (Punct BraceLeft) before → Fails stop (read room (MoreInterfaces ∷ stack) before)
 more_fails room before stop stack g h = fails_here room before stop (MoreInterfaces ∷ stack) h.0 refl (λ p w rest e. more_shift w stack (not_first g e) (not_first h.1 e))
 
 list_served : (p : Place) (t : TypeTree) (b : Bool) → IsNamed t → IsServedType t → IsServedType (ListOf p t b)
@@ -265,7 +265,7 @@ reason_opens room q k n before b1 b2 b3 b4 stack o e h c t =
 reason_is : {p q r u v : Place} {k : Keyword} {n s : List ℕ} {before b1 b2 b3 b4 after : List Token} → before ≡ at p (Punct ParenLeft) ∷ b1 → b1 ≡ at q (Name k n) ∷ b2 → word_of n ≡ word.Reason → b2 ≡ at r (Punct Colon) ∷ b3 → b3 ≡ at u (Text s) ∷ b4 → b4 ≡ at v (Punct ParenRight) ∷ after → IsReason before after
 reason_is e e1 h e2 e3 e4 = rw (e, e1, e2, e3, e4) (reason h)
 
-pub reason_read : (room : ℕ) (q : Place) (k : Keyword) (n : List ℕ) (before b1 b2 b3 b4 after : List Token) (res : Result (Unit {0}) Stop) → IsTaken (Punct ParenLeft) before b1 → b1 ≡ at q (Name k n) ∷ b2 → word_of n ≡ word.Reason
+pub reason_read : (room : ℕ) (q : Place) (k : Keyword) (n : List ℕ) (before b1 b2 b3 b4 after : List Token) (res : Result (Unit {0}) TokenFault) → IsTaken (Punct ParenLeft) before b1 → b1 ≡ at q (Name k n) ∷ b2 → word_of n ≡ word.Reason
     → IsTaken (Punct Colon) b2 b3 → IsTextTaken b3 b4 → Expects (Punct ParenRight) b4 after res → Reads (λ _. IsReason) (suc room) (one MaybeReason) (suc room) [] before after res
 reason_read room q k n before b1 b2 b3 b4 after (Ok x) o e h c t closes = (reason_is o.is e h c.is t.is closes.is, λ stack. reason_opens room q k n before b1 b2 b3 b4 stack o e h c t ∙ ap (read room (A AParenthesis ∷ stack)) closes.is)
 reason_read room q k n before b1 b2 b3 b4 after (Err stop) o e h c t closes = λ stack. fails_earlier stop _ _ (reason_opens room q k n before b1 b2 b3 b4 stack o e h c t) (parenthesis_fails room b4 stop stack closes)
@@ -278,7 +278,7 @@ is_directive : (p q : Place) (k : Keyword) (n : List ℕ) (room : ℕ) (stack : 
 is_directive p q k n room stack tokens h = go (word_of n) h
   where
     go : (s : SchemaWord) → s ≡ word.Deprecated
-        → elim (if not (is_deprecated s) then Forbids else Goes room (A ADeprecated ∷ MaybeReason ∷ stack)) as (λ x. Option Stop) [ Goes r next ↦ read r next (at q (Name k n) ∷ tokens) | Stops ↦ Some (refused (at p (Punct At) ∷ at q (Name k n) ∷ tokens)) | Forbids ↦ Some (NotServed p) | Sinks ↦ Some (Unexpected (Some p)) ] ≡ read room (A ADeprecated ∷ MaybeReason ∷ stack) (at q (Name k n) ∷ tokens)
+        → elim (if not (is_deprecated s) then Forbids else Goes room (A ADeprecated ∷ MaybeReason ∷ stack)) as (λ x. Option TokenFault) [ Goes r next ↦ read r next (at q (Name k n) ∷ tokens) | Stops ↦ Some (refused (at p (Punct At) ∷ at q (Name k n) ∷ tokens)) | Forbids ↦ Some (NotServed p) | Sinks ↦ Some (Unexpected (Some p)) ] ≡ read room (A ADeprecated ∷ MaybeReason ∷ stack) (at q (Name k n) ∷ tokens)
     go s e = rw e refl
 
 pub deprecated_opens : (room : ℕ) (p q : Place) (k : Keyword) (n : List ℕ) (before b1 b2 : List Token) (stack : List Symbol) → before ≡ at p (Punct At) ∷ b1 → b1 ≡ at q (Name k n) ∷ b2 → word_of n ≡ word.Deprecated
@@ -289,7 +289,7 @@ deprecated_opens room p q k n before b1 b2 stack o e h =
 deprecated_is : {p q : Place} {k : Keyword} {n : List ℕ} {before b1 b2 after : List Token} → before ≡ at p (Punct At) ∷ b1 → b1 ≡ at q (Name k n) ∷ b2 → word_of n ≡ word.Deprecated → IsReason b2 after → IsDeprecated before after
 deprecated_is e e1 h r = rw (e, e1) (deprecated h r)
 
-pub deprecated_read : (room : ℕ) (p q : Place) (k : Keyword) (n : List ℕ) (before b1 b2 after : List Token) (res : Result (Unit {0}) Stop) → before ≡ at p (Punct At) ∷ b1 → b1 ≡ at q (Name k n) ∷ b2 → word_of n ≡ word.Deprecated
+pub deprecated_read : (room : ℕ) (p q : Place) (k : Keyword) (n : List ℕ) (before b1 b2 after : List Token) (res : Result (Unit {0}) TokenFault) → before ≡ at p (Punct At) ∷ b1 → b1 ≡ at q (Name k n) ∷ b2 → word_of n ≡ word.Deprecated
     → Reads (λ _. IsReason) room (one MaybeReason) room [] b2 after res → Reads (λ _. IsDeprecated) room (one MaybeDeprecated) room [] before after res
 deprecated_read room p q k n before b1 b2 after res o e h = reads_from (λ _. IsReason) (λ _. IsDeprecated) room room room (one MaybeDeprecated) (one MaybeReason) [] before b2 after res (λ stack. deprecated_opens room p q k n before b1 b2 stack o e h) (λ t r. deprecated_is o e h r)
 

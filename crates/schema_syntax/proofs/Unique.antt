@@ -69,7 +69,7 @@ type_one (list_of {p = p} t b) (list_of {non_null = non_null} {after = k} u b') 
     tails : {p q : Place} {xs ys : List Token} → at p (Punct BracketRight) ∷ xs ≡ at q (Punct BracketRight) ∷ ys → xs ≡ ys
     tails e = cc
 
--- what stands behind a token
+-- the tokens behind a token
 tail_is : {p q : Place} {w v : words.Word} {xs ys : List Token} → at p w ∷ xs ≡ at q v ∷ ys → xs ≡ ys
 tail_is e = cc
 

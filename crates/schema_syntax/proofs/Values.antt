@@ -1,4 +1,4 @@
--- What each step of reading a value gives.
+-- Lemmas on what each step of reading a value gives.
 use Rattle.std.proofs.Common.{◌≡◌, ℕ, zero, suc, true, false, List, [], ◌∷◌, Result, Ok, Err, Some, refl, sym, ap, subst, ◌∙◌, arith}
 use Rattle.std.specs.Global.{Vec, Global}
 use Rattle.std.specs.Prelude.{string_bytes}
@@ -22,8 +22,8 @@ use Rattle.gq_parser.specs.declared.tree.Value as rust
 use Rattle.gq_parser.specs.declared.tree.Value.TheViews.{roll-Argument}
 use Rattle.schema_syntax.specs.Tree as tree
 use Rattle.schema_syntax.specs.Grammar.{IsName, a_name}
-use Rattle.schema_syntax.specs.declared.fault.Stop.{Stop}
-use Rattle.schema_syntax.specs.declared.fault.Stop.TheVariants.{Unexpected, NotServed, NoMemory}
+use Rattle.schema_syntax.specs.declared.fault.TokenFault.{TokenFault}
+use Rattle.schema_syntax.specs.declared.fault.TokenFault.TheVariants.{Unexpected, NotServed, NoMemory}
 use Rattle.schema_syntax.specs.Machine.{Symbol, A, AColon, AName, AValue, MoreValues, MoreObjectFields, one, shift, Refused, refused, read}
 use Rattle.schema_syntax.specs.Parsing.{Reads, Fails, IsTaken, IsNotNext, IsNoName, IsNoText, IsNoInt, IsNoFloat, IsNameValue, IsNumberRead, NumberReads, IsMemberRead}
 use Rattle.schema_syntax.proofs.Steps.{fails_here}
@@ -76,18 +76,18 @@ value_shift p (words.Int x) rest stack t n b c m f = absurd m
 value_shift p (words.Float x) rest stack t n b c m f = absurd f
 value_shift p _ rest stack t n b c m f = refl
 
-value_fails : (room : ℕ) (before : List Token) (stop : Stop) (stack : List Symbol) → stop ≡ refused before → IsNoText before → IsNoName before → IsNotNext (Punct BracketLeft) before → IsNotNext (Punct BraceLeft) before → IsNoInt before → IsNoFloat before → Fails stop (read room (AValue ∷ stack) before)
+value_fails : (room : ℕ) (before : List Token) (stop : TokenFault) (stack : List Symbol) → stop ≡ refused before → IsNoText before → IsNoName before → IsNotNext (Punct BracketLeft) before → IsNotNext (Punct BraceLeft) before → IsNoInt before → IsNoFloat before → Fails stop (read room (AValue ∷ stack) before)
 value_fails room before stop stack e t n b c m f =
     fails_here room before stop (AValue ∷ stack) e refl (λ p w rest is. value_shift p w rest stack (subst IsNoText is t) (subst IsNoName is n) (subst (IsNotNext (Punct BracketLeft)) is b) (subst (IsNotNext (Punct BraceLeft)) is c) (subst IsNoInt is m) (subst IsNoFloat is f))
 
-number_reads : (room : ℕ) (before after : List Token) (res : Result Literal Stop) → IsNoText before → IsNoName before → IsNotNext (Punct BracketLeft) before → IsNotNext (Punct BraceLeft) before → NumberReads before after res
+number_reads : (room : ℕ) (before after : List Token) (res : Result Literal TokenFault) → IsNoText before → IsNoName before → IsNotNext (Punct BracketLeft) before → IsNotNext (Punct BraceLeft) before → NumberReads before after res
     → Reads (λ v. IsValue Const (literal_of v)) room (one AValue) room [] before after res
 number_reads room before after (Ok l) t n b c h = (h.is, h.reads room)
 number_reads room before after (Err NoMemory) t n b c h = λ stack. tt
 number_reads room before after (Err (Unexpected p)) t n b c h = λ stack. value_fails room before (Unexpected p) stack h.0 t n b c h.1 h.2
 number_reads room before after (Err (NotServed p)) t n b c h = λ stack. value_fails room before (NotServed p) stack h.0 t n b c h.1 h.2
 
-pub number_value : (room : ℕ) (s0 s1 s2 s3 s4 after : List Token) (res : Result Literal Stop) → (s1 ≡ s0) × IsNoText s0 → (s2 ≡ s1) × IsNoName s1 → (s3 ≡ s2) × IsNotNext (Punct BracketLeft) s2 → (s4 ≡ s3) × IsNotNext (Punct BraceLeft) s3 → NumberReads s4 after res
+pub number_value : (room : ℕ) (s0 s1 s2 s3 s4 after : List Token) (res : Result Literal TokenFault) → (s1 ≡ s0) × IsNoText s0 → (s2 ≡ s1) × IsNoName s1 → (s3 ≡ s2) × IsNotNext (Punct BracketLeft) s2 → (s4 ≡ s3) × IsNotNext (Punct BraceLeft) s3 → NumberReads s4 after res
     → Reads (λ v. IsValue Const (literal_of v)) room (one AValue) room [] s0 after res
 number_value room s0 s1 s2 s3 s4 after res t n b c h =
     let e2 : s2 ≡ s0 = n.0 ∙ t.0 in
@@ -124,7 +124,7 @@ object_value room r p ms s0 s1 s2 s3 mid after e e1 e2 e3 h reads = (
   λ stack. object_opens room r p s0 s1 s2 s3 mid stack e e1 e2 e3 h ∙ reads.1 stack ∙ ap (λ k. read k stack after) (sym h),
 )
 
--- what does not close the list is expected to be an item
+-- a token that does not close the list is expected to be an item
 pub value_comes : (room : ℕ) (tokens : List Token) (stack : List Symbol) → IsNotNext (Punct BracketRight) tokens → read room (MoreValues ∷ stack) tokens ≡ read room (AValue ∷ MoreValues ∷ stack) tokens
 value_comes room [] stack h = refl
 value_comes room (at p (Punct BracketRight) ∷ tokens) stack h = absurd (h refl)

@@ -5,8 +5,8 @@ use Rattle.gq_parser.specs.Word.{Name, Text, Token, at}
 use Rattle.gq_parser.specs.Fault.{IsShallow}
 use Rattle.schema_syntax.specs.declared.word.SchemaWord.{SchemaWord}
 use Rattle.schema_syntax.specs.declared.word.SchemaWord.TheVariants as word
-use Rattle.schema_syntax.specs.declared.fault.Stop.{Stop}
-use Rattle.schema_syntax.specs.declared.fault.Stop.TheVariants.{Unexpected, NotServed, NoMemory}
+use Rattle.schema_syntax.specs.declared.fault.TokenFault.{TokenFault}
+use Rattle.schema_syntax.specs.declared.fault.TokenFault.TheVariants.{Unexpected, NotServed, NoMemory}
 use Rattle.schema_syntax.specs.declared.tree.Definition as rust
 use Rattle.schema_syntax.specs.Word.{word_of}
 use Rattle.schema_syntax.specs.Tree.{Definition, definition_of}
@@ -58,10 +58,10 @@ refused_is : (good bad : List Token) → RefusedAt 128 [] good bad → IsRefused
 refused_is good [] r = λ ds h. r (ends h)
 refused_is good (t ∷ rest) r = elim r [ inl d ↦ inl (λ c. d (comes good _ c)) | inr d ↦ inr d ]
 
-cut : (tokens : List Token) (stop : Stop) (s : StopsAt 128 [] tokens stop) → IsCut tokens s.good s.bad
+cut : (tokens : List Token) (stop : TokenFault) (s : StopsAt 128 [] tokens stop) → IsCut tokens s.good s.bad
 cut tokens stop s = record { whole = s.whole; viable = can_come s.good [] s.viable; shallow = s.shallow; together = s.together }
 
-stops_at : (tokens : List Token) (stop : Stop) → StopsAt 128 [] tokens stop → IsStop tokens stop
+stops_at : (tokens : List Token) (stop : TokenFault) → StopsAt 128 [] tokens stop → IsStop tokens stop
 stops_at tokens (Unexpected place) s = record {
   good = s.good;
   bad = s.bad;
@@ -79,16 +79,16 @@ stops_at tokens (NotServed place) s = record {
 }
 stops_at tokens NoMemory s = tt
 
-pub is_stop : (tokens : List Token) (e : Stop) → Fails e (read 128 [] tokens) → IsStop tokens e
+pub is_stop : (tokens : List Token) (e : TokenFault) → Fails e (read 128 [] tokens) → IsStop tokens e
 is_stop tokens (Unexpected place) e = stops_at tokens (Unexpected place) (subst (Ends 128 [] tokens) e (read_ends 128 [] tokens tt))
 is_stop tokens (NotServed place) e = stops_at tokens (NotServed place) (subst (Ends 128 [] tokens) e (read_ends 128 [] tokens tt))
 is_stop tokens NoMemory e = tt
 
-none_some : {e : Stop} {o : Option Stop} → o ≡ Some e → o ≡ None → ⊥
+none_some : {e : TokenFault} {o : Option TokenFault} → o ≡ Some e → o ≡ None → ⊥
 none_some h g = cc
 
--- what comes whole does not fail
-pub finds_err : (tokens : List Token) (e : Stop) (ds : List Definition) → Fails e (read 128 [] tokens) → IsDocument ds tokens → IsShallow 128 tokens → e ≡ NoMemory
+-- tokens that come whole do not fail
+pub finds_err : (tokens : List Token) (e : TokenFault) (ds : List Definition) → Fails e (read 128 [] tokens) → IsDocument ds tokens → IsShallow 128 tokens → e ≡ NoMemory
 finds_err tokens (Unexpected place) ds e h shallow = absurd (none_some e (read_done 128 [] tokens (ends h) shallow))
 finds_err tokens (NotServed place) ds e h shallow = absurd (none_some e (read_done 128 [] tokens (ends h) shallow))
 finds_err tokens NoMemory ds e h shallow = refl
@@ -134,7 +134,7 @@ front_more before now mid after b xs ys x front some d h is = record {
   reads = front.reads ∙ described now mid b some d ∙ h.1 [];
 }
 
-pub front_fails : (before now mid : List Token) (b : Bool) (xs : List rust.Definition) (e : Stop) → IsDocumentFront 128 (definitions_are xs) before now → 0 < length now → Describes now mid b
+pub front_fails : (before now mid : List Token) (b : Bool) (xs : List rust.Definition) (e : TokenFault) → IsDocumentFront 128 (definitions_are xs) before now → 0 < length now → Describes now mid b
     → ((stack : List Symbol) → Fails e (read 128 (ADefinition ∷ stack) mid)) → Fails e (read 128 [] before)
 front_fails before now mid b xs e front some d h = subst (λ o. Fails e o) (sym (front.reads ∙ described now mid b some d)) (h [])
 

@@ -56,7 +56,8 @@ pub data IsArgument : Argument → List Token → List Token → Type 0 where
 pub data AreArguments : Bool → List Argument → List Token → List Token → Type 0 where
   no_more_arguments : {p : Place} {after : List Token} → AreArguments true [] (at p (Punct ParenRight) ∷ after) after
   next_argument : {none : Bool} {a : Argument} {others : List Argument} {before mid after : List Token}
-      → IsArgument a before mid → AreArguments true others mid after → AreArguments none (a ∷ others) before after
+      → IsArgument a before mid → AreArguments true others mid after
+      → AreArguments none (a ∷ others) before after
 
 -- (`(` ArgDef+ `)`)?
 pub data AreOptionalArguments : List Argument → List Token → List Token → Type 0 where
@@ -73,7 +74,8 @@ pub data IsField : Field → List Token → List Token → Type 0 where
 pub data AreFields : Bool → List Field → List Token → List Token → Type 0 where
   no_more_fields : {p : Place} {after : List Token} → AreFields true [] (at p (Punct BraceRight) ∷ after) after
   next_field : {none : Bool} {f : Field} {others : List Field} {before mid after : List Token}
-      → IsField f before mid → AreFields true others mid after → AreFields none (f ∷ others) before after
+      → IsField f before mid → AreFields true others mid after
+      → AreFields none (f ∷ others) before after
 
 -- EnumValue: Description? Name (not `true`, `false`, `null`) Deprecated?
 pub data IsEnumValue : Name → List Token → List Token → Type 0 where
@@ -84,7 +86,8 @@ pub data IsEnumValue : Name → List Token → List Token → Type 0 where
 pub data AreEnumValues : Bool → List Name → List Token → List Token → Type 0 where
   no_more_values : {p : Place} {after : List Token} → AreEnumValues true [] (at p (Punct BraceRight) ∷ after) after
   next_value : {none : Bool} {v : Name} {others : List Name} {before mid after : List Token}
-      → IsEnumValue v before mid → AreEnumValues true others mid after → AreEnumValues none (v ∷ others) before after
+      → IsEnumValue v before mid → AreEnumValues true others mid after
+      → AreEnumValues none (v ∷ others) before after
 
 -- `&`?
 pub data IsAmpersand : List Token → List Token → Type 0 where
@@ -101,7 +104,8 @@ pub data AreMoreInterfaces : List Name → List Token → List Token → Type 0 
 pub data AreInterfaces : List Name → List Token → List Token → Type 0 where
   no_interfaces : {after : List Token} → AreInterfaces [] after after
   interfaces : {p : Place} {k : Keyword} {n : List ℕ} {i : Name} {others : List Name} {mid mid' mid'' after : List Token}
-      → word_of n ≡ word.Implements → IsAmpersand mid mid' → IsTypeName i mid' mid'' → AreMoreInterfaces others mid'' after
+      → word_of n ≡ word.Implements → IsAmpersand mid mid'
+      → IsTypeName i mid' mid'' → AreMoreInterfaces others mid'' after
       → AreInterfaces (i ∷ others) (at p (token.Name k n) ∷ mid) after
 
 -- `|`?
@@ -115,7 +119,7 @@ pub data AreMoreMembers : List Name → List Token → List Token → Type 0 whe
   next_member : {p : Place} {m : Name} {others : List Name} {mid mid' after : List Token}
       → IsTypeName m mid mid' → AreMoreMembers others mid' after → AreMoreMembers (m ∷ others) (at p (Punct Pipe) ∷ mid) after
 
--- what follows the word that a definition begins with, and the place of that word
+-- says what follows the word that a definition begins with, and the place of that word
 pub data IsBody : SchemaWord → Place → Definition → List Token → List Token → Type 0 where
   -- `schema` `{` `query` `:` Name `}`
   schema : {p q r u v : Place} {w : List ℕ} {n : Name} {mid after : List Token}
@@ -143,4 +147,5 @@ pub data IsDefinition : Definition → List Token → List Token → Type 0 wher
 -- Document: Definition*, and the end
 pub data IsDocument : List Definition → List Token → Type 0 where
   no_more_definitions : IsDocument [] []
-  next_definition : {d : Definition} {others : List Definition} {before mid : List Token} → IsDefinition d before mid → IsDocument others mid → IsDocument (d ∷ others) before
+  next_definition : {d : Definition} {others : List Definition} {before mid : List Token}
+      → IsDefinition d before mid → IsDocument others mid → IsDocument (d ∷ others) before

@@ -1,4 +1,5 @@
--- Reading by what is still expected, a token at a time. No promise to a caller speaks of it: the parser's own methods are proved against it.
+-- Reading by what is still expected, a token at a time. No promise to a caller speaks of it: the parser's own methods are proved against
+-- it.
 use Rattle.std.specs.Prelude.{ℕ, zero, suc, Bool, true, false, not, List, [], ◌∷◌, ◌++◌, Option, Some, None, if◌then◌else◌}
 use Rattle.gq_lexer.specs.declared.token.Punct.TheVariants.{Bang, Amp, ParenLeft, ParenRight, Colon, Equals, At, BracketLeft, BracketRight, BraceLeft, BraceRight, Pipe}
 use Rattle.gq_parser.specs.declared.keyword.Keyword.{Keyword}
@@ -7,8 +8,8 @@ use Rattle.gq_parser.specs.Word.{Word, Punct, Name, Int, Float, Text, Token, at}
 use Rattle.gq_parser.specs.Fault.{Bracket, Opening, Closing, Neither, bracket}
 use Rattle.schema_syntax.specs.declared.word.SchemaWord.{SchemaWord}
 use Rattle.schema_syntax.specs.declared.word.SchemaWord.TheVariants as word
-use Rattle.schema_syntax.specs.declared.fault.Stop.{Stop}
-use Rattle.schema_syntax.specs.declared.fault.Stop.TheVariants.{Unexpected, NotServed}
+use Rattle.schema_syntax.specs.declared.fault.TokenFault.{TokenFault}
+use Rattle.schema_syntax.specs.declared.fault.TokenFault.TheVariants.{Unexpected, NotServed}
 use Rattle.schema_syntax.specs.Word.{word_of}
 
 -- one token of a kind
@@ -29,7 +30,7 @@ pub data Terminal : Type 0 where
   -- the brace that ends `schema`
   ARootEnd : Terminal
 
--- what is expected; where a `Bool` stands, whether the list may be at its end
+-- says what is expected; where a `Bool` stands, whether the list may be at its end
 pub data Symbol : Type 0 where
   A : Terminal → Symbol
   -- a definition without a description
@@ -55,8 +56,8 @@ pub data Symbol : Type 0 where
   MoreValues : Symbol
   MoreObjectFields : Symbol
 
--- what a token does to what is expected: it is taken and these are expected then, or nothing was there and it comes
--- after that, or it can't come, or it would but isn't served
+-- a token's move: it is taken and these symbols are expected then, or nothing was there and it
+-- comes after that, or it can't come, or it would but isn't served
 pub data Move : Type 0 where
   Takes : List Symbol → Move
   Skips : Move
@@ -84,7 +85,7 @@ a_root = A AQuery ∷ A AColon ∷ A ATypeName ∷ one (A ARootEnd)
 abbrev pub a_union_then : List Symbol
 a_union_then = A AnEquals ∷ MaybePipe ∷ A ATypeName ∷ one MoreMembers
 
--- whether a token is of a kind; or it would be, but isn't served
+-- tells whether a token is of a kind; or it would be, but isn't served
 pub data Verdict : Type 0 where
   Accepts : Verdict
   Rejects : Verdict
@@ -167,7 +168,7 @@ verdict ARootEnd (Punct BraceRight) = Accepts
 verdict ARootEnd (Name k n) = root_end_verdict k
 verdict ARootEnd _ = Rejects
 
--- what is expected after the word that a definition begins with
+-- gives what is expected after the word that a definition begins with
 abbrev pub body_move : SchemaWord → Move
 body_move word.Schema = Takes (one RootBody)
 body_move word.Object = Takes (A ATypeName ∷ one ObjectBody)
@@ -263,7 +264,7 @@ moved Skips stack skipped = skipped
 moved Refuses stack skipped = Refused
 moved Denies stack skipped = Denied
 
--- what is expected after a word; with nothing expected another definition may come
+-- gives what is expected after a word; with nothing expected another definition may come
 abbrev pub shift : List Symbol → Word → Shift
 shift [] w = moved (top_move w) [] Refused
 shift (s ∷ stack) w = moved (move s w) stack (shift stack w)
@@ -279,7 +280,7 @@ is_other_directive (Punct At) _ = false
 is_other_directive _ tokens = false
 
 -- the fault where the first of these tokens, or the end, can't come
-abbrev pub refused : List Token → Stop
+abbrev pub refused : List Token → TokenFault
 refused [] = Unexpected None
 refused (at p (Punct At) ∷ at q (Name k n) ∷ rest) = NotServed p
 refused (at p _ ∷ rest) = Unexpected (Some p)
@@ -302,7 +303,7 @@ step room stack w tokens =
     elim (shift stack w) [ Refused ↦ Stops | Denied ↦ Forbids | Shifts next ↦ if is_other_directive w tokens then Forbids else entered (bracket w) room next ]
 
 -- nothing is left, and this is expected
-abbrev pub at_end : List Symbol → Option Stop
+abbrev pub at_end : List Symbol → Option TokenFault
 at_end [] = None
 at_end (MaybeArguments ∷ stack) = at_end stack
 at_end (MaybeDefault ∷ stack) = at_end stack
@@ -314,7 +315,7 @@ at_end (MoreMembers ∷ stack) = at_end stack
 at_end (_ ∷ stack) = Some (Unexpected None)
 
 -- the first fault, if there is one
-abbrev pub read : ℕ → List Symbol → List Token → Option Stop
+abbrev pub read : ℕ → List Symbol → List Token → Option TokenFault
 read room stack [] = at_end stack
 read room stack (at p w ∷ tokens) =
     elim (step room stack w tokens) [ Goes r next ↦ read r next tokens | Stops ↦ Some (refused (at p w ∷ tokens)) | Forbids ↦ Some (NotServed p) | Sinks ↦ Some (Unexpected (Some p)) ]

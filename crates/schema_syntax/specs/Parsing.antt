@@ -1,7 +1,7 @@
--- What a method of the parser does with the tokens that are left.
+-- Definitions of what a method of the parser does with the tokens that are left.
 use Rattle.std.specs.Prelude.{◌≡◌, ◌≢◌, ◌≤◌, ℕ, Bool, true, false, List, [], ◌∷◌, ◌++◌, length, Result, Ok, Err, Option, Some, None, string_bytes, ◌<◌}
 use Rattle.text_place.specs.declared.place.Place.{Place}
-use Rattle.gq_lexer.specs.declared.place.Located.{Located}
+use Rattle.gq_lexer.specs.declared.place.LocatedText.{LocatedText}
 use Rattle.gq_lexer.specs.declared.token.Punct.TheVariants.{BraceLeft, Colon}
 use Rattle.gq_parser.specs.declared.value.Constness.TheVariants.{Const}
 use Rattle.gq_parser.specs.declared.keyword.Keyword.{Keyword}
@@ -17,8 +17,8 @@ use Rattle.std.specs.declared.string.String.{String}
 use Rattle.std.specs.declared.alloc.Global.{Global}
 use Rattle.schema_syntax.specs.declared.word.SchemaWord.{SchemaWord}
 use Rattle.schema_syntax.specs.declared.tree.Definition as rust-definition
-use Rattle.schema_syntax.specs.declared.fault.Stop as rust
-use Rattle.schema_syntax.specs.declared.fault.Stop.TheVariants.{Unexpected, NotServed, NoMemory}
+use Rattle.schema_syntax.specs.declared.fault.TokenFault as rust
+use Rattle.schema_syntax.specs.declared.fault.TokenFault.TheVariants.{Unexpected, NotServed, NoMemory}
 use Rattle.schema_syntax.specs.Word.{word_of}
 use Rattle.schema_syntax.specs.Tree as tree
 use Rattle.schema_syntax.specs.Tree.{Definition, definition_of, definitions_of}
@@ -26,23 +26,27 @@ use Rattle.schema_syntax.specs.declared.tree.SchemaDocument as rust-document
 use Rattle.schema_syntax.specs.Grammar.{IsServedType, IsTypeName, IsAmpersand, AreMoreInterfaces, AreInterfaces, IsPipe, AreMoreMembers, IsBody, IsDocument}
 use Rattle.schema_syntax.specs.Machine.{Symbol, AValue, read, refused}
 
-abbrev pub Fails : rust.Stop → Option rust.Stop → Type 0
+abbrev pub Fails : rust.TokenFault → Option rust.TokenFault → Type 0
 Fails (Unexpected place) outcome = outcome ≡ Some (Unexpected place)
 Fails (NotServed place) outcome = outcome ≡ Some (NotServed place)
 Fails NoMemory outcome = Unit {0}
 
--- Where a tree was read, its tokens were taken, and what is expected has changed from one list of symbols and room for
--- brackets to another, whatever else is expected behind. Where none was read, the fault is the first one.
-abbrev pub Reads : {T : Type 0} → (T → List Token → List Token → Type 0) → (room : ℕ) → (symbols : List Symbol) → (room_after : ℕ) → (symbols_after : List Symbol) → List Token → List Token → Result T rust.Stop → Type 0
+-- Reading takes the tokens of a tree that it gives, and changes what is expected from one list of
+-- symbols and room for brackets to another, whatever else is expected behind. A fault that it gives
+-- is the first one.
+abbrev pub Reads : {T : Type 0} → (T → List Token → List Token → Type 0) → (room : ℕ)
+    → (symbols : List Symbol) → (room_after : ℕ) → (symbols_after : List Symbol)
+    → List Token → List Token → Result T rust.TokenFault → Type 0
 Reads IsTree room symbols room_after symbols_after before after (Ok tree) = IsTree tree before after × ((stack : List Symbol) → read room (symbols ++ stack) before ≡ read room_after (symbols_after ++ stack) after)
-Reads IsTree room symbols room_after symbols_after before after (Err stop) = (stack : List Symbol) → Fails stop (read room (symbols ++ stack) before)
+Reads IsTree room symbols room_after symbols_after before after (Err stop) = (stack : List Symbol)
+    → Fails stop (read room (symbols ++ stack) before)
 
 -- the word is not next
 abbrev pub IsNotNext : Word → List Token → Type 0
 IsNotNext w [] = Unit {0}
 IsNotNext w (at p first ∷ rest) = first ≢ w
 
--- what was read is the body of a type, wherever its word was
+-- the tree that was read is the body of a type, wherever its word was
 abbrev pub IsTypeBody : SchemaWord → rust-definition.Definition → List Token → List Token → Type 0
 IsTypeBody w d before after = (place : Place) → IsBody w place (definition_of d) before after
 
@@ -70,7 +74,8 @@ IsNoName (at p _ ∷ rest) = Unit {0}
 abbrev pub IsNameTaken : Place → List ℕ → List Token → List Token → Type 0
 IsNameTaken place name old new = old ≡ at place (Name (keyword_of name) name) ∷ new
 
-abbrev pub Expects : {T : Type 0} → Word → List Token → List Token → Result T rust.Stop → Type 0
+abbrev pub Expects : {T : Type 0} → Word → List Token
+    → List Token → Result T rust.TokenFault → Type 0
 Expects w old new (Ok x) = IsTaken w old new
 Expects w old new (Err stop) = (stop ≡ refused old) × IsNotNext w old
 
@@ -91,7 +96,7 @@ Describes old new true = IsTextTaken old new
 Describes old new false = (new ≡ old) × IsNoText old
 
 -- the string that was next was taken with its place and its value, if one was
-abbrev pub TakesText : List Token → List Token → Option (Located (String Global)) → Type 0
+abbrev pub TakesText : List Token → List Token → Option (LocatedText (String Global)) → Type 0
 TakesText old new (Some t) = old ≡ at t.place (Text (string_bytes t.value)) ∷ new
 TakesText old new None = (new ≡ old) × IsNoText old
 
@@ -113,10 +118,11 @@ IsNameValue name v = (p : Place) (after : List Token) → IsValue Const (literal
 -- the value of the number that was next, if one was; else the fault
 pub record IsNumberRead (l : Literal) (old new : List Token) : Type 0 where
   pub is : IsValue Const (literal_of l) old new
-  pub reads : (room : ℕ) (stack : List Symbol) → read room (AValue ∷ stack) old ≡ read room stack new
+  pub reads : (room : ℕ) (stack : List Symbol)
+      → read room (AValue ∷ stack) old ≡ read room stack new
   pub shrinks : length new < length old
 
-abbrev pub NumberReads : List Token → List Token → Result Literal rust.Stop → Type 0
+abbrev pub NumberReads : List Token → List Token → Result Literal rust.TokenFault → Type 0
 NumberReads old new (Ok l) = IsNumberRead l old new
 NumberReads old new (Err NoMemory) = Unit {0}
 NumberReads old new (Err stop) = (stop ≡ refused old) × IsNoInt old × IsNoFloat old
@@ -191,16 +197,19 @@ pub record IsDefinitionRead (d : Definition) (before after : List Token) : Type 
 -- from the beginning, and the rest is what is expected.
 pub record IsFront {T W : Type 0} (AreRest : T → List Token → List Token → Type 0) (AreWhole : W → List Token → List Token → Type 0) (join : T → W)
     (room : ℕ) (symbols : List Symbol) (room_now : ℕ) (symbols_now : List Symbol) (before now : List Token) : Type 0 where
-  pub joins : (others : T) (after : List Token) → AreRest others now after → AreWhole (join others) before after
-  pub reads : (stack : List Symbol) → read room (symbols ++ stack) before ≡ read room_now (symbols_now ++ stack) now
+  pub joins : (others : T) (after : List Token)
+      → AreRest others now after → AreWhole (join others) before after
+  pub reads : (stack : List Symbol)
+      → read room (symbols ++ stack) before ≡ read room_now (symbols_now ++ stack) now
   pub shrinks : length now ≤ length before
 
 -- Definitions were read up to here.
 pub record IsDocumentFront (room : ℕ) (definitions : List Definition) (before now : List Token) : Type 0 where
-  pub joins : (others : List Definition) → IsDocument others now → IsDocument (definitions ++ others) before
+  pub joins : (others : List Definition) → IsDocument others now
+      → IsDocument (definitions ++ others) before
   pub reads : read room [] before ≡ read room [] now
 
 -- this tree was found, unless memory ran out
-abbrev pub Finds : List Definition → Result rust-document.SchemaDocument rust.Stop → Type 0
+abbrev pub Finds : List Definition → Result rust-document.SchemaDocument rust.TokenFault → Type 0
 Finds ds (Ok d) = definitions_of d ≡ ds
 Finds ds (Err stop) = stop ≡ NoMemory

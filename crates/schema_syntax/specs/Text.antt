@@ -23,8 +23,10 @@ pub record IsReadable (tokens : List Token) : Type 0 where
 -- A syntax fault, where the text ends behind the tokens or has a lexical fault there: a token that can't come, or what
 -- stands behind the tokens.
 abbrev pub IsSyntax : List ℕ → List Token → Option Place → Place → Type 0
-IsSyntax text tokens None place = IsUnexpectedAt tokens (Some place) ⊎ ((place ≡ place_of text (length text)) × IsUnexpectedAt tokens None)
-IsSyntax text tokens (Some lexical) place = IsUnexpectedAt tokens (Some place) ⊎ ((place ≡ lexical) × IsReadable tokens)
+IsSyntax text tokens None place = IsUnexpectedAt tokens (Some place)
+    ⊎ ((place ≡ place_of text (length text)) × IsUnexpectedAt tokens None)
+IsSyntax text tokens (Some lexical) place = IsUnexpectedAt tokens (Some place)
+    ⊎ ((place ≡ lexical) × IsReadable tokens)
 
 -- the first fault; of memory this says nothing
 abbrev pub IsSyntaxFault : List ℕ → List Token → Option Place → SyntaxFault → Type 0
@@ -45,9 +47,12 @@ pub record IsSchemaOf (text : List ℕ) (ds : List Definition) : Type 0 where
   pub is : IsDocument ds (tokens_of text tokens)
   pub shallow : IsShallow most_brackets (tokens_of text tokens)
 
--- The first fault of a text: it is too long, or it is a list of tokens, or it has tokens and then a lexical fault. Of memory this says nothing.
+-- The first fault of a text: it is too long, or it is a list of tokens, or it has tokens and then a lexical fault. Of
+-- memory this says nothing.
 pub data IsTextFault (text : List ℕ) : SyntaxFault → Type 0 where
   too_long : most_bytes < length text → IsTextFault text (Syntax (record { line = 1; column = 1 }))
-  of_tokens : {fault : SyntaxFault} (tokens : List lexer.Token) → length text ≤ most_bytes → AreTokens text tokens → IsSyntaxFault text (tokens_of text tokens) None fault → IsTextFault text fault
+  of_tokens : {fault : SyntaxFault} (tokens : List lexer.Token) → length text ≤ most_bytes
+      → AreTokens text tokens → IsSyntaxFault text (tokens_of text tokens) None fault
+      → IsTextFault text fault
   before_lexical : {fault : SyntaxFault} (tokens : List lexer.Token) (lexical : LexFault) → length text ≤ most_bytes → AreTokensBefore text tokens lexical → IsSyntaxFault text (tokens_of text tokens) (place_of_fault lexical) fault → IsTextFault text fault
   memory : IsTextFault text NoMemory

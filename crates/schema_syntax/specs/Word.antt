@@ -4,7 +4,7 @@ use Rattle.std.specs.Str.{bytes_eq}
 use Rattle.schema_syntax.specs.declared.word.SchemaWord.{SchemaWord}
 use Rattle.schema_syntax.specs.declared.word.SchemaWord.TheVariants as word
 
--- what a name is where a word is wanted
+-- gives what a name is where a word is wanted
 abbrev pub word_of : List ℕ → SchemaWord
 word_of name =
     if bytes_eq name (codes "schema") then word.Schema

@@ -1,47 +1,51 @@
-//! Why a text is no schema that is served.
+//! Faults: why a text is no schema that is served.
 
 ghost use Rattle.std.specs.Prelude.{◌≡◌};
-ghost use Rattle.schema_syntax.specs.declared.fault.Stop.TheVariants.{NoMemory};
+ghost use Rattle.schema_syntax.specs.declared.fault.TokenFault.TheVariants.{NoMemory};
 
 use gq_lexer::Place;
 use std::alloc::{AllocError, AllocFailed};
 use thiserror::Error;
 
-/// Why a text is no schema that is served.
+/// Says why a text is no schema that is served.
 #[derive(Debug, Drop, Error)]
 pub enum SyntaxFault {
-    /// What stands here can't come, be it a token or the end of the text, or is no token.
+    /// A token or the end of the text that can't come here, or bytes that are no token.
     #[error("syntax")]
     Syntax(Place),
-    /// What begins here is part of the schema language, and isn't served.
+    /// Says what begins here is part of the schema language, and isn't served.
+    /// It stands where something else could: a definition's word where `type` could, `mutation` and
+    /// `subscription` where `query` or `}` could, `implements` on an interface, the name `Float` where a type's
+    /// name could, a `[` right after a `[`, and `@` with a name wherever it isn't a `@deprecated` that is
+    /// served.
     #[error("not served")]
     NotServed(Place),
     #[error("out of memory")]
     NoMemory,
 }
 
-/// Where the tokens end to be read, and why.
+/// Says where the tokens end to be read, and why.
 #[derive(Clone, Copy, Debug, PartialEq, Eq)]
-pub(crate) enum Stop {
-    /// What stands here can't come, or, where no place is given, the end.
+pub(crate) enum TokenFault {
+    /// A token that can't come here, or, where no place is given, the end.
     Unexpected(Option<Place>),
-    /// What begins here is part of the language, and isn't served.
+    /// Says what begins here is part of the language, and isn't served.
     NotServed(Place),
     NoMemory,
 }
 
-impl From<AllocError> for Stop {
+impl From<AllocError> for TokenFault {
     ghost from_gives = { λ _ e. e ≡ NoMemory };
 
-    fn from(_e: AllocError) -> Stop {
-        Stop::NoMemory
+    fn from(_e: AllocError) -> TokenFault {
+        TokenFault::NoMemory
     }
 }
 
-impl<T: Drop> From<AllocFailed<T>> for Stop {
+impl<T: Drop> From<AllocFailed<T>> for TokenFault {
     ghost from_gives = { λ _ e. e ≡ NoMemory };
 
-    fn from(_e: AllocFailed<T>) -> Stop {
-        Stop::NoMemory
+    fn from(_e: AllocFailed<T>) -> TokenFault {
+        TokenFault::NoMemory
     }
 }

@@ -1,4 +1,7 @@
 //! From the tokens of a schema text to its tree.
+//!
+//! The cursor isn't that of `gq_parser`, which takes a token and then judges it: here the token after an `@`
+//! says what isn't served, so a token is judged before it is taken. What a keyword is, `gq_parser` alone says.
 
 ghost use Rattle.std.specs.Prelude.{◌≡◌, ◌<◌, ◌≤◌, ◌∷◌, [], suc, length, MatchOption, MatchResult, OnOk, IfOk, IfErr, All, List, true, false};
 ghost use Rattle.gq_lexer.specs.declared.token.Punct.TheVariants as punct;
@@ -16,13 +19,13 @@ ghost use Rattle.schema_syntax.specs.Grammar.{IsDocument, IsBody, IsName, IsType
 ghost use Rattle.schema_syntax.specs.Machine.{one, a_union_then, A, AName, AColon, ATypeName, AnItem, AnEnumName, AQuery, ARootEnd, ADefinition, RootBody, ObjectBody, FirstInterface, MoreInterfaces, InterfaceBody, EnumBody, Fields, MaybeArguments, Arguments, MaybeDefault, AType, MaybeBang, MaybeDeprecated, MaybeReason, EnumValues, MaybePipe, MoreMembers, AValue, MoreValues, MoreObjectFields, refused};
 ghost use Rattle.schema_syntax.specs.Parsing.{Reads, Eats, Expects, Describes, TakesMark, TakesText, NumberReads, IsNotNext, IsNoName, IsNoInt, IsNoFloat, IsNameTaken, IsTaken, IsMemberRead, IsEnumNameRead, IsQueryTaken, AreSomeInterfaces, AreMembersRead, IsTypeRead, IsNamed, AreInterfacesRead, IsDefinitionRead, IsTypeBody, Finds};
 
-use crate::fault::Stop;
+use crate::fault::TokenFault;
 use crate::tree::{
     ArgumentDefinition, Definition, EnumDefinition, FieldDefinition, InterfaceDefinition, Name,
     ObjectDefinition, SchemaDefinition, SchemaDocument, UnionDefinition,
 };
 use crate::word::{SchemaWord, is_enum_name, is_served_name, name_value, word_of};
-use gq_lexer::{Kind, Located, Place, Punct, Token, string_value};
+use gq_lexer::{LocatedText, Place, Punct, Token, TokenKind, string_value};
 use gq_parser::{Argument, Keyword, Literal, TypeRef, Value, keyword_of};
 use std::alloc::Global;
 use std::marker::Model;
@@ -48,37 +51,38 @@ impl<'a> Model for Parser<'a> {
 }
 
 impl<'a> Parser<'a> {
-    fn left(&self) -> usize
+    fn tokens_left(&self) -> usize
         ensures { result ≡ length self.now }
     {
         self.rest.len()
     }
 
     /// The fault, if what is next can't come.
-    fn stop(&self) -> Stop
+    fn stop(&self) -> TokenFault
         ensures { result ≡ refused self.now }
     {
         let Some((first, rest)) = self.rest.split_first() else {
-            return Stop::Unexpected(None);
+            return TokenFault::Unexpected(None);
         };
         match (first.kind, rest.split_first()) {
-            (Kind::Punct(Punct::At), Some((name, _))) if name.kind == Kind::Name => {
-                Stop::NotServed(first.place())
+            (TokenKind::Punct(Punct::At), Some((name, _))) if name.kind == TokenKind::Name => {
+                TokenFault::NotServed(first.place())
             }
-            _ => Stop::Unexpected(Some(first.place())),
+            _ => TokenFault::Unexpected(Some(first.place())),
         }
     }
 
     /// The name that is next, if one is.
-    fn word(&mut self) -> Option<Located<&'a str>>
-        ensures { MatchOption result ((self.new ≡ self.old) × IsNoName self.old) (λ t. IsNameTaken t.place t.value.now self.old self.new) }
+    fn word(&mut self) -> Option<LocatedText<&'a str>>
+        ensures { MatchOption result ((self.new ≡ self.old) × IsNoName self.old)
+            (λ t. IsNameTaken t.place t.value.now self.old self.new) }
     {
         match self.rest.split_first() {
-            Some((first, rest)) if first.kind == Kind::Name => {
+            Some((first, rest)) if first.kind == TokenKind::Name => {
                 let place = first.place();
                 let value = first.text(self.text);
                 self.rest = rest;
-                Some(Located { place, value })
+                Some(LocatedText { place, value })
             }
             _ => None,
         }
@@ -89,7 +93,7 @@ impl<'a> Parser<'a> {
         ensures { TakesMark (a_mark mark) self.old self.new result }
     {
         match self.rest.split_first() {
-            Some((first, rest)) if first.kind == Kind::Punct(mark) => {
+            Some((first, rest)) if first.kind == TokenKind::Punct(mark) => {
                 self.rest = rest;
                 Some(first.place())
             }
@@ -103,7 +107,7 @@ impl<'a> Parser<'a> {
         self.take(mark).is_some()
     }
 
-    fn expect(&mut self, mark: Punct) -> Result<(), Stop>
+    fn expect(&mut self, mark: Punct) -> Result<(), TokenFault>
         ensures { Expects (a_mark mark) self.old self.new result }
     {
         if self.eat(mark) {
@@ -118,7 +122,8 @@ impl<'a> Parser<'a> {
         ensures { Describes self.old self.new result }
     {
         match self.rest.split_first() {
-            Some((first, rest)) if first.kind == Kind::Str || first.kind == Kind::BlockStr => {
+            Some((first, rest))
+                if first.kind == TokenKind::Str || first.kind == TokenKind::BlockStr => {
                 self.rest = rest;
                 true
             }
@@ -126,34 +131,37 @@ impl<'a> Parser<'a> {
         }
     }
 
-    fn name(&mut self) -> Result<Name, Stop>
-        ensures reads { (room : _) → Reads (λ n. IsName (name_of n)) room (one (A AName)) room [] self.old self.new result }
+    fn name(&mut self) -> Result<Name, TokenFault>
+        ensures reads { (room : _) → Reads (λ n. IsName (name_of n))
+            room (one (A AName)) room [] self.old self.new result }
         ensures shrinks { OnOk result (length self.new < length self.old) }
     {
-        let Some(Located { place, value: text }) = self.word() else {
+        let Some(LocatedText { place, value: text }) = self.word() else {
             return Err(self.stop());
         };
         let text = String::from_str(self.alloc, text)?;
         Ok(Name { text, place })
     }
 
-    fn type_name(&mut self) -> Result<Name, Stop>
-        ensures reads { (room : _) → Reads (λ n. IsTypeName (name_of n)) room (one (A ATypeName)) room [] self.old self.new result }
+    fn type_name(&mut self) -> Result<Name, TokenFault>
+        ensures reads { (room : _) → Reads (λ n. IsTypeName (name_of n))
+            room (one (A ATypeName)) room [] self.old self.new result }
         ensures shrinks { OnOk result (length self.new < length self.old) }
     {
-        let Some(Located { place, value: text }) = self.word() else {
+        let Some(LocatedText { place, value: text }) = self.word() else {
             return Err(self.stop());
         };
         if !is_served_name(text) {
-            return Err(Stop::NotServed(place));
+            return Err(TokenFault::NotServed(place));
         }
         let text = String::from_str(self.alloc, text)?;
         Ok(Name { text, place })
     }
 
     /// A type that is no list.
-    fn named_type(&mut self) -> Result<TypeRef, Stop>
-        ensures reads { (room : _) → Reads (λ t. IsTypeRead (type_of t)) room (A ATypeName ∷ one MaybeBang) room [] self.old self.new result }
+    fn named_type(&mut self) -> Result<TypeRef, TokenFault>
+        ensures reads { (room : _) → Reads (λ t. IsTypeRead (type_of t)) room
+            (A ATypeName ∷ one MaybeBang) room [] self.old self.new result }
         ensures named { IfOk result (λ t. IsNamed (type_of t)) }
         ensures shrinks { OnOk result (length self.new < length self.old) }
     {
@@ -167,19 +175,21 @@ impl<'a> Parser<'a> {
     }
 
     /// The type in a list.
-    fn item_type(&mut self) -> Result<TypeRef, Stop>
-        ensures reads { (room : _) → Reads (λ t. IsTypeRead (type_of t)) room (A AnItem ∷ one MaybeBang) room [] self.old self.new result }
+    fn item_type(&mut self) -> Result<TypeRef, TokenFault>
+        ensures reads { (room : _) → Reads (λ t. IsTypeRead (type_of t)) room
+            (A AnItem ∷ one MaybeBang) room [] self.old self.new result }
         ensures named { IfOk result (λ t. IsNamed (type_of t)) }
         ensures shrinks { OnOk result (length self.new < length self.old) }
     {
         if let Some(place) = self.take(Punct::BracketLeft) {
-            return Err(Stop::NotServed(place));
+            return Err(TokenFault::NotServed(place));
         }
         self.named_type()
     }
 
-    fn type_ref(&mut self) -> Result<TypeRef, Stop>
-        ensures reads { (room : _) → Reads (λ t. IsTypeRead (type_of t)) (suc room) (one AType) (suc room) [] self.old self.new result }
+    fn type_ref(&mut self) -> Result<TypeRef, TokenFault>
+        ensures reads { (room : _) → Reads (λ t. IsTypeRead (type_of t))
+            (suc room) (one AType) (suc room) [] self.old self.new result }
         ensures shrinks { OnOk result (length self.new < length self.old) }
     {
         let Some(place) = self.take(Punct::BracketLeft) else {
@@ -196,18 +206,19 @@ impl<'a> Parser<'a> {
     }
 
     /// The reason of a `@deprecated`, if a parenthesis opens one. It is skipped.
-    fn reason(&mut self) -> Result<(), Stop>
-        ensures reads { (room : _) → Reads (λ _. IsReason) (suc room) (one MaybeReason) (suc room) [] self.old self.new result }
+    fn reason(&mut self) -> Result<(), TokenFault>
+        ensures reads { (room : _) → Reads (λ _. IsReason) (suc room)
+            (one MaybeReason) (suc room) [] self.old self.new result }
         ensures shrinks { OnOk result (length self.new ≤ length self.old) }
     {
         if !self.eat(Punct::ParenLeft) {
             return Ok(());
         }
-        let Some(Located { place, value: name }) = self.word() else {
+        let Some(LocatedText { place, value: name }) = self.word() else {
             return Err(self.stop());
         };
         let SchemaWord::Reason = word_of(name) else {
-            return Err(Stop::Unexpected(Some(place)));
+            return Err(TokenFault::Unexpected(Some(place)));
         };
         self.expect(Punct::Colon)?;
         if !self.description() {
@@ -217,8 +228,9 @@ impl<'a> Parser<'a> {
     }
 
     /// A `@deprecated`, if an `@` begins one. It is skipped.
-    fn deprecated(&mut self) -> Result<(), Stop>
-        ensures reads { (room : _) → Reads (λ _. IsDeprecated) (suc room) (one MaybeDeprecated) (suc room) [] self.old self.new result }
+    fn skip_deprecated(&mut self) -> Result<(), TokenFault>
+        ensures reads { (room : _) → Reads (λ _. IsDeprecated) (suc room)
+            (one MaybeDeprecated) (suc room) [] self.old self.new result }
         ensures shrinks { OnOk result (length self.new ≤ length self.old) }
     {
         let Some(place) = self.take(Punct::At) else {
@@ -228,68 +240,71 @@ impl<'a> Parser<'a> {
             return Err(self.stop());
         };
         let SchemaWord::Deprecated = word_of(name.value) else {
-            return Err(Stop::NotServed(place));
+            return Err(TokenFault::NotServed(place));
         };
         self.reason()
     }
 
     /// The value of the string that is next, if one is.
-    fn string(&mut self) -> Result<Option<Located<String>>, Stop>
-        ensures { MatchResult result (TakesText self.old self.new) (λ e. e ≡ Stop.NoMemory) }
+    fn string(&mut self) -> Result<Option<LocatedText<String>>, TokenFault>
+        ensures { MatchResult result (TakesText self.old self.new) (λ e. e ≡ TokenFault.NoMemory) }
     {
         match self.rest.split_first() {
-            Some((first, rest)) if first.kind == Kind::Str || first.kind == Kind::BlockStr => {
+            Some((first, rest))
+                if first.kind == TokenKind::Str || first.kind == TokenKind::BlockStr => {
                 let value = match string_value(self.alloc, self.text, first) {
                     Ok(value) => value,
-                    Err(_) => return Err(Stop::NoMemory),
+                    Err(_) => return Err(TokenFault::NoMemory),
                 };
                 let place = first.place();
                 self.rest = rest;
-                Ok(Some(Located { place, value }))
+                Ok(Some(LocatedText { place, value }))
             }
             _ => Ok(None),
         }
     }
 
     /// The integer that is next, if one is.
-    fn int(&mut self) -> Option<Located<&'a str>>
-        ensures { MatchOption result ((self.new ≡ self.old) × IsNoInt self.old) (λ t. self.old ≡ at t.place (an_int t.value.now) ∷ self.new) }
+    fn int(&mut self) -> Option<LocatedText<&'a str>>
+        ensures { MatchOption result ((self.new ≡ self.old) × IsNoInt self.old)
+            (λ t. self.old ≡ at t.place (an_int t.value.now) ∷ self.new) }
     {
         match self.rest.split_first() {
-            Some((first, rest)) if first.kind == Kind::Int => {
+            Some((first, rest)) if first.kind == TokenKind::Int => {
                 let place = first.place();
                 let value = first.text(self.text);
                 self.rest = rest;
-                Some(Located { place, value })
+                Some(LocatedText { place, value })
             }
             _ => None,
         }
     }
 
     /// The number with a fraction or an exponent that is next, if one is.
-    fn float(&mut self) -> Option<Located<&'a str>>
-        ensures { MatchOption result ((self.new ≡ self.old) × IsNoFloat self.old) (λ t. self.old ≡ at t.place (a_float t.value.now) ∷ self.new) }
+    fn float(&mut self) -> Option<LocatedText<&'a str>>
+        ensures { MatchOption result ((self.new ≡ self.old) × IsNoFloat self.old)
+            (λ t. self.old ≡ at t.place (a_float t.value.now) ∷ self.new) }
     {
         match self.rest.split_first() {
-            Some((first, rest)) if first.kind == Kind::Float => {
+            Some((first, rest)) if first.kind == TokenKind::Float => {
                 let place = first.place();
                 let value = first.text(self.text);
                 self.rest = rest;
-                Some(Located { place, value })
+                Some(LocatedText { place, value })
             }
             _ => None,
         }
     }
 
-    fn number(&mut self) -> Result<Literal, Stop>
+    fn number(&mut self) -> Result<Literal, TokenFault>
         ensures { NumberReads self.old self.new result }
     {
-        if let Some(Located { place, value: text }) = self.int() {
+        if let Some(LocatedText { place, value: text }) = self.int() {
             let number = String::from_str(self.alloc, text)?;
             let value = Value::Int(number);
             return Ok(Literal { place, value });
         }
-        if let Some(Located { place, value: text }) = self.float() {
+        if let Some(LocatedText { place, value: text }) = self.float() {
             let number = String::from_str(self.alloc, text)?;
             let value = Value::Float(number);
             return Ok(Literal { place, value });
@@ -298,28 +313,29 @@ impl<'a> Parser<'a> {
     }
 
     #[cycle(value)]
-    fn value(&mut self, room: u32) -> Result<Literal, Stop>
-        ensures reads { Reads (λ v. IsValue Const (literal_of v)) room (one AValue) room [] self.old self.new result }
+    fn value(&mut self, room: u32) -> Result<Literal, TokenFault>
+        ensures reads { Reads (λ v. IsValue Const (literal_of v))
+            room (one AValue) room [] self.old self.new result }
         ensures shrinks { OnOk result (length self.new < length self.old) }
     {
-        if let Some(Located { place, value: text }) = self.string()? {
+        if let Some(LocatedText { place, value: text }) = self.string()? {
             let value = Value::Text(text);
             return Ok(Literal { place, value });
         }
-        if let Some(Located { place, value: name }) = self.word() {
+        if let Some(LocatedText { place, value: name }) = self.word() {
             let value = name_value(self.alloc, name)?;
             return Ok(Literal { place, value });
         }
         if let Some(place) = self.take(Punct::BracketLeft) {
             if room == 0 {
-                return Err(Stop::Unexpected(Some(place)));
+                return Err(TokenFault::Unexpected(Some(place)));
             }
             let value = Value::List(self.values(room - 1)?);
             return Ok(Literal { place, value });
         }
         if let Some(place) = self.take(Punct::BraceLeft) {
             if room == 0 {
-                return Err(Stop::Unexpected(Some(place)));
+                return Err(TokenFault::Unexpected(Some(place)));
             }
             let value = Value::Object(self.object_fields(room - 1)?);
             return Ok(Literal { place, value });
@@ -329,8 +345,9 @@ impl<'a> Parser<'a> {
 
     /// The values up to the bracket that closes them.
     #[cycle(value)]
-    fn values(&mut self, room: u32) -> Result<Vec<Literal>, Stop>
-        ensures reads { Reads (λ vs. AreValues Const (map_literals vs.items)) room (one MoreValues) (suc room) [] self.old self.new result }
+    fn values(&mut self, room: u32) -> Result<Vec<Literal>, TokenFault>
+        ensures reads { Reads (λ vs. AreValues Const (map_literals vs.items))
+            room (one MoreValues) (suc room) [] self.old self.new result }
         ensures shrinks { OnOk result (length self.new < length self.old) }
     {
         let mut values = Vec::new(self.alloc);
@@ -341,8 +358,9 @@ impl<'a> Parser<'a> {
     }
 
     #[cycle(value)]
-    fn object_field(&mut self, room: u32) -> Result<Argument, Stop>
-        ensures reads { Reads (λ a. IsMemberRead (member_of a)) room (A AName ∷ A AColon ∷ one AValue) room [] self.old self.new result }
+    fn object_field(&mut self, room: u32) -> Result<Argument, TokenFault>
+        ensures reads { Reads (λ a. IsMemberRead (member_of a)) room
+            (A AName ∷ A AColon ∷ one AValue) room [] self.old self.new result }
         ensures shrinks { OnOk result (length self.new < length self.old) }
     {
         let Name { text, place } = self.name()?;
@@ -357,8 +375,9 @@ impl<'a> Parser<'a> {
 
     /// The fields of an object value up to the brace that closes them.
     #[cycle(value)]
-    fn object_fields(&mut self, room: u32) -> Result<Vec<Argument>, Stop>
-        ensures reads { Reads (λ ms. AreMembers Const (map_members ms.items)) room (one MoreObjectFields) (suc room) [] self.old self.new result }
+    fn object_fields(&mut self, room: u32) -> Result<Vec<Argument>, TokenFault>
+        ensures reads { Reads (λ ms. AreMembers Const (map_members ms.items))
+            room (one MoreObjectFields) (suc room) [] self.old self.new result }
         ensures shrinks { OnOk result (length self.new < length self.old) }
     {
         let mut fields = Vec::new(self.alloc);
@@ -369,8 +388,9 @@ impl<'a> Parser<'a> {
     }
 
     /// The default of an argument, if a `=` begins one.
-    fn default(&mut self) -> Result<Option<Literal>, Stop>
-        ensures reads { Reads (λ v. IsDefault (default_of v)) 126 (one MaybeDefault) 126 [] self.old self.new result }
+    fn default(&mut self) -> Result<Option<Literal>, TokenFault>
+        ensures reads { Reads (λ v. IsDefault (default_of v)) 126
+            (one MaybeDefault) 126 [] self.old self.new result }
         ensures shrinks { OnOk result (length self.new ≤ length self.old) }
     {
         if !self.eat(Punct::Equals) {
@@ -379,8 +399,9 @@ impl<'a> Parser<'a> {
         Ok(Some(self.value(126)?))
     }
 
-    fn argument(&mut self) -> Result<ArgumentDefinition, Stop>
-        ensures reads { Reads (λ a. IsArgument (argument_of a)) 126 (one (Arguments false)) 126 (one (Arguments true)) self.old self.new result }
+    fn argument(&mut self) -> Result<ArgumentDefinition, TokenFault>
+        ensures reads { Reads (λ a. IsArgument (argument_of a)) 126
+            (one (Arguments false)) 126 (one (Arguments true)) self.old self.new result }
         ensures shrinks { OnOk result (length self.new < length self.old) }
     {
         self.description();
@@ -396,8 +417,9 @@ impl<'a> Parser<'a> {
     }
 
     /// The arguments of a field, if a parenthesis opens them.
-    fn arguments(&mut self) -> Result<Vec<ArgumentDefinition>, Stop>
-        ensures reads { Reads (λ args. AreOptionalArguments (arguments_of args.items)) 127 (one MaybeArguments) 127 [] self.old self.new result }
+    fn arguments(&mut self) -> Result<Vec<ArgumentDefinition>, TokenFault>
+        ensures reads { Reads (λ args. AreOptionalArguments (arguments_of args.items)) 127
+            (one MaybeArguments) 127 [] self.old self.new result }
         ensures shrinks { OnOk result (length self.new ≤ length self.old) }
     {
         let mut arguments = Vec::new(self.alloc);
@@ -411,8 +433,9 @@ impl<'a> Parser<'a> {
         Ok(arguments)
     }
 
-    fn field(&mut self) -> Result<FieldDefinition, Stop>
-        ensures reads { Reads (λ f. IsField (field_of f)) 127 (one (Fields false)) 127 (one (Fields true)) self.old self.new result }
+    fn field(&mut self) -> Result<FieldDefinition, TokenFault>
+        ensures reads { Reads (λ f. IsField (field_of f)) 127
+            (one (Fields false)) 127 (one (Fields true)) self.old self.new result }
         ensures shrinks { OnOk result (length self.new < length self.old) }
     {
         self.description();
@@ -420,7 +443,7 @@ impl<'a> Parser<'a> {
         let arguments = self.arguments()?;
         self.expect(Punct::Colon)?;
         let of_type = self.type_ref()?;
-        self.deprecated()?;
+        self.skip_deprecated()?;
         Ok(FieldDefinition {
             name,
             arguments,
@@ -429,8 +452,9 @@ impl<'a> Parser<'a> {
     }
 
     /// The fields up to the brace that closes them.
-    fn fields(&mut self) -> Result<Vec<FieldDefinition>, Stop>
-        ensures reads { Reads (λ fs. AreFields false (fields_of fs.items)) 127 (one (Fields false)) 128 [] self.old self.new result }
+    fn fields(&mut self) -> Result<Vec<FieldDefinition>, TokenFault>
+        ensures reads { Reads (λ fs. AreFields false (fields_of fs.items)) 127
+            (one (Fields false)) 128 [] self.old self.new result }
         ensures shrinks { OnOk result (length self.new < length self.old) }
     {
         let mut fields = Vec::new(self.alloc);
@@ -441,19 +465,21 @@ impl<'a> Parser<'a> {
         Ok(fields)
     }
 
-    fn enum_value(&mut self) -> Result<Name, Stop>
-        ensures reads { Reads (λ v. IsEnumValue (name_of v)) 127 (one (EnumValues false)) 127 (one (EnumValues true)) self.old self.new result }
+    fn enum_value(&mut self) -> Result<Name, TokenFault>
+        ensures reads { Reads (λ v. IsEnumValue (name_of v)) 127
+            (one (EnumValues false)) 127 (one (EnumValues true)) self.old self.new result }
         ensures shrinks { OnOk result (length self.new < length self.old) }
     {
         self.description();
         let name = self.enum_name()?;
-        self.deprecated()?;
+        self.skip_deprecated()?;
         Ok(name)
     }
 
     /// The values up to the brace that closes them.
-    fn enum_values(&mut self) -> Result<Vec<Name>, Stop>
-        ensures reads { Reads (λ vs. AreEnumValues false (names_of vs.items)) 127 (one (EnumValues false)) 128 [] self.old self.new result }
+    fn enum_values(&mut self) -> Result<Vec<Name>, TokenFault>
+        ensures reads { Reads (λ vs. AreEnumValues false (names_of vs.items)) 127
+            (one (EnumValues false)) 128 [] self.old self.new result }
         ensures shrinks { OnOk result (length self.new < length self.old) }
     {
         let mut values = Vec::new(self.alloc);
@@ -465,31 +491,33 @@ impl<'a> Parser<'a> {
     }
 
     /// A name that an enum's value may have.
-    fn enum_name(&mut self) -> Result<Name, Stop>
-        ensures reads { (room : _) → Reads (λ n. IsEnumNameRead (name_of n)) room (one (A AnEnumName)) room [] self.old self.new result }
+    fn enum_name(&mut self) -> Result<Name, TokenFault>
+        ensures reads { (room : _) → Reads (λ n. IsEnumNameRead (name_of n))
+            room (one (A AnEnumName)) room [] self.old self.new result }
         ensures shrinks { OnOk result (length self.new < length self.old) }
     {
-        let Some(Located { place, value: text }) = self.word() else {
+        let Some(LocatedText { place, value: text }) = self.word() else {
             return Err(self.stop());
         };
         if !is_enum_name(text) {
-            return Err(Stop::Unexpected(Some(place)));
+            return Err(TokenFault::Unexpected(Some(place)));
         }
         let text = String::from_str(self.alloc, text)?;
         Ok(Name { text, place })
     }
 
     /// The interfaces that an object type implements, and the brace behind them.
-    fn interfaces(&mut self) -> Result<Vec<Name>, Stop>
-        ensures reads { Reads (λ is. AreInterfacesRead (names_of is.items)) 128 (one ObjectBody) 127 (one (Fields false)) self.old self.new result }
+    fn interfaces(&mut self) -> Result<Vec<Name>, TokenFault>
+        ensures reads { Reads (λ is. AreInterfacesRead (names_of is.items)) 128
+            (one ObjectBody) 127 (one (Fields false)) self.old self.new result }
         ensures shrinks { OnOk result (length self.new ≤ length self.old) }
     {
-        let Some(Located { place, value: name }) = self.word() else {
+        let Some(LocatedText { place, value: name }) = self.word() else {
             self.expect(Punct::BraceLeft)?;
             return Ok(Vec::new(self.alloc));
         };
         let SchemaWord::Implements = word_of(name) else {
-            return Err(Stop::Unexpected(Some(place)));
+            return Err(TokenFault::Unexpected(Some(place)));
         };
         let interfaces = self.some_interfaces()?;
         self.expect(Punct::BraceLeft)?;
@@ -497,8 +525,9 @@ impl<'a> Parser<'a> {
     }
 
     /// The interfaces behind `implements`.
-    fn some_interfaces(&mut self) -> Result<Vec<Name>, Stop>
-        ensures reads { Reads (λ is. AreSomeInterfaces (names_of is.items)) 128 (one FirstInterface) 128 (one MoreInterfaces) self.old self.new result }
+    fn some_interfaces(&mut self) -> Result<Vec<Name>, TokenFault>
+        ensures reads { Reads (λ is. AreSomeInterfaces (names_of is.items)) 128
+            (one FirstInterface) 128 (one MoreInterfaces) self.old self.new result }
         ensures ends { OnOk result (IsNotNext (a_mark punct.Amp) self.new) }
         ensures shrinks { OnOk result (length self.new ≤ length self.old) }
     {
@@ -512,22 +541,24 @@ impl<'a> Parser<'a> {
     }
 
     /// The brace behind the name of an interface.
-    fn interface_brace(&mut self) -> Result<(), Stop>
-        ensures reads { Reads (λ _. IsTaken (a_mark punct.BraceLeft)) 128 (one InterfaceBody) 127 (one (Fields false)) self.old self.new result }
+    fn interface_brace(&mut self) -> Result<(), TokenFault>
+        ensures reads { Reads (λ _. IsTaken (a_mark punct.BraceLeft)) 128
+            (one InterfaceBody) 127 (one (Fields false)) self.old self.new result }
         ensures shrinks { OnOk result (length self.new < length self.old) }
     {
-        if let Some(Located { place, value: name }) = self.word() {
+        if let Some(LocatedText { place, value: name }) = self.word() {
             return match word_of(name) {
-                SchemaWord::Implements => Err(Stop::NotServed(place)),
-                _ => Err(Stop::Unexpected(Some(place))),
+                SchemaWord::Implements => Err(TokenFault::NotServed(place)),
+                _ => Err(TokenFault::Unexpected(Some(place))),
             };
         }
         self.expect(Punct::BraceLeft)
     }
 
     /// The members of a union, behind its `=`.
-    fn members(&mut self) -> Result<Vec<Name>, Stop>
-        ensures reads { Reads (λ ms. AreMembersRead (names_of ms.items)) 128 (MaybePipe ∷ A ATypeName ∷ one MoreMembers) 128 [] self.old self.new result }
+    fn members(&mut self) -> Result<Vec<Name>, TokenFault>
+        ensures reads { Reads (λ ms. AreMembersRead (names_of ms.items)) 128
+            (MaybePipe ∷ A ATypeName ∷ one MoreMembers) 128 [] self.old self.new result }
         ensures shrinks { OnOk result (length self.new ≤ length self.old) }
     {
         let mut members = Vec::new(self.alloc);
@@ -540,36 +571,39 @@ impl<'a> Parser<'a> {
     }
 
     /// The word `query` in `schema`.
-    fn query(&mut self) -> Result<(), Stop>
-        ensures reads { (room : _) → Reads (λ _. IsQueryTaken) room (one (A AQuery)) room [] self.old self.new result }
+    fn query(&mut self) -> Result<(), TokenFault>
+        ensures reads { (room : _)
+            → Reads (λ _. IsQueryTaken) room (one (A AQuery)) room [] self.old self.new result }
         ensures shrinks { OnOk result (length self.new < length self.old) }
     {
-        let Some(Located { place, value: name }) = self.word() else {
+        let Some(LocatedText { place, value: name }) = self.word() else {
             return Err(self.stop());
         };
         match keyword_of(name) {
             Keyword::Query => Ok(()),
-            Keyword::Mutation | Keyword::Subscription => Err(Stop::NotServed(place)),
-            _ => Err(Stop::Unexpected(Some(place))),
+            Keyword::Mutation | Keyword::Subscription => Err(TokenFault::NotServed(place)),
+            _ => Err(TokenFault::Unexpected(Some(place))),
         }
     }
 
     /// The brace that ends `schema`.
-    fn root_end(&mut self) -> Result<(), Stop>
-        ensures reads { Reads (λ _. IsTaken (a_mark punct.BraceRight)) 127 (one (A ARootEnd)) 128 [] self.old self.new result }
+    fn root_end(&mut self) -> Result<(), TokenFault>
+        ensures reads { Reads (λ _. IsTaken (a_mark punct.BraceRight)) 127
+            (one (A ARootEnd)) 128 [] self.old self.new result }
         ensures shrinks { OnOk result (length self.new < length self.old) }
     {
-        if let Some(Located { place, value: name }) = self.word() {
+        if let Some(LocatedText { place, value: name }) = self.word() {
             return match keyword_of(name) {
-                Keyword::Mutation | Keyword::Subscription => Err(Stop::NotServed(place)),
-                _ => Err(Stop::Unexpected(Some(place))),
+                Keyword::Mutation | Keyword::Subscription => Err(TokenFault::NotServed(place)),
+                _ => Err(TokenFault::Unexpected(Some(place))),
             };
         }
         self.expect(Punct::BraceRight)
     }
 
-    fn schema(&mut self, place: Place) -> Result<SchemaDefinition, Stop>
-        ensures reads { Reads (λ d. IsBody words.Schema place (definition_of (declared.Schema d))) 128 (one RootBody) 128 [] self.old self.new result }
+    fn schema(&mut self, place: Place) -> Result<SchemaDefinition, TokenFault>
+        ensures reads { Reads (λ d. IsBody words.Schema place (definition_of
+            (declared.Schema d))) 128 (one RootBody) 128 [] self.old self.new result }
         ensures shrinks { OnOk result (length self.new ≤ length self.old) }
     {
         self.expect(Punct::BraceLeft)?;
@@ -580,8 +614,9 @@ impl<'a> Parser<'a> {
         Ok(SchemaDefinition { place, query })
     }
 
-    fn object(&mut self) -> Result<ObjectDefinition, Stop>
-        ensures reads { Reads (λ d. IsTypeBody words.Object (declared.Object d)) 128 (A ATypeName ∷ one ObjectBody) 128 [] self.old self.new result }
+    fn object(&mut self) -> Result<ObjectDefinition, TokenFault>
+        ensures reads { Reads (λ d. IsTypeBody words.Object (declared.Object d)) 128
+            (A ATypeName ∷ one ObjectBody) 128 [] self.old self.new result }
         ensures shrinks { OnOk result (length self.new ≤ length self.old) }
     {
         let name = self.type_name()?;
@@ -594,8 +629,9 @@ impl<'a> Parser<'a> {
         })
     }
 
-    fn interface(&mut self) -> Result<InterfaceDefinition, Stop>
-        ensures reads { Reads (λ d. IsTypeBody words.Interface (declared.Interface d)) 128 (A ATypeName ∷ one InterfaceBody) 128 [] self.old self.new result }
+    fn interface(&mut self) -> Result<InterfaceDefinition, TokenFault>
+        ensures reads { Reads (λ d. IsTypeBody words.Interface (declared.Interface d)) 128
+            (A ATypeName ∷ one InterfaceBody) 128 [] self.old self.new result }
         ensures shrinks { OnOk result (length self.new ≤ length self.old) }
     {
         let name = self.type_name()?;
@@ -604,8 +640,9 @@ impl<'a> Parser<'a> {
         Ok(InterfaceDefinition { name, fields })
     }
 
-    fn union_type(&mut self) -> Result<UnionDefinition, Stop>
-        ensures reads { Reads (λ d. IsTypeBody words.Union (declared.Union d)) 128 (A ATypeName ∷ a_union_then) 128 [] self.old self.new result }
+    fn union_type(&mut self) -> Result<UnionDefinition, TokenFault>
+        ensures reads { Reads (λ d. IsTypeBody words.Union (declared.Union d)) 128
+            (A ATypeName ∷ a_union_then) 128 [] self.old self.new result }
         ensures shrinks { OnOk result (length self.new ≤ length self.old) }
     {
         let name = self.type_name()?;
@@ -614,8 +651,9 @@ impl<'a> Parser<'a> {
         Ok(UnionDefinition { name, members })
     }
 
-    fn enum_type(&mut self) -> Result<EnumDefinition, Stop>
-        ensures reads { Reads (λ d. IsTypeBody words.Enum (declared.Enum d)) 128 (A ATypeName ∷ one EnumBody) 128 [] self.old self.new result }
+    fn enum_type(&mut self) -> Result<EnumDefinition, TokenFault>
+        ensures reads { Reads (λ d. IsTypeBody words.Enum (declared.Enum d)) 128
+            (A ATypeName ∷ one EnumBody) 128 [] self.old self.new result }
         ensures shrinks { OnOk result (length self.new ≤ length self.old) }
     {
         let name = self.type_name()?;
@@ -625,11 +663,12 @@ impl<'a> Parser<'a> {
     }
 
     /// A definition, whose description was skipped.
-    fn definition(&mut self) -> Result<Definition, Stop>
-        ensures reads { Reads (λ d. IsDefinitionRead (definition_of d)) 128 (one ADefinition) 128 [] self.old self.new result }
+    fn definition(&mut self) -> Result<Definition, TokenFault>
+        ensures reads { Reads (λ d. IsDefinitionRead (definition_of d)) 128
+            (one ADefinition) 128 [] self.old self.new result }
         ensures shrinks { OnOk result (length self.new < length self.old) }
     {
-        let Some(Located { place, value: name }) = self.word() else {
+        let Some(LocatedText { place, value: name }) = self.word() else {
             return Err(self.stop());
         };
         match word_of(name) {
@@ -638,8 +677,8 @@ impl<'a> Parser<'a> {
             SchemaWord::Interface => Ok(Definition::Interface(self.interface()?)),
             SchemaWord::Union => Ok(Definition::Union(self.union_type()?)),
             SchemaWord::Enum => Ok(Definition::Enum(self.enum_type()?)),
-            SchemaWord::Unserved => Err(Stop::NotServed(place)),
-            _ => Err(Stop::Unexpected(Some(place))),
+            SchemaWord::Unserved => Err(TokenFault::NotServed(place)),
+            _ => Err(TokenFault::Unexpected(Some(place))),
         }
     }
 }
@@ -649,13 +688,16 @@ pub(crate) fn definitions(
     alloc: Global,
     text: &str,
     tokens: &[Token],
-) -> Result<SchemaDocument, Stop>
+) -> Result<SchemaDocument, TokenFault>
     requires { All (IsToken text.now) tokens.now }
-    // What is found is what the grammar says, and no bracket in it is opened while 128 are open.
-    ensures found { IfOk result (λ d. IsDocument (definitions_of d) (tokens_of text.now tokens.now) × IsShallow most_brackets (tokens_of text.now tokens.now)) }
+    // The definitions are what the grammar says, and no bracket in them is opened while 128 are
+    // open.
+    ensures found { IfOk result (λ d. IsDocument (definitions_of d) (tokens_of text.now tokens.now)
+        × IsShallow most_brackets (tokens_of text.now tokens.now)) }
 
     // Such a tree is found, and there is no other.
-    ensures only { (ds : _) → IsDocument ds (tokens_of text.now tokens.now) → IsShallow most_brackets (tokens_of text.now tokens.now) → Finds ds result }
+    ensures only { (ds : _) → IsDocument ds (tokens_of text.now tokens.now)
+        → IsShallow most_brackets (tokens_of text.now tokens.now) → Finds ds result }
 
     // Otherwise the first fault is named.
     ensures stop { IfErr result (IsStop (tokens_of text.now tokens.now)) }
@@ -666,7 +708,7 @@ pub(crate) fn definitions(
         rest: tokens,
     };
     let mut definitions = Vec::new(alloc);
-    while parser.left() != 0 {
+    while parser.tokens_left() != 0 {
         parser.description();
         definitions.push(parser.definition()?)?;
     }

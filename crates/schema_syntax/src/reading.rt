@@ -8,10 +8,10 @@ ghost use Rattle.schema_syntax.specs.Tree.{definitions_of, Definition as tree_de
 ghost use Rattle.schema_syntax.specs.Grammar.{IsDocument};
 ghost use Rattle.schema_syntax.specs.Text.{IsSyntaxFault, FindsTree, IsSchemaOf, IsTextFault};
 
-use crate::fault::{Stop, SyntaxFault};
+use crate::fault::{SyntaxFault, TokenFault};
 use crate::parser::definitions;
 use crate::tree::SchemaDocument;
-use gq_lexer::{Lexed, MAX_BYTES, Place, Token, end_of, lex_front};
+use gq_lexer::{LexedText, MAX_BYTES, Place, Token, end_of, lex_front};
 use std::alloc::Global;
 
 /// The tree of a schema text's tokens. `lexical` is the place of the lexical fault behind them, if the text has one.
@@ -30,7 +30,8 @@ pub fn read_tokens(
 ) -> Result<SchemaDocument, SyntaxFault>
     requires size { length text.now ≤ MAX_BYTES }
     requires inside { All (IsToken text.now) tokens.now }
-    // What is found is what the grammar says, no bracket in it is opened while 128 are open, and the text ends behind it.
+    // The definitions are what the grammar says, no bracket in them is opened while 128 are open,
+    // and the text ends behind them.
     ensures found { let ts = tokens_of text.now tokens.now in
         IfOk result (λ d. IsDocument (definitions_of d) ts × IsShallow most_brackets ts × (lexical ≡ None)) }
 
@@ -46,17 +47,21 @@ pub fn read_tokens(
             None => Ok(document),
             Some(place) => Err(SyntaxFault::Syntax(place)),
         },
-        Err(Stop::Unexpected(Some(place))) => Err(SyntaxFault::Syntax(place)),
-        Err(Stop::Unexpected(None)) => match lexical {
+        Err(TokenFault::Unexpected(Some(place))) => Err(SyntaxFault::Syntax(place)),
+        Err(TokenFault::Unexpected(None)) => match lexical {
             None => Err(SyntaxFault::Syntax(end_of(text))),
             Some(place) => Err(SyntaxFault::Syntax(place)),
         },
-        Err(Stop::NotServed(place)) => Err(SyntaxFault::NotServed(place)),
-        Err(Stop::NoMemory) => Err(SyntaxFault::NoMemory),
+        Err(TokenFault::NotServed(place)) => Err(SyntaxFault::NotServed(place)),
+        Err(TokenFault::NoMemory) => Err(SyntaxFault::NoMemory),
     }
 }
 
 /// The tree of a schema text, in the part of the language that is served (October 2021, section 3).
+///
+/// A text without definitions has a tree of none, and so no root; a description that nothing follows is a
+/// syntax fault. Where `@` may begin a `@deprecated` and no name follows, the fault is at the next token;
+/// elsewhere it is at the `@`.
 ///
 /// # Errors
 ///
@@ -65,7 +70,8 @@ pub fn read_tokens(
 /// [`SyntaxFault::Syntax`] at any other token that can't come, at a bracket that is opened while 128 are open, at a
 /// lexical fault, or at the end. [`SyntaxFault::NoMemory`] comes when out of memory.
 pub fn read(alloc: Global, text: &str) -> Result<SchemaDocument, SyntaxFault>
-    // What is found is what the grammar says of the text's tokens, and no bracket in it is opened while 128 are open.
+    // The definitions are what the grammar says of the text's tokens, and no bracket in them is
+    // opened while 128 are open.
     ensures found { IfOk result (λ d. IsSchemaOf text.now (definitions_of d)) }
 
     // Such a tree is found, and there is no other.
@@ -77,7 +83,7 @@ pub fn read(alloc: Global, text: &str) -> Result<SchemaDocument, SyntaxFault>
     if text.len() > MAX_BYTES {
         return Err(SyntaxFault::Syntax(Place::START));
     }
-    let Ok(Lexed { tokens, fault }) = lex_front(alloc, text) else {
+    let Ok(LexedText { tokens, fault }) = lex_front(alloc, text) else {
         return Err(SyntaxFault::NoMemory);
     };
     match fault {

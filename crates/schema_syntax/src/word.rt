@@ -6,11 +6,11 @@ ghost use Rattle.schema_syntax.specs.Parsing.{IsNameValue};
 ghost use Rattle.schema_syntax.specs.Word.{word_of, IsServedName};
 ghost use Rattle.schema_syntax.specs.declared.word.SchemaWord.TheVariants as words;
 
-use crate::fault::Stop;
+use crate::fault::TokenFault;
 use gq_parser::{Keyword, Value, keyword_of};
 use std::alloc::Global;
 
-/// What a name is where a word is wanted. Elsewhere each of them is a plain name.
+/// Says what a name is where a word is wanted. Elsewhere each of them is a plain name.
 #[derive(Clone, Copy, Debug, PartialEq, Eq)]
 pub(crate) enum SchemaWord {
     Schema,
@@ -29,7 +29,7 @@ pub(crate) enum SchemaWord {
     Other,
 }
 
-/// What a name is where a word is wanted.
+/// Returns what a name is where a word is wanted.
 pub(crate) fn word_of(name: &str) -> SchemaWord
     ensures { result ≡ word_of name.now }
 {
@@ -51,16 +51,17 @@ pub(crate) fn word_of(name: &str) -> SchemaWord
     }
 }
 
-/// Whether a type may have this name.
+/// Tells whether a type may have this name.
 pub(crate) fn is_served_name(name: &str) -> bool
     ensures { MatchBool result (IsServedName name.now) (word_of name.now ≡ words.Float) }
 {
     word_of(name) != SchemaWord::Float
 }
 
-/// Whether an enum's value may have this name.
+/// Tells whether an enum's value may have this name.
 pub(crate) fn is_enum_name(name: &str) -> bool
-    ensures { MatchBool result (IsEnumName (keyword_of name.now)) (IsEnumName (keyword_of name.now) → ⊥) }
+    ensures { MatchBool result (IsEnumName (keyword_of name.now))
+        (IsEnumName (keyword_of name.now) → ⊥) }
 {
     !matches!(
         keyword_of(name),
@@ -69,8 +70,8 @@ pub(crate) fn is_enum_name(name: &str) -> bool
 }
 
 /// The value that a name is.
-pub(crate) fn name_value(alloc: Global, name: &str) -> Result<Value, Stop>
-    ensures { MatchResult result (IsNameValue name.now) (λ e. e ≡ Stop.NoMemory) }
+pub(crate) fn name_value(alloc: Global, name: &str) -> Result<Value, TokenFault>
+    ensures { MatchResult result (IsNameValue name.now) (λ e. e ≡ TokenFault.NoMemory) }
 {
     match keyword_of(name) {
         Keyword::True => Ok(Value::Boolean(true)),

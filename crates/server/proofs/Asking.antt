@@ -1,4 +1,4 @@
--- What is planned of what is asked, and what answers it or stops it.
+-- Plans of what is asked, and what answers them or stops them.
 use Rattle.std.proofs.Common.{◌≡◌, ◌∙◌, ◌⊎◌, ◌++◌, ℕ, Bool, true, false, List, [], ◌∷◌, map, option_map, Option, Some, None, Result, Ok, Err, refl, sym, ap, subst, inl, inr, string_bytes}
 use Rattle.std.specs.Prelude.{String, IfOk, slice_get}
 use Rattle.std.specs.declared.alloc.Global.{Global}
@@ -13,12 +13,12 @@ use Rattle.load_rounds.specs.SharedRounds.{ReportOf, request_of, requests, toget
 use Rattle.load_rounds.specs.declared.answer.Answer.{Answer}
 use Rattle.load_rounds.proofs.Requests.{headline-one, stops-one}
 use Rattle.request_line.specs.Requests.{RequestOf}
-use Rattle.request_plans.specs.Planning.{PlanValues, PlansValue, PlansRequest, refusals_of, plans_of}
-use Rattle.request_plans.specs.declared.plans.ArrayPlan.{ArrayPlan}
-use Rattle.request_plans.specs.declared.plans.RequestPlan.{RequestPlan}
-use Rattle.request_plans.specs.declared.plans.RequestPlan.TheVariants as request_plan
-use Rattle.request_plans.specs.Servers.{ServerOf}
-use Rattle.request_plans.proofs.Requests.{planned-valid}
+use Rattle.plan_requests.specs.Planning.{PlanValues, PlansValue, PlansRequest, refusals_of, plans_of}
+use Rattle.plan_requests.specs.declared.plans.ArrayPlan.{ArrayPlan}
+use Rattle.plan_requests.specs.declared.plans.RequestPlan.{RequestPlan}
+use Rattle.plan_requests.specs.declared.plans.RequestPlan.TheVariants as request_plan
+use Rattle.plan_requests.specs.Servers.{ServerOf}
+use Rattle.plan_requests.proofs.Requests.{planned-valid}
 use Rattle.server.specs.Answers.{unasked, AnswersRequest, refused, planned, StopsRequest, unplanned, stopped}
 use Rattle.server.specs.Arrays as arrays
 use Rattle.server.specs.Bounded.{AreBounded, bounded_program, bounded_text}
@@ -194,7 +194,7 @@ module _ {S : Type 0} (may : S → List KeyOf → AnswerOf → Type 0) (c : Clie
 
 -- ---- planning
 
--- what is asked of a client is planned as the plans and refusals that stand for it
+-- a client's request is planned as the plans and refusals that stand for it
 pub asks : {S : Type 0} (c : ClientOf S) (asked : AskedOf) (many : Bool) (array : ArrayPlan) (what : PlannedOf) → what.many ≡ many → what.refusals ≡ refusals_of array → AreBounded c.most (plans_of array) what.plans
     → IsPlannedAs c.server asked many (refusals_of array) (plans_of array) → PlansAsked c asked what
 asks c asked many array what m r are h = record {
@@ -203,7 +203,7 @@ asks c asked many array what m r are h = record {
   planned_as = subst (λ b. IsPlannedAs c.server asked b what.refusals (plans_of array)) (sym m) (subst (λ rs. IsPlannedAs c.server asked many rs (plans_of array)) (sym r) h);
 }
 
--- what a request asks is what the value asks that it is
+-- a request asks what the value asks that it is
 pub request-value : (s : ServerOf) (r : RequestOf) (plan : RequestPlan) → PlansRequest s r plan → PlansValue s (Some r) plan
 request-value s r (request_plan.Refused said) h = h
 request-value s r (request_plan.Planned plan) h = h

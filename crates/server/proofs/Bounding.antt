@@ -6,7 +6,7 @@ use Rattle.gq_check.specs.Plans.{PlanOf, PlanParts, plan_of}
 use Rattle.plan_program.specs.PlanPrograms.{plan_program}
 use Rattle.gq_bindings.specs.Tree.{BindingsOf}
 use Rattle.load_rounds.specs.SharedRounds.{RequestOf, request_of, requests}
-use Rattle.request_plans.specs.Servers.{ServerOf}
+use Rattle.plan_requests.specs.Servers.{ServerOf}
 use Rattle.gq_resolve.specs.Within.{text_within}
 use Rattle.server.specs.Bounded.{AreBounded, plan_and_bound, bounded_program, bounded_text, bounded_loaders}
 use Rattle.server.specs.Plans.{requests_within}
@@ -14,13 +14,13 @@ use Rattle.server.specs.declared.bounded.BoundedPlan.{BoundedPlan}
 use Rattle.server.proofs.Limits.{map-twice}
 
 module _ (most : Option ℕ) where
-  -- what they ask is what the plans ask, with texts within the limit
+  -- says what they ask is what the plans ask, with texts within the limit
   pub bounded-asks : (plans : List PlanOf) (bs : List BoundedPlan) → AreBounded most plans bs → requests bounded_program bounded_text bs ≡ requests_within most plans
   bounded-asks plans bs are =
       let asked : PlanOf × Option ℕ → RequestOf = λ p. request_of (plan_program p.0) (text_within p.1) in
       sym (map-twice asked plan_and_bound bs) ∙ ap (map asked) are ∙ map-twice asked (λ (plan : PlanOf). (plan, most)) plans
 
-  -- what holds of each plan
+  -- says what holds of each plan
   pub all-bounded : (P : PlanOf → Type 0) (plans : List PlanOf) (bs : List BoundedPlan) → AreBounded most plans bs → All P plans → All (λ (b : BoundedPlan). P (plan_of b.plan)) bs
   all-bounded P [] [] are h = All-nil (λ (b : BoundedPlan). P (plan_of b.plan))
   all-bounded P [] (b ∷ bs) are h = absurd (cc are)

@@ -1,4 +1,4 @@
--- How many loads plans read over what a session knows.
+-- Lemmas on how many loads plans read over what a session knows.
 use Rattle.std.proofs.Common.{◌≡◌, ℕ, ◌<◌, ◌≤◌, ◌+◌, ◌-◌, ◌^◌, min, List, [], ◌∷◌, ◌++◌, map, take, length, get_or, All, refl, sym, ap, subst, ◌∙◌, arith, add-one, Option}
 use Rattle.std.proofs.lemmas.List.{map-append}
 use Rattle.std.proofs.lemmas.List.Elements.{All-weaker, All-nil, All-cons, All-head, All-tail}
@@ -12,23 +12,23 @@ use Rattle.gq_resolve.proofs.ReadingOn.{all_read-append}
 use Rattle.load_rounds.specs.Sessions.{SessionOf, state_of, session_modes}
 use Rattle.load_rounds.proofs.Following.{rules-size}
 use Rattle.request_line.specs.Requests.{RequestOf}
-use Rattle.request_plans.specs.Servers.{ServerOf}
-use Rattle.request_plans.specs.Planning.{PlanValues}
-use Rattle.request_plans.proofs.Values.{taken-more}
+use Rattle.plan_requests.specs.Servers.{ServerOf}
+use Rattle.plan_requests.specs.Planning.{PlanValues}
+use Rattle.plan_requests.proofs.Values.{taken-more}
 use Rattle.server.specs.Clients.{HasLoaders}
 use Rattle.server.specs.Counts.{known_in, plans_read}
 use Rattle.server.proofs.Values.{plans-bound}
 
 module _ {S : Type 0} (session : SessionOf S) where
-  -- what a memory says that has the session's pairs and modes
+  -- says what a memory says that has the session's pairs and modes
   pub known-same : (m : MemoryOf) → m.pairs ≡ session.pairs → m.modes ≡ session_modes (state_of session) → m ≡ known_in session
   known-same m pairs modes = ap (λ ps. let n : MemoryOf = record { modes = m.modes; pairs = ps } in n) pairs ∙ ap (λ ms. let n : MemoryOf = record { modes = ms; pairs = session.pairs } in n) modes
 
-  -- what was counted over it
+  -- says what was counted over it
   pub known-read : (p : PlanOf) (m : MemoryOf) (count : ℕ) → m.pairs ≡ session.pairs → m.modes ≡ session_modes (state_of session) → count ≡ counted (plan_read p m) → count ≡ counted (plan_read p (known_in session))
   known-read p m count pairs modes h = h ∙ ap (λ (k : MemoryOf). counted (plan_read p k)) (known-same m pairs modes)
 
-  -- the same as of one plan alone
+  -- the count of the loads of one plan alone
   pub one-counted : (p : PlanOf) (m : MemoryOf) (count : ℕ) → m.pairs ≡ session.pairs → m.modes ≡ session_modes (state_of session) → count ≡ counted (plan_read p m) → count ≡ counted (plans_read session (p ∷ []))
   one-counted p m count pairs modes h =
       let known : count ≡ counted (plan_read p (known_in session)) = known-read p m count pairs modes h in
@@ -53,13 +53,13 @@ module _ {S : Type 0} (session : SessionOf S) where
   pub enough-bound : (s : ServerOf) (p : PlanOf) → HasLoaders s session → p.bindings ≡ s.bindings → length p.bindings.loaders ≤ length session.loaders
   enough-bound s p has bound = subst (λ (b : BindingsOf). length b.loaders ≤ length session.loaders) (sym bound) has
 
-  -- the same of the plans of an array
+  -- the plans of an array have their loaders in the session
   pub all-enough : (s : ServerOf) (values : List (Option RequestOf)) (refusals : List (Option (List ℕ))) (plans : List PlanOf) → HasLoaders s session → PlanValues s values refusals plans
       → All (λ (p : PlanOf). length p.bindings.loaders ≤ length session.loaders) plans
   all-enough s values refusals plans has planned =
       All-weaker (λ (p : PlanOf). p.bindings ≡ s.bindings) (λ (p : PlanOf). length p.bindings.loaders ≤ length session.loaders) (λ p e. enough-bound s p has e) plans (plans-bound s values refusals plans planned)
 
-  -- the same of plans as the program holds them
+  -- plans as the program holds them have their loaders in the session
   pub seen-enough : {X : Type 0} (seen : X → PlanOf) (xs : List X) (plans : List PlanOf) → map seen xs ≡ plans → All (λ (p : PlanOf). length p.bindings.loaders ≤ length session.loaders) plans
       → All (λ (x : X). length (seen x).bindings.loaders ≤ length session.loaders) xs
   seen-enough {X = X} seen xs plans same all = go xs (subst (All (λ (p : PlanOf). length p.bindings.loaders ≤ length session.loaders)) (sym same) all)

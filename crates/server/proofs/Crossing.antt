@@ -1,6 +1,6 @@
--- What may go to other threads, and what they may share, in steps: the prover keeps no such proof of a type that holds one that holds itself, as
--- a schema holds values, and searches through it at each demand. `server_send`, `server_sync` and `client_send` are for those who start threads.
--- Assumes nothing.
+-- Lemmas on what may go to other threads, and what they may share, in steps: the prover keeps no such proof of a type that holds one that
+-- holds itself, as a schema holds values, and searches through it at each demand. `server_send`, `server_sync` and `client_send` are for
+-- those who start threads. Assumes nothing.
 use denote.RattleType.{RattleType}
 use denote.Param.Send.{IsSend, IsSync, sendable}
 use denote.Param.SendFields.{declared_send}
@@ -14,15 +14,15 @@ use Rattle.gq_parser.specs.contracts.tree.Operation as operation
 use Rattle.gq_schema.specs.contracts.schema.Schema as schema
 use Rattle.gq_bindings.specs.contracts.read.Bindings as bindings
 use Rattle.gq_bindings.proofs.read.Bindings.TheSendSync as bindings_cross
-use Rattle.gq_check.specs.contracts.kept.KeptDocument as kept
-use Rattle.request_plans.specs.contracts.server.Server as server
-use Rattle.request_plans.specs.contracts.documents.KeptDocuments as documents
-use Rattle.gq_check.specs.contracts.checked.Checked as checked
+use Rattle.gq_check.specs.contracts.prepared_document.PreparedDocument as kept
+use Rattle.plan_requests.specs.contracts.server.Server as server
+use Rattle.plan_requests.specs.contracts.document_cache.DocumentCache as documents
+use Rattle.gq_check.specs.contracts.checked.CheckedDocument as checked
 use Rattle.gq_check.specs.contracts.plan.Plan as plan
 use Rattle.gq_schema.proofs.input.Input.TheLaws.TheKnot as input
-use Rattle.variable_values.specs.contracts.variable.Variable as variable
-use Rattle.request_plans.specs.contracts.plans.RequestPlan as request_plan
-use Rattle.request_plans.specs.contracts.plans.ArrayPlan as array_plan
+use Rattle.gq_variables.specs.contracts.variable.Variable as variable
+use Rattle.plan_requests.specs.contracts.plans.RequestPlan as request_plan
+use Rattle.plan_requests.specs.contracts.plans.ArrayPlan as array_plan
 use Rattle.load_rounds.proofs.session.Session.TheSendSync as session
 use Rattle.request_line.specs.contracts.reader.LineReader as reader
 use Rattle.serde_json.proofs.value.Value.TheLaws.TheKnot as json

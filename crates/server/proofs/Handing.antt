@@ -1,10 +1,10 @@
--- What a hand did, and what is made of it for the client that it is of.
+-- Lemmas on what a hand did, and what is made of it for the client that it is of.
 use Rattle.std.proofs.Common.{◌≡◌, ◌≤◌, ◌∙◌, ◌⊎◌, ℕ, true, false, List, [], map, length, All, Option, Some, None, Result, Ok, Err, refl, sym, ap, subst, inl, inr, arith}
 use Rattle.std.proofs.lemmas.List.Elements.{All-weaker}
 use Rattle.std.specs.Prelude.{◌↔◌, IfSome, OnOk}
 use Rattle.std.specs.Global.{Vec}
 use Rattle.load_memory.specs.Keys.{KeyOf}
-use Rattle.load_memory.specs.declared.no_memory.NoMemory.{NoMemory}
+use Rattle.std.specs.declared.alloc.AllocError.{AllocError}
 use Rattle.load_memory.specs.declared.outcome.Item.{Item}
 use Rattle.load_queue.specs.Answers.{AnswerOf}
 use Rattle.load_queue.specs.declared.source.FetchFault.{FetchFault}
@@ -18,19 +18,19 @@ use Rattle.rounds_by_hand.specs.Hands.{FarOf, HandOf, handed, out, over, HasGone
 use Rattle.rounds_by_hand.specs.declared.hand.Advance.{Advance}
 use Rattle.rounds_by_hand.specs.declared.hand.Advance.TheVariants as did
 use Rattle.rounds_by_hand.specs.declared.pending.Pending.{Pending}
-use Rattle.request_plans.specs.Servers.{ServerOf}
+use Rattle.plan_requests.specs.Servers.{ServerOf}
 use Rattle.server.specs.Bounded.{bounded_program, bounded_text, bounded_loaders}
 use Rattle.server.specs.Clients.{ClientOf, HasLoaders, IsSameClient, client_of}
 use Rattle.server.specs.Hands.{ByHandOf, answer_in, by_hand_of, IsFinished, IsStepOf, Ends, Steps, AsksAndSteps, GivesFrom, Responds, GivesUp, GoesOn, GoesOnIfMay, HoldsByHand}
 use Rattle.server.specs.Planned.{AskedOf, PlannedOf, PlansAsked, AnswersAsked, IsResponse, is_refused}
 use Rattle.server.specs.declared.bounded.BoundedPlan.{BoundedPlan}
-use Rattle.server.specs.declared.by_hand.Step.{Step}
-use Rattle.server.specs.declared.by_hand.Step.TheVariants as step
+use Rattle.server.specs.declared.by_hand.ClientAdvance.{ClientAdvance}
+use Rattle.server.specs.declared.by_hand.ClientAdvance.TheVariants as step
 use Rattle.server.proofs.Asking.{asked-answered, asked-refused, asked-stops}
 
--- what is made of what a hand did is of the same kind
-each-step : (planned : PlannedOf) (T : Advance → Step → Type 0) → ((answers : Vec Answer) (answer : Answer) → IsResponse planned (map report_of answers.items) (report_of answer) → T (did.Finished answers) (step.Answered answer))
-    → T did.Round step.Round → T did.Waiting step.Waiting → T did.Over step.Over → (d : Advance) (s : Step) → IsStepOf planned d s → T d s
+-- a client's advance is of the kind of the hand's advance
+each-step : (planned : PlannedOf) (T : Advance → ClientAdvance → Type 0) → ((answers : Vec Answer) (answer : Answer) → IsResponse planned (map report_of answers.items) (report_of answer) → T (did.Finished answers) (step.Answered answer))
+    → T did.Round step.Round → T did.Waiting step.Waiting → T did.Over step.Over → (d : Advance) (s : ClientAdvance) → IsStepOf planned d s → T d s
 each-step planned T finished round waiting over' (did.Finished answers) (step.Answered answer) is = finished answers answer is
 each-step planned T finished round waiting over' (did.Finished answers) step.Round is = absurd is
 each-step planned T finished round waiting over' (did.Finished answers) step.Waiting is = absurd is
@@ -65,13 +65,13 @@ module _ {S : Type 0} (server : ServerOf) (most : Option ℕ) (planned : Planned
   abbrev pub held : HandOf S BoundedPlan RootState → ByHandOf S
   held hand = by_hand_of (client_of server most hand.session) planned hand.far
 
-  pub steps : (old new : HandOf S BoundedPlan RootState) (d : Advance) (s : Step) → IsStepOf planned d s → hands.Advances old new d → Steps (held old) (held new) s
+  pub steps : (old new : HandOf S BoundedPlan RootState) (d : Advance) (s : ClientAdvance) → IsStepOf planned d s → hands.Advances old new d → Steps (held old) (held new) s
   steps old new = each-step planned (λ d s. hands.Advances old new d → Steps (held old) (held new) s) (λ answers answer is h. (h.0, inr h.1)) (λ h. h) (λ h. (h.0, ap held h.1)) (λ h. (h.0, ap held h.1))
 
-  pub asks-steps : (old new : HandOf S BoundedPlan RootState) (d : Advance) (s : Step) → IsStepOf planned d s → hands.AsksAndAdvances old new d → AsksAndSteps (held old) (held new) s
+  pub asks-steps : (old new : HandOf S BoundedPlan RootState) (d : Advance) (s : ClientAdvance) → IsStepOf planned d s → hands.AsksAndAdvances old new d → AsksAndSteps (held old) (held new) s
   asks-steps old new = each-step planned (λ d s. hands.AsksAndAdvances old new d → AsksAndSteps (held old) (held new) s) (λ answers answer is h. (h.0, inr h.1)) (λ h. h) (λ h. h) (λ h. (h.0, ap held h.1))
 
-  -- where there are answers it is over
+  -- says where there are answers it is over
   pub finished : (old new : HandOf S BoundedPlan RootState) (d : Advance) → IsFinished d → hands.Advances old new d → Ends (held old) (held new)
   finished old new (did.Finished answers) is h = inr h.1
   finished old new did.Round is h = absurd is
@@ -92,14 +92,14 @@ module _ {S : Type 0} (server : ServerOf) (most : Option ℕ) (planned : Planned
   refused-asks hand refused far answer = (λ e. absurd (cc (sym far ∙ e)), inl (refused, refl))
 
   module _ (may : S → List KeyOf → AnswerOf → Type 0) where
-    -- what was done for the plans of the hand was done for what is planned
+    -- a hand goes on for what is planned as it goes on for its own plans
     as-planned : (begun : SessionOf S) (hand : HandOf S BoundedPlan RootState) (ps qs : List BoundedPlan) → ps ≡ qs → HasGone bounded_program bounded_text may begun hand.session ps hand.far → HasGone bounded_program bounded_text may begun hand.session qs hand.far
     as-planned begun hand ps qs e h = subst (λ (plans : List BoundedPlan). HasGone bounded_program bounded_text may begun hand.session plans hand.far) e h
 
     pub goes : (old new : HandOf S BoundedPlan RootState) → old.plans ≡ planned.plans → new.plans ≡ old.plans → hands.GoesOn bounded_program bounded_text may old new → GoesOn may (held old) (held new)
     goes old new is same go = λ begun h. as-planned begun new new.plans planned.plans (same ∙ is) (go begun (as-planned begun old planned.plans old.plans (sym is) h))
 
-    pub responds : (old new : HandOf S BoundedPlan RootState) → old.plans ≡ planned.plans → new.plans ≡ old.plans → is_refused planned ≡ false → (d : Advance) (s : Step) → IsStepOf planned d s
+    pub responds : (old new : HandOf S BoundedPlan RootState) → old.plans ≡ planned.plans → new.plans ≡ old.plans → is_refused planned ≡ false → (d : Advance) (s : ClientAdvance) → IsStepOf planned d s
         → hands.AnswersFrom bounded_program bounded_text may old new d → Responds may (held old) (held new) s
     responds old new is same open' =
         each-step planned (λ d s. hands.AnswersFrom bounded_program bounded_text may old new d → Responds may (held old) (held new) s) answered (λ _. tt) (λ _. tt) (λ _. tt)
@@ -133,7 +133,7 @@ module _ {S : Type 0} (server : ServerOf) (most : Option ℕ) (planned : Planned
     goes-if-may (Ok x) None answer old new is same h = tt
     goes-if-may (Err e) at' answer old new is same h = tt
 
--- what holds of a client that is handed in
+-- properties of a client that is handed in
 pub handed-in : {S : Type 0} (client : ClientOf S) (planned : PlannedOf) (hand : HandOf S BoundedPlan RootState) → HasLoaders client.server client.session → hand ≡ record { session = client.session; plans = planned.plans; far = handed }
     → All (λ (b : BoundedPlan). bounded_loaders b ≤ planned.loaders) planned.plans → planned.loaders ≤ length client.session.loaders → HoldsByHand (client_of client.server client.most hand.session) planned hand
 handed-in {S} client planned hand has e each fits =
@@ -147,8 +147,8 @@ module _ {S : Type 0} (may : S → List KeyOf → AnswerOf → Type 0) (b new : 
   same-planned : (c : ClientOf S) (asked : AskedOf) → PlansAsked c asked b.planned → PlansAsked c asked new.planned
   same-planned c asked p = subst (λ (what : PlannedOf). PlansAsked c asked what) (sym planned) p
 
-  -- what comes of it after a round came of it before
-  pub polled-again : (given : ClientOf S × Result Answer NoMemory) → GivesFrom may new given → GivesFrom may b given
+  -- says what comes of it after a round came of it before
+  pub polled-again : (given : ClientOf S × Result Answer AllocError) → GivesFrom may new given → GivesFrom may b given
   polled-again given g = record {
     answered = λ c asked h p. g.answered c asked (goes-on c.session h) (same-planned c asked p);
     stopped = λ c asked h p. g.stopped c asked (goes-on c.session h) (same-planned c asked p);
@@ -156,7 +156,7 @@ module _ {S : Type 0} (may : S → List KeyOf → AnswerOf → Type 0) (b new : 
   }
 
   -- memory ran out
-  pub polled-failed : (client : ClientOf S) (e : NoMemory) → client ≡ new.client → GivesUp may new client → GivesFrom may b (client, Err e)
+  pub polled-failed : (client : ClientOf S) (e : AllocError) → client ≡ new.client → GivesUp may new client → GivesFrom may b (client, Err e)
   polled-failed client e is up = record {
     answered = λ c asked h p. tt;
     stopped = λ c asked h p. up c asked (goes-on c.session h) (same-planned c asked p);
@@ -164,7 +164,7 @@ module _ {S : Type 0} (may : S → List KeyOf → AnswerOf → Type 0) (b new : 
   }
 
   -- it answered
-  pub polled-answered : (client : ClientOf S) (s : Step) (answer : Answer) → client ≡ new.client → answer_in s ≡ Some answer → Responds may b new s → GivesFrom may b (client, Ok answer)
+  pub polled-answered : (client : ClientOf S) (s : ClientAdvance) (answer : Answer) → client ≡ new.client → answer_in s ≡ Some answer → Responds may b new s → GivesFrom may b (client, Ok answer)
   polled-answered client (step.Answered own) answer is at responds =
       let own-is : own ≡ answer = cc at in
       record {

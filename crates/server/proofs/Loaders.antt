@@ -16,8 +16,8 @@ use Rattle.load_rounds.specs.Headline.{MakesRounds, StopsAnswering, asked_steps}
 use Rattle.load_rounds.specs.Sessions.{SessionOf, StateOf, state_of, rules_of, session_modes, of_first}
 use Rattle.load_rounds.specs.SharedRounds.{together}
 use Rattle.load_rounds.specs.declared.answer.Answer.{Answer}
-use Rattle.load_memory.specs.declared.no_memory.NoMemory.{NoMemory}
-use Rattle.gq_resolve.specs.declared.limited_plan.Limited.{Limited}
+use Rattle.std.specs.declared.alloc.AllocError.{AllocError}
+use Rattle.gq_resolve.specs.declared.limited_plan.LimitedPlan.{LimitedPlan}
 use Rattle.server.specs.Plans.{limited_program, limited_requests}
 use Rattle.server.specs.Runners.{RunsPlan, RunsPlans}
 use Rattle.load_rounds.proofs.Stepping.{steps-made}
@@ -50,10 +50,10 @@ module _ {S : Type 0} where
 
 -- whoever ran the batches of plans
 module _ {S : Type 0} (may : S → List KeyOf → AnswerOf → Type 0) (old new : SessionOf S) where
-  pub plan-many : (l : Limited) (r : Result Answer NoMemory) → RunsPlan may old l r new → length new.loaders ≡ length old.loaders
+  pub plan-many : (l : LimitedPlan) (r : Result Answer AllocError) → RunsPlan may old l r new → length new.loaders ≡ length old.loaders
   plan-many l (Ok a) h = rounds-many may (state_of old) (state_of new) (limited_program l) h.answer.log h.answer.made
   plan-many l (Err e) h = stops-many may (state_of old) (state_of new) (limited_program l) h.stopped
 
-  pub plans-many : (ls : List Limited) (r : Result (Vec Answer) NoMemory) → RunsPlans may old ls r new → length new.loaders ≡ length old.loaders
+  pub plans-many : (ls : List LimitedPlan) (r : Result (Vec Answer) AllocError) → RunsPlans may old ls r new → length new.loaders ≡ length old.loaders
   plans-many ls (Ok a) h = rounds-many may (state_of old) (state_of new) (together (limited_requests ls)) h.answers.log h.answers.made
   plans-many ls (Err e) h = stops-many may (state_of old) (state_of new) (together (limited_requests ls)) h.stopped

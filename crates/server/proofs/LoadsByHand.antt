@@ -1,4 +1,4 @@
--- What the calls of a load by hand make of a client.
+-- Lemmas on what the calls of a load by hand make of a client.
 use Rattle.std.proofs.Common.{◌≤◌, ℕ, List, length, arith}
 use Rattle.load_memory.specs.Keys.{KeyOf}
 use Rattle.load_queue.specs.Answers.{AnswerOf}

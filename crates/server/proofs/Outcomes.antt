@@ -1,4 +1,4 @@
--- What came of calls.
+-- Lemmas on what came of calls.
 use Rattle.std.proofs.Common.{◌≡◌, ◌∙◌, List, ◌∷◌, map, length, sym, ap, refl, Result, Ok, Err}
 use Rattle.std.specs.Prelude.{IfOk, OnErr, IsErrOf}
 use Rattle.std.proofs.lemmas.List.{length-map}
@@ -13,7 +13,7 @@ use Rattle.load_rounds.specs.declared.fault.SessionFault.TheVariants.{NoSuchLoad
 use Rattle.load_rounds.proofs.Histories.{call-leads}
 use Rattle.load_rounds.proofs.Stepping.{steps-made}
 
--- what holds anyway holds of a failure
+-- a property that holds anyway holds of a failure
 pub anyway : {T E P : Type 0} (r : Result T E) → P → OnErr r P
 anyway (Ok x) p = tt
 anyway (Err e) p = p

@@ -12,9 +12,9 @@ use Rattle.load_rounds.specs.Sessions.{SessionOf, StateOf, state_of}
 use Rattle.load_rounds.specs.SharedRounds.{ReportOf, AreShared, SharedHeadline, greatest, report_of}
 use Rattle.load_rounds.specs.declared.answer.Answer.{Answer}
 use Rattle.request_line.specs.Requests.{RequestOf}
-use Rattle.request_plans.specs.Servers.{ServerOf}
-use Rattle.request_plans.specs.Planning.{HasPlan, PlanValues}
-use Rattle.request_plans.proofs.Requests.{planned-valid}
+use Rattle.plan_requests.specs.Servers.{ServerOf}
+use Rattle.plan_requests.specs.Planning.{HasPlan, PlanValues}
+use Rattle.plan_requests.proofs.Requests.{planned-valid}
 use Rattle.server.specs.Clients.{ClientOf}
 use Rattle.server.specs.Plans.{requests_within}
 use Rattle.server.specs.Arrays.{PlaceOf, refused, answered, IsInPlace, text_in, plans_in, reports_in, in_places, array_text, AnswersArray}
@@ -87,7 +87,7 @@ module _ (s : ServerOf) where
         texts_are = ap (λ l. t.text ∷ l) f.texts_are;
       }
 
--- the same of what the program holds
+-- shows the same of what the program holds
 pub texts-report : (answers : List Answer) → map (λ (t : ReportOf). t.text) (map report_of answers) ≡ map (λ (a : Answer). string_bytes a.text) answers
 texts-report [] = refl
 texts-report (a ∷ as') = ap (λ ts. string_bytes a.text ∷ ts) (texts-report as')

@@ -1,4 +1,4 @@
--- What answers a request of a client, in the session that was given.
+-- Definitions of what answers a request of a client, in the session that was given.
 use Rattle.std.specs.Prelude.{◌≡◌, ℕ, List}
 use Rattle.load_memory.specs.Keys.{KeyOf}
 use Rattle.load_queue.specs.Answers.{AnswerOf}
@@ -10,7 +10,7 @@ use Rattle.load_rounds.specs.Headline.{Headline, StopsAnswering}
 use Rattle.load_rounds.specs.Sessions.{SessionOf, state_of}
 use Rattle.load_rounds.specs.SharedRounds.{ReportOf}
 use Rattle.request_line.specs.Requests.{RequestOf}
-use Rattle.request_plans.specs.Planning.{IsPlanned, IsRefusal}
+use Rattle.plan_requests.specs.Planning.{IsPlanned, IsRefusal}
 use Rattle.server.specs.Clients.{ClientOf}
 
 -- a text for which nothing was asked
@@ -26,11 +26,14 @@ module _ {S : Type 0} (may : S → List KeyOf → AnswerOf → Type 0) where
 
   -- A request is refused for its first fault, and the session is as it was; or its plan is answered.
   pub data AnswersRequest (c : ClientOf S) (request : RequestOf) (report : ReportOf) (new : SessionOf S) : Type 0 where
-    refused : {text : List ℕ} → IsRefusal c.server request text → report ≡ unasked text → new ≡ c.session → AnswersRequest c request report new
-    planned : {plan : PlanOf} → IsPlanned c.server request plan → AnswersPlan c plan report new → AnswersRequest c request report new
+    refused : {text : List ℕ} → IsRefusal c.server request text
+        → report ≡ unasked text → new ≡ c.session → AnswersRequest c request report new
+    planned : {plan : PlanOf} → IsPlanned c.server request plan
+        → AnswersPlan c plan report new → AnswersRequest c request report new
 
   -- Memory ran out: the session is as it was, or the finished rounds of the request's plan stay, and perhaps one more was lost.
   pub data StopsRequest (c : ClientOf S) (request : RequestOf) (new : SessionOf S) : Type 0 where
     unplanned : new ≡ c.session → StopsRequest c request new
-    stopped : {plan : PlanOf} → IsPlanned c.server request plan → StopsAnswering may (state_of c.session) (state_of new) (plan_program plan)
+    stopped : {plan : PlanOf} → IsPlanned c.server request plan
+        → StopsAnswering may (state_of c.session) (state_of new) (plan_program plan)
         → StopsRequest c request new

@@ -1,4 +1,5 @@
--- What answers an array of requests of a client: its answers in brackets, of which those of plans are given over the one session.
+-- Definitions of what answers an array of requests of a client: its answers in brackets, of which those of plans are given over the one
+-- session.
 use Rattle.std.specs.Prelude.{◌≡◌, ℕ, List, [], ◌∷◌, ◌++◌, map, option_map, Option, Some, None, codes, String, string_bytes}
 use Rattle.std.specs.List.{All, AllZip, join_by}
 use Rattle.std.specs.declared.alloc.Global.{Global}
@@ -11,12 +12,12 @@ use Rattle.load_rounds.specs.Headline.{StopsAnswering}
 use Rattle.load_rounds.specs.Sessions.{SessionOf, state_of}
 use Rattle.load_rounds.specs.SharedRounds.{ReportOf, together, greatest, SharedHeadline}
 use Rattle.request_line.specs.Requests.{RequestOf}
-use Rattle.request_plans.specs.Servers.{ServerOf}
-use Rattle.request_plans.specs.Planning.{IsRefused, HasPlan, PlanValues}
+use Rattle.plan_requests.specs.Servers.{ServerOf}
+use Rattle.plan_requests.specs.Planning.{IsRefused, HasPlan, PlanValues}
 use Rattle.server.specs.Clients.{ClientOf}
 use Rattle.server.specs.Plans.{requests_within}
 
--- what stands in the place of a value: its refusal, or what its plan was answered
+-- says what stands in the place of a value: its refusal, or what its plan was answered
 pub data PlaceOf : Type 0 where
   refused : List ℕ → PlaceOf
   answered : PlanOf → ReportOf → PlaceOf
@@ -70,5 +71,6 @@ module _ {S : Type 0} (may : S → List KeyOf → AnswerOf → Type 0) where
   -- Memory ran out: the session is as it was, or the finished rounds of the plans stay, and perhaps one more was lost.
   pub data StopsArray (c : ClientOf S) (values : List (Option RequestOf)) (new : SessionOf S) : Type 0 where
     unplanned : new ≡ c.session → StopsArray c values new
-    stopped : (refusals : List (Option (List ℕ))) (plans : List PlanOf) → PlanValues c.server values refusals plans
+    stopped : (refusals : List (Option (List ℕ))) (plans : List PlanOf)
+        → PlanValues c.server values refusals plans
         → StopsAnswering may (state_of c.session) (state_of new) (together (requests_within c.most plans)) → StopsArray c values new

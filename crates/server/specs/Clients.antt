@@ -1,4 +1,4 @@
--- What a contract sees of a client's session.
+-- Definitions of what a contract sees of a client's session.
 use Rattle.std.specs.Prelude.{◌≡◌, ◌≤◌, ℕ, List, Option, length}
 use Rattle.load_memory.specs.Keys.{KeyOf}
 use Rattle.load_memory.specs.Outcomes.{ItemOf, OutcomeOf}
@@ -6,7 +6,7 @@ use Rattle.load_memory.specs.Pairs.{PairOf, look}
 use Rattle.load_queue.specs.Answers.{AnswerOf}
 use Rattle.execution.specs.Rounds.{without_failed}
 use Rattle.execution.specs.Sessions.{Cell}
-use Rattle.request_plans.specs.Servers.{ServerOf}
+use Rattle.plan_requests.specs.Servers.{ServerOf}
 use Rattle.load_rounds.specs.Calls.{cell_at, pair_at}
 use Rattle.load_rounds.specs.Histories.{Call, IsCallOf}
 use Rattle.load_rounds.specs.Sessions.{SessionOf, restarted, state_of}
@@ -42,10 +42,11 @@ module _ {S : Type 0} where
   abbrev pub client_pair : ClientOf S → ℕ → KeyOf → ItemOf → PairOf
   client_pair c loader key item = pair_at (state_of c.session) loader key item
 
-  -- what is known of that key once failed batches are forgotten
+  -- gives what is known of that key once failed batches are forgotten
   abbrev pub known_of : ClientOf S → ℕ → KeyOf → Option OutcomeOf
   known_of c loader key = without_failed (look c.session.pairs) loader (client_cell c loader key).1
 
-  -- what a call makes of the client's session
-  abbrev pub IsClientCall : (S → List KeyOf → AnswerOf → Type 0) → Call → ClientOf S → ClientOf S → Type 0
+  -- says what a call makes of the client's session
+  abbrev pub IsClientCall : (S → List KeyOf → AnswerOf → Type 0)
+      → Call → ClientOf S → ClientOf S → Type 0
   IsClientCall may call old new = IsCallOf may call old.session new.session

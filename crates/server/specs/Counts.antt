@@ -1,4 +1,4 @@
--- How many loads the answer to a text of a client reads, over what the client's session knows.
+-- Definitions of how many loads the answer to a text of a client reads, over what the client's session knows.
 use Rattle.std.specs.Prelude.{◌≡◌, ℕ, List, [], ◌∷◌, map, Option}
 use Rattle.load_memory.specs.Pairs.{MemoryOf}
 use Rattle.gq_check.specs.Plans.{PlanOf}
@@ -7,27 +7,30 @@ use Rattle.gq_resolve.specs.Evaluated.{reader}
 use Rattle.gq_resolve.specs.Counting.{all_read, counted}
 use Rattle.load_rounds.specs.Sessions.{SessionOf, state_of, session_modes}
 use Rattle.request_line.specs.Requests.{RequestOf, IsRequest, AreRequests, IsNoRequest}
-use Rattle.request_plans.specs.Servers.{ServerOf}
-use Rattle.request_plans.specs.Planning.{IsPlanned, IsRefusal, PlanValues}
+use Rattle.plan_requests.specs.Servers.{ServerOf}
+use Rattle.plan_requests.specs.Planning.{IsPlanned, IsRefusal, PlanValues}
 
 -- the plans that a text asks for, in order: none where it is no request, and none for a request that is refused
 pub data AsksPlans (s : ServerOf) (text : List ℕ) (plans : List PlanOf) : Type 0 where
   no_request : IsNoRequest text → plans ≡ [] → AsksPlans s text plans
-  refused : {r : RequestOf} {refusal : List ℕ} → IsRequest text r → IsRefusal s r refusal → plans ≡ [] → AsksPlans s text plans
-  planned : {r : RequestOf} {plan : PlanOf} → IsRequest text r → IsPlanned s r plan → plans ≡ plan ∷ [] → AsksPlans s text plans
-  several : {values : List (Option RequestOf)} (refusals : List (Option (List ℕ))) → AreRequests text values → PlanValues s values refusals plans
+  refused : {r : RequestOf} {refusal : List ℕ} → IsRequest text r
+      → IsRefusal s r refusal → plans ≡ [] → AsksPlans s text plans
+  planned : {r : RequestOf} {plan : PlanOf} → IsRequest text r
+      → IsPlanned s r plan → plans ≡ plan ∷ [] → AsksPlans s text plans
+  several : {values : List (Option RequestOf)} (refusals : List (Option (List ℕ)))
+      → AreRequests text values → PlanValues s values refusals plans
       → AsksPlans s text plans
 
 module _ {S : Type 0} where
-  -- what the session knows, and how each loader compares its keys
+  -- gives what the session knows, and how each loader compares its keys
   abbrev pub known_in : SessionOf S → MemoryOf
   known_in session = record { modes = session_modes (state_of session); pairs = session.pairs }
 
-  -- how many loads plans read over what the session knows, one plan after another
+  -- gives how many loads plans read over what the session knows, one plan after another
   abbrev pub plans_read : SessionOf S → List PlanOf → ℕ
   plans_read session plans = all_read (map plan_program plans) (reader (known_in session))
 
-  -- so many loads are read by the plans that a text asks for
+  -- the plans that a text asks for read `count` loads
   pub record CountsText (s : ServerOf) (session : SessionOf S) (text : List ℕ) (count : ℕ) : Type 0 where
     pub plans : List PlanOf
     pub asks : AsksPlans s text plans

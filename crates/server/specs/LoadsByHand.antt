@@ -36,4 +36,5 @@ module _ {S : Type 0} where
     -- The client as it is when the load is given up: nothing was done in its session, or what a call does that stops.
     abbrev pub ClientStopsLoad : LoadByHandOf S → ClientOf S → Type 0
     ClientStopsLoad old client =
-        (c : ClientOf S) → IsLoadUnderway may c.session (load_in old) → (client.session ≡ c.session) ⊎ IsClientCall may (StoppedLoading old.loader old.keys) c client
+        (c : ClientOf S) → IsLoadUnderway may c.session (load_in old) → (client.session ≡ c.session)
+        ⊎ IsClientCall may (StoppedLoading old.loader old.keys) c client

@@ -10,7 +10,7 @@ use Rattle.gq_bindings.specs.Tree as bindings
 use Rattle.gq_bindings.specs.Seen.{loader_of}
 use Rattle.gq_bindings.specs.declared.binding.LoaderLine.{LoaderLine}
 
--- how the keys of a loader's line are compared
+-- gives how the keys of a loader's line are compared
 abbrev pub mode_of : Option ByOf → KeyMode
 mode_of None = Exact
 mode_of (Some by) = if by.fold then FoldAscii else Exact
@@ -20,9 +20,12 @@ abbrev pub new_loader : {S : Type 0} → Option ℕ → bindings.LoaderOf → S 
 new_loader limit line source = record { name = line.name; source = source; mode = mode_of line.by; limit = limit; log = []; orders = 0 }
 
 -- The loaders are new ones of these lines, in order, and a call of f at each line, in order, gave its source.
-abbrev pub AreOpened : {S F : Type 0} → Mut F (Bor LoaderLine × Unit {0}) S → F → Option ℕ → List bindings.LoaderOf → List (LoaderOf S) → Type 0
+abbrev pub AreOpened : {S F : Type 0} → Mut F (Bor LoaderLine × Unit {0}) S
+    → F → Option ℕ → List bindings.LoaderOf → List (LoaderOf S) → Type 0
 AreOpened g f limit [] [] = Unit {0}
 AreOpened g f limit [] (l ∷ ls) = ⊥
 AreOpened g f limit (line ∷ lines) [] = ⊥
-AreOpened {S} {F} g f limit (line ∷ lines) (l ∷ ls) = (shown : Bor LoaderLine) × (source : S) × (later : F) × (loader_of shown.now ≡ line)
-    × Called g f (shown, tt) source later × (l ≡ new_loader limit line source) × AreOpened g later limit lines ls
+AreOpened {S} {F} g f limit (line ∷ lines) (l ∷ ls) = (shown : Bor LoaderLine)
+    × (source : S) × (later : F) × (loader_of shown.now ≡ line)
+    × Called g f (shown, tt) source later × (l ≡ new_loader limit line source)
+    × AreOpened g later limit lines ls

@@ -1,4 +1,4 @@
--- What is planned of what is asked, and what answers it.
+-- Plans of what is asked, and what answers them.
 use Rattle.std.specs.Prelude.{◌≡◌, ℕ, Bool, true, false, List, [], ◌∷◌, map, Option, Some, None}
 use Rattle.load_memory.specs.Keys.{KeyOf}
 use Rattle.load_queue.specs.Answers.{AnswerOf}
@@ -6,10 +6,10 @@ use Rattle.gq_check.specs.Plans.{PlanOf}
 use Rattle.load_rounds.specs.Sessions.{SessionOf}
 use Rattle.load_rounds.specs.SharedRounds.{ReportOf, greatest}
 use Rattle.request_line.specs.Requests.{RequestOf, IsRequest, AreRequests, IsNoRequest}
-use Rattle.request_plans.specs.Planning.{PlanValues, PlansValue, PlansArray}
-use Rattle.request_plans.specs.declared.plans.ArrayPlan.{ArrayPlan}
-use Rattle.request_plans.specs.declared.plans.RequestPlan.{RequestPlan}
-use Rattle.request_plans.specs.Servers.{ServerOf}
+use Rattle.plan_requests.specs.Planning.{PlanValues, PlansValue, PlansArray}
+use Rattle.plan_requests.specs.declared.plans.ArrayPlan.{ArrayPlan}
+use Rattle.plan_requests.specs.declared.plans.RequestPlan.{RequestPlan}
+use Rattle.plan_requests.specs.Servers.{ServerOf}
 use Rattle.server.specs.Answers.{unasked, AnswersRequest, StopsRequest}
 use Rattle.server.specs.Arrays.{AnswersArray, StopsArray, array_text, in_places}
 use Rattle.server.specs.Bounded.{AreBounded}
@@ -17,17 +17,19 @@ use Rattle.server.specs.Clients.{ClientOf}
 use Rattle.server.specs.Lines.{AnswersText, StopsText}
 use Rattle.server.specs.declared.bounded.BoundedPlan.{BoundedPlan}
 
--- asked alone, a value has this refusal or this plan
+-- a value that is asked alone has this refusal or this plan
 abbrev pub PlansAlone : RequestPlan → ArrayPlan → Type 0
-PlansAlone plan array = (s : ServerOf) (value : Option RequestOf) → PlansValue s value plan → PlansArray s (value ∷ []) array
+PlansAlone plan array = (s : ServerOf) (value : Option RequestOf)
+    → PlansValue s value plan → PlansArray s (value ∷ []) array
 
--- what is asked: a request, several, or text that may be either
+-- says what is asked: a request, several, or text that may be either
 pub data AskedOf : Type 0 where
   one : RequestOf → AskedOf
   several : List (Option RequestOf) → AskedOf
   text : List ℕ → AskedOf
 
--- whether several are asked, the refusal of each that has no plan, the plans of the others, and below which number their loaders are
+-- tells whether several are asked, the refusal of each that has no plan, the plans of the others, and below which number their
+-- loaders are
 pub record PlannedOf : Type 0 where
   pub many : Bool
   pub refusals : List (Option (List ℕ))
@@ -43,20 +45,25 @@ refuses_one false (plan ∷ plans) = false
 abbrev pub is_refused : PlannedOf → Bool
 is_refused planned = refuses_one planned.many planned.plans
 
--- what is planned of a text: it is no request, or one, or several
+-- says what is planned of a text: it is no request, or one, or several
 pub data IsTextPlanned (s : ServerOf) (asked : List ℕ) (many : Bool) (refusals : List (Option (List ℕ))) (plans : List PlanOf) : Type 0 where
-  no_request : IsNoRequest asked → many ≡ false → PlanValues s (None ∷ []) refusals plans → IsTextPlanned s asked many refusals plans
-  request : {r : RequestOf} → IsRequest asked r → many ≡ false → PlanValues s (Some r ∷ []) refusals plans → IsTextPlanned s asked many refusals plans
-  several_requests : {values : List (Option RequestOf)} → AreRequests asked values → many ≡ true → PlanValues s values refusals plans
+  no_request : IsNoRequest asked → many ≡ false → PlanValues s (None ∷ []) refusals plans
+      → IsTextPlanned s asked many refusals plans
+  request : {r : RequestOf} → IsRequest asked r → many ≡ false
+      → PlanValues s (Some r ∷ []) refusals plans → IsTextPlanned s asked many refusals plans
+  several_requests : {values : List (Option RequestOf)} → AreRequests asked values
+      → many ≡ true → PlanValues s values refusals plans
       → IsTextPlanned s asked many refusals plans
 
--- what is asked of a server has these refusals and plans
+-- a server plans what it is asked with these refusals and plans
 abbrev pub IsPlannedAs : ServerOf → AskedOf → Bool → List (Option (List ℕ)) → List PlanOf → Type 0
-IsPlannedAs s (one r) many refusals plans = (many ≡ false) × PlanValues s (Some r ∷ []) refusals plans
-IsPlannedAs s (several values) many refusals plans = (many ≡ true) × PlanValues s values refusals plans
+IsPlannedAs s (one r) many refusals plans = (many ≡ false)
+    × PlanValues s (Some r ∷ []) refusals plans
+IsPlannedAs s (several values) many refusals plans = (many ≡ true)
+    × PlanValues s values refusals plans
 IsPlannedAs s (text asked) many refusals plans = IsTextPlanned s asked many refusals plans
 
--- What is asked of a client is planned: over its server, and within its limit.
+-- A client plans what it is asked over its server, and within its limit.
 pub record PlansAsked {S : Type 0} (c : ClientOf S) (asked : AskedOf) (planned : PlannedOf) : Type 0 where
   pub plans : List PlanOf
   pub bounded : AreBounded c.most plans planned.plans
@@ -70,14 +77,15 @@ IsOneResponse refusals reports report = Unit {0}
 
 abbrev pub IsResponseOf : Bool → List (Option (List ℕ)) → List ReportOf → ReportOf → Type 0
 IsResponseOf true refusals reports report =
-    (report.text ≡ array_text (in_places refusals (map (λ (t : ReportOf). t.text) reports))) × (report.rounds ≡ greatest reports)
+    (report.text ≡ array_text (in_places refusals (map (λ (t : ReportOf). t.text) reports)))
+    × (report.rounds ≡ greatest reports)
 IsResponseOf false refusals reports report = IsOneResponse refusals reports report
 
 abbrev pub IsResponse : PlannedOf → List ReportOf → ReportOf → Type 0
 IsResponse planned reports report = IsResponseOf planned.many planned.refusals reports report
 
 module _ {S : Type 0} (may : S → List KeyOf → AnswerOf → Type 0) where
-  -- what is asked of a client is answered in its session
+  -- a client answers what it is asked in its session
   abbrev pub AnswersAsked : ClientOf S → AskedOf → ReportOf → SessionOf S → Type 0
   AnswersAsked c (one r) report new = AnswersRequest may c r report new
   AnswersAsked c (several values) report new = AnswersArray may c values report new

@@ -6,26 +6,26 @@ use Rattle.plan_program.specs.PlanPrograms.{plan_program}
 use Rattle.load_rounds.specs.Sessions.{SessionOf}
 use Rattle.load_rounds.specs.SharedRounds.{RequestOf, requests}
 use Rattle.gq_resolve.specs.Within.{text_within}
-use Rattle.gq_resolve.specs.declared.limited_plan.Limited.{Limited}
+use Rattle.gq_resolve.specs.declared.limited_plan.LimitedPlan.{LimitedPlan}
 
-abbrev pub limited_program : Limited → Program
+abbrev pub limited_program : LimitedPlan → Program
 limited_program l = plan_program (plan_of l.plan.now)
 
--- what plans ask, each within its limit
-abbrev pub limited_requests : List Limited → List RequestOf
+-- gives what plans ask, each within its limit
+abbrev pub limited_requests : List LimitedPlan → List RequestOf
 limited_requests plans = requests limited_program (λ l. text_within l.most) plans
 
--- what plans ask, all within one limit
+-- gives what plans ask, all within one limit
 abbrev pub requests_within : Option ℕ → List PlanOf → List RequestOf
 requests_within most plans = requests plan_program (λ plan. text_within most) plans
 
 -- the session has as many loaders as the plan's bindings
-abbrev pub HasLoadersFor : {S : Type 0} → SessionOf S → Limited → Type 0
+abbrev pub HasLoadersFor : {S : Type 0} → SessionOf S → LimitedPlan → Type 0
 HasLoadersFor session l = length (plan_of l.plan.now).bindings.loaders ≤ length session.loaders
 
-abbrev pub plan_and_limit : Limited → PlanOf × Option ℕ
+abbrev pub plan_and_limit : LimitedPlan → PlanOf × Option ℕ
 plan_and_limit limited = (plan_of limited.plan.now, limited.most)
 
 -- the plans, each with this limit
-abbrev pub AreLimited : Option ℕ → List PlanOf → List Limited → Type 0
+abbrev pub AreLimited : Option ℕ → List PlanOf → List LimitedPlan → Type 0
 AreLimited most plans limited = map plan_and_limit limited ≡ map (λ plan. (plan, most)) plans

@@ -19,7 +19,7 @@ abbrev pub item_for_each : List KeyOf → AnswerOf → Type 0
 item_for_each keys (given items) = length items ≡ length keys
 item_for_each keys (failed text) = ⊤
 
--- what is returned is this answer; out of memory is none
+-- the result is this answer; out of memory is none
 abbrev pub Tells : Result (Vec Item) FetchFault → AnswerOf → Type 0
 Tells (Ok items) answer = answer ≡ given (map item_of items.items)
 Tells (Err (Failed text)) answer = answer ≡ failed (string_bytes text)
@@ -28,5 +28,6 @@ Tells (Err NoMemory) answer = ⊥
 module _ {F A : Type 0} (post : F → A → Bor (List Key) → Result (Vec Item) FetchFault → Type 0) where
   -- a call of the function at these keys may return the answer
   abbrev pub may_return : F → List KeyOf → AnswerOf → Type 0
-  may_return f keys answer = (alloc : A) × (shown : Bor (List Key)) × (result : Result (Vec Item) FetchFault)
+  may_return f keys answer = (alloc : A) × (shown : Bor (List Key))
+      × (result : Result (Vec Item) FetchFault)
       × (map key_of shown.now ≡ keys) × post f alloc shown result × Tells result answer

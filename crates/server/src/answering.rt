@@ -7,50 +7,48 @@ ghost use Rattle.load_rounds.specs.Sessions.{state_of};
 ghost use Rattle.load_rounds.specs.SharedRounds.{report_of};
 ghost use Rattle.plan_program.specs.PlanPrograms.{plan_program};
 ghost use Rattle.request_line.specs.Seen.{request_of};
-ghost use Rattle.request_plans.specs.Servers.{ServerOf};
+ghost use Rattle.plan_requests.specs.Servers.{ServerOf};
 ghost use Rattle.server.specs.Answers.{AnswersPlan, AnswersRequest, StopsRequest};
 ghost use Rattle.server.specs.Clients.{HasLoaders, client_of};
 ghost use Rattle.server.specs.Runners.{RunsEach};
 
 use gq_check::Plan;
-use gq_resolve::Limited;
-use load_memory::NoMemory;
-use load_queue::Asks;
+use gq_resolve::LimitedPlan;
+use load_queue::LocalSource;
 use load_rounds::{Answer, Session};
-use request_plans::{KeptDocuments, Request, RequestPlan};
-use std::alloc::Global;
+use plan_requests::{DocumentCache, Request, RequestPlan};
+use std::alloc::{AllocError, Global};
 
 // The answer of a plan in a session, within a limit.
-fn answer_plan<S: Asks, F: Fn(&mut Session<S>, &Limited<'_>) -> Result<Answer, NoMemory>>(
-    run: &F,
-    session: &mut Session<S>,
-    plan: &Plan,
-    most: Option<usize>,
-) -> Result<Answer, NoMemory>
+fn answer_plan<
+    S: LocalSource,
+    F: Fn(&mut Session<S>, &LimitedPlan<'_>) -> Result<Answer, AllocError>,
+>(run: &F, session: &mut Session<S>, plan: &Plan, most: Option<usize>) -> Result<Answer, AllocError>
     requires runs { RunsEach S.may_tell (F.pre run.now) (F.post run.now) }
     requires loaders { length (plan_of plan.now).bindings.loaders ≤ length session.old.loaders }
     ensures answered { (s : ServerOf) → IfOk result (λ a. AnswersPlan S.may_tell (client_of s most session.old) (plan_of plan.now)
         (report_of a) session.new) }
-    ensures stopped { OnErr result (StopsAnswering S.may_tell (state_of session.old) (state_of session.new) (plan_program (plan_of plan.now))) }
+    ensures stopped { OnErr result (StopsAnswering S.may_tell (state_of session.old)
+        (state_of session.new) (plan_program (plan_of plan.now))) }
     ensures loaders { length session.new.loaders ≡ length session.old.loaders }
 {
     // A contract sees here that the plan is of a valid document.
     let _ = plan.operation();
-    run(session, &Limited { plan, most })
+    run(session, &LimitedPlan { plan, most })
 }
 
 /// The response to a request: the refusal of its first fault, or the answer of its plan in the session, within a limit.
 pub(crate) fn answer_request<
-    S: Asks,
-    F: Fn(&mut Session<S>, &Limited<'_>) -> Result<Answer, NoMemory>,
+    S: LocalSource,
+    F: Fn(&mut Session<S>, &LimitedPlan<'_>) -> Result<Answer, AllocError>,
 >(
     alloc: Global,
     run: &F,
-    kept: &mut KeptDocuments,
+    kept: &mut DocumentCache,
     session: &mut Session<S>,
     request: &Request<'_>,
     most: Option<usize>,
-) -> Result<Answer, NoMemory>
+) -> Result<Answer, AllocError>
     requires runs { RunsEach S.may_tell (F.pre run.now) (F.post run.now) }
     requires loaders { HasLoaders kept.old.server session.old }
     ensures answered { IfOk result (λ a. AnswersRequest S.may_tell (client_of kept.old.server most session.old) (request_of request.now)

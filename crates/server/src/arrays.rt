@@ -1,9 +1,13 @@
 //! Answers to arrays of requests, whose plans are answered together in one session.
+//!
+//! All documents are kept before any value is planned, so that the values are planned over the same documents.
+//! What is wrong with a query isn't remembered in between, so a query that is refused is read twice, and so is
+//! one that others of the array drop for want of room.
 
 ghost use Rattle.std.specs.Prelude.{◌≡◌, length, map, IfOk, OnErr, option_map, string_bytes};
 ghost use Rattle.load_rounds.specs.SharedRounds.{greatest, report_of};
 ghost use Rattle.request_line.specs.Seen.{requests_of};
-ghost use Rattle.request_plans.specs.Planning.{refusals_of, plans_of};
+ghost use Rattle.plan_requests.specs.Planning.{refusals_of, plans_of};
 ghost use Rattle.gq_check.specs.Plans.{plan_of};
 ghost use Rattle.server.specs.Arrays.{AnswersArray, StopsArray, array_text, texts_of};
 ghost use Rattle.server.specs.Clients.{HasLoaders, client_of};
@@ -11,24 +15,23 @@ ghost use Rattle.server.specs.Plans.{AreLimited};
 ghost use Rattle.server.specs.Runners.{RunsAll};
 
 use gq_check::Plan;
-use gq_resolve::Limited;
-use load_memory::NoMemory;
-use load_queue::Asks;
+use gq_resolve::LimitedPlan;
+use load_queue::LocalSource;
 use load_rounds::{Answer, Session};
-use request_plans::{KeptDocuments, Request};
+use plan_requests::{DocumentCache, Request};
 use std::alloc::{AllocError, Global};
 
 // The plans in order, each with this limit.
-fn limited<'p>(
+fn limit_plans<'p>(
     alloc: Global,
     plans: &'p [Plan],
     most: Option<usize>,
-) -> Result<Vec<Limited<'p>>, AllocError>
+) -> Result<Vec<LimitedPlan<'p>>, AllocError>
     ensures { IfOk result (λ limited. AreLimited most (map plan_of plans.entry.now) limited.items) }
 {
     let mut limited = Vec::with_capacity(alloc, plans.len())?;
     for plan in plans {
-        limited.push(Limited { plan, most })?;
+        limited.push(LimitedPlan { plan, most })?;
     }
     Ok(limited)
 }
@@ -39,7 +42,8 @@ fn texts<'t>(
     refusals: &'t [Option<String>],
     answers: &'t [Answer],
 ) -> Result<Vec<&'t str>, AllocError>
-    ensures { IfOk result (λ texts. map (λ t. t.now) texts.items ≡ texts_of refusals.entry.now answers.entry.now) }
+    ensures { IfOk result (λ texts.
+        map (λ t. t.now) texts.items ≡ texts_of refusals.entry.now answers.entry.now) }
 {
     let mut texts = Vec::with_capacity(alloc, refusals.len())?;
     let mut left = answers;
@@ -60,7 +64,8 @@ pub(crate) fn array_answer(
     refusals: &[Option<String>],
     answers: &[Answer],
 ) -> Result<Answer, AllocError>
-    ensures text { IfOk result (λ answer. string_bytes answer.text ≡ array_text (texts_of refusals.now answers.now)) }
+    ensures text { IfOk result (λ answer.
+        string_bytes answer.text ≡ array_text (texts_of refusals.now answers.now)) }
     ensures rounds { IfOk result (λ answer. answer.rounds ≡ greatest (map report_of answers.now)) }
 {
     let texts = texts(alloc, refusals, answers)?;
@@ -85,27 +90,28 @@ fn most_rounds(answers: &[Answer]) -> u32
 /// The response to an array of requests, of which `None` is a value that is no request: each value is refused or answered in its place.
 /// All plans are answered in the session, within a limit each.
 pub(crate) fn answer_requests<
-    S: Asks,
-    G: Fn(&mut Session<S>, &[Limited<'_>]) -> Result<Vec<Answer>, NoMemory>,
+    S: LocalSource,
+    G: Fn(&mut Session<S>, &[LimitedPlan<'_>]) -> Result<Vec<Answer>, AllocError>,
 >(
     alloc: Global,
     run: &G,
-    kept: &mut KeptDocuments,
+    kept: &mut DocumentCache,
     session: &mut Session<S>,
     values: &[Option<Request<'_>>],
     most: Option<usize>,
-) -> Result<Answer, NoMemory>
+) -> Result<Answer, AllocError>
     requires runs { RunsAll S.may_tell (G.pre run.now) (G.post run.now) }
     requires loaders { HasLoaders kept.old.server session.old }
     ensures answered { IfOk result (λ a. AnswersArray S.may_tell (client_of kept.old.server most session.old)
         (requests_of values.now) (report_of a) session.new) }
-    ensures stopped { OnErr result (StopsArray S.may_tell (client_of kept.old.server most session.old) (requests_of values.now) session.new) }
+    ensures stopped { OnErr result (StopsArray S.may_tell
+        (client_of kept.old.server most session.old) (requests_of values.now) session.new) }
     ensures server { kept.new.server ≡ kept.old.server }
     ensures loaders { length session.new.loaders ≡ length session.old.loaders }
 {
-    kept.keep_each(alloc, values);
+    kept.cache_each(alloc, values);
     let array = kept.plan_each(alloc, values)?;
-    let plans = limited(alloc, array.plans(), most)?;
+    let plans = limit_plans(alloc, array.plans(), most)?;
     let answers = run(session, &plans)?;
     Ok(array_answer(alloc, array.refusals(), &answers)?)
 }

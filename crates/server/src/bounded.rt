@@ -7,12 +7,12 @@ ghost use Rattle.server.specs.Bounded.{AreBounded};
 use futures::task::Poll;
 use gq_check::Plan;
 use gq_resolve::RootState;
-use load_memory::{Memory, NoMemory};
+use load_memory::Memory;
 use load_queue::Wants;
 use load_rounds::Execute;
 use std::alloc::{AllocError, Global};
 
-/// A plan with a limit, which it owns. It is executed as [`Limited`](gq_resolve::Limited), which borrows its plan.
+/// A plan with a limit, which it owns. It is executed as [`LimitedPlan`](gq_resolve::LimitedPlan), which borrows its plan.
 #[derive(Drop)]
 pub struct BoundedPlan {
     pub(crate) plan: Plan,
@@ -40,7 +40,7 @@ impl<'p> Execute<'p, RootState<'p>> for BoundedPlan {
         alloc: Global,
         memory: &Memory,
         wants: &mut Wants,
-    ) -> Result<Poll<String>, NoMemory> {
+    ) -> Result<Poll<String>, AllocError> {
         match self.most {
             Some(most) => progress.poll_text_within(alloc, memory, wants, most),
             None => progress.poll_text(alloc, memory, wants),
@@ -49,7 +49,10 @@ impl<'p> Execute<'p, RootState<'p>> for BoundedPlan {
 }
 
 /// The plans in order, each within this limit.
-pub(crate) fn bounded(plans: Vec<Plan>, most: Option<usize>) -> Result<Vec<BoundedPlan>, AllocError>
+pub(crate) fn bound_plans(
+    plans: Vec<Plan>,
+    most: Option<usize>,
+) -> Result<Vec<BoundedPlan>, AllocError>
     ensures { IfOk result (λ bounded. AreBounded most (map plan_of plans.items) bounded.items) }
 {
     let mut bounded = Vec::with_capacity(*plans.allocator(), plans.len())?;

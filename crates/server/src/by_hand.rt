@@ -10,19 +10,19 @@ use crate::bounded::BoundedPlan;
 use crate::client::ClientSession;
 use crate::planned::PlannedRequest;
 use gq_resolve::RootState;
-use load_memory::{Item, NoMemory};
-use load_queue::{Asks, FetchFault};
+use load_memory::Item;
+use load_queue::{FetchFault, LocalSource};
 use load_rounds::Answer;
+use plan_requests::DocumentCache;
 use request_line::LineReader;
-use request_plans::KeptDocuments;
 use rounds_by_hand::{Advance, Hand, Pending, TakeFault};
 use std::alloc::{AllocError, Global};
 use std::marker::Model;
 
-/// What a call of [`ByHand::advance`] did.
+/// Says what a call of [`ByHand::advance`] did.
 #[derive(Drop)]
-pub enum Step {
-    /// What was asked is answered, or refused.
+pub enum ClientAdvance {
+    /// An answer to what was asked, or its refusal.
     Answered(Answer),
     /// A new round is out. Its orders are to be answered.
     Round,
@@ -32,7 +32,7 @@ pub enum Step {
     Over,
 }
 
-impl Step {
+impl ClientAdvance {
     ghost use Rattle.server.specs.Hands.{answer_in};
 
     /// The answer, if the call gave one.
@@ -40,14 +40,14 @@ impl Step {
         ensures { result ≡ answer_in self }
     {
         match self {
-            Step::Answered(answer) => Some(answer),
-            Step::Round | Step::Waiting | Step::Over => None,
+            ClientAdvance::Answered(answer) => Some(answer),
+            ClientAdvance::Round | ClientAdvance::Waiting | ClientAdvance::Over => None,
         }
     }
 }
 
-/// What was asked of a client, on its way to the answer, in rounds that the caller runs. It owns the client meanwhile, so no one else can
-/// change its session.
+/// Holds what was asked of a client, on its way to the answer, in rounds that the caller runs. It owns the client meanwhile, so no one else
+/// can change its session.
 ///
 /// It is used in turns. [`advance`](ByHand::advance) returns the answer, or a new round is out: then the caller answers each of its orders
 /// ([`orders`](ByHand::orders)) by its number, in any order ([`answer`](ByHand::answer)), and advances again. How it asks, and what, is
@@ -59,7 +59,7 @@ impl Step {
 #[derive(Drop)]
 pub struct ByHand<'p, S> {
     alloc: Global,
-    documents: KeptDocuments,
+    documents: DocumentCache,
     lines: LineReader,
     max_answer: Option<usize>,
     planned: &'p PlannedRequest,
@@ -90,9 +90,18 @@ impl<'p, S> Model for ByHand<'p, S> {
 impl<S> ClientSession<S> {
     ghost use Rattle.server.specs.Hands.{by_hand_of};
 
-    /// What was planned, to be answered in this client's session by hand. Nothing is done before the first call of
+    /// Returns what was planned, to be answered in this client's session by hand. Nothing is done before the first call of
     /// [`advance`](ByHand::advance), and it takes no memory. What was planned by this client, or by another of its server, may be
     /// answered; [`can_answer`](ClientSession::can_answer) tells where that isn't known.
+    ///
+    /// # Headline
+    ///
+    /// `answered` of the two that advance, by `Responds` of `server/specs/Hands.antt`: the answer to what was
+    /// planned is what `answer`, `answer_all` or `answer_text` answers to it (`AnswersAsked`), from the session
+    /// that the client was handed in with to the one that it has now. `underway`: each call goes on from there, of
+    /// `answer` if the answer is one that the order's source may give. `same` and `client`: the server and the
+    /// limit stay. `plan`, `plan_all` and `plan_text` plan what is asked, within the client's limit (`planned`, by
+    /// `PlansAsked`). Given up at any time: `stopped` of `ByHand::into_client`
     pub fn by_hand<'p>(self, planned: &'p PlannedRequest) -> ByHand<'p, S>
         requires { planned.now.loaders ≤ length self.session.loaders }
         ensures { result ≡ by_hand_of self planned.now handed }
@@ -115,17 +124,23 @@ impl<S> ClientSession<S> {
     }
 }
 
-// What is made of what the hand did.
-fn step_of(alloc: Global, planned: &PlannedRequest, advance: Advance) -> Result<Step, AllocError>
+// Returns what is made of what the hand did.
+fn step_of(
+    alloc: Global,
+    planned: &PlannedRequest,
+    advance: Advance,
+) -> Result<ClientAdvance, AllocError>
     ensures made { IfOk result (IsStepOf planned.now advance) }
     // Only a response takes memory.
     ensures finished { OnErr result (IsFinished advance) }
 {
     match advance {
-        Advance::Finished(answers) => Ok(Step::Answered(planned.response(alloc, answers)?)),
-        Advance::Round => Ok(Step::Round),
-        Advance::Waiting => Ok(Step::Waiting),
-        Advance::Over => Ok(Step::Over),
+        Advance::Finished(answers) => Ok(ClientAdvance::Answered(planned.response(
+            alloc, answers,
+        )?)),
+        Advance::Round => Ok(ClientAdvance::Round),
+        Advance::Waiting => Ok(ClientAdvance::Waiting),
+        Advance::Over => Ok(ClientAdvance::Over),
     }
 }
 
@@ -138,7 +153,7 @@ impl<'p, S> ByHand<'p, S> {
     }
 }
 
-impl<'p, S: Asks> ByHand<'p, S> {
+impl<'p, S: LocalSource> ByHand<'p, S> {
     ghost use Rattle.server.specs.Hands.{AsksAndSteps, Ends, GivesUp, GoesOn, GoesOnIfMay, Responds, Steps};
 
     /// Stores the round that is out, if each of its orders is answered, and goes on over what is known then: returns the answer, or makes
@@ -148,7 +163,16 @@ impl<'p, S: Asks> ByHand<'p, S> {
     ///
     /// Only when out of memory: the finished rounds stay, and a round that was out is lost. It is over then, unless it is a request that is
     /// refused, which can be asked for again.
-    pub fn advance(&mut self) -> Result<Step, NoMemory>
+    ///
+    /// # Headline
+    ///
+    /// `answered` of the two that advance, by `Responds` of `server/specs/Hands.antt`: the answer to what was
+    /// planned is what `answer`, `answer_all` or `answer_text` answers to it (`AnswersAsked`), from the session
+    /// that the client was handed in with to the one that it has now. `underway`: each call goes on from there, of
+    /// `answer` if the answer is one that the order's source may give. `same` and `client`: the server and the
+    /// limit stay. `plan`, `plan_all` and `plan_text` plan what is asked, within the client's limit (`planned`, by
+    /// `PlansAsked`). Given up at any time: `stopped` of `ByHand::into_client`
+    pub fn advance(&mut self) -> Result<ClientAdvance, AllocError>
         ensures stepped { IfOk result (Steps self.old self.new) }
         ensures ended { OnErr result (Ends self.old self.new) }
         ensures underway { GoesOn S.may_tell self.old self.new }
@@ -157,19 +181,30 @@ impl<'p, S: Asks> ByHand<'p, S> {
         ensures planned { self.new.planned ≡ self.old.planned }
     {
         if self.planned.is_refused() {
-            return Ok(Step::Answered(self.planned.response(self.alloc, Vec::new(self.alloc))?));
+            return Ok(ClientAdvance::Answered(
+                self.planned.response(self.alloc, Vec::new(self.alloc))?,
+            ));
         }
         let advance = self.hand.advance()?;
         Ok(step_of(self.alloc, self.planned, advance)?)
     }
 
-    /// Does what [`advance`](ByHand::advance) does, but asks the sources of the session for the orders that nobody has answered. So it never
-    /// waits.
+    /// Does what [`advance`](ByHand::advance) does, but asks the sources of the session for the orders that nobody has answered. So it
+    /// never waits.
     ///
     /// # Errors
     ///
     /// Those of [`advance`](ByHand::advance).
-    pub fn ask_and_advance(&mut self) -> Result<Step, NoMemory>
+    ///
+    /// # Headline
+    ///
+    /// `answered` of the two that advance, by `Responds` of `server/specs/Hands.antt`: the answer to what was
+    /// planned is what `answer`, `answer_all` or `answer_text` answers to it (`AnswersAsked`), from the session
+    /// that the client was handed in with to the one that it has now. `underway`: each call goes on from there, of
+    /// `answer` if the answer is one that the order's source may give. `same` and `client`: the server and the
+    /// limit stay. `plan`, `plan_all` and `plan_text` plan what is asked, within the client's limit (`planned`, by
+    /// `PlansAsked`). Given up at any time: `stopped` of `ByHand::into_client`
+    pub fn ask_and_advance(&mut self) -> Result<ClientAdvance, AllocError>
         ensures stepped { IfOk result (AsksAndSteps self.old self.new) }
         ensures ended { OnErr result (Ends self.old self.new) }
         ensures underway { GoesOn S.may_tell self.old self.new }
@@ -178,7 +213,9 @@ impl<'p, S: Asks> ByHand<'p, S> {
         ensures planned { self.new.planned ≡ self.old.planned }
     {
         if self.planned.is_refused() {
-            return Ok(Step::Answered(self.planned.response(self.alloc, Vec::new(self.alloc))?));
+            return Ok(ClientAdvance::Answered(
+                self.planned.response(self.alloc, Vec::new(self.alloc))?,
+            ));
         }
         let advance = self.hand.ask_and_advance()?;
         Ok(step_of(self.alloc, self.planned, advance)?)
@@ -191,17 +228,29 @@ impl<'p, S: Asks> ByHand<'p, S> {
     ///
     /// [`NoSuchOrder`](TakeFault::NoSuchOrder) and [`Answered`](TakeFault::Answered): nothing has changed then.
     /// [`NoMemory`](TakeFault::NoMemory) when out of memory, or where that is the answer: the round is lost, and it is over.
+    ///
+    /// # Headline
+    ///
+    /// `answered` of the two that advance, by `Responds` of `server/specs/Hands.antt`: the answer to what was
+    /// planned is what `answer`, `answer_all` or `answer_text` answers to it (`AnswersAsked`), from the session
+    /// that the client was handed in with to the one that it has now. `underway`: each call goes on from there, of
+    /// `answer` if the answer is one that the order's source may give. `same` and `client`: the server and the
+    /// limit stay. `plan`, `plan_all` and `plan_text` plan what is asked, within the client's limit (`planned`, by
+    /// `PlansAsked`). Given up at any time: `stopped` of `ByHand::into_client`
     pub fn answer(
         &mut self,
         number: usize,
         answer: Result<Vec<Item>, FetchFault>,
     ) -> Result<(), TakeFault>
-        ensures no_order { IsErrOf result TakeFault.NoSuchOrder ↔ (length (pending_in self.old.far) ≤ number) }
-        ensures answered { IsErrOf result TakeFault.Answered ↔ (is_in_at (slice_get (pending_in self.old.far) number) ≡ true) }
+        ensures no_order { IsErrOf result TakeFault.NoSuchOrder
+            ↔ (length (pending_in self.old.far) ≤ number) }
+        ensures answered { IsErrOf result TakeFault.Answered
+            ↔ (is_in_at (slice_get (pending_in self.old.far) number) ≡ true) }
         ensures none { IsErrOf result TakeFault.NoSuchOrder → self.new ≡ self.old }
         ensures kept { IsErrOf result TakeFault.Answered → self.new ≡ self.old }
         ensures over { IsErrOf result TakeFault.NoMemory → IsOver self.new.far }
-        ensures taken { OnOk result (TakesAnswer (pending_in self.old.far) number answer (pending_in self.new.far)) }
+        ensures taken { OnOk result
+            (TakesAnswer (pending_in self.old.far) number answer (pending_in self.new.far)) }
         // It is still as the sources may answer, if this answer is.
         ensures underway { OnOk result (IfSome (slice_get (pending_in self.old.far) number)
             (GoesOnIfMay S.may_tell answer self.old self.new)) }

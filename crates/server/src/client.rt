@@ -15,22 +15,21 @@ ghost use Rattle.server.specs.Runners.{RunsPlan, RunsPlans, RunsEach, RunsAll};
 
 use crate::answering::answer_request;
 use crate::arrays::answer_requests;
+use crate::batch_runner::{BatchRunner, Workers};
 use crate::counting::line_read;
 use crate::planned::{PlannedRequest, plan_none, plan_one, plan_several};
-use crate::runner::{Runner, Workers};
-use gq_resolve::Limited;
-use load_memory::NoMemory;
-use load_queue::{Asks, Source};
+use gq_resolve::LimitedPlan;
+use load_queue::{LocalSource, Source};
 use load_rounds::{Answer, Session};
+use plan_requests::{DocumentCache, Request, Server, not_a_request};
 use request_line::{Line, LineReader};
-use request_plans::{KeptDocuments, Request, Server, not_a_request};
-use std::alloc::Global;
+use std::alloc::{AllocError, Global};
 use std::marker::Model;
 use std::sync::Wait;
 use std::thread::Threads;
 
-/// What a server keeps for one client: a loader for each `loader` line, one memory of what they returned, and the documents of the client's
-/// queries, so that a query that comes again is neither parsed nor checked again (at most 1,024 texts of 262,144 bytes together).
+/// Holds what a server keeps for one client: a loader for each `loader` line, one memory of what they returned, and the documents of the
+/// client's queries, so that a query that comes again is neither parsed nor checked again (at most 1,024 texts of 262,144 bytes together).
 ///
 /// A request is answered over what the session knows, as with a DataLoader: what an earlier request of the client loaded isn't asked again.
 /// [`restart`](ClientSession::restart) makes it forget.
@@ -39,7 +38,7 @@ use std::thread::Threads;
 #[derive(Drop)]
 pub struct ClientSession<S> {
     pub(crate) alloc: Global,
-    pub(crate) documents: KeptDocuments,
+    pub(crate) documents: DocumentCache,
     pub(crate) lines: LineReader,
     pub(crate) session: Session<S>,
     pub(crate) max_answer: Option<usize>,
@@ -69,15 +68,18 @@ impl<S> ClientSession<S> {
     {
         ClientSession {
             alloc,
-            documents: KeptDocuments::new(alloc, server),
+            documents: DocumentCache::new(alloc, server),
             lines: LineReader::new(),
             session,
             max_answer: None,
         }
     }
 
-    /// From now on the text of an answer has at most so many bytes, that of each value of an array by itself. A longer one is refused with
+    /// From now on the text of an answer has at most `most` bytes, that of each value of an array by itself. A longer one is refused with
     /// `answer too long`, and what is kept of it meanwhile is in proportion to the limit. Refusals aren't measured.
+    ///
+    /// The limit is for what may grow without bound: a refusal has at most one name of the query, and that of
+    /// an answer 42 bytes.
     pub fn limit_answers(&mut self, most: Option<usize>)
         ensures { self.new ≡ client_of self.old.server most self.old.session }
     {
@@ -99,29 +101,31 @@ impl<S> ClientSession<S> {
         &self.session
     }
 
-    /// How many loads the answer to a text reads, over what the session knows: each as often as it is read, and for an array those of all
-    /// its requests. So many calls a plain executor makes, which asks for one key at a time and remembers nothing. Called after
-    /// [`answer_text`](ClientSession::answer_text) with the same text, it says what that answer would have taken so. What is no request or is
-    /// refused reads none; `u64::MAX` stands for that number and all above it.
+    /// Returns how many loads the answer to a text reads, over what the session knows: each as
+    /// often as it is read, and for an array those of all its requests. A plain executor, which
+    /// asks for one key at a time and remembers nothing, makes as many calls. Called after
+    /// [`answer_text`](ClientSession::answer_text) with the same text, it says what that answer
+    /// would have taken so. What is no request or is refused reads none; `u64::MAX` stands for that
+    /// number and all above it.
     ///
     /// It asks for nothing, and goes over the whole answer again.
     ///
     /// # Errors
     ///
     /// Only when out of memory.
-    pub fn loads_read(&mut self, text: &[u8]) -> Result<u64, NoMemory>
+    pub fn loads_read(&mut self, text: &[u8]) -> Result<u64, AllocError>
         ensures counts { IfOk result (CountsText self.old.server self.old.session text.now) }
         ensures same { self.new ≡ self.old }
     {
         match self.lines.read(self.alloc, text) {
             Ok(line) => line_read(self.alloc, &self.documents, &self.session, &line),
-            Err(_) => Err(NoMemory),
+            Err(_) => Err(AllocError),
         }
     }
 
     /// Starts again: nothing is known of any key, the logs are empty, and no round was made. The documents stay. When out of memory,
     /// nothing is changed.
-    pub fn restart(&mut self) -> Result<(), NoMemory>
+    pub fn restart(&mut self) -> Result<(), AllocError>
         ensures begun { OnOk result (self.new ≡ begun self.old) }
         ensures kept { OnErr result (self.new ≡ self.old) }
     {
@@ -132,13 +136,14 @@ impl<S> ClientSession<S> {
 impl<S> ClientSession<S> {
     ghost use Rattle.server.specs.Planned.{PlansAsked, one, several, text as asked_text};
 
-    /// What a request asks of this client: its plan, within the client's limit as it is now, or the text that refuses it. It is answered
-    /// by hand ([`by_hand`](ClientSession::by_hand)) or as a future ([`into_answering`](ClientSession::into_answering)). Nothing is asked.
+    /// Returns what a request asks of this client: its plan, within the client's limit as it is now, or the text that refuses it. It is
+    /// answered by hand ([`by_hand`](ClientSession::by_hand)) or as a future ([`into_answering`](ClientSession::into_answering)). Nothing
+    /// is asked.
     ///
     /// # Errors
     ///
     /// Only when out of memory.
-    pub fn plan(&mut self, request: &Request<'_>) -> Result<PlannedRequest, NoMemory>
+    pub fn plan(&mut self, request: &Request<'_>) -> Result<PlannedRequest, AllocError>
         ensures planned { IfOk result (PlansAsked self.old (one (request_of request.now))) }
         ensures fits { IfOk result (λ planned. planned.loaders ≤ length self.new.session.loaders) }
         ensures same { self.new ≡ self.old }
@@ -147,13 +152,16 @@ impl<S> ClientSession<S> {
         Ok(PlannedRequest::of(self.documents.server(), array, false, self.max_answer)?)
     }
 
-    /// What the requests of an array ask, of which `None` is a value that is no request. Each is planned or refused, as
+    /// Returns what the requests of an array ask, of which `None` is a value that is no request. Each is planned or refused, as
     /// [`plan`](ClientSession::plan) does it.
     ///
     /// # Errors
     ///
     /// Only when out of memory.
-    pub fn plan_all(&mut self, requests: &[Option<Request<'_>>]) -> Result<PlannedRequest, NoMemory>
+    pub fn plan_all(
+        &mut self,
+        requests: &[Option<Request<'_>>],
+    ) -> Result<PlannedRequest, AllocError>
         ensures planned { IfOk result (PlansAsked self.old (several (requests_of requests.now))) }
         ensures fits { IfOk result (λ planned. planned.loaders ≤ length self.new.session.loaders) }
         ensures same { self.new ≡ self.old }
@@ -162,13 +170,13 @@ impl<S> ClientSession<S> {
         Ok(PlannedRequest::of(self.documents.server(), array, true, self.max_answer)?)
     }
 
-    /// What a request that is JSON text asks, or an array of 1 to 16, as [`answer_text`](ClientSession::answer_text) takes it. What is
-    /// neither is refused with `not a request`.
+    /// Returns what a request that is JSON text asks, or an array of 1 to 16, as [`answer_text`](ClientSession::answer_text) takes it. What
+    /// is neither is refused with `not a request`.
     ///
     /// # Errors
     ///
     /// Only when out of memory.
-    pub fn plan_text(&mut self, text: &[u8]) -> Result<PlannedRequest, NoMemory>
+    pub fn plan_text(&mut self, text: &[u8]) -> Result<PlannedRequest, AllocError>
         ensures planned { IfOk result (PlansAsked self.old (asked_text text.now)) }
         ensures fits { IfOk result (λ planned. planned.loaders ≤ length self.new.session.loaders) }
         ensures same { self.new ≡ self.old }
@@ -186,12 +194,12 @@ impl<S> ClientSession<S> {
                 let array = plan_none(self.alloc)?;
                 Ok(PlannedRequest::of(self.documents.server(), array, false, self.max_answer)?)
             }
-            Err(_) => Err(NoMemory),
+            Err(_) => Err(AllocError),
         }
     }
 
-    /// Whether this client's session has the loaders of what was planned. It has those of what it planned itself, and of what was planned
-    /// by another client of its server.
+    /// Tells whether this client's session has the loaders of what was planned. It has those of what it planned itself, and of what was
+    /// planned by another client of its server.
     pub fn can_answer(&self, planned: &PlannedRequest) -> bool
         ensures { (result ≡ true) ↔ (planned.now.loaders ≤ length self.now.session.loaders) }
     {
@@ -199,23 +207,24 @@ impl<S> ClientSession<S> {
     }
 }
 
-/// What is asked: a request, several, or text that may be either.
+/// Says what is asked: a request, several, or text that may be either.
 #[derive(Clone, Copy)]
-pub(crate) enum Asked<'i> {
+pub(crate) enum RequestInput<'i> {
     One(&'i Request<'i>),
     Several(&'i [Option<Request<'i>>]),
     Text(&'i [u8]),
 }
 
-impl<S: Asks> ClientSession<S> {
+impl<S: LocalSource> ClientSession<S> {
     // The response to what is asked, by whoever runs the batches.
     fn respond_by<
-        F: Fn(&mut Session<S>, &Limited<'_>) -> Result<Answer, NoMemory>,
-        G: Fn(&mut Session<S>, &[Limited<'_>]) -> Result<Vec<Answer>, NoMemory>,
-    >(&mut self, runner: &Runner<F, G>, asked: Asked<'_>) -> Result<Answer, NoMemory>
+        F: Fn(&mut Session<S>, &LimitedPlan<'_>) -> Result<Answer, AllocError>,
+        G: Fn(&mut Session<S>, &[LimitedPlan<'_>]) -> Result<Vec<Answer>, AllocError>,
+    >(&mut self, runner: &BatchRunner<F, G>, asked: RequestInput<'_>) -> Result<Answer, AllocError>
         requires one { RunsEach S.may_tell (F.pre runner.now.one) (F.post runner.now.one) }
         requires all { RunsAll S.may_tell (G.pre runner.now.all) (G.post runner.now.all) }
-        ensures answered { IfOk result (λ answer. Answers S.may_tell self.old asked.entry (report_of answer) self.new.session) }
+        ensures answered { IfOk result (λ answer.
+            Answers S.may_tell self.old asked.entry (report_of answer) self.new.session) }
         ensures stopped { OnErr result (Stops S.may_tell self.old asked.entry self.new.session) }
         ensures same { IsSameClient self.old self.new }
     {
@@ -228,13 +237,13 @@ impl<S: Asks> ClientSession<S> {
         } = self;
         let (alloc, most) = (*alloc, *max_answer);
         match asked {
-            Asked::One(request) => {
+            RequestInput::One(request) => {
                 answer_request(alloc, &runner.one, documents, session, request, most)
             }
-            Asked::Several(values) => {
+            RequestInput::Several(values) => {
                 answer_requests(alloc, &runner.all, documents, session, values, most)
             }
-            Asked::Text(text) => match lines.read(alloc, text) {
+            RequestInput::Text(text) => match lines.read(alloc, text) {
                 Ok(Line::One(request)) => {
                     answer_request(alloc, &runner.one, documents, session, &request, most)
                 }
@@ -245,23 +254,27 @@ impl<S: Asks> ClientSession<S> {
                     text: not_a_request(alloc)?,
                     rounds: 0,
                 }),
-                Err(_) => Err(NoMemory),
+                Err(_) => Err(AllocError),
             },
         }
     }
 
     // The response to what is asked, by this thread.
-    fn respond(&mut self, asked: Asked<'_>) -> Result<Answer, NoMemory>
-        ensures answered { IfOk result (λ answer. Answers S.may_tell self.old asked.entry (report_of answer) self.new.session) }
+    fn respond(&mut self, asked: RequestInput<'_>) -> Result<Answer, AllocError>
+        ensures answered { IfOk result (λ answer.
+            Answers S.may_tell self.old asked.entry (report_of answer) self.new.session) }
         ensures stopped { OnErr result (Stops S.may_tell self.old asked.entry self.new.session) }
         ensures same { IsSameClient self.old self.new }
     {
-        let runner = Runner {
-            one: |session: &mut Session<S>, limited: &Limited<'_>| -> Result<Answer, NoMemory>
+        let runner = BatchRunner {
+            one: |session: &mut Session<S>, limited: &LimitedPlan<'_>| -> Result<Answer, AllocError>
                 requires { HasLoadersFor session.old limited.now }
                 ensures { RunsPlan S.may_tell session.old limited.now result session.new }
             { session.answer(limited) },
-            all: |session: &mut Session<S>, plans: &[Limited<'_>]| -> Result<Vec<Answer>, NoMemory>
+            all: |session: &mut Session<S>, plans: &[LimitedPlan<'_>]| -> Result<
+                Vec<Answer>,
+                AllocError,
+            >
                 requires { All (HasLoadersFor session.old) plans.now }
                 ensures { RunsPlans S.may_tell session.old plans.now result session.new }
             { session.answer_all(plans) },
@@ -274,13 +287,24 @@ impl<S: Asks> ClientSession<S> {
     ///
     /// # Errors
     ///
-    /// Only when out of memory: the finished rounds stay, and a round that was out is lost.
-    pub fn answer(&mut self, request: &Request<'_>) -> Result<Answer, NoMemory>
-        ensures answered { IfOk result (λ answer. AnswersRequest S.may_tell self.old (request_of request.now) (report_of answer) self.new.session) }
-        ensures stopped { OnErr result (StopsRequest S.may_tell self.old (request_of request.now) self.new.session) }
+    /// Only when out of memory: the finished rounds stay, and a round that was out is lost (`stopped`). The
+    /// server and the limit are the same (`same`). Documents that were kept may have been let go, which no
+    /// clause shows and which changes no answer.
+    ///
+    /// # Headline
+    ///
+    /// `answered`, by `AnswersRequest`: the request is refused for its first fault and the session is as it was; or
+    /// its plan was answered in that session, from `self.old` to `self.new`, with `Headline` (`AnswersPlan` of
+    /// `server/specs/Answers.antt`). Where the client has a limit, the text is the *Limited text*. Out of memory,
+    /// `stopped`, by `StopsRequest`
+    pub fn answer(&mut self, request: &Request<'_>) -> Result<Answer, AllocError>
+        ensures answered { IfOk result (λ answer. AnswersRequest S.may_tell
+            self.old (request_of request.now) (report_of answer) self.new.session) }
+        ensures stopped { OnErr result
+            (StopsRequest S.may_tell self.old (request_of request.now) self.new.session) }
         ensures same { IsSameClient self.old self.new }
     {
-        self.respond(Asked::One(request))
+        self.respond(RequestInput::One(request))
     }
 
     /// The response to an array of requests, of which `None` is a value that is no request: an array of the response to each, in order.
@@ -289,12 +313,19 @@ impl<S: Asks> ClientSession<S> {
     /// # Errors
     ///
     /// Those of [`answer`](ClientSession::answer).
-    pub fn answer_all(&mut self, requests: &[Option<Request<'_>>]) -> Result<Answer, NoMemory>
-        ensures answered { IfOk result (λ answer. AnswersArray S.may_tell self.old (requests_of requests.now) (report_of answer) self.new.session) }
-        ensures stopped { OnErr result (StopsArray S.may_tell self.old (requests_of requests.now) self.new.session) }
+    ///
+    /// # Headline
+    ///
+    /// `answered`, by `AnswersArray`: each value has its refusal or its answer in its place, and all plans were
+    /// answered in that session with `SharedHeadline`; out of memory, `stopped`
+    pub fn answer_all(&mut self, requests: &[Option<Request<'_>>]) -> Result<Answer, AllocError>
+        ensures answered { IfOk result (λ answer. AnswersArray S.may_tell self.old
+            (requests_of requests.now) (report_of answer) self.new.session) }
+        ensures stopped { OnErr result
+            (StopsArray S.may_tell self.old (requests_of requests.now) self.new.session) }
         ensures same { IsSameClient self.old self.new }
     {
-        self.respond(Asked::Several(requests))
+        self.respond(RequestInput::Several(requests))
     }
 
     /// The response to a request that is JSON text, or to an array of 1 to 16: an object with the members `query`, `operationName` and
@@ -303,21 +334,28 @@ impl<S: Asks> ClientSession<S> {
     /// # Errors
     ///
     /// Those of [`answer`](ClientSession::answer).
-    pub fn answer_text(&mut self, text: &[u8]) -> Result<Answer, NoMemory>
-        ensures answered { IfOk result (λ answer. AnswersText S.may_tell self.old text.now (report_of answer) self.new.session) }
+    ///
+    /// # Headline
+    ///
+    /// `answered`, by `AnswersText`: the text is no request, or is answered by `AnswersRequest` or `AnswersArray`;
+    /// out of memory, `stopped`
+    pub fn answer_text(&mut self, text: &[u8]) -> Result<Answer, AllocError>
+        ensures answered { IfOk result (λ answer.
+            AnswersText S.may_tell self.old text.now (report_of answer) self.new.session) }
         ensures stopped { OnErr result (StopsText S.may_tell self.old text.now self.new.session) }
         ensures same { IsSameClient self.old self.new }
     {
-        self.respond(Asked::Text(text))
+        self.respond(RequestInput::Text(text))
     }
 
     /// The response to a line, in the session, which starts again before it.
-    pub fn serve_line(&mut self, line: &[u8]) -> Result<String, NoMemory>
-        ensures served { IfOk result (λ text. ServesLine S.may_tell self.old line.now (string_bytes text) self.new) }
+    pub fn serve_line(&mut self, line: &[u8]) -> Result<String, AllocError>
+        ensures served { IfOk result (λ text.
+            ServesLine S.may_tell self.old line.now (string_bytes text) self.new) }
         ensures stopped { OnErr result (StopsLine S.may_tell self.old line.now self.new) }
     {
         self.restart()?;
-        Ok(self.respond(Asked::Text(line))?.text)
+        Ok(self.respond(RequestInput::Text(line))?.text)
     }
 }
 
@@ -326,19 +364,23 @@ impl<S: Source> ClientSession<S> {
     fn respond_with<R: Threads + Wait + Sync>(
         &mut self,
         workers: &Workers<'_, R>,
-        asked: Asked<'_>,
-    ) -> Result<Answer, NoMemory>
-        ensures answered { IfOk result (λ answer. Answers S.may_answer self.old asked.entry (report_of answer) self.new.session) }
+        asked: RequestInput<'_>,
+    ) -> Result<Answer, AllocError>
+        ensures answered { IfOk result (λ answer.
+            Answers S.may_answer self.old asked.entry (report_of answer) self.new.session) }
         ensures stopped { OnErr result (Stops S.may_answer self.old asked.entry self.new.session) }
         ensures same { IsSameClient self.old self.new }
     {
-        let runner = Runner {
-            one: |session: &mut Session<S>, limited: &Limited<'_>| -> Result<Answer, NoMemory>
+        let runner = BatchRunner {
+            one: |session: &mut Session<S>, limited: &LimitedPlan<'_>| -> Result<Answer, AllocError>
                 requires sync { IsSync R.row × IsSync S.row }
                 requires loaders { HasLoadersFor session.old limited.now }
                 ensures { RunsPlan S.may_answer session.old limited.now result session.new }
             { workers.answer(session, limited) },
-            all: |session: &mut Session<S>, plans: &[Limited<'_>]| -> Result<Vec<Answer>, NoMemory>
+            all: |session: &mut Session<S>, plans: &[LimitedPlan<'_>]| -> Result<
+                Vec<Answer>,
+                AllocError,
+            >
                 requires sync { IsSync R.row × IsSync S.row }
                 requires loaders { All (HasLoadersFor session.old) plans.now }
                 ensures { RunsPlans S.may_answer session.old plans.now result session.new }
@@ -352,16 +394,25 @@ impl<S: Source> ClientSession<S> {
     /// # Errors
     ///
     /// Those of [`answer`](ClientSession::answer).
+    ///
+    /// # Headline
+    ///
+    /// `answered`, by `AnswersRequest`: the request is refused for its first fault and the session is as it was; or
+    /// its plan was answered in that session, from `self.old` to `self.new`, with `Headline` (`AnswersPlan` of
+    /// `server/specs/Answers.antt`). Where the client has a limit, the text is the *Limited text*. Out of memory,
+    /// `stopped`, by `StopsRequest`
     pub fn answer_with<R: Threads + Wait + Sync>(
         &mut self,
         workers: &Workers<'_, R>,
         request: &Request<'_>,
-    ) -> Result<Answer, NoMemory>
-        ensures answered { IfOk result (λ answer. AnswersRequest S.may_answer self.old (request_of request.now) (report_of answer) self.new.session) }
-        ensures stopped { OnErr result (StopsRequest S.may_answer self.old (request_of request.now) self.new.session) }
+    ) -> Result<Answer, AllocError>
+        ensures answered { IfOk result (λ answer. AnswersRequest S.may_answer
+            self.old (request_of request.now) (report_of answer) self.new.session) }
+        ensures stopped { OnErr result
+            (StopsRequest S.may_answer self.old (request_of request.now) self.new.session) }
         ensures same { IsSameClient self.old self.new }
     {
-        self.respond_with(workers, Asked::One(request))
+        self.respond_with(workers, RequestInput::One(request))
     }
 
     /// The response to an array of requests, as [`answer_all`](ClientSession::answer_all) gives it; workers run the batches of each round.
@@ -369,16 +420,23 @@ impl<S: Source> ClientSession<S> {
     /// # Errors
     ///
     /// Those of [`answer`](ClientSession::answer).
+    ///
+    /// # Headline
+    ///
+    /// `answered`, by `AnswersArray`: each value has its refusal or its answer in its place, and all plans were
+    /// answered in that session with `SharedHeadline`; out of memory, `stopped`
     pub fn answer_all_with<R: Threads + Wait + Sync>(
         &mut self,
         workers: &Workers<'_, R>,
         requests: &[Option<Request<'_>>],
-    ) -> Result<Answer, NoMemory>
-        ensures answered { IfOk result (λ answer. AnswersArray S.may_answer self.old (requests_of requests.now) (report_of answer) self.new.session) }
-        ensures stopped { OnErr result (StopsArray S.may_answer self.old (requests_of requests.now) self.new.session) }
+    ) -> Result<Answer, AllocError>
+        ensures answered { IfOk result (λ answer. AnswersArray S.may_answer self.old
+            (requests_of requests.now) (report_of answer) self.new.session) }
+        ensures stopped { OnErr result
+            (StopsArray S.may_answer self.old (requests_of requests.now) self.new.session) }
         ensures same { IsSameClient self.old self.new }
     {
-        self.respond_with(workers, Asked::Several(requests))
+        self.respond_with(workers, RequestInput::Several(requests))
     }
 
     /// The response to JSON text, as [`answer_text`](ClientSession::answer_text) gives it; workers run the batches of each round.
@@ -386,16 +444,22 @@ impl<S: Source> ClientSession<S> {
     /// # Errors
     ///
     /// Those of [`answer`](ClientSession::answer).
+    ///
+    /// # Headline
+    ///
+    /// `answered`, by `AnswersText`: the text is no request, or is answered by `AnswersRequest` or `AnswersArray`;
+    /// out of memory, `stopped`
     pub fn answer_text_with<R: Threads + Wait + Sync>(
         &mut self,
         workers: &Workers<'_, R>,
         text: &[u8],
-    ) -> Result<Answer, NoMemory>
-        ensures answered { IfOk result (λ answer. AnswersText S.may_answer self.old text.now (report_of answer) self.new.session) }
+    ) -> Result<Answer, AllocError>
+        ensures answered { IfOk result (λ answer.
+            AnswersText S.may_answer self.old text.now (report_of answer) self.new.session) }
         ensures stopped { OnErr result (StopsText S.may_answer self.old text.now self.new.session) }
         ensures same { IsSameClient self.old self.new }
     {
-        self.respond_with(workers, Asked::Text(text))
+        self.respond_with(workers, RequestInput::Text(text))
     }
 
     /// The response to a line, as `serve_line` gives it, by workers.
@@ -403,11 +467,12 @@ impl<S: Source> ClientSession<S> {
         &mut self,
         workers: &Workers<'_, R>,
         line: &[u8],
-    ) -> Result<String, NoMemory>
-        ensures served { IfOk result (λ text. ServesLine S.may_answer self.old line.now (string_bytes text) self.new) }
+    ) -> Result<String, AllocError>
+        ensures served { IfOk result (λ text.
+            ServesLine S.may_answer self.old line.now (string_bytes text) self.new) }
         ensures stopped { OnErr result (StopsLine S.may_answer self.old line.now self.new) }
     {
         self.restart()?;
-        Ok(self.respond_with(workers, Asked::Text(line))?.text)
+        Ok(self.respond_with(workers, RequestInput::Text(line))?.text)
     }
 }

@@ -1,4 +1,4 @@
-//! How many loads the answers to a client's requests read.
+//! Counts of the loads that the answers to a client's requests read.
 
 ghost use Rattle.std.specs.Prelude.{◌≡◌, ◌≤◌, All, IfOk, ℕ, List, length, map};
 ghost use Rattle.gq_check.specs.Plans.{plan_of};
@@ -9,16 +9,17 @@ ghost use Rattle.server.specs.Counts.{CountsText, plans_read};
 
 use gq_check::Plan;
 use gq_resolve::loads_read;
-use load_memory::NoMemory;
 use load_rounds::Session;
+use plan_requests::{DocumentCache, RequestPlan};
 use request_line::Line;
-use request_plans::{KeptDocuments, RequestPlan};
-use std::alloc::Global;
+use std::alloc::{AllocError, Global};
 
-// How many loads plans read over what the session knows, one plan after another.
-fn plans_read<S>(alloc: Global, session: &Session<S>, plans: &[Plan]) -> Result<u64, NoMemory>
-    requires { All (λ plan. length (plan_of plan).bindings.loaders ≤ length session.now.loaders) plans.now }
-    ensures { IfOk result (λ count. count ≡ counted (plans_read session.now (map plan_of plans.now))) }
+// Returns how many loads plans read over what the session knows, one plan after another.
+fn plans_read<S>(alloc: Global, session: &Session<S>, plans: &[Plan]) -> Result<u64, AllocError>
+    requires { All (λ plan.
+        length (plan_of plan).bindings.loaders ≤ length session.now.loaders) plans.now }
+    ensures { IfOk result (λ count.
+        count ≡ counted (plans_read session.now (map plan_of plans.now))) }
 {
     let mut count: u64 = 0;
     for plan in plans {
@@ -28,15 +29,16 @@ fn plans_read<S>(alloc: Global, session: &Session<S>, plans: &[Plan]) -> Result<
     Ok(count)
 }
 
-/// How many loads are read by the plans that a line asks for, over what the session knows.
+/// Returns how many loads are read by the plans that a line asks for, over what the session knows.
 pub(crate) fn line_read<S>(
     alloc: Global,
-    kept: &KeptDocuments,
+    kept: &DocumentCache,
     session: &Session<S>,
     line: &Line<'_>,
-) -> Result<u64, NoMemory>
+) -> Result<u64, AllocError>
     requires { HasLoaders kept.now.server session.now }
-    ensures { (text : List ℕ) → IsReading text line.now → IfOk result (CountsText kept.now.server session.now text) }
+    ensures { (text : List ℕ) → IsReading text line.now
+        → IfOk result (CountsText kept.now.server session.now text) }
 {
     match line {
         Line::NoRequest => Ok(0),

@@ -12,6 +12,9 @@ type Fetch = fn(Global, &[Key]) -> Result<Vec<Item>, FetchFault>;
 
 /// A source that answers by a function, which [`source_fn`] makes of it. It may give an answer that a call of the function at the keys may
 /// return, and no other.
+///
+/// It keeps a function pointer and no closure: a ghost field or a `Model` can't cite what a closure requires
+/// and ensures.
 #[derive(Clone, Copy, Drop)]
 pub struct SourceFn {
     fetch: Fetch,

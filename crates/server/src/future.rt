@@ -1,6 +1,6 @@
 //! Answers as futures.
 
-ghost use Rattle.std.specs.Prelude.{◌≡◌, ◌≤◌, length, true, Some};
+ghost use Rattle.std.specs.Prelude.{◌≡◌, ◌≤◌, length, true, Some, IsSome, IfSome};
 ghost use Rattle.futures.specs.Poll.{IfReady, OnPending};
 ghost use Rattle.futures.specs.Task.{Covers, Keeps};
 ghost use Rattle.rounds_by_hand.specs.Hands.{handed};
@@ -10,9 +10,9 @@ use crate::client::ClientSession;
 use crate::planned::PlannedRequest;
 use futures::Future;
 use futures::task::{Context, Poll};
-use load_memory::NoMemory;
-use load_queue::Asks;
+use load_queue::LocalSource;
 use load_rounds::Answer;
+use std::alloc::AllocError;
 
 /// A future of an answer, which owns its client meanwhile. Its output is the client and the answer, or that memory ran out. Each poll
 /// makes one round at most, over the sources of the session, and asks to be polled again; the first one begins. A request that is refused
@@ -27,6 +27,17 @@ impl<S> ClientSession<S> {
 
     /// The answer to what was planned, as a future. Nothing is done before the first poll, and it takes no memory. Its output says what
     /// [`answer`](ClientSession::answer) says, of this client as it is handed in.
+    ///
+    /// # Errors
+    ///
+    /// None of this call. A poll that is out of memory is ready, with the client and the fault, as after
+    /// [`into_client`](crate::ByHand::into_client) (`value`). A future that is dropped before it is ready takes
+    /// its client with it.
+    ///
+    /// # Headline
+    ///
+    /// `value` of the future's `poll`, by `Gives`: the client is handed back with that answer, or with what stays
+    /// where memory ran out
     pub fn into_answering<'p>(self, planned: &'p PlannedRequest) -> ClientAnswering<'p, S>
         requires { planned.now.loaders ≤ length self.session.loaders }
         ensures begun { result.by_hand ≡ Some (by_hand_of self planned.now handed) }
@@ -38,10 +49,26 @@ impl<S> ClientSession<S> {
     }
 }
 
-impl<'p, S: Asks + Drop> Future for ClientAnswering<'p, S> {
+impl<'p, S: LocalSource> ClientAnswering<'p, S> {
+    ghost use Rattle.server.specs.Hands.{GivesUp};
+
+    // Takes the client out, which is handed in until then.
+    fn take_client(&mut self) -> ClientSession<S>
+        requires { IsSome self.old.by_hand }
+        ensures client { IfSome self.old.by_hand (λ b. result ≡ b.client) }
+        ensures stopped { IfSome self.old.by_hand (λ b. GivesUp S.may_tell b result) }
+    {
+        let Some(by_hand) = self.by_hand.take() else {
+            unreachable!()
+        };
+        by_hand.into_client()
+    }
+}
+
+impl<'p, S: LocalSource + Drop> Future for ClientAnswering<'p, S> {
     ghost use Rattle.server.specs.Hands.{CanPoll, Gives};
 
-    type Output = (ClientSession<S>, Result<Answer, NoMemory>);
+    type Output = (ClientSession<S>, Result<Answer, AllocError>);
 
     ghost can_poll = { λ a. CanPoll a.by_hand };
 
@@ -49,29 +76,26 @@ impl<'p, S: Asks + Drop> Future for ClientAnswering<'p, S> {
 
     ghost needs = { λ a s. ⊥ };
 
-    fn poll(&mut self, cx: &mut Context<'_>) -> Poll<(ClientSession<S>, Result<Answer, NoMemory>)>
+    fn poll(&mut self, cx: &mut Context<'_>) -> Poll<(ClientSession<S>, Result<Answer, AllocError>)>
         requires { CanPoll self.old.by_hand }
         ensures value { IfReady result (λ out. Gives S.may_tell self.old.by_hand out) }
         ensures again { OnPending result (CanPoll self.new.by_hand) }
-        ensures same { OnPending result ((out : _) → Gives S.may_tell self.new.by_hand out → Gives S.may_tell self.old.by_hand out) }
+        ensures same { OnPending result ((out : _) → Gives S.may_tell self.new.by_hand out
+            → Gives S.may_tell self.old.by_hand out) }
         ensures registered { OnPending result (Covers cx.new (λ _. ⊥)) }
         ensures kept { Keeps cx.old cx.new }
         ensures yielded { OnPending result (cx.new.is_woken ≡ true) }
     {
-        let Some(by_hand) = self.by_hand.take() else {
+        let Some(by_hand) = &mut self.by_hand else {
             unreachable!()
         };
-        let mut by_hand = by_hand;
         match by_hand.ask_and_advance() {
             Ok(step) => match step.into_answer() {
-                Some(answer) => Poll::Ready((by_hand.into_client(), Ok(answer))),
+                Some(answer) => Poll::Ready((self.take_client(), Ok(answer))),
                 // It never waits, and it isn't over before it has answered: its next round is out.
-                None => {
-                    self.by_hand = Some(by_hand);
-                    cx.yield_now()
-                }
+                None => cx.yield_now(),
             },
-            Err(fault) => Poll::Ready((by_hand.into_client(), Err(fault))),
+            Err(fault) => Poll::Ready((self.take_client(), Err(fault))),
         }
     }
 }

@@ -8,18 +8,26 @@ ghost use Rattle.server.specs.Clients.{IsClientCall, IsSameClient, client_cell, 
 
 use crate::client::ClientSession;
 use load_memory::{Item, Key, Outcome};
-use load_queue::Asks;
+use load_queue::LocalSource;
 use load_rounds::SessionFault;
 
 impl<S> ClientSession<S> {
     /// Forgets failed batches, and then adds an item for a loader's key unless the key is known. Returns true if it was added. Loaders are
     /// numbered from 0, in the order of their lines.
+    ///
+    /// # Errors
+    ///
+    /// Those of [`Session::prime`].
     pub fn prime(&mut self, loader: usize, key: &Key, item: Item) -> Result<bool, SessionFault>
-        ensures no_loader { IsErrOf result SessionFault.NoSuchLoader ↔ (length self.old.session.loaders ≤ loader) }
+        ensures no_loader { IsErrOf result SessionFault.NoSuchLoader
+            ↔ (length self.old.session.loaders ≤ loader) }
         ensures refused { IsErrOf result SessionFault.NoSuchLoader → self.new ≡ self.old }
-        ensures no_memory { IsErrOf result SessionFault.NoMemory → IsClientCall any_tell Forgetting self.old self.new }
-        ensures report { IfOk result (λ added. added ≡ is_none (known_of self.old loader (key_of key.now))) }
-        ensures after { OnOk result (IsClientCall any_tell (Priming (client_pair self.old loader (key_of key.now) (item_of item))) self.old self.new) }
+        ensures no_memory { IsErrOf result SessionFault.NoMemory
+            → IsClientCall any_tell Forgetting self.old self.new }
+        ensures report { IfOk result (λ added.
+            added ≡ is_none (known_of self.old loader (key_of key.now))) }
+        ensures after { OnOk result (IsClientCall any_tell (Priming
+            (client_pair self.old loader (key_of key.now) (item_of item))) self.old self.new) }
         ensures same { IsSameClient self.old self.new }
     {
         self.session.prime(loader, key, item)
@@ -27,12 +35,20 @@ impl<S> ClientSession<S> {
 
     /// Forgets failed batches, and then what is known of a loader's key, so that the next answer that needs it asks again. Returns true if
     /// the key was still known then.
+    ///
+    /// # Errors
+    ///
+    /// Those of [`Session::prime`].
     pub fn clear(&mut self, loader: usize, key: &Key) -> Result<bool, SessionFault>
-        ensures no_loader { IsErrOf result SessionFault.NoSuchLoader ↔ (length self.old.session.loaders ≤ loader) }
+        ensures no_loader { IsErrOf result SessionFault.NoSuchLoader
+            ↔ (length self.old.session.loaders ≤ loader) }
         ensures refused { IsErrOf result SessionFault.NoSuchLoader → self.new ≡ self.old }
-        ensures no_memory { IsErrOf result SessionFault.NoMemory → IsClientCall any_tell Forgetting self.old self.new }
-        ensures report { IfOk result (λ there. there ≡ is_some (known_of self.old loader (key_of key.now))) }
-        ensures after { OnOk result (IsClientCall any_tell (Clearing (client_cell self.old loader (key_of key.now))) self.old self.new) }
+        ensures no_memory { IsErrOf result SessionFault.NoMemory
+            → IsClientCall any_tell Forgetting self.old self.new }
+        ensures report { IfOk result (λ there.
+            there ≡ is_some (known_of self.old loader (key_of key.now))) }
+        ensures after { OnOk result (IsClientCall any_tell
+            (Clearing (client_cell self.old loader (key_of key.now))) self.old self.new) }
         ensures same { IsSameClient self.old self.new }
     {
         self.session.clear(loader, key)
@@ -41,7 +57,8 @@ impl<S> ClientSession<S> {
     /// Forgets failed batches, and then all keys of one loader. It takes no memory: its only fault is
     /// [`NoSuchLoader`](SessionFault::NoSuchLoader).
     pub fn clear_all(&mut self, loader: usize) -> Result<(), SessionFault>
-        ensures no_loader { IsErrOf result SessionFault.NoSuchLoader ↔ (length self.old.session.loaders ≤ loader) }
+        ensures no_loader { IsErrOf result SessionFault.NoSuchLoader
+            ↔ (length self.old.session.loaders ≤ loader) }
         ensures refused { OnErr result (self.new ≡ self.old) }
         ensures no_other { IsErrOf result SessionFault.NoMemory → ⊥ }
         ensures after { OnOk result (IsClientCall any_tell (ClearingAll loader) self.old self.new) }
@@ -51,11 +68,16 @@ impl<S> ClientSession<S> {
     }
 }
 
-impl<S: Asks> ClientSession<S> {
-    /// Loads one key of a loader, after it forgets failed batches. Returns a copy of the key's outcome: the known one, or else what the source
-    /// returns in a round of this one key, which is kept.
+impl<S: LocalSource> ClientSession<S> {
+    /// Loads one key of a loader, after it forgets failed batches. Returns a copy of the key's outcome: the known one, or else what the
+    /// source returns in a round of this one key, which is kept.
+    ///
+    /// # Errors
+    ///
+    /// Those of [`Session::load`].
     pub fn load(&mut self, loader: usize, key: Key) -> Result<Outcome, SessionFault>
-        ensures no_loader { IsErrOf result SessionFault.NoSuchLoader ↔ (length self.old.session.loaders ≤ loader) }
+        ensures no_loader { IsErrOf result SessionFault.NoSuchLoader
+            ↔ (length self.old.session.loaders ≤ loader) }
         ensures refused { IsErrOf result SessionFault.NoSuchLoader → self.new ≡ self.old }
         ensures no_memory { IsErrOf result SessionFault.NoMemory
             → IsClientCall S.may_tell (StoppedLoading loader (key_of key ∷ [])) self.old self.new }
@@ -68,8 +90,13 @@ impl<S: Asks> ClientSession<S> {
 
     /// Loads keys of a loader, as [`load`](ClientSession::load) does one, and returns an outcome for each, in order. The unknown keys are
     /// asked for in one round, of equal cache keys only the first.
+    ///
+    /// # Errors
+    ///
+    /// Those of [`Session::load`].
     pub fn load_many(&mut self, loader: usize, keys: &[Key]) -> Result<Vec<Outcome>, SessionFault>
-        ensures no_loader { IsErrOf result SessionFault.NoSuchLoader ↔ (length self.old.session.loaders ≤ loader) }
+        ensures no_loader { IsErrOf result SessionFault.NoSuchLoader
+            ↔ (length self.old.session.loaders ≤ loader) }
         ensures refused { IsErrOf result SessionFault.NoSuchLoader → self.new ≡ self.old }
         ensures no_memory { IsErrOf result SessionFault.NoMemory
             → IsClientCall S.may_tell (StoppedLoading loader (map key_of keys.now)) self.old self.new }

@@ -13,6 +13,7 @@
 
 mod answering;
 mod arrays;
+mod batch_runner;
 mod bounded;
 mod by_hand;
 mod client;
@@ -23,25 +24,24 @@ mod keys;
 mod load_by_hand;
 mod opening;
 mod planned;
-mod runner;
 mod serving;
 mod threads;
 
+pub use batch_runner::Workers;
 pub use batch_workers::WorkFault;
-pub use by_hand::{ByHand, Step};
+pub use by_hand::{ByHand, ClientAdvance};
 pub use client::ClientSession;
 pub use function_source::{SourceFn, source_fn};
 pub use future::ClientAnswering;
 pub use gq_bindings::{By, LoaderLine};
 pub use gq_schema::SchemaFault;
-pub use line_serving::{Counted, ServeFault};
 pub use load_by_hand::LoadByHand;
 pub use load_memory::{Item, Key, NoMemory, Outcome, Row, Text, TextPair};
-pub use load_queue::{Asks, FetchFault, PerKey, QueueFault, Source};
+pub use load_queue::{FetchFault, LocalSource, PerKey, QueueFault, Source};
 pub use load_rounds::{Answer, SessionFault};
 pub use opening::Sessions;
+pub use plan_requests::{Request, Server};
 pub use planned::PlannedRequest;
-pub use request_plans::{Request, Server};
 pub use rounds_by_hand::{LoadAdvance, Pending, TakeFault};
-pub use runner::Workers;
+pub use server_lines::{CountedDevice, ServeFault};
 pub use serving::{serve, serve_with};

@@ -7,12 +7,12 @@ ghost use Rattle.rounds_by_hand.specs.Pending.{TakesAnswer, is_in_at};
 ghost use Rattle.server.specs.Clients.{IsSameClient};
 
 use crate::client::ClientSession;
-use load_memory::{Item, Key, NoMemory};
-use load_queue::{Asks, FetchFault};
+use load_memory::{Item, Key};
+use load_queue::{FetchFault, LocalSource};
+use plan_requests::DocumentCache;
 use request_line::LineReader;
-use request_plans::KeptDocuments;
 use rounds_by_hand::{LoadAdvance, LoadHand, Pending, TakeFault};
-use std::alloc::Global;
+use std::alloc::{AllocError, Global};
 use std::marker::Model;
 
 /// Keys of a loader that a client loads as [`ClientSession::load_many`] loads them, but in a round that the caller runs. It owns the client
@@ -27,7 +27,7 @@ use std::marker::Model;
 #[derive(Drop)]
 pub struct LoadByHand<S> {
     alloc: Global,
-    documents: KeptDocuments,
+    documents: DocumentCache,
     lines: LineReader,
     max_answer: Option<usize>,
     hand: LoadHand<S>,
@@ -85,7 +85,7 @@ impl<S> LoadByHand<S> {
     }
 }
 
-impl<S: Asks> LoadByHand<S> {
+impl<S: LocalSource> LoadByHand<S> {
     ghost use Rattle.rounds_by_hand.specs.LoadHands.{AdvancesLoad, AsksAndAdvancesLoad, IsSameLoad, LoadGoesOn, LoadGoesOnIfMay};
     ghost use Rattle.server.specs.LoadsByHand.{ClientLoads, ClientStopsLoad, load_in};
 
@@ -95,7 +95,7 @@ impl<S: Asks> LoadByHand<S> {
     /// # Errors
     ///
     /// Only when out of memory: a round that was out is lost, or it is stored and its outcomes aren't copied. The load is over then.
-    pub fn advance(&mut self) -> Result<LoadAdvance, NoMemory>
+    pub fn advance(&mut self) -> Result<LoadAdvance, AllocError>
         ensures advanced { IfOk result (AdvancesLoad (load_in self.old) (load_in self.new)) }
         ensures over { OnErr result (self.new.far ≡ over) }
         ensures underway { LoadGoesOn S.may_tell (load_in self.old) (load_in self.new) }
@@ -112,7 +112,7 @@ impl<S: Asks> LoadByHand<S> {
     /// # Errors
     ///
     /// Those of [`advance`](LoadByHand::advance).
-    pub fn ask_and_advance(&mut self) -> Result<LoadAdvance, NoMemory>
+    pub fn ask_and_advance(&mut self) -> Result<LoadAdvance, AllocError>
         ensures advanced { IfOk result (AsksAndAdvancesLoad (load_in self.old) (load_in self.new)) }
         ensures over { OnErr result (self.new.far ≡ over) }
         ensures underway { LoadGoesOn S.may_tell (load_in self.old) (load_in self.new) }
@@ -135,16 +135,20 @@ impl<S: Asks> LoadByHand<S> {
         number: usize,
         answer: Result<Vec<Item>, FetchFault>,
     ) -> Result<(), TakeFault>
-        ensures no_order { IsErrOf result TakeFault.NoSuchOrder ↔ (length (load_pending_in self.old.far) ≤ number) }
-        ensures answered { IsErrOf result TakeFault.Answered ↔ (is_in_at (slice_get (load_pending_in self.old.far) number) ≡ true) }
+        ensures no_order { IsErrOf result TakeFault.NoSuchOrder
+            ↔ (length (load_pending_in self.old.far) ≤ number) }
+        ensures answered { IsErrOf result TakeFault.Answered
+            ↔ (is_in_at (slice_get (load_pending_in self.old.far) number) ≡ true) }
         ensures none { IsErrOf result TakeFault.NoSuchOrder → self.new ≡ self.old }
         ensures kept { IsErrOf result TakeFault.Answered → self.new ≡ self.old }
         ensures over { IsErrOf result TakeFault.NoMemory → self.new.far ≡ over }
-        ensures taken { OnOk result (TakesAnswer (load_pending_in self.old.far) number answer (load_pending_in self.new.far)) }
+        ensures taken { OnOk result (TakesAnswer (load_pending_in self.old.far)
+            number answer (load_pending_in self.new.far)) }
         // It is still as the sources may answer, if this answer is.
         ensures underway { OnOk result (IfSome (slice_get (load_pending_in self.old.far) number)
             (LoadGoesOnIfMay S.may_tell answer (load_in self.old) (load_in self.new))) }
-        ensures stopped { OnErr result (LoadGoesOn S.may_tell (load_in self.old) (load_in self.new)) }
+        ensures stopped { OnErr result
+            (LoadGoesOn S.may_tell (load_in self.old) (load_in self.new)) }
         ensures client { self.new.client ≡ self.old.client }
         ensures asked { IsSameLoad (load_in self.old) (load_in self.new) }
     {

@@ -10,10 +10,14 @@ use gq_bindings::{By, LoaderLine};
 use load_memory::KeyMode;
 use load_queue::{Loader, QueueFault};
 use load_rounds::Session;
-use request_plans::Server;
+use plan_requests::Server;
 use std::alloc::Global;
 
 /// Makes sessions of clients.
+///
+/// It is a trait since `Server` is a type of `plan_requests`: a method of its own would put that crate, and
+/// `world` with it, on top of `load_rounds`. A client takes its server by value; a clone of a server is two
+/// counts, and the caller makes it.
 pub trait Sessions {
     /// A new session for one client: a loader for each `loader` line, in order, under its name, and nothing is known of any key. `source`
     /// gives the source of a line. The keys of a line that ends in `fold` are compared without the case of `A` to `Z`. A batch has at
@@ -31,7 +35,7 @@ pub trait Sessions {
         requires { F.IsAlwaysCallable source };
 }
 
-// How the keys of a line's loader are compared.
+// Returns how the keys of a line's loader are compared.
 fn mode_of(line: &LoaderLine) -> KeyMode
     ensures { result ≡ mode_of (option_map by_of line.now.by) }
 {
@@ -51,8 +55,10 @@ impl Sessions for Server {
         requires { F.IsAlwaysCallable source }
         ensures server { IfOk result (λ client. client.server ≡ self.now) }
         ensures unlimited { IfOk result (λ client. client.most ≡ None) }
-        ensures empty { IfOk result (λ client. (client.session.pairs ≡ []) × (client.session.rounds ≡ 0)) }
-        ensures loaders { IfOk result (λ client. AreOpened F.FnMut source max_batch self.now.bindings.loaders client.session.loaders) }
+        ensures empty { IfOk result (λ client.
+            (client.session.pairs ≡ []) × (client.session.rounds ≡ 0)) }
+        ensures loaders { IfOk result (λ client.
+            AreOpened F.FnMut source max_batch self.now.bindings.loaders client.session.loaders) }
     {
         let lines = self.bindings().loaders();
         let mut loaders = Vec::with_capacity(alloc, lines.len())?;

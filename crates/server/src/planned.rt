@@ -1,32 +1,34 @@
-//! What was asked, planned: its refusals, and its plans.
+//! Planned requests: its refusals, and its plans.
 
 ghost use Rattle.std.specs.Prelude.{◌≡◌, ◌≤◌, [], ◌∷◌, All, Some, None, IfOk, length, map, string_bytes};
 ghost use Rattle.gq_check.specs.Plans.{plan_of};
 ghost use Rattle.load_rounds.specs.SharedRounds.{report_of};
 ghost use Rattle.request_line.specs.Seen.{request_of, requests_of};
-ghost use Rattle.request_plans.specs.Planning.{PlansArray, PlansRequest, refusals_of, plans_of};
-ghost use Rattle.request_plans.specs.Servers.{ServerOf};
+ghost use Rattle.plan_requests.specs.Planning.{PlansArray, PlansRequest, refusals_of, plans_of};
+ghost use Rattle.plan_requests.specs.Servers.{ServerOf};
 ghost use Rattle.server.specs.Planned.{PlansAlone};
 
 use crate::arrays::array_answer;
-use crate::bounded::{BoundedPlan, bounded};
+use crate::bounded::{BoundedPlan, bound_plans};
 use load_rounds::Answer;
-use request_plans::{ArrayPlan, KeptDocuments, Request, RequestPlan, Server, not_a_request};
+use plan_requests::{ArrayPlan, DocumentCache, Request, RequestPlan, Server, not_a_request};
 use std::alloc::{AllocError, Global};
 use std::marker::Model;
 
-/// What was asked of a client, planned: a request, several, or text that may be either. It has the plan of each request within the
-/// client's limit at that time, or the text that refuses it. [`ByHand`](crate::ByHand) and [`ClientAnswering`](crate::ClientAnswering)
-/// borrow it.
+/// Holds what was asked of a client, planned: a request, several, or text that may be either. It has the plan of each request within
+/// the client's limit at that time, or the text that refuses it. [`ByHand`](crate::ByHand) and
+/// [`ClientAnswering`](crate::ClientAnswering) borrow it.
 ///
 /// A contract sees whether it is an array, the refusals, the plans, and below which number their loaders are.
+///
+/// It is a value of the caller's own: an execution borrows its plan, and no value can borrow from itself.
 #[derive(Drop)]
 pub struct PlannedRequest {
     is_array: bool,
     // The refusal of each request, in order. One without has a plan.
     refusals: Vec<Option<String>>,
     pub(crate) plans: Vec<BoundedPlan>,
-    // How many loaders a session has at least.
+    // Says how many loaders a session has at least.
     loaders: usize,
 }
 
@@ -55,10 +57,10 @@ impl Model for PlannedRequest {
     ghost invariant = { λ p. All (λ bounded. bounded_loaders bounded ≤ p.loaders) p.plans.items };
 }
 
-// What a request asks. The document of its query is kept.
+// Returns what a request asks. The document of its query is kept.
 fn plan_request(
     alloc: Global,
-    kept: &mut KeptDocuments,
+    kept: &mut DocumentCache,
     request: &Request<'_>,
 ) -> Result<RequestPlan, AllocError>
     ensures planned { IfOk result (PlansRequest kept.old.server (request_of request.now)) }
@@ -70,8 +72,8 @@ fn plan_request(
     kept.plan(alloc, request)
 }
 
-// What is asked alone.
-fn alone(alloc: Global, plan: RequestPlan) -> Result<ArrayPlan, AllocError>
+// Returns what is asked alone.
+fn plan_alone(alloc: Global, plan: RequestPlan) -> Result<ArrayPlan, AllocError>
     ensures { IfOk result (PlansAlone plan) }
 {
     let mut array = ArrayPlan::new(alloc);
@@ -79,38 +81,39 @@ fn alone(alloc: Global, plan: RequestPlan) -> Result<ArrayPlan, AllocError>
     Ok(array)
 }
 
-/// What one request asks. The document of its query is kept.
+/// Returns what one request asks. The document of its query is kept.
 pub(crate) fn plan_one(
     alloc: Global,
-    kept: &mut KeptDocuments,
+    kept: &mut DocumentCache,
     request: &Request<'_>,
 ) -> Result<ArrayPlan, AllocError>
-    ensures planned { IfOk result (PlansArray kept.old.server (Some (request_of request.now) ∷ [])) }
+    ensures planned { IfOk result
+        (PlansArray kept.old.server (Some (request_of request.now) ∷ [])) }
     ensures server { kept.new.server ≡ kept.old.server }
 {
     let plan = plan_request(alloc, kept, request)?;
-    alone(alloc, plan)
+    plan_alone(alloc, plan)
 }
 
-/// What the values of an array ask. The documents of their queries are kept, as far as there is room.
+/// Returns what the values of an array ask. The documents of their queries are kept, as far as there is room.
 pub(crate) fn plan_several(
     alloc: Global,
-    kept: &mut KeptDocuments,
+    kept: &mut DocumentCache,
     values: &[Option<Request<'_>>],
 ) -> Result<ArrayPlan, AllocError>
     ensures planned { IfOk result (PlansArray kept.old.server (requests_of values.now)) }
     ensures server { kept.new.server ≡ kept.old.server }
 {
-    kept.keep_each(alloc, values);
+    kept.cache_each(alloc, values);
     kept.plan_each(alloc, values)
 }
 
-/// What is no request asks nothing: it is refused.
+/// Returns what is no request asks nothing: it is refused.
 pub(crate) fn plan_none(alloc: Global) -> Result<ArrayPlan, AllocError>
     ensures { (s : ServerOf) → IfOk result (PlansArray s (None ∷ [])) }
 {
     let text = not_a_request(alloc)?;
-    alone(alloc, RequestPlan::Refused(text))
+    plan_alone(alloc, RequestPlan::Refused(text))
 }
 
 impl PlannedRequest {
@@ -128,25 +131,26 @@ impl PlannedRequest {
         ensures many { IfOk result (λ planned. planned.many ≡ is_array) }
         ensures refusals { IfOk result (λ planned. planned.refusals ≡ refusals_of array) }
         ensures plans { IfOk result (λ planned. AreBounded most (plans_of array) planned.plans) }
-        ensures loaders { IfOk result (λ planned. planned.loaders ≡ length server.now.bindings.loaders) }
+        ensures loaders { IfOk result (λ planned.
+            planned.loaders ≡ length server.now.bindings.loaders) }
     {
         let (refusals, plans) = array.into_parts();
         Ok(PlannedRequest {
             is_array,
             refusals,
-            plans: bounded(plans, most)?,
+            plans: bound_plans(plans, most)?,
             loaders: server.loaders(),
         })
     }
 
-    /// How many loaders a session has at least that answers it.
+    /// Returns how many loaders a session has at least that answers it.
     pub(crate) fn loaders(&self) -> usize
         ensures { result ≡ self.now.loaders }
     {
         self.loaders
     }
 
-    /// Whether it is one request, which is refused: nothing is asked then.
+    /// Tells whether it is one request, which is refused: nothing is asked then.
     pub fn is_refused(&self) -> bool
         ensures { result ≡ is_refused self.now }
     {
@@ -155,7 +159,8 @@ impl PlannedRequest {
 
     /// The response that is made of the answers to the plans.
     pub(crate) fn response(&self, alloc: Global, answers: Vec<Answer>) -> Result<Answer, AllocError>
-        ensures { IfOk result (λ answer. IsResponse self.now (map report_of answers.items) (report_of answer)) }
+        ensures { IfOk result (λ answer.
+            IsResponse self.now (map report_of answers.items) (report_of answer)) }
     {
         if self.is_array {
             return array_answer(alloc, &self.refusals, &answers);

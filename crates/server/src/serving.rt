@@ -2,14 +2,14 @@
 
 ghost use Rattle.std.specs.Prelude.{IfOk, IfErr, string_bytes};
 ghost use denote.Param.Send.{IsSync};
-ghost use Rattle.line_serving.specs.Devices.{devices};
-ghost use Rattle.line_serving.specs.Serving.{Serves};
+ghost use Rattle.server_lines.specs.Devices.{devices};
+ghost use Rattle.server_lines.specs.Serving.{Serves};
 ghost use Rattle.server.specs.Lines.{ServesLine, serving};
 
+use crate::batch_runner::Workers;
 use crate::client::ClientSession;
-use crate::runner::Workers;
-use line_serving::{Counted, LineFault, ServeFault, serve as serve_lines};
-use load_queue::{Asks, Source};
+use load_queue::{LocalSource, Source};
+use server_lines::{CountedDevice, LineFault, ServeFault, serve as serve_lines};
 use std::alloc::Global;
 use std::io::{Read, Write};
 use std::sync::Wait;
@@ -22,19 +22,31 @@ use std::thread::Threads;
 ///
 /// # Errors
 ///
-/// `LineTooLong` for a line of more than 4,194,304 bytes, `ReadFault`, `WriteFault` and `NoMemory`. No clause says how far the reader was
-/// read by then. If the writer fails after another fault, the fault is `WriteFault`.
-pub fn serve<S: Asks, I: Read, W: Write>(
+/// Those of [`server_lines::serve`], of which it returns neither `BadCount` (X5), for which `AtFault` allows
+/// nothing, nor `TraceFault` (X8), at which `at_memory` has no stop. The client then has the session that the
+/// last answered line left (`ServesLine`), or its own where none was answered; or, where memory ran out at the
+/// next line, that session as it was, or started again and then as after
+/// [`answer_text`](ClientSession::answer_text) (`StopsLine`).
+///
+/// # Headline
+///
+/// the one clause, by `Serves` of `serving`: each line of what was read was answered as `ServesLine` says, from one
+/// state of the client to the next. The client's session starts again, and then the line is answered in it as a
+/// text is (`AnswersText`). So the log of the session that a line leaves has exactly what was asked for that line
+pub fn serve<S: LocalSource, I: Read, W: Write>(
     alloc: Global,
     client: &mut ClientSession<S>,
-    reader: &mut Counted<I>,
-    writer: &mut Counted<W>,
+    reader: &mut CountedDevice<I>,
+    writer: &mut CountedDevice<W>,
 ) -> Result<u64, ServeFault>
-    ensures { Serves (serving S.may_tell) client.old client.new (devices I.remaining W.contents reader.old reader.new writer.old writer.new) result }
+    ensures { Serves (serving S.may_tell) client.old client.new
+        (devices I.remaining W.contents reader.old reader.new writer.old writer.new) result }
 {
     let mut answer = |line: &[u8]| -> Result<String, LineFault>
-        ensures served { IfOk result (λ text. ServesLine S.may_tell client.entry.now line.now (string_bytes text) client.exit.now) }
-        ensures stopped { IfErr result (λ fault. (serving S.may_tell).stops fault client.entry.now line.now client.exit.now) }
+        ensures served { IfOk result (λ text.
+            ServesLine S.may_tell client.entry.now line.now (string_bytes text) client.exit.now) }
+        ensures stopped { IfErr result (λ fault.
+            (serving S.may_tell).stops fault client.entry.now line.now client.exit.now) }
     {
         match client.serve_line(line) {
             Ok(text) => Ok(text),
@@ -52,19 +64,28 @@ pub fn serve<S: Asks, I: Read, W: Write>(
 /// # Errors
 ///
 /// Those of [`serve`].
+///
+/// # Headline
+///
+/// the one clause, by `Serves` of `serving`: each line of what was read was answered as `ServesLine` says, from one
+/// state of the client to the next. The client's session starts again, and then the line is answered in it as a
+/// text is (`AnswersText`). So the log of the session that a line leaves has exactly what was asked for that line
 pub fn serve_with<S: Source, R: Threads + Wait + Sync, I: Read, W: Write>(
     alloc: Global,
     client: &mut ClientSession<S>,
     workers: &Workers<'_, R>,
-    reader: &mut Counted<I>,
-    writer: &mut Counted<W>,
+    reader: &mut CountedDevice<I>,
+    writer: &mut CountedDevice<W>,
 ) -> Result<u64, ServeFault>
-    ensures { Serves (serving S.may_answer) client.old client.new (devices I.remaining W.contents reader.old reader.new writer.old writer.new) result }
+    ensures { Serves (serving S.may_answer) client.old client.new
+        (devices I.remaining W.contents reader.old reader.new writer.old writer.new) result }
 {
     let mut answer = |line: &[u8]| -> Result<String, LineFault>
         requires { IsSync R.row × IsSync S.row }
-        ensures served { IfOk result (λ text. ServesLine S.may_answer client.entry.now line.now (string_bytes text) client.exit.now) }
-        ensures stopped { IfErr result (λ fault. (serving S.may_answer).stops fault client.entry.now line.now client.exit.now) }
+        ensures served { IfOk result (λ text.
+            ServesLine S.may_answer client.entry.now line.now (string_bytes text) client.exit.now) }
+        ensures stopped { IfErr result (λ fault.
+            (serving S.may_answer).stops fault client.entry.now line.now client.exit.now) }
     {
         match client.serve_line_with(workers, line) {
             Ok(text) => Ok(text),

@@ -1,9 +1,9 @@
-//! What may go to other threads, and what they may share. The check proves it of these types at the calls here, of which none is made at
-//! run time. So a type that ceases to be so is refused here, and not first in the crate of someone who starts threads.
+//! Types that may go to other threads, and those that threads may share. The check proves it of these types at the calls here, of which
+//! none is made at run time. So a type that ceases to be so is refused here, and not first in the crate of someone who starts threads.
 
 use crate::client::ClientSession;
-use gq_check::{Checked, KeptDocument, Plan};
-use request_plans::{ArrayPlan, KeptDocuments, RequestPlan, Server};
+use gq_check::{CheckedDocument, Plan, PreparedDocument};
+use plan_requests::{ArrayPlan, DocumentCache, RequestPlan, Server};
 use std::marker::{Send, Sync};
 
 fn goes<T: Send>(_: &T) {}
@@ -26,15 +26,15 @@ fn plan_is_shared(plan: &Plan) {
     is_shared(plan)
 }
 
-fn kept_document_goes(kept_document: &KeptDocument) {
+fn prepared_document_goes(kept_document: &PreparedDocument) {
     goes(kept_document)
 }
 
-fn kept_document_is_shared(kept_document: &KeptDocument) {
+fn prepared_document_is_shared(kept_document: &PreparedDocument) {
     is_shared(kept_document)
 }
 
-fn checked_goes(checked: &Checked) {
+fn checked_goes(checked: &CheckedDocument) {
     goes(checked)
 }
 
@@ -46,7 +46,7 @@ fn array_plan_goes(array_plan: &ArrayPlan) {
     goes(array_plan)
 }
 
-fn kept_documents_goes(kept_documents: &KeptDocuments) {
+fn document_cache_goes(kept_documents: &DocumentCache) {
     goes(kept_documents)
 }
 

@@ -53,8 +53,8 @@ impl Short {
         }
     }
 
-    // The same text once more.
-    pub(crate) fn copied(&self) -> Short
+    // Returns the same text once more.
+    pub(crate) fn copy_of_bytes(&self) -> Short
         ensures { result ≡ self.now }
     {
         Short {

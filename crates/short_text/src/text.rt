@@ -15,9 +15,9 @@ use std::hash::{Hash, Hasher};
 use std::marker::Model;
 use std::ops::DerefStr;
 
-// Where a text stands. A long place may have a short text too: it keeps its memory for the next.
+// Says where a text stands. A long place may have a short text too: it keeps its memory for the next.
 #[derive(Drop)]
-enum Held {
+enum TextBytes {
     Short(Short),
     Long(String),
 }
@@ -25,9 +25,12 @@ enum Held {
 /// A text of UTF-8. Up to [`SHORT`](Text::SHORT) bytes it stands in the value itself, and a longer one on the heap.
 ///
 /// It is read as a `&str`. A contract sees it as its bytes.
+///
+/// A short text has as much room as an enum over a `String` takes anyway. The bytes aren't checked when the
+/// text is read, since an invariant says that they are UTF-8.
 #[derive(Drop)]
 pub struct Text {
-    held: Held,
+    held: TextBytes,
 }
 
 impl Model for Text {
@@ -49,7 +52,7 @@ impl Text {
         ensures { result ≡ [] }
     {
         Text {
-            held: Held::Short(Short::empty()),
+            held: TextBytes::Short(Short::empty()),
         }
     }
 
@@ -59,20 +62,24 @@ impl Text {
         ensures short { length text.now ≤ 30 → IsOk result }
     {
         let held = match Short::of(text) {
-            Some(short) => Held::Short(short),
-            None => Held::Long(String::from_str(alloc, text)?),
+            Some(short) => TextBytes::Short(short),
+            None => TextBytes::Long(String::from_str(alloc, text)?),
         };
         Ok(Text { held })
     }
 
     /// Becomes a copy of another text. It keeps its memory, and takes more only for a text that has more than
-    /// [`SHORT`](Text::SHORT) bytes and is longer than all before. When out of memory, it is some text.
+    /// [`SHORT`](Text::SHORT) bytes and is longer than all before.
+    ///
+    /// # Errors
+    ///
+    /// When out of memory, it is some text: set it again before you use it.
     pub fn set(&mut self, alloc: Global, text: &str) -> Result<(), AllocError>
         ensures { OnOk result (self.new ≡ text.now) }
     {
         match &mut self.held {
-            Held::Short(_) => *self = Text::from_str(alloc, text)?,
-            Held::Long(own) => {
+            TextBytes::Short(_) => *self = Text::from_str(alloc, text)?,
+            TextBytes::Long(own) => {
                 own.clear();
                 own.push_str(text)?;
             }
@@ -85,8 +92,8 @@ impl Text {
         ensures { result.now ≡ self.now }
     {
         match &self.held {
-            Held::Short(short) => short.as_str(),
-            Held::Long(text) => text.as_str(),
+            TextBytes::Short(short) => short.as_str(),
+            TextBytes::Long(text) => text.as_str(),
         }
     }
 
@@ -97,7 +104,7 @@ impl Text {
         self.as_str().len()
     }
 
-    /// Whether it has no bytes.
+    /// Tells whether it has no bytes.
     pub fn is_empty(&self) -> bool
         ensures { result ≡ (length self.now == 0) }
     {
@@ -109,8 +116,8 @@ impl Text {
         ensures { self.new ≡ map to_ascii_lowercase self.old }
     {
         match &mut self.held {
-            Held::Short(short) => short.make_ascii_lowercase(),
-            Held::Long(text) => text.make_ascii_lowercase(),
+            TextBytes::Short(short) => short.make_ascii_lowercase(),
+            TextBytes::Long(text) => text.make_ascii_lowercase(),
         }
     }
 }
@@ -121,8 +128,8 @@ impl From<String> for Text {
 
     fn from(text: String) -> Text {
         let held = match Short::of(text.as_str()) {
-            Some(short) => Held::Short(short),
-            None => Held::Long(text),
+            Some(short) => TextBytes::Short(short),
+            None => TextBytes::Long(text),
         };
         Text { held }
     }
@@ -133,8 +140,8 @@ impl Clone for Text {
 
     fn clone(&self) -> Result<Text, AllocError> {
         let held = match &self.held {
-            Held::Short(short) => Held::Short(short.copied()),
-            Held::Long(text) => Held::Long(text.clone()?),
+            TextBytes::Short(short) => TextBytes::Short(short.copy_of_bytes()),
+            TextBytes::Long(text) => TextBytes::Long(text.clone()?),
         };
         Ok(Text { held })
     }

@@ -1,4 +1,4 @@
--- Which of two places stands first in a text.
+-- Definitions of which of two places stands first in a text.
 use Rattle.std.specs.Prelude.{Bool, ◌&&◌, ◌||◌, ◌==◌, nat_lt}
 use Rattle.text_place.specs.declared.place.Place.{Place}
 

@@ -5,6 +5,8 @@ ghost use Rattle.text_place.specs.Order.{is_before};
 /// A line and a column, both from 1. Columns count characters.
 ///
 /// A line ends after a line feed, and after a carriage return that no line feed follows.
+///
+/// A character is a Unicode scalar value.
 #[derive(Clone, Copy, Debug, PartialEq, Eq)]
 pub struct Place {
     /// The line, from 1.
@@ -17,7 +19,7 @@ impl Place {
     /// The place of a text's first character.
     pub const START: Place = Place { line: 1, column: 1 };
 
-    /// Whether this place stands before another in a text.
+    /// Tells whether this place stands before another in a text.
     pub fn is_before(self, other: Place) -> bool
         ensures { result ≡ is_before self other }
     {

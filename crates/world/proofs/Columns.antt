@@ -1,4 +1,4 @@
--- Whether a sheet has a column.
+-- Lemmas on whether a sheet has a column.
 use Rattle.std.proofs.Common.{◌≡◌, ◌∙◌, ℕ, Bool, List, [], true, false, get_or, sym, refl, Some, None, inl, inr}
 use Rattle.std.proofs.lemmas.Bool.{cases_Bool}
 use Rattle.std.proofs.lemmas.List.{get_or_default}
@@ -13,7 +13,7 @@ use Rattle.load_memory.specs.Rows.{SheetOf}
 use Rattle.load_memory.specs.declared.key.KeyMode.{KeyMode}
 use Rattle.world.specs.declared.fault.WorldFault.TheVariants.{NoSuchColumn}
 use Rattle.world.specs.Sources.{has_column, source_by_columns}
-use Rattle.world.specs.Kept.{source_by_index, source_by_pair_index}
+use Rattle.world.specs.IndexedColumns.{source_by_index, source_by_pair_index}
 
 module _ (names : List (List ℕ)) (column : List ℕ) where
   pub there : (place : ℕ) → Some place ≡ position (λ n. bytes_eq n column) names → list_any (bytes_eq column) names ≡ true

@@ -9,8 +9,8 @@ use Rattle.gq_schema.specs.declared.fault.SchemaFault.{SchemaFault}
 use Rattle.gq_schema.specs.declared.fault.SchemaFault.TheVariants as schema
 use Rattle.csv_source.specs.Reading.{Repeats}
 use Rattle.csv_source.specs.Tables.{SourceOf}
-use Rattle.request_plans.specs.Servers.{ServerOf, IsServer, IsServerFault, MakesServer}
-use Rattle.request_plans.specs.Servers as servers
+use Rattle.plan_requests.specs.Servers.{ServerOf, IsServer, IsServerFault, MakesServer}
+use Rattle.plan_requests.specs.Servers as servers
 use Rattle.world.specs.declared.fault.WorldFault.{WorldFault}
 use Rattle.world.specs.declared.fault.WorldFault.TheVariants as world
 use Rattle.world.specs.Faults.{lifted}
@@ -67,7 +67,7 @@ module _ (text bindings : List ℕ) (tables : List TableOf) (max : Option ℕ) w
     found : sources_for (sheet_named tables) s.bindings.loaders ≡ answered w.sources
     found = ap (λ (b : BindingsOf). sources_for (sheet_named tables) b.loaders) same.bindings ∙ is.over.answered
 
-    -- where there is a world, only memory can be wanting
+    -- only memory can be lacking where there is a world
     lacks-none : (fault : WorldFault) → LacksTables s.bindings tables fault → fault ≡ world.NoMemory
     lacks-none world.BadLimit r = absurd r
     lacks-none (world.Schema fault) r = absurd r
@@ -85,7 +85,7 @@ module _ (text bindings : List ℕ) (tables : List TableOf) (max : Option ℕ) w
     }
     made-only (Err fault) of refusal = lacks-none fault refusal
 
-  -- where the texts say no server
+  -- says where the texts say no server
   raised : IsLimit max → (fault : SchemaFault) → IsFaultOf text fault ⊎ servers.IsRefusedOver text bindings fault → IsRefusal text bindings tables max (world.Schema fault)
   raised fits fault (inl h) = inl (fits, h)
   raised fits fault (inr h) = inr (record { fits = fits; defs = h.defs; says = h.says; refused = h.refused })

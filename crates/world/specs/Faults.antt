@@ -1,4 +1,4 @@
--- How faults are named for a user.
+-- Definitions of how faults are named for a user.
 use Rattle.std.specs.Prelude.{ℕ, List, codes}
 use Rattle.gq_schema.specs.declared.fault.SchemaFault.{SchemaFault}
 use Rattle.gq_schema.specs.declared.fault.SchemaFault.TheVariants as schema

@@ -1,4 +1,4 @@
 pub mod Faults
 pub mod Sources
-pub mod Kept
+pub mod IndexedColumns
 pub mod Worlds

@@ -23,7 +23,7 @@ table_of t = record { name = string_bytes t.0; sheet = t.1 }
 abbrev pub names_of : List TableOf → List (List ℕ)
 names_of tables = map (λ (t : TableOf). t.name) tables
 
--- why tables cannot be found by their names; of memory this says nothing
+-- says why tables cannot be found by their names; of memory this says nothing
 abbrev pub IsRefusedTables : List TableOf → WorldFault → Type 0
 IsRefusedTables tables BadLimit = ⊥
 IsRefusedTables tables (Schema fault) = ⊥
@@ -48,7 +48,8 @@ abbrev pub has_column : SheetOf → List ℕ → Bool
 has_column sheet column = list_any (bytes_eq column) sheet.names
 
 -- the source by one column or by two, which have to be there
-abbrev pub source_by_columns : SheetOf → List ℕ → Option (List ℕ) → KeyMode → Result SourceOf WorldFault
+abbrev pub source_by_columns : SheetOf → List ℕ
+    → Option (List ℕ) → KeyMode → Result SourceOf WorldFault
 source_by_columns sheet column None mode = if has_column sheet column then Ok (source_by (rows_of sheet) column mode) else Err NoSuchColumn
 source_by_columns sheet column (Some second) mode =
     if has_column sheet column && has_column sheet second then Ok (source_by_two (rows_of sheet) column second mode) else Err NoSuchColumn
@@ -70,12 +71,14 @@ abbrev pub before : {A : Type 0} → A → Result (List A) WorldFault → Result
 before s (Ok ss) = Ok (s ∷ ss)
 before s (Err e) = Err e
 
-abbrev pub with_rest : {A : Type 0} → Result A WorldFault → Result (List A) WorldFault → Result (List A) WorldFault
+abbrev pub with_rest : {A : Type 0} → Result A WorldFault
+    → Result (List A) WorldFault → Result (List A) WorldFault
 with_rest (Err e) rest = Err e
 with_rest (Ok s) rest = before s rest
 
 -- the sources of loaders, or the refusal of the first that has none
-abbrev pub sources_for : (List ℕ → Option SheetOf) → List LoaderOf → Result (List SourceOf) WorldFault
+abbrev pub sources_for : (List ℕ → Option SheetOf)
+    → List LoaderOf → Result (List SourceOf) WorldFault
 sources_for sheets [] = Ok []
 sources_for sheets (l ∷ ls) = with_rest (source_for sheets l) (sources_for sheets ls)
 

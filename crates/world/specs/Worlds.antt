@@ -1,4 +1,4 @@
--- Which texts and tables are a world, and why others are none.
+-- Definitions of which texts and tables are a world, and why others are none.
 use Rattle.std.specs.Prelude.{◌≡◌, ◌≤◌, ◌⊎◌, ℕ, List, length, Option, Some, None, Result, Ok, Err}
 use Rattle.schema_syntax.specs.Tree.{Definition}
 use Rattle.schema_syntax.specs.declared.tree.Definition as rust
@@ -8,7 +8,7 @@ use Rattle.gq_bindings.specs.Tree.{BindingsOf}
 use Rattle.gq_bindings.specs.Reading.{bindings_of, accepted}
 use Rattle.csv_source.specs.Reading.{Repeats}
 use Rattle.csv_source.specs.Tables.{SourceOf}
-use Rattle.request_plans.specs.Servers.{ServerOf, RefusesBindings}
+use Rattle.plan_requests.specs.Servers.{ServerOf, RefusesBindings}
 use Rattle.world.specs.declared.fault.WorldFault.{WorldFault}
 use Rattle.world.specs.declared.fault.WorldFault.TheVariants as world
 use Rattle.world.specs.Sources.{TableOf, names_of, sheet_named, sources_for}
@@ -29,7 +29,7 @@ abbrev pub IsLimit : Option ℕ → Type 0
 IsLimit None = Unit {0}
 IsLimit (Some n) = (1 ≤ n) × (n ≤ 65535)
 
--- what holds of every world: the limit fits, and each loader of the bindings has its source
+-- says what holds of every world: the limit fits, and each loader of the bindings has its source
 pub record HasSources (w : WorldOf) : Type 0 where
   pub fits : IsLimit w.limit
   pub each : length w.sources ≡ length w.bindings.loaders
@@ -47,10 +47,11 @@ pub record IsWorldOver (defs : List Definition) (text : List ℕ) (tables : List
 
 -- a loader has no source, and it is the first
 abbrev pub LacksSource : List Definition → List ℕ → List TableOf → WorldFault → Type 0
-LacksSource defs text tables fault = (b : BindingsOf) × IsRead defs text tables b × (sources_for (sheet_named tables) b.loaders ≡ Err fault)
+LacksSource defs text tables fault = (b : BindingsOf) × IsRead defs text tables b
+    × (sources_for (sheet_named tables) b.loaders ≡ Err fault)
 
--- Why there is no world over a schema: the bindings are refused; or else a table is given twice; or else the first loader without a source
--- lacks its table or its column. Of memory this says nothing.
+-- Says why there is no world over a schema: the bindings are refused; or else a table is given twice; or else the first loader without a
+-- source lacks its table or its column. Of memory this says nothing.
 abbrev pub IsRefusalOver : List Definition → List ℕ → List TableOf → WorldFault → Type 0
 IsRefusalOver defs text tables world.BadLimit = ⊥
 IsRefusalOver defs text tables (world.Schema fault) = RefusesBindings defs text fault
@@ -73,17 +74,18 @@ pub record IsRefusedOver (text bindings : List ℕ) (tables : List TableOf) (max
   pub says : IsSchema text defs
   pub refused : IsRefusalOver defs bindings tables fault
 
--- Why there is no world: the limit; or else the schema's fault; or else what there is no world over the schema for. Where memory was wanting,
--- the limit fits.
+-- Says why there is no world: the limit; or else the schema's fault; or else what there is no world over the schema for. Where memory was
+-- wanting, the limit fits.
 abbrev pub IsRefusal : List ℕ → List ℕ → List TableOf → Option ℕ → WorldFault → Type 0
 IsRefusal text bindings tables max world.BadLimit = ¬ (IsLimit max)
-IsRefusal text bindings tables max (world.Schema fault) = (IsLimit max × IsFaultOf text fault) ⊎ IsRefusedOver text bindings tables max (world.Schema fault)
+IsRefusal text bindings tables max (world.Schema fault) = (IsLimit max × IsFaultOf text fault)
+    ⊎ IsRefusedOver text bindings tables max (world.Schema fault)
 IsRefusal text bindings tables max world.DuplicateTable = IsRefusedOver text bindings tables max world.DuplicateTable
 IsRefusal text bindings tables max world.NoSuchTable = IsRefusedOver text bindings tables max world.NoSuchTable
 IsRefusal text bindings tables max world.NoSuchColumn = IsRefusedOver text bindings tables max world.NoSuchColumn
 IsRefusal text bindings tables max world.NoMemory = IsLimit max
 
--- the same world, wherever its schema lies in memory
+-- both are the same world, wherever its schema lies in memory
 pub record IsSame (v w : WorldOf) : Type 0 where
   pub definitions : tree_of v.definitions ≡ tree_of w.definitions
   pub bindings : v.bindings ≡ w.bindings
@@ -104,12 +106,14 @@ pub record IsWorldOf (s : ServerOf) (limit : Option ℕ) (tables : List TableOf)
   pub once : ¬ (Repeats (names_of tables))
   pub answered : sources_for (sheet_named tables) s.bindings.loaders ≡ Ok w.sources
 
--- Why loaders have no sources in these tables: a table is given twice; or else the first loader without a source lacks its table or its
--- column. Of memory this says nothing.
+-- Says why loaders have no sources in these tables: a table is given twice; or else the first loader without a source lacks its table or
+-- its column. Of memory this says nothing.
 abbrev pub LacksTables : BindingsOf → List TableOf → WorldFault → Type 0
 LacksTables b tables world.BadLimit = ⊥
 LacksTables b tables (world.Schema fault) = ⊥
 LacksTables b tables world.DuplicateTable = Repeats (names_of tables)
-LacksTables b tables world.NoSuchTable = ¬ (Repeats (names_of tables)) × (sources_for (sheet_named tables) b.loaders ≡ Err world.NoSuchTable)
-LacksTables b tables world.NoSuchColumn = ¬ (Repeats (names_of tables)) × (sources_for (sheet_named tables) b.loaders ≡ Err world.NoSuchColumn)
+LacksTables b tables world.NoSuchTable = ¬ (Repeats (names_of tables))
+    × (sources_for (sheet_named tables) b.loaders ≡ Err world.NoSuchTable)
+LacksTables b tables world.NoSuchColumn = ¬ (Repeats (names_of tables))
+    × (sources_for (sheet_named tables) b.loaders ≡ Err world.NoSuchColumn)
 LacksTables b tables world.NoMemory = Unit {0}

@@ -1,28 +1,31 @@
-//! Why there is no world.
+//! Faults: why there is no world.
 
 ghost use Rattle.std.specs.Prelude.{◌≡◌};
 ghost use Rattle.world.specs.Faults.{code_and_name, schema_code_and_name, lifted};
 ghost use Rattle.world.specs.declared.fault.WorldFault.TheVariants.{NoMemory};
 
 use gq_schema::SchemaFault;
-use load_memory::NoMemory as Want;
 use std::alloc::{AllocError, AllocFailed};
 use std::error::Error;
 use std::fmt;
 
-/// Why texts and tables are no world. It is printed as its code and its name.
+/// Says why texts and tables are no world. It is printed as its code and its name.
 #[derive(Debug, Drop)]
 pub enum WorldFault {
     /// The limit is 0, or over 65,535.
+    /// Give a limit from 1 to 65,535, or none.
     BadLimit,
     /// The schema is refused, or the bindings are, with `BadBinding`. It is never the schema's
     /// `NoMemory`.
     Schema(SchemaFault),
     /// Two tables have the same name.
+    /// Give each table once.
     DuplicateTable,
     /// The table of a loader isn't given.
+    /// Give the table, or correct the loader's line.
     NoSuchTable,
     /// A loader's table doesn't have the column by which the loader finds rows.
+    /// Add the column, or correct the loader's line.
     NoSuchColumn,
     /// Out of memory.
     NoMemory,
@@ -48,7 +51,7 @@ fn schema_code_and_name(fault: &SchemaFault) -> &'static str
 }
 
 impl WorldFault {
-    /// The code and the name, as a program prints them for its user: `S8 BadBinding`. Being out of
+    /// The code and the name, as a command prints them for its user: `S8 BadBinding`. Being out of
     /// memory is `X4 NoMemory`, wherever it happens.
     pub fn code_and_name(&self) -> &'static str
         ensures { result.now ≡ code_and_name self.now }
@@ -85,14 +88,6 @@ impl From<SchemaFault> for WorldFault {
             SchemaFault::NoMemory => WorldFault::NoMemory,
             fault => WorldFault::Schema(fault),
         }
-    }
-}
-
-impl From<Want> for WorldFault {
-    ghost from_gives = { λ _ e. e ≡ NoMemory };
-
-    fn from(_: Want) -> WorldFault {
-        WorldFault::NoMemory
     }
 }
 

@@ -2,7 +2,7 @@
 //!
 //! The layer above may rely on this: [`World::new`] makes a world exactly where each part accepts,
 //! and names the first refusal otherwise; each loader of the bindings has its source, which is made
-//! without memory. What requests ask of it is planned over [`World::server`] (`request_plans`), which has no tables.
+//! without memory. What requests ask of it is planned over [`World::server`] (`plan_requests`), which has no tables.
 #![tactic(auto)]
 
 mod fault;

@@ -1,10 +1,10 @@
-//! What the sources of the loaders are made from.
+//! Tables and indices that the sources of the loaders are made from.
 
 ghost use Rattle.std.specs.Prelude.{◌≡◌, ℕ, List, Ok, IfOk, IfErr, map};
 ghost use Rattle.std.specs.HashMap.{get_by_text};
 ghost use Rattle.gq_bindings.specs.Seen.{loader_of};
 ghost use Rattle.world.specs.Sources.{source_for, sources_for, IsRefused};
-ghost use Rattle.world.specs.Kept.{source_of};
+ghost use Rattle.world.specs.IndexedColumns.{source_of};
 
 use crate::fault::WorldFault;
 use crate::tables::IndexedTable;
@@ -14,36 +14,39 @@ use std::alloc::Global;
 use std::collections::HashMap;
 use std::sync::Arc;
 
-/// What a source is made from: a table, for one of all rows, or the index of a column or of two.
+/// Says what a source is made from: a table, for one of all rows, or the index of a column or of
+/// two.
 #[derive(Drop)]
-pub enum SourceParts {
+pub enum SourceBasis {
     All(Arc<Table>),
     By(Arc<ColumnIndex>),
     ByTwo(PairIndex),
 }
 
-impl SourceParts {
+impl SourceBasis {
     /// The source.
     pub fn source(&self) -> CsvSource<'_>
         ensures { result ≡ source_of self.now }
     {
         match self {
-            SourceParts::All(table) => CsvSource::all(table),
-            SourceParts::By(index) => CsvSource::of_index(index),
-            SourceParts::ByTwo(index) => CsvSource::of_pair_index(index),
+            SourceBasis::All(table) => CsvSource::all(table),
+            SourceBasis::By(index) => CsvSource::of_index(index),
+            SourceBasis::ByTwo(index) => CsvSource::of_pair_index(index),
         }
     }
 }
 
-// What the source of a loader is made from.
+// Returns what the source of a loader is made from.
 fn source_parts(
     alloc: Global,
     tables: &mut HashMap<String, IndexedTable>,
     line: &LoaderLine,
-) -> Result<SourceParts, WorldFault>
+) -> Result<SourceBasis, WorldFault>
     ensures same { (q : List ℕ) → get_by_text tables.new q ≡ get_by_text tables.old q }
-    ensures ok { IfOk result (λ s. source_for (get_by_text tables.old) (loader_of line.now) ≡ Ok (source_of s)) }
-    ensures err { IfErr result (IsRefused (source_for (get_by_text tables.old) (loader_of line.now))) }
+    ensures ok { IfOk result (λ s.
+        source_for (get_by_text tables.old) (loader_of line.now) ≡ Ok (source_of s)) }
+    ensures err { IfErr result
+        (IsRefused (source_for (get_by_text tables.old) (loader_of line.now))) }
 {
     let Some(table) = tables.get_mut(line.table.as_str()) else {
         return Err(WorldFault::NoSuchTable);
@@ -51,7 +54,7 @@ fn source_parts(
     table.source(alloc, &line.by)
 }
 
-/// What the sources of loaders are made from, in order.
+/// Returns what the sources of loaders are made from, in order.
 ///
 /// # Errors
 ///
@@ -61,9 +64,11 @@ pub fn all_source_parts(
     alloc: Global,
     mut tables: HashMap<String, IndexedTable>,
     loaders: &[LoaderLine],
-) -> Result<Vec<SourceParts>, WorldFault>
-    ensures ok { IfOk result (λ v. sources_for (get_by_text tables) (map loader_of loaders.now) ≡ Ok (map source_of v.items)) }
-    ensures err { IfErr result (IsRefused (sources_for (get_by_text tables) (map loader_of loaders.now))) }
+) -> Result<Vec<SourceBasis>, WorldFault>
+    ensures ok { IfOk result (λ v.
+        sources_for (get_by_text tables) (map loader_of loaders.now) ≡ Ok (map source_of v.items)) }
+    ensures err { IfErr result
+        (IsRefused (sources_for (get_by_text tables) (map loader_of loaders.now))) }
 {
     let mut all = Vec::with_capacity(alloc, loaders.len())?;
     for line in loaders {

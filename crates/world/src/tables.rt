@@ -8,10 +8,10 @@ ghost use Rattle.gq_bindings.specs.Seen.{by_of};
 ghost use Rattle.csv_source.specs.Reading.{Repeats};
 ghost use Rattle.csv_source.specs.Tables.{rows_of, index_of};
 ghost use Rattle.world.specs.Sources.{table_of, names_of, sheet_named, mode_of, source_by_columns, source_over, IsRefused, IsRefusedTables};
-ghost use Rattle.world.specs.Kept.{source_of, source_by_index, source_by_pair_index};
+ghost use Rattle.world.specs.IndexedColumns.{source_of, source_by_index, source_by_pair_index};
 
 use crate::fault::WorldFault;
-use crate::sources::SourceParts;
+use crate::sources::SourceBasis;
 use csv_source::{ColumnIndex, PairIndex, Table, TableFault};
 use gq_bindings::By;
 use load_memory::KeyMode;
@@ -22,7 +22,7 @@ use std::sync::Arc;
 
 /// An index of the column at a place, counted from 0.
 #[derive(Drop)]
-pub struct KeptIndex {
+pub struct IndexedColumn {
     column: usize,
     index: Arc<ColumnIndex>,
 }
@@ -33,14 +33,14 @@ pub struct KeptIndex {
 #[derive(Drop)]
 pub struct IndexedTable {
     table: Arc<Table>,
-    indices: Vec<KeptIndex>,
+    indices: Vec<IndexedColumn>,
 }
 
 impl Model for IndexedTable {
     ghost use Rattle.std.specs.Prelude.{All};
     ghost use Rattle.std.specs.Arc.{arc_value};
     ghost use Rattle.load_memory.specs.Rows.{SheetOf};
-    ghost use Rattle.world.specs.Kept.{IsKept};
+    ghost use Rattle.world.specs.IndexedColumns.{IsKept};
 
     ghost Value = { SheetOf };
 
@@ -99,7 +99,7 @@ impl IndexedTable {
         };
         let index = Arc::new(alloc, index)?;
         let kept = Arc::try_clone(&index)?;
-        self.indices.push(KeptIndex {
+        self.indices.push(IndexedColumn {
             column: place,
             index: kept,
         })?;
@@ -114,7 +114,8 @@ impl IndexedTable {
         mode: KeyMode,
     ) -> Result<Arc<ColumnIndex>, WorldFault>
         ensures same { self.new ≡ self.old }
-        ensures ok { IfOk result (λ x. source_by_columns self.old column.now None mode ≡ Ok (source_by_index (arc_value x))) }
+        ensures ok { IfOk result (λ x.
+            source_by_columns self.old column.now None mode ≡ Ok (source_by_index (arc_value x))) }
         ensures err { IfErr result (IsRefused (source_by_columns self.old column.now None mode)) }
     {
         let Some(place) = self.table.sheet().column(column) else {
@@ -134,8 +135,10 @@ impl IndexedTable {
         second: &str,
         mode: KeyMode,
     ) -> Result<PairIndex, WorldFault>
-        ensures ok { IfOk result (λ x. source_by_columns self.now column.now (Some second.now) mode ≡ Ok (source_by_pair_index x)) }
-        ensures err { IfErr result (IsRefused (source_by_columns self.now column.now (Some second.now) mode)) }
+        ensures ok { IfOk result (λ x. source_by_columns self.now column.now (Some second.now) mode
+            ≡ Ok (source_by_pair_index x)) }
+        ensures err { IfErr result
+            (IsRefused (source_by_columns self.now column.now (Some second.now) mode)) }
     {
         match PairIndex::new(alloc, &self.table, column, second, mode) {
             Ok(index) => Ok(index),
@@ -144,37 +147,39 @@ impl IndexedTable {
         }
     }
 
-    // What the source by the columns of a loader is made from.
-    fn source_by(&mut self, alloc: Global, by: &By) -> Result<SourceParts, WorldFault>
+    // Returns what the source by the columns of a loader is made from.
+    fn source_by(&mut self, alloc: Global, by: &By) -> Result<SourceBasis, WorldFault>
         ensures same { self.new ≡ self.old }
-        ensures ok { IfOk result (λ s. source_over self.old (Some (by_of by.now)) ≡ Ok (source_of s)) }
+        ensures ok { IfOk result (λ s.
+            source_over self.old (Some (by_of by.now)) ≡ Ok (source_of s)) }
         ensures err { IfErr result (IsRefused (source_over self.old (Some (by_of by.now)))) }
     {
         let mode = mode_of(by);
         match &by.second {
             None => {
                 let index = self.index(alloc, &by.column, mode)?;
-                Ok(SourceParts::By(index))
+                Ok(SourceBasis::By(index))
             }
             Some(second) => {
                 let index = self.pair_index(alloc, &by.column, second, mode)?;
-                Ok(SourceParts::ByTwo(index))
+                Ok(SourceBasis::ByTwo(index))
             }
         }
     }
 
-    /// What the source of a loader of this table is made from.
+    /// Returns what the source of a loader of this table is made from.
     ///
     /// # Errors
     ///
     /// `NoSuchColumn` where the loader goes by columns that the table doesn't have, and `NoMemory`.
-    pub fn source(&mut self, alloc: Global, by: &Option<By>) -> Result<SourceParts, WorldFault>
+    pub fn source(&mut self, alloc: Global, by: &Option<By>) -> Result<SourceBasis, WorldFault>
         ensures same { self.new ≡ self.old }
-        ensures ok { IfOk result (λ s. source_over self.old (option_map by_of by.now) ≡ Ok (source_of s)) }
+        ensures ok { IfOk result (λ s.
+            source_over self.old (option_map by_of by.now) ≡ Ok (source_of s)) }
         ensures err { IfErr result (IsRefused (source_over self.old (option_map by_of by.now))) }
     {
         match by {
-            None => Ok(SourceParts::All(Arc::try_clone(&self.table)?)),
+            None => Ok(SourceBasis::All(Arc::try_clone(&self.table)?)),
             Some(by) => self.source_by(alloc, by),
         }
     }
@@ -189,7 +194,8 @@ pub fn by_name(
     alloc: Global,
     tables: Vec<(String, Table)>,
 ) -> Result<HashMap<String, IndexedTable>, WorldFault>
-    ensures found { IfOk result (λ named. (q : List ℕ) → get_by_text named q ≡ sheet_named (map table_of tables.items) q) }
+    ensures found { IfOk result (λ named.
+        (q : List ℕ) → get_by_text named q ≡ sheet_named (map table_of tables.items) q) }
     ensures once { OnOk result (¬ (Repeats (names_of (map table_of tables.items)))) }
     ensures err { IfErr result (IsRefusedTables (map table_of tables.items)) }
 {

@@ -6,12 +6,12 @@ ghost use Rattle.world.specs.Sources.{table_of};
 ghost use Rattle.world.specs.Worlds.{WorldOf, IsLimit, IsWorldOf, LacksTables, IsWorld, IsRefusal, MakesWorld, server_of};
 
 use crate::fault::WorldFault;
-use crate::sources::{SourceParts, all_source_parts};
+use crate::sources::{SourceBasis, all_source_parts};
 use crate::tables::by_name;
 use csv_source::{CsvSource, Table};
 use gq_bindings::Bindings;
 use load_queue::MAX_LIMIT;
-use request_plans::Server;
+use plan_requests::Server;
 use std::alloc::Global;
 use std::marker::Model;
 
@@ -23,7 +23,7 @@ use std::marker::Model;
 pub struct World {
     server: Server,
     limit: Option<u32>,
-    sources: Vec<SourceParts>,
+    sources: Vec<SourceBasis>,
 }
 
 impl Model for World {
@@ -31,7 +31,7 @@ impl Model for World {
     ghost use Rattle.std.specs.Coded.{codes};
     ghost use Rattle.gq_parser.specs.contracts.tree.TypeRef as type_ref;
     ghost use Rattle.gq_parser.specs.contracts.tree.Literal as literal;
-    ghost use Rattle.world.specs.Kept.{source_of};
+    ghost use Rattle.world.specs.IndexedColumns.{source_of};
     ghost use Rattle.world.specs.Worlds.{WorldOf, HasSources};
 
     ghost Value = { WorldOf };
@@ -44,7 +44,7 @@ impl Model for World {
 }
 
 // A limit that may be set, if there is one.
-fn limited(max: Option<u32>) -> Result<Option<u32>, WorldFault>
+fn batch_limit(max: Option<u32>) -> Result<Option<u32>, WorldFault>
     ensures ok { IfOk result (λ limit. (limit ≡ max) × IsLimit max) }
     ensures err { IfErr result (λ e. (e ≡ WorldFault.BadLimit) × ¬ (IsLimit max)) }
 {
@@ -79,16 +79,19 @@ impl World {
         tables: Vec<(String, Table)>,
         max: Option<u32>,
     ) -> Result<World, WorldFault>
-        // What is made is the world that the texts and the tables say.
-        ensures made { IfOk result (IsWorld schema.now bindings.now (map table_of tables.items) max) }
+        // The result is the world that the texts and the tables say.
+        ensures made { IfOk result
+            (IsWorld schema.now bindings.now (map table_of tables.items) max) }
 
-        // Where they say a world, it is made.
-        ensures only { (w : WorldOf) → IsWorld schema.now bindings.now (map table_of tables.items) max w → MakesWorld w result }
+        // A world that they say is made.
+        ensures only { (w : WorldOf) → IsWorld schema.now bindings.now
+            (map table_of tables.items) max w → MakesWorld w result }
 
         // Otherwise the first refusal is reported.
-        ensures fault { IfErr result (IsRefusal schema.now bindings.now (map table_of tables.items) max) }
+        ensures fault { IfErr result
+            (IsRefusal schema.now bindings.now (map table_of tables.items) max) }
     {
-        let limit = limited(max)?;
+        let limit = batch_limit(max)?;
         let server = Server::read(alloc, schema, bindings)?;
         World::over(alloc, server, tables, limit)
     }
@@ -120,7 +123,7 @@ impl World {
         &self.server
     }
 
-    /// How the fields of the schema are answered.
+    /// Returns how the fields of the schema are answered.
     pub fn bindings(&self) -> &Bindings
         ensures { result.now ≡ self.now.bindings }
     {
@@ -135,7 +138,7 @@ impl World {
         self.limit
     }
 
-    /// How many loaders there are. They are numbered from 0 in the order of their lines.
+    /// Returns how many loaders there are. They are numbered from 0 in the order of their lines.
     pub fn loaders(&self) -> usize
         ensures sources { result ≡ length self.now.sources }
         ensures bindings { result ≡ length self.now.bindings.loaders }

@@ -24,11 +24,11 @@ use Rattle.gq_check.specs.Texts.{section_of, title_of, check_message, check_plac
 use Rattle.gq_check.specs.Verdict.{FaultOf, Breaks, TooComplex, TooDeep, NotServed, IsVerdict, IsCheckFault, fault_of}
 use Rattle.request_line.specs.Requests.{RequestOf, IsRequest, AreRequests, asked, asked_each}
 use Rattle.gq_resolve.specs.Within.{text_within}
-use Rattle.request_plans.specs.declared.fault.RequestFault.{RequestFault}
-use Rattle.request_plans.specs.declared.fault.RequestFault.TheVariants as fault
-use Rattle.request_plans.specs.Requests.{parse_message, request_message, request_place, is_want_of_memory}
-use Rattle.request_plans.specs.Servers.{ServerOf}
-use Rattle.request_plans.specs.Planning.{values_of, IsPlanned, IsFaulty, IsRefusal, refusal_text, IsRefused, HasPlan}
+use Rattle.plan_requests.specs.declared.fault.RequestFault.{RequestFault}
+use Rattle.plan_requests.specs.declared.fault.RequestFault.TheVariants as fault
+use Rattle.plan_requests.specs.Requests.{parse_message, request_message, request_place, is_want_of_memory}
+use Rattle.plan_requests.specs.Servers.{ServerOf}
+use Rattle.plan_requests.specs.Planning.{values_of, IsPlanned, IsFaulty, IsRefusal, refusal_text, IsRefused, HasPlan}
 use Rattle.world_answers.specs.Answers.{IsDirectText, AnswersRequest, faulty, planned}
 use Rattle.server.specs.Arrays.{PlaceOf, refused, answered, text_in, array_text}
 use Rattle.world_answers.specs.Arrays.{IsInPlace, AnswersArray}
@@ -95,7 +95,7 @@ prepared_message prepared.operation_needed = codes "operation name needed"
 prepared_message prepared.variables_not_object = codes "variables must be an object"
 prepared_message (prepared.bad_variable name) = codes "bad value for variable $" ++ name
 
--- what is reported where a plan is wanted
+-- the report where a plan is wanted
 prepare-report : (want : Wanted) (e : PrepareFault) → is_want_of_memory (fault.Prepare e) ≡ false → prepared.IsPrepareFault want e → (f : prepared.FaultOf) × (want ≡ Err f) × (prepare_message e ≡ prepared_message f)
 prepare-report want (prepare.NoSuchOperation name) some h = (prepared.no_such_operation (string_bytes name), h, refl)
 prepare-report want prepare.OperationNeeded some h = (prepared.operation_needed, h, refl)

@@ -2,10 +2,10 @@
 use Rattle.std.proofs.Common.{◌≡◌, ◌≢◌, ◌<◌, ◌≤◌, ℕ, zero, suc, List, [], ◌∷◌, ◌++◌, length, Option, Some, None, refl, sym, ap, subst, ◌∙◌, append_assoc, append-nil, arith}
 use Rattle.text_place.specs.declared.place.Place.{Place}
 use Rattle.gq_lexer.specs.declared.token.Token as lexer
-use Rattle.gq_lexer.specs.declared.token.Kind.{Kind}
-use Rattle.gq_lexer.specs.declared.token.Kind.TheVariants as kind
-use Rattle.gq_lexer.specs.declared.scan.Stop.{Stop}
-use Rattle.gq_lexer.specs.declared.scan.Stop.TheVariants as stop
+use Rattle.gq_lexer.specs.declared.token.TokenKind.{TokenKind}
+use Rattle.gq_lexer.specs.declared.token.TokenKind.TheVariants as kind
+use Rattle.gq_lexer.specs.declared.scan.ScanFault.{ScanFault}
+use Rattle.gq_lexer.specs.declared.scan.ScanFault.TheVariants as stop
 use Rattle.gq_lexer.specs.declared.fault.LexFault.{LexFault}
 use Rattle.gq_lexer.specs.declared.fault.LexFault.TheVariants as lex
 use Rattle.gq_lexer.specs.Tokens.{AreTokens, StopsAt, bytes_of}
@@ -53,7 +53,7 @@ viable_front xs ys h v = record {
 }
 
 -- the tokens of a text are spelled
-spelled_word : (p : Place) (k : Kind) (bytes : List ℕ) → IsSpelled (at p (word k bytes))
+spelled_word : (p : Place) (k : TokenKind) (bytes : List ℕ) → IsSpelled (at p (word k bytes))
 spelled_word p (kind.Punct b) bytes = tt
 spelled_word p kind.Name bytes = refl
 spelled_word p kind.Int bytes = tt
@@ -163,7 +163,7 @@ shallow_or_deep tokens p h u = not_shallow u.good u.bad (at p u.opens) u.deep (s
 -- a fault of the tokens, or a text that is too long
 pub data Lexed (text : List ℕ) (f : LexFault) : Type 0 where
   long : most_bytes < length text → f ≡ lex.TooLong → Lexed text f
-  stops : (s : Stop) (p : Place) → StopsAt text s p → f ≡ fault_of s p → length text ≤ most_bytes → Lexed text f
+  stops : (s : ScanFault) (p : Place) → StopsAt text s p → f ≡ fault_of s p → length text ≤ most_bytes → Lexed text f
 
 lexed : (text : List ℕ) (f : LexFault) → IsLexFault f text → Lexed text f
 lexed text lex.TooLong h = long h refl
@@ -185,7 +185,7 @@ lexed_or_tokens : (text : List ℕ) (f : LexFault) (ts : List lexer.Token) → L
 lexed_or_tokens text f ts (long h e) short reads = absurd (omega (arith, h, short))
 lexed_or_tokens text f ts (stops s p h e short') short reads = tokens_or_fault text ts s p reads h
 
--- where the tokens stop to begin a document
+-- gives where the tokens stop to begin a document
 abbrev unexpected_at : List ℕ → Option Place → ParseFault
 unexpected_at text (Some p) = fault.Unexpected p
 unexpected_at text None = fault.UnexpectedEnd (place_of text (length text))
@@ -202,7 +202,7 @@ fault_case text (fault.UnexpectedEnd p) some h = of_place None h.0 (ap fault.Une
 fault_case text (fault.TooDeep p) some h = of_depth p h refl
 fault_case text fault.NoMemory some h = absurd (some refl)
 
--- the same tokens, and so what holds of them
+-- a text has one list of tokens, and so what holds of one holds of the other
 on_same : (text : List ℕ) (P : List Token → Type 0) (ts us : List lexer.Token) → AreTokens text ts → AreTokens text us → P (tokens_of text us) → P (tokens_of text ts)
 on_same text P ts us h k holds = subst (λ l. P (tokens_of text l)) (same_tokens text us ts k h) holds
 

@@ -6,10 +6,10 @@ use Rattle.plan_program.specs.PlanPrograms.{plan_program}
 use Rattle.load_rounds.specs.Sessions.{SessionOf, state_of, restarted}
 use Rattle.load_rounds.specs.SharedRounds.{ReportOf, together}
 use Rattle.request_line.specs.Requests.{RequestOf}
-use Rattle.request_plans.specs.Planning.{IsRefusal}
-use Rattle.line_serving.specs.Answering.{at_memory}
-use Rattle.line_serving.specs.declared.fault.LineFault.{LineFault}
-use Rattle.line_serving.specs.declared.fault.LineFault.TheVariants as fault
+use Rattle.plan_requests.specs.Planning.{IsRefusal}
+use Rattle.server_lines.specs.Answering.{at_memory}
+use Rattle.server_lines.specs.declared.fault.LineFault.{LineFault}
+use Rattle.server_lines.specs.declared.fault.LineFault.TheVariants as fault
 use Rattle.server.specs.Clients.{ClientOf, client_of, begun}
 use Rattle.server.specs.Answers as server
 use Rattle.server.specs.Arrays as server_arrays

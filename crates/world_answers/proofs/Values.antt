@@ -7,7 +7,7 @@ use Rattle.gq_check.specs.Plans.{PlanOf}
 use Rattle.load_rounds.specs.Sessions.{StateOf}
 use Rattle.load_rounds.specs.SharedRounds.{ReportOf}
 use Rattle.request_line.specs.Requests.{RequestOf}
-use Rattle.request_plans.specs.Planning.{PlanValues}
+use Rattle.plan_requests.specs.Planning.{PlanValues}
 use Rattle.server.specs.Arrays as server
 use Rattle.server.specs.Arrays.{PlaceOf, refused, answered, text_in, plans_in, reports_in, in_places, array_text}
 use Rattle.server.proofs.Values.{filled, plans-valid, shared-many}

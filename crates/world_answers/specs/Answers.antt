@@ -1,4 +1,4 @@
--- What answers a request over a world: the text of direct execution, which no session, memory, batch or round changes.
+-- Definitions of what answers a request over a world: the text of direct execution, which no session, memory, batch or round changes.
 use Rattle.std.specs.Prelude.{◌≡◌, ℕ, List, [], map, Option, Some, None, slice_get}
 use Rattle.gq_check.specs.Plans.{PlanOf}
 use Rattle.gq_check.specs.Planned.{IsPlan}
@@ -13,9 +13,9 @@ use Rattle.load_rounds.specs.Headline.{Headline}
 use Rattle.load_rounds.specs.Sessions.{SessionOf, StateOf, state_of}
 use Rattle.gq_resolve.specs.Within.{text_within}
 use Rattle.request_line.specs.Requests.{RequestOf}
-use Rattle.request_plans.specs.Planning.{IsPlanned, IsFaulty, refusal_text}
-use Rattle.request_plans.specs.Requests.{request_message, request_place}
-use Rattle.request_plans.specs.declared.fault.RequestFault.{RequestFault}
+use Rattle.plan_requests.specs.Planning.{IsPlanned, IsFaulty, refusal_text}
+use Rattle.plan_requests.specs.Requests.{request_message, request_place}
+use Rattle.plan_requests.specs.declared.fault.RequestFault.{RequestFault}
 use Rattle.world_answers.specs.Services.{ServiceOf, server_in}
 use Rattle.world_answers.specs.Sessions.{IsOver}
 
@@ -37,12 +37,13 @@ IsDirectText s plan text = IsTextOf (text_within s.most) (plan_program plan) (di
 
 -- ---- the session of a request
 
--- what a source of a world may answer: the rows of each key
+-- says what a source of a world may answer: the rows of each key
 abbrev pub may_tell : SourceOf → List KeyOf → AnswerOf → Type 0
 may_tell source keys answer = answer ≡ given (map (item_of_key source) keys)
 
--- The plan, which is of a valid document, was answered by this text in a session of the world, which was new when it was opened and is
--- in this state after so many rounds: its log holds all that was asked, in batches of at most the world's limit.
+-- The plan, which is of a valid document, was answered by this text in a session of the world,
+-- which was new when it was opened and is in this state after `rounds` rounds: its log holds all
+-- that was asked, in batches of at most the world's limit.
 pub record AnswersAnew (s : ServiceOf) (plan : PlanOf) (after : StateOf SourceOf) (text : List ℕ) (rounds : ℕ) : Type 0 where
   pub valid : IsPlan plan
   pub begun : SessionOf SourceOf
@@ -61,6 +62,8 @@ pub record IsAnsweredAnew (s : ServiceOf) (plan : PlanOf) (text : List ℕ) : Ty
 -- The text answers a request by a service: the refusal of its first fault, with its message and its place, or the answer of
 -- its plan, in a session of its own.
 pub data AnswersRequest (s : ServiceOf) (request : RequestOf) (text : List ℕ) : Type 0 where
-  faulty : {fault : RequestFault} → IsFaulty (server_in s) request fault → text ≡ refusal_text (request_message fault) (request_place fault)
+  faulty : {fault : RequestFault} → IsFaulty (server_in s) request fault
+      → text ≡ refusal_text (request_message fault) (request_place fault)
       → AnswersRequest s request text
-  planned : {plan : PlanOf} → IsPlanned (server_in s) request plan → IsAnsweredAnew s plan text → AnswersRequest s request text
+  planned : {plan : PlanOf} → IsPlanned (server_in s) request plan
+      → IsAnsweredAnew s plan text → AnswersRequest s request text

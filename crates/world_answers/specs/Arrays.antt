@@ -1,4 +1,5 @@
--- What answers an array of requests over a world: its answers in brackets, of which those of plans are given over one session.
+-- Definitions of what answers an array of requests over a world: its answers in brackets, of which those of plans are given over one
+-- session.
 use Rattle.std.specs.Prelude.{◌≡◌, ℕ, List, map, Option}
 use Rattle.std.specs.List.{All, AllZip}
 use Rattle.csv_source.specs.Tables.{SourceOf}
@@ -7,7 +8,7 @@ use Rattle.gq_check.specs.Planned.{IsPlan}
 use Rattle.load_rounds.specs.Sessions.{SessionOf, StateOf, state_of}
 use Rattle.load_rounds.specs.SharedRounds.{ReportOf, SharedHeadline}
 use Rattle.request_line.specs.Requests.{RequestOf}
-use Rattle.request_plans.specs.Planning.{IsRefused, HasPlan}
+use Rattle.plan_requests.specs.Planning.{IsRefused, HasPlan}
 use Rattle.server.specs.Arrays.{PlaceOf, refused, answered, text_in, plans_in, reports_in, array_text}
 use Rattle.server.specs.Plans.{requests_within}
 use Rattle.world_answers.specs.Answers.{IsDirectText, may_tell}
@@ -21,10 +22,11 @@ pub record AnswersTogether (s : ServiceOf) (plans : List PlanOf) (after : StateO
   pub over : IsOver s.world begun
   pub headline : SharedHeadline may_tell (state_of begun) after (requests_within s.most plans) reports
 
--- what stands in the place of a value: its refusal, or the text of direct execution of its plan
+-- says what stands in the place of a value: its refusal, or the text of direct execution of its plan
 abbrev pub IsInPlace : ServiceOf → Option RequestOf → PlaceOf → Type 0
 IsInPlace s value (refused text) = IsRefused (server_in s) value text
-IsInPlace s value (answered plan report) = HasPlan (server_in s) value plan × IsDirectText s plan report.text
+IsInPlace s value (answered plan report) = HasPlan (server_in s) value plan
+    × IsDirectText s plan report.text
 
 -- The text answers an array of these values by a service. Each value is answered in its place. The plans are of valid documents, and were
 -- all answered over one session, with the headline.

@@ -1,13 +1,13 @@
--- What answers a line: *Program output*, of one line.
+-- Definitions of what answers a line: *Program output*, of one line.
 use Rattle.std.specs.Prelude.{◌≡◌, ℕ, List, Option, Result}
 use Rattle.csv_source.specs.Tables.{SourceOf}
-use Rattle.line_serving.specs.Answering.{AnsweringOf, at_memory}
-use Rattle.line_serving.specs.Devices.{DevicesOf}
-use Rattle.line_serving.specs.Serving.{Serves}
-use Rattle.line_serving.specs.declared.fault.ServeFault.{ServeFault}
+use Rattle.server_lines.specs.Answering.{AnsweringOf, at_memory}
+use Rattle.server_lines.specs.Devices.{DevicesOf}
+use Rattle.server_lines.specs.Serving.{Serves}
+use Rattle.server_lines.specs.declared.fault.ServeFault.{ServeFault}
 use Rattle.load_rounds.specs.Sessions.{restarted}
 use Rattle.request_line.specs.Requests.{RequestOf, IsRequest, AreRequests, IsNoRequest}
-use Rattle.request_plans.specs.Planning.{not_a_request}
+use Rattle.plan_requests.specs.Planning.{not_a_request}
 use Rattle.server.specs.Clients.{ClientOf}
 use Rattle.server.specs.Lines.{ServesLine, StopsLine, serving}
 use Rattle.world_answers.specs.Answers.{may_tell, AnswersRequest}
@@ -19,7 +19,8 @@ use Rattle.world_answers.specs.Sessions.{IsOver}
 pub data IsAnswer (s : ServiceOf) (line text : List ℕ) : Type 0 where
   no_request : IsNoRequest line → text ≡ not_a_request → IsAnswer s line text
   request : {r : RequestOf} → IsRequest line r → AnswersRequest s r text → IsAnswer s line text
-  several : {values : List (Option RequestOf)} → AreRequests line values → AnswersArray s values text → IsAnswer s line text
+  several : {values : List (Option RequestOf)} → AreRequests line values
+      → AnswersArray s values text → IsAnswer s line text
 
 -- ---- the client of a run
 
@@ -29,16 +30,18 @@ pub record IsClientOf (s : ServiceOf) (c : ClientOf SourceOf) : Type 0 where
   pub most : c.most ≡ s.most
   pub over : IsOver s.world (restarted c.session)
 
--- A line is answered by this text in the client's session, from which it starts again: the loaders were asked exactly the batches of a lawful
--- log for that line's plans, and nothing else. And the text is the one that answers the line, that of direct execution.
+-- A line is answered by this text in the client's session, from which it starts again: the loaders were asked exactly the batches of a
+-- lawful log for that line's plans, and nothing else. And the text is the one that answers the line, that of direct execution.
 pub record AnswersLine (s : ServiceOf) (c : ClientOf SourceOf) (line text : List ℕ) (later : ClientOf SourceOf) : Type 0 where
   pub served : ServesLine may_tell c line text later
   pub direct : IsAnswer s line text
 
--- how the lines of a run are answered
+-- gives how the lines of a run are answered
 abbrev pub answering : ServiceOf → AnsweringOf (ClientOf SourceOf)
 answering s = record { gives = AnswersLine s; stops = at_memory (StopsLine may_tell) }
 
 -- The lines that are served in the client's session have the text of direct execution each, and the client stays one of the service.
-abbrev pub AreDirect : ServiceOf → ClientOf SourceOf → ClientOf SourceOf → DevicesOf → Result ℕ ServeFault → Type 0
-AreDirect s c later d result = Serves (serving may_tell) c later d result → Serves (answering s) c later d result × IsClientOf s later
+abbrev pub AreDirect : ServiceOf → ClientOf SourceOf
+    → ClientOf SourceOf → DevicesOf → Result ℕ ServeFault → Type 0
+AreDirect s c later d result = Serves (serving may_tell) c later d result
+    → Serves (answering s) c later d result × IsClientOf s later

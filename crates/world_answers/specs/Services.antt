@@ -1,6 +1,6 @@
--- What answers lines: a world, and how long an answer may be.
+-- Definitions of what answers lines: a world, and how long an answer may be.
 use Rattle.std.specs.Prelude.{ℕ, Option}
-use Rattle.request_plans.specs.Servers.{ServerOf}
+use Rattle.plan_requests.specs.Servers.{ServerOf}
 use Rattle.world.specs.Worlds.{WorldOf, server_of}
 use Rattle.world_answers.specs.declared.service.Service.{Service}
 
@@ -13,7 +13,7 @@ pub record ServiceOf : Type 0 where
 abbrev pub server_in : ServiceOf → ServerOf
 server_in s = server_of s.world
 
--- a world whose answers may have so many bytes, or any number
+-- a world whose answers may have `most` bytes, or any number
 abbrev pub within : Option ℕ → WorldOf → ServiceOf
 within most w = record { world = w; most = most }
 

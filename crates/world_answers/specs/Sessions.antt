@@ -11,7 +11,8 @@ abbrev pub loader_over : Option ℕ → List ℕ → SourceOf → LoaderOf Sourc
 loader_over limit name source = record { name = name; source = source; mode = source.mode; limit = limit; log = []; orders = 0 }
 
 -- the loaders of lines over their sources, in order
-abbrev pub loaders_over : Option ℕ → List bindings.LoaderOf → List SourceOf → List (LoaderOf SourceOf)
+abbrev pub loaders_over : Option ℕ → List bindings.LoaderOf
+    → List SourceOf → List (LoaderOf SourceOf)
 loaders_over limit [] sources = []
 loaders_over limit (line ∷ lines) [] = []
 loaders_over limit (line ∷ lines) (source ∷ sources) = loader_over limit line.name source ∷ loaders_over limit lines sources

@@ -15,14 +15,17 @@ use std::marker::Model;
 /// A source of a table behind a gate, which is often a reference to one: each fetch first enters it with the number of the loader.
 ///
 /// A contract sees it as the source.
+///
+/// So a session behind a gate is a session of the world. No clause can say that the gate is entered, since it
+/// is shared.
 #[derive(Drop)]
-pub struct Gated<'w, G> {
+pub struct GatedSource<'w, G> {
     source: CsvSource<'w>,
     gate: G,
     loader: usize,
 }
 
-impl<'w, G> Model for Gated<'w, G> {
+impl<'w, G> Model for GatedSource<'w, G> {
     ghost use Rattle.csv_source.specs.Tables.{SourceOf};
 
     ghost Value = { SourceOf };
@@ -30,12 +33,12 @@ impl<'w, G> Model for Gated<'w, G> {
     ghost view = { λ s. s.source };
 }
 
-impl<'w, G> Gated<'w, G> {
+impl<'w, G> GatedSource<'w, G> {
     /// The source of the loader of this number, behind a gate.
-    pub fn new(source: CsvSource<'w>, gate: G, loader: usize) -> Gated<'w, G>
+    pub fn new(source: CsvSource<'w>, gate: G, loader: usize) -> GatedSource<'w, G>
         ensures { result ≡ source.entry }
     {
-        Gated {
+        GatedSource {
             source,
             gate,
             loader,
@@ -43,7 +46,7 @@ impl<'w, G> Gated<'w, G> {
     }
 }
 
-impl<'w, G: Gate> Source for Gated<'w, G> {
+impl<'w, G: Gate> Source for GatedSource<'w, G> {
     ghost may_answer = { λ s keys answer. answer ≡ given (map (item_of_key s) keys) };
 
     fn fetch(&self, alloc: Global, keys: &[Key]) -> Result<Vec<Item>, FetchFault> {
@@ -52,7 +55,7 @@ impl<'w, G: Gate> Source for Gated<'w, G> {
     }
 }
 
-impl<'w, G: Gate> PerKey for Gated<'w, G> {
+impl<'w, G: Gate> PerKey for GatedSource<'w, G> {
     ghost mode_of = { λ s. s.mode };
 
     ghost item_at = { item_of_key };

@@ -1,9 +1,9 @@
-//! What holds of the definitions. Each function does nothing: its contract is the law.
+//! Laws of the definitions. Each function does nothing: its contract is the law.
 
 ghost use Rattle.std.specs.Prelude.{◌≡◌, ℕ, List, Result};
 ghost use Rattle.csv_source.specs.Tables.{SourceOf};
-ghost use Rattle.line_serving.specs.Devices.{DevicesOf};
-ghost use Rattle.line_serving.specs.declared.fault.ServeFault.{ServeFault};
+ghost use Rattle.server_lines.specs.Devices.{DevicesOf};
+ghost use Rattle.server_lines.specs.declared.fault.ServeFault.{ServeFault};
 ghost use Rattle.server.specs.Clients.{ClientOf};
 ghost use Rattle.world_answers.specs.Lines.{AreDirect, IsAnswer, IsClientOf};
 ghost use Rattle.world_answers.specs.Services.{ServiceOf};
@@ -12,7 +12,8 @@ use gq_check::one_verdict;
 
 /// A line has at most one answer by a service.
 pub fn one_answer()
-    ensures { (s : ServiceOf) (line text other : List ℕ) → IsAnswer s line text → IsAnswer s line other → text ≡ other }
+    ensures { (s : ServiceOf) (line text other : List ℕ)
+        → IsAnswer s line text → IsAnswer s line other → text ≡ other }
 {
     one_verdict();
 }

@@ -1,13 +1,13 @@
-//! What answers lines.
+//! Services, which answer lines.
 
 use world::World;
 
-/// What answers lines: a world, and how long an answer may be.
+/// Holds what answers lines: a world, and how long an answer may be.
 #[derive(Clone, Copy)]
 pub struct Service<'w> {
     /// The world that is asked.
     pub world: &'w World,
-    /// How many bytes the text of a plan's answer has at most, that of each value of an array by itself. A longer one is refused
-    /// with `answer too long`. `None`: there is no limit. Refusals aren't measured.
+    /// Says how many bytes the text of a plan's answer has at most, that of each value of an array by itself. A longer one is
+    /// refused with `answer too long`. `None`: there is no limit. Refusals aren't measured.
     pub max_answer: Option<usize>,
 }

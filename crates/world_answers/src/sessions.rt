@@ -7,13 +7,12 @@ ghost use Rattle.world_answers.specs.Services.{service_of};
 ghost use Rattle.world_answers.specs.Sessions.{loader_over, session_over};
 
 use crate::gate::Gate;
-use crate::gated::Gated;
+use crate::gated::GatedSource;
 use crate::service::Service;
-use load_memory::NoMemory;
 use load_queue::{Loader, PerKey, QueueFault};
 use load_rounds::Session;
 use server::ClientSession;
-use std::alloc::Global;
+use std::alloc::{AllocError, Global};
 use world::World;
 
 // A new session of the world, whose sources are behind the gate.
@@ -21,7 +20,7 @@ fn gated_session<'w, G: Gate + Copy>(
     alloc: Global,
     world: &'w World,
     gate: G,
-) -> Result<Session<Gated<'w, G>>, NoMemory>
+) -> Result<Session<GatedSource<'w, G>>, AllocError>
     ensures opened { IfOk result (λ session. session ≡ session_over world.now) }
     // Each loader of the bindings is there.
     ensures each { OnOk result (length world.now.sources ≡ length world.now.bindings.loaders) }
@@ -40,16 +39,17 @@ fn gated_loader<'w, G: Gate + Copy>(
     gate: G,
     number: usize,
     name: &str,
-) -> Result<Loader<Gated<'w, G>>, NoMemory>
+) -> Result<Loader<GatedSource<'w, G>>, AllocError>
     requires { number < length world.now.sources }
-    ensures { (d : SourceOf) → IfOk result (λ l. l ≡ loader_over world.now.limit name.now (get_or world.now.sources number d)) }
+    ensures { (d : SourceOf) → IfOk result (λ l.
+        l ≡ loader_over world.now.limit name.now (get_or world.now.sources number d)) }
 {
     let source = world.source(number);
     let mode = source.mode();
-    let gated = Gated::new(source, gate, number);
+    let gated = GatedSource::new(source, gate, number);
     match Loader::new(alloc, name, gated, mode, world.limit()) {
         Ok(loader) => Ok(loader),
-        Err(QueueFault::NoMemory) => Err(NoMemory),
+        Err(QueueFault::NoMemory) => Err(AllocError),
         Err(QueueFault::BadLimit) => unreachable!(),
     }
 }
@@ -65,7 +65,7 @@ impl<'w> Service<'w> {
         &self,
         alloc: Global,
         gate: G,
-    ) -> Result<ClientSession<Gated<'w, G>>, NoMemory>
+    ) -> Result<ClientSession<GatedSource<'w, G>>, AllocError>
         ensures { IfOk result (IsClientOf (service_of self.now)) }
     {
         let session = gated_session(alloc, self.world, gate)?;

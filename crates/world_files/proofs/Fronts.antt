@@ -1,4 +1,4 @@
--- What is read of the front of a text.
+-- Lemmas on what is read of the front of a text.
 use Rattle.std.proofs.Common.{◌≡◌, ◌∙◌, ap, subst, ℕ, ◌<◌, ◌≤◌, min, List, [], ◌++◌, take, length, Option, Some, None, IfSome, inl, inr, ◌⊎◌, arith}
 use Rattle.std.specs.Option.{option_map}
 use Rattle.std.specs.declared.io.traits.Take.{Take}
@@ -26,7 +26,7 @@ front-read (Some bytes) bound most items text lt read (inl same) = go (cases_lt 
     go (inr short) = inl (same ∙ (read ∙ take_all bound bytes short))
     go (inl more) = inr (omega (arith, lt, more), omega (arith, lt, more, count))
 
--- what a bounded reader gives, in terms of the reader
+-- the bytes that a bounded reader gives, in terms of the reader
 pub bounded-read : (R : Type 0) (remaining : R → Option (List ℕ)) (t : Take R) (reader : R) (bound : ℕ) (old items : List ℕ) → t.inner ≡ reader → t.limit ≡ bound → old ≡ []
     → IfSome (take_remaining remaining t) (λ xs. items ≡ old ++ xs) → IfSome (option_map (take bound) (remaining reader)) (λ xs. items ≡ xs)
 bounded-read R remaining t reader bound old items inner limit none read =

@@ -13,7 +13,8 @@ use Rattle.world_files.specs.Opening.{IsTextOf, IsSheetOf, IsSheetFault, IsUnope
 
 -- a table under the name that is given, of all that its file holds
 abbrev pub IsTableFrom : Holdings → TableFile → TableOf → Type 0
-IsTableFrom holds given table = (table.name ≡ string_bytes given.name) × IsSheetOf (holds (string_bytes given.file)) table.sheet
+IsTableFrom holds given table = (table.name ≡ string_bytes given.name)
+    × IsSheetOf (holds (string_bytes given.file)) table.sheet
 
 -- The texts and the tables, in their order, are all that these files hold, where that is known.
 pub record AreFrom (holds : Holdings) (files : WorldFiles) (schema bindings : List ℕ) (tables : List TableOf) : Type 0 where
@@ -29,7 +30,7 @@ pub record IsWorldFrom (holds : Holdings) (files : WorldFiles) (w : WorldOf) : T
   pub from : AreFrom holds files schema bindings tables
   pub world : IsWorld schema bindings tables files.max_batch w
 
--- What these files hold is no world with this limit.
+-- Says what these files hold is no world with this limit.
 pub record IsRefusedFrom (holds : Holdings) (files : WorldFiles) (fault : WorldFault) : Type 0 where
   pub schema : List ℕ
   pub bindings : List ℕ
@@ -41,8 +42,8 @@ pub record IsRefusedFrom (holds : Holdings) (files : WorldFiles) (fault : WorldF
 abbrev pub IsUnopenedFrom : Holdings → List TableFile → OpenFault → Type 0
 IsUnopenedFrom holds tables fault = (place : ℕ) × IsSomeAnd (slice_get tables place) (λ given. IsUnopened (holds (string_bytes given.file)) place fault)
 
--- Why these files give no world: one of them can't be read; or a table is refused, of what its file holds; or what they all hold is
--- no world. Of memory this says nothing.
+-- Says why these files give no world: one of them can't be read; or a table is refused, of what its file holds; or what they all
+-- hold is no world. Of memory this says nothing.
 abbrev pub IsUnmadeFrom : Holdings → WorldFiles → OpenFault → Type 0
 IsUnmadeFrom holds files (opening.Unread file reason) = IsFileOf files file
 IsUnmadeFrom holds files (opening.Table place fault reason) = IsSomeAnd (slice_get files.tables.items place) (λ given. IsSheetFault (holds (string_bytes given.file)) fault)

@@ -1,4 +1,4 @@
--- What is read of one file, and which file gives no world.
+-- Definitions of what is read of one file, and which file gives no world.
 use Rattle.std.specs.Prelude.{◌≡◌, ◌<◌, ◌⊎◌, ℕ, List, length, Option, None, IfSome}
 use Rattle.csv.specs.Reading.{strip_bom}
 use Rattle.csv_source.specs.declared.fault.TableFault.{TableFault}
@@ -29,7 +29,7 @@ IsSheetOf known sheet = IfSome known (λ bytes. IsTableOf (strip_bom bytes) shee
 abbrev pub IsSheetFault : Option (List ℕ) → TableFault → Type 0
 IsSheetFault known fault = IfSome known (λ bytes. FaultIs (strip_bom bytes) fault)
 
--- what a reader that failed has kept
+-- gives what a reader that failed has kept
 abbrev pub reason_of : {A : Type 0} → TableFault → Option A → Option A
 reason_of table.ReadFault kept = kept
 reason_of other kept = None
@@ -52,7 +52,8 @@ IsUncreated opening.NoMemory = Unit {0}
 
 -- the file of the table of this place can't be opened, or holds none, for its bytes, where they are known, have the fault
 abbrev pub IsUnopened : Option (List ℕ) → ℕ → OpenFault → Type 0
-IsUnopened known place (opening.Table other fault reason) = (other ≡ place) × IsSheetFault known fault
+IsUnopened known place (opening.Table other fault reason) = (other ≡ place)
+    × IsSheetFault known fault
 IsUnopened known place other = IsUnread (file.Table place) other
 
 -- a table is refused; of memory this says nothing
@@ -80,6 +81,7 @@ IsLocated files opening.NoMemory = Unit {0}
 
 -- there is no world with this limit of some texts and tables, for this fault, or they weren't read
 abbrev pub IsUnmade : Option ℕ → OpenFault → Type 0
-IsUnmade max (opening.World fault) = (schema : List ℕ) × (bindings : List ℕ) × (tables : List TableOf) × IsRefusal schema bindings tables max fault
+IsUnmade max (opening.World fault) = (schema : List ℕ) × (bindings : List ℕ)
+    × (tables : List TableOf) × IsRefusal schema bindings tables max fault
 IsUnmade max (opening.Uncreated reason) = ⊥
 IsUnmade max other = Unit {0}

@@ -1,10 +1,14 @@
 //! Reading up to a bound.
+//!
+//! A schema is read to 1,048,580 bytes, which is what it may have and the longest character, and so enough to
+//! refuse it. The reader of a longer table fails behind the bound: one that ended there would have the front
+//! taken for the whole file. That a longer table is refused no clause says.
 
 ghost use Rattle.std.specs.Prelude.{◌≡◌, ◌==◌, ◌+◌};
 
 use std::io::{self, ErrorKind, Read};
 
-/// What is said of a file that is longer than it may be.
+/// Returns what is said of a file that is longer than it may be.
 pub fn too_long() -> io::Error {
     io::Error::new(ErrorKind::FileTooLarge, "the file is too long")
 }
@@ -12,27 +16,27 @@ pub fn too_long() -> io::Error {
 /// Gives what a reader has. Behind the first byte more than a bound it fails, so that nothing of a longer file is taken for all of
 /// it. It keeps the last fault that it met.
 #[derive(Drop)]
-pub struct Bounded<R> {
+pub struct BoundedReader<R> {
     inner: R,
-    // How many more bytes it gives: none where more than the bound were there.
+    // Says how many more bytes it gives: none where more than the bound were there.
     left: u64,
     fault: Option<io::Error>,
 }
 
-impl<R> Bounded<R> {
-    /// Gives at most so many bytes, and one more.
+impl<R> BoundedReader<R> {
+    /// Gives at most `most` bytes, and one more.
     pub fn new(inner: R, most: u32) -> Self
         ensures inner { result.inner ≡ inner }
         ensures left { result.left ≡ most + 1 }
     {
-        Bounded {
+        BoundedReader {
             inner,
             left: most as u64 + 1,
             fault: None,
         }
     }
 
-    /// Whether more bytes than the bound were read.
+    /// Tells whether more bytes than the bound were read.
     pub fn is_exceeded(&self) -> bool
         ensures { result ≡ (self.now.left == 0) }
     {
@@ -47,7 +51,7 @@ impl<R> Bounded<R> {
     }
 }
 
-impl<R: Read> Read for Bounded<R> {
+impl<R: Read> Read for BoundedReader<R> {
     ghost remaining = { λ bounded. R.remaining bounded.inner };
 
     fn read(&mut self, buf: &mut [u8]) -> io::Result<usize> {

@@ -1,4 +1,4 @@
-//! Why files give no world.
+//! Faults: why files give no world.
 
 ghost use Rattle.std.specs.Prelude.{◌≡◌};
 ghost use Rattle.world_files.specs.declared.fault.OpenFault.TheVariants.{NoMemory};
@@ -19,7 +19,7 @@ pub enum InputFile {
     Requests,
 }
 
-/// Why files give no world or no request lines, or a trace can't be created.
+/// Says why files give no world or no request lines, or a trace can't be created.
 #[derive(Debug, Drop)]
 pub enum OpenFault {
     /// A file can't be opened or read, is too long, or is no text where it has to be.
@@ -31,7 +31,7 @@ pub enum OpenFault {
     Table {
         place: usize,
         fault: TableFault,
-        /// What the system says, if the file can't be read to its end.
+        /// Holds what the system says, if the file can't be read to its end.
         reason: Option<io::Error>,
     },
     /// There is no world of the texts and the tables that were read.

@@ -42,7 +42,8 @@ pub struct WorldFiles {
 
 // The text of the schema's file.
 fn schema_file<D: Folder>(alloc: Global, folder: &D, path: &str) -> Result<String, OpenFault>
-    ensures ok { IfOk result (λ text. IfSome (D.holds folder.now path.now) (λ bytes. IsWholeOrLong MAX_BYTES bytes (string_bytes text))) }
+    ensures ok { IfOk result (λ text. IfSome (D.holds folder.now path.now)
+        (λ bytes. IsWholeOrLong MAX_BYTES bytes (string_bytes text))) }
     ensures err { IfErr result (IsUnread Schema) }
 {
     let file = match folder.open(path) {
@@ -93,8 +94,10 @@ fn named_table<D: Folder>(
     given: &TableFile,
     place: usize,
 ) -> Result<(String, Table), OpenFault>
-    ensures ok { IfOk result (λ table. IsTableFrom (D.holds folder.now) given.now (table_of table)) }
-    ensures err { IfErr result (IsUnopened (D.holds folder.now (string_bytes given.now.file)) place) }
+    ensures ok { IfOk result (λ table.
+        IsTableFrom (D.holds folder.now) given.now (table_of table)) }
+    ensures err { IfErr result
+        (IsUnopened (D.holds folder.now (string_bytes given.now.file)) place) }
 {
     let table = match table_file(alloc, folder, given.file.as_str(), place) {
         Ok(table) => table,
@@ -112,8 +115,10 @@ fn table_files<D: Folder>(
     folder: &D,
     given: &[TableFile],
 ) -> Result<Vec<(String, Table)>, OpenFault>
-    ensures ok { IfOk result (λ tables. AllZip (IsTableFrom (D.holds folder.now)) given.now (map table_of tables.items)) }
-    ensures err { IfErr result (λ fault. (fault ≡ OpenFault.NoMemory) ⊎ IsUnopenedFrom (D.holds folder.now) given.now fault) }
+    ensures ok { IfOk result (λ tables.
+        AllZip (IsTableFrom (D.holds folder.now)) given.now (map table_of tables.items)) }
+    ensures err { IfErr result (λ fault.
+        (fault ≡ OpenFault.NoMemory) ⊎ IsUnopenedFrom (D.holds folder.now) given.now fault) }
 {
     let mut tables = Vec::new(alloc);
     for (place, file) in given.iter().enumerate() {
@@ -130,9 +135,10 @@ fn table_files<D: Folder>(
 ///
 /// # Errors
 ///
-/// `Unread` where the schema, the bindings or a table can't be opened, the first two can't be read or are no UTF-8, or the bindings
-/// have more than 16,777,216 bytes or a table more than 4,294,967,295; `Table` where a table is refused or its file can't be
-/// read; `World` where there is no world of what was read; and want of memory.
+/// `Unread` where the schema, the bindings or a table can't be opened, the first two can't be read or are no
+/// UTF-8, or the bindings have more than 16,777,216 bytes or a table more than 4,294,967,295; `Table` where a
+/// table is refused or its file can't be read; `World` where there is no world of what was read; and want of
+/// memory. Which file is read first, or when one can't be read, no clause says.
 pub fn open_world<D: Folder>(
     alloc: Global,
     folder: &D,
@@ -172,7 +178,8 @@ pub fn open_world<D: Folder>(
 ///
 /// `Unread` where it can't be opened, with the reason, and want of memory.
 pub fn open_requests<D: Folder>(folder: &D, path: &str) -> Result<D::File, OpenFault>
-    ensures ok { IfOk result (λ file. IsAllOf (D.holds folder.now path.now) (D.File.remaining file)) }
+    ensures ok { IfOk result (λ file.
+        IsAllOf (D.holds folder.now path.now) (D.File.remaining file)) }
     ensures err { IfErr result (IsUnread Requests) }
 {
     match folder.open(path) {

@@ -1,4 +1,4 @@
-//! Where files are opened and created by their paths.
+//! Folders in which files are opened and created by their paths.
 
 ghost use Rattle.std.specs.Prelude.{◌≡◌, ℕ, [], List, Option, Some, None, IfOk, OnOk, OnErr, string_bytes, option_map};
 ghost use Rattle.world_files.specs.Folders.{Holdings, IsAllOf, IsCreatedAt, IsWritten, WritesNoOther, held_in, written_in};
@@ -8,21 +8,25 @@ use std::fs;
 use std::io::{self, ErrorKind, Read, Write};
 use std::rt::Files;
 
-/// Where files are opened and created by their paths.
+/// Says where files are opened and created by their paths.
+///
+/// A folder that tells what was written also tells that a created file was empty (`fresh`): what is appended to
+/// a text that isn't known says nothing of the text afterwards.
 pub trait Folder {
-    /// What a file is read by, from its begin.
+    /// Holds what a file is read by, from its begin.
     type File: Read + Drop;
 
-    /// What a file that was created is written by.
+    /// Holds what a file that was created is written by.
     type Created: Write + Drop;
 
-    // What the file at each path holds, where that is known.
+    // The bytes that the file at each path holds, where that is known.
     ghost holds: { Self → Holdings };
 
-    // What was written to the file that was created and closed at each path, where that is known.
+    // The bytes that were written to the file that was created and closed at each path, where that
+    // is known.
     ghost written: { Self → Holdings };
 
-    // What a file holds that was just created: nothing, where that is known.
+    // The bytes of a file that was just created: none, where that is known.
     ghost fresh: { Option (List ℕ) };
 
     // A file was created at this path, and may be closed.
@@ -32,15 +36,16 @@ pub trait Folder {
     ///
     /// # Errors
     ///
-    /// Why it can't be opened.
+    /// Returns why it can't be opened.
     fn open(&self, path: &str) -> io::Result<Self::File>
-        ensures { IfOk result (λ file. IsAllOf (holds self.now path.now) (Self.File.remaining file)) };
+        ensures { IfOk result (λ file.
+            IsAllOf (holds self.now path.now) (Self.File.remaining file)) };
 
     /// An empty file at a path, in place of one that may be there.
     ///
     /// # Errors
     ///
-    /// Why it can't be created.
+    /// Returns why it can't be created.
     fn create(&mut self, path: &str) -> io::Result<Self::Created>
         ensures empty { IfOk result (λ file. Self.Created.contents file ≡ fresh) }
         ensures created { OnOk result (is_created self.new path.now) }
@@ -149,8 +154,8 @@ impl<'b> MemoryFolder<'b> {
         }
     }
 
-    /// What was written to the file that was created and closed at a path.
-    pub fn written(&self, path: &str) -> Option<&[u8]>
+    /// Returns what was written to the file that was created and closed at a path.
+    pub fn file_bytes(&self, path: &str) -> Option<&[u8]>
         ensures { option_map (λ bytes. bytes.now) result ≡ written_in self.now.created path.now }
     {
         match &self.created {
@@ -179,7 +184,8 @@ impl<'b> Folder for MemoryFolder<'b> {
     ///
     /// `NotFound` where there is none.
     fn open(&self, path: &str) -> io::Result<&'b [u8]>
-        ensures ok { IfOk result (λ file. IsAllOf (held_in self.now.files.now path.now) (Some file.now)) }
+        ensures ok { IfOk result (λ file.
+            IsAllOf (held_in self.now.files.now path.now) (Some file.now)) }
         ensures found { IfOk result (λ file. held_in self.now.files.now path.now ≡ Some file.now) }
         ensures err { OnErr result (held_in self.now.files.now path.now ≡ None) }
     {
@@ -194,7 +200,8 @@ impl<'b> Folder for MemoryFolder<'b> {
     fn create(&mut self, path: &str) -> io::Result<Vec<u8>>
         ensures empty { IfOk result (λ file. Some file.items ≡ Some []) }
         ensures created { OnOk result (IsCreatedAt self.new.created path.now) }
-        ensures others { WritesNoOther path.now (written_in self.old.created) (written_in self.new.created) }
+        ensures others { WritesNoOther path.now
+            (written_in self.old.created) (written_in self.new.created) }
         ensures files { self.new.files ≡ self.old.files }
     {
         self.created = Some(CreatedFile {
@@ -206,9 +213,11 @@ impl<'b> Folder for MemoryFolder<'b> {
 
     fn close(&mut self, path: &str, file: Vec<u8>)
         requires { IsCreatedAt self.old.created path.now }
-        ensures written { IsWritten (written_in self.new.created path.now) (Some []) (Some file.items) }
+        ensures written { IsWritten (written_in self.new.created path.now)
+            (Some []) (Some file.items) }
         ensures found { written_in self.new.created path.now ≡ Some file.items }
-        ensures others { WritesNoOther path.now (written_in self.old.created) (written_in self.new.created) }
+        ensures others { WritesNoOther path.now
+            (written_in self.old.created) (written_in self.new.created) }
         ensures files { self.new.files ≡ self.old.files }
     {
         match &mut self.created {

@@ -4,7 +4,7 @@ ghost use Rattle.std.specs.Prelude.{◌≡◌, ◌⊎◌, ◌<◌, ◌≤◌, le
 ghost use Rattle.std.specs.String.{from_utf8_error_vec};
 ghost use Rattle.world_files.specs.Opening.{IsTextOf, IsSheetOf, IsUnread, IsUnopened, IsWholeOrLong, reason_of};
 
-use crate::bounded::{Bounded, too_long};
+use crate::bounded::{BoundedReader, too_long};
 use crate::fault::{InputFile, OpenFault};
 use csv_source::{Table, TableFault};
 use gq_lexer::MAX_BYTES;
@@ -12,13 +12,13 @@ use std::alloc::Global;
 use std::io::{self, ErrorKind, Read};
 use std::string::FromUtf8Error;
 
-// What is read of a schema: as many bytes as it may have, and the longest character.
+// Says what is read of a schema: as many bytes as it may have, and the longest character.
 const SCHEMA_FRONT: u64 = 1_048_580;
 
 /// The most bytes that a table's file may have.
 const MAX_TABLE: u32 = 4_294_967_295;
 
-/// What a failed call on a file is. Want of memory is in no file.
+/// Returns what a failed call on a file is. Want of memory is in no file.
 pub fn unread(file: InputFile, reason: io::Error) -> OpenFault
     ensures unread { IsUnread file result }
     ensures reason { (result ≡ OpenFault.NoMemory) ⊎ (result ≡ OpenFault.Unread file reason) }
@@ -29,7 +29,7 @@ pub fn unread(file: InputFile, reason: io::Error) -> OpenFault
     OpenFault::Unread { file, reason }
 }
 
-// What is said of a file that is no text, as the library says it.
+// Returns what is said of a file that is no text, as the library says it.
 fn no_text() -> io::Error {
     io::Error::new(ErrorKind::InvalidData, "stream did not contain valid UTF-8")
 }
@@ -38,7 +38,7 @@ fn no_text() -> io::Error {
 ///
 /// # Errors
 ///
-/// Why the reader fails; and where it gives no UTF-8, or gives more.
+/// Returns why the reader fails; and where it gives no UTF-8, or gives more.
 pub fn read_text<R: Read + Drop>(alloc: Global, reader: R, most: u32) -> io::Result<String>
     ensures ok { IfOk result (λ text. IsTextOf (R.remaining reader) (string_bytes text)) }
     ensures within { IfOk result (λ text. string_len text ≤ most) }
@@ -55,7 +55,8 @@ pub fn read_text<R: Read + Drop>(alloc: Global, reader: R, most: u32) -> io::Res
 
 // The text before the first fault, where it is longer than a schema may be.
 fn long_text(error: FromUtf8Error<Global>) -> io::Result<String>
-    ensures ok { IfOk result (λ text. (MAX_BYTES < string_len text) × (string_len text ≤ length (from_utf8_error_vec error).items)) }
+    ensures ok { IfOk result (λ text. (MAX_BYTES < string_len text)
+        × (string_len text ≤ length (from_utf8_error_vec error).items)) }
 {
     let front = error.utf8_error().valid_up_to();
     let mut bytes = error.into_bytes();
@@ -76,9 +77,10 @@ fn long_text(error: FromUtf8Error<Global>) -> io::Result<String>
 ///
 /// # Errors
 ///
-/// Why the reader fails; and where what is read is no UTF-8 but for a character that the end cuts.
+/// Returns why the reader fails; and where what is read is no UTF-8 but for a character that the end cuts.
 pub fn read_schema<R: Read + Drop>(alloc: Global, reader: R) -> io::Result<String>
-    ensures { IfOk result (λ text. IfSome (R.remaining reader) (λ bytes. IsWholeOrLong MAX_BYTES bytes (string_bytes text))) }
+    ensures { IfOk result (λ text.
+        IfSome (R.remaining reader) (λ bytes. IsWholeOrLong MAX_BYTES bytes (string_bytes text))) }
 {
     let mut bytes = Vec::new(alloc);
     match reader.take(SCHEMA_FRONT).read_to_end(&mut bytes) {
@@ -91,8 +93,8 @@ pub fn read_schema<R: Read + Drop>(alloc: Global, reader: R) -> io::Result<Strin
     }
 }
 
-// What a refused table is. Of a file that couldn't be read its reader has kept the reason.
-fn refused(place: usize, fault: TableFault, kept: Option<io::Error>) -> OpenFault
+// Returns what a refused table is. Of a file that couldn't be read its reader has kept the reason.
+fn open_fault_of(place: usize, fault: TableFault, kept: Option<io::Error>) -> OpenFault
     ensures { result ≡ OpenFault.Table place fault (reason_of fault kept) }
 {
     let reason = match fault {
@@ -119,13 +121,13 @@ pub fn read_table<R: Read + Drop>(
     ensures ok { IfOk result (IsSheetOf (R.remaining reader)) }
     ensures err { IfErr result (IsUnopened (R.remaining reader) place) }
 {
-    let mut front = Bounded::new(reader, MAX_TABLE);
+    let mut front = BoundedReader::new(reader, MAX_TABLE);
     let table = Table::read(alloc, &mut front);
     if front.is_exceeded() {
         return Err(unread(InputFile::Table(place), too_long()));
     }
     match table {
         Ok(table) => Ok(table),
-        Err(fault) => Err(refused(place, fault, front.fault())),
+        Err(fault) => Err(open_fault_of(place, fault, front.fault())),
     }
 }

@@ -76,7 +76,8 @@ fn sample_tables(alloc: Global) -> Result<Vec<(String, Table)>, OpenFault>
 ///
 /// Only when out of memory, since its parts are accepted.
 pub fn sample_world(alloc: Global) -> Result<World, OpenFault>
-    ensures ok { IfOk result (λ world. (tables : List TableOf) × IsWorld SCHEMA.now BINDINGS.now tables None world) }
+    ensures ok { IfOk result (λ world.
+        (tables : List TableOf) × IsWorld SCHEMA.now BINDINGS.now tables None world) }
     ensures err { IfErr result (IsUnmade None) }
 {
     let tables = match sample_tables(alloc) {

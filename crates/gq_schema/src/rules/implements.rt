@@ -9,7 +9,7 @@ ghost use Rattle.gq_schema.specs.Types.{tree_of, is_argument};
 ghost use Rattle.gq_schema.specs.Places.{ArePlaces};
 ghost use Rattle.gq_schema.specs.Implements.{argument_in, has_argument, is_required, may_stand, serves, has_field, implements, bad_interface, bad_interface_in, first_bad_interface};
 
-use crate::index::{Places, note};
+use crate::index::{NameIndices, note};
 use crate::references::is_same_type;
 use crate::schema::Schema;
 use gq_lexer::Place;
@@ -21,7 +21,7 @@ use std::collections::HashMap;
 #[derive(Drop)]
 struct Arguments<'a> {
     arguments: &'a [ArgumentDefinition],
-    places: Places,
+    places: NameIndices,
     ghost placed: { ArePlaces is_argument (arguments_of arguments.now) places },
 }
 
@@ -29,7 +29,7 @@ impl<'a> Arguments<'a> {
     fn of(alloc: Global, arguments: &'a [ArgumentDefinition]) -> Result<Arguments<'a>, AllocError>
         ensures { IfOk result (λ all. all.arguments.now ≡ arguments.now) }
     {
-        let mut places: Places = HashMap::new(alloc);
+        let mut places: NameIndices = HashMap::new(alloc);
         for (i, argument) in arguments.iter().enumerate() {
             note(&mut places, &argument.name, i)?;
         }
@@ -37,14 +37,15 @@ impl<'a> Arguments<'a> {
     }
 
     fn get(&self, name: &str) -> Option<&ArgumentDefinition>
-        ensures { option_map argument_of (option_copied result) ≡ argument_in (arguments_of self.now.arguments.now) name.now }
+        ensures { option_map argument_of (option_copied result)
+            ≡ argument_in (arguments_of self.now.arguments.now) name.now }
     {
         let place = *self.places.get(name)?;
         Some(&self.arguments[place])
     }
 }
 
-// Whether there is the wanted argument, of the same type.
+// Tells whether there is the wanted argument, of the same type.
 fn has_argument(own: &Arguments, wanted: &ArgumentDefinition) -> bool
     ensures { result ≡ has_argument (arguments_of own.now.arguments.now) (argument_of wanted.now) }
 {
@@ -55,7 +56,8 @@ fn has_argument(own: &Arguments, wanted: &ArgumentDefinition) -> bool
 }
 
 fn has_arguments(own: &Arguments, wanted: &[ArgumentDefinition]) -> bool
-    ensures { result ≡ list_all (has_argument (arguments_of own.now.arguments.now)) (arguments_of wanted.now) }
+    ensures { result
+        ≡ list_all (has_argument (arguments_of own.now.arguments.now)) (arguments_of wanted.now) }
 {
     for argument in wanted {
         if !has_argument(own, argument) {
@@ -71,15 +73,17 @@ fn is_required(argument: &ArgumentDefinition) -> bool
     argument.of_type.is_non_null() && argument.default.is_none()
 }
 
-// Whether the interface's field has this argument too, or it may be left out.
+// Tells whether the interface's field has this argument too, or it may be left out.
 fn may_stand(wanted: &Arguments, argument: &ArgumentDefinition) -> bool
-    ensures { result ≡ may_stand (arguments_of wanted.now.arguments.now) (argument_of argument.now) }
+    ensures { result
+        ≡ may_stand (arguments_of wanted.now.arguments.now) (argument_of argument.now) }
 {
     wanted.get(argument.name.text.as_str()).is_some() || !is_required(argument)
 }
 
 fn may_all_stand(wanted: &Arguments, arguments: &[ArgumentDefinition]) -> bool
-    ensures { result ≡ list_all (may_stand (arguments_of wanted.now.arguments.now)) (arguments_of arguments.now) }
+    ensures { result ≡ list_all (may_stand (arguments_of wanted.now.arguments.now))
+        (arguments_of arguments.now) }
 {
     for argument in arguments {
         if !may_stand(wanted, argument) {
@@ -89,14 +93,15 @@ fn may_all_stand(wanted: &Arguments, arguments: &[ArgumentDefinition]) -> bool
     true
 }
 
-// Whether a field implements the interface's field.
+// Tells whether a field implements the interface's field.
 fn serves(
     alloc: Global,
     schema: &Schema,
     wanted: &FieldDefinition,
     own: &FieldDefinition,
 ) -> Result<bool, AllocError>
-    ensures { IfOk result (λ good. good ≡ serves (tree_of schema.now) (field_of wanted.now) (field_of own.now)) }
+    ensures { IfOk result (λ good.
+        good ≡ serves (tree_of schema.now) (field_of wanted.now) (field_of own.now)) }
 {
     if !schema.is_covariant(&own.of_type, &wanted.of_type) {
         return Ok(false);
@@ -109,14 +114,15 @@ fn serves(
     Ok(may_all_stand(&wanted_arguments, &own.arguments))
 }
 
-// Whether a type has a field that implements the interface's field.
+// Tells whether a type has a field that implements the interface's field.
 fn has_field(
     alloc: Global,
     schema: &Schema,
     ty: &str,
     wanted: &FieldDefinition,
 ) -> Result<bool, AllocError>
-    ensures { IfOk result (λ good. good ≡ has_field (tree_of schema.now) ty.now (field_of wanted.now)) }
+    ensures { IfOk result (λ good.
+        good ≡ has_field (tree_of schema.now) ty.now (field_of wanted.now)) }
 {
     match schema.field(ty, wanted.name.text.as_str()) {
         Some(own) => Ok(serves(alloc, schema, wanted, own)?),
@@ -141,7 +147,8 @@ fn bad_interface(
     ty: &str,
     interfaces: &[Name],
 ) -> Result<Option<Place>, AllocError>
-    ensures { IfOk result (λ place. place ≡ first_in (bad_interface (tree_of schema.now) ty.now) (names_of interfaces.now)) }
+    ensures { IfOk result (λ place.
+        place ≡ first_in (bad_interface (tree_of schema.now) ty.now) (names_of interfaces.now)) }
 {
     for interface in interfaces {
         if !implements(alloc, schema, ty, interface.text.as_str())? {
@@ -156,7 +163,8 @@ fn bad_interface_in(
     schema: &Schema,
     definition: &Definition,
 ) -> Result<Option<Place>, AllocError>
-    ensures { IfOk result (λ place. place ≡ bad_interface_in (tree_of schema.now) (definition_of definition.now)) }
+    ensures { IfOk result (λ place.
+        place ≡ bad_interface_in (tree_of schema.now) (definition_of definition.now)) }
 {
     match definition {
         Definition::Object(object) => Ok(bad_interface(
@@ -173,6 +181,9 @@ fn bad_interface_in(
 }
 
 /// The first name of the text, after `implements`, of an interface that is not implemented (section 3.6).
+///
+/// Of arguments types alone are compared: an object's argument may lack the default of the interface's, or have
+/// another.
 pub fn first_bad_interface(alloc: Global, schema: &Schema) -> Result<Option<Place>, AllocError>
     ensures { IfOk result (λ place. place ≡ first_bad_interface (tree_of schema.now)) }
 {

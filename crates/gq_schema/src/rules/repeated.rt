@@ -14,12 +14,14 @@ use std::alloc::{AllocError, Global};
 use std::collections::HashSet;
 
 /// The texts of the names that stood earlier.
-type Seen<'a> = HashSet<&'a str>;
+type EarlierNames<'a> = HashSet<&'a str>;
 
 // Notes a name; true if it wasn't noted before.
-fn note<'a>(seen: &mut Seen<'a>, name: &'a Name) -> Result<bool, AllocError>
-    ensures first { IfOk result (λ first. first ≡ not (has_text seen.old (string_bytes name.now.text))) }
-    ensures noted { (q : List ℕ) → OnOk result (has_text seen.new q ≡ (bytes_eq q (string_bytes name.now.text) || has_text seen.old q)) }
+fn note<'a>(seen: &mut EarlierNames<'a>, name: &'a Name) -> Result<bool, AllocError>
+    ensures first { IfOk result (λ first.
+        first ≡ not (has_text seen.old (string_bytes name.now.text))) }
+    ensures noted { (q : List ℕ) → OnOk result
+        (has_text seen.new q ≡ (bytes_eq q (string_bytes name.now.text) || has_text seen.old q)) }
 {
     let first = seen.insert(name.text.as_str())?;
     Ok(first)
@@ -28,7 +30,7 @@ fn note<'a>(seen: &mut Seen<'a>, name: &'a Name) -> Result<bool, AllocError>
 fn repeated_name(alloc: Global, names: &[Name]) -> Result<Option<Place>, AllocError>
     ensures { IfOk result (λ place. place ≡ repeated_name [] (names_of names.now)) }
 {
-    let mut seen: Seen = HashSet::new(alloc);
+    let mut seen: EarlierNames = HashSet::new(alloc);
     for name in names {
         if !note(&mut seen, name)? {
             return Ok(Some(name.place));
@@ -43,7 +45,7 @@ fn repeated_argument(
 ) -> Result<Option<Place>, AllocError>
     ensures { IfOk result (λ place. place ≡ repeated_argument [] (arguments_of arguments.now)) }
 {
-    let mut seen: Seen = HashSet::new(alloc);
+    let mut seen: EarlierNames = HashSet::new(alloc);
     for argument in arguments {
         if !note(&mut seen, &argument.name)? {
             return Ok(Some(argument.name.place));
@@ -55,7 +57,7 @@ fn repeated_argument(
 fn repeated_field(alloc: Global, fields: &[FieldDefinition]) -> Result<Option<Place>, AllocError>
     ensures { IfOk result (λ place. place ≡ repeated_field [] (fields_of fields.now)) }
 {
-    let mut seen: Seen = HashSet::new(alloc);
+    let mut seen: EarlierNames = HashSet::new(alloc);
     for field in fields {
         if !note(&mut seen, &field.name)? {
             return Ok(Some(field.name.place));
@@ -68,19 +70,20 @@ fn repeated_field(alloc: Global, fields: &[FieldDefinition]) -> Result<Option<Pl
     Ok(None)
 }
 
-/// What stood earlier: the names of types, and whether `schema` did.
+/// Holds what stood earlier: the names of types, and whether `schema` did.
 #[derive(Drop)]
-struct Earlier<'a> {
-    types: Seen<'a>,
+struct EarlierDefinitions<'a> {
+    types: EarlierNames<'a>,
     rooted: bool,
 }
 
 // The name of a definition that stood earlier, or the place of a second `schema`. Notes the definition.
 fn repeated_self<'a>(
-    earlier: &mut Earlier<'a>,
+    earlier: &mut EarlierDefinitions<'a>,
     definition: &'a Definition,
 ) -> Result<Option<Place>, AllocError>
-    ensures { (ds : _) → Agrees earlier.old ds → IfOk result (Passes earlier.new ds (definition_of definition.now)) }
+    ensures { (ds : _) → Agrees earlier.old ds
+        → IfOk result (Passes earlier.new ds (definition_of definition.now)) }
 {
     match definition {
         Definition::Schema(schema) => {
@@ -96,9 +99,13 @@ fn repeated_self<'a>(
 }
 
 // The name of a type, where one of the same name stood earlier.
-fn repeated_type<'a>(seen: &mut Seen<'a>, name: &'a Name) -> Result<Option<Place>, AllocError>
+fn repeated_type<'a>(
+    seen: &mut EarlierNames<'a>,
+    name: &'a Name,
+) -> Result<Option<Place>, AllocError>
     ensures place { IfOk result (λ place. place ≡ place_if_seen seen.old name.now) }
-    ensures noted { (q : List ℕ) → OnOk result (has_text seen.new q ≡ (bytes_eq q (string_bytes name.now.text) || has_text seen.old q)) }
+    ensures noted { (q : List ℕ) → OnOk result
+        (has_text seen.new q ≡ (bytes_eq q (string_bytes name.now.text) || has_text seen.old q)) }
 {
     let first = note(seen, name)?;
     let repeated = !first || is_built_in(name.text.as_str());
@@ -131,7 +138,7 @@ pub fn first_repeated(
 ) -> Result<Option<Place>, AllocError>
     ensures { IfOk result (λ place. place ≡ first_repeated (tree_of definitions.now)) }
 {
-    let mut earlier = Earlier {
+    let mut earlier = EarlierDefinitions {
         types: HashSet::new(alloc),
         rooted: false,
     };

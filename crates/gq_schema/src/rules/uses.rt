@@ -13,7 +13,7 @@ use gq_lexer::Place;
 use gq_parser::TypeRef;
 use schema_syntax::{ArgumentDefinition, Definition, FieldDefinition, Name};
 
-/// What the use of a type's name is for.
+/// Says what the use of a type's name is for.
 #[derive(Clone, Copy, Debug, PartialEq, Eq)]
 pub enum Role {
     FieldType,
@@ -23,16 +23,16 @@ pub enum Role {
     Root,
 }
 
-/// What is asked of the use of a type's name.
+/// Says what is asked of the use of a type's name.
 #[derive(Clone, Copy, Debug, PartialEq, Eq)]
-pub enum Rule {
+pub enum TypeUseDemand {
     /// The name has a definition.
     IsDefined,
-    /// What it names may stand there.
+    /// Says what it names may stand there.
     Fits,
 }
 
-// Whether a type of this kind may stand there.
+// Tells whether a type of this kind may stand there.
 fn fits(role: Role, kind: TypeKind) -> bool
     ensures { result ≡ fits role kind }
 {
@@ -45,18 +45,25 @@ fn fits(role: Role, kind: TypeKind) -> bool
     }
 }
 
-fn keeps(rule: Rule, role: Role, kind: Option<TypeKind>) -> bool
+fn keeps(rule: TypeUseDemand, role: Role, kind: Option<TypeKind>) -> bool
     ensures { result ≡ keeps rule role kind }
 {
     match (rule, kind) {
-        (_, Some(kind)) => rule == Rule::IsDefined || fits(role, kind),
-        (Rule::IsDefined, None) => false,
-        (Rule::Fits, None) => true,
+        (_, Some(kind)) => rule == TypeUseDemand::IsDefined || fits(role, kind),
+        (TypeUseDemand::IsDefined, None) => false,
+        (TypeUseDemand::Fits, None) => true,
     }
 }
 
-fn broken_use(schema: &Schema, rule: Rule, role: Role, name: &str, place: Place) -> Option<Place>
-    ensures { result ≡ broken_use (tree_of schema.now) rule role (record { text = name.now; place = place }) }
+fn broken_use(
+    schema: &Schema,
+    rule: TypeUseDemand,
+    role: Role,
+    name: &str,
+    place: Place,
+) -> Option<Place>
+    ensures { result
+        ≡ broken_use (tree_of schema.now) rule role (record { text = name.now; place = place }) }
 {
     if keeps(rule, role, schema.kind_of(name)) {
         None
@@ -65,19 +72,25 @@ fn broken_use(schema: &Schema, rule: Rule, role: Role, name: &str, place: Place)
     }
 }
 
-fn broken_name(schema: &Schema, rule: Rule, role: Role, name: &Name) -> Option<Place>
+fn broken_name(schema: &Schema, rule: TypeUseDemand, role: Role, name: &Name) -> Option<Place>
     ensures { result ≡ broken_use (tree_of schema.now) rule role (name_of name.now) }
 {
     broken_use(schema, rule, role, name.text.as_str(), name.place)
 }
 
-fn broken_type(schema: &Schema, rule: Rule, role: Role, of_type: &TypeRef) -> Option<Place>
+fn broken_type(schema: &Schema, rule: TypeUseDemand, role: Role, of_type: &TypeRef) -> Option<Place>
     ensures { result ≡ broken_use (tree_of schema.now) rule role (core_of (type_of of_type.now)) }
 {
-    broken_use(schema, rule, role, of_type.named(), of_type.named_place())
+    broken_use(
+        schema,
+        rule,
+        role,
+        of_type.innermost_name(),
+        of_type.named_place(),
+    )
 }
 
-fn broken_names(schema: &Schema, rule: Rule, role: Role, names: &[Name]) -> Option<Place>
+fn broken_names(schema: &Schema, rule: TypeUseDemand, role: Role, names: &[Name]) -> Option<Place>
     ensures { result ≡ first_in (broken_use (tree_of schema.now) rule role) (names_of names.now) }
 {
     for name in names {
@@ -88,8 +101,13 @@ fn broken_names(schema: &Schema, rule: Rule, role: Role, names: &[Name]) -> Opti
     None
 }
 
-fn broken_arguments(schema: &Schema, rule: Rule, arguments: &[ArgumentDefinition]) -> Option<Place>
-    ensures { result ≡ first_in (broken_argument (tree_of schema.now) rule) (arguments_of arguments.now) }
+fn broken_arguments(
+    schema: &Schema,
+    rule: TypeUseDemand,
+    arguments: &[ArgumentDefinition],
+) -> Option<Place>
+    ensures { result
+        ≡ first_in (broken_argument (tree_of schema.now) rule) (arguments_of arguments.now) }
 {
     for argument in arguments {
         if let Some(place) = broken_type(schema, rule, Role::ArgumentType, &argument.of_type) {
@@ -99,7 +117,7 @@ fn broken_arguments(schema: &Schema, rule: Rule, arguments: &[ArgumentDefinition
     None
 }
 
-fn broken_fields(schema: &Schema, rule: Rule, fields: &[FieldDefinition]) -> Option<Place>
+fn broken_fields(schema: &Schema, rule: TypeUseDemand, fields: &[FieldDefinition]) -> Option<Place>
     ensures { result ≡ first_in (broken_field (tree_of schema.now) rule) (fields_of fields.now) }
 {
     for field in fields {
@@ -114,7 +132,7 @@ fn broken_fields(schema: &Schema, rule: Rule, fields: &[FieldDefinition]) -> Opt
 }
 
 // The use of a definition's own name, where it is the root without a `schema`.
-fn broken_root(schema: &Schema, rule: Rule, name: &Name) -> Option<Place>
+fn broken_root(schema: &Schema, rule: TypeUseDemand, name: &Name) -> Option<Place>
     ensures { result ≡ broken_root (tree_of schema.now) rule (name_of name.now) }
 {
     if !schema.declares_root() && name.text.as_str() == "Query" {
@@ -124,7 +142,7 @@ fn broken_root(schema: &Schema, rule: Rule, name: &Name) -> Option<Place>
     }
 }
 
-fn broken_in(schema: &Schema, rule: Rule, definition: &Definition) -> Option<Place>
+fn broken_in(schema: &Schema, rule: TypeUseDemand, definition: &Definition) -> Option<Place>
     ensures { result ≡ broken_in (tree_of schema.now) rule (definition_of definition.now) }
 {
     match definition {
@@ -146,7 +164,7 @@ fn broken_in(schema: &Schema, rule: Rule, definition: &Definition) -> Option<Pla
 }
 
 /// The first use in the text of a type's name that breaks the rule.
-pub fn first_broken(schema: &Schema, rule: Rule) -> Option<Place>
+pub fn first_broken(schema: &Schema, rule: TypeUseDemand) -> Option<Place>
     ensures { result ≡ first_broken (tree_of schema.now) rule }
 {
     for indexed in schema.definitions() {

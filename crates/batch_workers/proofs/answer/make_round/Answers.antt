@@ -2,8 +2,8 @@ use Rattle.std.proofs.Common.{map, refl}
 use Rattle.load_memory.specs.Shelves.{shown}
 use Rattle.execution.specs.Program.{Program}
 use Rattle.load_rounds.specs.Sessions.{StateOf, state_of}
-use Rattle.load_rounds.specs.Runs.{RunOf, run_of, IsRun}
-use Rattle.load_rounds.specs.declared.run.Stage.TheVariants.{Ready, Out, Failed}
+use Rattle.load_rounds.specs.ByHand.{RunOf, run_of, IsRun}
+use Rattle.load_rounds.specs.declared.by_hand.Stage.TheVariants.{Ready, Out, Failed}
 use Rattle.load_rounds.proofs.Growing.{received-grows}
 use Rattle.load_rounds.proofs.Runs.{out-stops, on-ok}
 use Rattle.load_rounds.proofs.States.{on-err}

@@ -4,7 +4,7 @@ use Rattle.load_rounds.specs.Sessions.{StateOf, state_of}
 use Rattle.load_rounds.specs.Headline.{StopsAnswering}
 use Rattle.load_rounds.specs.SharedRounds.{requests, together}
 use Rattle.load_rounds.specs.SharedRuns.{RunAllOf, IsRunAll}
-use Rattle.load_rounds.specs.declared.run.Stage.TheVariants.{Failed}
+use Rattle.load_rounds.specs.declared.by_hand.Stage.TheVariants.{Failed}
 use Rattle.load_rounds.proofs.Runs.{run-stops}
 use Rattle.load_rounds.proofs.States.{on-err}
 use Rattle.batch_workers.proofs.Receipts.{received, have-loaders, on-ok-too, ok-with, err-run}

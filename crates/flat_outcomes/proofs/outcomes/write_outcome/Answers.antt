@@ -9,7 +9,7 @@ use Rattle.flat_outcomes.proofs.outcomes.write_outcome.Goals as goal
 
 pub returns-in_ok-push-in-Rows-clause-few : goal.returns-in_ok-push-in-Rows-clause-few
 returns-in_ok-push-in-Rows-clause-few c =
-    let counted = c.in_ok-counted-in-Rows.ensures in
+    let counted = c.in_ok-count_below-in-Rows.ensures in
     let below : length c.deref.result.now < batch_mark = omega (arith, counted.below, counted.ok, c.len.ensures, c.deref.ensures.len) in
     rw (c.in-Rows.is, ← c.deref.ensures.value)
     (on_ok_weaker c.write_rows.result (λ (narrow : All IsNarrow c.deref.result.now). (below, narrow)) c.write_rows.ensures.narrow)

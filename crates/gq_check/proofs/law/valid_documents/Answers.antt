@@ -1,4 +1,4 @@
-use Rattle.document_parts.specs.Listing.{parts_of}
+use Rattle.rules_parts.specs.Listing.{parts_of}
 use Rattle.gq_check.proofs.Validity.{valid-keeps, keeps-valid}
 use Rattle.gq_check.proofs.law.valid_documents.Goals as goal
 

@@ -2,8 +2,8 @@ use Rattle.std.proofs.Common.{◌≡◌, Ok, arith}
 use Rattle.serde_json.specs.View.{view}
 use Rattle.gq_parser.specs.Tree.{operation_of}
 use Rattle.gq_schema.specs.Types.{tree_of}
-use Rattle.variable_values.specs.Values as values
-use Rattle.variable_values.specs.Variables.{variables_of}
+use Rattle.gq_variables.specs.Values as values
+use Rattle.gq_variables.specs.Variables.{variables_of}
 use Rattle.std.specs.Arc.{arc_value}
 use Rattle.gq_check.proofs.Planning.{prepares-with}
 use Rattle.gq_check.proofs.preparation.with_values.Goals as goal

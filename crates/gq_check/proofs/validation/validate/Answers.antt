@@ -2,7 +2,7 @@ use Rattle.std.proofs.Common.{subst, Option, Some, None}
 use Rattle.std.specs.Prelude.{option_map}
 use Rattle.gq_parser.specs.Tree.{document_of}
 use Rattle.gq_schema.specs.Types.{tree_of}
-use Rattle.document_parts.specs.Parts.{PartsOf, parts_in}
+use Rattle.rules_parts.specs.Parts.{PartsOf, parts_in}
 use Rattle.gq_check.specs.declared.report.Report.{Report}
 use Rattle.gq_check.specs.Report.{report_of}
 use Rattle.gq_check.specs.Verdict.{IsVerdict, IsVerdictOf}

@@ -5,7 +5,7 @@ use Rattle.gq_lexer.proofs.block.unindent.Goals as goal
 pub loop-line-preserved : goal.loop-line-preserved
 loop-line-preserved c =
     let now = λ (line : Bor (List ℕ)). line.now in
-    part_more now (strip c.in-Some.indent) c.loop-line.others (map now (take (length c.args.lines.now - 1) (drop 1 c.args.lines.now))) c.loop-line.line-index c.unindented.result _ (omega arith) c.loop-line.invariant c.unindented.ensures
+    part_more now (strip c.in-Some.indent) c.loop-line.others (map now (take (length c.args.lines.now - 1) (drop 1 c.args.lines.now))) c.loop-line.line-index c.strip_indent.result _ (omega arith) c.loop-line.invariant c.strip_indent.ensures
 
 pub returns-after-loop-line : goal.returns-after-loop-line
 returns-after-loop-line c =

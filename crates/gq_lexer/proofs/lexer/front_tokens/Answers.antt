@@ -9,7 +9,7 @@ use Rattle.gq_lexer.proofs.Lexing.{IsLexed, is_next, lexed_more, tokens_before, 
 use Rattle.gq_lexer.proofs.lexer.front_tokens.Goals as goal
 use Rattle.gq_lexer.proofs.lexer.front_tokens.Goals.{in-Token+in_ok-push, in_default, After-front_of}
 
--- what is left, as the code slices it
+-- the rest of the text, as the code slices it
 rest_is : (text bytes : List ℕ) (start : ℕ) → bytes ≡ text → take (length bytes - start) (drop start bytes) ≡ drop start text
 rest_is text bytes start e = take_rest bytes start ∙ ap (drop start) e
 

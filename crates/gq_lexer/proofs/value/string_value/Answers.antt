@@ -1,7 +1,7 @@
 use Rattle.std.proofs.Common.{ℕ, List, String, drop, string_bytes, subst, sym, ap, ◌∙◌}
 use Rattle.std.proofs.Common.{Global}
 use Rattle.gq_lexer.specs.declared.quoted.Quotes.TheVariants as quotes
-use Rattle.gq_lexer.specs.declared.scan.Shape.TheVariants as shape
+use Rattle.gq_lexer.specs.declared.scan.ScannedKind.TheVariants as shape
 use Rattle.gq_lexer.specs.Grammar.{IsPart}
 use Rattle.gq_lexer.specs.Tokens.{bytes_of}
 use Rattle.gq_lexer.specs.Value.{IsSpelled}
@@ -33,8 +33,8 @@ range-requires-in_default c =
     let cut = single_cut bs c.text-quoted.utf8 (quoted_between quotes.Single bs rest (str_part c.args.token.now.kind bs rest c.requires.string c.in_default.not-BlockStr part)) in
     record { start_le_end = cut.order; start_boundary = λ _. cut.opens; end_boundary = cut.closes }
 
-pub unescaped-requires : goal.unescaped-requires
-unescaped-requires c =
+pub replace_escapes-requires : goal.replace_escapes-requires
+replace_escapes-requires c =
     let bs = c.text-quoted.result.now in
     let rest = drop c.args.token.now.end c.args.text.now in
     let part = subst (λ (x : List ℕ). IsPart (shape.Token c.args.token.now.kind) x rest) (sym c.text-quoted.ensures) c.requires.token.part in

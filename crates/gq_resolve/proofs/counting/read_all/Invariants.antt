@@ -4,4 +4,4 @@ use Rattle.gq_resolve.proofs.ReadingOn.{IsCounted}
 use Rattle.gq_resolve.proofs.counting.read_all.Given as goal
 
 abbrev pub invariant-loop-count : goal.invariant-loop-count
-invariant-loop-count l = IsReading (plan_on l.tour) l.initial.at → IsCounted (plan_on l.tour) l.memory l.initial.at l.count l.at
+invariant-loop-count l = IsReading (plan_on l.walk) l.initial.at → IsCounted (plan_on l.walk) l.memory l.initial.at l.count l.at

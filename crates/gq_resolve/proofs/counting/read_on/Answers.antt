@@ -10,16 +10,16 @@ use Rattle.gq_resolve.specs.Puts.{puts}
 use Rattle.gq_resolve.specs.Positions.{onward_of}
 use Rattle.gq_resolve.specs.Evaluated.{lookup}
 use Rattle.gq_resolve.specs.Suspended.{load_of}
-use Rattle.gq_resolve.specs.declared.waiting.Blocked.{Blocked}
+use Rattle.gq_resolve.specs.declared.waiting.BlockedPosition.{BlockedPosition}
 use Rattle.gq_resolve.proofs.Touring.{goes-as, goes-probed}
 use Rattle.gq_resolve.proofs.counting.read_on.Goals as goal
 
 pub returns : goal.returns
 returns c =
     let m : MemoryOf = c.args.memory.now in
-    let b : Blocked = c.args.position.now in
+    let b : BlockedPosition = c.args.position.now in
     let known : lookup m (load_of b) ≡ Some (outcome_of c.in-Some.outcome.now) =
-    ap (λ (k : KeyOf). lookup m (record { loader = b.loader; key = k })) (sym c.borrowed-key.ensures) ∙ sym c.in_ok-found.ensures ∙ ap (λ x. option_map outcome_of (option_copied x)) c.in-Some.is in
+    ap (λ (k : KeyOf). lookup m (record { loader = b.loader; key = k })) (sym c.as_key_ref-key.ensures) ∙ sym c.in_ok-found.ensures ∙ ap (λ x. option_map outcome_of (option_copied x)) c.in-Some.is in
     on_ok_weaker c.go_on.result
-    (λ p. goes-probed _ (goes-as p (λ k v cov. ap (λ r. given r [] (λ o. puts false (with_rows (v.after (onward_of b.onward)) o) (lookup c.args.tour.now.memory.now))) (sym known))))
+    (λ p. goes-probed _ (goes-as p (λ k v cov. ap (λ r. given r [] (λ o. puts false (with_rows (v.after (onward_of b.onward)) o) (lookup c.args.walk.now.memory.now))) (sym known))))
     c.go_on.ensures

@@ -7,7 +7,7 @@ use Rattle.futures.specs.declared.task.Poll.{Poll}
 use Rattle.gq_check.specs.Plans.{PlanOf}
 use Rattle.plan_program.specs.PlanPrograms.{plan_program}
 use Rattle.gq_resolve.specs.Evaluated.{reader, IsEvaluated, AddsPart}
-use Rattle.gq_resolve.specs.declared.answered.Answered.{Answered}
+use Rattle.gq_resolve.specs.declared.answered.ExecutionResult.{ExecutionResult}
 use Rattle.gq_resolve.proofs.evaluation.evaluate.Goals as goal
 
 pub poll-requires : goal.poll-requires
@@ -16,7 +16,7 @@ poll-requires c = subst (λ (plan : PlanOf). CanExecute (length plan.bindings.lo
 pub returns-clause-ok : goal.returns-clause-ok
 returns-clause-ok c =
     let m : MemoryOf = c.args.memory.now in
-    subst (λ (plan : PlanOf). IfOk c.poll.result (λ (polled : Poll Answered). IsEvaluated c.args.wants.now c.poll.new.wants (plan_program plan) m polled)) c.new-state.ensures.plan (c.poll.ensures.ok (c.new-state.ensures.fits m))
+    subst (λ (plan : PlanOf). IfOk c.poll.result (λ (polled : Poll ExecutionResult). IsEvaluated c.args.wants.now c.poll.new.wants (plan_program plan) m polled)) c.new-state.ensures.plan (c.poll.ensures.ok (c.new-state.ensures.fits m))
 
 pub returns-clause-err : goal.returns-clause-err
 returns-clause-err c =

@@ -3,13 +3,13 @@ use Rattle.std.proofs.lemmas.List.{length-set, length-take-le, get_or-set_same, 
 use Rattle.std.proofs.lemmas.List.Elements.{All-get_or}
 use Rattle.std.proofs.lemmas.Bool.{eqb-true, eqb-false}
 use Rattle.std.specs.Prelude.{All, slice_set, slice_index, ◌==◌, if◌then◌else◌}
-use Rattle.load_memory.specs.Parts.{count_at}
-use Rattle.load_memory.specs.declared.part.Staged.{Staged}
+use Rattle.load_memory.specs.LoaderMemories.{count_at}
+use Rattle.load_memory.specs.declared.loader_memory.StagedPair.{StagedPair}
 use Rattle.load_memory.proofs.StoreLaws.{count-more, count-most}
 use Rattle.load_memory.proofs.store.counts_of.Goals as goal
 
-below-of : (n : ℕ) (pairs : List Staged) (i : ℕ) (s : Staged) → i < length pairs → s ≡ get_or pairs i s → All (λ (s : Staged). s.loader < n) pairs → s.loader < n
-below-of n pairs i s lt at below = rw at (All-get_or (λ (s : Staged). s.loader < n) pairs i s lt below)
+below-of : (n : ℕ) (pairs : List StagedPair) (i : ℕ) (s : StagedPair) → i < length pairs → s ≡ get_or pairs i s → All (λ (s : StagedPair). s.loader < n) pairs → s.loader < n
+below-of n pairs i s lt at below = rw at (All-get_or (λ (s : StagedPair). s.loader < n) pairs i s lt below)
 
 pub overflow_add-index_mut : goal.overflow_add-index_mut
 overflow_add-index_mut c =
@@ -23,7 +23,7 @@ overflow_add-index_mut c =
     let size = length-take-le i c.args.pairs.now (omega arith) in
     omega (arith, here, most, size, read, c.index_mut.ensures.value, c.loop-pair-test.true)
 
-counts-next : (counts : List ℕ) (pairs : List Staged) (i n x : ℕ) (s : Staged) → i < length pairs → s ≡ get_or pairs i s → s.loader < length counts → x ≡ get_or counts s.loader x → length counts ≡ n
+counts-next : (counts : List ℕ) (pairs : List StagedPair) (i n x : ℕ) (s : StagedPair) → i < length pairs → s ≡ get_or pairs i s → s.loader < length counts → x ≡ get_or counts s.loader x → length counts ≡ n
     → ((l : ℕ) → l < n → slice_index counts l ≡ count_at l (take i pairs)) → (l : ℕ) → l < n → slice_index (slice_set counts s.loader (x + 1)) l ≡ count_at l (take (i + 1) pairs)
 counts-next counts pairs i n x s lt at below read size was l in_range = go (s.loader == l) refl (count-more l pairs i (i + 1) s lt at (omega arith)) where
   go : (b : Bool) → (s.loader == l) ≡ b → count_at l (take (i + 1) pairs) ≡ (if b then suc (count_at l (take i pairs)) else count_at l (take i pairs)) → slice_index (slice_set counts s.loader (x + 1)) l ≡ count_at l (take (i + 1) pairs)

@@ -1,6 +1,6 @@
 use Rattle.std.proofs.Common.{◌≡◌, ◌<◌, ℕ, take, length}
 use Rattle.std.specs.Prelude.{slice_index}
-use Rattle.load_memory.specs.Parts.{count_at}
+use Rattle.load_memory.specs.LoaderMemories.{count_at}
 use Rattle.load_memory.proofs.store.counts_of.Given as goal
 
 abbrev pub invariant-loop-pair : goal.invariant-loop-pair

@@ -3,8 +3,8 @@ use Rattle.std.proofs.lemmas.List.{length-set}
 use Rattle.std.proofs.lemmas.Bool.{cases_eq}
 use Rattle.std.specs.Prelude.{slice_set, slice_index, ◌≤◌}
 use Rattle.std.proofs.Common.{inl, inr}
-use Rattle.load_memory.specs.Parts.{PartOf, look_in, room_at}
-use Rattle.load_memory.proofs.PartLaws.{HaveOwnKeys-set}
+use Rattle.load_memory.specs.LoaderMemories.{PartOf, look_in, room_at}
+use Rattle.load_memory.proofs.LoaderMemoryLaws.{HaveOwnKeys-set}
 use Rattle.load_memory.proofs.StoreLaws.{look-held, counted-held, room-same, room-other}
 use Rattle.load_memory.proofs.store.make_room.Goals as goal
 

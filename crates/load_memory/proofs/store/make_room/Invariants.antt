@@ -1,7 +1,7 @@
 use Rattle.std.proofs.Common.{◌≡◌, ◌<◌, ◌≤◌, ℕ, length}
 use Rattle.std.specs.Prelude.{slice_index}
 use Rattle.load_memory.specs.Pairs.{IsSameMap}
-use Rattle.load_memory.specs.Parts.{HaveOwnKeys, pairs_from, room_at}
+use Rattle.load_memory.specs.LoaderMemories.{HaveOwnKeys, pairs_from, room_at}
 use Rattle.load_memory.proofs.store.make_room.Given as goal
 
 abbrev pub invariant-loop-loader : goal.invariant-loop-loader

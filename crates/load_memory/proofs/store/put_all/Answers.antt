@@ -2,14 +2,14 @@ use Rattle.std.proofs.Common.{◌≡◌, ◌<◌, ℕ, ◌∷◌, length, ap, �
 use Rattle.std.proofs.lemmas.List.{length-set}
 use Rattle.std.proofs.lemmas.List.Elements.{All-head, All-tail}
 use Rattle.std.specs.Prelude.{All}
-use Rattle.load_memory.specs.Parts.{PartOf, HaveRoom}
-use Rattle.load_memory.specs.declared.part.Staged.{Staged}
-use Rattle.load_memory.proofs.PartLaws.{HaveOwnKeys-at, HaveOwnKeys-set}
+use Rattle.load_memory.specs.LoaderMemories.{PartOf, HaveRoom}
+use Rattle.load_memory.specs.declared.loader_memory.StagedPair.{StagedPair}
+use Rattle.load_memory.proofs.LoaderMemoryLaws.{HaveOwnKeys-at, HaveOwnKeys-set}
 use Rattle.load_memory.proofs.StoreLaws.{room-first, room-rest, stored-step, counted-step}
 use Rattle.load_memory.proofs.store.put_all.Goals as goal
 
-first-below : (n : ℕ) (all rest : _) (s : Staged) → all ≡ s ∷ rest → All (λ (s : Staged). s.loader < n) all → s.loader < n
-first-below n all rest s is below = All-head (λ (s : Staged). s.loader < n) s rest (rw is at below)
+first-below : (n : ℕ) (all rest : _) (s : StagedPair) → all ≡ s ∷ rest → All (λ (s : StagedPair). s.loader < n) all → s.loader < n
+first-below n all rest s is below = All-head (λ (s : StagedPair). s.loader < n) s rest (rw is at below)
 
 pub put-requires-clause-room : goal.put-requires-clause-room
 put-requires-clause-room c =
@@ -38,7 +38,7 @@ loop-pair-preserved-then-put c =
     let is = c.in-Some.ensures.steps.0 in
     let lt = first-below (length parts) c.loop-pair.pair-iterator.rest.items rest s is was.loaders in
     let room : HaveRoom parts (s ∷ rest) = rw is at was.room in
-    let below = All-tail (λ (s : Staged). s.loader < length parts) s rest (rw is at was.loaders) in
+    let below = All-tail (λ (s : StagedPair). s.loader < length parts) s rest (rw is at was.loaders) in
     let size = length-set parts s.loader x in
     let found = c.if-put.true in
     let more = counted-step parts s rest x d lt c.index_mut.ensures.value 1 (rw found at c.put.ensures.count) in
@@ -63,7 +63,7 @@ loop-pair-preserved c =
     let is = c.in-Some.ensures.steps.0 in
     let lt = first-below (length parts) c.loop-pair.pair-iterator.rest.items rest s is was.loaders in
     let room : HaveRoom parts (s ∷ rest) = rw is at was.room in
-    let below = All-tail (λ (s : Staged). s.loader < length parts) s rest (rw is at was.loaders) in
+    let below = All-tail (λ (s : StagedPair). s.loader < length parts) s rest (rw is at was.loaders) in
     let size = length-set parts s.loader x in
     let found = c.if-put.false in
     let more = counted-step parts s rest x d lt c.index_mut.ensures.value 0 (rw found at c.put.ensures.count) in

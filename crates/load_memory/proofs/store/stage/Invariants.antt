@@ -2,7 +2,7 @@ use Rattle.std.proofs.Common.{◌≡◌, ◌++◌, map, drop}
 use Rattle.std.specs.Slice.Iter.{iter_rest}
 use Rattle.load_memory.specs.Keys.{key_of}
 use Rattle.load_memory.specs.Outcomes.{outcome_of}
-use Rattle.load_memory.specs.Parts.{staged_of}
+use Rattle.load_memory.specs.LoaderMemories.{staged_of}
 use Rattle.load_memory.specs.Replies.{reply_pairs}
 use Rattle.load_memory.proofs.store.stage.Given as goal
 

@@ -1,7 +1,7 @@
 use Rattle.std.proofs.Common.{◌≡◌, ◌++◌, map, drop}
 use Rattle.load_memory.specs.Keys.{key_of}
 use Rattle.load_memory.specs.Outcomes.{outcome_of}
-use Rattle.load_memory.specs.Parts.{staged_of}
+use Rattle.load_memory.specs.LoaderMemories.{staged_of}
 use Rattle.load_memory.specs.Replies.{reply_pairs}
 use Rattle.load_memory.proofs.store.stage_owned.Given as goal
 

@@ -1,7 +1,7 @@
 use Rattle.std.proofs.Common.{◌≡◌, ◌<◌, ◌+◌, ◌++◌, length, take, drop, arith, true, map, refl, ◌∙◌, sym, ap}
 use Rattle.std.proofs.lemmas.List.{take-append-drop, length-set}
 use Rattle.load_queue.specs.Logs.{asked_of}
-use Rattle.load_queue.specs.declared.loader.Asked.{Asked}
+use Rattle.load_queue.specs.declared.loader.LogEntry.{LogEntry}
 use Rattle.load_queue.proofs.MarkLaws.{mark-this, mark-none, none-marked, same-there}
 use Rattle.load_queue.proofs.loader.mark.Goals as goal
 use Rattle.load_queue.proofs.loader.mark.Goals.{then-index-round, else-index-round}
@@ -22,7 +22,7 @@ loop-index-preserved c =
       | then-index-round w ↦
           let f = w.index_mut.result.now in
           let same : f ≡ e = w.index_mut.ensures.value ∙ same-there i es f e lt ∙ sym c.index.ensures in
-          let own : f.round ≡ c.args.round = ap (λ (x : Asked). x.round) same ∙ w.if-index-round.true in
+          let own : f.round ≡ c.args.round = ap (λ (x : LogEntry). x.round) same ∙ w.if-index-round.true in
           rw w.log-is (length-set es i (record f { stored = true }) ∙ c.loop-index.invariant.0, mark-this c.args.round i (i + 1) es all f (record f { stored = true }) (omega arith) lt w.index_mut.ensures.value own refl c.loop-index.invariant.1)
       | else-index-round w ↦ rw w.log-is (c.loop-index.invariant.0, mark-none c.args.round i (i + 1) es all e (omega arith) lt c.index.ensures w.if-index-round.false c.loop-index.invariant.1)
     ]

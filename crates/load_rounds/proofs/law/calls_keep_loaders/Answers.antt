@@ -6,6 +6,6 @@ use Rattle.load_rounds.proofs.law.calls_keep_loaders.Goals as goal
 
 pub returns : goal.returns
 returns g c = λ calls old new h.
-    let made = calls-lead g.S.Asks.may_tell calls old new h in
+    let made = calls-lead g.S.LocalSource.may_tell calls old new h in
     let steps = made.1 in
     ap (λ s. map as_made s.loaders) steps.after ∙ steps-made old made.0

@@ -18,10 +18,10 @@ pub loop-order-preserved : goal.loop-order-preserved
 loop-order-preserved g c =
     let rest = c.next.new.self.rest.items in
     let is : c.loop-order.order-iterator.rest.items ≡ c.in-Some.order ∷ rest = c.in-Some.ensures.steps.0 in
-    let fits = reply-ran g.S.Asks.may_tell c.args.loaders.now c.in-Some.order (reply_of c.in_ok-run.field-0) c.in_ok-run.ensures in
+    let fits = reply-ran g.S.LocalSource.may_tell c.args.loaders.now c.in-Some.order (reply_of c.in_ok-run.field-0) c.in_ok-run.ensures in
     record {
       below = All-tail (λ (o : OrderOf). o.loader < length c.args.loaders.now) c.in-Some.order rest (rw is at c.loop-order.invariant.below);
-      rest = replies-more (may_at g.S.Asks.may_tell c.args.loaders.now) c.args.orders.items c.loop-order.order-iterator.rest.items rest c.in-Some.order c.loop-order.replies.items c.push.new.self.items c.in_ok-run.field-0 is c.in_ok-push.ensures.items fits c.loop-order.invariant.rest;
+      rest = replies-more (may_at g.S.LocalSource.may_tell c.args.loaders.now) c.args.orders.items c.loop-order.order-iterator.rest.items rest c.in-Some.order c.loop-order.replies.items c.push.new.self.items c.in_ok-run.field-0 is c.in_ok-push.ensures.items fits c.loop-order.invariant.rest;
     }
 
 pub returns : goal.returns

@@ -8,5 +8,5 @@ use Rattle.load_rounds.proofs.round.run_all.Given as goal
 abbrev pub invariant-loop-order : goal.invariant-loop-order
 invariant-loop-order g l = record {
   below : All (λ (o : OrderOf). o.loader < length l.loaders) l.order-iterator.rest.items;
-  rest : (more : List ReplyOf) → AreReplies (may_at g.S.Asks.may_tell l.loaders) l.order-iterator.rest.items more → AreReplies (may_at g.S.Asks.may_tell l.loaders) l.fn.orders.items (map reply_of l.replies.items ++ more);
+  rest : (more : List ReplyOf) → AreReplies (may_at g.S.LocalSource.may_tell l.loaders) l.order-iterator.rest.items more → AreReplies (may_at g.S.LocalSource.may_tell l.loaders) l.fn.orders.items (map reply_of l.replies.items ++ more);
 }

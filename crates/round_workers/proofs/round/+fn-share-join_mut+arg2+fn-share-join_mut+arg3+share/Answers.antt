@@ -28,4 +28,4 @@ returns-clause-worked g t c =
     let theirs : Worked g.S.Source.may_answer c.args.bench.now.loaders.now c.args.bench.now.shelf.now (view c.another-other.result) (view c.other-2-1.given.0) c.join_mut-mine.result.1 = search rules in
     both_worked _ _ _ _ _ _ _ _ _ _ _ _ mine theirs
     whole (ap (λ v. v.all) left) (ap (λ v. v.taken) left) (ap (λ v. v.taken) right)
-    c.absorb.ensures.rule c.joined.ensures.items c.joined.ensures.both
+    c.absorb.ensures.rule c.join_receipts.ensures.items c.join_receipts.ensures.both

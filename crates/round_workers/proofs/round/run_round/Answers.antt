@@ -8,5 +8,5 @@ ruled-requires-clause-rule g c = begins
 pub returns : goal.returns
 returns g c =
     let most = rw c.in_ok-most.was at c.share.ensures.worked in
-    let whole = answered _ _ _ _ _ _ _ _ _ _ c.put_all.ensures.1 most c.work-last.ensures.worked c.work-last.ensures.whole c.joined.ensures.items c.joined.ensures.both in
+    let whole = answered _ _ _ _ _ _ _ _ _ _ c.put_all.ensures.1 most c.work-last.ensures.worked c.work-last.ensures.whole c.join_receipts.ensures.items c.join_receipts.ensures.both in
     record { answered = whole; shelved = answers_on _ _ _ _ _ whole }

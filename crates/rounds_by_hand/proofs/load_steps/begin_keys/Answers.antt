@@ -14,7 +14,7 @@ returns-in-Ok-Loaded-clause-holds g c =
 pub returns-in_err-all_out-in-Ok-Round-clause-stopped : goal.returns-in_err-all_out-in-Ok-Round-clause-stopped
 returns-in_err-all_out-in-Ok-Round-clause-stopped g c =
     let begun = rw c.in-Ok-Round.field-0-is at c.in-Ok-Round.ensures.begun in
-    on-err c.from_residual.result (loading-stops g.S.Asks.may_tell (state_of c.args.session.now) (state_of c.begin_load.new.self) c.args.loader (map key_of c.args.keys.now) begun.0)
+    on-err c.from_residual.result (loading-stops g.S.LocalSource.may_tell (state_of c.args.session.now) (state_of c.begin_load.new.self) c.args.loader (map key_of c.args.keys.now) begun.0)
 
 pub returns-in_ok-all_out-in-Ok-Round-clause-holds : goal.returns-in_ok-all_out-in-Ok-Round-clause-holds
 returns-in_ok-all_out-in-Ok-Round-clause-holds g c =

@@ -15,7 +15,7 @@ replies_to-requires g c =
 
 pub returns-in_err-replies-clause-stopped : goal.returns-in_err-replies-clause-stopped
 returns-in_err-replies-clause-stopped g c =
-    on-err c.from_residual.result (λ begun h. loading-stops g.S.Asks.may_tell (state_of begun) (state_of c.args.session.now) c.args.loader (map key_of c.args.keys.now) h.0)
+    on-err c.from_residual.result (λ begun h. loading-stops g.S.LocalSource.may_tell (state_of begun) (state_of c.args.session.now) c.args.loader (map key_of c.args.keys.now) h.0)
 
 pub end_load-requires-clause-out : goal.end_load-requires-clause-out
 end_load-requires-clause-out g c = c.requires.out.latest
@@ -32,7 +32,7 @@ returns-clause-loaded g c =
     (λ outcomes loads begun h.
     let own = rw (← c.loaders.ensures) at h.1 in
     let fit = rw c.loaders.ensures at (c.in_ok-replies.ensures.told own) in
-    loads (state_of begun) h.0 (load-told g.S.Asks.may_tell s c.args.loader (map key_of c.args.keys.now) c.args.pending.items (map reply_of c.in_ok-replies.replies.items) c.requires.out.orders fit)) c.end_load.ensures.loaded
+    loads (state_of begun) h.0 (load-told g.S.LocalSource.may_tell s c.args.loader (map key_of c.args.keys.now) c.args.pending.items (map reply_of c.in_ok-replies.replies.items) c.requires.out.orders fit)) c.end_load.ensures.loaded
 
 pub returns-clause-stopped : goal.returns-clause-stopped
 returns-clause-stopped g c =
@@ -41,7 +41,7 @@ returns-clause-stopped g c =
     (λ stops begun h.
     let own = rw (← c.loaders.ensures) at h.1 in
     let fit = rw c.loaders.ensures at (c.in_ok-replies.ensures.told own) in
-    stops (state_of begun) h.0 (load-told g.S.Asks.may_tell s c.args.loader (map key_of c.args.keys.now) c.args.pending.items (map reply_of c.in_ok-replies.replies.items) c.requires.out.orders fit)) c.end_load.ensures.stopped
+    stops (state_of begun) h.0 (load-told g.S.LocalSource.may_tell s c.args.loader (map key_of c.args.keys.now) c.args.pending.items (map reply_of c.in_ok-replies.replies.items) c.requires.out.orders fit)) c.end_load.ensures.stopped
 
 pub returns-in_err-replies-clause-recorded : goal.returns-in_err-replies-clause-recorded
 returns-in_err-replies-clause-recorded g c = record-same c.args.session.now.loaders

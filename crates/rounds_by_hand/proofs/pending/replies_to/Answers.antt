@@ -22,7 +22,7 @@ loop-one-preserved g c =
     record {
       below = All-tail (λ (o : Pending). (order_in o).loader < length ls) one rest (rw is at c.loop-one.invariant.below);
       any = replies-one (IsAnswered any_answer) (may_at any_tell ls) all items rest one was now reply is put c.in_ok-reply_to.ensures.any c.loop-one.invariant.any;
-      told = replies-one (IsAnswered (may_at g.S.Asks.may_tell ls)) (may_at g.S.Asks.may_tell ls) all items rest one was now reply is put c.in_ok-reply_to.ensures.told c.loop-one.invariant.told;
+      told = replies-one (IsAnswered (may_at g.S.LocalSource.may_tell ls)) (may_at g.S.LocalSource.may_tell ls) all items rest one was now reply is put c.in_ok-reply_to.ensures.told c.loop-one.invariant.told;
     }
 
 pub returns-clause-any : goal.returns-clause-any
@@ -35,4 +35,4 @@ pub returns-clause-told : goal.returns-clause-told
 returns-clause-told g c =
     let ls = c.args.loaders.now in
     let none : c.loop-one.one-iterator.rest.items ≡ [] = none-left c.loop-one.one-iterator.rest.items (omega (arith, c.in-None.ensures.steps.0, c.loop-one.one-iterator.rest.ok)) in
-    replies-all (IsAnswered (may_at g.S.Asks.may_tell ls)) (may_at g.S.Asks.may_tell ls) c.args.pending.items c.loop-one.one-iterator.rest.items c.loop-one.replies.items none c.loop-one.invariant.told
+    replies-all (IsAnswered (may_at g.S.LocalSource.may_tell ls)) (may_at g.S.LocalSource.may_tell ls) c.args.pending.items c.loop-one.one-iterator.rest.items c.loop-one.replies.items none c.loop-one.invariant.told

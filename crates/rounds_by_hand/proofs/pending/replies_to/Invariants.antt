@@ -10,5 +10,5 @@ abbrev pub invariant-loop-one : goal.invariant-loop-one
 invariant-loop-one g l = record {
   below : All (λ one. (order_in one).loader < length l.loaders) l.one-iterator.rest.items;
   any : RepliesSoFar (IsAnswered any_answer) (may_at any_tell l.loaders) l.fn.pending.items l.one-iterator.rest.items l.replies.items;
-  told : RepliesSoFar (IsAnswered (may_at g.S.Asks.may_tell l.loaders)) (may_at g.S.Asks.may_tell l.loaders) l.fn.pending.items l.one-iterator.rest.items l.replies.items;
+  told : RepliesSoFar (IsAnswered (may_at g.S.LocalSource.may_tell l.loaders)) (may_at g.S.LocalSource.may_tell l.loaders) l.fn.pending.items l.one-iterator.rest.items l.replies.items;
 }

@@ -7,13 +7,13 @@ use Rattle.rounds_by_hand.proofs.pending.reply_to.Goals as goal
 pub returns-in-Out-clause-any : goal.returns-in-Out-clause-any
 returns-in-Out-clause-any g c = λ _.
     let ls = c.args.loaders.now in
-    let ran = IfOk-weaker c.run.result _ _ (λ r is. ran-any ls g.S.Asks.may_tell c.in-Out.order (reply_of r) is) c.run.ensures in
+    let ran = IfOk-weaker c.run.result _ _ (λ r is. ran-any ls g.S.LocalSource.may_tell c.in-Out.order (reply_of r) is) c.run.ensures in
     rw c.in-Out.is ran
 
 pub returns-in-Out-clause-told : goal.returns-in-Out-clause-told
 returns-in-Out-clause-told g c = λ _.
     let ls = c.args.loaders.now in
-    let ran = IfOk-weaker c.run.result _ _ (λ r is. ran-is ls g.S.Asks.may_tell c.in-Out.order (reply_of r) is) c.run.ensures in
+    let ran = IfOk-weaker c.run.result _ _ (λ r is. ran-is ls g.S.LocalSource.may_tell c.in-Out.order (reply_of r) is) c.run.ensures in
     rw c.in-Out.is ran
 
 pub returns-in-In-clause-any : goal.returns-in-In-clause-any
@@ -25,4 +25,4 @@ returns-in-In-clause-any g c = λ has.
 pub returns-in-In-clause-told : goal.returns-in-In-clause-told
 returns-in-In-clause-told g c = λ has.
     let own = rw c.in-In.is at has in
-    rw c.in-In.is (given-is c.args.loaders.now (may_at g.S.Asks.may_tell c.args.loaders.now) c.in-In.reply own)
+    rw c.in-In.is (given-is c.args.loaders.now (may_at g.S.LocalSource.may_tell c.args.loaders.now) c.in-In.reply own)

@@ -6,8 +6,8 @@ use Rattle.rounds_by_hand.specs.Pending.{is_in_at}
 use Rattle.rounds_by_hand.proofs.Orders.{set-set, set-back, get-at}
 use Rattle.rounds_by_hand.proofs.pending.take_answer.Goals as goal
 
-pub returns-in_ok-answered-in-Out-clause-taken : goal.returns-in_ok-answered-in-Out-clause-taken
-returns-in_ok-answered-in-Out-clause-taken c =
+pub returns-in_ok-reply_with-in-Out-clause-taken : goal.returns-in_ok-reply_with-in-Out-clause-taken
+returns-in_ok-reply_with-in-Out-clause-taken c =
     let ps = c.args.pending.now.items in
     let i : ℕ = c.args.number in
     let was : Pending = c.index_mut.result.now in
@@ -15,12 +15,12 @@ returns-in_ok-answered-in-Out-clause-taken c =
     let found = get-at ps i was lt c.index_mut.ensures.value in
     record {
       order = c.in-Out.order;
-      reply = c.in_ok-answered-in-Out.field-0;
+      reply = c.in_ok-reply_with-in-Out.field-0;
       was = found ∙ ap Some (sym c.replace.ensures.value ∙ c.in-Out.is);
-      loader = c.in_ok-answered-in-Out.ensures.loader;
-      keys = c.in_ok-answered-in-Out.ensures.keys;
-      outcomes = c.in_ok-answered-in-Out.ensures.outcomes;
-      put = set-set ps i c.replace.new.dest (In c.in_ok-answered-in-Out.field-0);
+      loader = c.in_ok-reply_with-in-Out.ensures.loader;
+      keys = c.in_ok-reply_with-in-Out.ensures.keys;
+      outcomes = c.in_ok-reply_with-in-Out.ensures.outcomes;
+      put = set-set ps i c.replace.new.dest (In c.in_ok-reply_with-in-Out.field-0);
     }
 
 pub returns-in-In-clause-answered : goal.returns-in-In-clause-answered

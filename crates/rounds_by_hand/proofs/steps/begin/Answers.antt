@@ -9,14 +9,14 @@ use Rattle.rounds_by_hand.proofs.steps.begin.Goals as goal
 
 pub returns-in_err-run-clause-stopped : goal.returns-in_err-run-clause-stopped
 returns-in_err-run-clause-stopped g c =
-    on-err c.from_residual.result (λ begun e. forgot-stops g.P.Execute.program g.P.Execute.text_of g.S.Asks.may_tell (state_of begun) (state_of c.begin_all.new.self) c.args.plans.now
+    on-err c.from_residual.result (λ begun e. forgot-stops g.P.Execute.program g.P.Execute.text_of g.S.LocalSource.may_tell (state_of begun) (state_of c.begin_all.new.self) c.args.plans.now
     (c.in_err-run.ensures.forgot ∙ ap (λ s. after_step (state_of s) Forgot) e))
 
 pub returns-clause-tells : goal.returns-clause-tells
 returns-clause-tells g c =
     let program = g.P.Execute.program in
     let text_of = g.P.Execute.text_of in
-    let may = g.S.Asks.may_tell in
+    let may = g.S.LocalSource.may_tell in
     let mid = c.begin_all.new.self in
     let run = c.in_ok-run.run' in
     IfOk-weaker c.go_on.result _ _
@@ -27,7 +27,7 @@ pub returns-clause-stopped : goal.returns-clause-stopped
 returns-clause-stopped g c =
     let program = g.P.Execute.program in
     let text_of = g.P.Execute.text_of in
-    let may = g.S.Asks.may_tell in
+    let may = g.S.LocalSource.may_tell in
     let mid = c.begin_all.new.self in
     let run = c.in_ok-run.run' in
     on_err_weaker c.go_on.result

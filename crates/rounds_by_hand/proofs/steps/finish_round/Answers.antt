@@ -10,8 +10,8 @@ use Rattle.rounds_by_hand.proofs.steps.finish_round.Goals as goal
 
 pub returns-in_err-run-clause-stopped : goal.returns-in_err-run-clause-stopped
 returns-in_err-run-clause-stopped g c =
-    on-err c.from_residual.result (λ begun h. stops g.P.Execute.program g.P.Execute.text_of g.S.Asks.may_tell (state_of begun) (state_of c.store.new.session) c.args.run c.args.run.plans refl
-    (subst (λ s. IsRunAll g.P.Execute.program g.P.Execute.text_of g.S.Asks.may_tell (state_of begun) s c.args.run) (sym c.in_err-run.ensures.lost) h.1))
+    on-err c.from_residual.result (λ begun h. stops g.P.Execute.program g.P.Execute.text_of g.S.LocalSource.may_tell (state_of begun) (state_of c.store.new.session) c.args.run c.args.run.plans refl
+    (subst (λ s. IsRunAll g.P.Execute.program g.P.Execute.text_of g.S.LocalSource.may_tell (state_of begun) s c.args.run) (sym c.in_err-run.ensures.lost) h.1))
 
 pub go_on-requires : goal.go_on-requires
 go_on-requires g c κs =
@@ -27,7 +27,7 @@ pub returns-clause-went : goal.returns-clause-went
 returns-clause-went g c =
     let program = g.P.Execute.program in
     let text_of = g.P.Execute.text_of in
-    let may = g.S.Asks.may_tell in
+    let may = g.S.LocalSource.may_tell in
     let mid = c.store.new.session in
     let run = c.in_ok-run.run' in
     let plans : run.plans ≡ c.args.run.plans = ap (λ (r : RunAllOf g.row.P.Denot g.row.E.Denot). r.plans) c.in_ok-run.ensures.ready in
@@ -39,7 +39,7 @@ pub returns-clause-tells : goal.returns-clause-tells
 returns-clause-tells g c =
     let program = g.P.Execute.program in
     let text_of = g.P.Execute.text_of in
-    let may = g.S.Asks.may_tell in
+    let may = g.S.LocalSource.may_tell in
     let mid = c.store.new.session in
     let run = c.in_ok-run.run' in
     let plans : run.plans ≡ c.args.run.plans = ap (λ (r : RunAllOf g.row.P.Denot g.row.E.Denot). r.plans) c.in_ok-run.ensures.ready in
@@ -51,7 +51,7 @@ pub returns-clause-stopped : goal.returns-clause-stopped
 returns-clause-stopped g c =
     let program = g.P.Execute.program in
     let text_of = g.P.Execute.text_of in
-    let may = g.S.Asks.may_tell in
+    let may = g.S.LocalSource.may_tell in
     let mid = c.store.new.session in
     let run = c.in_ok-run.run' in
     let plans : run.plans ≡ c.args.run.plans = ap (λ (r : RunAllOf g.row.P.Denot g.row.E.Denot). r.plans) c.in_ok-run.ensures.ready in

@@ -1,4 +1,4 @@
-use Rattle.load_rounds.specs.Runs.{front_in}
+use Rattle.load_rounds.specs.ByHand.{front_in}
 use Rattle.load_rounds.specs.Sessions.{state_of}
 use Rattle.load_rounds.specs.SharedRounds.{joint}
 use Rattle.load_rounds.proofs.States.{on-err}
@@ -7,7 +7,7 @@ use Rattle.rounds_by_hand.proofs.steps.go_on.Goals as goal
 
 pub returns-in_err-answers-clause-stopped : goal.returns-in_err-answers-clause-stopped
 returns-in_err-answers-clause-stopped g c =
-    on-err c.from_residual.result (λ begun is. stops g.P.Execute.program g.P.Execute.text_of g.S.Asks.may_tell (state_of begun) (state_of c.next_round.new.session) c.next_round.new.self c.args.run.plans c.next_round.ensures.plans (c.next_round.ensures.run (state_of begun) is))
+    on-err c.from_residual.result (λ begun is. stops g.P.Execute.program g.P.Execute.text_of g.S.LocalSource.may_tell (state_of begun) (state_of c.next_round.new.session) c.next_round.new.self c.args.run.plans c.next_round.ensures.plans (c.next_round.ensures.run (state_of begun) is))
 
 pub returns-in_err-answers-clause-loaders : goal.returns-in_err-answers-clause-loaders
 returns-in_err-answers-clause-loaders g c =
@@ -15,11 +15,11 @@ returns-in_err-answers-clause-loaders g c =
 
 pub returns-in-Finished-clause-went : goal.returns-in-Finished-clause-went
 returns-in-Finished-clause-went g c = λ begun is.
-    stops g.P.Execute.program g.P.Execute.text_of g.S.Asks.may_tell (state_of begun) (state_of c.next_round.new.session) c.next_round.new.self c.args.run.plans c.next_round.ensures.plans (c.next_round.ensures.run (state_of begun) is)
+    stops g.P.Execute.program g.P.Execute.text_of g.S.LocalSource.may_tell (state_of begun) (state_of c.next_round.new.session) c.next_round.new.self c.args.run.plans c.next_round.ensures.plans (c.next_round.ensures.run (state_of begun) is)
 
 pub returns-in_err-all_out-in-Round-clause-stopped : goal.returns-in_err-all_out-in-Round-clause-stopped
 returns-in_err-all_out-in-Round-clause-stopped g c =
-    on-err c.from_residual-in_err-all_out-in-Round.result (λ begun is. stops g.P.Execute.program g.P.Execute.text_of g.S.Asks.may_tell (state_of begun) (state_of c.next_round.new.session) c.next_round.new.self c.args.run.plans c.next_round.ensures.plans (c.next_round.ensures.run (state_of begun) is))
+    on-err c.from_residual-in_err-all_out-in-Round.result (λ begun is. stops g.P.Execute.program g.P.Execute.text_of g.S.LocalSource.may_tell (state_of begun) (state_of c.next_round.new.session) c.next_round.new.self c.args.run.plans c.next_round.ensures.plans (c.next_round.ensures.run (state_of begun) is))
 
 pub returns-in_err-all_out-in-Round-clause-loaders : goal.returns-in_err-all_out-in-Round-clause-loaders
 returns-in_err-all_out-in-Round-clause-loaders g c =

@@ -25,5 +25,5 @@ returns-clause-ran g c = λ told.
     let p : Program = joint g.P.Execute.program g.P.Execute.text_of c.args.run.plans in
     let own = rw (← c.loaders.ensures) at told in
     let fit = rw c.loaders.ensures at (c.in_ok-replies.ensures.told own) in
-    let went = c.take_owned.ensures.run (received-in g.S.Asks.may_tell s p c.args.pending.items (map reply_of c.in_ok-replies.replies.items) c.requires.orders fit) in
+    let went = c.take_owned.ensures.run (received-in g.S.LocalSource.may_tell s p c.args.pending.items (map reply_of c.in_ok-replies.replies.items) c.requires.orders fit) in
     went

@@ -2,7 +2,7 @@ use Rattle.std.proofs.Common.{refl, subst, string_bytes}
 use Rattle.std.proofs.lemmas.Result.{IfOk-weaker, on_err_weaker}
 use Rattle.gq_check.specs.Plans.{plan_of}
 use Rattle.request_line.specs.Seen.{request_of}
-use Rattle.request_plans.specs.Planning.{IsPlanned, IsRefusal}
+use Rattle.plan_requests.specs.Planning.{IsPlanned, IsRefusal}
 use Rattle.server.specs.Answers.{refused, planned, stopped}
 use Rattle.server.proofs.answering.answer_request.Goals as goal
 

@@ -1,6 +1,6 @@
 use Rattle.std.proofs.Common.{subst, IfOk}
 use Rattle.request_line.specs.Seen.{request_of}
-use Rattle.request_plans.specs.Planning.{PlansRequest}
+use Rattle.plan_requests.specs.Planning.{PlansRequest}
 use Rattle.server.proofs.planned.plan_request.Goals as goal
 
 pub returns-in-Some-clause-planned : goal.returns-in-Some-clause-planned

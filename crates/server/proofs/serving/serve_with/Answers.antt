@@ -1,5 +1,5 @@
 use Rattle.std.proofs.Common.{rules}
-use Rattle.line_serving.proofs.Widening.{serves_behind}
+use Rattle.server_lines.proofs.Widening.{serves_behind}
 use Rattle.server.specs.Lines.{serving}
 use Rattle.server.proofs.serving.serve_with.Goals as goal
 

@@ -2,7 +2,7 @@ use Rattle.std.proofs.Common.{◌≡◌, ℕ, List, drop, map}
 use Rattle.std.specs.HashMap.{get_by_text}
 use Rattle.gq_bindings.specs.Seen.{loader_of}
 use Rattle.world.specs.Sources.{sources_for}
-use Rattle.world.specs.Kept.{source_of}
+use Rattle.world.specs.IndexedColumns.{source_of}
 use Rattle.world.proofs.Loaders.{joined}
 use Rattle.world.proofs.sources.all_source_parts.Given as goal
 

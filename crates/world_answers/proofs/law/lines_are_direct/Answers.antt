@@ -1,4 +1,4 @@
-use Rattle.line_serving.proofs.Widening.{serves_kept}
+use Rattle.server_lines.proofs.Widening.{serves_kept}
 use Rattle.server.specs.Lines.{serving}
 use Rattle.world_answers.specs.Answers.{may_tell}
 use Rattle.world_answers.specs.Lines.{IsClientOf, answering}

@@ -1,7 +1,7 @@
 use Rattle.std.proofs.Common.{◌∙◌, sym, ap, ◌<◌, length, Option, arith}
 use Rattle.std.specs.Option.{option_map}
 use Rattle.gq_schema.proofs.PlaceLaws.{none_at, found_within, found_first}
-use Rattle.variable_values.specs.Variables.{VariableOf, variable_of, is_variable}
+use Rattle.gq_variables.specs.Variables.{VariableOf, variable_of, is_variable}
 use Rattle.gq_check.proofs.variables.Variables.get.Goals as goal
 
 pub returns-in_err-place : goal.returns-in_err-place

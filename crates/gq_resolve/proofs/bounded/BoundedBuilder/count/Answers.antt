@@ -1,18 +1,18 @@
 use Rattle.std.proofs.Common.{◌≡◌, ℕ, ◌+◌, ◌-◌, ◌^◌, min, List, length, reverse, set, arith, ap, sym, subst, refl, ◌∙◌}
 use Rattle.gq_resolve.specs.Built.{BuiltOf, built_of, placed}
 use Rattle.gq_resolve.specs.Bounded.{Keeps}
-use Rattle.gq_resolve.specs.declared.bounded.Least.{Least}
+use Rattle.gq_resolve.specs.declared.bounded.LeastBytes.{LeastBytes}
 use Rattle.gq_resolve.proofs.Bounding.{count-kept, count-dropped}
 use Rattle.gq_resolve.proofs.bounded.BoundedBuilder.count.Goals as goal
 
 pub returns-then-bytes-self-clause-counted : goal.returns-then-bytes-self-clause-counted
 returns-then-bytes-self-clause-counted c = λ all r got h sure.
     let most : ℕ = c.args.self.now.most in
-    let ns : List Least = c.args.self.now.levels.items in
+    let ns : List LeastBytes = c.args.self.now.levels.items in
     let i : ℕ = c.args.self.now.levels.len - 1 in
     let last : i + 1 ≡ length ns = omega (arith, c.args.self.now.levels.ok.0, c.in-Some.ensures.variant.0 refl) in
-    let old : Least = c.in-Some.level.now in
-    let new : Least = record { key = old.key; around = old.around; parts = c.saturating_add-level.result } in
+    let old : LeastBytes = c.in-Some.level.now in
+    let new : LeastBytes = record { key = old.key; around = old.around; parts = c.saturating_add-level.result } in
     let sum = c.saturating_add-level.ensures ∙ ap (λ (k : ℕ). min (old.parts + k) (2 ^ 64 - 1)) c.saturating_add.ensures in
     let top : ℕ = c.args.self.now.top in
     let errors : ℕ = c.args.self.now.errors in
@@ -23,11 +23,11 @@ returns-then-bytes-self-clause-counted c = λ all r got h sure.
 pub returns-else-bytes-self-clause-counted : goal.returns-else-bytes-self-clause-counted
 returns-else-bytes-self-clause-counted c = λ all r got h sure.
     let most : ℕ = c.args.self.now.most in
-    let ns : List Least = c.args.self.now.levels.items in
+    let ns : List LeastBytes = c.args.self.now.levels.items in
     let i : ℕ = c.args.self.now.levels.len - 1 in
     let last : i + 1 ≡ length ns = omega (arith, c.args.self.now.levels.ok.0, c.in-Some.ensures.variant.0 refl) in
-    let old : Least = c.in-Some.level.now in
-    let new : Least = record { key = old.key; around = old.around; parts = c.saturating_add-level.result } in
+    let old : LeastBytes = c.in-Some.level.now in
+    let new : LeastBytes = record { key = old.key; around = old.around; parts = c.saturating_add-level.result } in
     let sum = c.saturating_add-level.ensures ∙ ap (λ (k : ℕ). min (old.parts + k) (2 ^ 64 - 1)) c.saturating_add.ensures in
     let top : ℕ = c.args.self.now.top in
     let errors : ℕ = c.args.self.now.errors in

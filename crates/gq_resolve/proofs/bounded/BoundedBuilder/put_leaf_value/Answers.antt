@@ -6,7 +6,7 @@ use Rattle.execution.specs.Executed.{response}
 use Rattle.plan_program.specs.Prepared.{leaf_value_seen}
 use Rattle.gq_resolve.specs.Positions.{is_non_null}
 use Rattle.gq_resolve.specs.Built.{BuiltOf, path_in, placed, with_errors, built_of}
-use Rattle.gq_resolve.specs.declared.bounded.Least.{Least}
+use Rattle.gq_resolve.specs.declared.bounded.LeastBytes.{LeastBytes}
 use Rattle.gq_resolve.proofs.Bounding.{errors-same, depth-below, key-sure, leaf_value-sure}
 use Rattle.gq_resolve.proofs.bounded.BoundedBuilder.put_leaf_value.Goals as goal
 
@@ -15,7 +15,7 @@ returns c = (
   c.count.ensures.most ∙ c.count_errors.ensures.most,
   λ all h.
       let most : ℕ = c.args.self.now.most in
-      let ns : List Least = reverse c.args.self.now.levels.items in
+      let ns : List LeastBytes = reverse c.args.self.now.levels.items in
       let top : ℕ = c.args.self.now.top in
       let errors : ℕ = c.args.self.now.errors in
       let kept : BuiltOf = built_of c.args.self.now.builder in

@@ -9,12 +9,12 @@ use Rattle.gq_resolve.specs.Evaluated.{lookup}
 use Rattle.gq_resolve.proofs.Polling.{answer-done, answer-shut}
 use Rattle.gq_resolve.proofs.root_state.RootState.poll_text_within.Goals as goal
 
-pub returns-in_ok-limited_answer-in-Some-clause-ok : goal.returns-in_ok-limited_answer-in-Some-clause-ok
-returns-in_ok-limited_answer-in-Some-clause-ok c = λ fits.
+pub returns-in_ok-text_or_refusal-in-Some-clause-ok : goal.returns-in_ok-text_or_refusal-in-Some-clause-ok
+returns-in_ok-text_or_refusal-in-Some-clause-ok c = λ fits.
     let plan : PlanOf = plan_of c.args.self.now.plan.now in
     let m : MemoryOf = c.args.memory.now in
     let far = rw c.in-Some.is at (c.in_ok-walked.ensures.ok fits) in
     let answer : AnsweredOf = completed (tree (plan_program plan) (lookup m)) in
     let done = answer-done plan m c.args.wants.now _ c.requires far.0 answer far.1 (λ shut. refl) in
-    let text = c.in_ok-limited_answer-in-Some.ensures (far.0, far.1) (answer-shut plan m c.args.wants.now _ c.requires far.0 far.1) in
+    let text = c.in_ok-text_or_refusal-in-Some.ensures (far.0, far.1) (answer-shut plan m c.args.wants.now _ c.requires far.0 far.1) in
     (done.0, record { answered = answer; executed = done.1; report = text }, far.2)

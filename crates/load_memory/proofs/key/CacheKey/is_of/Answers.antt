@@ -11,6 +11,6 @@ folded-exact (pair s t) = refl
 
 pub returns-in-Exact : goal.returns-in-Exact
 returns-in-Exact c = λ same.
-    let known = borrowed_of c.borrowed.result in
+    let known = borrowed_of c.as_key_ref.result in
     let key = borrowed_of c.args.key in
-    rw c.in-Exact.is (sym c.borrowed.ensures ∙ same_key-is known key (sym c.are_same.ensures ∙ same) ∙ sym (folded-exact key))
+    rw c.in-Exact.is (sym c.as_key_ref.ensures ∙ same_key-is known key (sym c.are_same.ensures ∙ same) ∙ sym (folded-exact key))

@@ -2,8 +2,8 @@ use Rattle.std.proofs.Common.{◌-◌, ◌<◌, length, ap, ◌∙◌, sym, arit
 use Rattle.std.specs.Prelude.{slice_set, is_some}
 use Rattle.load_memory.specs.Keys.{cache_of}
 use Rattle.load_memory.specs.Pairs.{MemoryOf}
-use Rattle.load_memory.specs.Parts.{PartOf, pairs_from}
-use Rattle.load_memory.proofs.PartLaws.{part-within, AreParts-changed}
+use Rattle.load_memory.specs.LoaderMemories.{PartOf, pairs_from}
+use Rattle.load_memory.proofs.LoaderMemoryLaws.{part-within, AreParts-changed}
 use Rattle.load_memory.proofs.ChangeLaws.{look-one, look-taken, AreUnfailed-without}
 use Rattle.load_memory.proofs.memory.Memory.clear.Goals as goal
 

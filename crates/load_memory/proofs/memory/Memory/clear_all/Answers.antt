@@ -2,8 +2,8 @@ use Rattle.std.proofs.Common.{◌≡◌, ◌-◌, ◌<◌, length, ap, ◌∙◌
 use Rattle.std.proofs.lemmas.List.{get_or_default}
 use Rattle.std.specs.Prelude.{slice_set}
 use Rattle.load_memory.specs.Pairs.{MemoryOf}
-use Rattle.load_memory.specs.Parts.{PartOf, pairs_from}
-use Rattle.load_memory.proofs.PartLaws.{part-within, AreParts-changed}
+use Rattle.load_memory.specs.LoaderMemories.{PartOf, pairs_from}
+use Rattle.load_memory.proofs.LoaderMemoryLaws.{part-within, AreParts-changed}
 use Rattle.load_memory.proofs.ChangeLaws.{look-changed, AreUnfailed-without}
 use Rattle.load_memory.proofs.memory.Memory.clear_all.Goals as goal
 

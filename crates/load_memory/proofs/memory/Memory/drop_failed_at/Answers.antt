@@ -1,7 +1,7 @@
 use Rattle.std.proofs.Common.{◌-◌, ◌<◌, length, ap, arith}
 use Rattle.load_memory.specs.Pairs.{MemoryOf, unless_failed}
-use Rattle.load_memory.specs.Parts.{PartOf}
-use Rattle.load_memory.proofs.PartLaws.{part-within, AreParts-changed}
+use Rattle.load_memory.specs.LoaderMemories.{PartOf}
+use Rattle.load_memory.proofs.LoaderMemoryLaws.{part-within, AreParts-changed}
 use Rattle.load_memory.proofs.ChangeLaws.{look-changed, AreUnfailed-one}
 use Rattle.load_memory.proofs.memory.Memory.drop_failed_at.Goals as goal
 

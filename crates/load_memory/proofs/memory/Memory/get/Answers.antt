@@ -3,8 +3,8 @@ use Rattle.std.specs.Prelude.{option_map}
 use Rattle.load_memory.specs.Keys.{cache_of}
 use Rattle.load_memory.specs.Outcomes.{outcome_of}
 use Rattle.load_memory.specs.Pairs.{MemoryOf}
-use Rattle.load_memory.specs.Parts.{PartOf, look_in}
-use Rattle.load_memory.proofs.PartLaws.{look-part, at_part-read, lookup-cache}
+use Rattle.load_memory.specs.LoaderMemories.{PartOf, look_in}
+use Rattle.load_memory.proofs.LoaderMemoryLaws.{look-part, at_part-read, lookup-cache}
 use Rattle.load_memory.proofs.memory.Memory.get.Goals as goal
 
 pub returns : goal.returns

@@ -1,7 +1,7 @@
 use Rattle.std.proofs.Common.{List, ◌≡◌, ◌<◌, ℕ, ◌++◌, [], take, length, map, ap, ◌∙◌, arith}
 use Rattle.std.proofs.lemmas.List.{take_more, take_all, map-append, append-nil}
 use Rattle.load_memory.specs.Pairs.{PairOf}
-use Rattle.load_memory.specs.Parts.{staged_of}
+use Rattle.load_memory.specs.LoaderMemories.{staged_of}
 use Rattle.load_memory.specs.Replies.{ReplyOf, reply_of, reply_pairs, pairs_of}
 use Rattle.load_memory.specs.Keys.{mode_at}
 use Rattle.load_memory.specs.declared.key.KeyMode.{KeyMode}

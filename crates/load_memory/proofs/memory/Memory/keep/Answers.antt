@@ -1,7 +1,7 @@
 use Rattle.std.proofs.Common.{◌≡◌, ◌<◌, ℕ, ◌++◌, take, length, map, ap, ◌∙◌, arith}
 use Rattle.std.proofs.lemmas.List.{take_more, take_all, map-append, append-nil}
 use Rattle.load_memory.specs.Pairs.{PairOf}
-use Rattle.load_memory.specs.Parts.{staged_of}
+use Rattle.load_memory.specs.LoaderMemories.{staged_of}
 use Rattle.load_memory.specs.Replies.{ReplyOf, reply_of, reply_pairs}
 use Rattle.load_memory.proofs.ReplyPairs.{mode-at, pairs_of-append, pairs-below, All-of_map, All-to_map}
 use Rattle.load_memory.proofs.memory.Memory.keep.Goals as goal

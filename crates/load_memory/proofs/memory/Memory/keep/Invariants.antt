@@ -1,5 +1,5 @@
 use Rattle.std.proofs.Common.{◌≡◌, map, take}
-use Rattle.load_memory.specs.Parts.{staged_of}
+use Rattle.load_memory.specs.LoaderMemories.{staged_of}
 use Rattle.load_memory.specs.Replies.{pairs_of, reply_of}
 use Rattle.load_memory.proofs.memory.Memory.keep.Given as goal
 

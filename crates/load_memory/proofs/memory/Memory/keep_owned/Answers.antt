@@ -5,7 +5,7 @@ use Rattle.std.specs.Prelude.{All}
 use Rattle.load_memory.specs.Keys.{key_of, mode_at}
 use Rattle.load_memory.specs.Outcomes.{outcome_of}
 use Rattle.load_memory.specs.Pairs.{PairOf}
-use Rattle.load_memory.specs.Parts.{staged_of}
+use Rattle.load_memory.specs.LoaderMemories.{staged_of}
 use Rattle.load_memory.specs.Replies.{ReplyOf, reply_of, reply_pairs, pairs_of}
 use Rattle.load_memory.specs.declared.key.KeyMode.{KeyMode}
 use Rattle.load_memory.specs.declared.reply.Reply.{Reply}

@@ -1,6 +1,6 @@
 use Rattle.std.proofs.Common.{◌≡◌, ◌<◌, ◌++◌, length, map}
 use Rattle.std.specs.Prelude.{All}
-use Rattle.load_memory.specs.Parts.{staged_of}
+use Rattle.load_memory.specs.LoaderMemories.{staged_of}
 use Rattle.load_memory.specs.Replies.{pairs_of, reply_of}
 use Rattle.load_memory.specs.declared.reply.Reply.{Reply}
 use Rattle.load_memory.proofs.memory.Memory.keep_owned.Given as goal

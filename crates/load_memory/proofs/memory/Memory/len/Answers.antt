@@ -1,4 +1,4 @@
-use Rattle.load_memory.proofs.PartLaws.{pairs-apart}
+use Rattle.load_memory.proofs.LoaderMemoryLaws.{pairs-apart}
 use Rattle.load_memory.proofs.memory.Memory.len.Goals as goal
 
 pub returns-clause-apart : goal.returns-clause-apart

@@ -1,5 +1,5 @@
 use Rattle.std.proofs.Common.{[], ◌∷◌, arith, refl, length-append}
-use Rattle.load_memory.proofs.PartLaws.{pairs-empty_more, HaveOwnKeys-more}
+use Rattle.load_memory.proofs.LoaderMemoryLaws.{pairs-empty_more, HaveOwnKeys-more}
 use Rattle.load_memory.proofs.memory.Memory.new.Goals as goal
 
 pub loop-preserved : goal.loop-preserved

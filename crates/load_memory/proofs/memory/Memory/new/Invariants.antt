@@ -1,5 +1,5 @@
 use Rattle.std.proofs.Common.{◌≡◌, [], length}
-use Rattle.load_memory.specs.Parts.{pairs_from, HaveOwnKeys}
+use Rattle.load_memory.specs.LoaderMemories.{pairs_from, HaveOwnKeys}
 use Rattle.load_memory.proofs.memory.Memory.new.Given as goal
 
 abbrev pub invariant-loop : goal.invariant-loop

@@ -4,9 +4,9 @@ use Rattle.std.proofs.lemmas.Result.{err_from_is_err_and}
 use Rattle.load_memory.specs.Keys.{cache_of}
 use Rattle.load_memory.specs.Outcomes.{known, item_of}
 use Rattle.load_memory.specs.Pairs.{MemoryOf, PairOf, look}
-use Rattle.load_memory.specs.Parts.{PartOf, pairs_from}
+use Rattle.load_memory.specs.LoaderMemories.{PartOf, pairs_from}
 use Rattle.load_memory.proofs.Looks.{primed-present}
-use Rattle.load_memory.proofs.PartLaws.{look-found, pairs-kept, pairs-put, AreParts-kept, AreParts-changed, SomeIff-at}
+use Rattle.load_memory.proofs.LoaderMemoryLaws.{look-found, pairs-kept, pairs-put, AreParts-kept, AreParts-changed, SomeIff-at}
 use Rattle.load_memory.proofs.ChangeLaws.{AreUnfailed-put}
 use Rattle.load_memory.proofs.memory.Memory.prime.Goals as goal
 

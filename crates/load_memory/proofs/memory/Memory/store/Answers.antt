@@ -2,12 +2,12 @@ use Rattle.std.proofs.Common.{◌≡◌, ◌<◌, ◌≤◌, ℕ, length, ap, ar
 use Rattle.std.specs.Prelude.{slice_index, All}
 use Rattle.std.proofs.lemmas.Bool.{cases_lt}
 use Rattle.load_memory.specs.Pairs.{MemoryOf}
-use Rattle.load_memory.specs.Parts.{count_at, room_at, HaveRoom}
-use Rattle.load_memory.specs.declared.part.Staged.{Staged}
+use Rattle.load_memory.specs.LoaderMemories.{count_at, room_at, HaveRoom}
+use Rattle.load_memory.specs.declared.loader_memory.StagedPair.{StagedPair}
 use Rattle.load_memory.proofs.StoreLaws.{count-past}
 use Rattle.load_memory.proofs.memory.Memory.store.Goals as goal
 
-room-for : (parts : _) (pairs : _) (counts : _) (n : ℕ) → ((l : ℕ) → l < n → slice_index counts l ≡ count_at l pairs) → ((l : ℕ) → l < n → slice_index counts l ≤ room_at parts l) → All (λ (s : Staged). s.loader < n) pairs → HaveRoom parts pairs
+room-for : (parts : _) (pairs : _) (counts : _) (n : ℕ) → ((l : ℕ) → l < n → slice_index counts l ≡ count_at l pairs) → ((l : ℕ) → l < n → slice_index counts l ≤ room_at parts l) → All (λ (s : StagedPair). s.loader < n) pairs → HaveRoom parts pairs
 room-for parts pairs counts n is room below l = elim (cases_lt l n) [
   | inl lt ↦ omega (arith, is l lt, room l lt)
   | inr past ↦ omega (arith, count-past n l pairs below past)

@@ -16,4 +16,4 @@ returns g c =
     let at = slice_get_read loaders (length loaders) c.self.inside.loader asked refl lt c.index-loaders-loader.is in
     let can = rw (c.source.ensures, c.as_slice.ensures) at c.ask-answer.ensures in
     let many : c.len.result ≡ length (map key_of keys) = c.len.ensures ∙ sym (length-map keys key_of) in
-    rw (← c.self.view_is) (replies g.S.Asks.may_tell loaders c.self.inside.loader (map key_of keys) asked (map outcome_of c.in_ok-outcomes.outcomes.items) at c.ask-answer.result can (rw many at c.in_ok-outcomes.ensures))
+    rw (← c.self.view_is) (replies g.S.LocalSource.may_tell loaders c.self.inside.loader (map key_of keys) asked (map outcome_of c.in_ok-outcomes.outcomes.items) at c.ask-answer.result can (rw many at c.in_ok-outcomes.ensures))

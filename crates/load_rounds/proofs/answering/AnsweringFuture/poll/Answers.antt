@@ -1,5 +1,5 @@
 use Rattle.std.proofs.Common.{◌≡◌, ◌+◌, refl, Some}
-use Rattle.load_memory.proofs.PartLaws.{SomeIff-at}
+use Rattle.load_memory.proofs.LoaderMemoryLaws.{SomeIff-at}
 use Rattle.load_rounds.specs.Sessions.{state_of}
 use Rattle.load_rounds.specs.Answerings.{far_of, begun, rounds_of}
 use Rattle.load_rounds.proofs.Polls.{can-fits, can-begin, can-ask, gives-answer, gives-none, gives-none-more, can-again, gives-same, poll-ran}
@@ -7,7 +7,7 @@ use Rattle.load_rounds.proofs.answering.AnsweringFuture.poll.Goals as goal
 
 pub begin-session-requires : goal.begin-session-requires
 begin-session-requires g c =
-    let may = g.S.Asks.may_tell in
+    let may = g.S.LocalSource.may_tell in
     let plan = c.self.inside.plan.now in
     let far = far_of c.self.inside.far in
     let can = rw (← c.self.view_is) at c.requires in
@@ -15,7 +15,7 @@ begin-session-requires g c =
 
 pub turn-requires : goal.turn-requires
 turn-requires g c =
-    let may = g.S.Asks.may_tell in
+    let may = g.S.LocalSource.may_tell in
     let plan = c.self.inside.plan.now in
     let far = far_of c.self.inside.far in
     let can = rw (← c.self.view_is) at c.requires in
@@ -25,7 +25,7 @@ turn-requires g c =
 
 pub returns-in-Ok-Ready-clause-value : goal.returns-in-Ok-Ready-clause-value
 returns-in-Ok-Ready-clause-value g c =
-    let may = g.S.Asks.may_tell in
+    let may = g.S.LocalSource.may_tell in
     let plan = c.self.inside.plan.now in
     let far = far_of c.self.inside.far in
     let can = rw (← c.self.view_is) at c.requires in
@@ -38,7 +38,7 @@ returns-in-Ok-Ready-clause-value g c =
 
 pub returns-in-Some-clause-again : goal.returns-in-Some-clause-again
 returns-in-Some-clause-again g c =
-    let may = g.S.Asks.may_tell in
+    let may = g.S.LocalSource.may_tell in
     let plan = c.self.inside.plan.now in
     let far = far_of c.self.inside.far in
     let can = rw (← c.self.view_is) at c.requires in
@@ -51,7 +51,7 @@ returns-in-Some-clause-again g c =
 
 pub returns-in-Some-clause-same : goal.returns-in-Some-clause-same
 returns-in-Some-clause-same g c =
-    let may = g.S.Asks.may_tell in
+    let may = g.S.LocalSource.may_tell in
     let plan = c.self.inside.plan.now in
     let far = far_of c.self.inside.far in
     let can = rw (← c.self.view_is) at c.requires in
@@ -64,7 +64,7 @@ returns-in-Some-clause-same g c =
 
 pub returns-in-Some-clause-round : goal.returns-in-Some-clause-round
 returns-in-Some-clause-round g c =
-    let may = g.S.Asks.may_tell in
+    let may = g.S.LocalSource.may_tell in
     let plan = c.self.inside.plan.now in
     let far = far_of c.self.inside.far in
     let can = rw (← c.self.view_is) at c.requires in
@@ -77,7 +77,7 @@ returns-in-Some-clause-round g c =
 
 pub returns-in-None-clause-value : goal.returns-in-None-clause-value
 returns-in-None-clause-value g c =
-    let may = g.S.Asks.may_tell in
+    let may = g.S.LocalSource.may_tell in
     let plan = c.self.inside.plan.now in
     let far = far_of c.self.inside.far in
     let can = rw (← c.self.view_is) at c.requires in
@@ -89,7 +89,7 @@ returns-in-None-clause-value g c =
 
 pub returns-in-Err-clause-value : goal.returns-in-Err-clause-value
 returns-in-Err-clause-value g c =
-    let may = g.S.Asks.may_tell in
+    let may = g.S.LocalSource.may_tell in
     let plan = c.self.inside.plan.now in
     let far = far_of c.self.inside.far in
     let can = rw (← c.self.view_is) at c.requires in

@@ -19,7 +19,7 @@ returns-in_err-together-clause-stopped g c =
     let old = state_of c.args.self.now in
     let new = state_of c.forget.new.self in
     let p : Program = together (requests g.P.Execute.program g.P.Execute.text_of c.args.plans.now) in
-    on-err c.from_residual.result (in-stops g.S.Asks.may_tell old new new p 0 (in-none g.S.Asks.may_tell old new p c.forget.ensures.after) (inl refl))
+    on-err c.from_residual.result (in-stops g.S.LocalSource.may_tell old new new p 0 (in-none g.S.LocalSource.may_tell old new p c.forget.ensures.after) (inl refl))
 
 pub loop-together-init : goal.loop-together-init
 loop-together-init g c =
@@ -27,7 +27,7 @@ loop-together-init g c =
     let t = c.in_ok-together.together in
     record {
       plans = c.in_ok-together.ensures.same;
-      shared = rw c.in_ok-together.ensures.rounds (shared-none g.P.Execute.program g.P.Execute.text_of g.P.Execute.loaders g.P.Execute.fits g.S.Asks.may_tell c.args.plans.now old (state_of c.forget.new.self) t.parts c.forget.ensures.after c.in_ok-together.ensures.unreported);
+      shared = rw c.in_ok-together.ensures.rounds (shared-none g.P.Execute.program g.P.Execute.text_of g.P.Execute.loaders g.P.Execute.fits g.S.LocalSource.may_tell c.args.plans.now old (state_of c.forget.new.self) t.parts c.forget.ensures.after c.in_ok-together.ensures.unreported);
       fits = c.in_ok-together.ensures.fitting (memory_of c.forget.new.self);
     }
 
@@ -38,7 +38,7 @@ go_on-requires g c =
     let plans = c.args.plans.now in
     let p : Program = together (requests g.P.Execute.program g.P.Execute.text_of plans) in
     let was = c.loop-together.invariant in
-    let size : length old.loaders ≡ length cur.loaders = sym (in-loaders g.S.Asks.may_tell old cur p c.loop-together.together.rounds was.shared.is) in
+    let size : length old.loaders ≡ length cur.loaders = sym (in-loaders g.S.LocalSource.may_tell old cur p c.loop-together.together.rounds was.shared.is) in
     let enough = subst (λ n. All (λ plan. g.P.Execute.loaders plan ≤ n) plans) size c.requires in
     λ κs. ((refl, tt), (subst (λ ps. All (λ plan. g.P.Execute.loaders plan ≤ length cur.loaders) ps) (sym was.plans) enough, was.fits))
 
@@ -52,7 +52,7 @@ returns-in_err-ask-clause-stopped g c =
     let p : Program = together (requests g.P.Execute.program g.P.Execute.text_of c.args.plans.now) in
     let was = c.loop-together.invariant in
     let found : FindsAll p cur (Some c.in-Some.wants) = subst (λ ps. FindsAll (together (requests g.P.Execute.program g.P.Execute.text_of ps)) cur (Some c.in-Some.wants)) was.plans (rw c.in-Some.is at c.in_ok-wants.ensures.found) in
-    on-err c.from_residual-in_err-ask.result (in-stops g.S.Asks.may_tell old cur (state_of c.ask.new.self) p c.loop-together.together.rounds was.shared.is (inr (c.in_err-ask.ensures.lost (front (session_modes cur) p cur.memory) found.2)))
+    on-err c.from_residual-in_err-ask.result (in-stops g.S.LocalSource.may_tell old cur (state_of c.ask.new.self) p c.loop-together.together.rounds was.shared.is (inr (c.in_err-ask.ensures.lost (front (session_modes cur) p cur.memory) found.2)))
 
 pub loop-together-preserved : goal.loop-together-preserved
 loop-together-preserved g c =
@@ -68,12 +68,12 @@ loop-together-preserved g c =
     let found : FindsAll p cur (Some c.in-Some.wants) = subst (λ ps. FindsAll (together (requests g.P.Execute.program g.P.Execute.text_of ps)) cur (Some c.in-Some.wants)) was.plans (rw c.in-Some.is at c.in_ok-wants.ensures.found) in
     let one : later.rounds ≡ t.rounds + 1 = rw c.in-Some.is at c.in_ok-wants.ensures.counted in
     let gone = c.in_ok-wants.ensures.went in
-    let report = shared-gone g.P.Execute.program g.P.Execute.text_of g.P.Execute.loaders g.P.Execute.fits g.S.Asks.may_tell plans old cur t.parts later.parts t.rounds (memory_of s) was.shared gone in
+    let report = shared-gone g.P.Execute.program g.P.Execute.text_of g.P.Execute.loaders g.P.Execute.fits g.S.LocalSource.may_tell plans old cur t.parts later.parts t.rounds (memory_of s) was.shared gone in
     let ran = c.in_ok-ask.ensures.ran loads found.2 in
     record {
       plans = gone-plans g.P.Execute.program g.P.Execute.text_of g.P.Execute.loaders g.P.Execute.fits t.rounds (memory_of s) t.parts later.parts gone ∙ was.plans;
-      shared = shared-more g.P.Execute.program g.P.Execute.text_of g.P.Execute.loaders g.P.Execute.fits g.S.Asks.may_tell plans old (state_of c.ask.new.self) s t.parts later.parts t.rounds later.rounds report one gone found.0 ran;
-      fits = gone-fit g.P.Execute.program g.P.Execute.text_of g.P.Execute.loaders g.P.Execute.fits t.rounds (memory_of s) (memory_of c.ask.new.self) t.parts later.parts gone (ran-grows g.S.Asks.may_tell s c.ask.new.self loads ran);
+      shared = shared-more g.P.Execute.program g.P.Execute.text_of g.P.Execute.loaders g.P.Execute.fits g.S.LocalSource.may_tell plans old (state_of c.ask.new.self) s t.parts later.parts t.rounds later.rounds report one gone found.0 ran;
+      fits = gone-fit g.P.Execute.program g.P.Execute.text_of g.P.Execute.loaders g.P.Execute.fits t.rounds (memory_of s) (memory_of c.ask.new.self) t.parts later.parts gone (ran-grows g.S.LocalSource.may_tell s c.ask.new.self loads ran);
     }
 
 pub returns-clause-answers : goal.returns-clause-answers
@@ -88,26 +88,26 @@ returns-clause-answers g c =
     let found = found-none (together (requests g.P.Execute.program g.P.Execute.text_of (plans_in t.parts))) cur _ c.in_default.not-Some c.in_ok-wants.ensures.found in
     let none = subst (λ ps. front (session_modes cur) (together (requests g.P.Execute.program g.P.Execute.text_of ps)) cur.memory ≡ []) was.plans found in
     let gone = c.in_ok-wants.ensures.went in
-    let report = shared-gone g.P.Execute.program g.P.Execute.text_of g.P.Execute.loaders g.P.Execute.fits g.S.Asks.may_tell plans old cur t.parts later.parts t.rounds (memory_of s) was.shared gone in
+    let report = shared-gone g.P.Execute.program g.P.Execute.text_of g.P.Execute.loaders g.P.Execute.fits g.S.LocalSource.may_tell plans old cur t.parts later.parts t.rounds (memory_of s) was.shared gone in
     let all = all-report g.P.Execute.program g.P.Execute.text_of g.P.Execute.loaders g.P.Execute.fits t.rounds (memory_of s) t.parts later.parts gone found in
     let enough = subst (λ ps. All (λ plan. g.P.Execute.loaders plan ≤ length old.loaders) ps) (sym was.plans) c.requires in
     let within : HasLoaders (length old.loaders) (together (requests g.P.Execute.program g.P.Execute.text_of plans)) = subst (λ ps. HasLoaders (length old.loaders) (together (requests g.P.Execute.program g.P.Execute.text_of ps))) was.plans
     (gone-within g.P.Execute.program g.P.Execute.text_of g.P.Execute.loaders g.P.Execute.fits 0 t.rounds (length old.loaders) (memory_of s) t.parts later.parts gone enough) in
     let fit = gone-fit g.P.Execute.program g.P.Execute.text_of g.P.Execute.loaders g.P.Execute.fits t.rounds (memory_of s) (memory_of s) t.parts later.parts gone (same-grows s s refl) in
     let are = gone-plans g.P.Execute.program g.P.Execute.text_of g.P.Execute.loaders g.P.Execute.fits t.rounds (memory_of s) t.parts later.parts gone ∙ was.plans in
-    let headline = shared-all g.P.Execute.program g.P.Execute.text_of g.P.Execute.loaders g.P.Execute.fits g.S.Asks.may_tell plans old s later.parts t.rounds report c.forget.ensures.limited within are all fit none in
-    if-ok c.take_answers.result (λ answers e. subst (λ ts. SharedHeadline g.S.Asks.may_tell old cur (requests g.P.Execute.program g.P.Execute.text_of plans) ts) (sym e) headline) c.take_answers.ensures.answers
+    let headline = shared-all g.P.Execute.program g.P.Execute.text_of g.P.Execute.loaders g.P.Execute.fits g.S.LocalSource.may_tell plans old s later.parts t.rounds report c.forget.ensures.limited within are all fit none in
+    if-ok c.take_answers.result (λ answers e. subst (λ ts. SharedHeadline g.S.LocalSource.may_tell old cur (requests g.P.Execute.program g.P.Execute.text_of plans) ts) (sym e) headline) c.take_answers.ensures.answers
 
 pub returns-clause-stopped : goal.returns-clause-stopped
 returns-clause-stopped g c =
     let old = state_of c.args.self.now in
     let cur = state_of c.loop-together.self in
     let p : Program = together (requests g.P.Execute.program g.P.Execute.text_of c.args.plans.now) in
-    on-err c.take_answers.result (in-stops g.S.Asks.may_tell old cur cur p c.loop-together.together.rounds c.loop-together.invariant.shared.is (inl refl))
+    on-err c.take_answers.result (in-stops g.S.LocalSource.may_tell old cur cur p c.loop-together.together.rounds c.loop-together.invariant.shared.is (inl refl))
 
 pub returns-in_err-wants-clause-stopped : goal.returns-in_err-wants-clause-stopped
 returns-in_err-wants-clause-stopped g c =
     let old = state_of c.args.self.now in
     let cur = state_of c.loop-together.self in
     let p : Program = together (requests g.P.Execute.program g.P.Execute.text_of c.args.plans.now) in
-    on-err c.from_residual-in_err-wants.result (in-stops g.S.Asks.may_tell old cur cur p c.loop-together.together.rounds c.loop-together.invariant.shared.is (inl refl))
+    on-err c.from_residual-in_err-wants.result (in-stops g.S.LocalSource.may_tell old cur cur p c.loop-together.together.rounds c.loop-together.invariant.shared.is (inl refl))

@@ -1,7 +1,7 @@
 use Rattle.std.proofs.Common.{◌≡◌, ◌<◌, ◌≤◌, ◌+◌, ℕ, map, length, ap, arith, refl, false}
 use Rattle.std.proofs.lemmas.List.{length-map}
 use Rattle.load_memory.specs.Replies.{ReplyOf, reply_of}
-use Rattle.load_memory.proofs.PartLaws.{SomeIff-at}
+use Rattle.load_memory.proofs.LoaderMemoryLaws.{SomeIff-at}
 use Rattle.load_memory.proofs.ReplyPairs.{All-of_map}
 use Rattle.load_queue.specs.Wanted.{keys_wanted}
 use Rattle.execution.specs.Rounds.{RuleOf, rule_of, round_orders, may_at}
@@ -88,7 +88,7 @@ keep_owned-requires g c =
     let most : ℕ = length M.modes in
     let size : 0 + length (map rule_of L) ≤ most = omega (arith, ap length c.self.invariant.modes, length-map (map rule_of L) (λ (r : RuleOf). r.mode)) in
     let below = orders-below 0 most (map rule_of L) keys size in
-    let all = replies-below (may_at g.S.Asks.may_tell c.deref.result.now) most c.in_ok-orders.orders.items (map reply_of c.in_ok-replies.replies.items) c.in_ok-replies.ensures (rw c.in_ok-orders.ensures.orders below) in
+    let all = replies-below (may_at g.S.LocalSource.may_tell c.deref.result.now) most c.in_ok-orders.orders.items (map reply_of c.in_ok-replies.replies.items) c.in_ok-replies.ensures (rw c.in_ok-orders.ensures.orders below) in
     All-of_map reply_of (λ (r : ReplyOf). r.loader < most) c.in_ok-replies.replies.items all
 
 pub invariant_of-self-in_err-keep_owned : goal.invariant_of-self-in_err-keep_owned
@@ -140,6 +140,6 @@ returns-clause-ran g c = λ loads wanted.
     let kept = c.in_ok-keep_owned.ensures.pairs in
     rw (← c.self.view_is) (record {
       replies = replies;
-      answered = replies-before false round keys g.S.Asks.may_tell L (round_orders (map rule_of L) loads) replies report;
+      answered = replies-before false round keys g.S.LocalSource.may_tell L (round_orders (map rule_of L) loads) replies report;
       after = state-ran keys loads L own round r c.cut_all.new.rounds c.cut_all.new.loaders.items c.mark_all.new.loaders.items M c.keep_owned.new.self replies next c.self.invariant h c.mark_all.ensures kept;
     })

@@ -8,4 +8,4 @@ returns-clause-begun g c =
     let p = g.P.Execute.program c.args.plan.now in
     let old = state_of c.args.self.now in
     let new = state_of c.forget.new.self in
-    in-between g.S.Asks.may_tell p old new 0 (in-none g.S.Asks.may_tell old new p c.forget.ensures.after)
+    in-between g.S.LocalSource.may_tell p old new 0 (in-none g.S.LocalSource.may_tell old new p c.forget.ensures.after)

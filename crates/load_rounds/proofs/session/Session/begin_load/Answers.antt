@@ -13,7 +13,7 @@ pub returns-in_err-wanted_keys-clause-no_memory : goal.returns-in_err-wanted_key
 returns-in_err-wanted_keys-clause-no_memory g c = λ h.
     let mid = c.forget.new.self in
     let keys = map key_of c.args.keys.now in
-    keys-lost g.S.Asks.may_tell (state_of c.args.self.now) (state_of mid) (state_of mid) c.args.loader keys c.forget.ensures.after (lost-none mid (front_at (state_of mid) c.args.loader keys))
+    keys-lost g.S.LocalSource.may_tell (state_of c.args.self.now) (state_of mid) (state_of mid) c.args.loader keys c.forget.ensures.after (lost-none mid (front_at (state_of mid) c.args.loader keys))
 
 pub outcomes-requires-clause-known : goal.outcomes-requires-clause-known
 outcomes-requires-clause-known g c =
@@ -24,13 +24,13 @@ outcomes-requires-clause-known g c =
 pub returns-in_err-outcomes-in-None-clause-no_memory : goal.returns-in_err-outcomes-in-None-clause-no_memory
 returns-in_err-outcomes-in-None-clause-no_memory g c = λ h.
     let none = rw c.in-None.is at c.in_ok-wanted_keys.ensures in
-    inl (keys-none g.S.Asks.may_tell (state_of c.args.self.now) (state_of c.forget.new.self) c.args.loader (map key_of c.args.keys.now) c.forget.ensures.after none)
+    inl (keys-none g.S.LocalSource.may_tell (state_of c.args.self.now) (state_of c.forget.new.self) c.args.loader (map key_of c.args.keys.now) c.forget.ensures.after none)
 
 pub returns-in_ok-outcomes-in-None-clause-begun : goal.returns-in_ok-outcomes-in-None-clause-begun
 returns-in_ok-outcomes-in-None-clause-begun g c =
     let none = rw c.in-None.is at c.in_ok-wanted_keys.ensures in
     record {
-      round = keys-none g.S.Asks.may_tell (state_of c.args.self.now) (state_of c.forget.new.self) c.args.loader (map key_of c.args.keys.now) c.forget.ensures.after none;
+      round = keys-none g.S.LocalSource.may_tell (state_of c.args.self.now) (state_of c.forget.new.self) c.args.loader (map key_of c.args.keys.now) c.forget.ensures.after none;
       known = c.in_ok-outcomes-in-None.ensures;
     }
 
@@ -39,7 +39,7 @@ returns-in_err-cut-in-Some-clause-no_memory g c = λ h.
     let mid = state_of c.forget.new.self in
     let keys = map key_of c.args.keys.now in
     let found = rw c.in-Some.is at c.in_ok-wanted_keys.ensures in
-    keys-lost g.S.Asks.may_tell (state_of c.args.self.now) mid (state_of c.cut.new.self) c.args.loader keys c.forget.ensures.after (c.in_err-cut-in-Some.ensures.lost (front_at mid c.args.loader keys) found.2)
+    keys-lost g.S.LocalSource.may_tell (state_of c.args.self.now) mid (state_of c.cut.new.self) c.args.loader keys c.forget.ensures.after (c.in_err-cut-in-Some.ensures.lost (front_at mid c.args.loader keys) found.2)
 
 pub returns-in_ok-cut-in-Some-clause-begun : goal.returns-in_ok-cut-in-Some-clause-begun
 returns-in_ok-cut-in-Some-clause-begun g c =

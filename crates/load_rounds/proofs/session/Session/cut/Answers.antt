@@ -1,6 +1,6 @@
 use Rattle.std.proofs.Common.{◌≡◌, ◌<◌, ◌+◌, ℕ, length, arith, refl, ◌∙◌}
 use Rattle.load_memory.specs.Pairs.{look}
-use Rattle.load_memory.proofs.PartLaws.{SomeIff-at}
+use Rattle.load_memory.proofs.LoaderMemoryLaws.{SomeIff-at}
 use Rattle.load_queue.specs.Wanted.{keys_wanted}
 use Rattle.load_rounds.specs.Rounds.{first_keys}
 use Rattle.load_rounds.proofs.Runs.{if-ok, on-ok, on-err-too, ok-or-err, cut-state}

@@ -27,14 +27,14 @@ pub returns-clause-loaded : goal.returns-clause-loaded
 returns-clause-loaded g c =
     if-ok c.outcomes.result
     (λ outcomes known begun is told. record {
-      round = loading-once begun (state_of c.args.self.now) c.args.loader (map key_of c.args.keys.now) is g.S.Asks.may_tell (map reply_of c.args.replies.items) told (state_of c.receive_owned.new.self) c.in_ok-receive_owned.ensures.received;
+      round = loading-once begun (state_of c.args.self.now) c.args.loader (map key_of c.args.keys.now) is g.S.LocalSource.may_tell (map reply_of c.args.replies.items) told (state_of c.receive_owned.new.self) c.in_ok-receive_owned.ensures.received;
       known = known;
     })
     c.outcomes.ensures
 
 pub returns-clause-stopped : goal.returns-clause-stopped
 returns-clause-stopped g c =
-    on-err c.outcomes.result (λ begun is told. inl (loading-once begun (state_of c.args.self.now) c.args.loader (map key_of c.args.keys.now) is g.S.Asks.may_tell (map reply_of c.args.replies.items) told (state_of c.receive_owned.new.self) c.in_ok-receive_owned.ensures.received))
+    on-err c.outcomes.result (λ begun is told. inl (loading-once begun (state_of c.args.self.now) c.args.loader (map key_of c.args.keys.now) is g.S.LocalSource.may_tell (map reply_of c.args.replies.items) told (state_of c.receive_owned.new.self) c.in_ok-receive_owned.ensures.received))
 
 pub returns-clause-recorded : goal.returns-clause-recorded
 returns-clause-recorded g c = end-recorded (state_of c.args.self.now) (state_of c.receive_owned.new.self) (map reply_of c.args.replies.items) c.in_ok-receive_owned.ensures.received

@@ -32,7 +32,7 @@ pub end_load-requires-clause-round : goal.end_load-requires-clause-round
 end_load-requires-clause-round g c =
     let begun = rw c.in-Round.is at c.in_ok-outcomes.ensures.begun in
     let told = rw (c.loaders.ensures, begun.1) at c.in_ok-replies-in-Round.ensures in
-    told-some g.S.Asks.may_tell (state_of c.begin_load.new.self) c.args.loader (map key_of c.args.keys.now) (map reply_of c.in_ok-replies-in-Round.replies.items) told
+    told-some g.S.LocalSource.may_tell (state_of c.begin_load.new.self) c.args.loader (map key_of c.args.keys.now) (map reply_of c.in_ok-replies-in-Round.replies.items) told
 
 pub returns-in_err-end_load-in-Round-clause-no_memory : goal.returns-in_err-end_load-in-Round-clause-no_memory
 returns-in_err-end_load-in-Round-clause-no_memory g c = λ h.

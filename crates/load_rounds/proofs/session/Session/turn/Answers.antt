@@ -36,4 +36,4 @@ returns-in_ok-ask-in-Missing-clause-fits g c =
     let loads = front (session_modes cur) p cur.memory in
     let lacks = rw c.in-Missing.is at c.in_ok-text.ensures.found in
     let ran = c.in_ok-ask-in-Missing.ensures.ran loads lacks.2 in
-    c.in_ok-text.ensures.fits (memory_of c.ask.new.self) (ran-grows g.S.Asks.may_tell c.args.self.now c.ask.new.self loads ran)
+    c.in_ok-text.ensures.fits (memory_of c.ask.new.self) (ran-grows g.S.LocalSource.may_tell c.args.self.now c.ask.new.self loads ran)

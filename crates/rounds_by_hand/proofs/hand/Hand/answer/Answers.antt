@@ -17,9 +17,9 @@ returns-in-Ok-clause-underway g c =
     let round = rw c.in-Out.is at (rw (← c.self.view_is) at c.requires.round) in
     let t = c.in-Ok.ensures.taken in
     rw (← c.self.view_is, c.in-Out.is, t.was)
-    (λ can begun h. (h.0, h.1, taken-told g.P.Execute.program g.P.Execute.text_of g.S.Asks.may_tell (state_of c.self.inside.session) c.in-Out.field-0 c.in-Out.pending.items c.args.number c.args.answer c.take_answer.new.pending.items t round.1 can h.2))
+    (λ can begun h. (h.0, h.1, taken-told g.P.Execute.program g.P.Execute.text_of g.S.LocalSource.may_tell (state_of c.self.inside.session) c.in-Out.field-0 c.in-Out.pending.items c.args.number c.args.answer c.take_answer.new.pending.items t round.1 can h.2))
 
 pub returns-in-Err-NoMemory-clause-stopped : goal.returns-in-Err-NoMemory-clause-stopped
 returns-in-Err-NoMemory-clause-stopped g c = λ begun h.
     let own = rw c.in-Out.is at (rw (← c.self.view_is) at h) in
-    stops g.P.Execute.program g.P.Execute.text_of g.S.Asks.may_tell (state_of begun) (state_of c.self.inside.session) c.in-Out.field-0 c.self.inside.plans.now own.0 own.1
+    stops g.P.Execute.program g.P.Execute.text_of g.S.LocalSource.may_tell (state_of begun) (state_of c.self.inside.session) c.in-Out.field-0 c.self.inside.plans.now own.0 own.1

@@ -29,7 +29,7 @@ pub returns-clause-answers : goal.returns-clause-answers
 returns-clause-answers g c =
     let program = g.P.Execute.program in
     let text_of = g.P.Execute.text_of in
-    let may = g.S.Asks.may_tell in
+    let may = g.S.LocalSource.may_tell in
     let s = c.self.inside.session in
     let plans = c.self.inside.plans.now in
     let value = sym c.replace.ensures.value in

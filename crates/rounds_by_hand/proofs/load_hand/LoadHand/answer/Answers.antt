@@ -13,12 +13,12 @@ returns-in-Ok-clause-underway g c =
     let round = rw c.in-Out.is at c.self.invariant.round in
     let t = c.in-Ok.ensures.taken in
     rw (← c.self.view_is, c.in-Out.is, t.was)
-    (λ can begun h. (h.0, taken-may g.S.Asks.may_tell s.loaders pending c.args.number c.args.answer c.take_answer.new.pending.items t (load-orders-have s c.self.inside.loader keys pending round.orders) can h.1))
+    (λ can begun h. (h.0, taken-may g.S.LocalSource.may_tell s.loaders pending c.args.number c.args.answer c.take_answer.new.pending.items t (load-orders-have s c.self.inside.loader keys pending round.orders) can h.1))
 
 pub returns-in-Err-NoMemory-clause-stopped : goal.returns-in-Err-NoMemory-clause-stopped
 returns-in-Err-NoMemory-clause-stopped g c = λ begun h.
     let own = rw c.in-Out.is at (rw (← c.self.view_is) at h) in
-    loading-stops g.S.Asks.may_tell (state_of begun) (state_of c.self.inside.session) c.self.inside.loader (map key_of c.self.inside.keys.items) own.0
+    loading-stops g.S.LocalSource.may_tell (state_of begun) (state_of c.self.inside.session) c.self.inside.loader (map key_of c.self.inside.keys.items) own.0
 
 pub invariant_of-self-in-Ok : goal.invariant_of-self-in-Ok
 invariant_of-self-in-Ok g c =

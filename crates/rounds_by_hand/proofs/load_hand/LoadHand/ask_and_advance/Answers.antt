@@ -31,15 +31,15 @@ returns-in_err-far-in-Handed-clause-underway g c = λ begun h.
     let new = c.begin_keys.new.session in
     let same : c.self.inside.session ≡ begun = rw (sym c.replace.ensures.value ∙ c.in-Handed.is) at (rw (← c.self.view_is) at h) in
     let stopped = rw c.deref.ensures.value at c.in_err-far-in-Handed.ensures.stopped in
-    let own = subst (λ (s : SessionOf g.row.S.Denot). IsStopped g.S.Asks.may_tell (state_of s) (state_of new) (asked_for (state_of s) loader keys)) same stopped in
-    load-is-over g.S.Asks.may_tell begun new loader keys (load_far_of c.replace.new.dest) (ap load_far_of c.replace.ensures.after) own
+    let own = subst (λ (s : SessionOf g.row.S.Denot). IsStopped g.S.LocalSource.may_tell (state_of s) (state_of new) (asked_for (state_of s) loader keys)) same stopped in
+    load-is-over g.S.LocalSource.may_tell begun new loader keys (load_far_of c.replace.new.dest) (ap load_far_of c.replace.ensures.after) own
 
 pub returns-in_ok-far-in-Handed-clause-loaded : goal.returns-in_ok-far-in-Handed-clause-loaded
 returns-in_ok-far-in-Handed-clause-loaded g c =
     let loader = c.self.inside.loader in
     let keys = map key_of c.self.inside.keys.items in
     let tells = rw c.deref.ensures.value at c.in_ok-far-in-Handed.ensures.tells in
-    rw (← c.self.view_is) (begun-loads g.S.Asks.may_tell (load_hand_of c.self.inside.session loader keys (load_far_of c.self.inside.far)) (load_hand_of c.begin_keys.new.session loader keys (load_far_of c.in_ok-far-in-Handed.far)) c.in_ok-far-in-Handed.advance
+    rw (← c.self.view_is) (begun-loads g.S.LocalSource.may_tell (load_hand_of c.self.inside.session loader keys (load_far_of c.self.inside.far)) (load_hand_of c.begin_keys.new.session loader keys (load_far_of c.in_ok-far-in-Handed.far)) c.in_ok-far-in-Handed.advance
     (ap load_far_of (sym c.replace.ensures.value ∙ c.in-Handed.is)) tells)
 
 -- ---- its round is out
@@ -49,7 +49,7 @@ returns-in_err-outcomes-in-Out-clause-underway g c = λ begun h.
     let keys = map key_of c.self.inside.keys.items in
     let gone = rw (sym c.replace.ensures.value ∙ c.in-Out.is) at (rw (← c.self.view_is) at h) in
     let stopped = rw c.deref-in-Out.ensures.value at c.in_err-outcomes-in-Out.ensures.stopped in
-    load-is-over g.S.Asks.may_tell begun c.finish_keys.new.session c.self.inside.loader keys (load_far_of c.replace.new.dest) (ap load_far_of c.replace.ensures.after) (stopped begun gone)
+    load-is-over g.S.LocalSource.may_tell begun c.finish_keys.new.session c.self.inside.loader keys (load_far_of c.replace.new.dest) (ap load_far_of c.replace.ensures.after) (stopped begun gone)
 
 pub returns-in_ok-outcomes-in-Out-clause-underway : goal.returns-in_ok-outcomes-in-Out-clause-underway
 returns-in_ok-outcomes-in-Out-clause-underway g c = λ begun h.
@@ -57,8 +57,8 @@ returns-in_ok-outcomes-in-Out-clause-underway g c = λ begun h.
     let new = c.finish_keys.new.session in
     let gone = rw (sym c.replace.ensures.value ∙ c.in-Out.is) at (rw (← c.self.view_is) at h) in
     let loaded = rw c.deref-in-Out.ensures.value at c.in_ok-outcomes-in-Out.ensures.loaded in
-    let stopped = loaded-stops g.S.Asks.may_tell (state_of begun) (state_of new) c.self.inside.loader keys (map outcome_of c.in_ok-outcomes-in-Out.outcomes.items) (loaded begun gone) in
-    load-is-over g.S.Asks.may_tell begun new c.self.inside.loader keys (load_far_of c.replace.new.dest) (ap load_far_of c.replace.ensures.after) stopped
+    let stopped = loaded-stops g.S.LocalSource.may_tell (state_of begun) (state_of new) c.self.inside.loader keys (map outcome_of c.in_ok-outcomes-in-Out.outcomes.items) (loaded begun gone) in
+    load-is-over g.S.LocalSource.may_tell begun new c.self.inside.loader keys (load_far_of c.replace.new.dest) (ap load_far_of c.replace.ensures.after) stopped
 
 pub returns-in_ok-outcomes-in-Out-clause-loaded : goal.returns-in_ok-outcomes-in-Out-clause-loaded
 returns-in_ok-outcomes-in-Out-clause-loaded g c =

@@ -21,12 +21,12 @@ pub returns-in_err-of_type-clause-reads : goal.returns-in_err-of_type-clause-rea
 returns-in_err-of_type-clause-reads c = let p = err_from_is_err_and c.from_residual-in_err-of_type.result c.from_residual-in_err-of_type.ensures.1 in rw (p.1, p.2)
     (λ stack. fails_earlier _ _ _ (field_described _ _ _ _ stack c.description.ensures ∙ (c.in_ok-name.ensures.reads 127).1 (MaybeArguments ∷ A AColon ∷ AType ∷ MaybeDeprecated ∷ Fields true ∷ stack) ∙ c.in_ok-arguments.ensures.reads.1 (A AColon ∷ AType ∷ MaybeDeprecated ∷ Fields true ∷ stack) ∙ colon_comes 127 _ _ (AType ∷ MaybeDeprecated ∷ Fields true ∷ stack) c.in_ok-expect.ensures) (c.in_err-of_type.ensures.reads 126 (MaybeDeprecated ∷ Fields true ∷ stack)))
 
-pub returns-in_err-deprecated-clause-reads : goal.returns-in_err-deprecated-clause-reads
-returns-in_err-deprecated-clause-reads c = let p = err_from_is_err_and c.from_residual-in_err-deprecated.result c.from_residual-in_err-deprecated.ensures.1 in rw (p.1, p.2)
-    (λ stack. fails_earlier _ _ _ (field_described _ _ _ _ stack c.description.ensures ∙ (c.in_ok-name.ensures.reads 127).1 (MaybeArguments ∷ A AColon ∷ AType ∷ MaybeDeprecated ∷ Fields true ∷ stack) ∙ c.in_ok-arguments.ensures.reads.1 (A AColon ∷ AType ∷ MaybeDeprecated ∷ Fields true ∷ stack) ∙ colon_comes 127 _ _ (AType ∷ MaybeDeprecated ∷ Fields true ∷ stack) c.in_ok-expect.ensures ∙ (c.in_ok-of_type.ensures.reads 126).1 (MaybeDeprecated ∷ Fields true ∷ stack)) (c.in_err-deprecated.ensures.reads 126 (Fields true ∷ stack)))
+pub returns-in_err-skip_deprecated-clause-reads : goal.returns-in_err-skip_deprecated-clause-reads
+returns-in_err-skip_deprecated-clause-reads c = let p = err_from_is_err_and c.from_residual-in_err-skip_deprecated.result c.from_residual-in_err-skip_deprecated.ensures.1 in rw (p.1, p.2)
+    (λ stack. fails_earlier _ _ _ (field_described _ _ _ _ stack c.description.ensures ∙ (c.in_ok-name.ensures.reads 127).1 (MaybeArguments ∷ A AColon ∷ AType ∷ MaybeDeprecated ∷ Fields true ∷ stack) ∙ c.in_ok-arguments.ensures.reads.1 (A AColon ∷ AType ∷ MaybeDeprecated ∷ Fields true ∷ stack) ∙ colon_comes 127 _ _ (AType ∷ MaybeDeprecated ∷ Fields true ∷ stack) c.in_ok-expect.ensures ∙ (c.in_ok-of_type.ensures.reads 126).1 (MaybeDeprecated ∷ Fields true ∷ stack)) (c.in_err-skip_deprecated.ensures.reads 126 (Fields true ∷ stack)))
 
 pub returns-clause-reads : goal.returns-clause-reads
 returns-clause-reads c = (
-  field_is _ c.description.ensures (c.in_ok-name.ensures.reads 127).0 c.in_ok-arguments.ensures.reads.0 c.in_ok-expect.ensures (c.in_ok-of_type.ensures.reads 126).0 (c.in_ok-deprecated.ensures.reads 126).0,
-  λ stack. field_described _ _ _ _ stack c.description.ensures ∙ (c.in_ok-name.ensures.reads 127).1 (MaybeArguments ∷ A AColon ∷ AType ∷ MaybeDeprecated ∷ Fields true ∷ stack) ∙ c.in_ok-arguments.ensures.reads.1 (A AColon ∷ AType ∷ MaybeDeprecated ∷ Fields true ∷ stack) ∙ colon_comes 127 _ _ (AType ∷ MaybeDeprecated ∷ Fields true ∷ stack) c.in_ok-expect.ensures ∙ (c.in_ok-of_type.ensures.reads 126).1 (MaybeDeprecated ∷ Fields true ∷ stack) ∙ (c.in_ok-deprecated.ensures.reads 126).1 (Fields true ∷ stack),
+  field_is _ c.description.ensures (c.in_ok-name.ensures.reads 127).0 c.in_ok-arguments.ensures.reads.0 c.in_ok-expect.ensures (c.in_ok-of_type.ensures.reads 126).0 (c.in_ok-skip_deprecated.ensures.reads 126).0,
+  λ stack. field_described _ _ _ _ stack c.description.ensures ∙ (c.in_ok-name.ensures.reads 127).1 (MaybeArguments ∷ A AColon ∷ AType ∷ MaybeDeprecated ∷ Fields true ∷ stack) ∙ c.in_ok-arguments.ensures.reads.1 (A AColon ∷ AType ∷ MaybeDeprecated ∷ Fields true ∷ stack) ∙ colon_comes 127 _ _ (AType ∷ MaybeDeprecated ∷ Fields true ∷ stack) c.in_ok-expect.ensures ∙ (c.in_ok-of_type.ensures.reads 126).1 (MaybeDeprecated ∷ Fields true ∷ stack) ∙ (c.in_ok-skip_deprecated.ensures.reads 126).1 (Fields true ∷ stack),
 )

@@ -9,7 +9,7 @@ pub invariant_of-self : goal.invariant_of-self
 invariant_of-self g c =
     let keys = map key_of c.args.keys.now in
     let e = c.load_many.ensures in
-    let many = called-many g.S.Asks.may_tell c.self.inside.session c.load_many.new.self (λ outcomes. Loading c.args.loader keys (map outcome_of outcomes.items)) (StoppedLoading c.args.loader keys) c.load_many.result e.refused e.no_memory e.loaded in
+    let many = called-many g.S.LocalSource.may_tell c.self.inside.session c.load_many.new.self (λ outcomes. Loading c.args.loader keys (map outcome_of outcomes.items)) (StoppedLoading c.args.loader keys) c.load_many.result e.refused e.no_memory e.loaded in
     subst (λ n. length c.self.inside.documents.server.bindings.loaders ≤ n) (sym many) c.self.invariant
 
 pub returns-clause-no_memory : goal.returns-clause-no_memory

@@ -1,8 +1,8 @@
 use Rattle.std.proofs.Common.{◌≡◌, ◌∙◌, All, true, refl, sym, subst}
 use Rattle.gq_check.specs.Plans.{PlanOf}
 use Rattle.request_line.specs.Seen.{requests_of}
-use Rattle.request_plans.specs.Planning.{refusals_of, plans_of}
-use Rattle.request_plans.specs.Servers.{ServerOf}
+use Rattle.plan_requests.specs.Planning.{refusals_of, plans_of}
+use Rattle.plan_requests.specs.Servers.{ServerOf}
 use Rattle.server.specs.Clients.{client_of}
 use Rattle.server.specs.Planned.{several}
 use Rattle.server.proofs.Asking.{asks}

@@ -7,5 +7,5 @@ pub returns-in_err-respond-clause-stopped : goal.returns-in_err-respond-clause-s
 returns-in_err-respond-clause-stopped g c =
     let stops = rw c.in_ok-restart.ensures.begun at c.in_err-respond.ensures.stopped in
     let same = rw c.in_ok-restart.ensures.begun at c.in_err-respond.ensures.same in
-    let both : StopsLine g.S.Asks.may_tell c.args.self.now c.args.line.now c.respond.new.self = record { same = record { server = same.server; most = same.most }; stops = inr stops } in
+    let both : StopsLine g.S.LocalSource.may_tell c.args.self.now c.args.line.now c.respond.new.self = record { same = record { server = same.server; most = same.most }; stops = inr stops } in
     anyway _ both

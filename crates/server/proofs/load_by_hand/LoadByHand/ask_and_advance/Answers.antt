@@ -22,7 +22,7 @@ returns-clause-loaded g c =
     let new = c.ask_and_advance.new.self in
     rw (← c.self.view_is)
     (IfOk-weaker c.ask_and_advance.result _ _
-    (λ did loads. client-loads g.S.Asks.may_tell (load_by_hand_of (client_of server most old.session) old.loader old.keys old.far) (load_by_hand_of (client_of server most new.session) new.loader new.keys new.far) did loads) c.ask_and_advance.ensures.loaded)
+    (λ did loads. client-loads g.S.LocalSource.may_tell (load_by_hand_of (client_of server most old.session) old.loader old.keys old.far) (load_by_hand_of (client_of server most new.session) new.loader new.keys new.far) did loads) c.ask_and_advance.ensures.loaded)
 
 pub returns-clause-asked : goal.returns-clause-asked
 returns-clause-asked g c = rw (← c.self.view_is) c.ask_and_advance.ensures.same

@@ -8,4 +8,4 @@ returns-clause-stopped g c =
     let server = c.self.inside.documents.server in
     let most = c.self.inside.max_answer in
     let old = c.self.inside.hand in
-    rw (← c.self.view_is) (client-stops g.S.Asks.may_tell (load_by_hand_of (client_of server most old.session) old.loader old.keys old.far) (client_of server most c.into_session.result) c.into_session.ensures.stopped)
+    rw (← c.self.view_is) (client-stops g.S.LocalSource.may_tell (load_by_hand_of (client_of server most old.session) old.loader old.keys old.far) (client_of server most c.into_session.result) c.into_session.ensures.stopped)

@@ -5,7 +5,7 @@ use Rattle.gq_bindings.specs.Tree as bindings
 use Rattle.load_queue.specs.Loaders.{LoaderOf}
 use Rattle.server.specs.Opening.{new_loader}
 use denote.Param.Always.{mut_next}
-use Rattle.request_plans.proofs.Values.{taken-more}
+use Rattle.plan_requests.proofs.Values.{taken-more}
 use Rattle.server.proofs.Opened.{OpenedTo, opened-more, opened-all, opened-many, opened-quiet}
 use Rattle.server.proofs.opening.ServerSessions.session.Goals as goal
 

@@ -3,7 +3,7 @@ use Rattle.std.specs.Arc.{arc_value}
 use Rattle.std.proofs.lemmas.List.Elements.{All-append}
 use Rattle.csv_source.specs.Tables.{index_of}
 use Rattle.csv_source.proofs.Columns.{found-name}
-use Rattle.world.specs.Kept.{IsKept}
+use Rattle.world.specs.IndexedColumns.{IsKept}
 use Rattle.world.proofs.tables.IndexedTable.add.Goals as goal
 
 pub invariant_of-self-2 : goal.invariant_of-self-2

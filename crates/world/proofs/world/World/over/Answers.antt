@@ -2,7 +2,7 @@ use Rattle.std.proofs.Common.{◌∙◌, sym, refl, map}
 use Rattle.std.specs.HashMap.{get_by_text}
 use Rattle.std.proofs.lemmas.Result.{err_from_is_err_and}
 use Rattle.world.specs.Sources.{table_of, sheet_named}
-use Rattle.world.specs.Kept.{source_of}
+use Rattle.world.specs.IndexedColumns.{source_of}
 use Rattle.world.proofs.Loaders.{sources_for-same, sources_for-length}
 use Rattle.world.proofs.Worlds.{from-loaders}
 use Rattle.world.proofs.world.World.over.Goals as goal

@@ -1,5 +1,0 @@
-use Rattle.answer_laws.proofs.Documents.{text-read}
-use Rattle.answer_laws.proofs.law.texts_are_read.Goals as goal
-
-pub returns : goal.returns
-returns c = λ text. text-read text

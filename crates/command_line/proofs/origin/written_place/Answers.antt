@@ -1,5 +1,0 @@
-use Rattle.std.proofs.Common.{append_assoc}
-use Rattle.command_line.proofs.origin.written_place.Goals as goal
-
-pub returns : goal.returns
-returns c = simp append_assoc c.in_ok-format.ensures.ok

@@ -1,4 +1,0 @@
-pub mod Stops
-pub mod Command
-pub mod Words
-pub mod Origins

@@ -1,0 +1,6 @@
+use Rattle.example_totals.proofs.Elsewhere.{replied}
+use Rattle.example_totals.proofs.by_hand.reply_to.Goals as goal
+
+pub returns-then-is_known_elsewhere : goal.returns-then-is_known_elsewhere
+returns-then-is_known_elsewhere c =
+    replied c.args.loaders.now c.args.order c.requires c.answer_of.result c.reply_with.result c.reply_with.ensures.loader c.reply_with.ensures.keys c.reply_with.ensures.outcomes

@@ -1,0 +1,4 @@
+use Rattle.gq_check.proofs.checked.CheckedDocument.into_parts.Goals as goal
+
+pub returns-clause-valid : goal.returns-clause-valid
+returns-clause-valid c = rw (← c.self.view_is) c.self.invariant

@@ -1,4 +1,0 @@
-use Rattle.gq_check.proofs.kept.KeptDocument.operations.Goals as goal
-
-pub returns-clause-valid : goal.returns-clause-valid
-returns-clause-valid c = rw (← c.self.view_is) c.self.invariant

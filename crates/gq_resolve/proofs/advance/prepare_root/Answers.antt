@@ -1,0 +1,27 @@
+use Rattle.std.proofs.Common.{◌≡◌, ℕ, ◌∙◌, ap, sym, List}
+use Rattle.gq_parser.specs.declared.tree.SelectionSet.{SelectionSet}
+use Rattle.gq_parser.specs.declared.tree.Operation.{Operation}
+use Rattle.gq_parser.specs.Tree.{Selections, set_of, map_selections}
+use Rattle.gq_parser.proofs.Views.{of_set}
+use Rattle.schema_syntax.specs.declared.tree.Definition.{Definition}
+use Rattle.gq_schema.specs.Types.{tree_of, root_in}
+use Rattle.gq_check.specs.Plans.{PlanOf, plan_of}
+use Rattle.plan_program.specs.FieldValues.{all_prepared}
+use Rattle.plan_program.specs.Groups.{selections_in, collect}
+use Rattle.plan_program.specs.Prepared.{all_prepared_seen}
+use Rattle.plan_program.specs.PlanPrograms.{root_prepared}
+use Rattle.gq_resolve.proofs.Advancing.{begun-rooted}
+use Rattle.gq_resolve.proofs.advance.prepare_root.Goals as goal
+
+pub returns : goal.returns
+returns c =
+    let plan : PlanOf = plan_of c.args.walk.now.plan.now in
+    let set : SelectionSet = c.args.walk.now.plan.now.operation.selection_set in
+    let chosen : Selections = selections_in (set_of set) in
+    let ss : map_selections c.deref.result.now ≡ chosen =
+    ap map_selections (c.deref.ensures.value ∙ ap (λ (o : Operation). o.selection_set.selections.items) c.operation.ensures.same) ∙ sym (ap selections_in (of_set set.place set.selections)) in
+    let root : c.root-ty.result.now ≡ root_in plan.definitions = c.root-ty.ensures ∙ ap (λ (ds : List Definition). root_in (tree_of ds)) c.schema.ensures in
+    let ps : all_prepared_seen c.in_ok-all.all.items ≡ root_prepared plan =
+    c.in_ok-all.ensures ∙ ap (all_prepared plan c.root-ty.result.now) (c.in_ok-collected.ensures ∙ ap (collect plan c.root-ty.result.now) ss)
+    ∙ ap (λ (ty : List ℕ). all_prepared plan ty (collect plan ty chosen)) root in
+    begun-rooted plan _ c.new-groups.result.items c.new-groups.ensures.items (rw (← ps) c.in_ok-members.ensures)

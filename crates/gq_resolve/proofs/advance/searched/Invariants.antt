@@ -1,7 +1,0 @@
-use Rattle.gq_check.specs.Plans.{plan_of}
-use Rattle.gq_resolve.specs.Noted.{left_of_own}
-use Rattle.gq_resolve.proofs.Advancing.{AreResumed}
-use Rattle.gq_resolve.proofs.advance.searched.Given as goal
-
-abbrev pub invariant-loop-position : goal.invariant-loop-position
-invariant-loop-position l = AreResumed l.tour.most (plan_of l.tour.plan.now) l.tour.memory.now l.fn.waiting (left_of_own l.position-iterator) l.initial.at l.at

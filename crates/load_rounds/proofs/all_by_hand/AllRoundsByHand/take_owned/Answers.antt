@@ -1,0 +1,49 @@
+use Rattle.std.proofs.Common.{◌<◌, ◌≤◌, length, map, refl, arith}
+use Rattle.std.proofs.lemmas.List.{length-map}
+use Rattle.load_memory.specs.Replies.{ReplyOf, reply_of}
+use Rattle.load_memory.proofs.ReplyPairs.{All-of_map}
+use Rattle.execution.specs.Program.{Program}
+use Rattle.execution.specs.Rounds.{rule_of, may_at}
+use Rattle.load_rounds.specs.Histories.{any_tell}
+use Rattle.load_rounds.specs.Sessions.{state_of, rules_of, memory_of}
+use Rattle.load_rounds.specs.ByHand.{front_in}
+use Rattle.load_rounds.specs.SharedRounds.{requests, together}
+use Rattle.load_rounds.proofs.Growing.{received-grows}
+use Rattle.load_rounds.proofs.Runs.{received-below}
+use Rattle.load_rounds.proofs.SharedRunning.{run-taken, run-lost}
+use Rattle.load_rounds.proofs.States.{on-err}
+use Rattle.load_rounds.proofs.all_by_hand.AllRoundsByHand.take_owned.Goals as goal
+
+pub receive_owned-requires : goal.receive_owned-requires
+receive_owned-requires g c =
+    let s = state_of c.args.session.now in
+    let p : Program = together (requests g.P.Execute.program g.P.Execute.text_of c.args.self.now.plans) in
+    let most = length s.loaders in
+    let size : length (rules_of s) ≤ most = omega (arith, length-map s.loaders rule_of) in
+    All-of_map reply_of (λ (r : ReplyOf). r.loader < most) c.args.replies.items (received-below (may_at any_tell s.loaders) most (rules_of s) (front_in s p) (map reply_of c.args.replies.items) size c.requires.round)
+
+pub returns-in_err-receive_owned-clause-run : goal.returns-in_err-receive_owned-clause-run
+returns-in_err-receive_owned-clause-run g c = λ round begun out.
+    let was = rw (← c.self.view_is) at out in
+    let stage = rw (← c.self.view_is) at c.requires.out in
+    rw c.in_err-receive_owned.ensures.kept (run-lost g.P.Execute.program g.P.Execute.text_of g.P.Execute.loaders g.P.Execute.fits g.S.LocalSource.may_tell c.self.inside.plans.now begun (state_of c.args.session.now) c.self.inside.executions (rw stage at was))
+
+pub returns-clause-run : goal.returns-clause-run
+returns-clause-run g c = λ round begun out.
+    let s = state_of c.args.session.now in
+    let was = rw (← c.self.view_is) at out in
+    let stage = rw (← c.self.view_is) at c.requires.out in
+    let own = rw (← c.self.view_is) at round in
+    rw c.in_ok-receive_owned.ensures.received (run-taken g.P.Execute.program g.P.Execute.text_of g.P.Execute.loaders g.P.Execute.fits g.S.LocalSource.may_tell c.self.inside.plans.now begun s c.self.inside.executions (map reply_of c.args.replies.items) c.receive_owned.ensures.limited own (rw stage at was))
+
+pub returns-clause-fits : goal.returns-clause-fits
+returns-clause-fits g c = λ fits.
+    let grown = received-grows c.args.session.now c.receive_owned.new.self (map reply_of c.args.replies.items) c.in_ok-receive_owned.ensures.received in
+    let fit = rw (← c.self.view_is) at fits (memory_of c.receive_owned.new.self) grown in
+    record { plans = fit.plans; parts = fit.parts }
+
+pub returns-clause-ready : goal.returns-clause-ready
+returns-clause-ready g c = rw (← c.self.view_is) refl
+
+pub returns-in_err-receive_owned-clause-failed : goal.returns-in_err-receive_owned-clause-failed
+returns-in_err-receive_owned-clause-failed g c = rw (← c.self.view_is) (on-err c.from_residual.result refl)

@@ -1,0 +1,102 @@
+use Rattle.std.proofs.Common.{◌≡◌, ◌+◌, ap, refl, inl, inr}
+use Rattle.std.specs.Prelude.{string_bytes}
+use Rattle.load_memory.proofs.LoaderMemoryLaws.{SomeIff-at}
+use Rattle.execution.specs.Program.{Program}
+use Rattle.load_rounds.specs.declared.by_hand.Stage.TheVariants.{Out}
+use Rattle.load_rounds.specs.Sessions.{state_of, memory_of}
+use Rattle.load_rounds.specs.ByHand.{run_of, front_in, IsRound}
+use Rattle.load_rounds.proofs.Growing.{lost-grows, grows-trans}
+use Rattle.load_rounds.proofs.Runs.{round-counted, between-answers, between-out, between-stops}
+use Rattle.load_rounds.proofs.States.{on-err}
+use Rattle.load_rounds.proofs.by_hand.RoundsByHand.resume.Goals as goal
+
+pub execute-requires : goal.execute-requires
+execute-requires g c =
+    let enough = rw (← c.self.view_is) at c.requires.loaders in
+    let fits = rw (← c.self.view_is) at c.requires.fits in
+    λ κs. ((refl, tt), (enough, fits))
+
+pub returns-in-Ready-clause-answer : goal.returns-in-Ready-clause-answer
+returns-in-Ready-clause-answer g c = λ begun between.
+    let s = state_of c.args.session.now in
+    let plan = c.self.inside.plan.now in
+    let enough = rw (← c.self.view_is) at c.requires.loaders in
+    let was = rw (← c.self.view_is) at between in
+    let done = rw c.in-Ready.is at c.in_ok-text.ensures.found in
+    rw (← c.self.view_is)
+    (between-answers g.S.LocalSource.may_tell (g.P.Execute.program plan) begun s c.self.inside.rounds (g.P.Execute.loaders plan) (g.P.Execute.text_of plan) (string_bytes c.in-Ready.text) was c.execute.ensures.limited c.in_ok-text.ensures.within enough done.0 done.1)
+
+pub cut-requires : goal.cut-requires
+cut-requires g c = let lacks = rw c.in-Missing.is at c.in_ok-text.ensures.found in lacks.1
+
+pub returns-in_err-orders-in-Missing-clause-lost : goal.returns-in_err-orders-in-Missing-clause-lost
+returns-in_err-orders-in-Missing-clause-lost g c =
+    let s = state_of c.args.session.now in
+    let p : Program = g.P.Execute.program c.self.inside.plan.now in
+    let lacks = rw c.in-Missing.is at c.in_ok-text.ensures.found in
+    rw (← c.self.view_is) (on-err c.from_residual-in_err-orders-in-Missing.result (inr (c.in_err-orders-in-Missing.ensures.lost (front_in s p) lacks.2)))
+
+pub returns-in_err-orders-in-Missing-clause-run : goal.returns-in_err-orders-in-Missing-clause-run
+returns-in_err-orders-in-Missing-clause-run g c = λ begun between.
+    let s = state_of c.args.session.now in
+    let p : Program = g.P.Execute.program c.self.inside.plan.now in
+    let was = rw (← c.self.view_is) at between in
+    let lacks = rw c.in-Missing.is at c.in_ok-text.ensures.found in
+    rw (← c.self.view_is) (between-stops g.S.LocalSource.may_tell p begun s (state_of c.cut.new.self) c.self.inside.rounds was (inr (c.in_err-orders-in-Missing.ensures.lost (front_in s p) lacks.2)))
+
+pub returns-in_ok-orders-in-Missing-clause-next : goal.returns-in_ok-orders-in-Missing-clause-next
+returns-in_ok-orders-in-Missing-clause-next g c =
+    let s = state_of c.args.session.now in
+    let plan = c.self.inside.plan.now in
+    let p : Program = g.P.Execute.program plan in
+    let enough = rw (← c.self.view_is) at c.requires.loaders in
+    let lacks = rw c.in-Missing.is at c.in_ok-text.ensures.found in
+    let next : c.in_ok-rounds-in-Missing.rounds ≡ c.self.inside.rounds + 1 = SomeIff-at c.checked_add.result _ _ _ c.in_ok-rounds-in-Missing.ensures.ok_part c.checked_add.ensures in
+    let entered = c.in_ok-orders-in-Missing.ensures.entered (front_in s p) lacks.2 in
+    let round : IsRound p s (state_of c.cut.new.self) c.in_ok-orders-in-Missing.orders.items = record {
+      lacks = lacks.0;
+      batches = c.in_ok-orders-in-Missing.ensures.orders (front_in s p) lacks.2;
+      entered = entered;
+      counted = round-counted s (state_of c.cut.new.self) p (g.P.Execute.loaders plan) c.in_ok-text.ensures.within enough lacks.0 entered;
+      numbered = c.in_ok-orders-in-Missing.ensures.numbered;
+    } in
+    rw (← c.self.view_is) (round, ap (λ n. run_of plan n Out) next)
+
+pub returns-in_ok-orders-in-Missing-clause-run : goal.returns-in_ok-orders-in-Missing-clause-run
+returns-in_ok-orders-in-Missing-clause-run g c = λ begun between.
+    let s = state_of c.args.session.now in
+    let plan = c.self.inside.plan.now in
+    let p : Program = g.P.Execute.program plan in
+    let enough = rw (← c.self.view_is) at c.requires.loaders in
+    let was = rw (← c.self.view_is) at between in
+    let lacks = rw c.in-Missing.is at c.in_ok-text.ensures.found in
+    let next : c.in_ok-rounds-in-Missing.rounds ≡ c.self.inside.rounds + 1 = SomeIff-at c.checked_add.result _ _ _ c.in_ok-rounds-in-Missing.ensures.ok_part c.checked_add.ensures in
+    let entered = c.in_ok-orders-in-Missing.ensures.entered (front_in s p) lacks.2 in
+    rw (← c.self.view_is)
+    (between-out g.S.LocalSource.may_tell p begun s (state_of c.cut.new.self) c.self.inside.rounds c.in_ok-rounds-in-Missing.rounds (g.P.Execute.loaders plan) was next c.in_ok-orders-in-Missing.ensures.numbered c.in_ok-text.ensures.within enough lacks.0 entered)
+
+pub returns-in_ok-orders-in-Missing-clause-fits : goal.returns-in_ok-orders-in-Missing-clause-fits
+returns-in_ok-orders-in-Missing-clause-fits g c = λ later grown.
+    let p : Program = g.P.Execute.program c.self.inside.plan.now in
+    let s = c.args.session.now in
+    let t = c.cut.new.self in
+    let lacks = rw c.in-Missing.is at c.in_ok-text.ensures.found in
+    let asked = lost-grows s t (front_in (state_of s) p) (c.in_ok-orders-in-Missing.ensures.entered (front_in (state_of s) p) lacks.2) in
+    rw (← c.self.view_is) (c.in_ok-text.ensures.fits later (grows-trans (memory_of s) (memory_of t) later asked grown))
+
+pub returns-in-Ready-clause-fits : goal.returns-in-Ready-clause-fits
+returns-in-Ready-clause-fits g c = rw (← c.self.view_is) c.in_ok-text.ensures.fits
+
+pub returns-in_err-text-clause-run : goal.returns-in_err-text-clause-run
+returns-in_err-text-clause-run g c = λ begun between.
+    let s = state_of c.args.session.now in
+    let p : Program = g.P.Execute.program c.self.inside.plan.now in
+    let was = rw (← c.self.view_is) at between in
+    rw (← c.self.view_is) (between-stops g.S.LocalSource.may_tell p begun s s c.self.inside.rounds was (inl refl))
+
+pub returns-in_err-rounds-in-Missing-clause-run : goal.returns-in_err-rounds-in-Missing-clause-run
+returns-in_err-rounds-in-Missing-clause-run g c = λ begun between.
+    let s = state_of c.args.session.now in
+    let p : Program = g.P.Execute.program c.self.inside.plan.now in
+    let was = rw (← c.self.view_is) at between in
+    rw (← c.self.view_is) (between-stops g.S.LocalSource.may_tell p begun s s c.self.inside.rounds was (inl refl))

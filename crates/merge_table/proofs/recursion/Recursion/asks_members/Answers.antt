@@ -1,7 +1,0 @@
-use Rattle.std.proofs.Common.{◌∙◌}
-use Rattle.merge_table.specs.Numbered.{may_meet}
-use Rattle.merge_table.proofs.TableLaws.{test_at-read}
-use Rattle.merge_table.proofs.recursion.Recursion.asks_members.Goals as goal
-
-pub returns-in-Merge : goal.returns-in-Merge
-returns-in-Merge c = rw c.in-Merge.is (c.may_meet.ensures ∙ test_at-read may_meet c.args.self.now.fields.now c.args.a c.args.b c.index-self-a.result c.index-self-b.result c.requires.a c.requires.b)

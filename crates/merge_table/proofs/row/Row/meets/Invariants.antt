@@ -1,6 +1,0 @@
-use Rattle.std.proofs.Common.{◌≡◌, ◌<◌, ℕ, get_or}
-use Rattle.std.specs.Prelude.{bit_and}
-use Rattle.merge_table.proofs.row.Row.meets.Given as goal
-
-abbrev pub invariant-loop-k : goal.invariant-loop-k
-invariant-loop-k l = (j : ℕ) → j < l.k → bit_and (get_or l.self-inside.words j 0) (get_or l.other-inside.words j 0) ≡ 0

@@ -1,5 +1,0 @@
-use Rattle.merge_table.proofs.ClashLaws.{tested-clash}
-use Rattle.merge_table.proofs.sets.Reached.has_clash.Goals as goal
-
-pub returns : goal.returns
-returns c = λ rows ms is. tested-clash rows ms c.args.self.now c.meets.result is c.meets.ensures

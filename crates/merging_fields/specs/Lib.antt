@@ -1,0 +1,11 @@
+pub mod Acyclic
+pub mod Agreeing
+pub mod Attributes
+pub mod Compare
+pub mod Knowledge
+pub mod Members
+pub mod Numbered
+pub mod Orders
+pub mod FieldSelectionMerging
+pub mod Reports
+pub mod Selected

@@ -1,0 +1,4 @@
+pub mod Servers
+pub mod Requests
+pub mod DocumentCaches
+pub mod Planning

@@ -1,0 +1,108 @@
+-- Definitions of what requests ask of a server: their plans, and the texts that refuse the others.
+use Rattle.std.specs.Prelude.{◌≡◌, ℕ, false, List, [], ◌∷◌, ◌++◌, map, Option, Some, None, option_map, codes, string_bytes}
+use Rattle.text_place.specs.declared.place.Place.{Place}
+use Rattle.serde_json.specs.Data.{Data, null}
+use Rattle.gq_schema.specs.Types.{tree_of}
+use Rattle.gq_check.specs.Plans.{PlanOf, plan_of}
+use Rattle.answer_json.specs.Answer.{json_text, refusal_json}
+use Rattle.request_line.specs.Requests.{RequestOf, IsRequest, IsNoRequest}
+use Rattle.plan_requests.specs.declared.fault.RequestFault.{RequestFault}
+use Rattle.plan_requests.specs.declared.plans.ArrayPlan.{ArrayPlan}
+use Rattle.plan_requests.specs.declared.plans.RequestPlan.{RequestPlan}
+use Rattle.plan_requests.specs.declared.plans.RequestPlan.TheVariants as request_plan
+use Rattle.plan_requests.specs.Requests.{IsPlanOf, IsRequestFault, is_want_of_memory, request_message, request_place}
+use Rattle.plan_requests.specs.Servers.{ServerOf}
+
+-- ---- one request
+
+-- variables that aren't given are null, as where none have values
+abbrev pub values_of : Option Data → Data
+values_of None = null
+values_of (Some d) = d
+
+-- the plan of a request over a server
+pub record IsPlanned (s : ServerOf) (request : RequestOf) (plan : PlanOf) : Type 0 where
+  pub definitions : plan.definitions ≡ tree_of s.definitions
+  pub bindings : plan.bindings ≡ s.bindings
+  pub planned : IsPlanOf (tree_of s.definitions) request.query request.operation_name (values_of request.variables) plan
+
+-- the first fault of a request over a server; that memory ran out is none
+pub record IsFaulty (s : ServerOf) (request : RequestOf) (fault : RequestFault) : Type 0 where
+  pub reported : is_want_of_memory fault ≡ false
+  pub faulty : IsRequestFault (tree_of s.definitions) request.query request.operation_name (values_of request.variables) fault
+
+abbrev pub refusal_text : List ℕ → Option Place → List ℕ
+refusal_text message place = json_text (refusal_json message place)
+
+-- the text refuses a request that has this fault; that memory ran out is none
+abbrev pub RefusesFault : RequestFault → List ℕ → Type 0
+RefusesFault fault text = (is_want_of_memory fault ≡ false)
+    × (text ≡ refusal_text (request_message fault) (request_place fault))
+
+-- gives what is answered where there is no request
+abbrev pub not_a_request : List ℕ
+not_a_request = refusal_text (codes "not a request") None
+
+-- the text refuses a request over a server: it is that of the first fault, with its message and its place
+pub record IsRefusal (s : ServerOf) (request : RequestOf) (text : List ℕ) : Type 0 where
+  pub fault : RequestFault
+  pub faulty : IsFaulty s request fault
+  pub report : text ≡ refusal_text (request_message fault) (request_place fault)
+
+-- a request is refused by this text, or has this plan
+abbrev pub PlansRequest : ServerOf → RequestOf → RequestPlan → Type 0
+PlansRequest s asked (request_plan.Refused text) = IsRefusal s asked (string_bytes text)
+PlansRequest s asked (request_plan.Planned plan) = IsPlanned s asked (plan_of plan)
+
+-- ---- the values of an array
+
+-- the text refuses a value, which is no request or has a first fault
+abbrev pub IsRefused : ServerOf → Option RequestOf → List ℕ → Type 0
+IsRefused s None text = text ≡ not_a_request
+IsRefused s (Some request) text = IsRefusal s request text
+
+-- a value is a request that has this plan
+abbrev pub HasPlan : ServerOf → Option RequestOf → PlanOf → Type 0
+HasPlan s None plan = ⊥
+HasPlan s (Some request) plan = IsPlanned s request plan
+
+-- a value of an array is refused by this text, or has this plan
+abbrev pub PlansValue : ServerOf → Option RequestOf → RequestPlan → Type 0
+PlansValue s value (request_plan.Refused text) = IsRefused s value (string_bytes text)
+PlansValue s value (request_plan.Planned plan) = HasPlan s value (plan_of plan)
+
+-- the refusals of values, each in its place
+abbrev pub refusals_of : ArrayPlan → List (Option (List ℕ))
+refusals_of array = map (option_map string_bytes) array.refusals.items
+
+abbrev pub plans_of : ArrayPlan → List PlanOf
+plans_of array = map plan_of array.plans.items
+
+-- each value has its refusal, or none and the next plan
+abbrev pub PlanValues : ServerOf → List (Option RequestOf)
+    → List (Option (List ℕ)) → List PlanOf → Type 0
+PlanValues s [] [] [] = Unit {0}
+PlanValues s [] [] (plan ∷ plans) = ⊥
+PlanValues s [] (refusal ∷ refusals) plans = ⊥
+PlanValues s (value ∷ values) [] plans = ⊥
+PlanValues s (value ∷ values) (Some text ∷ refusals) plans = IsRefused s value text
+    × PlanValues s values refusals plans
+PlanValues s (value ∷ values) (None ∷ refusals) [] = ⊥
+PlanValues s (value ∷ values) (None ∷ refusals) (plan ∷ plans) = HasPlan s value plan
+    × PlanValues s values refusals plans
+
+abbrev pub PlansArray : ServerOf → List (Option RequestOf) → ArrayPlan → Type 0
+PlansArray s values array = PlanValues s values (refusals_of array) (plans_of array)
+
+-- one value more has its refusal or its plan
+abbrev pub AddsPlan : ArrayPlan → RequestPlan → ArrayPlan → Type 0
+AddsPlan old plan new = (s : ServerOf) (values : List (Option RequestOf)) (value : Option RequestOf)
+    → PlansArray s values old → PlansValue s value plan
+    → PlansArray s (values ++ value ∷ []) new
+
+-- ---- lines
+
+-- the text refuses a line, which is no request or is one that has a first fault
+pub data IsLineRefused (s : ServerOf) (line text : List ℕ) : Type 0 where
+  no_request : IsNoRequest line → text ≡ not_a_request → IsLineRefused s line text
+  request : {r : RequestOf} → IsRequest line r → IsRefusal s r text → IsLineRefused s line text

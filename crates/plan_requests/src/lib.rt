@@ -1,0 +1,23 @@
+//! A server, which is a schema with how its fields are answered, and what requests ask of it.
+//!
+//! The layer above may rely on this: [`Server::read`] makes a server exactly where both texts are accepted, and reports the
+//! first fault otherwise (`specs/Servers.antt`). [`Server::plan`] returns the plan of a query, or its first fault
+//! (`specs/Requests.antt`). [`DocumentCache`] plans requests in two steps: [`keep`](DocumentCache::keep) keeps the document of a
+//! valid query by its text, and leaves the server as it is; [`plan`](DocumentCache::plan) returns what the request asks, its plan
+//! or the text that refuses it (`specs/Planning.antt`), and so does [`plan_each`](DocumentCache::plan_each) for the values of an
+//! array, each in its place. What is kept changes no plan and no refusal. Nothing here loads, so a server needs no tables.
+#![tactic(auto)]
+
+mod document_cache;
+mod fault;
+mod planning;
+mod plans;
+mod refusal;
+mod server;
+
+pub use document_cache::DocumentCache;
+pub use fault::RequestFault;
+pub use plans::{ArrayPlan, RequestPlan};
+pub use refusal::not_a_request;
+pub use request_line::Request;
+pub use server::Server;

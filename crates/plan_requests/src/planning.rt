@@ -1,0 +1,112 @@
+//! Plans of requests, by the kept documents of their queries.
+
+ghost use Rattle.std.specs.Prelude.{◌≡◌, ◌≤◌, ℕ, List, IfOk, IfSome, IfNone, length, option_map, string_bytes};
+ghost use Rattle.std.specs.List.{Contains};
+ghost use Rattle.request_line.specs.Seen.{request_of, requests_of};
+ghost use Rattle.plan_requests.specs.DocumentCaches.{longest, AreBounded, HasRoom};
+ghost use Rattle.plan_requests.specs.Planning.{IsRefusal, PlansRequest, PlansValue, PlansArray};
+
+use crate::document_cache::DocumentCache;
+use crate::plans::{ArrayPlan, RequestPlan};
+use crate::refusal::{not_a_request, refusal};
+use request_line::Request;
+use serde_json::Value;
+use std::alloc::{AllocError, Global};
+
+impl DocumentCache {
+    /// Keeps the document of a request's query, unless it is kept already or longer than any that is kept. Returns the text
+    /// that refuses the request where its query is no valid document.
+    ///
+    /// # Errors
+    ///
+    /// Only when out of memory. All documents may have been let go by then.
+    pub fn keep(
+        &mut self,
+        alloc: Global,
+        request: &Request<'_>,
+    ) -> Result<Option<String>, AllocError>
+        ensures server { self.new.server ≡ self.old.server }
+        ensures refused { IfOk result (λ refusal. IfSome refusal (λ text.
+            IsRefusal self.old.server (request_of request.now) (string_bytes text))) }
+        ensures kept { IfOk result (λ refusal. IfNone refusal (length request.now.query.now
+            ≤ longest → Contains self.new.texts request.now.query.now)) }
+        // While there is room, no text is let go.
+        ensures stay { HasRoom self.old.texts request.now.query.now → (text : List ℕ)
+            → Contains self.old.texts text → Contains self.new.texts text }
+        ensures bounded { AreBounded self.new.texts }
+    {
+        match self.cache_query(alloc, request.query) {
+            Ok(()) => Ok(None),
+            Err(fault) => Ok(Some(refusal(alloc, &fault)?)),
+        }
+    }
+
+    /// Keeps the documents of an array's requests, as far as there is room. What is wrong with one is found when it is planned.
+    pub fn cache_each(&mut self, alloc: Global, values: &[Option<Request<'_>>])
+        ensures { self.new.server ≡ self.old.server }
+    {
+        for value in values {
+            if let Some(request) = value {
+                let _ = self.cache_query(alloc, request.query);
+            }
+        }
+    }
+
+    /// Returns what a request asks. If the document of its query is kept, its plan shares it, and nothing is parsed. That
+    /// changes neither the plan nor the refusal.
+    ///
+    /// # Errors
+    ///
+    /// Only when out of memory.
+    pub fn plan(&self, alloc: Global, request: &Request<'_>) -> Result<RequestPlan, AllocError>
+        ensures { IfOk result (PlansRequest self.now.server (request_of request.now)) }
+    {
+        let none = Value::Null;
+        let values = request.variables.unwrap_or(&none);
+        match self.plan_query(alloc, request.query, request.operation_name, values) {
+            Ok(plan) => Ok(RequestPlan::Planned(plan)),
+            Err(fault) => match refusal(alloc, &fault) {
+                Ok(text) => Ok(RequestPlan::Refused(text)),
+                Err(_) => Err(AllocError),
+            },
+        }
+    }
+
+    // Returns what a value of an array asks.
+    fn plan_value(
+        &self,
+        alloc: Global,
+        value: &Option<Request<'_>>,
+    ) -> Result<RequestPlan, AllocError>
+        ensures { IfOk result (PlansValue self.now.server (option_map request_of value.now)) }
+    {
+        match value {
+            Some(request) => self.plan(alloc, request),
+            None => Ok(RequestPlan::Refused(not_a_request(alloc)?)),
+        }
+    }
+
+    /// Returns what the values of an array ask, each as [`plan`](DocumentCache::plan) returns it. A value that is no request is
+    /// refused.
+    ///
+    /// # Errors
+    ///
+    /// Only when out of memory.
+    pub fn plan_each(
+        &self,
+        alloc: Global,
+        values: &[Option<Request<'_>>],
+    ) -> Result<ArrayPlan, AllocError>
+        ensures { IfOk result (PlansArray self.now.server (requests_of values.now)) }
+    {
+        let mut array = ArrayPlan::new(alloc);
+        for value in values {
+            let plan = match self.plan_value(alloc, value) {
+                Ok(plan) => plan,
+                Err(_) => return Err(AllocError),
+            };
+            array.push(plan)?;
+        }
+        Ok(array)
+    }
+}

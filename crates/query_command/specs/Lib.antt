@@ -1,0 +1,4 @@
+pub mod RunEnds
+pub mod Command
+pub mod Words
+pub mod Origins

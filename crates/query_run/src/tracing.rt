@@ -1,0 +1,108 @@
+//! Serving the lines of a run with a trace.
+
+ghost use Rattle.std.specs.Prelude.{None};
+ghost use Rattle.server_lines.specs.Devices.{devices};
+ghost use Rattle.query_run.specs.Tracing.{TracesFor, TracesService};
+
+use crate::context::RunContext;
+use query_command::RunEnd;
+use server::Workers;
+use server_lines::{CountedDevice, ServeFault};
+use server_traces::{TracedClient, serve_traced, serve_traced_with};
+use std::alloc::Global;
+use std::io::{Read, Write};
+use std::sync::Wait;
+use std::thread::Threads;
+use world_answers::{Gate, GatedSource, Service};
+
+// Serves and traces the lines of a reader for a client, on this thread.
+fn trace_in_turn<G: Gate, I: Read, W: Write, T: Write>(
+    alloc: Global,
+    traced: &mut TracedClient<GatedSource<'_, G>, T>,
+    reader: &mut CountedDevice<I>,
+    writer: &mut CountedDevice<W>,
+) -> RunEnd
+    ensures { TracesFor None T.contents traced.old traced.new
+        (devices I.remaining W.contents reader.old reader.new writer.old writer.new) result }
+{
+    match serve_traced(alloc, traced, reader, writer) {
+        Ok(_) => RunEnd::Served,
+        Err(fault) => RunEnd::Serve(fault),
+    }
+}
+
+// Serves and traces the lines of a reader for a client, by workers.
+fn trace_by_workers<R: Threads + Wait + AllocGlobal + Sync, G: Gate, I: Read, W: Write, T: Write>(
+    rt: &R,
+    workers: &Workers<'_, R>,
+    traced: &mut TracedClient<GatedSource<'_, G>, T>,
+    reader: &mut CountedDevice<I>,
+    writer: &mut CountedDevice<W>,
+) -> RunEnd
+    ensures { TracesFor None T.contents traced.old traced.new
+        (devices I.remaining W.contents reader.old reader.new writer.old writer.new) result }
+{
+    match serve_traced_with(rt.alloc(), traced, workers, reader, writer) {
+        Ok(_) => RunEnd::Served,
+        Err(fault) => RunEnd::Serve(fault),
+    }
+}
+
+// Serves and traces the lines of a reader for a client, with workers where their number is given.
+fn trace_lines<R: Threads + Wait + AllocGlobal + Sync, G: Gate, I: Read, W: Write, T: Write>(
+    rt: &R,
+    workers: Option<u32>,
+    traced: &mut TracedClient<GatedSource<'_, G>, T>,
+    reader: &mut CountedDevice<I>,
+    writer: &mut CountedDevice<W>,
+) -> RunEnd
+    ensures { TracesFor workers T.contents traced.old traced.new
+        (devices I.remaining W.contents reader.old reader.new writer.old writer.new) result }
+{
+    let Some(count) = workers else {
+        return trace_in_turn(rt.alloc(), traced, reader, writer);
+    };
+    match Workers::new(rt, count as usize) {
+        Ok(workers) => trace_by_workers(rt, &workers, traced, reader, writer),
+        Err(_) => RunEnd::Serve(ServeFault::BadCount),
+    }
+}
+
+/// Says how serving with a trace ended, and the device of the trace.
+#[derive(Drop)]
+pub struct TracedRun<T> {
+    pub stop: RunEnd,
+    pub trace: CountedDevice<T>,
+}
+
+/// Serves the lines of a reader for a new client of a service, and traces them to a device.
+pub fn trace_service<
+    R: Threads + Wait + AllocGlobal + Sync,
+    G: Gate + Copy,
+    I: Read,
+    W: Write,
+    T: Write,
+>(
+    run: &RunContext<'_, R, G>,
+    service: &Service<'_>,
+    trace: CountedDevice<T>,
+    reader: &mut CountedDevice<I>,
+    writer: &mut CountedDevice<W>,
+) -> TracedRun<T>
+    ensures { TracesService T.contents run.now service.now trace
+        (devices I.remaining W.contents reader.old reader.new writer.old writer.new) result }
+{
+    let client = match service.client(run.rt.alloc(), run.gate) {
+        Ok(client) => client,
+        Err(_) => {
+            return TracedRun {
+                stop: RunEnd::Serve(ServeFault::NoMemory),
+                trace,
+            };
+        }
+    };
+    let mut traced = TracedClient::new(run.rt.alloc(), client, trace);
+    let stop = trace_lines(run.rt, run.words.workers, &mut traced, reader, writer);
+    let (_, trace) = traced.into_parts();
+    TracedRun { stop, trace }
+}

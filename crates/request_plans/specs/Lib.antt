@@ -1,4 +1,0 @@
-pub mod Servers
-pub mod Requests
-pub mod Keeping
-pub mod Planning

@@ -1,0 +1,9 @@
+pub mod ReachLaws
+pub mod RowLaws
+pub mod WalkLaws
+pub mod RankLaws
+pub mod LevelLaws
+pub mod SpanLaws
+pub mod ReacherLaws
+pub mod MissingLaws
+pub mod GrowLaws

@@ -1,0 +1,12 @@
+pub mod Graphs
+pub mod Rows
+pub mod Reach
+pub mod SpreadReaches
+pub mod Ranks
+pub mod Levels
+pub mod Known
+pub mod Tables
+pub mod Rules
+pub mod OperationSpans
+pub mod Operations
+pub mod OwnerLists

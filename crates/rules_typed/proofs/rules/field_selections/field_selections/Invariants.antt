@@ -1,0 +1,11 @@
+use Rattle.std.proofs.Common.{◌≡◌, drop, fold, map}
+use Rattle.std.specs.Prelude.{filter_map}
+use Rattle.std.specs.Option.{option_map}
+use Rattle.rules_parts.specs.Broken.{broken_of, with_broken, earliest}
+use Rattle.rules_parts.specs.Parts.{field_part_of, parts_in}
+use Rattle.rules_typed.specs.FieldSelections.{unknown_field, field_selections}
+use Rattle.rules_typed.proofs.rules.field_selections.field_selections.Given as goal
+
+abbrev pub invariant-loop-part : goal.invariant-loop-part
+invariant-loop-part l =
+    fold with_broken (option_map broken_of l.earliest.found) (filter_map unknown_field (map field_part_of (drop l.part-index l.parts.fields.items))) ≡ earliest (field_selections (parts_in l.parts))

@@ -1,0 +1,12 @@
+use Rattle.std.proofs.Common.{◌≡◌, map, drop}
+use Rattle.std.specs.List.{filter}
+use Rattle.gq_parser.specs.Tree.{directive_of}
+use Rattle.rules_untyped.specs.Scans.{with_all}
+use Rattle.rules_untyped.specs.Named.{named_directive}
+use Rattle.rules_untyped.specs.DirectivesAreDefined.{is_defined}
+use Rattle.rules_untyped.proofs.rules.directives_are_in_valid_locations.add_misplaced.Given as goal
+
+abbrev pub invariant-loop-directive : goal.invariant-loop-directive
+invariant-loop-directive l =
+    with_all l.earliest (map named_directive (filter is_defined (map directive_of (drop l.directive-index l.directive-items))))
+    ≡ with_all l.initial.earliest (map named_directive (filter is_defined (map directive_of l.directive-items)))

@@ -1,0 +1,22 @@
+-- Definitions, a file for each rule. Named and Repeated are shared; no public clause cites Scans, VariableUseIndex, UseRows and SpanSteps.
+pub mod Named
+pub mod Repeated
+pub mod Scans
+pub mod OperationNameUniqueness
+pub mod LoneAnonymousOperation
+pub mod ArgumentUniqueness
+pub mod FragmentNameUniqueness
+pub mod FragmentsMustBeUsed
+pub mod FragmentSpreadTargetDefined
+pub mod DirectivesAreDefined
+pub mod DirectivesAreInValidLocations
+pub mod DirectivesAreUniquePerLocation
+pub mod VariableUniqueness
+pub mod NotServed
+pub mod TooComplex
+pub mod VariableReach
+pub mod AllVariableUsesDefined
+pub mod AllVariablesUsed
+pub mod VariableUseIndex
+pub mod UseRows
+pub mod SpanSteps

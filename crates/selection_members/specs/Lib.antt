@@ -1,8 +1,0 @@
-pub mod Fragments
-pub mod Knowledge
-pub mod Meeting
-pub mod Members
-pub mod Placed
-pub mod Ranked
-pub mod Walks
-pub mod Written

@@ -1,0 +1,378 @@
+-- Steps of the loops over lines.
+use Rattle.std.proofs.Common.{subst, inl, inr, ne_eqb, cond, ◌≡◌, ◌≢◌, ◌⊎◌, ℕ, ◌+◌, ◌<◌, ◌≤◌, List, [], ◌∷◌, ◌++◌, length, take, refl, sym, ap, ◌∙◌, append_assoc, append-nil, arith, length-append}
+use Rattle.std.specs.Prelude.{Option, Some, None}
+use Rattle.std.specs.Io.KnownBytes.{Appends, Consumes, Keeps, IsAtEnd}
+use Rattle.std.specs.List.{All, flat_map}
+use Rattle.std.proofs.lemmas.List.{flat_map_more}
+use Rattle.std.proofs.lemmas.Grind.{common_steps}
+use Rattle.std.proofs.lemmas.List.Concat.{flat_map-append}
+use Rattle.std.proofs.lemmas.List.Elements.{All-nil, All-cons, All-head, All-tail, All-append, All-push}
+use Rattle.server_lines.specs.Answering.{AnsweringOf, AreAnswers, FrontOf, IsNext, IsStopped, MayStop, StopsOne, StopsNext, WithAnswer, WithAnswers}
+use Rattle.server_lines.specs.Lines.{HasNoLineFeed, IsLine, Splits, ended, line_feed, limit, input_lines, last_of, on_first}
+use Rattle.server_lines.specs.Output.{Sends, IsCut}
+use Rattle.server_lines.specs.Serving.{block_size, IsUnanswered, StartsLong, AtFault, Stopped, IsAnswered, Fails}
+use Rattle.server_lines.specs.declared.fault.ServeFault.{ServeFault}
+use Rattle.server_lines.specs.declared.fault.ServeFault.TheVariants as fault
+use Rattle.server_lines.specs.declared.fault.LineFault.{LineFault}
+use Rattle.server_lines.specs.declared.fault.LineFault.TheVariants as at
+use Rattle.server_lines.proofs.Known.{sends_kept, consumes_none, consumes_trans, sends_same, sends_trans, cut_sends, cut_same, same_text, appends_trans, cut_after}
+
+pub is_line : (held line : List ℕ) → IsLine held → HasNoLineFeed line → length (held ++ line) ≤ limit → IsLine (held ++ line)
+is_line held line h k short = record { one = All-append (λ b. b ≢ line_feed) held line h.one k; short = short }
+
+pub one_more : (text held line after rest : List ℕ) (lines : List (List ℕ)) → rest ≡ line ++ line_feed ∷ after → text ≡ flat_map ended lines ++ (held ++ rest)
+    → text ≡ flat_map ended (lines ++ (held ++ line) ∷ []) ++ after
+one_more text held line after rest lines cut whole =
+    whole
+    ∙ ap (λ l. flat_map ended lines ++ (held ++ l)) cut
+    ∙ ap (λ l. flat_map ended lines ++ l) (sym (append_assoc held line (line_feed ∷ after)))
+    ∙ ap (λ l. flat_map ended lines ++ l) (sym (append_assoc (held ++ line) (line_feed ∷ []) after))
+    ∙ sym (append_assoc (flat_map ended lines) (ended (held ++ line)) after)
+    ∙ ap (λ l. l ++ after) (flat_map_more ended [] lines (held ++ line))
+
+pub sends_nothing : (a b c : Option (List ℕ)) (p q r xs : List ℕ) → Sends a p b q xs → Sends b q c r [] → Sends a p c r xs
+sends_nothing a b c p q r xs h k = sends_same a c p r _ _ (sends_trans a b c p q r _ _ h k) (append-nil xs)
+
+-- the held part of a line, and the rest of a block
+pub behind : (held rest : List ℕ) → IsLine held → length rest ≤ block_size → IsUnanswered (held ++ rest)
+behind held rest is few = record { front = held; block = rest; whole = refl; one = is.one; few = few }
+
+pub behind_line : (line : List ℕ) → IsLine line → IsUnanswered line
+behind_line line is = record { front = line; block = []; whole = sym (append-nil line); one = is.one; few = omega arith }
+
+pub count_more : (n : ℕ) (lines : List (List ℕ)) (line : List ℕ) → n ≡ length lines → n + 1 ≡ length (lines ++ line ∷ [])
+count_more n lines line e = omega (arith, length-append lines (line ∷ []), e)
+
+pub no_line : IsLine []
+no_line = record { one = All-nil (λ b. b ≢ line_feed); short = omega arith }
+
+lines_of_line : (line rest : List ℕ) → HasNoLineFeed line → input_lines (ended line ++ rest) ≡ line ∷ input_lines rest
+lines_of_line [] rest h = refl
+lines_of_line (b ∷ bs) rest h =
+    ap (λ t. cond t ([] ∷ input_lines (ended bs ++ rest)) (on_first b (input_lines (ended bs ++ rest)))) (ne_eqb b line_feed (All-head (λ x. x ≢ line_feed) b bs h))
+    ∙ ap (on_first b) (lines_of_line bs rest (All-tail (λ x. x ≢ line_feed) b bs h))
+
+lines_of_last : (last : List ℕ) → HasNoLineFeed last → input_lines last ≡ last_of last
+lines_of_last [] h = refl
+lines_of_last (b ∷ bs) h =
+    ap (λ t. cond t ([] ∷ input_lines bs) (on_first b (input_lines bs))) (ne_eqb b line_feed (All-head (λ x. x ≢ line_feed) b bs h))
+    ∙ ap (on_first b) (lines_of_last bs (All-tail (λ x. x ≢ line_feed) b bs h)) ∙ joined bs
+  where
+    joined : (bs : List ℕ) → on_first b (last_of bs) ≡ (b ∷ bs) ∷ []
+    joined [] = refl
+    joined (c ∷ cs) = refl
+
+-- the lines of whole lines and a last one
+pub lines_split : (lines : List (List ℕ)) (last : List ℕ) → All IsLine lines → HasNoLineFeed last → input_lines (flat_map ended lines ++ last) ≡ lines ++ last_of last
+lines_split [] last h k = lines_of_last last k
+lines_split (line ∷ lines) last h k =
+    ap input_lines (append_assoc (ended line) (flat_map ended lines) last)
+    ∙ lines_of_line line (flat_map ended lines ++ last) (All-head IsLine line lines h).one
+    ∙ ap (λ l. line ∷ l) (lines_split lines last (All-tail IsLine line lines h) k)
+
+last_each : (last : List ℕ) → IsLine last → All IsLine (last_of last)
+last_each [] h = All-nil IsLine
+last_each (b ∷ bs) h = All-cons IsLine (b ∷ bs) [] h (All-nil IsLine)
+
+-- a text with a line feed isn't a line
+feed_in : (xs after : List ℕ) → HasNoLineFeed (xs ++ line_feed ∷ after) → ⊥
+feed_in [] after h = All-head (λ b. b ≢ line_feed) line_feed after h refl
+feed_in (x ∷ xs) after h = feed_in xs after (All-tail (λ b. b ≢ line_feed) x (xs ++ line_feed ∷ after) h)
+
+-- the held part and the front of a block up to its line feed are the next line
+next_line : (held line after rest : List ℕ) (AtEnd : Type 0) → rest ≡ line ++ line_feed ∷ after → IsLine held → HasNoLineFeed line → length (held ++ line) ≤ limit
+    → IsNext (held ++ rest) (held ++ line) AtEnd
+next_line held line after rest AtEnd cut is one short = record {
+  first = (input_lines after, ap input_lines (whole ∙ sym (append_assoc (held ++ line) (line_feed ∷ []) after)) ∙ lines_of_line (held ++ line) after (All-append (λ b. b ≢ line_feed) held line is.one one));
+  whole = λ none. absurd (feed_in (held ++ line) after (subst HasNoLineFeed whole none));
+  short = short;
+}
+  where
+    whole : held ++ rest ≡ (held ++ line) ++ line_feed ∷ after
+    whole = ap (λ l. held ++ l) cut ∙ sym (append_assoc held line (line_feed ∷ after))
+
+-- and so is the last line at the end of the input
+next_last : (last : List ℕ) (AtEnd : Type 0) → IsLine last → last ≢ [] → AtEnd → IsNext last last AtEnd
+next_last last AtEnd is some end = record { first = ([], lines_of_last last is.one ∙ one last some); whole = λ _. end; short = is.short }
+  where
+    one : (last : List ℕ) → last ≢ [] → last_of last ≡ last ∷ []
+    one [] h = absurd (h refl)
+    one (b ∷ bs) h = refl
+
+-- nothing more is pending
+pub sends_close : (a b c : Option (List ℕ)) (p xs : List ℕ) → Sends a [] b p xs → Appends b c p → Appends a c xs
+sends_close a b c p xs (g, h) k = same_text a c (g ++ p) xs (appends_trans a b c g p h.went k) h.left
+
+pub cut_close : (a b c : Option (List ℕ)) (p xs : List ℕ) → Sends a [] b p xs → IsCut b c p → IsCut a c xs
+cut_close a b c p xs (g, h) k = cut_same a c (g ++ p) xs (cut_after a b c g p h.went k) h.left
+
+pub consumes_start : (a : Option (List ℕ)) (held : List ℕ) → held ≡ [] → Consumes a a held
+consumes_start a held e = subst (λ t. Consumes a a t) (sym e) (consumes_none a)
+
+pub consumes_keeps : (a b c : Option (List ℕ)) (text : List ℕ) → Consumes a b text → Keeps b c → Consumes a c text
+consumes_keeps None b c text h k = tt
+consumes_keeps (Some xs) None c text h k = absurd h
+consumes_keeps (Some xs) (Some ys) None text h k = absurd k
+consumes_keeps (Some xs) (Some ys) (Some zs) text h k = h ∙ ap (λ l. text ++ l) (sym k)
+
+pub consumes_nothing : (a b c : Option (List ℕ)) (text blk : List ℕ) (n : ℕ) → n ≡ 0 → Consumes a b text → Consumes b c (take n blk) → Consumes a c text
+consumes_nothing a b c text blk n e h k =
+    subst (λ t. Consumes a c t) (append-nil text) (consumes_trans a b c text [] h (subst (λ m. Consumes b c (take m blk)) e k))
+
+pub consumes_more : (a b c : Option (List ℕ)) (front held x : List ℕ) → Consumes a b (front ++ held) → Consumes b c x → Consumes a c (front ++ (held ++ x))
+consumes_more a b c front held x h k = subst (λ t. Consumes a c t) (append_assoc front held x) (consumes_trans a b c (front ++ held) x h k)
+
+joined : (lines more : List (List ℕ)) (text held : List ℕ) → Splits text more held → flat_map ended lines ++ text ≡ flat_map ended (lines ++ more) ++ held
+joined lines more text held s =
+    ap (λ l. flat_map ended lines ++ l) s.whole ∙ sym (append_assoc (flat_map ended lines) (flat_map ended more) held) ∙ ap (λ l. l ++ held) (sym (flat_map-append ended lines more))
+
+pub sends_sent : (a c : Option (List ℕ)) (p xs : List ℕ) → p ≡ [] → Appends a c xs → Sends a [] c p xs
+sends_sent a c p xs e h = (xs, record { went = h; left = ap (λ l. xs ++ l) e ∙ append-nil xs })
+
+pub count_both : (m n k : ℕ) (lines more : List (List ℕ)) → m ≡ length lines → n ≡ length more → k ≡ m + n → k ≡ length (lines ++ more)
+count_both m n k lines more e f h = omega (arith, length-append lines more, e, f, h)
+
+pub consumes_lines : (a b c : Option (List ℕ)) (lines more : List (List ℕ)) (held x later : List ℕ) → Consumes a b (flat_map ended lines ++ held) → Consumes b c x → Splits (held ++ x) more later
+    → Consumes a c (flat_map ended (lines ++ more) ++ later)
+consumes_lines a b c lines more held x later h k s = subst (λ t. Consumes a c t) (joined lines more (held ++ x) later s) (consumes_more a b c (flat_map ended lines) held x h k)
+
+-- a block has no more lines than bytes
+pub count_given : (m more g h n : ℕ) (blk : List ℕ) → m ≤ g → more ≤ length (take n blk) → h ≡ g + n → m + more ≤ h
+count_given m more g h n blk was few e = grind (arith, common_steps, was, few, e)
+
+abbrev pub IsNoWriteFault : ServeFault → Type 0
+IsNoWriteFault e = AtFault e (Unit {0}) (Unit {0}) ⊥ (λ _. Unit {0})
+
+module _ {F : Type 0} (A : AnsweringOf F) where
+  pub are_append : (f g h : F) (ls ms : List (List ℕ)) (x y : List ℕ) → AreAnswers A f ls x g → AreAnswers A g ms y h → AreAnswers A f (ls ++ ms) (x ++ y) h
+  are_append f g h [] ms x y (e, s) k = subst (λ t. AreAnswers A f ms (t ++ y) h) (sym e) (subst (λ t. AreAnswers A t ms y h) s k)
+  are_append f g h (l ∷ ls) ms x y (t, m, s, a, is, e) k = (t, m ++ y, s, a, are_append s g h ls ms m y is k, ap (λ z. z ++ y) e ∙ append_assoc (ended t) m y)
+
+  are_one : (f g : F) (l t : List ℕ) → A.gives f l t g → AreAnswers A f (l ∷ []) (ended t) g
+  are_one f g l t a = (t, [], g, a, (refl, refl), sym (append-nil (ended t)))
+
+  pub are_more : (f g h : F) (ls : List (List ℕ)) (l x t : List ℕ) → AreAnswers A f ls x g → A.gives g l t h → AreAnswers A f (ls ++ l ∷ []) (x ++ ended t) h
+  are_more f g h ls l x t is a = are_append f g h ls (l ∷ []) x (ended t) is (are_one g h l t a)
+
+  -- says where the next line met a fault
+  pub stopped_at : (e : ServeFault) (f mid g : F) (a b c : Option (List ℕ)) (p q r : List ℕ) (text held line after rest x : List ℕ) (lines : List (List ℕ)) (Read : List ℕ → Type 0) (AtEnd : Type 0)
+      → length rest ≤ block_size → rest ≡ line ++ line_feed ∷ after → text ≡ flat_map ended lines ++ (held ++ rest) → All IsLine lines → IsLine held → HasNoLineFeed line
+      → AreAnswers A f lines x mid → Sends a p b q x
+      → AtFault e
+      ((g ≡ mid) × Sends b q c r [] × (limit < length (held ++ line)))
+      ⊥
+      ((length (held ++ line) ≤ limit) × WithAnswer A mid (held ++ line) g (λ out. IsCut b c (q ++ out)))
+      (λ k. (length (held ++ line) ≤ limit) × StopsOne A k mid (held ++ line) g × Sends b q c r [])
+      → Stopped A f g text (Sends a p c r) (λ t. IsCut a c (p ++ t)) Read AtEnd e
+  stopped_at fault.LineTooLong f mid g a b c p q r text held line after rest x lines Read AtEnd few cut whole each is one are sent h = (
+    record { lines = lines; rest = held ++ rest; output = x; state = mid; splits = record { whole = whole; each = each }; answers = are },
+    (
+      h.0,
+      sends_nothing a b c p q r x sent h.1,
+      (
+        held ++ line,
+        line_feed ∷ after,
+        record {
+          front = ap (λ l. held ++ l) cut ∙ sym (append_assoc held line (line_feed ∷ after));
+          one = All-append (λ b. b ≢ line_feed) held line is.one one;
+          long = h.2;
+        },
+      ),
+    ),
+  )
+  stopped_at fault.ReadFault f mid g a b c p q r text held line after rest x lines Read AtEnd few cut whole each is one are sent h = absurd h
+  stopped_at fault.WriteFault f mid g a b c p q r text held line after rest x lines Read AtEnd few cut whole each is one are sent (short, (t, answer, k)) = (
+    record {
+      lines = lines ++ (held ++ line) ∷ [];
+      rest = after;
+      output = x ++ ended t;
+      state = g;
+      splits = record {
+        whole = one_more text held line after rest lines cut whole;
+        each = All-push IsLine lines (held ++ line) each (is_line held line is one short);
+      };
+      answers = are_more f mid g lines (held ++ line) x t are answer;
+    },
+    (inl refl, cut_sends a b c p q x (ended t) sent k),
+  )
+  stopped_at fault.NoMemory f mid g a b c p q r text held line after rest x lines Read AtEnd few cut whole each is one are sent (short, stop, k) = (
+    record { lines = lines; rest = held ++ rest; output = x; state = mid; splits = record { whole = whole; each = each }; answers = are },
+    (may stop, sends_nothing a b c p q r x sent k, behind held rest is few),
+  )
+    where
+      may : (g ≡ mid) ⊎ A.stops at.NoMemory mid (held ++ line) g → IsStopped A at.NoMemory mid (held ++ rest) AtEnd g
+      may (inl same) = inl same
+      may (inr stops) = inr (held ++ line, next_line held line after rest AtEnd cut is one short, stops)
+  stopped_at fault.BadCount f mid g a b c p q r text held line after rest x lines Read AtEnd few cut whole each is one are sent h = absurd h
+  stopped_at fault.TraceFault f mid g a b c p q r text held line after rest x lines Read AtEnd few cut whole each is one are sent (short, stops, k) = (
+    record { lines = lines; rest = held ++ rest; output = x; state = mid; splits = record { whole = whole; each = each }; answers = are },
+    ((held ++ line, next_line held line after rest AtEnd cut is one short, stops), sends_nothing a b c p q r x sent k, behind held rest is few),
+  )
+
+  stops_next : (e : LineFault) (s g : F) (rest : List ℕ) (AtEnd : Type 0) → StopsNext A e s rest ⊥ g → StopsNext A e s rest AtEnd g
+  stops_next e s g rest AtEnd (line, next, stops) = (line, record { first = next.first; whole = λ none. absurd (next.whole none); short = next.short }, stops)
+
+  may_stop : (s g : F) (rest : List ℕ) (AtEnd : Type 0) → MayStop A s rest ⊥ g → MayStop A s rest AtEnd g
+  may_stop s g rest AtEnd (inl same) = inl same
+  may_stop s g rest AtEnd (inr (e, next)) = inr (e, stops_next e s g rest AtEnd next)
+
+  is_stopped : (e : LineFault) (s g : F) (rest : List ℕ) (AtEnd : Type 0) → IsStopped A e s rest ⊥ g → IsStopped A e s rest AtEnd g
+  is_stopped at.NoMemory s g rest AtEnd (inl same) = inl same
+  is_stopped at.NoMemory s g rest AtEnd (inr next) = inr (stops_next at.NoMemory s g rest AtEnd next)
+  is_stopped at.TraceFault s g rest AtEnd next = stops_next at.TraceFault s g rest AtEnd next
+
+  -- says where the writer fails at last
+  stopped_may : (e : LineFault) (s g : F) (rest : List ℕ) (AtEnd : Type 0) → IsStopped A e s rest AtEnd g → MayStop A s rest AtEnd g
+  stopped_may at.NoMemory s g rest AtEnd (inl same) = inl same
+  stopped_may at.NoMemory s g rest AtEnd (inr next) = inr (at.NoMemory, next)
+  stopped_may at.TraceFault s g rest AtEnd next = inr (at.TraceFault, next)
+
+  -- lines before, and what came after them
+  pub stopped_later : (e : ServeFault) (f mid g : F) (a b c : Option (List ℕ)) (p q r : List ℕ) (lines : List (List ℕ)) (x text : List ℕ) (Read : List ℕ → Type 0) (AtEnd : Type 0)
+      → All IsLine lines → AreAnswers A f lines x mid → Sends a p b q x
+      → Stopped A mid g text (Sends b q c r) (λ t. IsCut b c (q ++ t)) (λ _. ⊥) ⊥ e
+      → Stopped A f g (flat_map ended lines ++ text) (Sends a p c r) (λ t. IsCut a c (p ++ t)) Read AtEnd e
+  stopped_later e f mid g a b c p q r lines x text Read AtEnd each are sent (s, h) = (front, cases e h)
+    where
+      front : FrontOf A f (flat_map ended lines ++ text)
+      front = record {
+        lines = lines ++ s.lines;
+        rest = s.rest;
+        output = x ++ s.output;
+        state = s.state;
+        splits = record {
+          whole = ap (λ l. flat_map ended lines ++ l) s.splits.whole ∙ sym (append_assoc (flat_map ended lines) (flat_map ended s.lines) s.rest)
+              ∙ ap (λ l. l ++ s.rest) (sym (flat_map-append ended lines s.lines));
+          each = All-append IsLine lines s.lines each s.splits.each;
+        };
+        answers = are_append f mid s.state lines s.lines x s.output are s.answers;
+      }
+
+      all : Sends b q c r s.output → Sends a p c r (x ++ s.output)
+      all k = sends_trans a b c p q r x s.output sent k
+
+      cases : (e : ServeFault)
+          → AtFault e ((g ≡ s.state) × Sends b q c r s.output × StartsLong s.rest) ((g ≡ s.state) × Sends b q c r s.output × ⊥) (MayStop A s.state s.rest ⊥ g × IsCut b c (q ++ s.output)) (λ k. IsStopped A k s.state s.rest ⊥ g × Sends b q c r s.output × IsUnanswered s.rest)
+          → AtFault e
+          ((g ≡ s.state) × Sends a p c r (x ++ s.output) × StartsLong s.rest)
+          ((g ≡ s.state) × Sends a p c r (x ++ s.output) × Read s.rest)
+          (MayStop A s.state s.rest AtEnd g × IsCut a c (p ++ (x ++ s.output)))
+          (λ k. IsStopped A k s.state s.rest AtEnd g × Sends a p c r (x ++ s.output) × IsUnanswered s.rest)
+      cases fault.LineTooLong k = (k.0, all k.1, k.2)
+      cases fault.ReadFault k = absurd k.2
+      cases fault.WriteFault k = (may_stop s.state g s.rest AtEnd k.0, cut_sends a b c p q x s.output sent k.1)
+      cases fault.NoMemory k = (is_stopped at.NoMemory s.state g s.rest AtEnd k.0, all k.1, k.2)
+      cases fault.BadCount k = absurd k
+      cases fault.TraceFault k = (is_stopped at.TraceFault s.state g s.rest AtEnd k.0, all k.1, k.2)
+
+  -- the answers of whole lines and of a last one are the output
+  output_split : (f mid g : F) (lines : List (List ℕ)) (last x y : List ℕ) → All IsLine lines → IsLine last → AreAnswers A f lines x mid → AreAnswers A mid (last_of last) y g
+      → AreAnswers A f (input_lines (flat_map ended lines ++ last)) (x ++ y) g
+  output_split f mid g lines last x y each is h k = subst (λ ls. AreAnswers A f ls (x ++ y) g) (sym (lines_split lines last each is.one)) (are_append f mid g lines (last_of last) x y h k)
+
+  -- the end of the input
+  pub answered_all : (f mid g : F) (a b c : Option (List ℕ)) (p q r : List ℕ) (lines : List (List ℕ)) (last x : List ℕ) (m n : ℕ)
+      → All IsLine lines → IsLine last → m ≡ length lines → n ≡ m + length (last_of last)
+      → AreAnswers A f lines x mid → Sends a p b q x → WithAnswers A mid (last_of last) g (Sends b q c r)
+      → IsAnswered A f g (flat_map ended lines ++ last) n (Sends a p c r)
+  answered_all f mid g a b c p q r lines last x m n each is e k are sent (y, ys, more) =
+      let split = lines_split lines last each is.one in
+      record {
+        each = subst (λ ls. All IsLine ls) (sym split) (All-append IsLine lines (last_of last) each (last_each last is));
+        count = (let l : length (lines ++ last_of last) ≡ length lines + length (last_of last) = length-append lines (last_of last) in let s : length (input_lines (flat_map ended lines ++ last)) ≡ length (lines ++ last_of last) = ap length split in omega (arith, e, k, l, s));
+        output = x ++ y;
+        answers = output_split f mid g lines last x y each is are ys;
+        sent = sends_trans a b c p q r x y sent more;
+      }
+
+  pub fails_last : (e : ServeFault) (f mid g : F) (a b c : Option (List ℕ)) (p q r : List ℕ) (lines : List (List ℕ)) (last x : List ℕ) (left : Option (List ℕ))
+      → All IsLine lines → IsLine last → IsAtEnd left
+      → AreAnswers A f lines x mid → Sends a p b q x
+      → AtFault e ⊥ ⊥ (WithAnswers A mid (last_of last) g (λ out. IsCut b c (q ++ out))) (λ k. (last ≢ []) × A.stops k mid last g × Sends b q c r [])
+      → Fails A f g (flat_map ended lines ++ last) (Sends a p c r) (λ t. IsCut a c (p ++ t)) left e
+  fails_last fault.LineTooLong f mid g a b c p q r lines last x left each is end are sent h = absurd h
+  fails_last fault.ReadFault f mid g a b c p q r lines last x left each is end are sent h = absurd h
+  fails_last fault.WriteFault f mid g a b c p q r lines last x left each is end are sent (y, ys, k) =
+      inr record {
+        end = end;
+        output = x ++ y;
+        answers = output_split f mid g lines last x y each is are ys;
+        cut = cut_sends a b c p q x y sent k;
+      }
+  fails_last fault.NoMemory f mid g a b c p q r lines last x left each is end are sent (some, stops, k) =
+      inl (
+        record { lines = lines; rest = last; output = x; state = mid; splits = record { whole = refl; each = each }; answers = are },
+        (inr (last, next_last last (IsAtEnd left) is some end, stops), sends_nothing a b c p q r x sent k, behind_line last is),
+      )
+  fails_last fault.BadCount f mid g a b c p q r lines last x left each is end are sent h = absurd h
+  fails_last fault.TraceFault f mid g a b c p q r lines last x left each is end are sent (some, stops, k) =
+      inl (
+        record { lines = lines; rest = last; output = x; state = mid; splits = record { whole = refl; each = each }; answers = are },
+        ((last, next_last last (IsAtEnd left) is some end, stops), sends_nothing a b c p q r x sent k, behind_line last is),
+      )
+
+  -- says what was pending went out after another fault than the writer's
+  closed_at : (e : ServeFault) (f g : F) (a b c left : Option (List ℕ)) (p text : List ℕ) (Cut : List ℕ → Type 0) → IsNoWriteFault e
+      → Appends b c p → Fails A f g text (Sends a [] b p) Cut left e → Fails A f g text (Appends a c) (IsCut a c) left e
+  closed_at fault.LineTooLong f g a b c left p text Cut other h (inl (s, k)) = inl (s, (k.0, sends_close a b c p s.output k.1 h, k.2))
+  closed_at fault.LineTooLong f g a b c left p text Cut other h (inr k) = absurd k
+  closed_at fault.ReadFault f g a b c left p text Cut other h (inl (s, k)) = inl (s, (k.0, sends_close a b c p s.output k.1 h, k.2))
+  closed_at fault.ReadFault f g a b c left p text Cut other h (inr k) = absurd k
+  closed_at fault.WriteFault f g a b c left p text Cut other h k = absurd other
+  closed_at fault.NoMemory f g a b c left p text Cut other h (inl (s, k)) = inl (s, (k.0, sends_close a b c p s.output k.1 h, k.2))
+  closed_at fault.NoMemory f g a b c left p text Cut other h (inr k) = absurd k
+  closed_at fault.BadCount f g a b c left p text Cut other h k = absurd other
+  closed_at fault.TraceFault f g a b c left p text Cut other h (inl (s, k)) = inl (s, (k.0, sends_close a b c p s.output k.1 h, k.2))
+  closed_at fault.TraceFault f g a b c left p text Cut other h (inr k) = absurd k
+
+  pub closed : (e k : ServeFault) (f g : F) (a b c left : Option (List ℕ)) (p text : List ℕ) → e ≡ k → IsNoWriteFault k
+      → Appends b c p → Fails A f g text (Sends a [] b p) (IsCut a b) left e → Fails A f g text (Appends a c) (IsCut a c) left k
+  closed e k f g a b c left p text is other h fails =
+      closed_at k f g a b c left p text (IsCut a b) other h (subst (λ x. Fails A f g text (Sends a [] b p) (IsCut a b) left x) is fails)
+
+  -- or didn't go out whole
+  cut_at : (e : ServeFault) (f g : F) (a b c left : Option (List ℕ)) (p text : List ℕ) (Cut : List ℕ → Type 0) → IsNoWriteFault e
+      → IsCut b c p → Fails A f g text (Sends a [] b p) Cut left e → Fails A f g text (Appends a c) (IsCut a c) left fault.WriteFault
+  cut_at fault.LineTooLong f g a b c left p text Cut other h (inl (s, k)) = inl (s, (inl k.0, cut_close a b c p s.output k.1 h))
+  cut_at fault.LineTooLong f g a b c left p text Cut other h (inr k) = absurd k
+  cut_at fault.ReadFault f g a b c left p text Cut other h (inl (s, k)) = inl (s, (inl k.0, cut_close a b c p s.output k.1 h))
+  cut_at fault.ReadFault f g a b c left p text Cut other h (inr k) = absurd k
+  cut_at fault.WriteFault f g a b c left p text Cut other h k = absurd other
+  cut_at fault.NoMemory f g a b c left p text Cut other h (inl (s, k)) = inl (s, (stopped_may at.NoMemory s.state g s.rest (IsAtEnd left) k.0, cut_close a b c p s.output k.1 h))
+  cut_at fault.NoMemory f g a b c left p text Cut other h (inr k) = absurd k
+  cut_at fault.BadCount f g a b c left p text Cut other h k = absurd other
+  cut_at fault.TraceFault f g a b c left p text Cut other h (inl (s, k)) = inl (s, (stopped_may at.TraceFault s.state g s.rest (IsAtEnd left) k.0, cut_close a b c p s.output k.1 h))
+  cut_at fault.TraceFault f g a b c left p text Cut other h (inr k) = absurd k
+
+  pub cut_off : (e k : ServeFault) (f g : F) (a b c left : Option (List ℕ)) (p text : List ℕ) → e ≡ k → IsNoWriteFault k
+      → IsCut b c p → Fails A f g text (Sends a [] b p) (IsCut a b) left e → Fails A f g text (Appends a c) (IsCut a c) left fault.WriteFault
+  cut_off e k f g a b c left p text is other h fails =
+      cut_at k f g a b c left p text (IsCut a b) other h (subst (λ x. Fails A f g text (Sends a [] b p) (IsCut a b) left x) is fails)
+
+  -- nothing more was written where the writer failed
+  writer_failed : (f g : F) (left : Option (List ℕ)) (text : List ℕ) (Sent More Cut : List ℕ → Type 0) → Fails A f g text Sent Cut left fault.WriteFault → Fails A f g text More Cut left fault.WriteFault
+  writer_failed f g left text Sent More Cut (inl h) = inl h
+  writer_failed f g left text Sent More Cut (inr h) = inr h
+
+  pub stays_failed : (e : ServeFault) (f g : F) (a b left : Option (List ℕ)) (p text : List ℕ) → e ≡ fault.WriteFault
+      → Fails A f g text (Sends a [] b p) (IsCut a b) left e → Fails A f g text (Appends a b) (IsCut a b) left fault.WriteFault
+  stays_failed e f g a b left p text is fails =
+      writer_failed f g left text (Sends a [] b p) (Appends a b) (IsCut a b) (subst (λ x. Fails A f g text (Sends a [] b p) (IsCut a b) left x) is fails)
+
+  pub fails_read : (f g : F) (a c left : Option (List ℕ)) (q : List ℕ) (lines : List (List ℕ)) (held x : List ℕ) → All IsLine lines → IsLine held → AreAnswers A f lines x g → Sends a [] c q x
+      → Fails A f g (flat_map ended lines ++ held) (Sends a [] c q) (IsCut a c) left fault.ReadFault
+  fails_read f g a c left q lines held x each is are sent =
+      inl (record { lines = lines; rest = held; output = x; state = g; splits = record { whole = refl; each = each }; answers = are }, (refl, sent, is.one))
+
+  pub fails_send : (f g : F) (a b c left : Option (List ℕ)) (p q : List ℕ) (lines : List (List ℕ)) (held x : List ℕ) → All IsLine lines → AreAnswers A f lines x g → Sends a [] b p x → IsCut b c p
+      → Fails A f g (flat_map ended lines ++ held) (Sends a [] c q) (IsCut a c) left fault.WriteFault
+  fails_send f g a b c left p q lines held x each are sent cut =
+      inl (record { lines = lines; rest = held; output = x; state = g; splits = record { whole = refl; each = each }; answers = are }, (inl refl, cut_close a b c p x sent cut))
+
+  -- says where no block was had to read into
+  pub fails_start : (f : F) (a left : Option (List ℕ)) (p : List ℕ) → p ≡ [] → Fails A f f [] (Sends a [] a p) (IsCut a a) left fault.NoMemory
+  fails_start f a left p none =
+      inl (
+        record { lines = []; rest = []; output = []; state = f; splits = record { whole = refl; each = All-nil IsLine }; answers = (refl, refl) },
+        (inl refl, sends_kept a [] p [] none, behind_line [] no_line),
+      )

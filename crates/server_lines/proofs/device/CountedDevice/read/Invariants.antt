@@ -1,0 +1,15 @@
+use Rattle.std.proofs.Common.{◌≡◌, ◌≤◌, ◌-◌}
+use Rattle.std.specs.Io.KnownBytes.{Keeps}
+use Rattle.server_lines.specs.Devices.{bound, counts_of, IsSteady}
+use Rattle.server_lines.proofs.device.CountedDevice.read.Given as goal
+
+abbrev pub invariant-loop-self : goal.invariant-loop-self
+invariant-loop-self g l = record {
+  kept : Keeps (g.R.Read.remaining l.initial.self.called.device) (g.R.Read.remaining l.self.called.device);
+  steady : IsSteady (counts_of l.initial.self) (counts_of l.self);
+  given : l.self.called.given ≡ l.initial.self.called.given;
+  calls : l.initial.self.called.calls ≤ l.self.called.calls;
+}
+
+abbrev pub decreases-loop-self : goal.decreases-loop-self
+decreases-loop-self g l = bound - l.self.called.calls

@@ -1,0 +1,19 @@
+use Rattle.std.proofs.Common.{ap, refl, string_bytes, ◌++◌}
+use Rattle.std.proofs.lemmas.Fn.{called_at}
+use Rattle.server_lines.specs.Lines.{ended}
+use Rattle.server_lines.proofs.Known.{sends_same, cut_same}
+use Rattle.server_lines.proofs.output.answer_line.Goals as goal
+
+pub returns-in-Ok-put_line-clause-ok : goal.returns-in-Ok-put_line-clause-ok
+returns-in-Ok-put_line-clause-ok g c = (
+  string_bytes c.in-Ok.text,
+  record { given = c.in-Ok.text; called = called_at g.F.FnMut c.answer.ensures c.in-Ok.is; bytes = refl },
+  sends_same _ _ _ _ _ _ c.in-Ok-put_line.ensures.ok (ap ended c.as_bytes.ensures.value),
+)
+
+pub returns-in-Ok-clause-err : goal.returns-in-Ok-clause-err
+returns-in-Ok-clause-err g c = (
+  string_bytes c.in-Ok.text,
+  record { given = c.in-Ok.text; called = called_at g.F.FnMut c.answer.ensures c.in-Ok.is; bytes = refl },
+  cut_same _ _ _ _ c.in-Err.ensures.err (ap (λ text. c.args.pending.now.items ++ ended text) c.as_bytes.ensures.value),
+)

@@ -1,0 +1,120 @@
+//! Lines out of the blocks that are read.
+
+ghost use Rattle.std.specs.Prelude.{◌≡◌, ◌++◌, ◌<◌, ◌≤◌, ◌+◌, ◌-◌, ◌^◌, length, OnOk, IfOk, IfErr};
+ghost use Rattle.server_lines.specs.Answering.{by_calls};
+ghost use Rattle.server_lines.specs.Devices.{counts_of};
+ghost use Rattle.server_lines.specs.Lines.{limit, IsLine};
+ghost use Rattle.server_lines.specs.Serving.{block_size, Ends, EndsAll, FailsLast, FailsLine, Feeds, StopsFeeding, WriterCounts};
+
+use crate::device::CountedDevice;
+use crate::fault::{LineFault, ServeFault};
+use crate::lines::cut_line;
+use crate::output::answer_line;
+use std::io::Write;
+
+/// The most bytes of a line, without its line feed.
+const LIMIT: usize = 4_194_304;
+
+// Answers the line that `held` and `line` are together. Nothing is held then.
+fn finish_line<F: FnMut(&[u8]) -> Result<String, LineFault>, W: Write>(
+    answer: &mut F,
+    writer: &mut CountedDevice<W>,
+    pending: &mut Vec<u8>,
+    held: &mut Vec<u8>,
+    line: &[u8],
+) -> Result<(), ServeFault>
+    requires callable { F.IsAlwaysCallable answer.old }
+    requires held { length held.old.items ≤ limit }
+    ensures ok { OnOk result (Ends (by_calls F.FnMut) answer.old answer.new held.old line.now held.new
+        W.contents writer.old pending.old writer.new pending.new) }
+    ensures err { IfErr result (FailsLine (by_calls F.FnMut) answer.old answer.new held.old line.now
+        W.contents writer.old pending.old writer.new pending.new) }
+    ensures faults { WriterCounts (counts_of writer.old) (counts_of writer.new) result }
+    ensures callable { F.IsAlwaysCallable answer.new }
+{
+    if line.len() > LIMIT - held.len() {
+        return Err(ServeFault::LineTooLong);
+    }
+    if held.is_empty() {
+        return match answer_line(answer, writer, pending, line) {
+            Ok(()) => Ok(()),
+            Err(fault) => Err(fault),
+        };
+    }
+    if held.extend_from_slice(line).is_err() {
+        return Err(ServeFault::NoMemory);
+    }
+    match answer_line(answer, writer, pending, held) {
+        Ok(()) => {
+            held.clear();
+            Ok(())
+        }
+        Err(fault) => Err(fault),
+    }
+}
+
+/// Answers each line that ends in the block, keeps the rest in `held`, and returns how many lines there were.
+pub fn feed<F: FnMut(&[u8]) -> Result<String, LineFault>, W: Write>(
+    answer: &mut F,
+    writer: &mut CountedDevice<W>,
+    pending: &mut Vec<u8>,
+    held: &mut Vec<u8>,
+    block: &[u8],
+) -> Result<usize, ServeFault>
+    requires callable { F.IsAlwaysCallable answer.old }
+    requires held { IsLine held.old.items }
+    requires few { length block.now ≤ block_size }
+    ensures ok { IfOk result (Feeds (by_calls F.FnMut) answer.old answer.new held.old block.now held.new
+        W.contents writer.old pending.old writer.new pending.new) }
+    ensures held { OnOk result (IsLine held.new.items) }
+    ensures count { IfOk result (λ n. n ≤ length block.now) }
+    ensures err { IfErr result (StopsFeeding (by_calls F.FnMut) answer.old answer.new held.old block.now
+        W.contents writer.old pending.old writer.new pending.new) }
+    ensures faults { WriterCounts (counts_of writer.old) (counts_of writer.new) result }
+    ensures callable { F.IsAlwaysCallable answer.new }
+{
+    let mut rest = block;
+    let mut count = 0;
+    while let Some((line, after)) = cut_line(rest) {
+        match finish_line(answer, writer, pending, held, line) {
+            Ok(()) => {
+                rest = after;
+                count += 1;
+            }
+            Err(fault) => return Err(fault),
+        }
+    }
+    if rest.len() > LIMIT - held.len() {
+        return Err(ServeFault::LineTooLong);
+    }
+    match held.extend_from_slice(rest) {
+        Ok(()) => Ok(count),
+        Err(_) => Err(ServeFault::NoMemory),
+    }
+}
+
+/// Answers the last line, where the input ends without a line feed, and says how many lines there were with the `count`
+/// before.
+pub fn finish<F: FnMut(&[u8]) -> Result<String, LineFault>, W: Write>(
+    answer: &mut F,
+    writer: &mut CountedDevice<W>,
+    pending: &mut Vec<u8>,
+    held: &Vec<u8>,
+    count: u64,
+) -> Result<u64, ServeFault>
+    requires callable { F.IsAlwaysCallable answer.old }
+    requires count { count < 2 ^ 63 }
+    ensures ok { IfOk result (EndsAll (by_calls F.FnMut) answer.old answer.new held.now count
+        W.contents writer.old pending.old writer.new pending.new) }
+    ensures err { IfErr result (FailsLast (by_calls F.FnMut) answer.old answer.new held.now
+        W.contents writer.old pending.old writer.new pending.new) }
+    ensures faults { WriterCounts (counts_of writer.old) (counts_of writer.new) result }
+{
+    if held.is_empty() {
+        return Ok(count);
+    }
+    match answer_line(answer, writer, pending, held) {
+        Ok(()) => Ok(count + 1),
+        Err(fault) => Err(fault),
+    }
+}

@@ -1,0 +1,190 @@
+//! Serving: each line is answered by a line.
+
+ghost use Rattle.std.specs.Prelude.{◌≡◌, [], ◌++◌, ◌<◌, ◌≤◌, ◌+◌, ◌^◌, length, OnErr, OnOk, IfOk, IfErr, vec_len};
+ghost use Rattle.std.specs.Io.KnownBytes.{ReadConsumes};
+ghost use Rattle.server_lines.specs.Answering.{by_calls};
+ghost use Rattle.server_lines.specs.Devices.{counts_of, device_of, devices, CountsFaults, CountsNone, CountsRead, IsReadOut};
+ghost use Rattle.server_lines.specs.Serving.{ServesBy, StopsBy, ServesAllBy, StopsServingBy, ReaderCounts, WriterCounts, WriterFlushed, IsBounded, HasGrown, Serves};
+
+use crate::device::{CountedDevice, DeviceFault};
+use crate::fault::{LineFault, ServeFault};
+use crate::feed::{feed, finish};
+use crate::output::{close, send};
+use std::alloc::{AllocError, Global};
+use std::io::{Read, Write};
+
+/// The number of bytes that are read at a time.
+const BLOCK: usize = 65_536;
+
+// A block to read into.
+fn new_block(alloc: Global) -> Result<Vec<u8>, AllocError>
+    ensures { IfOk result (λ block. vec_len block ≡ 65536) }
+{
+    vec![in alloc; 0u8; BLOCK]
+}
+
+// Reads a block once nothing is pending, so that a client at a pipe sees its answers before it is asked for more.
+fn read_block<R: Read>(
+    reader: &mut CountedDevice<R>,
+    pending: &Vec<u8>,
+    block: &mut [u8],
+) -> Result<usize, DeviceFault>
+    requires { pending.now.items ≡ [] }
+    ensures bytes { ReadConsumes (R.remaining (device_of reader.old))
+        (R.remaining (device_of reader.new)) result block.new }
+    ensures within { IfOk result (λ n. n ≤ length block.new) }
+    ensures faults { CountsFaults IsReadOut (counts_of reader.old) (counts_of reader.new) result }
+    ensures ok { IfOk result (CountsRead reader.old reader.new) }
+    ensures err { OnErr result (CountsNone reader.old reader.new) }
+{
+    reader.read(block)
+}
+
+// Reads to the end, and answers each line. Pending answers are written before each further read; at the end some may still be
+// pending.
+fn serve_lines<F: FnMut(&[u8]) -> Result<String, LineFault>, R: Read, W: Write>(
+    alloc: Global,
+    answer: &mut F,
+    reader: &mut CountedDevice<R>,
+    writer: &mut CountedDevice<W>,
+    pending: &mut Vec<u8>,
+    block: &mut [u8],
+) -> Result<u64, ServeFault>
+    requires callable { F.IsAlwaysCallable answer.old }
+    requires nothing { pending.old.items ≡ [] }
+    requires room { length block.old ≡ 65536 }
+    ensures ok { IfOk result (ServesBy F.FnMut answer.old answer.new pending.new
+        (devices R.remaining W.contents reader.old reader.new writer.old writer.new)) }
+    ensures err { IfErr result (StopsBy F.FnMut answer.old answer.new pending.new
+        (devices R.remaining W.contents reader.old reader.new writer.old writer.new)) }
+    ensures reader { ReaderCounts (counts_of reader.old) (counts_of reader.new) result }
+    ensures writer { WriterCounts (counts_of writer.old) (counts_of writer.new) result }
+    ensures bounded { OnOk result (IsBounded (counts_of reader.new)) }
+    ensures grown { HasGrown (counts_of reader.old) (counts_of reader.new) }
+{
+    let mut held = Vec::new(alloc);
+    let mut count = 0u64;
+    loop {
+        let n = match read_block(reader, pending, block) {
+            Ok(n) => n,
+            Err(_) => return Err(ServeFault::ReadFault),
+        };
+        if n == 0 {
+            match finish(answer, writer, pending, &held, count) {
+                Ok(total) => return Ok(total),
+                Err(fault) => return Err(fault),
+            }
+        }
+        match feed(answer, writer, pending, &mut held, &block[..n]) {
+            Ok(more) => count += more as u64,
+            Err(fault) => return Err(fault),
+        }
+        match send(writer, pending) {
+            Ok(()) => {}
+            Err(_) => return Err(ServeFault::WriteFault),
+        }
+    }
+}
+
+// Reads to the end, and answers each line. What is pending may not be written yet.
+fn serve_blocks<F: FnMut(&[u8]) -> Result<String, LineFault>, R: Read, W: Write>(
+    alloc: Global,
+    answer: &mut F,
+    reader: &mut CountedDevice<R>,
+    writer: &mut CountedDevice<W>,
+    pending: &mut Vec<u8>,
+) -> Result<u64, ServeFault>
+    requires callable { F.IsAlwaysCallable answer.old }
+    requires nothing { pending.old.items ≡ [] }
+    ensures ok { IfOk result (ServesBy F.FnMut answer.old answer.new pending.new
+        (devices R.remaining W.contents reader.old reader.new writer.old writer.new)) }
+    ensures err { IfErr result (StopsBy F.FnMut answer.old answer.new pending.new
+        (devices R.remaining W.contents reader.old reader.new writer.old writer.new)) }
+    ensures reader { ReaderCounts (counts_of reader.old) (counts_of reader.new) result }
+    ensures writer { WriterCounts (counts_of writer.old) (counts_of writer.new) result }
+    ensures bounded { OnOk result (IsBounded (counts_of reader.new)) }
+    ensures grown { HasGrown (counts_of reader.old) (counts_of reader.new) }
+{
+    let mut block = match new_block(alloc) {
+        Ok(block) => block,
+        Err(_) => return Err(ServeFault::NoMemory),
+    };
+    match serve_lines(alloc, answer, reader, writer, pending, &mut block) {
+        Ok(count) => Ok(count),
+        Err(fault) => Err(fault),
+    }
+}
+
+// Reads to the end, answers each line, and writes and flushes what is pending.
+fn serve_all<F: FnMut(&[u8]) -> Result<String, LineFault>, R: Read, W: Write>(
+    alloc: Global,
+    answer: &mut F,
+    reader: &mut CountedDevice<R>,
+    writer: &mut CountedDevice<W>,
+) -> Result<u64, ServeFault>
+    requires { F.IsAlwaysCallable answer.old }
+    ensures ok { IfOk result (ServesAllBy F.FnMut answer.old answer.new
+        (devices R.remaining W.contents reader.old reader.new writer.old writer.new)) }
+    ensures err { IfErr result (StopsServingBy F.FnMut answer.old answer.new
+        (devices R.remaining W.contents reader.old reader.new writer.old writer.new)) }
+    ensures reader { ReaderCounts (counts_of reader.old) (counts_of reader.new) result }
+    ensures writer { WriterCounts (counts_of writer.old) (counts_of writer.new) result }
+    ensures flushed { WriterFlushed (counts_of writer.new) result }
+    ensures bounded { OnOk result (IsBounded (counts_of reader.new)) }
+    ensures grown { HasGrown (counts_of reader.old) (counts_of reader.new) }
+{
+    let mut pending = Vec::new(alloc);
+    match serve_blocks(alloc, answer, reader, writer, &mut pending) {
+        Ok(count) => match close(writer, &mut pending) {
+            Ok(()) => Ok(count),
+            Err(_) => Err(ServeFault::WriteFault),
+        },
+        Err(ServeFault::WriteFault) => Err(ServeFault::WriteFault),
+        Err(ServeFault::LineTooLong) => match close(writer, &mut pending) {
+            Ok(()) => Err(ServeFault::LineTooLong),
+            Err(_) => Err(ServeFault::WriteFault),
+        },
+        Err(ServeFault::ReadFault) => match close(writer, &mut pending) {
+            Ok(()) => Err(ServeFault::ReadFault),
+            Err(_) => Err(ServeFault::WriteFault),
+        },
+        Err(ServeFault::NoMemory) => match close(writer, &mut pending) {
+            Ok(()) => Err(ServeFault::NoMemory),
+            Err(_) => Err(ServeFault::WriteFault),
+        },
+        Err(ServeFault::TraceFault) => match close(writer, &mut pending) {
+            Ok(()) => Err(ServeFault::TraceFault),
+            Err(_) => Err(ServeFault::WriteFault),
+        },
+        Err(ServeFault::BadCount) => unreachable!(),
+    }
+}
+
+/// Answers each line of the reader by a line to the writer, and says how many there were. `answer` is called once for each
+/// line, in order, and gives its answer, both without a line feed; it fails when out of memory, or where it can't write what it
+/// traces of the line. A line ends at a line feed or at the end of the input; a last line feed begins no further line. The writer
+/// is flushed once, at the end, after a fault of the reader or of a call of `answer`, and after a line that is too long.
+///
+/// # Errors
+///
+/// `LineTooLong` for a line of more than 4,194,304 bytes: the answers of all lines before it were written
+/// whole, and nothing else; these alone were answered. `ReadFault` exactly where the reader counted a fault,
+/// unless the writer failed after it: the same, of each line that was read to its end. `WriteFault` exactly
+/// where the writer counted a fault, also after another fault where the answers before it can't be written: a
+/// front of the output was written. `NoMemory`: the answers of the lines from the first on were written whole,
+/// and nothing else; lines that ended in the block of at most 65,536 bytes in which it came may lack their
+/// answers, and no earlier line does; at most one call for the next line was made and failed (`IsUnanswered`,
+/// `IsStopped`). `TraceFault` where a call of `answer` gave it: as after `NoMemory`, and one call was made and
+/// failed. How far the reader was read then isn't said.
+pub fn serve<F: FnMut(&[u8]) -> Result<String, LineFault>, R: Read, W: Write>(
+    alloc: Global,
+    reader: &mut CountedDevice<R>,
+    writer: &mut CountedDevice<W>,
+    answer: &mut F,
+) -> Result<u64, ServeFault>
+    requires { F.IsAlwaysCallable answer.old }
+    ensures { Serves (by_calls F.FnMut) answer.old answer.new
+        (devices R.remaining W.contents reader.old reader.new writer.old writer.new) result }
+{
+    serve_all(alloc, answer, reader, writer)
+}

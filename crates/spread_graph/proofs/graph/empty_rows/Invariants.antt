@@ -1,6 +1,0 @@
-use Rattle.std.proofs.Common.{◌≡◌, ◌++◌, ◌-◌, [], replicate}
-use Rattle.spread_graph.specs.Rows.{rows_in}
-use Rattle.spread_graph.proofs.graph.empty_rows.Given as goal
-
-abbrev pub invariant-loop : goal.invariant-loop
-invariant-loop l = rows_in l.rows.items ++ replicate (l.count - l.counter) [] ≡ replicate l.count []

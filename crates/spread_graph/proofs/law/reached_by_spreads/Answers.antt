@@ -1,6 +1,0 @@
-use Rattle.std.proofs.Common.{length}
-use Rattle.spread_graph.proofs.ReachLaws.{through_sound, reaches_complete}
-use Rattle.spread_graph.proofs.law.reached_by_spreads.Goals as goal
-
-pub returns : goal.returns
-returns c = λ g o j known. (through_sound (length g.fragments) g o j, reaches_complete g o j known)

@@ -1,8 +1,0 @@
-use Rattle.spread_graph.specs.Walks.{AreListed}
-use Rattle.spread_graph.proofs.walk.clear.Given as goal
-
-abbrev pub invariant-loop-fragment : goal.invariant-loop-fragment
-invariant-loop-fragment l = AreListed l.marks.items l.reached.items
-
-abbrev pub decreases-loop-fragment : goal.decreases-loop-fragment
-decreases-loop-fragment l = goal.left-loop-fragment l

@@ -1,9 +1,0 @@
-use Rattle.std.proofs.Common.{◌-◌, vec_len}
-use Rattle.spread_graph.specs.Walks.{AreClear}
-use Rattle.spread_graph.proofs.walk.fit.Given as goal
-
-abbrev pub invariant-loop-marks : goal.invariant-loop-marks
-invariant-loop-marks l = AreClear l.marks.items
-
-abbrev pub decreases-loop-marks : goal.decreases-loop-marks
-decreases-loop-marks l = l.count - vec_len l.marks
