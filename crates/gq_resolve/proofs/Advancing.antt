@@ -21,23 +21,23 @@ use Rattle.execution.proofs.Fitting.{more-self}
 use Rattle.gq_check.specs.Plans.{PlanOf}
 use Rattle.plan_program.specs.PlanPrograms.{read_key, root_prepared, plan_program, asked_program, object_program, fields_of, most_levels}
 use Rattle.gq_resolve.specs.Answered.{json_of, errors_before, answered_json}
-use Rattle.gq_resolve.specs.Groups.{AreKnown, members_seen, Makes, AreMade, AreRight, Grows}
-use Rattle.gq_resolve.specs.Puts.{Put, Begins, Ends, Enters, View, puts}
-use Rattle.gq_resolve.specs.Positions.{onward_of}
-use Rattle.gq_resolve.specs.Evaluated.{lookup}
-use Rattle.gq_resolve.specs.Suspended.{view_of, IsRooted, MayGoOn, load_of, loads_of, GoesOver, Advanced}
-use Rattle.gq_resolve.specs.Walks.{Goes}
+use Rattle.plan_walk.specs.Groups.{AreKnown, members_seen, Makes, AreMade, AreRight, Grows, view_of}
+use Rattle.plan_walk.specs.Puts.{Put, Begins, Ends, Enters, View, puts}
+use Rattle.plan_walk.specs.Positions.{onward_of}
+use Rattle.plan_walk.specs.Reading.{lookup}
+use Rattle.gq_resolve.specs.Suspended.{IsRooted, MayGoOn, load_of, loads_of, GoesOver, Advanced}
+use Rattle.plan_walk.specs.Walks.{Goes}
 use Rattle.gq_resolve.specs.Composing.{puts-more, within-rises, asks-narrow}
 use Rattle.gq_resolve.specs.Written.{is_plain, put_tokens, asks, put_asks, thinned, left_of, all_asks, AreWithin, IsWithin, IsWriting, Puts}
-use Rattle.gq_resolve.specs.declared.loading_fields.LoadingField.{LoadingField}
-use Rattle.gq_resolve.specs.declared.loading_fields.Member.{Member}
-use Rattle.gq_resolve.specs.declared.waiting.BlockedPosition.{BlockedPosition}
+use Rattle.plan_walk.specs.declared.loading_fields.LoadingField.{LoadingField}
+use Rattle.plan_walk.specs.declared.loading_fields.Member.{Member}
+use Rattle.plan_walk.specs.declared.waiting.BlockedPosition.{BlockedPosition}
 use Rattle.gq_resolve.specs.declared.output.Output.{Output}
 use Rattle.gq_resolve.specs.declared.advance.RootObject.{RootObject}
 use Rattle.gq_resolve.specs.declared.advance.FinishedWalk.{FinishedWalk}
-use Rattle.gq_resolve.specs.declared.walk.Progress.{Progress}
-use Rattle.gq_resolve.proofs.Grouping.{covers-view, makes-more}
-use Rattle.gq_resolve.proofs.Touring.{Putting, Below, Laws, goes-then, goes-as}
+use Rattle.plan_walk.specs.declared.walk.Progress.{Progress}
+use Rattle.plan_walk.proofs.Grouping.{covers-view, makes-more}
+use Rattle.plan_walk.proofs.Touring.{Putting, Below, Laws, goes-then, goes-as}
 use Rattle.gq_resolve.proofs.Putting.{puts_ask, puts_tokens, asks-puts, waits-puts, IsPlain, plain-puts}
 
 -- ---- roots

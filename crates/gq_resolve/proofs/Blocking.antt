@@ -8,13 +8,13 @@ use Rattle.std.proofs.lemmas.List.Elements.{All-push}
 use Rattle.load_memory.specs.Keys.{KeyOf, key_of}
 use Rattle.load_memory.proofs.Looks.{same_key-is}
 use Rattle.execution.specs.Loads.{Load, Reader}
-use Rattle.gq_resolve.specs.Puts.{Waits, View, waiting}
-use Rattle.gq_resolve.specs.Positions.{onward_of}
-use Rattle.gq_resolve.specs.Noted.{is_onward, is_position, with_position, IsNoted}
+use Rattle.plan_walk.specs.Puts.{Waits, View, waiting}
+use Rattle.plan_walk.specs.Positions.{onward_of}
+use Rattle.plan_walk.specs.Noted.{is_onward, is_position, with_position, IsNoted}
 use Rattle.gq_resolve.specs.Written.{asks, thinned, left_of, all_asks, AreWithin, Puts}
 use Rattle.gq_resolve.specs.Composing.{thinned-append}
-use Rattle.gq_resolve.specs.declared.positions.Onward.{Onward}
-use Rattle.gq_resolve.specs.declared.waiting.BlockedPosition.{BlockedPosition}
+use Rattle.plan_walk.specs.declared.positions.Onward.{Onward}
+use Rattle.plan_walk.specs.declared.waiting.BlockedPosition.{BlockedPosition}
 use Rattle.gq_resolve.specs.declared.output.Output.{Output}
 use Rattle.gq_resolve.proofs.Thinning.{noted-again}
 

@@ -7,7 +7,7 @@ use Rattle.execution.specs.Program.{Kind, Part, FieldPosition, Value, Null, Faul
 use Rattle.execution.specs.Completion.{ResponseOf, NullResponse, Holding, ResponsesOf, NoResponses, Responding, ErrorOf, AnsweredOf, is_open, any_open}
 use Rattle.execution.specs.Executed.{nulls, pulls_down, response, responses, errors, all_errors, completed}
 use Rattle.gq_resolve.specs.Answered.{is_null_response}
-use Rattle.gq_resolve.specs.Puts.{Put, Ends, Waits, puts, all_puts}
+use Rattle.plan_walk.specs.Puts.{Put, Ends, Waits, puts, all_puts}
 use Rattle.gq_resolve.specs.Built.{LevelOf, BuiltOf, path_in, count_of, step_in, put_part, level_with, placed_in, placed, with_errors, built, built-append, root_position, nothing_built, IsNumbered, AreNumbered, IsWhole}
 
 -- ---- parts

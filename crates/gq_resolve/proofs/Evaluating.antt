@@ -12,9 +12,10 @@ use Rattle.execution.specs.Front.{missing, firsts, wanting, modes_wanted}
 use Rattle.execution.proofs.Fitting.{missing-append}
 use Rattle.execution.proofs.Monotone.{front-open}
 use Rattle.execution.proofs.Wanting.{wanting-firsts}
-use Rattle.gq_resolve.specs.Evaluated.{reader, front_over, AddsPart}
+use Rattle.gq_resolve.specs.Evaluated.{front_over, AddsPart}
+use Rattle.plan_walk.specs.Reading.{reader}
 use Rattle.gq_resolve.specs.Suspended.{load_of, loads_of}
-use Rattle.gq_resolve.specs.declared.waiting.BlockedPosition.{BlockedPosition}
+use Rattle.plan_walk.specs.declared.waiting.BlockedPosition.{BlockedPosition}
 
 -- ---- what is left of a program waits for what is missing
 

@@ -9,7 +9,8 @@ use Rattle.execution.proofs.Monotone.{front-open}
 use Rattle.load_memory.specs.Pairs.{MemoryOf, look}
 use Rattle.gq_check.specs.Plans.{PlanOf}
 use Rattle.plan_program.specs.PlanPrograms.{plan_program}
-use Rattle.gq_resolve.specs.Evaluated.{reader, front_over}
+use Rattle.gq_resolve.specs.Evaluated.{front_over}
+use Rattle.plan_walk.specs.Reading.{reader}
 use Rattle.gq_resolve.specs.Counting.{count_read, plan_read}
 use Rattle.gq_resolve.specs.KeyByKey.{KeyCall, called_loads, IsKeyByKey, AreKeyByKey, AreGivenBy, MakesCalls}
 

@@ -1,13 +1,8 @@
-pub mod Lookups
 pub mod Loaders
 pub mod Evaluating
 pub mod Texts
 pub mod Thinning
-pub mod Grouping
-pub mod Stepping
-pub mod Touring
 pub mod Putting
-pub mod Noting
 pub mod Blocking
 pub mod Advancing
 pub mod Polling

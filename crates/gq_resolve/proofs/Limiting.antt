@@ -7,7 +7,7 @@ use Rattle.execution.specs.Executed.{completed}
 use Rattle.gq_check.specs.Plans.{PlanOf}
 use Rattle.plan_program.specs.PlanPrograms.{plan_program}
 use Rattle.gq_resolve.specs.Answered.{answered_of, answer_text}
-use Rattle.gq_resolve.specs.Evaluated.{lookup}
+use Rattle.plan_walk.specs.Reading.{lookup}
 use Rattle.gq_resolve.specs.Limited.{too_long_text, limited_text, RespondsWithin}
 use Rattle.gq_resolve.specs.declared.answered.ExecutionResult.{ExecutionResult}
 

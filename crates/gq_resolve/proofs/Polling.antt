@@ -13,17 +13,18 @@ use Rattle.execution.proofs.Fitting.{held-rest}
 use Rattle.execution.proofs.Monotone.{exec-whole}
 use Rattle.gq_check.specs.Plans.{PlanOf}
 use Rattle.plan_program.specs.PlanPrograms.{plan_program}
-use Rattle.gq_resolve.specs.Evaluated.{reader, front_over, AddsPart, lookup}
+use Rattle.gq_resolve.specs.Evaluated.{front_over, AddsPart}
+use Rattle.plan_walk.specs.Reading.{reader, lookup}
 use Rattle.gq_resolve.specs.Suspended.{FitsWaiting, FitsStopped, loads_of, Advanced, lacking}
 use Rattle.gq_resolve.specs.Written.{asks, thinned}
 use Rattle.gq_resolve.specs.declared.advance.Suspension.{Suspension}
 use Rattle.gq_resolve.specs.declared.advance.FinishedWalk.{FinishedWalk}
-use Rattle.gq_resolve.specs.declared.waiting.BlockedPosition.{BlockedPosition}
+use Rattle.plan_walk.specs.declared.waiting.BlockedPosition.{BlockedPosition}
 use Rattle.gq_resolve.specs.declared.output.Output.{Output}
 use Rattle.gq_resolve.proofs.Evaluating.{needs-rest, front-none, front-there, closed-tree, wants-front}
 use Rattle.gq_resolve.proofs.Loaders.{same-rest, plan-fits}
 use Rattle.gq_resolve.proofs.Thinning.{thinned-none, wanting-thinned, part-thinned, thinned-part}
-use Rattle.gq_resolve.proofs.Lookups.{lookup-same, lookup-more}
+use Rattle.plan_walk.proofs.Lookups.{lookup-same, lookup-more}
 
 -- ---- larger memories
 

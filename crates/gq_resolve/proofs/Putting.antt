@@ -17,7 +17,7 @@ use Rattle.execution.specs.Front.{missing}
 use Rattle.execution.specs.Residual.{rest, all_rest, unanswered}
 use Rattle.execution.proofs.Fitting.{missing-append, asks-rest}
 use Rattle.gq_resolve.specs.Answered.{json_of, items_json, members_json}
-use Rattle.gq_resolve.specs.Puts.{Put, Ends, puts, all_puts}
+use Rattle.plan_walk.specs.Puts.{Put, Ends, puts, all_puts}
 use Rattle.gq_resolve.specs.Written.{is_plain, opening, closing, leaf_value_tokens, part_tokens, put_tokens, asks, put_asks}
 use Rattle.gq_resolve.proofs.Evaluating.{needs-rest}
 

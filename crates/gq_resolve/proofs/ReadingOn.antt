@@ -14,24 +14,24 @@ use Rattle.execution.specs.Program.{Kind, Program, Is, Read, Under, Programs, En
 use Rattle.execution.specs.Residual.{unanswered}
 use Rattle.gq_check.specs.Plans.{PlanOf}
 use Rattle.plan_program.specs.PlanPrograms.{with_rows, plan_program}
-use Rattle.gq_resolve.specs.Groups.{AreRight, Covers}
-use Rattle.gq_resolve.specs.Puts.{Ends, View, OnwardOf, puts, all_puts}
-use Rattle.gq_resolve.specs.Positions.{onward_of}
-use Rattle.gq_resolve.specs.Evaluated.{reader, lookup}
-use Rattle.gq_resolve.specs.Suspended.{view_of, load_of, GoesOver}
-use Rattle.gq_resolve.specs.Walks.{Goes}
+use Rattle.plan_walk.specs.Groups.{AreRight, Covers, view_of}
+use Rattle.plan_walk.specs.Puts.{Ends, View, OnwardOf, puts, all_puts}
+use Rattle.plan_walk.specs.Positions.{onward_of}
+use Rattle.plan_walk.specs.Reading.{reader, lookup}
+use Rattle.gq_resolve.specs.Suspended.{load_of, GoesOver}
+use Rattle.plan_walk.specs.Walks.{Goes}
 use Rattle.gq_resolve.specs.Written.{left_of, AreWithin}
 use Rattle.gq_resolve.specs.Counting.{count_read, all_read, counted, plan_read, put_waits, all_left, IsUnread, AddsWaits, left_read, IsReading, puts_after}
 use Rattle.gq_resolve.specs.Adding.{unread-rises, unread-stays}
-use Rattle.gq_resolve.specs.declared.loading_fields.LoadingField.{LoadingField}
-use Rattle.gq_resolve.specs.declared.waiting.BlockedPosition.{BlockedPosition}
+use Rattle.plan_walk.specs.declared.loading_fields.LoadingField.{LoadingField}
+use Rattle.plan_walk.specs.declared.waiting.BlockedPosition.{BlockedPosition}
 use Rattle.gq_resolve.specs.declared.counting.Unread.{Unread}
 use Rattle.gq_resolve.specs.declared.advance.FinishedWalk.{FinishedWalk}
-use Rattle.gq_resolve.specs.declared.walk.Progress.{Progress}
+use Rattle.plan_walk.specs.declared.walk.Progress.{Progress}
 use Rattle.gq_resolve.proofs.Evaluating.{no-items}
-use Rattle.gq_resolve.proofs.Grouping.{covers-view}
+use Rattle.plan_walk.proofs.Grouping.{covers-view}
 use Rattle.gq_resolve.proofs.Loaders.{Fits, AllFit, plan-fits}
-use Rattle.gq_resolve.proofs.Lookups.{lookup-same, lookup-nothing}
+use Rattle.plan_walk.proofs.Lookups.{lookup-same, lookup-nothing}
 
 -- ---- the loads of what waits
 

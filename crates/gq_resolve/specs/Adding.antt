@@ -6,10 +6,10 @@ use Rattle.std.proofs.lemmas.Grind.{flat_map-append}
 use Rattle.std.proofs.lemmas.List.{map-append}
 use Rattle.std.proofs.lemmas.List.Elements.{All-append}
 use Rattle.std.proofs.Math.Nat.{lt_of_lt_of_le}
-use Rattle.gq_resolve.specs.Puts.{Put, OnwardOf, View}
+use Rattle.plan_walk.specs.Puts.{Put, OnwardOf, View}
 use Rattle.gq_resolve.specs.Written.{left_of, AreWithin}
 use Rattle.gq_resolve.specs.Counting.{put_waits, all_left, IsUnread, count_unread, AddsWaits}
-use Rattle.gq_resolve.specs.declared.waiting.BlockedPosition.{BlockedPosition}
+use Rattle.plan_walk.specs.declared.waiting.BlockedPosition.{BlockedPosition}
 use Rattle.gq_resolve.specs.declared.counting.Unread.{Unread}
 
 pub none-within : (n : ℕ) → AreWithin n []

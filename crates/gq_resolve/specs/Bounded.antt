@@ -8,7 +8,7 @@ use Rattle.execution.specs.Completion.{ResponseOf, NullResponse, LeafResponse, H
 use Rattle.execution.specs.Executed.{completed}
 use Rattle.gq_resolve.specs.Answered.{is_null_response, answered_of, answer_text}
 use Rattle.gq_resolve.specs.Built.{LevelOf, BuiltOf, placed, with_errors, built, built-append, IsWhole, built_of}
-use Rattle.gq_resolve.specs.Puts.{Put}
+use Rattle.plan_walk.specs.Puts.{Put}
 use Rattle.gq_resolve.specs.declared.answered.ExecutionResult.{ExecutionResult}
 use Rattle.gq_resolve.specs.declared.bounded.LeastBytes.{LeastBytes}
 use Rattle.gq_resolve.specs.declared.bounded.BoundedBuilder.{BoundedBuilder}

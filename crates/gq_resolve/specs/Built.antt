@@ -10,8 +10,8 @@ use Rattle.execution.specs.Completion.{ResponseOf, NullResponse, Holding, Respon
 use Rattle.execution.specs.Executed.{response}
 use Rattle.load_memory.specs.Outcomes.{OutcomeOf}
 use Rattle.gq_resolve.specs.Answered.{part_of, response_of, is_null_response, errors_of, items_from, members_of}
-use Rattle.gq_resolve.specs.Puts.{Put, Begins, Ends, Enters, Has, Waits, puts}
-use Rattle.gq_resolve.specs.Positions.{is_non_null}
+use Rattle.plan_walk.specs.Puts.{Put, Begins, Ends, Enters, Has, Waits, puts}
+use Rattle.plan_walk.specs.Positions.{is_non_null}
 use Rattle.gq_resolve.specs.declared.level.Position.{Position}
 use Rattle.gq_resolve.specs.declared.level.PartialValue.{PartialValue}
 use Rattle.gq_resolve.specs.declared.level.PartialValue.TheVariants as parts

@@ -1,8 +1,8 @@
 -- Definitions of what a position completes to (sections 6.4.3 and 6.4.4).
 use Rattle.std.specs.Prelude.{Bool, not, if◌then◌else◌}
 use Rattle.execution.specs.Completion.{ResponseOf}
-use Rattle.gq_resolve.specs.declared.completing.CompletedValue.{CompletedValue}
-use Rattle.gq_resolve.specs.declared.completing.CompletedValue.TheVariants as rust
+use Rattle.gq_resolve.specs.declared.units.CompletedValue.{CompletedValue}
+use Rattle.gq_resolve.specs.declared.units.CompletedValue.TheVariants as rust
 use Rattle.gq_resolve.specs.Answered.{response_of, is_null_response}
 
 -- says what contracts see of a completed position

@@ -13,10 +13,10 @@ use Rattle.load_memory.specs.Rows.{RowOf}
 use Rattle.execution.specs.Loads.{Load, Reader}
 use Rattle.execution.specs.Program.{Program}
 use Rattle.plan_program.specs.PlanPrograms.{read_key}
-use Rattle.gq_resolve.specs.Puts.{Put, OnwardOf, View}
-use Rattle.gq_resolve.specs.Positions.{onward_of}
+use Rattle.plan_walk.specs.Puts.{Put, OnwardOf, View}
+use Rattle.plan_walk.specs.Positions.{onward_of}
 use Rattle.gq_resolve.specs.Written.{is_plain, put_tokens, asks, put_asks, thinned, with_load, left_of, all_asks, AreWithin, IsWithin, count_waiting, Puts}
-use Rattle.gq_resolve.specs.declared.waiting.BlockedPosition.{BlockedPosition}
+use Rattle.plan_walk.specs.declared.waiting.BlockedPosition.{BlockedPosition}
 use Rattle.gq_resolve.specs.declared.output.Output.{Output}
 
 pub thinned-append : (noted xs ys : List Load)

@@ -6,17 +6,17 @@ use Rattle.execution.specs.Loads.{Reader}
 use Rattle.execution.specs.Program.{Program, needs, given}
 use Rattle.gq_check.specs.Plans.{PlanOf, plan_of}
 use Rattle.plan_program.specs.PlanPrograms.{with_rows, plan_program}
-use Rattle.gq_resolve.specs.Groups.{AreRight}
-use Rattle.gq_resolve.specs.Puts.{Put, Begins, Ends, Enters, Has, Waits, View, puts}
-use Rattle.gq_resolve.specs.Positions.{onward_of}
-use Rattle.gq_resolve.specs.Evaluated.{reader, lookup}
-use Rattle.gq_resolve.specs.Suspended.{view_of, load_of}
-use Rattle.gq_resolve.specs.Walks.{Goes}
+use Rattle.plan_walk.specs.Groups.{AreRight, view_of}
+use Rattle.plan_walk.specs.Puts.{Put, Begins, Ends, Enters, Has, Waits, View, puts}
+use Rattle.plan_walk.specs.Positions.{onward_of}
+use Rattle.plan_walk.specs.Reading.{reader, lookup}
+use Rattle.gq_resolve.specs.Suspended.{load_of}
+use Rattle.plan_walk.specs.Walks.{Goes}
 use Rattle.gq_resolve.specs.Written.{left_of, AreWithin}
-use Rattle.gq_resolve.specs.declared.waiting.BlockedPosition.{BlockedPosition}
+use Rattle.plan_walk.specs.declared.waiting.BlockedPosition.{BlockedPosition}
 use Rattle.gq_resolve.specs.declared.counting.Unread.{Unread}
-use Rattle.gq_resolve.specs.declared.walk.Progress.{Progress}
-use Rattle.gq_resolve.specs.declared.walk.Walk.{Walk}
+use Rattle.plan_walk.specs.declared.walk.Progress.{Progress}
+use Rattle.plan_walk.specs.declared.walk.Walk.{Walk}
 
 -- ---- how many loads are read
 

@@ -1,23 +1,16 @@
 -- Definitions of what an evaluation answers, and what it adds to the wants.
-use Rattle.std.specs.Prelude.{◌≡◌, ◌≢◌, List, [], ◌++◌, length, nat_lt, Some, None, if◌then◌else◌}
+use Rattle.std.specs.Prelude.{◌≡◌, ◌≢◌, List, [], ◌++◌, Some}
 use Rattle.load_memory.specs.Pairs.{MemoryOf, look}
 use Rattle.load_queue.specs.Wanted.{WantedOf}
-use Rattle.execution.specs.Loads.{Load, Reader, read}
+use Rattle.execution.specs.Loads.{Load}
 use Rattle.execution.specs.Program.{Program, needs}
 use Rattle.execution.specs.Executed.{exec}
 use Rattle.execution.specs.Front.{front, missing, wanting}
 use Rattle.futures.specs.declared.task.Poll.{Poll}
 use Rattle.futures.specs.declared.task.Poll.TheVariants.{Ready, Pending}
 use Rattle.gq_resolve.specs.declared.answered.ExecutionResult.{ExecutionResult}
+use Rattle.plan_walk.specs.Reading.{reader}
 use Rattle.gq_resolve.specs.Answered.{answered_of}
-
--- gives what a memory says of a load
-abbrev pub reader : MemoryOf → Reader
-reader m = read m.modes (look m.pairs)
-
--- gives what the memory says of the loads of its loaders; nothing of others, which no plan has
-abbrev pub lookup : MemoryOf → Reader
-lookup m load = if nat_lt load.loader (length m.modes) then reader m load else None
 
 -- the loads that are needed and that the memory lacks
 abbrev pub front_over : MemoryOf → Program → List Load

@@ -1,15 +1,6 @@
 pub mod Answered
 pub mod Evaluated
-pub mod Cells
 pub mod Completing
-pub mod Keys
-pub mod Steps
-pub mod Puts
-pub mod Positions
-pub mod Following
-pub mod Groups
-pub mod Walks
-pub mod Noted
 pub mod Written
 pub mod Composing
 pub mod Suspended

@@ -13,7 +13,7 @@ use Rattle.gq_resolve.specs.Suspended.{IsResponse, Advanced}
 use Rattle.gq_resolve.specs.declared.advance.FinishedWalk.{FinishedWalk}
 use Rattle.gq_resolve.specs.declared.answered.ExecutionResult.{ExecutionResult}
 use Rattle.gq_resolve.specs.declared.output.Output.{Output}
-use Rattle.gq_resolve.specs.Evaluated.{lookup}
+use Rattle.plan_walk.specs.Reading.{lookup}
 
 -- the refusal of an answer that is too long
 abbrev pub too_long_text : List ℕ

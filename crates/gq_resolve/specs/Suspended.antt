@@ -12,23 +12,20 @@ use Rattle.execution.specs.Front.{wanting}
 use Rattle.gq_check.specs.Plans.{PlanOf, plan_of}
 use Rattle.plan_program.specs.PlanPrograms.{root_prepared, plan_program}
 use Rattle.gq_resolve.specs.Answered.{answered_of, answered_json}
-use Rattle.gq_resolve.specs.Evaluated.{front_over, missing_over, lookup}
-use Rattle.gq_resolve.specs.Groups.{after_at, Makes, AreRight}
-use Rattle.gq_resolve.specs.Puts.{Put, View, puts}
+use Rattle.gq_resolve.specs.Evaluated.{front_over, missing_over}
+use Rattle.plan_walk.specs.Reading.{lookup}
+use Rattle.plan_walk.specs.Groups.{after_at, Makes, AreRight}
+use Rattle.plan_walk.specs.Puts.{Put, View, puts}
 use Rattle.gq_resolve.specs.Written.{asks, thinned, all_asks, AreWithin, IsWriting}
-use Rattle.gq_resolve.specs.declared.loading_fields.LoadingField.{LoadingField}
-use Rattle.gq_resolve.specs.declared.waiting.BlockedPosition.{BlockedPosition}
+use Rattle.plan_walk.specs.declared.loading_fields.LoadingField.{LoadingField}
+use Rattle.plan_walk.specs.declared.waiting.BlockedPosition.{BlockedPosition}
 use Rattle.gq_resolve.specs.declared.output.Output.{Output}
 use Rattle.gq_resolve.specs.declared.advance.RootObject.{RootObject}
 use Rattle.gq_resolve.specs.declared.advance.Suspension.{Suspension}
 use Rattle.gq_resolve.specs.declared.advance.FinishedWalk.{FinishedWalk}
 use Rattle.gq_resolve.specs.declared.answered.ExecutionResult.{ExecutionResult}
 use Rattle.gq_resolve.specs.declared.root_state.RootState.{RootState}
-use Rattle.gq_resolve.specs.declared.walk.Walk.{Walk}
-
--- gives what the groups do
-abbrev pub view_of : PlanOf → List LoadingField → View
-view_of plan gs = record { count = length gs; after = after_at plan gs }
+use Rattle.plan_walk.specs.declared.walk.Walk.{Walk}
 
 -- the members of the root, and groups that are right
 pub record IsRooted (plan : PlanOf) (r : RootObject) : Type 0 where

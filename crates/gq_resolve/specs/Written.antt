@@ -8,9 +8,9 @@ use Rattle.execution.specs.Loads.{Load, Reader}
 use Rattle.execution.specs.Program.{Leaf, LeafValue, Value, Null, Fault, Kind, ListOf, ObjectOf, Part, Key, Item, Program, needs}
 use Rattle.execution.specs.Front.{missing}
 use Rattle.gq_resolve.specs.Answered.{leaf_json}
-use Rattle.gq_resolve.specs.Puts.{Put, Begins, Ends, Enters, Has, Waits, View, waiting}
-use Rattle.gq_resolve.specs.Positions.{onward_of}
-use Rattle.gq_resolve.specs.declared.waiting.BlockedPosition.{BlockedPosition}
+use Rattle.plan_walk.specs.Puts.{Put, Begins, Ends, Enters, Has, Waits, View, waiting}
+use Rattle.plan_walk.specs.Positions.{onward_of}
+use Rattle.plan_walk.specs.declared.waiting.BlockedPosition.{BlockedPosition}
 use Rattle.gq_resolve.specs.declared.output.Output.{Output}
 
 -- ---- text

@@ -11,17 +11,17 @@ ghost use Rattle.gq_resolve.specs.Limited.{RespondsWithin};
 use crate::answered::ExecutionResult;
 use crate::bounded::BoundedBuilder;
 use crate::builder::Builder;
-use crate::loading_fields::{LoadingField, Member, members_of};
 use crate::output::Output;
-use crate::positions::{FieldPosition, Nullability, PositionKind};
-use crate::sink::Sink;
-use crate::waiting::Waiting;
-use crate::walk::{LoadingPosition, Progress, Walk};
 use crate::wanting::add_wants;
 use gq_lexer::Place;
 use load_memory::{Probe, Row};
 use load_queue::Wants;
 use plan_program::{collect, prepare_groups};
+use plan_walk::loading_fields::{LoadingField, Member, members_of};
+use plan_walk::positions::{FieldPosition, Nullability, PositionKind};
+use plan_walk::sink::Sink;
+use plan_walk::waiting::Waiting;
+use plan_walk::walk::{LoadingPosition, Progress, Walk};
 use std::alloc::AllocError;
 
 /// Says how many levels of objects a plan has at most below its root.

@@ -4,18 +4,18 @@ ghost use Rattle.std.specs.Prelude.{◌≡◌, ◌≤◌, ◌∷◌, [], OnOk, r
 ghost use Rattle.execution.specs.Executed.{response};
 ghost use Rattle.execution.specs.Program.{At};
 ghost use Rattle.plan_program.specs.Prepared.{leaf_value_seen};
-ghost use Rattle.gq_resolve.specs.Puts.{Has};
-ghost use Rattle.gq_resolve.specs.Positions.{is_non_null};
+ghost use Rattle.plan_walk.specs.Puts.{Has};
+ghost use Rattle.plan_walk.specs.Positions.{is_non_null};
 ghost use Rattle.gq_resolve.specs.Built.{nothing_built};
 ghost use Rattle.gq_resolve.specs.Bounded.{size_of, bytes_in, Bounds, BoundsPuts, CountsPut, CountsErrors, AreErrorBytes, FinishesWhole, FinishesOver};
 
 use crate::answered::ExecutionResult;
 use crate::builder::{Builder, copy_leaf_value};
-use crate::cells::cell_value;
-use crate::positions::{FieldPosition, Items, Leaf, Nullability, Onward, PositionKind};
-use crate::sink::Sink;
 use load_memory::KeyRef;
 use plan_program::LeafValue;
+use plan_walk::cells::cell_value;
+use plan_walk::positions::{FieldPosition, Items, Leaf, Nullability, Onward, PositionKind};
+use plan_walk::sink::Sink;
 use std::alloc::{AllocError, Global};
 
 /// Says how many bytes the text of an object or a list has at least.

@@ -9,17 +9,17 @@ ghost use Rattle.execution.specs.Executed.{completed};
 ghost use Rattle.plan_program.specs.Prepared.{leaf_value_seen};
 ghost use Rattle.gq_resolve.specs.Answered.{part_of, response_of, answered_of};
 ghost use Rattle.gq_resolve.specs.Bounded.{key_size, without_last_parts, without_errors, is_pulled};
-ghost use Rattle.gq_resolve.specs.Positions.{is_non_null};
+ghost use Rattle.plan_walk.specs.Positions.{is_non_null};
 ghost use Rattle.gq_resolve.specs.Built.{path_in, placed, given_leaf_value, at_root, with_error, built, nothing_built, IsWhole, position_held, built_of, goes-append};
 
 use crate::answered::ExecutionResult;
-use crate::cells::cell_value;
 use crate::level::{EndedLevel, Level, PartialValue, Position};
-use crate::positions::{FieldPosition, Items, Leaf, Nullability, Onward, PositionKind};
-use crate::sink::Sink;
 use answer_json::{FieldError, PathSegment, Response};
 use load_memory::KeyRef;
 use plan_program::LeafValue;
+use plan_walk::cells::cell_value;
+use plan_walk::positions::{FieldPosition, Items, Leaf, Nullability, Onward, PositionKind};
+use plan_walk::sink::Sink;
 use std::alloc::{AllocError, Global};
 use std::mem;
 

@@ -11,14 +11,14 @@ ghost use Rattle.gq_resolve.specs.Suspended.{plan_on};
 
 use crate::advance::{FinishedWalk, RootObject, go_over, prepare_root};
 use crate::most_groups::most_groups_of;
-use crate::positions::{FieldPosition, Items, Leaf, Nullability, Onward, PositionKind};
-use crate::reading::look_up;
-use crate::sink::Sink;
-use crate::waiting::BlockedPosition;
-use crate::walk::{LoadingPosition, Progress, Walk};
 use gq_check::Plan;
 use load_memory::{KeyRef, Memory, Probe};
 use plan_program::LeafValue;
+use plan_walk::positions::{FieldPosition, Items, Leaf, Nullability, Onward, PositionKind};
+use plan_walk::reading::look_up;
+use plan_walk::sink::Sink;
+use plan_walk::waiting::BlockedPosition;
+use plan_walk::walk::{LoadingPosition, Progress, Walk};
 use std::alloc::{AllocError, Global};
 
 /// Positions whose loads are still to be read, each as often as it was met.

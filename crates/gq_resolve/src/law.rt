@@ -7,7 +7,8 @@ ghost use Rattle.execution.specs.Loads.{Reader, AnswersMore};
 ghost use Rattle.execution.specs.Program.{Program, needs, tree};
 ghost use Rattle.gq_check.specs.Plans.{PlanOf};
 ghost use Rattle.gq_resolve.specs.Counting.{count_read, plan_read};
-ghost use Rattle.gq_resolve.specs.Evaluated.{reader, front_over};
+ghost use Rattle.gq_resolve.specs.Evaluated.{front_over};
+ghost use Rattle.plan_walk.specs.Reading.{reader};
 ghost use Rattle.gq_resolve.specs.KeyByKey.{IsKeyByKey, AreGivenBy, MakesCalls, called_loads};
 ghost use Rattle.plan_program.specs.PlanPrograms.{plan_program};
 

@@ -2,14 +2,13 @@
 
 ghost use Rattle.std.specs.Prelude.{◌≡◌, IfOk, OnOk, string_bytes};
 ghost use Rattle.execution.specs.Program.{Key, ObjectOf};
-ghost use Rattle.gq_resolve.specs.Answered.{part_of, response_of};
+ghost use Rattle.gq_resolve.specs.Answered.{part_of, response_of, is_null_response};
 ghost use Rattle.gq_resolve.specs.Bounded.{part_size, without_parts};
 ghost use Rattle.gq_resolve.specs.Built.{root_position, step_in, level_with, level_response, position_held, level_seen};
 
-use crate::completing::is_null;
-use crate::positions::Nullability;
 use answer_json::{PathSegment, Response};
 use gq_lexer::Place;
+use plan_walk::positions::Nullability;
 use std::alloc::{AllocError, Global};
 
 /// A position: the last step of its path, whether it may be null, and where its errors are.
@@ -128,4 +127,11 @@ impl Level {
         };
         EndedLevel { position, response }
     }
+}
+
+/// Tells whether a response is null.
+pub fn is_null(response: &Response) -> bool
+    ensures { result ≡ is_null_response (response_of response.now) }
+{
+    matches!(response, Response::Null)
 }

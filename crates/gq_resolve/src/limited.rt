@@ -7,8 +7,8 @@ ghost use Rattle.gq_resolve.specs.Suspended.{plan_on};
 use crate::advance::{FinishedWalk, build_response_within};
 use crate::answered::answer_text;
 use crate::output::Output;
-use crate::walk::Walk;
 use answer_json::write_refusal;
+use plan_walk::walk::Walk;
 use std::alloc::{AllocError, Global};
 
 // The refusal of an answer that is too long.

@@ -11,16 +11,16 @@ ghost use Rattle.json.specs.Reads.{token_of};
 ghost use Rattle.json.specs.Token.{number};
 ghost use Rattle.execution.specs.Program.{Null};
 ghost use Rattle.plan_program.specs.Prepared.{leaf_value_seen};
-ghost use Rattle.gq_resolve.specs.Cells.{value_seen};
-ghost use Rattle.gq_resolve.specs.Positions.{is_non_null};
+ghost use Rattle.plan_walk.specs.Cells.{value_seen};
+ghost use Rattle.plan_walk.specs.Positions.{is_non_null};
 
-use crate::cells::{CellValue, leaf_of};
-use crate::positions::{FieldPosition, Items, Leaf, Nullability, Onward, PositionKind};
-use crate::sink::Sink;
-use crate::waiting::Waiting;
 use json::{Token, Writer};
 use load_memory::{Cell, KeyRef};
 use plan_program::LeafValue;
+use plan_walk::cells::{CellValue, leaf_of};
+use plan_walk::positions::{FieldPosition, Items, Leaf, Nullability, Onward, PositionKind};
+use plan_walk::sink::Sink;
+use plan_walk::waiting::Waiting;
 use std::alloc::{AllocError, Global};
 
 /// The room that a text has from the start.

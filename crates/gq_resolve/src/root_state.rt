@@ -16,11 +16,11 @@ use crate::limited::text_or_refusal;
 use crate::most_groups::most_groups_of;
 use crate::output::NO_LIMIT;
 use crate::resolve::Resolve;
-use crate::walk::Walk;
 use futures::task::Poll;
 use gq_check::Plan;
 use load_memory::Memory;
 use load_queue::Wants;
+use plan_walk::walk::Walk;
 use std::alloc::{AllocError, Global};
 
 /// The execution of a plan, which goes on where it stopped.

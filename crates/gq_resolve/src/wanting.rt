@@ -10,10 +10,10 @@ ghost use Rattle.execution.specs.Front.{wanting};
 ghost use Rattle.gq_resolve.specs.Evaluated.{AddsPart};
 ghost use Rattle.gq_resolve.specs.Suspended.{loads_of};
 
-use crate::loading_fields::{LoadingField, may_load};
-use crate::waiting::Waiting;
 use load_memory::Key;
 use load_queue::Wants;
+use plan_walk::loading_fields::{LoadingField, may_load};
+use plan_walk::waiting::Waiting;
 use std::alloc::AllocError;
 
 // Adds a load, if there is such a loader.

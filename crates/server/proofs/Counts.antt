@@ -6,7 +6,7 @@ use Rattle.load_memory.specs.Pairs.{MemoryOf}
 use Rattle.gq_bindings.specs.Tree.{BindingsOf}
 use Rattle.gq_check.specs.Plans.{PlanOf}
 use Rattle.plan_program.specs.PlanPrograms.{plan_program}
-use Rattle.gq_resolve.specs.Evaluated.{reader}
+use Rattle.plan_walk.specs.Reading.{reader}
 use Rattle.gq_resolve.specs.Counting.{all_read, counted, plan_read}
 use Rattle.gq_resolve.proofs.ReadingOn.{all_read-append}
 use Rattle.load_rounds.specs.Sessions.{SessionOf, state_of, session_modes}

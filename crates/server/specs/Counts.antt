@@ -3,7 +3,7 @@ use Rattle.std.specs.Prelude.{◌≡◌, ℕ, List, [], ◌∷◌, map, Option}
 use Rattle.load_memory.specs.Pairs.{MemoryOf}
 use Rattle.gq_check.specs.Plans.{PlanOf}
 use Rattle.plan_program.specs.PlanPrograms.{plan_program}
-use Rattle.gq_resolve.specs.Evaluated.{reader}
+use Rattle.plan_walk.specs.Reading.{reader}
 use Rattle.gq_resolve.specs.Counting.{all_read, counted}
 use Rattle.load_rounds.specs.Sessions.{SessionOf, state_of, session_modes}
 use Rattle.request_line.specs.Requests.{RequestOf, IsRequest, AreRequests, IsNoRequest}

@@ -3,8 +3,8 @@ use Rattle.gq_check.specs.Plans.{PlanOf, plan_of}
 use Rattle.load_memory.specs.Pairs.{MemoryOf}
 use Rattle.plan_program.specs.PlanPrograms.{plan_program}
 use Rattle.gq_resolve.specs.Built.{built}
-use Rattle.gq_resolve.specs.Puts.{puts}
-use Rattle.gq_resolve.specs.Evaluated.{lookup}
+use Rattle.plan_walk.specs.Puts.{puts}
+use Rattle.plan_walk.specs.Reading.{lookup}
 use Rattle.gq_resolve.proofs.Loaders.{numbered-plan}
 use Rattle.gq_resolve.proofs.advance.build_response.Goals as goal
 

@@ -6,8 +6,8 @@ use Rattle.execution.specs.Executed.{completed}
 use Rattle.plan_program.specs.PlanPrograms.{plan_program}
 use Rattle.gq_resolve.specs.Answered.{answer_text}
 use Rattle.gq_resolve.specs.Built.{BuiltOf, built, nothing_built}
-use Rattle.gq_resolve.specs.Puts.{puts}
-use Rattle.gq_resolve.specs.Evaluated.{lookup}
+use Rattle.plan_walk.specs.Puts.{puts}
+use Rattle.plan_walk.specs.Reading.{lookup}
 use Rattle.gq_resolve.proofs.Loaders.{numbered-plan}
 use Rattle.gq_resolve.proofs.Limiting.{responds}
 use Rattle.gq_resolve.proofs.advance.build_response_within.Goals as goal

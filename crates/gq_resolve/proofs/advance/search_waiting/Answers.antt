@@ -1,8 +1,8 @@
 use Rattle.std.proofs.Common.{refl, sym, []}
 use Rattle.load_memory.specs.Keys.{borrowed_of}
 use Rattle.gq_resolve.specs.Composing.{puts-none}
-use Rattle.gq_resolve.proofs.Noting.{own-next, own-none}
-use Rattle.gq_resolve.proofs.Touring.{goes-put}
+use Rattle.plan_walk.proofs.Noting.{own-next, own-none}
+use Rattle.plan_walk.proofs.Touring.{goes-put}
 use Rattle.gq_resolve.proofs.Advancing.{resumed-one, all-resumed}
 use Rattle.gq_resolve.proofs.advance.search_waiting.Goals as goal
 

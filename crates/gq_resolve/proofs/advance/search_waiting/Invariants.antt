@@ -1,5 +1,5 @@
 use Rattle.gq_check.specs.Plans.{plan_of}
-use Rattle.gq_resolve.specs.Noted.{left_of_own}
+use Rattle.plan_walk.specs.Noted.{left_of_own}
 use Rattle.gq_resolve.proofs.Advancing.{AreResumed}
 use Rattle.gq_resolve.proofs.advance.search_waiting.Given as goal
 

@@ -1,6 +1,6 @@
 use Rattle.std.proofs.Common.{◌∙◌, ◌++◌, ap, refl, Option}
 use Rattle.std.specs.Option.{option_to_list}
-use Rattle.gq_resolve.specs.declared.waiting.BlockedPosition.{BlockedPosition}
+use Rattle.plan_walk.specs.declared.waiting.BlockedPosition.{BlockedPosition}
 use Rattle.gq_resolve.proofs.ReadingOn.{counted-more}
 use Rattle.gq_resolve.proofs.counting.read_all.Goals as goal
 

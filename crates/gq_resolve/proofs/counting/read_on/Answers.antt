@@ -6,12 +6,12 @@ use Rattle.load_memory.specs.Outcomes.{outcome_of}
 use Rattle.load_memory.specs.Pairs.{MemoryOf}
 use Rattle.execution.specs.Program.{given}
 use Rattle.plan_program.specs.PlanPrograms.{with_rows}
-use Rattle.gq_resolve.specs.Puts.{puts}
-use Rattle.gq_resolve.specs.Positions.{onward_of}
-use Rattle.gq_resolve.specs.Evaluated.{lookup}
+use Rattle.plan_walk.specs.Puts.{puts}
+use Rattle.plan_walk.specs.Positions.{onward_of}
+use Rattle.plan_walk.specs.Reading.{lookup}
 use Rattle.gq_resolve.specs.Suspended.{load_of}
-use Rattle.gq_resolve.specs.declared.waiting.BlockedPosition.{BlockedPosition}
-use Rattle.gq_resolve.proofs.Touring.{goes-as, goes-probed}
+use Rattle.plan_walk.specs.declared.waiting.BlockedPosition.{BlockedPosition}
+use Rattle.plan_walk.proofs.Touring.{goes-as, goes-probed}
 use Rattle.gq_resolve.proofs.counting.read_on.Goals as goal
 
 pub returns : goal.returns

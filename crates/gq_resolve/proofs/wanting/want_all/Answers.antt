@@ -1,7 +1,7 @@
 use Rattle.gq_resolve.specs.Evaluated.{AddsPart}
 use Rattle.gq_resolve.specs.Suspended.{loads_of}
-use Rattle.gq_resolve.specs.Noted.{left_of_own}
-use Rattle.gq_resolve.proofs.Noting.{own-next}
+use Rattle.plan_walk.specs.Noted.{left_of_own}
+use Rattle.plan_walk.proofs.Noting.{own-next}
 use Rattle.gq_resolve.proofs.Evaluating.{on_err, added-none, added-more, added-part}
 use Rattle.gq_resolve.proofs.wanting.want_all.Goals as goal
 

@@ -1,4 +1,4 @@
-use Rattle.gq_resolve.specs.Noted.{left_of_own}
+use Rattle.plan_walk.specs.Noted.{left_of_own}
 use Rattle.gq_resolve.proofs.Evaluating.{AreAdded}
 use Rattle.gq_resolve.proofs.wanting.want_all.Given as goal
 

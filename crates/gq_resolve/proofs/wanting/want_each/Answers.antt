@@ -4,7 +4,7 @@ use Rattle.load_memory.specs.Keys.{KeyOf}
 use Rattle.load_queue.specs.Wanted.{with_wanted}
 use Rattle.gq_resolve.specs.Evaluated.{AddsPart}
 use Rattle.gq_resolve.specs.Suspended.{loads_of}
-use Rattle.gq_resolve.specs.declared.waiting.BlockedPosition.{BlockedPosition}
+use Rattle.plan_walk.specs.declared.waiting.BlockedPosition.{BlockedPosition}
 use Rattle.gq_resolve.proofs.Evaluating.{on_err, added-none, added-more, added-part}
 use Rattle.gq_resolve.proofs.wanting.want_each.Goals as goal
 

@@ -4,7 +4,7 @@ use Rattle.execution.specs.Program.{LeafValue, Part, At}
 use Rattle.execution.specs.Completion.{ResponseOf, ErrorOf, own_errors}
 use Rattle.execution.specs.Executed.{response}
 use Rattle.plan_program.specs.Prepared.{leaf_value_seen}
-use Rattle.gq_resolve.specs.Positions.{is_non_null}
+use Rattle.plan_walk.specs.Positions.{is_non_null}
 use Rattle.gq_resolve.specs.Built.{BuiltOf, path_in, placed, with_errors, built_of}
 use Rattle.gq_resolve.specs.declared.bounded.LeastBytes.{LeastBytes}
 use Rattle.gq_resolve.proofs.Bounding.{errors-same, depth-below, key-sure, leaf_value-sure}

@@ -1,7 +1,7 @@
 use Rattle.std.proofs.Common.{◌≡◌, ℕ, List, ◌∷◌, reverse, arith, ap, sym, subst, refl, ◌∙◌}
 use Rattle.gq_resolve.specs.Built.{BuiltOf, begun, built_of}
 use Rattle.gq_resolve.specs.Bounded.{Keeps}
-use Rattle.gq_resolve.specs.Positions.{kind_of}
+use Rattle.plan_walk.specs.Positions.{kind_of}
 use Rattle.gq_resolve.specs.declared.bounded.LeastBytes.{LeastBytes}
 use Rattle.gq_resolve.proofs.Bounding.{begun-kept, key-sure, pushed}
 use Rattle.gq_resolve.proofs.bounded.BoundedBuilderSink.begin.Goals as goal

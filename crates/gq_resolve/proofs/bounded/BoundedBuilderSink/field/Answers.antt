@@ -1,7 +1,7 @@
 use Rattle.std.proofs.Common.{refl, reverse}
 use Rattle.std.proofs.lemmas.Result.{on_ok_weaker}
 use Rattle.gq_resolve.specs.Built.{built_of}
-use Rattle.gq_resolve.specs.Positions.{position_seen}
+use Rattle.plan_walk.specs.Positions.{position_seen}
 use Rattle.gq_resolve.proofs.Bounding.{entered-kept}
 use Rattle.gq_resolve.proofs.bounded.BoundedBuilderSink.field.Goals as goal
 

@@ -1,7 +1,7 @@
 use Rattle.std.proofs.Common.{refl, reverse}
 use Rattle.std.proofs.lemmas.Result.{on_ok_weaker}
 use Rattle.gq_resolve.specs.Built.{built_of}
-use Rattle.gq_resolve.specs.Positions.{item_position}
+use Rattle.plan_walk.specs.Positions.{item_position}
 use Rattle.gq_resolve.proofs.Bounding.{entered-kept}
 use Rattle.gq_resolve.proofs.bounded.BoundedBuilderSink.item.Goals as goal
 

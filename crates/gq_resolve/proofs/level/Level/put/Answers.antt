@@ -1,6 +1,6 @@
 use Rattle.std.proofs.Common.{◌≡◌, ◌||◌, ◌&&◌, refl}
 use Rattle.gq_resolve.specs.Answered.{response_of, is_null_response}
-use Rattle.gq_resolve.specs.Positions.{is_non_null}
+use Rattle.plan_walk.specs.Positions.{is_non_null}
 use Rattle.gq_resolve.specs.Built.{position_held}
 use Rattle.gq_resolve.proofs.BuildingLevels.{items-put, members-put}
 use Rattle.gq_resolve.proofs.level.Level.put.Goals as goal

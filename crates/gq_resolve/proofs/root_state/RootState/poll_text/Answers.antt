@@ -7,7 +7,7 @@ use Rattle.execution.specs.Program.{tree}
 use Rattle.gq_check.specs.Plans.{PlanOf, plan_of}
 use Rattle.plan_program.specs.PlanPrograms.{plan_program}
 use Rattle.gq_resolve.specs.Answered.{answered_of}
-use Rattle.gq_resolve.specs.Evaluated.{lookup}
+use Rattle.plan_walk.specs.Reading.{lookup}
 use Rattle.gq_resolve.proofs.Polling.{answer-done}
 use Rattle.gq_resolve.proofs.root_state.RootState.poll_text.Goals as goal
 

@@ -5,7 +5,7 @@ use Rattle.execution.specs.Executed.{completed}
 use Rattle.execution.specs.Program.{tree}
 use Rattle.gq_check.specs.Plans.{PlanOf, plan_of}
 use Rattle.plan_program.specs.PlanPrograms.{plan_program}
-use Rattle.gq_resolve.specs.Evaluated.{lookup}
+use Rattle.plan_walk.specs.Reading.{lookup}
 use Rattle.gq_resolve.proofs.Polling.{answer-done, answer-shut}
 use Rattle.gq_resolve.proofs.root_state.RootState.poll_text_within.Goals as goal
 

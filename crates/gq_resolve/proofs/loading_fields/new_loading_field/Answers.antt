@@ -1,6 +1,0 @@
-use Rattle.std.proofs.Common.{rules}
-use Rattle.gq_resolve.proofs.Grouping.{is-new}
-use Rattle.gq_resolve.proofs.loading_fields.new_loading_field.Goals as goal
-
-pub returns : goal.returns
-returns c = rw c.in_ok-push.ensures.items (is-new c.args.groups.now.items _ c.len-number.result (search rules) (search rules))

@@ -1,5 +1,0 @@
-use Rattle.gq_resolve.proofs.Noting.{stands-at}
-use Rattle.gq_resolve.proofs.waiting.PositionSet.likely.Goals as goal
-
-pub returns : goal.returns
-returns c = stands-at c.args.self.now.positions.keys _ c.get_index.result c.get_index.ensures.key

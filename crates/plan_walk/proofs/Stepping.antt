@@ -1,0 +1,53 @@
+-- One later loader after another.
+use Rattle.std.proofs.Common.{◌≡◌, ◌∙◌, ◌<◌, ◌≤◌, ◌-◌, ◌+◌, ℕ, suc, Bool, List, [], ◌∷◌, map, length, drop, get_or, sym, ap, arith}
+use Rattle.std.proofs.Math.Seq.{drop-cons}
+use Rattle.std.proofs.lemmas.List.{length-map, drop_all, get_or-map}
+use Rattle.schema_syntax.specs.Tree.{Definition}
+use Rattle.gq_bindings.specs.declared.binding.ViaLoader.{ViaLoader}
+use Rattle.gq_bindings.specs.Tree.{StepOf}
+use Rattle.gq_bindings.specs.Seen.{step_of}
+use Rattle.load_memory.specs.Rows.{RowOf}
+use Rattle.execution.specs.Loads.{Reader}
+use Rattle.execution.specs.Program.{Program}
+use Rattle.plan_program.specs.FieldValues.{ChildrenOf, of_column}
+use Rattle.plan_program.specs.PlanPrograms.{Objects, read_from, first_of, joined_object}
+use Rattle.plan_walk.specs.Following.{stepped_puts}
+use Rattle.plan_walk.specs.Puts.{puts}
+use Rattle.plan_walk.specs.Steps.{last_steps}
+use Rattle.plan_walk.specs.declared.following.ViaRow.{ViaRow}
+
+-- from a row these steps come to what others come to from another row
+abbrev pub Reaches : Reader → List StepOf → RowOf → List StepOf → RowOf → Type 0
+Reaches R steps from others row = (non_null : Bool) (defs : List Definition) (objects : Objects) (below : ChildrenOf) → puts non_null (joined_object defs objects below steps from) R ≡ puts non_null (joined_object defs objects below others row) R
+
+-- the step of a number, and those after it
+step-there : (steps : List ViaLoader) (i : ℕ) (s : ViaLoader) → i < length steps → s ≡ get_or steps i s → drop i (map step_of steps) ≡ step_of s ∷ drop (i + 1) (map step_of steps)
+step-there steps i s lt is =
+    let within : i < length (map step_of steps) = omega (arith, length-map steps step_of) in
+    let next : suc i ≡ i + 1 = omega arith in
+    drop-cons (map step_of steps) i (step_of s) within
+    ∙ ap (λ (x : StepOf). x ∷ drop (suc i) (map step_of steps)) (get_or-map step_of steps i s (step_of s) lt ∙ ap step_of (sym is))
+    ∙ ap (λ n. step_of s ∷ drop n (map step_of steps)) next
+
+-- a step to the row that one loader more came to
+pub reach-step : (R : Reader) (start : List StepOf) (from : RowOf) (steps : List ViaLoader) (i : ℕ) (s : ViaLoader) (row : RowOf) (there : ViaRow) → Reaches R start from (drop i (map step_of steps)) row → i < length steps → s ≡ get_or steps i s
+    → ((non_null : Bool) (next : RowOf → Program) → puts non_null (read_from s.loader (of_column (step_of s).column) row (first_of next)) R ≡ stepped_puts non_null R s.loader next there)
+    → (non_null : Bool) (defs : List Definition) (objects : Objects) (below : ChildrenOf)
+    → puts non_null (joined_object defs objects below start from) R ≡ stepped_puts non_null R s.loader (joined_object defs objects below (drop (i + 1) (map step_of steps))) there
+reach-step R start from steps i s row there reached lt is step = λ non_null defs objects below.
+    reached non_null defs objects below
+    ∙ ap (λ (ss : List StepOf). puts non_null (joined_object defs objects below ss row) R) (step-there steps i s lt is)
+    ∙ step non_null (joined_object defs objects below (drop (i + 1) (map step_of steps)))
+
+-- the last row is reached where no step is left
+pub reach-end : (R : Reader) (start : List StepOf) (from : RowOf) (steps : List ViaLoader) (i : ℕ) (row : RowOf) → Reaches R start from (drop i (map step_of steps)) row → length steps ≤ i → Reaches R start from [] row
+reach-end R start from steps i row reached le = λ non_null defs objects below.
+    reached non_null defs objects below
+    ∙ ap (λ (ss : List StepOf). puts non_null (joined_object defs objects below ss row) R) (drop_all i (map step_of steps) (omega (arith, le, length-map steps step_of)))
+
+-- those that are left after the step of a number
+pub left-after : (steps : List ViaLoader) (i n : ℕ) → i < length steps → n ≡ length steps - i - 1 → drop (i + 1) (map step_of steps) ≡ last_steps n (map step_of steps)
+left-after steps i n lt e = let same : i + 1 ≡ length (map step_of steps) - n = omega (arith, length-map steps step_of, e, lt) in ap (λ k. drop k (map step_of steps)) same
+
+pub left-first : (steps : List ViaLoader) (n i : ℕ) → i ≡ length steps - n → last_steps n (map step_of steps) ≡ drop i (map step_of steps)
+left-first steps n i e = let same : length (map step_of steps) - n ≡ i = omega (arith, length-map steps step_of, e) in ap (λ k. drop k (map step_of steps)) same

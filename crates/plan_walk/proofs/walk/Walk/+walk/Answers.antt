@@ -1,0 +1,249 @@
+use Rattle.std.specs.Arc.{arc_value}
+use Rattle.std.proofs.Common.{◌≡◌, ◌-◌, ◌∙◌, ◌<◌, ◌++◌, rules, ℕ, List, [], ◌∷◌, map, length, arith, sym, ap, subst, refl, Option, Some, Vec, Global, string_bytes, false}
+use Rattle.std.specs.Prelude.{OnOk}
+use Rattle.std.specs.Option.{option_map, option_copied}
+use Rattle.std.proofs.lemmas.List.{take_all, length-map}
+use Rattle.std.proofs.lemmas.Result.{on_ok_weaker}
+use Rattle.schema_syntax.specs.Tree.{Definition}
+use Rattle.gq_schema.specs.Types.{tree_of}
+use Rattle.gq_bindings.specs.Tree.{StepOf}
+use Rattle.gq_bindings.specs.Seen.{step_of}
+use Rattle.load_memory.specs.Keys.{KeyOf, key_of, borrowed_of}
+use Rattle.load_memory.specs.Rows.{RowOf}
+use Rattle.load_memory.specs.Outcomes.{outcome_of}
+use Rattle.load_memory.specs.declared.key.Key.{Key}
+use Rattle.execution.specs.Loads.{Reader}
+use Rattle.execution.specs.Program.{Fault, Program, Is, Under, ListOf, ObjectOf}
+use Rattle.gq_check.specs.Plans.{PlanOf, plan_of}
+use Rattle.plan_program.specs.PlanPrograms.{TypeOf, object_type, type_fault, type_of_row, places, read_key, read_if, typed_object, object_program}
+use Rattle.plan_walk.specs.Groups.{children_at, then_at, steps_in, Covers, AreOnly, IsShaped}
+use Rattle.plan_walk.specs.Puts.{Ends, Waits, View, OnwardOf, puts}
+use Rattle.plan_walk.specs.Positions.{is_non_null, onward_of, later_of}
+use Rattle.plan_walk.specs.Reading.{lookup}
+use Rattle.plan_walk.specs.Walks.{WalksList, items_read}
+use Rattle.plan_program.specs.Prepared.{keys_seen}
+use Rattle.plan_walk.specs.declared.positions.Onward.{Onward}
+use Rattle.plan_walk.specs.Following.{followed_puts}
+use Rattle.plan_walk.specs.declared.loading_fields.LoadingField.{LoadingField}
+use Rattle.plan_walk.specs.declared.loading_fields.Member.{Member}
+use Rattle.plan_walk.specs.declared.loading_fields.RowUse.TheVariants.{Joined}
+use Rattle.plan_walk.proofs.Touring.{Laws, goes-put, goes-as, walks-as, goes-probed, goes-entered, goes-ended, goes-made, goes-only-none, goes-only, goes-let_go, fields_put, fields-more, known-at, items-more, items-whole, joined_by, after-first, after-all, after-joined, after-followed, after-missing, after-row, after-head, map-map}
+use Rattle.plan_walk.proofs.walk.Walk.+walk.Given.{Over}
+use Rattle.plan_walk.proofs.walk.Walk.+walk.Goals as goal
+
+laws : (g : Over) → Laws g.S.Sink.goes g.S.Sink.below
+laws g = record { more = g.met.S.Sink.more; rises = g.met.S.Sink.rises; stays = g.met.S.Sink.stays }
+
+-- ---- objects and lists
+
+pub object-loop-member-preserved : goal.object-loop-member-preserved
+object-loop-member-preserved g t c =
+    let i = c.loop-member.member-index in
+    goes-as (goes-entered (laws g) (known-at _ _ c.args.members.now i c.member-item.result c.loop-member.invariant.grows.longer (omega (arith, c.loop-member-test.true)) c.member-item.is) c.loop-member.invariant refl c.in_ok-field.ensures c.in_ok-ask.ensures)
+    (λ k v cov. fields-more (plan_of c.args.self.now.plan.now).definitions c.args.levels c.args.row.now (lookup c.args.self.now.memory.now) c.args.members.now i c.member-item.result v (omega (arith, c.loop-member-test.true)) c.member-item.is)
+
+pub object-returns : goal.object-returns
+object-returns g t c =
+    on_ok_weaker c.end.result
+    (λ q. goes-as (goes-ended (laws g) c.loop-member.invariant refl q)
+    (λ k v cov. ap (λ ms. fields_put (plan_of c.args.self.now.plan.now).definitions c.args.levels c.args.row.now (lookup c.args.self.now.memory.now) ms v ++ Ends ObjectOf ∷ []) (take_all c.loop-member.member-index c.args.members.now c.loop-member-test.false)))
+    c.end.ensures
+
+pub all-loop-number-preserved : goal.all-loop-number-preserved
+all-loop-number-preserved g t c =
+    goes-as (goes-entered (laws g) (λ lt. omega (arith, lt, c.loop-number.invariant.grows.longer)) c.loop-number.invariant refl c.in_ok-item.ensures c.in_ok-follow.ensures)
+    (λ k v cov. items-more _ _ _ (λ (v : View) (row : RowOf). v.after (later_of c.args.left (onward_of c.args.onward)) (row ∷ [])) c.args.rows.now c.loop-number.number c.index-rows-number.result v c.loop-number-test.true c.index-rows-number.is)
+
+pub all-returns : goal.all-returns
+all-returns g t c =
+    on_ok_weaker c.end.result
+    (λ q. goes-as (goes-ended (laws g) c.loop-number.invariant refl q)
+    (λ k v cov. items-whole _ _ _ _ _ (λ (v : View) (row : RowOf). v.after (later_of c.args.left (onward_of c.args.onward)) (row ∷ [])) c.args.rows.now c.loop-number.number v
+    (c.items_of-items.ensures.nullability ∙ ap (λ (gs : List LoadingField). (children_at gs c.args.onward.group).item_non_null) c.deref.ensures.value)
+    (c.items_of-items.ensures.place ∙ ap (λ (gs : List LoadingField). (children_at gs c.args.onward.group).place) c.deref.ensures.value) c.loop-number-test.false))
+    c.end.ensures
+
+pub follow-returns-then-left-eq0 : goal.follow-returns-then-left-eq0
+follow-returns-then-left-eq0 g t c =
+    let none : 0 ≡ c.args.left = omega (arith, c.if-left-eq0.true) in
+    on_ok_weaker c.row_object.result
+    (λ p. walks-as (is_non_null c.args.to.nullability) _ _ _ p (λ k v cov. ap (λ (n : ℕ). v.after (later_of n (onward_of c.args.to.onward)) (c.args.row.now ∷ [])) none))
+    c.row_object.ensures
+
+-- the later loaders of a group are those of the groups that were lent
+steps-lent : (gs lent : List LoadingField) (group : ℕ) (steps : List StepOf) → steps ≡ steps_in (then_at lent group) → lent ≡ gs → steps ≡ steps_in (then_at gs group)
+steps-lent gs lent group steps is same = is ∙ ap (λ (xs : List LoadingField). steps_in (then_at xs group)) same
+
+pub follow-returns-in-Row : goal.follow-returns-in-Row
+follow-returns-in-Row g t c =
+    let R : Reader = lookup c.args.self.now.memory.now in
+    let onward : OnwardOf = onward_of c.args.to.onward in
+    let steps : List StepOf = map step_of c.steps_of-steps.result.now in
+    let same = steps-lent c.args.at.now.groups.items _ onward.group steps c.steps_of-steps.ensures c.deref.ensures.value in
+    on_ok_weaker c.row_object-in-Row.result
+    (λ p. goes-probed _ (goes-as p (λ lt v cov.
+    ap (λ (q : Program). puts (is_non_null c.args.to.nullability) q R) (after-row _ _ v onward cov lt c.in-Row.row.now)
+    ∙ sym (after-followed _ _ v onward cov lt c.args.left (is_non_null c.args.to.nullability) R steps c.args.row.now c.in_ok-row.field-0 same c.in_ok-row.ensures ∙ ap (followed_puts (is_non_null c.args.to.nullability) R (joined_by _ _ v onward cov lt) steps) c.in-Row.is))))
+    c.row_object-in-Row.ensures
+
+pub follow-returns-in-LeafValue : goal.follow-returns-in-LeafValue
+follow-returns-in-LeafValue g t c =
+    let R : Reader = lookup c.args.self.now.memory.now in
+    let onward : OnwardOf = onward_of c.args.to.onward in
+    let steps : List StepOf = map step_of c.steps_of-steps.result.now in
+    let same = steps-lent c.args.at.now.groups.items _ onward.group steps c.steps_of-steps.ensures c.deref.ensures.value in
+    on_ok_weaker c.leaf_value.result
+    (λ q. goes-as (goes-put refl (λ k v _. q v)) (λ lt v cov.
+    sym (after-followed _ _ v onward cov lt c.args.left (is_non_null c.args.to.nullability) R steps c.args.row.now c.in_ok-row.field-0 same c.in_ok-row.ensures ∙ ap (followed_puts (is_non_null c.args.to.nullability) R (joined_by _ _ v onward cov lt) steps) c.in-LeafValue.is)))
+    c.leaf_value.ensures
+
+pub follow-returns-in-Missing : goal.follow-returns-in-Missing
+follow-returns-in-Missing g t c =
+    let R : Reader = lookup c.args.self.now.memory.now in
+    let onward : OnwardOf = onward_of c.args.to.onward in
+    let steps : List StepOf = map step_of c.steps_of-steps.result.now in
+    let same = steps-lent c.args.at.now.groups.items _ onward.group steps c.steps_of-steps.ensures c.deref.ensures.value in
+    on_ok_weaker c.wait.result
+    (λ q. goes-as (goes-put refl (λ k v le. q v (omega (arith, k, le)))) (λ lt v cov.
+    ap (λ (f : List RowOf → Program). Waits (read_key c.in-Missing.loader (borrowed_of c.in-Missing.key) f) ∷ []) (after-missing _ _ v onward cov lt c.in-Missing.left steps same)
+    ∙ sym (after-followed _ _ v onward cov lt c.args.left (is_non_null c.args.to.nullability) R steps c.args.row.now c.in_ok-row.field-0 same c.in_ok-row.ensures ∙ ap (followed_puts (is_non_null c.args.to.nullability) R (joined_by _ _ v onward cov lt) steps) c.in-Missing.is)))
+    c.wait.ensures
+
+pub each-loop-number-preserved : goal.each-loop-number-preserved
+each-loop-number-preserved g t c =
+    let item = λ (v : View) (k : Option Key). read_if c.args.loader (v.after (onward_of c.args.onward)) (option_map key_of k) in
+    goes-as (goes-entered (laws g) (λ lt. omega (arith, lt, c.loop-number.invariant.grows.longer)) c.loop-number.invariant refl c.in_ok-item.ensures c.in_ok-read_if.ensures)
+    (λ k v cov. items-more _ _ _ item c.args.keys.now c.loop-number.number c.index-keys-number.result v c.loop-number-test.true c.index-keys-number.is)
+
+pub each-returns : goal.each-returns
+each-returns g t c =
+    let read = λ (v : View) (k : Option KeyOf). read_if c.args.loader (v.after (onward_of c.args.onward)) k in
+    let put = λ (ps : List Program). puts false (Under ListOf (places (is_non_null c.args.items.nullability) c.args.items.place 0 ps)) (lookup c.args.self.now.memory.now) in
+    on_ok_weaker c.end.result
+    (λ q. goes-as (goes-ended (laws g) c.loop-number.invariant refl q)
+    (λ k v cov. items-whole _ _ _ _ _ (λ (v : View) (k : Option Key). read v (option_map key_of k)) c.args.keys.now c.loop-number.number v refl refl c.loop-number-test.false
+    ∙ ap put (sym (map-map (read v) (λ (x : Option Key). option_map key_of x) c.args.keys.now))))
+    c.end.ensures
+
+-- ---- what a position asks for
+
+pub ask-returns-in-Each : goal.ask-returns-in-Each
+ask-returns-in-Each g t c =
+    let put = λ (o : Onward). WalksList g.S.Sink.goes g.S.Sink.below c.args.self.now o (λ v. items_read v c.in-Each.items (onward_of o) c.in-Each.loader (keys_seen c.deref.result.now)) c.args.at.now c.each.new.at in
+    rw (c.in-Each.is, ← c.deref.ensures.value) (subst (λ (o : Onward). OnOk c.each.result (put o)) c.at-in-Each.ensures c.each.ensures)
+
+pub read_from-returns-in-Known : goal.read_from-returns-in-Known
+read_from-returns-in-Known g t c =
+    on_ok_weaker c.read.result
+    (λ p. walks-as (is_non_null c.args.to.nullability) _ _ _ p (λ k v cov. sym (c.in-Known.ensures c.args.loader (v.after (onward_of c.args.to.onward)))))
+    c.read.ensures
+
+pub read_if-returns-in-Some : goal.read_if-returns-in-Some
+read_if-returns-in-Some g t c = rw (c.in-Some.is, ← c.as_key_ref.ensures) c.read.ensures
+
+pub read_from-returns-in_ok-no_column_message-in-Lacking : goal.read_from-returns-in_ok-no_column_message-in-Lacking
+read_from-returns-in_ok-no_column_message-in-Lacking g t c =
+    on_ok_weaker c.leaf_value-in-Lacking.result
+    (λ q. walks-as (is_non_null c.args.to.nullability) _ (λ v. Is (Fault (string_bytes c.in_ok-no_column_message-in-Lacking.field-0))) _ (goes-put refl (λ k v _. q v))
+    (λ k v cov. ap (λ m. Is (Fault m)) c.in_ok-no_column_message-in-Lacking.ensures ∙ sym (c.in-Lacking.ensures c.args.loader (v.after (onward_of c.args.to.onward)))))
+    c.leaf_value-in-Lacking.ensures
+
+-- ---- loads
+
+pub read-returns-in-Some : goal.read-returns-in-Some
+read-returns-in-Some g t c =
+    let known : lookup c.args.self.now.memory.now (record { loader = c.args.loader; key = borrowed_of c.args.key }) ≡ Some (outcome_of c.in-Some.outcome.now) =
+    sym c.in_ok-outcome.ensures ∙ ap (λ x. option_map outcome_of (option_copied x)) c.in-Some.is in
+    rw known (on_ok_weaker c.go_on.result (λ p. goes-probed _ p) c.go_on.ensures)
+
+pub go_on-returns-in-Rows : goal.go_on-returns-in-Rows
+go_on-returns-in-Rows g t c = rw (c.in-Rows.is, ← c.deref.ensures.value) c.rows.ensures
+
+pub rows-returns-in-Some : goal.rows-returns-in-Some
+rows-returns-in-Some g t c =
+    let onward : OnwardOf = onward_of c.args.to.onward in
+    let same : later_of c.in-Some.left onward ≡ onward = ap (λ (l : Option ℕ). let o : OnwardOf = record { group = onward.group; later = l; levels = onward.levels } in o) (sym c.in-Some.is) in
+    on_ok_weaker c.first.result (λ p. walks-as (is_non_null c.args.to.nullability) _ _ _ p (λ k v cov. ap (λ (o : OnwardOf). v.after o c.args.rows.now) same)) c.first.ensures
+
+pub rows-returns-in-First : goal.rows-returns-in-First
+rows-returns-in-First g t c =
+    let does = sym c.then_of.ensures ∙ c.in-First.is in
+    on_ok_weaker c.first-in-First.result
+    (λ p. walks-as (is_non_null c.args.to.nullability) _ _ _ p (λ lt v cov. ap (λ (f : List RowOf → Program). f c.args.rows.now) (sym (after-first _ _ v (onward_of c.args.to.onward) cov lt _ c.in_default.is c.deref.ensures.value does))))
+    c.first-in-First.ensures
+
+pub rows-returns-in-All : goal.rows-returns-in-All
+rows-returns-in-All g t c =
+    let does = sym c.then_of.ensures ∙ c.in-All.is in
+    on_ok_weaker c.all.result
+    (λ p. walks-as (is_non_null c.args.to.nullability) _ _ _ p (λ lt v cov. sym (after-all _ _ v (onward_of c.args.to.onward) cov lt _ c.args.rows.now c.in_default.is c.deref.ensures.value does))) c.all.ensures
+
+pub rows-returns-in-Joined : goal.rows-returns-in-Joined
+rows-returns-in-Joined g t c =
+    let does = sym c.then_of.ensures ∙ c.in-Joined.is in
+    let all : length c.in-Joined.steps.now ≡ length (map step_of c.in-Joined.steps.now) = sym (length-map c.in-Joined.steps.now step_of) in
+    on_ok_weaker c.all-in-Joined.result
+    (λ p. walks-as (is_non_null c.args.to.nullability) _ _ _ p (λ lt v cov.
+    sym (after-joined _ _ v (onward_of c.args.to.onward) cov lt _ c.args.rows.now (length c.in-Joined.steps.now) (Joined c.in-Joined.steps) c.in_default.is c.deref.ensures.value does all (λ below. refl))))
+    c.all-in-Joined.ensures
+
+pub first-returns-in-len1-up : goal.first-returns-in-len1-up
+first-returns-in-len1-up g t c =
+    on_ok_weaker c.follow.result
+    (λ p. walks-as (is_non_null c.args.to.nullability) _ _ _ p (λ lt v cov. after-head _ _ v (onward_of c.args.to.onward) cov lt c.args.left c.args.rows.now c.row-item.result (omega (arith, c.in-len1-up.len_at_least)) c.row-item.is))
+    c.follow.ensures
+
+-- ---- objects of rows
+
+-- the program of a row whose type is known
+row-as : (plan : PlanOf) (gs lent : List LoadingField) (v : View) (onward : OnwardOf) (cov : Covers plan gs v) (lt : onward.group < length gs) (row : RowOf) (defs : List Definition) (name : List ℕ) (ty : TypeOf)
+    → lent ≡ gs → defs ≡ plan.definitions → name ≡ (children_at lent onward.group).type_name → ty ≡ type_of_row defs name row → typed_object (object_program plan onward.levels) (children_at gs onward.group) row ty ≡ v.after (later_of 0 onward) (row ∷ [])
+row-as plan gs lent v onward cov lt row defs name ty same said named is =
+    ap (typed_object (object_program plan onward.levels) (children_at gs onward.group) row)
+    (is ∙ ap (λ ds. type_of_row ds name row) said ∙ ap (λ n. type_of_row plan.definitions n row) (named ∙ ap (λ (xs : List LoadingField). (children_at xs onward.group).type_name) same))
+    ∙ sym (after-row plan gs v onward cov lt row)
+
+pub row_object-returns-in-Some : goal.row_object-returns-in-Some
+row_object-returns-in-Some g t c =
+    let lent : (arc_value c.in-Some.members).items ≡ c.deref-in-Some-2.result.now = sym (c.deref-in-Some-2.ensures.value ∙ ap (λ (xs : Vec Member Global). xs.items) c.deref-in-Some.ensures) in
+    let only : AreOnly c.deref.result.now c.args.to.onward.group (arc_value c.in-Some.members).items = rw c.in-Some.is at c.in_ok-members.ensures in
+    c.only_object.ensures (subst (λ (gs : List LoadingField). AreOnly gs c.args.to.onward.group c.deref-in-Some-2.result.now) c.deref.ensures.value
+    (subst (λ (ms : List Member). AreOnly c.deref.result.now c.args.to.onward.group ms) lent only))
+
+pub only_object-returns-then-levels-eq0 : goal.only_object-returns-then-levels-eq0
+only_object-returns-then-levels-eq0 g t c = λ only.
+    let none : 0 ≡ c.args.to.onward.levels = omega (arith, c.if-levels-eq0.true) in
+    on_ok_weaker c.leaf_value.result
+    (λ q. goes-only-none {goes = g.S.Sink.goes} {below = g.S.Sink.below} (is_non_null c.args.to.nullability) (lookup c.args.self.now.memory.now) (onward_of c.args.to.onward) c.args.row.now c.args.at.now _ c.args.members.now none only (λ k. k) (goes-put refl (λ k v _. q v)))
+    c.leaf_value.ensures
+
+pub only_object-returns : goal.only_object-returns
+only_object-returns g t c = λ only.
+    on_ok_weaker c.object.result
+    (λ p. goes-only (is_non_null c.args.to.nullability) (lookup c.args.self.now.memory.now) (onward_of c.args.to.onward) (c.args.to.onward.levels - 1) c.args.row.now c.args.at.now _ c.args.members.now (omega (arith, c.if-levels-eq0.false)) only (λ k. k) p)
+    c.object.ensures
+
+pub row_object-returns-in-Object : goal.row_object-returns-in-Object
+row_object-returns-in-Object g t c =
+    let seen : object_type c.in-Object.ty.now ≡ type_of_row (tree_of c.schema.result.now) c.type_name_of-name.result.now c.args.row.now = rw c.in-Object.is at c.in_ok-ty.ensures in
+    on_ok_weaker c.typed_object.result
+    (λ p. walks-as (is_non_null c.args.to.nullability) _ _ _ p (λ lt v cov. row-as _ c.args.at.now.groups.items _ v (onward_of c.args.to.onward) cov lt c.args.row.now _ _ _ c.deref-2.ensures.value (ap tree_of c.schema.ensures) c.type_name_of-name.ensures seen))
+    c.typed_object.ensures
+
+pub row_object-returns-in-Fault : goal.row_object-returns-in-Fault
+row_object-returns-in-Fault g t c =
+    let seen : type_fault (string_bytes c.in-Fault.text) ≡ type_of_row (tree_of c.schema.result.now) c.type_name_of-name.result.now c.args.row.now = rw c.in-Fault.is at c.in_ok-ty.ensures in
+    on_ok_weaker c.leaf_value.result
+    (λ q. walks-as (is_non_null c.args.to.nullability) _ (λ v. Is (Fault (string_bytes c.in-Fault.text))) _ (goes-put refl (λ k v _. q v))
+    (λ lt v cov. row-as _ c.args.at.now.groups.items _ v (onward_of c.args.to.onward) cov lt c.args.row.now _ _ _ c.deref-2.ensures.value (ap tree_of c.schema.ensures) c.type_name_of-name.ensures seen))
+    c.leaf_value.ensures
+
+pub typed_object-returns : goal.typed_object-returns
+typed_object-returns g t c =
+    let old : List LoadingField = c.args.at.now.groups.items in
+    let lent : (arc_value c.in_ok-members.members).items ≡ c.deref-2.result.now = sym (c.deref-2.ensures.value ∙ ap (λ (xs : Vec Member Global). xs.items) c.deref.ensures) in
+    let shaped : IsShaped (plan_of c.args.self.now.plan.now) c.args.self.now.most old c.shape_of.new.groups.items c.args.to.onward.group c.args.ty.now c.deref-2.result.now = rw (← lent) c.in_ok-members.ensures in
+    goes-let_go g.S.Sink.waits g.met.S.Sink.narrow (search rules) c.waiting-held.ensures
+    (goes-made (is_non_null c.args.to.nullability) (lookup c.args.self.now.memory.now) c.args.to.onward.levels (c.args.to.onward.levels - 1) c.args.to.onward.group c.args.ty.now c.args.row.now c.args.at.now _ c.object.new.at c.deref-2.result.now (laws g)
+    (omega (arith, c.if-levels-eq0.false)) refl shaped c.in_ok-object.ensures)
+    c.let_go.ensures

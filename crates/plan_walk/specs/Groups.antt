@@ -1,0 +1,191 @@
+-- Definitions of what is kept of the groups that load, by their numbers.
+use Rattle.std.specs.Prelude.{◌≡◌, ◌<◌, ◌≤◌, ℕ, true, false, List, [], ◌∷◌, length, map, take, string_bytes, Option, Some, None}
+use Rattle.std.specs.List.{All, slice_get}
+use Rattle.std.specs.Option.{option_map_or}
+use Rattle.std.specs.Arc.{arc_value}
+use Rattle.std.specs.declared.sync.Arc.{Arc}
+use Rattle.std.specs.declared.alloc.Global.{Global}
+use Rattle.gq_parser.specs.Tree.{type_of}
+use Rattle.schema_syntax.specs.Tree.{Definition}
+use Rattle.gq_bindings.specs.Types.{is_object_type}
+use Rattle.gq_bindings.specs.Tree.{StepOf}
+use Rattle.gq_bindings.specs.Seen.{step_of}
+use Rattle.load_memory.specs.Rows.{RowOf, cell_of}
+use Rattle.execution.specs.Program.{Program, Is, Under, Programs, End, With, ListOf}
+use Rattle.gq_check.specs.Plans.{PlanOf}
+use Rattle.plan_program.specs.Groups.{nothing_collected, collect_subfields}
+use Rattle.plan_program.specs.FieldValues.{ChildrenOf, ValueFrom, PreparedOf, all_prepared}
+use Rattle.plan_program.specs.Prepared.{leaf_value_seen, key_from_seen, keys_seen, children_seen}
+use Rattle.plan_program.specs.PlanPrograms.{cell_value, places, fields_of, read_from, read_if, first_object, all_objects, first_of, joined_object, joined_objects, asked_program, object_program}
+use Rattle.plan_program.specs.declared.prepared.Children.{Children}
+use Rattle.plan_walk.specs.Steps.{last_steps}
+use Rattle.plan_walk.specs.Puts.{OnwardOf, View}
+use Rattle.plan_walk.specs.Positions.{is_non_null, position_seen}
+use Rattle.plan_walk.specs.declared.loading_fields.FieldResolver.{FieldResolver}
+use Rattle.plan_walk.specs.declared.loading_fields.FieldResolver.TheVariants as asks
+use Rattle.plan_walk.specs.declared.loading_fields.Member.{Member}
+use Rattle.plan_walk.specs.declared.loading_fields.TypePositions.{TypePositions}
+use Rattle.plan_walk.specs.declared.loading_fields.LoadingField.{LoadingField}
+use Rattle.plan_walk.specs.declared.loading_fields.RowUse.{RowUse}
+use Rattle.plan_walk.specs.declared.loading_fields.RowUse.TheVariants.{First, All as Each, Joined}
+
+abbrev pub children_in : Arc Children Global → ChildrenOf
+children_in children = children_seen (arc_value children)
+
+-- ---- what a group does with the rows of its load
+
+-- the rows have `levels` levels of objects below them
+abbrev pub then_rows : PlanOf → ℕ → RowUse → ChildrenOf → List RowOf → Program
+then_rows plan levels First children rows = first_object plan.definitions (object_program plan levels) children rows
+then_rows plan levels Each children rows = all_objects plan.definitions (object_program plan levels) children rows
+then_rows plan levels (Joined steps) children rows = joined_objects plan.definitions (object_program plan levels) children (map step_of steps.now) rows
+
+-- the later loaders of its `via`
+abbrev pub steps_in : RowUse → List StepOf
+steps_in First = []
+steps_in Each = []
+steps_in (Joined steps) = map step_of steps.now
+
+-- after a later load the first row is taken, and `left` of these loaders are left
+abbrev pub next_rows : PlanOf → ℕ → Option ℕ → RowUse → ChildrenOf → List RowOf → Program
+next_rows plan levels None next children rows = then_rows plan levels next children rows
+next_rows plan levels (Some left) next children rows = first_of (joined_object plan.definitions (object_program plan levels) children (last_steps left (steps_in next))) rows
+
+-- gives what the group of a number stands for; past the last of them nothing
+abbrev pub nowhere : ChildrenOf
+nowhere = record { type_name = []; item_non_null = false; place = record { line = 1; column = 1 }; fields = [] }
+
+abbrev pub children_at : List LoadingField → ℕ → ChildrenOf
+children_at gs i = option_map_or (λ (g : LoadingField). children_in g.children) (slice_get gs i) nowhere
+
+abbrev pub then_at : List LoadingField → ℕ → RowUse
+then_at gs i = option_map_or (λ (g : LoadingField). g.then) (slice_get gs i) First
+
+abbrev pub after_at : PlanOf → List LoadingField → OnwardOf → List RowOf → Program
+after_at plan gs onward = next_rows plan onward.levels onward.later (then_at gs onward.group) (children_at gs onward.group)
+
+-- gives what the groups do
+abbrev pub view_of : PlanOf → List LoadingField → View
+view_of plan gs = record { count = length gs; after = after_at plan gs }
+
+-- the view tells of each of these groups what it does
+pub record Covers (plan : PlanOf) (gs : List LoadingField) (v : View) : Type 0 where
+  pub count : length gs ≤ v.count
+  pub tells : (onward : OnwardOf) → onward.group < length gs
+      → v.after onward ≡ after_at plan gs onward
+
+-- ---- what a member asks for over a row
+
+abbrev pub asks_seen : List Definition → View → ℕ → RowOf → FieldResolver → Program
+asks_seen defs v levels row (asks.Known leaf_value) = Is (leaf_value_seen leaf_value)
+asks_seen defs v levels row (asks.Cell column ty) = Is (cell_value defs column.now (type_of ty.now) (cell_of row column.now))
+asks_seen defs v levels row (asks.Load loader key group) = read_from loader (key_from_seen key) row (v.after (record { group = group; later = None; levels = levels }))
+asks_seen defs v levels row (asks.Each loader keys items group) =
+    Under ListOf (places (is_non_null items.nullability) items.place 0 (map (read_if loader (v.after (record { group = group; later = None; levels = levels }))) (keys_seen keys.items)))
+
+abbrev pub members_seen : List Definition → View → ℕ → RowOf → List Member → Programs
+members_seen defs v levels row [] = End
+members_seen defs v levels row (m ∷ ms) = With (position_seen m.position) (asks_seen defs v levels row m.asks) (members_seen defs v levels row ms)
+
+-- its group is below `count`
+abbrev pub IsAsked : ℕ → FieldResolver → Type 0
+IsAsked count (asks.Known leaf_value) = Unit {0}
+IsAsked count (asks.Cell column ty) = Unit {0}
+IsAsked count (asks.Load loader key group) = group < count
+IsAsked count (asks.Each loader keys items group) = group < count
+
+abbrev pub AreKnown : ℕ → List Member → Type 0
+AreKnown count ms = All (λ (m : Member). IsAsked count m.asks) ms
+
+-- ---- shapes
+
+-- gives what the plan asks of an object of this type below a group
+abbrev pub type_prepared : PlanOf → ChildrenOf → List ℕ → List PreparedOf
+type_prepared plan children ty = all_prepared plan ty (collect_subfields plan ty nothing_collected children.fields).groups
+
+-- over each row the members are these groups, however many levels of objects there are below
+abbrev pub AreMembers : PlanOf → View → List Member → List PreparedOf → Type 0
+AreMembers plan v ms ps = (levels : ℕ) (row : RowOf)
+    → members_seen plan.definitions v levels row ms
+    ≡ fields_of (asked_program plan.definitions (object_program plan levels) row) ps
+
+-- the members, over these groups, are what the plan asks
+pub record Makes (plan : PlanOf) (gs : List LoadingField) (ms : List Member) (ps : List PreparedOf) : Type 0 where
+  pub known : AreKnown (length gs) ms
+  pub members : (v : View) → Covers plan gs v → AreMembers plan v ms ps
+
+-- each object below a group has this type, since its field is of that object type
+pub record IsOnly (defs : List Definition) (children : ChildrenOf) (ty : List ℕ) : Type 0 where
+  pub object : is_object_type defs children.type_name ≡ true
+  pub same : ty ≡ children.type_name
+
+pub record IsShape (plan : PlanOf) (gs : List LoadingField) (children : ChildrenOf) (s : TypePositions) : Type 0 where
+  pub makes : Makes plan gs (arc_value s.members).items (type_prepared plan children (string_bytes s.ty))
+  pub only : s.only ≡ true → IsOnly plan.definitions children (string_bytes s.ty)
+
+abbrev pub IsRight : PlanOf → List LoadingField → LoadingField → Type 0
+IsRight plan gs g = All (IsShape plan gs (children_in g.children)) g.shapes.items
+
+-- each shape of a group is what the plan asks of its objects
+abbrev pub AreRight : PlanOf → List LoadingField → Type 0
+AreRight plan gs = All (IsRight plan gs) gs
+
+-- there may be more groups and shapes, and each group does what it did
+pub record Grows (plan : PlanOf) (old new : List LoadingField) : Type 0 where
+  pub longer : length old ≤ length new
+  pub stand : (i : ℕ) → i < length old → children_at new i ≡ children_at old i
+  pub covers : (v : View) → Covers plan new v → Covers plan old v
+  pub right : AreRight plan old → AreRight plan new
+
+-- the groups grow, where the shape is right below the group of this number, or that isn't below `count`
+abbrev pub GrowsByShape : ℕ → ℕ → TypePositions → List LoadingField → List LoadingField → Type 0
+GrowsByShape count group shape old new = (plan : PlanOf)
+    → (group < count → IsShape plan old (children_at old group) shape) → Grows plan old new
+
+-- ---- what is made
+
+-- a group more, of this number
+pub record IsNew (old new : List LoadingField) (next : RowUse) (children : ChildrenOf) (number : ℕ) : Type 0 where
+  pub grows : (plan : PlanOf) → Grows plan old new
+  pub front : take (length old) new ≡ old
+  pub within : number < length new
+  pub does : then_at new number ≡ next
+  pub stands : children_at new number ≡ children
+
+-- with the groups that it needs it asks for this
+pub record IsAsking (old new : List LoadingField) (asked : ValueFrom) (asks : FieldResolver) : Type 0 where
+  pub grows : (plan : PlanOf) → Grows plan old new
+  pub front : take (length old) new ≡ old
+  pub known : IsAsked (length new) asks
+  pub same : (plan : PlanOf) (v : View) → Covers plan new v → (levels : ℕ) (row : RowOf)
+      → asks_seen plan.definitions v levels row asks
+      ≡ asked_program plan.definitions (object_program plan levels) row asked
+
+pub record AreMade (old new : List LoadingField) (ps : List PreparedOf) (ms : List Member) : Type 0 where
+  pub grows : (plan : PlanOf) → Grows plan old new
+  pub front : take (length old) new ≡ old
+  pub makes : (plan : PlanOf) → Makes plan new ms ps
+
+-- says what the plan asks of an object of this type below a group was prepared, with the groups that it needs
+abbrev pub Meets : PlanOf → ChildrenOf → List ℕ
+    → List LoadingField → List LoadingField → List Member → Type 0
+Meets plan children ty old new ms = AreMade old new (type_prepared plan children ty) ms
+
+-- these are the members of a type below a group, where the groups are right
+abbrev pub AreKept : List LoadingField → ℕ → List ℕ → List Member → Type 0
+AreKept gs group ty ms = (plan : PlanOf) → AreRight plan gs
+    → Makes plan gs ms (type_prepared plan (children_at gs group) ty)
+
+-- these are the members of all objects below a group, where the groups are right
+pub record IsWhole (plan : PlanOf) (gs : List LoadingField) (children : ChildrenOf) (ms : List Member) : Type 0 where
+  pub object : is_object_type plan.definitions children.type_name ≡ true
+  pub makes : Makes plan gs ms (type_prepared plan children children.type_name)
+
+abbrev pub AreOnly : List LoadingField → ℕ → List Member → Type 0
+AreOnly gs group ms = (plan : PlanOf) → AreRight plan gs → IsWhole plan gs (children_at gs group) ms
+
+-- The members of a type below a group. They are kept from then on, unless there are `most` groups.
+pub record IsShaped (plan : PlanOf) (most : ℕ) (old new : List LoadingField) (group : ℕ) (ty : List ℕ) (ms : List Member) : Type 0 where
+  pub grows : Grows plan old new
+  pub front : most ≤ length old → take (length old) new ≡ old
+  pub makes : AreRight plan old → Makes plan new ms (type_prepared plan (children_at old group) ty)

@@ -1,0 +1,10 @@
+pub mod Reading
+pub mod Cells
+pub mod Keys
+pub mod Steps
+pub mod Puts
+pub mod Positions
+pub mod Following
+pub mod Groups
+pub mod Walks
+pub mod Noted

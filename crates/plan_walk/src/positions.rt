@@ -1,0 +1,83 @@
+//! Positions of an answer, and what is put at them.
+
+ghost use Rattle.std.specs.Prelude.{◌≡◌, None};
+ghost use Rattle.plan_walk.specs.Positions.{is_non_null};
+
+use gq_lexer::Place;
+use gq_parser::TypeRef;
+use gq_schema::Schema;
+use load_memory::Row;
+
+/// Says what a position with others below it is.
+#[derive(Clone, Copy, PartialEq, Eq, Debug, Drop)]
+pub enum PositionKind {
+    List,
+    Object,
+}
+
+/// Tells whether a position may be null (section 3.12, Non-Null).
+#[derive(Clone, Copy, PartialEq, Eq, Debug, Drop)]
+pub enum Nullability {
+    Nullable,
+    NonNull,
+}
+
+/// A field of an object: its response key, whether it may be null, and where its errors are.
+#[derive(Clone, Copy, Drop)]
+pub struct FieldPosition<'p> {
+    pub key: &'p str,
+    pub nullability: Nullability,
+    pub place: Place,
+}
+
+/// The items of a list: whether they may be null, and where their errors are.
+#[derive(Clone, Copy, Drop)]
+pub struct Items {
+    pub nullability: Nullability,
+    pub place: Place,
+}
+
+/// A position that is bound to a column, over a row.
+#[derive(Clone, Copy, Drop)]
+pub struct Leaf<'r> {
+    pub schema: &'r Schema,
+    pub column: &'r str,
+    pub ty: &'r TypeRef,
+    pub row: &'r Row,
+}
+
+/// Says how a position goes on after its load.
+#[derive(Clone, Copy, PartialEq, Eq, Hash, Debug, Drop)]
+pub struct Onward {
+    /// The number of its group.
+    pub group: usize,
+    /// Of a later load of a `via`, of whose rows the first is taken, how many loaders come after it.
+    pub later: Option<usize>,
+    /// Says how many levels of objects there may be below it.
+    pub levels: u32,
+}
+
+impl Onward {
+    /// Onward at the group of this number, with at most `levels` levels of objects below.
+    pub fn at(group: usize, levels: u32) -> Onward
+        ensures { result ≡ record { group = group; later = None; levels = levels } }
+    {
+        Onward {
+            group,
+            later: None,
+            levels,
+        }
+    }
+}
+
+impl Nullability {
+    /// Tells whether a null is an error there.
+    pub fn is_non_null(self) -> bool
+        ensures { result ≡ is_non_null self }
+    {
+        match self {
+            Nullability::Nullable => false,
+            Nullability::NonNull => true,
+        }
+    }
+}

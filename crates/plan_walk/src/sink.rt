@@ -1,0 +1,84 @@
+//! Sinks, into which a walk puts an answer.
+
+ghost use Rattle.std.specs.Prelude.{◌≡◌, ◌<◌, ◌≤◌, ◌++◌, ◌∷◌, [], ℕ, List, OnOk};
+ghost use Rattle.load_memory.specs.Keys.{borrowed_of};
+ghost use Rattle.execution.specs.Program.{ObjectOf, ListOf};
+ghost use Rattle.plan_program.specs.Prepared.{leaf_value_seen};
+ghost use Rattle.plan_walk.specs.Cells.{leaf_seen};
+ghost use Rattle.plan_walk.specs.Puts.{Put, Begins, Ends, Enters, Has, View, Agree, a_wait};
+ghost use Rattle.plan_walk.specs.Positions.{kind_of, is_non_null, position_seen, item_position, onward_of};
+
+use crate::positions::{FieldPosition, Items, Leaf, Nullability, Onward, PositionKind};
+use load_memory::KeyRef;
+use plan_program::LeafValue;
+use std::alloc::AllocError;
+
+/// Says what a walk puts an answer into, depth first. After an error it is only dropped.
+///
+/// A walk doesn't know what becomes of what it puts: its contract says which puts a program over a memory comes
+/// to, and a sink's contract what it holds after each. The trait has no lifetime, since a bound that names one
+/// has no proof in a cycle of calls; so a sink that keeps response keys copies them.
+pub trait Sink {
+    // It goes from the first to the second by these puts, over groups that do so with the rows of their loads.
+    ghost goes: { View → List Put → Self → Self → Type 0 };
+
+    // Positions that wait in it go on at groups below this number.
+    ghost below: { ℕ → Self → Type 0 };
+
+    // the number of positions that wait in it
+    ghost waits: { Self → ℕ };
+
+    /// An object or a list begins.
+    fn begin(&mut self, kind: PositionKind) -> Result<(), AllocError>
+        ensures { OnOk result
+            ((v : View) → goes v (Begins (kind_of kind) ∷ []) self.old self.new) };
+
+    /// It ends.
+    fn end(&mut self, kind: PositionKind) -> Result<(), AllocError>
+        ensures { OnOk result ((v : View) → goes v (Ends (kind_of kind) ∷ []) self.old self.new) };
+
+    /// A field of the object follows.
+    fn field(&mut self, position: FieldPosition<'_>) -> Result<(), AllocError>
+        ensures { OnOk result ((v : View)
+            → goes v (Enters ObjectOf (position_seen position.entry) ∷ []) self.old self.new) };
+
+    /// The item of a number follows, from 0.
+    fn item(&mut self, items: Items, number: usize) -> Result<(), AllocError>
+        ensures { OnOk result ((v : View)
+            → goes v (Enters ListOf (item_position items number) ∷ []) self.old self.new) };
+
+    /// A position with nothing below it, which may be null or not.
+    fn leaf_value(
+        &mut self,
+        leaf_value: &LeafValue,
+        nullability: Nullability,
+    ) -> Result<(), AllocError>
+        ensures { OnOk result ((v : View) → goes v (Has (is_non_null nullability)
+            (leaf_value_seen leaf_value.now) ∷ []) self.old self.new) };
+
+    /// A position that is bound to a column, which may be null or not.
+    fn cell(&mut self, leaf: Leaf<'_>, nullability: Nullability) -> Result<(), AllocError>
+        ensures { OnOk result ((v : View) → goes v
+            (Has (is_non_null nullability) (leaf_seen leaf.entry) ∷ []) self.old self.new) };
+
+    /// A position waits for a load, and then goes on so.
+    fn wait(&mut self, onward: Onward, loader: usize, key: KeyRef<'_>) -> Result<(), AllocError>
+        ensures { OnOk result ((v : View) → onward.group < v.count → goes v
+            (a_wait v (onward_of onward) loader (borrowed_of key.entry)) self.old self.new) };
+
+    /// Returns how many positions wait in it.
+    fn waiting(&self) -> usize
+        ensures { result ≡ waits self.now };
+
+    ghost none: { (v : View) (s : Self) → goes v [] s s };
+
+    ghost more: { (v : View) (ps qs : List Put) (a b c : Self) → goes v ps a b → goes v qs b c → goes v (ps ++ qs) a c };
+
+    ghost rises: { (n m : ℕ) (s : Self) → n ≤ m → below n s → below m s };
+
+    ghost stays: { (v : View) (ps : List Put) (a b : Self) → goes v ps a b → below v.count a → below v.count b };
+
+    // Groups past those of the positions that wait may do anything, where no position more waits.
+    ghost narrow: { (v w : View) (n : ℕ) (ps : List Put) (a b : Self) → n ≤ v.count → Agree n v w
+        → below n a → waits a ≡ waits b → goes w ps a b → goes v ps a b };
+}
